@@ -1,0 +1,34 @@
+use Rattle.dataset.proofs.Checks.{checks}
+use Rattle.dataset.specs.Header.{delimiterBy}
+use borrow.Author.Needs.{needs}
+use Rattle.dataset.proofs.Cursor.delimiter.Statement.{statement}
+use Rattle.dataset.proofs.Cursor.delimiter.Tie as tie
+use Rattle.dataset.proofs.Cursor.delimiter.Reads as reads
+use Rattle.dataset.proofs.Cursor.delimiter.Lts as lts
+
+-- src/lib.rt:150:31
+add-t11 : tie.Need-add-t11
+add-t11 c = search needs
+
+-- src/lib.rt:142:5
+returns : tie.Need-returns
+unfolding delimiterBy
+returns c = (search checks depth 40 fits 4000, search needs)
+
+-- src/lib.rt:142:5
+returns-2 : tie.Need-returns-2
+unfolding delimiterBy
+returns-2 c = (search checks depth 40 fits 4000, search needs)
+
+-- src/lib.rt:142:5
+returns-3 : tie.Need-returns-3
+unfolding delimiterBy
+returns-3 c = (search checks depth 40 fits 4000, search needs)
+
+-- src/lib.rt:142:5
+returns-4 : tie.Need-returns-4
+unfolding delimiterBy
+returns-4 c = (search checks depth 40 fits 4000, search needs)
+
+pub delimiter-spec : {M : Type 1} → statement M
+delimiter-spec = tie.close (tie.spec add-t11 returns returns-2 returns-3 returns-4)

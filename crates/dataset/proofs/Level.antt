@@ -1,0 +1,210 @@
+-- One level of reading, turn by turn: what a loop along the headers keeps, and what each way out of it comes to. The
+-- same laws serve elements and items, since both loops have one shape.
+use mathlib.Core.Path.{_≡_, refl, sym, ap, _∙_, subst}
+use Prim.Native.Nat.{ℕ, zero, suc, _+_, _-_, _*_, _≤_, _<_}
+use native.Mathlib.Omega.{arith}
+use native.Mathlib.Numerals.{sub-one}
+use native.Mathlib.Nat.{add-zero}
+use borrow.Author.Tests.{eq-eqb, ne-eqb}
+use mathlib.Core.List.{List, [], _∷_, _++_}
+use lib.ListN.{length, length-append}
+use lib.Seq.{sets}
+use Rattle.dataset.specs.declared.Cursor.{Cursor}
+use Rattle.dataset.specs.declared.Head.{Head}
+use Rattle.dataset.specs.declared.Head.the-variants as heads
+use Rattle.dataset.specs.declared.Walk.{Walk}
+use Rattle.dataset.specs.declared.Walk.the-variants as walk
+use Rattle.dataset.specs.Reading.{Row, row, Run, done, refused, level, valueAt, itemsAt}
+use Rattle.dataset.specs.Answer.{flat}
+use Rattle.dataset.specs.Walk.{Within, RunWithin, Walked}
+use Rattle.dataset.proofs.Buffer.{length-flat, flat-append, sets-append, row-over}
+
+-- ---- A header and a walk, once it is known which they are
+
+pub within : (c : Cursor) {h g : Head} → h ≡ g → Within c h → Within c g
+within c e w = subst (λ (x : Head). Within c x) e w
+
+pub walked : {o : Run} {c : Cursor} {first : ℕ} {buffer after : List ℕ} {r q : Walk} → r ≡ q → Walked o c first buffer after r → Walked o c first buffer after q
+walked {o} {c} {first} {buffer} {after} e w = subst (λ (x : Walk). Walked o c first buffer after x) e w
+
+-- What a walk that was done says of its run.
+pub record Below (o : Run) (v : Cursor) (first : ℕ) (buffer after : List ℕ) (stop next m : ℕ) : Type 0 where
+  pub rows : List Row
+  pub is : o ≡ done stop next rows
+  pub count : m ≡ first + length rows
+  pub within : RunWithin v (done stop next rows)
+  pub wrote : 6 * m ≤ length buffer → after ≡ sets buffer (6 * first) (flat rows)
+
+pub below : (o : Run) {v : Cursor} {first : ℕ} {buffer after : List ℕ} {stop next m : ℕ} → Walked o v first buffer after (walk.Done stop next m)
+    → Below o v first buffer after stop next m
+below (done stop′ next′ rows) {v} {first} {buffer} {after} {stop} {next} {m} w =
+    let t : walk.Done stop next m ≡ walk.Done stop′ next′ (first + length rows) = w .is in
+    let e : stop ≡ stop′ = cc in
+    let f : next ≡ next′ = cc in
+    let g : m ≡ first + length rows = cc in
+    record {
+      rows = rows;
+      is = cc;
+      count = g;
+      within = omega (arith, w .within);
+      wrote = λ h. w .wrote (omega arith);
+    }
+below (refused code offset) {v} {first} {buffer} {after} {stop} {next} {m} w =
+    let t : walk.Done stop next m ≡ walk.Refused code offset = w .is in
+    let z : _≡_ {A = ℕ} 0 1 = cc in
+    absurd (omega arith)
+
+-- What a walk that was refused says of its run.
+pub stopped : (o : Run) {v : Cursor} {first : ℕ} {buffer after : List ℕ} {code offset : ℕ} → Walked o v first buffer after (walk.Refused code offset)
+    → (o ≡ refused code offset) × RunWithin v (refused code offset)
+stopped (done stop next rows) {v} {first} {buffer} {after} {code} {offset} w =
+    let t : walk.Refused code offset ≡ walk.Done stop next (first + length rows) = w .is in
+    let z : _≡_ {A = ℕ} 0 1 = cc in
+    absurd (omega arith)
+stopped (refused code′ offset′) {v} {first} {buffer} {after} {code} {offset} w =
+    let t : walk.Refused code offset ≡ walk.Refused code′ offset′ = w .is in
+    let e : code ≡ code′ = cc in
+    let f : offset ≡ offset′ = cc in
+    (cc, omega (arith, w .within))
+
+-- ---- One turn
+
+module _ (head : ℕ → ℕ → Head) (inside : ℕ → Cursor → Run) (depth turns at least : ℕ) (rows : List Row) where
+  pub level-refused : (code : ℕ) → head at least ≡ heads.Refused code → level head inside depth (suc turns) at least rows ≡ refused code at
+  unfolding level
+  level-refused code e = rw e
+
+  pub level-end : (next : ℕ) → head at least ≡ heads.End next → level head inside depth (suc turns) at least rows ≡ done at next rows
+  unfolding level
+  level-end next e = rw e
+
+  pub level-stop : (tag vr code offset : ℕ) (v : Cursor) → head at least ≡ heads.Header tag vr v → inside vr v ≡ refused code offset
+      → level head inside depth (suc turns) at least rows ≡ refused code offset
+  unfolding level
+  level-stop tag vr code offset v e f = rw (e, f)
+
+  pub level-on : (tag vr stop next : ℕ) (v : Cursor) (below : List Row) → head at least ≡ heads.Header tag vr v → inside vr v ≡ done stop next below
+      → level head inside depth (suc turns) at least rows
+      ≡ level head inside depth turns next (tag + 1) (rows ++ (row tag vr depth (v .at) (stop - v .at) (length below) ∷ below))
+  unfolding level
+  level-on tag vr stop next v below e f = rw (e, f)
+
+-- ---- The loop: at `at`, with the rows so far, what is left to read comes to what the whole level does
+
+pub record Inv (head : ℕ → ℕ → Head) (inside : ℕ → Cursor → Run) (depth : ℕ) (o : Run) (start end first : ℕ) (buffer₀ buffer : List ℕ) (at n least : ℕ) : Type 0 where
+  pub rows : List Row
+  pub turns : ℕ
+  pub rest : level head inside depth turns at least rows ≡ o
+  pub enough : end < at + turns
+  pub low : start ≤ at
+  pub high : at ≤ end
+  pub count : n ≡ first + length rows
+  pub few : start + 8 * length rows ≤ at
+  pub kept : length buffer ≡ length buffer₀
+  pub wrote : 6 * n ≤ length buffer₀ → buffer ≡ sets buffer₀ (6 * first) (flat rows)
+
+module _ (head : ℕ → ℕ → Head) (inside : ℕ → Cursor → Run) (depth : ℕ) (o : Run) (c : Cursor) (first : ℕ) (buffer₀ : List ℕ) where
+  abbrev pub Here : List ℕ → ℕ → ℕ → ℕ → Type 0
+  Here buffer at n least = Inv head inside depth o (c .at) (c .end) first buffer₀ buffer at n least
+
+  -- There is a turn left.
+  turn : (at least : ℕ) (rows : List Row) (turns : ℕ) → at ≤ c .end → level head inside depth turns at least rows ≡ o → c .end < at + turns
+      → (t : ℕ) × ((level head inside depth (suc t) at least rows ≡ o) × (c .end < at + suc t))
+  turn at least rows zero h e lt = absurd (omega arith)
+  turn at least rows (suc t) h e lt = (t, (e, lt))
+
+  pub started : (s : List ℕ) → c .at ≤ c .end → c .end ≤ length s → level head inside depth (length s + 1) (c .at) 0 [] ≡ o
+      → Here buffer₀ (c .at) first 0
+  started s h k e =
+      record {
+        rows = [];
+        turns = length s + 1;
+        rest = e;
+        enough = omega arith;
+        low = omega arith;
+        high = h;
+        count = omega arith;
+        few = omega arith;
+        kept = refl;
+        wrote = λ _. refl;
+      }
+
+  module _ {buffer : List ℕ} {at n least : ℕ} (i : Here buffer at n least) where
+    pub ended : {next : ℕ} → head at least ≡ heads.End next → at ≤ next → next ≤ c .end → Walked o c first buffer₀ buffer (walk.Done at next n)
+    ended {next} e p q =
+        let m = turn at least (i .rows) (i .turns) (i .high) (i .rest) (i .enough) in
+        let d : done at next (i .rows) ≡ o = sym (level-end head inside depth (m .0) at least (i .rows) next e) ∙ m .1 .0 in
+        subst (λ (x : Run). Walked x c first buffer₀ buffer (walk.Done at next n)) d
+        (record { is = ap (λ (k : ℕ). walk.Done at next k) (i .count); within = omega (arith, i .low, i .few); wrote = λ h. i .wrote (omega (arith, i .count)) })
+
+    pub refuses : {code : ℕ} → head at least ≡ heads.Refused code → (1 ≤ code) × (code ≤ 6) → Walked o c first buffer₀ buffer (walk.Refused code at)
+    refuses {code} e p =
+        let m = turn at least (i .rows) (i .turns) (i .high) (i .rest) (i .enough) in
+        let d : refused code at ≡ o = sym (level-refused head inside depth (m .0) at least (i .rows) code e) ∙ m .1 .0 in
+        subst (λ (x : Run). Walked x c first buffer₀ buffer (walk.Refused code at)) d (record { is = refl; within = (p .0, (p .1, (i .low, i .high))); wrote = tt })
+
+    module _ {tag vr : ℕ} {v : Cursor} (e : head at least ≡ heads.Header tag vr v) (w : Within (record { at = at; end = c .end; delimited = c .delimited }) (heads.Header tag vr v)) {buffer₁ : List ℕ} where
+      pub fails : {code offset : ℕ} → Walked (inside vr v) v (n + 1) buffer buffer₁ (walk.Refused code offset)
+          → Walked o c first buffer₀ buffer₁ (walk.Refused code offset)
+      fails {code} {offset} u =
+          let k = stopped (inside vr v) u in
+          let m = turn at least (i .rows) (i .turns) (i .high) (i .rest) (i .enough) in
+          let d : refused code offset ≡ o = sym (level-stop head inside depth (m .0) at least (i .rows) tag vr code offset v e (k .0)) ∙ m .1 .0 in
+          subst (λ (x : Run). Walked x c first buffer₀ buffer₁ (walk.Refused code offset)) d (record { is = refl; within = omega (arith, k .1, i .low, w); wrote = tt })
+
+      pub again : {stop next m : ℕ} {buffer₂ : List ℕ} → length buffer₁ ≡ length buffer → length buffer₂ ≡ length buffer₁
+          → Walked (inside vr v) v (n + 1) buffer buffer₁ (walk.Done stop next m)
+          → (6 * n + 6 ≤ length buffer₁ → buffer₂ ≡ sets buffer₁ (6 * n) (flat (row tag vr depth (v .at) (stop - v .at) (m - n - 1) ∷ [])))
+          → Here buffer₂ next m (tag + 1)
+      again {stop} {next} {m} {buffer₂} l₁ l₂ u put =
+          let b = below (inside vr v) u in
+          let k = turn at least (i .rows) (i .turns) (i .high) (i .rest) (i .enough) in
+          let r : Row = row tag vr depth (v .at) (stop - v .at) (length (b .rows)) in
+          let size : length (b .rows) ≡ m - n - 1 = omega (arith, b .count) in
+          record {
+            rows = i .rows ++ (r ∷ b .rows);
+            turns = k .0;
+            rest = sym (level-on head inside depth (k .0) at least (i .rows) tag vr stop next v (b .rows) e (b .is)) ∙ k .1 .0;
+            enough = omega (arith, k .1 .1, b .within, w);
+            low = omega (arith, i .low, b .within, w);
+            high = omega (arith, b .within, w);
+            count = simp length-append (omega (arith, i .count, b .count));
+            few = simp length-append (omega (arith, i .few, b .within, w));
+            kept = l₂ ∙ l₁ ∙ i .kept;
+            wrote = λ h.
+                let e₀ : buffer ≡ sets buffer₀ (6 * first) (flat (i .rows)) = i .wrote (omega (arith, b .count)) in
+                let e₁ : buffer₁ ≡ sets buffer (6 * (n + 1)) (flat (b .rows)) = b .wrote (omega (arith, i .kept)) in
+                let e₂ : buffer₂ ≡ sets buffer₁ (6 * n) (flat (row tag vr depth (v .at) (stop - v .at) (m - n - 1) ∷ [])) = put (omega (arith, i .kept, b .count)) in
+                let f : 6 * n ≡ 6 * first + length (flat (i .rows)) = omega (arith, length-flat (i .rows), i .count) in
+                e₂
+                ∙ ap (λ (x : ℕ). sets buffer₁ (6 * n) (flat (row tag vr depth (v .at) (stop - v .at) x ∷ []))) (sym size)
+                ∙ ap (λ (x : List ℕ). sets x (6 * n) (flat (r ∷ []))) e₁
+                ∙ row-over buffer n r (b .rows)
+                ∙ ap (λ (x : List ℕ). sets x (6 * n) (flat (r ∷ b .rows))) e₀
+                ∙ ap (λ (x : ℕ). sets (sets buffer₀ (6 * first) (flat (i .rows))) x (flat (r ∷ b .rows))) f
+                ∙ sym (sets-append (flat (i .rows)) buffer₀ (6 * first) (flat (r ∷ b .rows)))
+                ∙ ap (λ (x : List ℕ). sets buffer₀ (6 * first) x) (sym (flat-append (i .rows) (r ∷ b .rows)));
+          }
+
+-- ---- The value of an element
+
+pub value-no-level : (levels : ℕ) (s : List ℕ) (vr : ℕ) (v : Cursor) → levels ≡ 0 → valueAt levels s vr v ≡ done (v .end) (v .end) []
+unfolding valueAt
+value-no-level levels s vr v e = rw e
+
+pub value-plain : (levels : ℕ) (s : List ℕ) (vr : ℕ) (v : Cursor) → (vr ≡ 0x5351 → ⊥) → valueAt levels s vr v ≡ done (v .end) (v .end) []
+unfolding valueAt
+value-plain zero s vr v e = refl
+value-plain (suc levels) s vr v e = rw (ne-eqb vr 0x5351 e)
+
+pub value-items : (levels : ℕ) (s : List ℕ) (vr : ℕ) (v : Cursor) → (levels ≡ 0 → ⊥) → vr ≡ 0x5351 → valueAt levels s vr v ≡ itemsAt (levels - 1) s v
+unfolding valueAt
+value-items zero s vr v n e = absurd (n refl)
+value-items (suc levels) s vr v n e = rw (eq-eqb vr 0x5351 e, sub-one (suc levels))
+
+-- A value without rows.
+pub leaf : (o : Run) (v : Cursor) (first : ℕ) (buffer : List ℕ) → v .at ≤ v .end → o ≡ done (v .end) (v .end) []
+    → Walked o v first buffer buffer (walk.Done (v .end) (v .end) first)
+leaf o v first buffer h e =
+    subst (λ (x : Run). Walked x v first buffer buffer (walk.Done (v .end) (v .end) first)) (sym e)
+    (record { is = ap (λ (k : ℕ). walk.Done (v .end) (v .end) k) (sym (add-zero first)); within = omega arith; wrote = λ _. refl })

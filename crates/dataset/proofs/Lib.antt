@@ -1,0 +1,6 @@
+-- What the proofs of several functions use.
+pub mod Checks
+pub mod Forms
+pub mod Buffer
+pub mod Level
+pub mod Whole

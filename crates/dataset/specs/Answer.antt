@@ -1,0 +1,54 @@
+-- What `read` answers and what its row buffer then holds (document 01, "What is handed back"), and the paper's numbers
+-- for each case of the answer.
+use Prim.Native.Nat.{ℕ, _*_}
+use mathlib.Core.List.{List, [], _∷_, _++_}
+use mathlib.Core.Bool.{Bool, cond}
+use lib.ListN.{length, drop}
+use lib.Dec.{leb}
+use Rattle.dataset.specs.declared.ReadAnswer.{ReadAnswer}
+use Rattle.dataset.specs.declared.ReadAnswer.the-variants.{Done, Refused, TooLarge, NoRoom}
+use Rattle.dataset.specs.Reading.{Row, Reading, tooLarge, refusedAt, read}
+
+-- How many numbers a row has.
+abbrev pub width : ℕ
+width = 6
+
+-- The rows as numbers, in byte order.
+abbrev pub flat : List Row → List ℕ
+flat [] = []
+flat (r ∷ rs) = r .tag ∷ r .vr ∷ r .depth ∷ r .offset ∷ r .size ∷ r .descendants ∷ flat rs
+
+-- Whether the buffer has room for the rows.
+abbrev pub fits : List Row → List ℕ → Bool
+fits rows buffer = leb (width * length rows) (length buffer)
+
+-- The answer: 7, then 1 to 6, then 8, then 0.
+abbrev pub answerOf : Reading → List ℕ → ReadAnswer
+answerOf tooLarge buffer = TooLarge
+answerOf (refusedAt code offset) buffer = Refused code offset
+answerOf (read rows) buffer = cond (fits rows buffer) (Done (length rows)) NoRoom
+
+-- The buffer afterwards: the rows, and untouched beyond them; untouched with codes 1 to 8.
+abbrev pub bufferOf : Reading → List ℕ → List ℕ
+bufferOf tooLarge buffer = buffer
+bufferOf (refusedAt code offset) buffer = buffer
+bufferOf (read rows) buffer = cond (fits rows buffer) (flat rows ++ drop (width * length rows) buffer) buffer
+
+-- The paper's code, place and row count of each case; fields not named are 0.
+abbrev pub codeOf : ReadAnswer → ℕ
+codeOf (Done rows) = 0
+codeOf (Refused code offset) = code
+codeOf TooLarge = 7
+codeOf NoRoom = 8
+
+abbrev pub offsetOf : ReadAnswer → ℕ
+offsetOf (Done rows) = 0
+offsetOf (Refused code offset) = offset
+offsetOf TooLarge = 0
+offsetOf NoRoom = 0
+
+abbrev pub rowCountOf : ReadAnswer → ℕ
+rowCountOf (Done rows) = rows
+rowCountOf (Refused code offset) = 0
+rowCountOf TooLarge = 0
+rowCountOf NoRoom = 0

@@ -1,0 +1,21 @@
+-- Numbers in a data set's bytes, by their offset. Byte forms follow PS3.5.
+-- A byte past the end counts as 0; no definition above reads one.
+use Prim.Native.Nat.{ℕ, _+_, _*_}
+use mathlib.Core.List.{List}
+use lib.ListN.{getD}
+
+-- A little-endian number of 16 bits.
+unfoldable pub le16 : List ℕ → ℕ → ℕ
+le16 s p = getD s p 0 + 256 * getD s (p + 1) 0
+
+-- A little-endian number of 32 bits.
+abbrev pub le32 : List ℕ → ℕ → ℕ
+le32 s p = le16 s p + 65536 * le16 s (p + 2)
+
+-- A tag as one number: group × 65,536 + element, 16 bits each.
+abbrev pub tagAt : List ℕ → ℕ → ℕ
+tagAt s p = 65536 * le16 s p + le16 s (p + 2)
+
+-- A VR as one number: first letter × 256 + second.
+abbrev pub vrAt : List ℕ → ℕ → ℕ
+vrAt s p = 256 * getD s p 0 + getD s (p + 1) 0

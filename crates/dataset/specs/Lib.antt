@@ -1,0 +1,6 @@
+pub mod Bytes
+pub mod Vr
+pub mod Header
+pub mod Reading
+pub mod Answer
+pub mod Walk

@@ -1,0 +1,103 @@
+-- The reading of a data set (document 01, "Reading"): a row for each element and item in byte order, or the first
+-- refusal's code and offset (the paper's place).
+use Prim.Native.Nat.{ℕ, zero, suc, _+_, _-_, _*_}
+use mathlib.Core.List.{List, [], _∷_, _++_}
+use mathlib.Core.Bool.{true, false, cond}
+use lib.ListN.{length}
+use lib.Dec.{eqb, ltb}
+use Rattle.dataset.specs.declared.Cursor.{Cursor}
+use Rattle.dataset.specs.declared.Head.{Head}
+use Rattle.dataset.specs.declared.Head.the-variants.{Header, End, Refused}
+use Rattle.dataset.specs.Vr.{SQ}
+use Rattle.dataset.specs.Header.{cursor, elementAt, itemAt}
+
+-- The six numbers of an element or item; `descendants` is the paper's number of rows below it.
+pub record Row : Type 0 where
+  pub tag : ℕ
+  pub vr : ℕ
+  pub depth : ℕ
+  pub offset : ℕ
+  pub size : ℕ
+  pub descendants : ℕ
+
+abbrev pub row : ℕ → ℕ → ℕ → ℕ → ℕ → ℕ → Row
+row tag vr depth offset size descendants =
+    record { tag = tag; vr = vr; depth = depth; offset = offset; size = size; descendants = descendants }
+
+-- What a run of headers comes to: where its value stops (before a delimiter), the offset reached (after it), and its
+-- rows; or a refusal's code and offset.
+pub data Run : Type 0 where
+  done : ℕ → ℕ → List Row → Run
+  refused : ℕ → ℕ → Run
+
+abbrev pub onHead : Head → (ℕ → Run) → (ℕ → Run) → (ℕ → ℕ → Cursor → Run) → Run
+onHead (Refused code) refuse stop go = refuse code
+onHead (End next) refuse stop go = stop next
+onHead (Header tag vr value) refuse stop go = go tag vr value
+
+abbrev pub onRun : Run → (ℕ → ℕ → List Row → Run) → Run
+onRun (refused code offset) go = refused code offset
+onRun (done stop next rows) go = go stop next rows
+
+-- One level, header by header: `head` says what stands at an offset, `inside` what a value comes to. A row's length is
+-- where its value stops less where it starts, and its descendants are the rows of its value.
+-- Each turn moves on by a header, so that a level has fewer turns than bytes; to run out of turns would be code 0, which no reading says.
+unfoldable pub level : (ℕ → ℕ → Head) → (ℕ → Cursor → Run) → ℕ → ℕ → ℕ → ℕ → List Row → Run
+level head inside depth zero at least rows = refused 0 at
+level head inside depth (suc turns) at least rows =
+    onHead (head at least)
+    (λ code. refused code at)
+    (λ next. done at next rows)
+    (λ tag vr value. onRun (inside vr value) (λ stop next below.
+    level head inside depth turns next (tag + 1)
+    (rows ++ (row tag vr depth (value .at) (stop - value .at) (length below) ∷ below))))
+
+abbrev pub moved : Cursor → ℕ → Cursor
+moved c at = cursor at (c .end) (c .delimited)
+
+-- Depths go up to 8: `levels` is how many more are permitted, and 8 less it is the depth.
+abbrev pub depths : ℕ
+depths = 8
+
+-- An item, element by element.
+abbrev pub elementsBy : (ℕ → Cursor → Run) → ℕ → List ℕ → Cursor → Run
+elementsBy inside levels s c =
+    level (λ at least. elementAt s (moved c at) least levels) inside (depths - levels) (length s + 1) (c .at) 0 []
+
+-- A sequence, item by item.
+abbrev pub itemsBy : (Cursor → Run) → ℕ → List ℕ → Cursor → Run
+itemsBy elements levels s c =
+    level (λ at least. itemAt s (moved c at)) (λ vr value. elements value) (depths - levels) (length s + 1) (c .at) 0 []
+
+-- An element's value: the items of a sequence, one level deeper; any other value has no rows, and ends at its end.
+unfoldable pub valueAt : ℕ → List ℕ → ℕ → Cursor → Run
+valueAt zero s vr value = done (value .end) (value .end) []
+valueAt (suc levels) s vr value =
+    cond (eqb vr SQ)
+    (itemsBy (λ c. elementsBy (valueAt levels s) levels s c) levels s value)
+    (done (value .end) (value .end) [])
+
+abbrev pub elementsAt : ℕ → List ℕ → Cursor → Run
+elementsAt levels s c = elementsBy (valueAt levels s) levels s c
+
+abbrev pub itemsAt : ℕ → List ℕ → Cursor → Run
+itemsAt levels s c = itemsBy (elementsAt levels s) levels s c
+
+-- ---- The whole data set
+
+-- The most bytes that a data set may have: 1,073,741,824.
+abbrev pub largest : ℕ
+largest = 1073741824
+
+-- Too large, refused, or read.
+pub data Reading : Type 0 where
+  tooLarge : Reading
+  refusedAt : ℕ → ℕ → Reading
+  read : List Row → Reading
+
+abbrev pub whole : Run → Reading
+whole (refused code offset) = refusedAt code offset
+whole (done stop next rows) = read rows
+
+unfoldable pub readingOf : List ℕ → Reading
+readingOf s = cond (ltb largest (length s)) tooLarge (whole (elementsAt depths s (cursor 0 (length s) false)))

@@ -1,0 +1,470 @@
+// The reader of a data set in Explicit VR Little Endian: a row for each element and item, or the first refusal.
+// specs/ says what a reading is, in the order of the paper; `read`, at the end, is the public call.
+ghost use mathlib.Core.Path.{_≡_};
+ghost use Prim.Native.Nat.{_+_, _-_, _*_, _≤_, _<_};
+ghost use mathlib.Core.List.{[], _∷_};
+ghost use lib.ListN.{length};
+ghost use lib.Seq.{sets};
+ghost use Rattle.dataset.specs.Bytes.{le16, le32, tagAt, vrAt};
+ghost use Rattle.dataset.specs.Vr.{formOf};
+ghost use Rattle.dataset.specs.Header.{delimiterBy, levelBy, definedBy, longBy, typedAt, taggedAt, sizedBy, memberAt, elementAt, itemAt};
+ghost use Rattle.dataset.specs.Reading.{elementsAt, valueAt, readingOf, row};
+ghost use Rattle.dataset.specs.Answer.{answerOf, bufferOf, flat};
+ghost use Rattle.dataset.specs.Walk.{Within, Walked, Ready};
+
+// The most bytes that a data set may have.
+pub const LARGEST: usize = 1_073_741_824;
+
+// How many numbers a row has: tag, VR, depth, offset, length, descendants.
+pub const WIDTH: usize = 6;
+
+// How deep sequences may stand.
+const DEPTHS: usize = 8;
+
+const SQ: usize = 0x5351;
+
+const UNDEFINED: usize = 0xFFFF_FFFF;
+
+const ITEM: usize = 0xFFFE_E000;
+
+const ITEM_DELIMITER: usize = 0xFFFE_E00D;
+
+const SEQUENCE_DELIMITER: usize = 0xFFFE_E0DD;
+
+// An offset in the data set, the innermost known end, and whether a delimiter closes what is read here.
+pub struct Cursor {
+    pub at: usize,
+    pub end: usize,
+    pub delimited: bool,
+}
+
+// What stands at a cursor: a header's tag and VR, with the cursor moved onto its value; the end of what is read, with
+// the offset after it; or a refusal's code.
+pub enum Head {
+    Header(usize, usize, Cursor),
+    End(usize),
+    Refused(usize),
+}
+
+// What a walk along one level came to: where its value stops, the offset reached and the number of the next row; or a
+// refusal's code and offset.
+pub enum Walk {
+    Done(usize, usize, usize),
+    Refused(usize, usize),
+}
+
+// The answer of `read`: the number of rows; code and offset; code 7; code 8.
+pub enum ReadAnswer {
+    Done(usize),
+    Refused(usize, usize),
+    TooLarge,
+    NoRoom,
+}
+
+fn wide(x: u8) -> usize
+    ensures { λ r. ⌜ (r ≡ x) × (r < 256) ⌝ }
+{
+    x as usize
+}
+
+fn u16_at(s: &[u8], p: usize) -> usize
+    requires { ⌜ p + 2 ≤ length (now s) ⌝ }
+    ensures { λ r. ⌜ (r ≡ le16 (now (s .entry)) p) × (r < 65536) ⌝ }
+{
+    wide(s[p]) + 256 * wide(s[p + 1])
+}
+
+fn u32_at(s: &[u8], p: usize) -> usize
+    requires { ⌜ p + 4 ≤ length (now s) ⌝ }
+    ensures { λ r. ⌜ (r ≡ le32 (now (s .entry)) p) × (r < 4294967296) ⌝ }
+{
+    u16_at(s, p) + 65536 * u16_at(s, p + 2)
+}
+
+fn tag_at(s: &[u8], p: usize) -> usize
+    requires { ⌜ p + 4 ≤ length (now s) ⌝ }
+    ensures { λ r. ⌜ (r ≡ tagAt (now (s .entry)) p) × (r < 4294967296) ⌝ }
+{
+    65536 * u16_at(s, p) + u16_at(s, p + 2)
+}
+
+fn vr_at(s: &[u8], p: usize) -> usize
+    requires { ⌜ p + 2 ≤ length (now s) ⌝ }
+    ensures { λ r. ⌜ (r ≡ vrAt (now (s .entry)) p) × (r < 65536) ⌝ }
+{
+    256 * wide(s[p]) + wide(s[p + 1])
+}
+
+// The form of a VR: 2 with a 32-bit length, 1 with a 16-bit length, 0 where it is not listed. An arm holds no two
+// adjacent numbers, which would make a range of it.
+fn vr_form(vr: usize) -> usize
+    ensures { λ r. ⌜ r ≡ formOf vr ⌝ }
+{
+    match vr {
+        0x4F42
+        | 0x4F44
+        | 0x4F46
+        | 0x4F4C
+        | 0x4F56
+        | 0x5351
+        | 0x5356
+        | 0x5543
+        | 0x554E
+        | 0x5552
+        | 0x5554
+        | 0x5556 => 2,
+        0x4F57 => 2,
+        0x4145
+        | 0x4153
+        | 0x4353
+        | 0x4441
+        | 0x4453
+        | 0x4644
+        | 0x464C
+        | 0x4953
+        | 0x4C4F
+        | 0x4C54
+        | 0x504E
+        | 0x5348
+        | 0x534C
+        | 0x5353
+        | 0x544D
+        | 0x5549
+        | 0x554C
+        | 0x5553 => 1,
+        0x4154 | 0x4454 | 0x5354 => 1,
+        _ => 0,
+    }
+}
+
+impl Cursor {
+    // The delimiter `due`, where one is due.
+    fn delimiter(self, tag: usize, due: usize, len: usize) -> Head
+        requires { ⌜ self .at + 8 ≤ self .end ⌝ }
+        ensures { λ r. ⌜ r ≡ delimiterBy self tag due len ⌝ }
+        ensures { λ r. ⌜ Within self r ⌝ }
+    {
+        if self.delimited {
+            if tag == due {
+                if len == 0 {
+                    Head::End(self.at + 8)
+                } else {
+                    Head::Refused(5)
+                }
+            } else {
+                Head::Refused(5)
+            }
+        } else {
+            Head::Refused(5)
+        }
+    }
+
+    // A value within the cursor's end; a sequence needs a level below it.
+    fn level(self, tag: usize, vr: usize, levels: usize, value: Cursor) -> Head
+        requires { ⌜ (self .at + 8 ≤ value .at) × ((value .at ≤ value .end) × ((value .end ≤ self .end) × ((tag < 4294967296) × (vr < 65536)))) ⌝ }
+        ensures { λ r. ⌜ r ≡ levelBy tag vr levels value ⌝ }
+        ensures { λ r. ⌜ Within self r ⌝ }
+    {
+        if vr == SQ {
+            if levels == 0 {
+                Head::Refused(6)
+            } else {
+                Head::Header(tag, vr, value)
+            }
+        } else {
+            Head::Header(tag, vr, value)
+        }
+    }
+
+    // A value of a defined length.
+    fn defined(self, tag: usize, vr: usize, start: usize, len: usize, levels: usize) -> Head
+        requires { ⌜ (self .at + 8 ≤ start) × ((start ≤ self .end) × ((tag < 4294967296) × (vr < 65536))) ⌝ }
+        ensures { λ r. ⌜ r ≡ definedBy self tag vr start len levels ⌝ }
+        ensures { λ r. ⌜ Within self r ⌝ }
+    {
+        if len % 2 == 1 {
+            return Head::Refused(4);
+        }
+        if self.end - start < len {
+            return Head::Refused(1);
+        }
+        let value = Cursor {
+            at: start,
+            end: start + len,
+            delimited: false,
+        };
+        self.level(tag, vr, levels, value)
+    }
+
+    // A value with a 32-bit length, which may be undefined.
+    fn long(self, tag: usize, vr: usize, start: usize, len: usize, levels: usize) -> Head
+        requires { ⌜ (self .at + 8 ≤ start) × ((start ≤ self .end) × ((tag < 4294967296) × (vr < 65536))) ⌝ }
+        ensures { λ r. ⌜ r ≡ longBy self tag vr start len levels ⌝ }
+        ensures { λ r. ⌜ Within self r ⌝ }
+    {
+        if len == UNDEFINED {
+            if vr == SQ {
+                let value = Cursor {
+                    at: start,
+                    end: self.end,
+                    delimited: true,
+                };
+                return self.level(tag, vr, levels, value);
+            }
+            return Head::Refused(5);
+        }
+        self.defined(tag, vr, start, len, levels)
+    }
+
+    // Checks 4 to 8 of an element of the tag, VR and form, with the 16 bits after the VR.
+    fn typed(
+        self,
+        s: &[u8],
+        tag: usize,
+        vr: usize,
+        form: usize,
+        short: usize,
+        levels: usize,
+    ) -> Head
+        requires { ⌜ (self .at + 8 ≤ self .end) × ((self .end ≤ length (now s)) × ((tag < 4294967296) × (vr < 65536))) ⌝ }
+        ensures { λ r. ⌜ r ≡ typedAt (now (s .entry)) self tag vr form short levels ⌝ }
+        ensures { λ r. ⌜ Within self r ⌝ }
+    {
+        if form == 0 {
+            return Head::Refused(3);
+        }
+        if form == 1 {
+            return self.defined(tag, vr, self.at + 8, short, levels);
+        }
+        if self.end - self.at < 12 {
+            return Head::Refused(1);
+        }
+        if short == 0 {
+            self.long(tag, vr, self.at + 12, u32_at(s, self.at + 8), levels)
+        } else {
+            Head::Refused(5)
+        }
+    }
+
+    // Checks 2 to 8 of an element of the tag.
+    fn tagged(self, s: &[u8], tag: usize, least: usize, levels: usize) -> Head
+        requires { ⌜ (self .at + 8 ≤ self .end) × ((self .end ≤ length (now s)) × (tag < 4294967296)) ⌝ }
+        ensures { λ r. ⌜ r ≡ taggedAt (now (s .entry)) self tag least levels ⌝ }
+        ensures { λ r. ⌜ Within self r ⌝ }
+    {
+        if tag / 65536 == 0xFFFE {
+            return self.delimiter(tag, ITEM_DELIMITER, u32_at(s, self.at + 4));
+        }
+        if tag < least {
+            return Head::Refused(2);
+        }
+        let vr = vr_at(s, self.at + 4);
+        self.typed(s, tag, vr, vr_form(vr), u16_at(s, self.at + 6), levels)
+    }
+
+    // Check 7 of an item of the 32-bit length.
+    fn sized(self, len: usize) -> Head
+        requires { ⌜ self .at + 8 ≤ self .end ⌝ }
+        ensures { λ r. ⌜ r ≡ sizedBy self len ⌝ }
+        ensures { λ r. ⌜ Within self r ⌝ }
+    {
+        if len == UNDEFINED {
+            let value = Cursor {
+                at: self.at + 8,
+                end: self.end,
+                delimited: true,
+            };
+            return Head::Header(ITEM, 0, value);
+        }
+        self.defined(ITEM, 0, self.at + 8, len, 0)
+    }
+
+    // Checks 2 and 7 of what stands among items with the tag.
+    fn member(self, s: &[u8], tag: usize) -> Head
+        requires { ⌜ (self .at + 8 ≤ self .end) × (self .end ≤ length (now s)) ⌝ }
+        ensures { λ r. ⌜ r ≡ memberAt (now (s .entry)) self tag ⌝ }
+        ensures { λ r. ⌜ Within self r ⌝ }
+    {
+        if tag == ITEM {
+            return self.sized(u32_at(s, self.at + 4));
+        }
+        self.delimiter(tag, SEQUENCE_DELIMITER, u32_at(s, self.at + 4))
+    }
+
+    // What stands at the cursor among elements, where tags below `least` are refused and `levels` more levels are
+    // permitted.
+    pub fn element(self, s: &[u8], least: usize, levels: usize) -> Head
+        requires { ⌜ (self .at ≤ self .end) × (self .end ≤ length (now s)) ⌝ }
+        ensures { λ r. ⌜ r ≡ elementAt (now (s .entry)) self least levels ⌝ }
+        ensures { λ r. ⌜ Within self r ⌝ }
+    {
+        if self.at == self.end {
+            return if self.delimited {
+                Head::Refused(1)
+            } else {
+                Head::End(self.at)
+            };
+        }
+        if self.end - self.at < 8 {
+            return Head::Refused(1);
+        }
+        self.tagged(s, tag_at(s, self.at), least, levels)
+    }
+
+    // What stands at the cursor among items.
+    pub fn item(self, s: &[u8]) -> Head
+        requires { ⌜ (self .at ≤ self .end) × (self .end ≤ length (now s)) ⌝ }
+        ensures { λ r. ⌜ r ≡ itemAt (now (s .entry)) self ⌝ }
+        ensures { λ r. ⌜ Within self r ⌝ }
+    {
+        if self.at == self.end {
+            return if self.delimited {
+                Head::Refused(1)
+            } else {
+                Head::End(self.at)
+            };
+        }
+        if self.end - self.at < 8 {
+            return Head::Refused(1);
+        }
+        self.member(s, tag_at(s, self.at))
+    }
+}
+
+// Writes row n, of a value from `start` to `stop` whose rows end before row m, where the buffer has room for it.
+fn put_row(
+    rows: &mut [u32],
+    n: usize,
+    tag: usize,
+    vr: usize,
+    levels: usize,
+    start: usize,
+    stop: usize,
+    m: usize,
+)
+    requires { ⌜ (levels ≤ 8) × ((start ≤ stop) × ((stop ≤ 1073741824) × ((n < m) × ((m ≤ 1073741824) × ((tag < 4294967296) × (vr < 65536)))))) ⌝ }
+    ensures { λ _. ⌜ (6 * n + 6 ≤ length (now (rows .entry)) → now (rows .exit) ≡ sets (now (rows .entry)) (6 * n) (flat (row tag vr (8 - levels) start (stop - start) (m - n - 1) ∷ []))) ⌝ }
+{
+    let i = WIDTH * n;
+    if i + WIDTH <= rows.len() {
+        rows[i] = tag as u32;
+        rows[i + 1] = vr as u32;
+        rows[i + 2] = (DEPTHS - levels) as u32;
+        rows[i + 3] = start as u32;
+        rows[i + 4] = (stop - start) as u32;
+        rows[i + 5] = (m - n - 1) as u32;
+    }
+}
+
+// An item, or the whole data set, element by element.
+fn read_item(s: &[u8], c: Cursor, levels: usize, rows: &mut [u32], first: usize) -> Walk
+    requires { ⌜ Ready (now s) c levels first ⌝ }
+    ensures { λ r. ⌜ Walked (elementsAt levels (now (s .entry)) c) c first (now (rows .entry)) (now (rows .exit)) r ⌝ }
+{
+    let end = c.end;
+    let delimited = c.delimited;
+    let mut at = c.at;
+    let mut n = first;
+    let mut least: usize = 0;
+    loop {
+        let here = Cursor { at, end, delimited };
+        match here.element(s, least, levels) {
+            Head::Refused(code) => {
+                return Walk::Refused(code, at);
+            }
+            Head::End(next) => {
+                return Walk::Done(at, next, n);
+            }
+            Head::Header(tag, vr, value) => {
+                let start = value.at;
+                match read_sequence(s, vr, value, levels, rows, n + 1) {
+                    Walk::Refused(code, offset) => {
+                        return Walk::Refused(code, offset);
+                    }
+                    Walk::Done(stop, next, m) => {
+                        put_row(rows, n, tag, vr, levels, start, stop, m);
+                        at = next;
+                        n = m;
+                        least = tag + 1;
+                    }
+                }
+            }
+        }
+    }
+}
+
+// The value of an element of the VR: a sequence, item by item; any other value has no rows.
+fn read_sequence(
+    s: &[u8],
+    vr: usize,
+    value: Cursor,
+    levels: usize,
+    rows: &mut [u32],
+    first: usize,
+) -> Walk
+    requires { ⌜ Ready (now s) value levels first ⌝ }
+    ensures { λ r. ⌜ Walked (valueAt levels (now (s .entry)) vr value) value first (now (rows .entry)) (now (rows .exit)) r ⌝ }
+{
+    let end = value.end;
+    let delimited = value.delimited;
+    if vr != SQ {
+        return Walk::Done(end, end, first);
+    }
+    if levels == 0 {
+        return Walk::Done(end, end, first);
+    }
+    let inner = levels - 1;
+    let mut at = value.at;
+    let mut n = first;
+    loop {
+        let here = Cursor { at, end, delimited };
+        match here.item(s) {
+            Head::Refused(code) => {
+                return Walk::Refused(code, at);
+            }
+            Head::End(next) => {
+                return Walk::Done(at, next, n);
+            }
+            Head::Header(tag, kind, item) => {
+                let start = item.at;
+                match read_item(s, item, inner, rows, n + 1) {
+                    Walk::Refused(code, offset) => {
+                        return Walk::Refused(code, offset);
+                    }
+                    Walk::Done(stop, next, m) => {
+                        put_row(rows, n, tag, kind, inner, start, stop, m);
+                        at = next;
+                        n = m;
+                    }
+                }
+            }
+        }
+    }
+}
+
+// Reads a data set into rows of six numbers. A refusal leaves the buffer as it was: the first walk only counts, since
+// it is lent no buffer, and the second writes the rows once they are known to fit.
+pub fn read(bytes: &[u8], rows: &mut [u32]) -> ReadAnswer
+    ensures { λ r. ⌜ r ≡ answerOf (readingOf (now (bytes .entry))) (now (rows .entry)) ⌝ }
+    ensures { λ _. ⌜ now (rows .exit) ≡ bufferOf (readingOf (now (bytes .entry))) (now (rows .entry)) ⌝ }
+{
+    if LARGEST < bytes.len() {
+        return ReadAnswer::TooLarge;
+    }
+    let c = Cursor {
+        at: 0,
+        end: bytes.len(),
+        delimited: false,
+    };
+    let none: usize = 0;
+    match read_item(bytes, c, DEPTHS, &mut rows[none..none], 0) {
+        Walk::Refused(code, offset) => ReadAnswer::Refused(code, offset),
+        Walk::Done(_, _, n) => {
+            if rows.len() / WIDTH < n {
+                return ReadAnswer::NoRoom;
+            }
+            read_item(bytes, c, DEPTHS, rows, 0);
+            ReadAnswer::Done(n)
+        }
+    }
+}
