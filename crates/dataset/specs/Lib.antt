@@ -4,3 +4,4 @@ pub mod Header
 pub mod Reading
 pub mod Answer
 pub mod Walk
+pub mod Tree

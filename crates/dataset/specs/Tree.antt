@@ -1,0 +1,66 @@
+-- The structure that the rows of a data set have, in the form in which a search over the row table uses it: the rows
+-- from one row number up to another are the members of one container, each stepped over by its descendants.
+use mathlib.Core.Path.{_≡_}
+use Prim.Native.Nat.{ℕ, _+_, _*_, _≤_, _<_}
+use mathlib.Core.List.{List, []}
+use lib.ListN.{length, getD}
+use Rattle.dataset.specs.Vr.{formOf, SQ}
+use Rattle.dataset.specs.Header.{itemTag}
+use Rattle.dataset.specs.Reading.{Row, row, Reading, tooLarge, refusedAt, read, readingOf, depths}
+
+-- The rows of a data set that reads well; none of another.
+abbrev pub rowsIn : Reading → List Row
+rowsIn tooLarge = []
+rowsIn (refusedAt code offset) = []
+rowsIn (read rows) = rows
+
+unfoldable pub rowsOf : List ℕ → List Row
+rowsOf s = rowsIn (readingOf s)
+
+abbrev pub noRow : Row
+noRow = row 0 0 0 0 0 0
+
+-- Row i.
+abbrev pub rowAt : List Row → ℕ → Row
+rowAt rows i = getD rows i noRow
+
+-- The row after row i and all its descendants.
+abbrev pub nextRow : List Row → ℕ → ℕ
+nextRow rows i = i + 1 + rowAt rows i .descendants
+
+-- What a container holds: the root and an item hold elements, a sequence holds items.
+pub data Kind : Type 0 where
+  elements : Kind
+  items : Kind
+
+-- What a member of a container is: an element of a listed VR and a tag of at least `least`, or an item. Its depth is the container's
+-- depth for its members, its value lies within the data set of `size` bytes, and only a sequence or an item has descendants.
+abbrev pub IsMember : Kind → ℕ → Row → Type 0
+IsMember elements least r = (least ≤ r .tag) × ((formOf (r .vr) ≡ 0 → ⊥) × ((r .vr ≡ SQ → ⊥) → r .descendants ≡ 0))
+IsMember items least r = (r .tag ≡ itemTag) × (r .vr ≡ 0)
+
+pub record Member (size : ℕ) (kind : Kind) (depth least : ℕ) (r : Row) : Type 0 where
+  pub is : IsMember kind least r
+  pub level : r .depth ≡ depth
+  pub deep : r .depth ≤ depths
+  pub within : r .offset + r .size ≤ size
+  pub tag : r .tag < 4294967296
+  pub vr : r .vr < 65536
+
+-- What the members of a member are: items hold elements of their own depth, and sequences items one deeper.
+abbrev pub insideOf : Kind → Kind
+insideOf elements = items
+insideOf items = elements
+
+abbrev pub depthInside : Kind → ℕ → ℕ
+depthInside elements depth = depth + 1
+depthInside items depth = depth
+
+-- The rows from i up to `to` are the members of one container, with all that is below them. Tags ascend among elements: each is at
+-- least `least`, which the next has one above this one's tag.
+pub data Members (rows : List Row) (size : ℕ) : Kind → ℕ → ℕ → ℕ → ℕ → Type 0 where
+  end : {kind : Kind} {depth least i to : ℕ} → i ≡ to → Members rows size kind depth least i to
+  member : {kind : Kind} {depth least i to : ℕ} → nextRow rows i ≤ to → Member size kind depth least (rowAt rows i)
+      → Members rows size (insideOf kind) (depthInside kind depth) 0 (i + 1) (nextRow rows i)
+      → Members rows size kind depth (rowAt rows i .tag + 1) (nextRow rows i) to
+      → Members rows size kind depth least i to
