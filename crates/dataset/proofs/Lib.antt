@@ -4,3 +4,5 @@ pub mod Forms
 pub mod Buffer
 pub mod Level
 pub mod Whole
+pub mod Tree
+pub mod Laws
