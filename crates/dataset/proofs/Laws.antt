@@ -1,6 +1,6 @@
 -- What callers may rely on in the rows of every data set. Each row is a member of some container among the members of
 -- the root, so that what holds of a member in its container holds of each row.
-use mathlib.Core.Path.{_≡_, refl, sym, ap, _∙_, subst}
+use mathlib.Core.Path.{_≡_, refl, ap, _∙_, subst}
 use mathlib.Core.Bool.{Bool, true, false, cond}
 use Prim.Native.Nat.{ℕ, zero, suc, _+_, _*_, _≤_, _<_}
 use native.Mathlib.Omega.{arith}
@@ -12,10 +12,10 @@ use lib.ListN.{length, getD, List·getD-append}
 use Rattle.dataset.specs.declared.ReadAnswer.{ReadAnswer}
 use Rattle.dataset.specs.declared.ReadAnswer.the-variants as answer
 use Rattle.dataset.specs.Vr.{formOf, listed, SQ}
-use Rattle.dataset.specs.Reading.{Row, largest, Reading, tooLarge, refusedAt, read, readingOf}
+use Rattle.dataset.specs.Reading.{Row, Reading, tooLarge, refusedAt, read, readingOf}
 use Rattle.dataset.specs.Answer.{flat, fits, answerOf}
 use Rattle.dataset.specs.Tree.{rowsOf, rowAt, nextRow, Kind, elements, items, Member, insideOf, depthInside, Members}
-use Rattle.dataset.proofs.Tree.{Reads, Rows, reading-reads, rows-read, rows-members}
+use Rattle.dataset.proofs.Tree.{Reads, reading-reads, rows-read, rows-members}
 
 -- ---- The numbers of an answer and of a buffer
 
@@ -124,6 +124,59 @@ item-formless : (vr : ℕ) → vr ≡ 0 → formOf vr ≡ 0
 unfolding formOf listed
 item-formless vr e = rw e
 
+-- ---- An element and the element of its depth next after it
+
+abbrev pub IsElement : Row → Type 0
+IsElement r = formOf (r .vr) ≡ 0 → ⊥
+
+-- Of two members of one container in a row, the second has the higher tag, where the first is an element.
+member-ascends : (size : ℕ) (kind : Kind) (depth least : ℕ) (r q : Row) → Member size kind depth least r → Member size kind depth (r .tag + 1) q → IsElement r → r .tag < q .tag
+member-ascends size elements depth least r q m n x = omega (arith, n .is .0)
+member-ascends size items depth least r q m n x = absurd (x (item-formless (r .vr) (m .is .1)))
+
+-- What follows the last row below a member is an item, or less deep.
+member-less-deep : (size : ℕ) (kind : Kind) (depth least : ℕ) (q : Row) → Member size kind depth least q → IsElement q → q .depth < depthInside kind depth
+member-less-deep size elements depth least q m y = omega (arith, m .level)
+member-less-deep size items depth least q m y = absurd (y (item-formless (q .vr) (m .is .1)))
+
+next-ascends : {rows : List Row} {size : ℕ} {kind : Kind} {depth least from to : ℕ} → Members rows size kind depth least from to
+    → (i : ℕ) → from ≤ i → i < to → nextRow rows i < to → IsElement (rowAt rows i) → IsElement (rowAt rows (nextRow rows i))
+    → rowAt rows i .depth ≡ rowAt rows (nextRow rows i) .depth → rowAt rows i .tag < rowAt rows (nextRow rows i) .tag
+next-ascends (Members.end e) i p q l x y d = absurd (omega arith)
+next-ascends {rows} {size} (Members.member {kind} {depth} {least} {i = from} {to} f m b r) i p q l x y d =
+    go (λ u v w. next-ascends b i u v w x y d) (λ u. next-ascends r i u q l x y d) (ltb from i) refl (ltb i (nextRow rows from)) refl
+  where
+    Claim : ℕ → Type 0
+    Claim j = rowAt rows i .tag < rowAt rows j .tag
+
+    same : from ≡ i → Claim (nextRow rows i)
+    same z =
+        let a = members-first r (omega (arith, ap (nextRow rows) z)) in
+        member-ascends size kind depth least (rowAt rows i) (rowAt rows (nextRow rows i))
+        (subst (λ (j : ℕ). Member size kind depth least (rowAt rows j)) z m)
+        (subst (λ (j : ℕ). Member size kind depth (rowAt rows j .tag + 1) (rowAt rows (nextRow rows j))) z (a .here)) x
+
+    last : from < i → i < nextRow rows from → (nextRow rows i < nextRow rows from → Claim (nextRow rows i))
+        → (t : Bool) → ltb (nextRow rows i) (nextRow rows from) ≡ t → Claim (nextRow rows i)
+    last u v w true e = w (ltb-true (nextRow rows i) (nextRow rows from) e)
+    last u v w false e =
+        let g = row-found b i (omega arith) v in
+        let z : nextRow rows i ≡ nextRow rows from = omega (arith, ltb-false (nextRow rows i) (nextRow rows from) e, g .first .fit, g .within) in
+        let a = members-first r (omega arith) in
+        let y′ : IsElement (rowAt rows (nextRow rows from)) = subst (λ (j : ℕ). IsElement (rowAt rows j)) z y in
+        let d′ : rowAt rows i .depth ≡ rowAt rows (nextRow rows from) .depth = d ∙ ap (λ (j : ℕ). rowAt rows j .depth) z in
+        absurd (omega (arith, member-less-deep size kind depth _ _ (a .here) y′, g .deeper, g .first .here .level, d′))
+
+    go : (from + 1 ≤ i → i < nextRow rows from → nextRow rows i < nextRow rows from → Claim (nextRow rows i))
+        → (nextRow rows from ≤ i → Claim (nextRow rows i))
+        → (t : Bool) → ltb from i ≡ t → (u : Bool) → ltb i (nextRow rows from) ≡ u → Claim (nextRow rows i)
+    go k n false c u e = same (omega (arith, ltb-false from i c))
+    go k n true c true e =
+        let v : i < nextRow rows from = ltb-true i (nextRow rows from) e in
+        let w : from < i = ltb-true from i c in
+        last w v (k (omega arith) v) (ltb (nextRow rows i) (nextRow rows from)) refl
+    go k n true c false e = n (ltb-false i (nextRow rows from) e)
+
 -- ---- The rows of a data set
 
 pub row-count : (s : List ℕ) → 8 * length (rowsOf s) ≤ length s
@@ -147,3 +200,33 @@ module _ (s : List ℕ) (i : ℕ) (h : i < length (rowsOf s)) where
 
   pub row-nested : (j : ℕ) → i < j → j < nextRow (rowsOf s) i → nextRow (rowsOf s) j ≤ nextRow (rowsOf s) i
   row-nested j p q = let g = row-found (found .first .below) j (omega arith) q in omega (arith, g .first .fit, g .within)
+
+  -- Below an item are its elements, of its own depth; below any other row are items, one deeper.
+  pub item-members : rowAt (rowsOf s) i .vr ≡ 0 → Members (rowsOf s) (length s) elements (rowAt (rowsOf s) i .depth) 0 (i + 1) (nextRow (rowsOf s) i)
+  item-members e = by-kind (found .kind) (found .first)
+    where
+      by-kind : (kind : Kind) {depth least last : ℕ} → First (rowsOf s) (length s) kind depth least i last
+          → Members (rowsOf s) (length s) elements (rowAt (rowsOf s) i .depth) 0 (i + 1) (nextRow (rowsOf s) i)
+      by-kind elements f = absurd (f .here .is .1 .0 (item-formless _ e))
+      by-kind items f = rw (f .here .level) (f .below)
+
+  pub element-members : (rowAt (rowsOf s) i .vr ≡ 0 → ⊥) → Members (rowsOf s) (length s) items (rowAt (rowsOf s) i .depth + 1) 0 (i + 1) (nextRow (rowsOf s) i)
+  element-members n = by-kind (found .kind) (found .first)
+    where
+      by-kind : (kind : Kind) {depth least last : ℕ} → First (rowsOf s) (length s) kind depth least i last
+          → Members (rowsOf s) (length s) items (rowAt (rowsOf s) i .depth + 1) 0 (i + 1) (nextRow (rowsOf s) i)
+      by-kind elements f = rw (f .here .level) (f .below)
+      by-kind items f = absurd (n (f .here .is .1))
+
+  pub row-childless : (rowAt (rowsOf s) i .vr ≡ 0 → ⊥) → (rowAt (rowsOf s) i .vr ≡ SQ → ⊥) → rowAt (rowsOf s) i .descendants ≡ 0
+  row-childless n q = by-kind (found .kind) (found .first)
+    where
+      by-kind : (kind : Kind) {depth least last : ℕ} → First (rowsOf s) (length s) kind depth least i last → rowAt (rowsOf s) i .descendants ≡ 0
+      by-kind elements f = f .here .is .1 .1 q
+      by-kind items f = absurd (n (f .here .is .1))
+
+  -- An element's tag is below the next one's of its depth, where that follows it and its descendants.
+  pub row-ascends : nextRow (rowsOf s) i < length (rowsOf s) → IsElement (rowAt (rowsOf s) i) → IsElement (rowAt (rowsOf s) (nextRow (rowsOf s) i))
+      → rowAt (rowsOf s) i .depth ≡ rowAt (rowsOf s) (nextRow (rowsOf s) i) .depth
+      → rowAt (rowsOf s) i .tag < rowAt (rowsOf s) (nextRow (rowsOf s) i) .tag
+  row-ascends l x y e = next-ascends (rows-members s) i (omega arith) h l x y e

@@ -1,7 +1,7 @@
 -- The structure that the rows of a data set have, in the form in which a search over the row table uses it: the rows
 -- from one row number up to another are the members of one container, each stepped over by its descendants.
 use mathlib.Core.Path.{_≡_}
-use Prim.Native.Nat.{ℕ, _+_, _≤_}
+use Prim.Native.Nat.{ℕ, _+_, _*_, _≤_}
 use mathlib.Core.List.{List, []}
 use lib.ListN.{length, getD}
 use Rattle.dataset.specs.Vr.{formOf, SQ}
