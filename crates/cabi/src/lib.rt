@@ -1,0 +1,16 @@
+// The library's calls for hosts in C and whatever calls C; include/luuxidgaan.h declares them. None has a `requires`:
+// any bytes and any buffers may be handed in.
+mod read;
+
+pub use read::xa_read;
+
+// What every call answers with. Fields that a code does not name are 0; specs/Host.antt says which code names which.
+#[repr(C)]
+pub struct Answer {
+    pub code: u32,
+    pub offset: u32,
+    pub rows: u32,
+    pub rule: u32,
+    pub frame: u32,
+    pub masked: u32,
+}

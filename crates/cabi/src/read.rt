@@ -1,0 +1,49 @@
+// Reading, for hosts.
+use crate::Answer;
+use dataset::ReadAnswer;
+ghost use mathlib.Core.Path.{_≡_};
+ghost use Rattle.dataset.specs.Reading.{readingOf};
+ghost use Rattle.dataset.specs.Answer.{answerOf, bufferOf};
+ghost use Rattle.cabi.specs.Host.{readAnswer};
+
+// Reads a data set into rows of six numbers. With codes 1 to 8 the buffer stays as it was.
+#[no_mangle]
+pub extern "C" fn xa_read(bytes: &[u8], rows: &mut [u32]) -> Answer
+    ensures { λ r. ⌜ r ≡ readAnswer (answerOf (readingOf (now (bytes .entry))) (now (rows .entry))) ⌝ }
+    ensures { λ _. ⌜ now (rows .exit) ≡ bufferOf (readingOf (now (bytes .entry))) (now (rows .entry)) ⌝ }
+{
+    match dataset::read(bytes, rows) {
+        ReadAnswer::Done(n) => Answer {
+            code: 0,
+            offset: 0,
+            rows: n as u32,
+            rule: 0,
+            frame: 0,
+            masked: 0,
+        },
+        ReadAnswer::Refused(code, offset) => Answer {
+            code: code as u32,
+            offset: offset as u32,
+            rows: 0,
+            rule: 0,
+            frame: 0,
+            masked: 0,
+        },
+        ReadAnswer::TooLarge => Answer {
+            code: 7,
+            offset: 0,
+            rows: 0,
+            rule: 0,
+            frame: 0,
+            masked: 0,
+        },
+        ReadAnswer::NoRoom => Answer {
+            code: 8,
+            offset: 0,
+            rows: 0,
+            rule: 0,
+            frame: 0,
+            masked: 0,
+        },
+    }
+}

@@ -1,0 +1,60 @@
+/* Reads X-ray angiographic (XA, XRF) data sets in Explicit VR Little Endian, without a file head.
+ *
+ * Every call takes any bytes and any buffers; nothing is asked of the caller but that each pointer has as many
+ * elements behind it as the size that follows it says, and that no two buffers overlap. A pointer whose size is 0 is
+ * never followed. No call keeps a pointer, allocates, or depends on an earlier call.
+ */
+#ifndef LUUXIDGAAN_H
+#define LUUXIDGAAN_H
+
+#include <stddef.h>
+#include <stdint.h>
+
+#ifdef __cplusplus
+extern "C" {
+#endif
+
+/* What a call answers. Fields that the code does not name are 0.
+ *
+ *   code  meaning                                                              fields named
+ *      0  done                                                                 rows
+ *      1  cut short: fewer bytes left than a header has, a header or a value   offset
+ *         that reaches past what holds it, or an undefined length that is
+ *         still open there
+ *      2  a tag that is not above the one before it                            offset
+ *      3  a VR that is not listed                                              offset
+ *      4  an odd length                                                        offset
+ *      5  an item or a delimiter where none is due, an element among items,    offset
+ *         a long header whose two reserved bytes are not zero, or an
+ *         undefined length where only a defined one may be
+ *      6  a sequence nested too deep: eight levels are read                    offset
+ *      7  a data set of more than 1,073,741,824 bytes                          none
+ *      8  it reads well, but the row buffer holds fewer than 6 numbers a row   none
+ *
+ * `offset` counts bytes from 0: where the refused header starts, or the end at which an undefined length is still
+ * open. The size (7) is tested first, then 1 to 6 header by header, then the row buffer (8).
+ */
+typedef struct {
+    uint32_t code;
+    uint32_t offset;
+    uint32_t rows;
+    uint32_t rule;
+    uint32_t frame;
+    uint32_t masked;
+} xa_answer;
+
+/* Reads the `size` bytes at `data` into rows, one for each element and item, in the order of the bytes.
+ *
+ * `rows` has room for `rows_len` numbers. A row is six of them: the tag (group x 65,536 + element), the VR (first
+ * letter x 256 + second; 0 for an item), the depth (0 at the root), the offset of the value, its length (of an
+ * undefined one, up to its delimiter), and how many rows stand below it, which are the rows that follow it.
+ *
+ * With code 0 the first 6 x `rows` numbers are written, and nothing beyond them; with any other code nothing is.
+ */
+xa_answer xa_read(const uint8_t *data, size_t size, uint32_t *rows, size_t rows_len);
+
+#ifdef __cplusplus
+}
+#endif
+
+#endif
