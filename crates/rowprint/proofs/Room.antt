@@ -1,0 +1,36 @@
+-- The rows that an answer counts are in the buffer, since the answer is code 8 where they do not fit; and they fit a
+-- buffer of six numbers for each 8 bytes, since a row has at least 8 bytes.
+use mathlib.Core.Path.{_≡_, refl}
+use mathlib.Core.Bool.{Bool, true, false, cond}
+use Prim.Native.Nat.{ℕ, _*_, _≤_}
+use native.Mathlib.Omega.{arith}
+use borrow.Author.Tests.{leb-true, leb-false}
+use mathlib.Core.List.{List}
+use lib.Dec.{leb}
+use lib.ListN.{length}
+use Rattle.dataset.specs.declared.ReadAnswer.the-variants as answer
+use Rattle.dataset.specs.Reading.{Reading, tooLarge, refusedAt, read, readingOf}
+use Rattle.dataset.specs.Answer.{answerOf, fits}
+use Rattle.dataset.proofs.Tree.{Reads, reading-reads}
+use Rattle.rowprint.specs.Listing.{Held, Roomy}
+
+pub held : (o : Reading) (buffer after : List ℕ) → length after ≡ length buffer → Held (answerOf o buffer) after
+held tooLarge buffer after e = tt
+held (refusedAt code offset) buffer after e = tt
+held (read rows) buffer after e = by-room (fits rows buffer) refl
+  where
+    by-room : (t : Bool) → fits rows buffer ≡ t → Held (cond t (answer.Done (length rows)) answer.NoRoom) after
+    by-room true f = omega (arith, leb-true (6 * length rows) (length buffer) f)
+    by-room false f = tt
+
+pub roomy : (s buffer : List ℕ) → 6 * length s ≤ 8 * length buffer → Roomy (answerOf (readingOf s) buffer)
+roomy s buffer h = by-reading (readingOf s) (reading-reads s)
+  where
+    by-room : (n : ℕ) → 8 * n ≤ length s → (t : Bool) → leb (6 * n) (length buffer) ≡ t → Roomy (cond t (answer.Done n) answer.NoRoom)
+    by-room n l true f = tt
+    by-room n l false f = omega (arith, leb-false (6 * n) (length buffer) f)
+
+    by-reading : (o : Reading) → Reads s o → Roomy (answerOf o buffer)
+    by-reading tooLarge r = tt
+    by-reading (refusedAt code offset) r = tt
+    by-reading (read rows) r = by-room (length rows) (r .sparse) (fits rows buffer) refl

@@ -1,0 +1,69 @@
+-- The rows that the answer counts are in the buffer, by what is required.
+use mathlib.Core.Path.{subst}
+use borrow.Author.Needs.{needs}
+use Rattle.dataset.specs.declared.ReadAnswer.{ReadAnswer}
+use Rattle.rowprint.specs.Listing.{Held}
+use Rattle.rowprint.proofs.print_answer.Statement.{statement}
+use Rattle.rowprint.proofs.print_answer.Tie as tie
+
+enum-known-answer : tie.Need-enum-known-answer
+enum-known-answer c = search needs
+
+print-rows-requires : tie.Need-print-rows-requires
+print-rows-requires c κs =
+    subst (λ (a : ReadAnswer). Held a (c .before .before .before .before .args .rows .now)) (c .before .answer .given .1) (c .before .before .before .before .pre)
+
+enum-known-answer-2 : tie.Need-enum-known-answer-2
+enum-known-answer-2 c = search needs
+
+print-refusal-requires : tie.Need-print-refusal-requires
+print-refusal-requires c κs = search needs
+
+enum-told : tie.Need-enum-told
+enum-told c = search needs
+
+slice-aggregate-write-all : tie.Need-slice-aggregate-write-all
+slice-aggregate-write-all c = search needs
+
+write-all-requires : tie.Need-write-all-requires
+write-all-requires c κs = search needs
+
+enum-told-2 : tie.Need-enum-told-2
+enum-told-2 c = search needs
+
+slice-aggregate-write-all-2 : tie.Need-slice-aggregate-write-all-2
+slice-aggregate-write-all-2 c = search needs
+
+write-all-requires-2 : tie.Need-write-all-requires-2
+write-all-requires-2 c κs = search needs
+
+returns : tie.Need-returns
+returns c = search needs
+
+returns-2 : tie.Need-returns-2
+returns-2 c = search needs
+
+returns-3 : tie.Need-returns-3
+returns-3 c = search needs
+
+returns-4 : tie.Need-returns-4
+returns-4 c = search needs
+
+pub print-answer-spec : {M : Type 1} → statement M
+print-answer-spec =
+    tie.close
+    (tie.spec
+    enum-known-answer
+    print-rows-requires
+    enum-known-answer-2
+    print-refusal-requires
+    enum-told
+    slice-aggregate-write-all
+    write-all-requires
+    enum-told-2
+    slice-aggregate-write-all-2
+    write-all-requires-2
+    returns
+    returns-2
+    returns-3
+    returns-4)

@@ -1,0 +1,131 @@
+// The reading of a data set, printed to standard output: `rows N` and a line for each row, or the refusal.
+use dataset::ReadAnswer;
+ghost use mathlib.Core.Path.{_≡_};
+ghost use Prim.Native.Nat.{_+_, _*_, _≤_};
+ghost use lib.ListN.{length};
+ghost use Rattle.dataset.specs.Reading.{readingOf};
+ghost use Rattle.dataset.specs.Answer.{answerOf, bufferOf};
+ghost use Rattle.rowprint.specs.Text.{hexDigit, heading};
+ghost use Rattle.rowprint.specs.Text.{letter as Text·letter};
+ghost use Rattle.rowprint.specs.Listing.{Held, Roomy};
+
+// The most bytes that a data set to be printed may have.
+pub const MOST: usize = 65_536;
+
+// Room for the rows of a data set of that size, since a row has at least 8 bytes. A function of its own gives the
+// length, so that no proof computes it from the array.
+fn row_buffer() -> [u32; 49_152]
+    ensures { λ r. ⌜ 49152 ≡ length r ⌝ }
+{
+    [0; 49_152]
+}
+
+fn hex_digit(n: u32) -> u8
+    ensures { λ r. ⌜ r ≡ hexDigit n ⌝ }
+{
+    let d = n % 16;
+    if d < 10 { 48 + d as u8 } else { 55 + d as u8 }
+}
+
+fn letter(vr: u32, half: u32) -> u8
+    ensures { λ r. ⌜ r ≡ Text·letter vr half ⌝ }
+{
+    if vr == 0 { b'-' } else { (half % 256) as u8 }
+}
+
+// How a row's line begins: the tag as eight hexadecimal digits, and the VR.
+fn row_heading(tag: u32, vr: u32) -> [u8; 11]
+    ensures { λ r. ⌜ r ≡ heading tag vr ⌝ }
+{
+    [
+        hex_digit(tag / 268_435_456),
+        hex_digit(tag / 16_777_216),
+        hex_digit(tag / 1_048_576),
+        hex_digit(tag / 65_536),
+        hex_digit(tag / 4_096),
+        hex_digit(tag / 256),
+        hex_digit(tag / 16),
+        hex_digit(tag),
+        b' ',
+        letter(vr, vr / 256),
+        letter(vr, vr),
+    ]
+}
+
+fn wide(n: u32) -> u64 {
+    n as u64
+}
+
+fn print_number(n: u64) {
+    io::write_all(1, b" ");
+    io::print_decimal(1, n);
+}
+
+fn print_row(rows: &[u32], i: usize)
+    requires { ⌜ 6 * i + 6 ≤ length (now rows) ⌝ }
+{
+    let at = 6 * i;
+    let text = row_heading(rows[at], rows[at + 1]);
+    io::write_all(1, &text);
+    print_number(wide(rows[at + 2]));
+    print_number(wide(rows[at + 3]));
+    print_number(wide(rows[at + 4]));
+    print_number(wide(rows[at + 5]));
+    io::write_all(1, b"\n");
+}
+
+fn print_rows(rows: &[u32], n: usize)
+    requires { ⌜ 6 * n ≤ length (now rows) ⌝ }
+{
+    io::write_all(1, b"rows");
+    print_number(n as u64);
+    io::write_all(1, b"\n");
+    for i in 0..n {
+        print_row(rows, i);
+    }
+}
+
+fn print_refusal(code: usize, offset: usize) {
+    io::write_all(1, b"code");
+    print_number(code as u64);
+    io::write_all(1, b" place");
+    print_number(offset as u64);
+    io::write_all(1, b"\n");
+}
+
+fn print_answer(answer: ReadAnswer, rows: &[u32])
+    requires { ⌜ Held answer (now rows) ⌝ }
+{
+    match answer {
+        ReadAnswer::Done(n) => print_rows(rows, n),
+        ReadAnswer::Refused(code, offset) => print_refusal(code, offset),
+        ReadAnswer::TooLarge => {
+            io::write_all(1, b"code 7\n");
+        }
+        ReadAnswer::NoRoom => {
+            io::write_all(1, b"code 8\n");
+        }
+    }
+}
+
+// Reads a data set into a buffer that has room for six numbers for each 8 bytes of it, so that the rows fit.
+fn read_roomy(bytes: &[u8], rows: &mut [u32]) -> ReadAnswer
+    requires { ⌜ 6 * length (now bytes) ≤ 8 * length (now rows) ⌝ }
+    ensures { λ r. ⌜ r ≡ answerOf (readingOf (now (bytes .entry))) (now (rows .entry)) ⌝ }
+    ensures { λ _. ⌜ now (rows .exit) ≡ bufferOf (readingOf (now (bytes .entry))) (now (rows .entry)) ⌝ }
+    ensures { λ r. ⌜ Held r (now (rows .exit)) ⌝ }
+    ensures { λ r. ⌜ Roomy r ⌝ }
+{
+    dataset::read(bytes, rows)
+}
+
+// Prints the reading of a data set of at most `MOST` bytes; of more, that they are too many.
+pub fn print_reading(bytes: &[u8]) {
+    if MOST < bytes.len() {
+        io::write_all(1, b"too long: at most 65536 bytes\n");
+        return;
+    }
+    let mut rows = row_buffer();
+    let answer = read_roomy(bytes, &mut rows);
+    print_answer(answer, &rows);
+}
