@@ -1,0 +1,116 @@
+#!/usr/bin/env python3
+"""Shows that the comparisons can fail: a stand-in without fault passes, and each stand-in with a fault is found out."""
+
+import argparse
+import ctypes
+import shutil
+import sys
+import tempfile
+
+import compare_read
+from comparison import Comparison, DifferenceFound
+from library import Library
+from stand_in import StandIn, write
+
+COUNTS = {"read": 60}
+RUNS = {"read": compare_read.run}
+
+
+def answer_changed(**changes):
+    """A fault in the answer of those outcomes that `changes` leaves different."""
+
+    def change(outcome, data):
+        fields = {name: function(outcome.answer) for name, function in changes.items()}
+        return outcome._replace(answer=outcome.answer._replace(**fields))
+
+    return change
+
+
+def row_number_changed(which, function):
+    def change(outcome, data):
+        numbers = list(outcome.rows)
+        for position in range(which, len(numbers), 6):
+            numbers[position] = function(numbers[position])
+        return outcome._replace(rows=tuple(numbers))
+
+    return change
+
+
+def touched(place):
+    """A fault in what is written: `place(outcome, data, rows, rows_length)` answers an address, or None for no write."""
+
+    def after(outcome, data, rows, rows_length):
+        address = place(outcome, data, rows, rows_length)
+        if address is not None:
+            write(address, bytes([ctypes.string_at(address, 1)[0] ^ 0x55]))
+
+    return after
+
+
+def last_number_of(rows, rows_length):
+    return rows + 4 * rows_length - 4 if rows_length else None
+
+
+READ_FAULTS = {
+    "row count one more": StandIn(answer_changed(rows=lambda a: a.rows + (a.code == 0))),
+    "row count told with code 8": StandIn(answer_changed(rows=lambda a: 1 if a.code == 8 else a.rows)),
+    "code 4 told as 1": StandIn(answer_changed(code=lambda a: 1 if a.code == 4 else a.code)),
+    "place of code 2 one element early": StandIn(answer_changed(offset=lambda a: max(0, a.offset - 10 * (a.code == 2)))),
+    "masked not 0": StandIn(answer_changed(masked=lambda a: 1)),
+    "depth one more": StandIn(row_number_changed(2, lambda value: value + 1)),
+    "length of an undefined sequence with its delimiter": StandIn(row_number_changed(4, lambda v: v + 8 if v == 34 else v)),
+    "rows below not told": StandIn(row_number_changed(5, lambda value: 0)),
+    "rows not written": StandIn(lambda outcome, data: outcome._replace(rows=())),
+    "last row not written": StandIn(lambda outcome, data: outcome._replace(rows=outcome.rows[:-6])),
+    "row buffer touched at a refusal": StandIn(after=touched(
+        lambda o, data, rows, length: rows if o.answer.code in range(1, 7) and length else None)),
+    "row buffer touched at code 8": StandIn(after=touched(
+        lambda o, data, rows, length: last_number_of(rows, length) if o.answer.code == 8 else None)),
+    "row buffer touched behind the rows": StandIn(after=touched(
+        lambda o, data, rows, length: rows + 4 * len(o.rows) if o.answer.code == 0 and length > len(o.rows) else None)),
+    "written behind the row buffer": StandIn(after=touched(lambda o, data, rows, length: rows + 4 * length)),
+    "written in front of the row buffer": StandIn(after=touched(lambda o, data, rows, length: rows - 1)),
+    "input changed": StandIn(after=touched(lambda o, data, rows, length: data - 1 if o.answer.code != 7 else None)),
+}
+
+FAULTS = {"read": READ_FAULTS}
+
+
+def attempt(name, stand_in, folder):
+    """None if the comparison finds no difference, else the difference in words."""
+    comparison = Comparison(Library(stand_in, folder), 1, COUNTS[name], folder)
+    try:
+        RUNS[name](comparison, argparse.Namespace(require_outside=False))
+    except DifferenceFound as difference:
+        return str(difference)
+    return None
+
+
+def main():
+    parser = argparse.ArgumentParser(description=__doc__)
+    parser.add_argument("--verbose", action="store_true", help="show how each fault was found")
+    arguments = parser.parse_args()
+    folder = tempfile.mkdtemp(prefix="luuxidgaan-tests-")
+    wrong = 0
+    found = 0
+    for name, faults in FAULTS.items():
+        difference = attempt(name, StandIn(), folder)
+        if difference is not None:
+            wrong += 1
+            print(f"{name}: a stand-in without fault differs: {difference}")
+        for fault, stand_in in faults.items():
+            difference = attempt(name, stand_in, folder)
+            if difference is None or "the comparison itself" in difference:
+                wrong += 1
+                print(f"{name}: NOT FOUND: {fault} ({difference})")
+            else:
+                found += 1
+                if arguments.verbose:
+                    print(f"{name}: {fault}: {difference}")
+    shutil.rmtree(folder)
+    print(f"harness: {found} faults found, {wrong} wrong")
+    return 1 if wrong or not found else 0
+
+
+if __name__ == "__main__":
+    sys.exit(main())
