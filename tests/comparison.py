@@ -17,7 +17,7 @@ class DifferenceFound(Exception):
     """The library and the reference differ; the text says where."""
 
 
-def shrink(data, differs, trials=600):
+def shrink(data, differs, trials):
     """A smaller input that still differs: pieces are taken out, from large to small, as long as the difference stays."""
     size = len(data) // 2
     while size >= 1 and trials > 0:
@@ -43,6 +43,7 @@ class Comparison:
         self.folder = folder
         self.compared = 0
         self.tally = {}
+        self.shrink_trials = 600
 
     def note(self, key):
         """Counts one case of a kind, so that a comparison can insist that each kind was met."""
@@ -59,7 +60,7 @@ class Comparison:
         text = difference(data)
         if text is None:
             return
-        small = shrink(data, lambda candidate: difference(candidate) is not None)
+        small = shrink(data, lambda candidate: difference(candidate) is not None, self.shrink_trials)
         self.fail(name, data, small, difference(small))
 
     def fail(self, name, data, small, text):

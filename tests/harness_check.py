@@ -7,13 +7,16 @@ import shutil
 import sys
 import tempfile
 
+import compare_judge
 import compare_read
 from comparison import Comparison, DifferenceFound
 from library import Library
+from reference import rules
+from reference.answers import Answer
 from stand_in import StandIn, write
 
-COUNTS = {"read": 60}
-RUNS = {"read": compare_read.run}
+COUNTS = {"read": 60, "judge": 100}
+RUNS = {"read": compare_read.run, "judge": compare_judge.run}
 
 
 def answer_changed(**changes):
@@ -73,12 +76,98 @@ READ_FAULTS = {
     "input changed": StandIn(after=touched(lambda o, data, rows, length: data - 1 if o.answer.code != 7 else None)),
 }
 
-FAULTS = {"read": READ_FAULTS}
+
+
+def judge_by(first_broken_rule):
+    """A judge with another search for the broken rule. Where that search falls over, it accepts."""
+
+    def judge(data, row_buffer_length):
+        outcome, root = rules.judge_with_root(data, row_buffer_length)
+        if root is None:
+            return outcome
+        try:
+            broken = first_broken_rule(root)
+        except (AttributeError, IndexError, KeyError, TypeError):
+            broken = None
+        count = outcome.answer.rows
+        answer = Answer(0, rows=count) if broken is None else Answer(9, rows=count, rule=broken[0], frame=broken[1])
+        return outcome._replace(answer=answer)
+
+    return StandIn(judge=judge)
+
+
+def with_rules(changed_rules):
+    """A judge with other rules in the place of some."""
+
+    def first_broken_rule(root):
+        kept = dict(rules.RULES)
+        rules.RULES.update(changed_rules)
+        try:
+            return rules.first_broken_rule(root)
+        finally:
+            rules.RULES.update(kept)
+
+    return judge_by(first_broken_rule)
+
+
+def highest_frame(root):
+    broken = rules.first_broken_rule(root)
+    if broken is None or broken[0] not in rules.PER_FRAME_RULES:
+        return broken
+    number = broken[0]
+    return number, max(frame for frame in range(1, rules.number_of_frames(root) + 1)
+                       if not rules.RULES[number](root, frame))
+
+
+def last_broken_rule(root):
+    found = None
+    for number, rule in rules.RULES.items():
+        if number in rules.PER_FRAME_RULES:
+            frames = [frame for frame in range(1, rules.number_of_frames(root) + 1) if not rule(root, frame)]
+            found = (number, frames[0]) if frames else found
+        elif not rule(root):
+            found = (number, 0)
+    return found
+
+
+def shared_preferred(root):
+    """The shared group preferred to the frame's own."""
+    original = rules.frame_group
+
+    def frame_group(root, frame, tag):
+        shared = rules.shared_item(root).find(tag)
+        return shared if shared is not None else rules.frame_item(root, frame).find(tag)
+
+    rules.frame_group = frame_group
+    try:
+        return rules.first_broken_rule(root)
+    finally:
+        rules.frame_group = original
+
+
+def always(*arguments):
+    return True
+
+
+JUDGE_FAULTS = {
+    "everything refused": judge_by(lambda root: (1, 0)),
+    "everything accepted": judge_by(lambda root: None),
+    "the highest frame": judge_by(highest_frame),
+    "the last broken rule": judge_by(last_broken_rule),
+    "the shared group preferred": judge_by(shared_preferred),
+    "row count not told with code 9": StandIn(answer_changed(rows=lambda a: 0 if a.code == 9 else a.rows)),
+    "rows not written with code 9": StandIn(lambda o, data: o._replace(rows=()) if o.answer.code == 9 else o),
+    "frame named for rule 26": StandIn(answer_changed(frame=lambda a: 1 if a.rule == 26 else a.frame)),
+    **{f"rule {number} skipped": with_rules({number: always}) for number in rules.RULES},
+}
+
+FAULTS = {"read": READ_FAULTS, "judge": JUDGE_FAULTS}
 
 
 def attempt(name, stand_in, folder):
     """None if the comparison finds no difference, else the difference in words."""
     comparison = Comparison(Library(stand_in, folder), 1, COUNTS[name], folder)
+    comparison.shrink_trials = 0
     try:
         RUNS[name](comparison, argparse.Namespace(require_outside=False))
     except DifferenceFound as difference:

@@ -1,12 +1,17 @@
 #!/usr/bin/env python3
 """Checks the reference by itself: the sample cases of document 01 and cases worked out by hand. No library is needed."""
 
+import random
+import struct
 import sys
 import unittest
 
+import enhanced_xa as xa
+import objects
 import reading_cases
 import sample_cases
-from reference import reading
+from mutations import CHANGES
+from reference import reading, rules, values
 from reference.answers import Answer, Outcome
 
 
@@ -53,6 +58,100 @@ class Reading(unittest.TestCase):
 
     def test_empty_data_set_needs_no_buffer(self):
         self.assertEqual(reading.read(b"", 0), Outcome(Answer(0)))
+
+
+def level(**elements):
+    """A data set with elements named by tag, like t00280010=("US", b"..")."""
+    data = objects.encode({int(name[1:], 16): element for name, element in elements.items()})
+    return values.Level(data, reading.read_data_set(data))
+
+
+class Values(unittest.TestCase):
+    def test_decimals(self):
+        good = {".5": 500, "5.": 5000, "-.5": -500, "+1": 1000, "000001": 1000, "-0": 0, "000000.000": 0, "1.25": 1250,
+                "-12.034": -12034, "999999.999": 999999999, "-.05": -50, "0.1": 100, "+.001": 1, "40": 40000}
+        for word, number in good.items():
+            self.assertEqual(values.thousandths(word.encode()), number, word)
+        for word in (".", "+", "+.", "-", "", "0000001", "1.0000", "1E1", "4 0", " 4", "1.2.3", "++1", "+-1", "1-", "\n1", "1\n"):
+            self.assertIsNone(values.thousandths(word.encode()), word)
+        self.assertIsNone(values.thousandths("\u0661".encode()))
+        self.assertIsNone(values.thousandths(None))
+
+    def test_integers(self):
+        for word, number in {"3": 3, "+3": 3, "-3": -3, "00000000003": 3, "+0": 0, "99999999999": 99999999999}.items():
+            self.assertEqual(values.integer(word.encode()), number, word)
+        for word in ("3.", "1 2", "", "+", "000000000003", "3\n", "0x3", "3E0"):
+            self.assertIsNone(values.integer(word.encode()), word)
+
+    def test_text(self):
+        one = level(t00080008=("CS", b" A \\B\\ \\"), t00080016=("UI", b"1.2\0\0\0"), t00080060=("CS", b"XA\0\0"),
+                    t00080061=("CS", b"  "), t00080062=("CS", b""), t00080063=("UI", b"1.2 "), t00080064=("CS", b"\tXA\t"))
+        self.assertEqual(one.texts(0x00080008, "CS"), [b"A", b"B", b"", b""])
+        self.assertIsNone(one.text(0x00080008, "CS"))
+        self.assertEqual(one.text(0x00080016, "UI"), b"1.2")
+        self.assertEqual(one.text(0x00080060, "CS"), b"XA\0\0")
+        self.assertEqual(one.text(0x00080061, "CS"), b"")
+        self.assertIsNone(one.text(0x00080062, "CS"))
+        self.assertEqual(one.text(0x00080063, "UI"), b"1.2 ")
+        self.assertEqual(one.text(0x00080064, "CS"), b"\tXA\t")
+        self.assertIsNone(one.text(0x00080060, "LO"))
+        self.assertFalse(one.present(0x00080065))
+
+    def test_numbers(self):
+        one = level(t00280010=("US", b"\1\2"), t00280011=("US", b"\1\0\2\0"), t00280012=("SS", b"\xFF\xFF"),
+                    t00280013=("SS", bytes(4)), t00280014=("US", b""))
+        self.assertEqual(one.unsigned_short(0x00280010), 513)
+        self.assertEqual(one.unsigned_shorts(0x00280011), [1, 2])
+        self.assertIsNone(one.unsigned_short(0x00280011))
+        self.assertEqual(one.signed_short(0x00280012), -1)
+        self.assertIsNone(one.signed_short(0x00280013))
+        self.assertIsNone(one.unsigned_shorts(0x00280014))
+
+    def test_whole_pairs(self):
+        cases = [((0x42800000, 0xC2800000), (64, -64)), ((0x80000000, 0x3F800000), (0, 1)), ((0x42800001, 0), None),
+                 ((0x7FC00000, 0), None), ((0, 0x7F800000), None), ((0xFF800000, 0), None), ((0x3F000000, 0), None),
+                 ((1, 0), None), ((0, 0x80000001), None), ((0x4B800000, 0), (16777216, 0))]
+        for bits, expected in cases:
+            self.assertEqual(level(t00286114=("FL", struct.pack("<II", *bits))).whole_pair(0x00286114), expected, bits)
+        for size in (0, 4, 6, 10, 12):
+            self.assertIsNone(level(t00286114=("FL", bytes(size))).whole_pair(0x00286114), size)
+
+
+class Rules(unittest.TestCase):
+    def verdict(self, model):
+        answer = rules.judge(objects.encode(model), 100_000).answer
+        return answer.code, answer.rule, answer.frame
+
+    def test_no_bytes(self):
+        self.assertEqual(rules.judge(b"", 0), Outcome(Answer(9, rows=0, rule=1, frame=0)))
+
+    def test_three_frames_two_items(self):
+        model = xa.build(random.Random(1), xa.Shape(frames=3))
+        self.assertEqual(self.verdict(model), (0, 0, 0))
+        for number in range(3):
+            items = list(model[xa.PER_FRAME][1])
+            del items[number]
+            self.assertEqual(self.verdict({**model, xa.PER_FRAME: ("SQ", items)}), (9, 26, 0))
+
+    def test_every_rule_has_its_words(self):
+        self.assertEqual(list(rules.RULES), list(range(1, 39)))
+        for number, rule in rules.RULES.items():
+            self.assertTrue(rule.__doc__, number)
+
+    def test_good_objects(self):
+        rng = random.Random(2)
+        for _ in range(100):
+            self.assertEqual(self.verdict(xa.build(rng, xa.random_shape(rng))), (0, 0, 0))
+
+    def test_changes(self):
+        rng = random.Random(3)
+        for change in CHANGES:
+            for frame in (1, 3, 5) if change.per_frame else (0,):
+                with self.subTest(rule=change.rule, name=change.name, frame=frame):
+                    model = xa.build(rng, xa.random_shape(rng, **change.shape))
+                    change.edit(model, frame)
+                    named = frame if change.per_frame else change.frame
+                    self.assertEqual(self.verdict(model), (9, change.rule, named) if change.rule else (0, 0, 0))
 
 
 if __name__ == "__main__":

@@ -6,7 +6,7 @@ With no fault it must pass every comparison; with a fault it must fail one. So i
 import ctypes
 
 from library import AnswerStruct
-from reference import reading
+from reference import reading, rules
 
 
 def write(address, content):
@@ -25,15 +25,24 @@ def view(address, size):
 
 
 class StandIn:
-    """`change(outcome, data)` may answer another outcome; `after(arguments)` may write where nothing may be written."""
+    """The C functions. `change(outcome, data)` may answer another outcome, `after(...)` may write where nothing may be
+    written, `judge` may judge by other rules."""
 
-    def __init__(self, change=None, after=None):
+    def __init__(self, change=None, after=None, judge=rules.judge):
+        self.judge = judge
         self.change = change or (lambda outcome, data: outcome)
         self.after = after or (lambda outcome, data, rows, rows_length: None)
 
     def xa_read(self, data, size, rows, rows_length):
         content = view(data, size)
         outcome = self.change(reading.read(content, rows_length), content)
+        write_rows(rows, outcome.rows)
+        self.after(outcome, data, rows, rows_length)
+        return AnswerStruct(*outcome.answer)
+
+    def xa_judge(self, data, size, rows, rows_length):
+        content = view(data, size)
+        outcome = self.change(self.judge(content, rows_length), content)
         write_rows(rows, outcome.rows)
         self.after(outcome, data, rows, rows_length)
         return AnswerStruct(*outcome.answer)
