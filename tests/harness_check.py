@@ -9,14 +9,15 @@ import tempfile
 
 import compare_judge
 import compare_read
+import compare_slips
 from comparison import Comparison, DifferenceFound
 from library import Library
-from reference import rules
+from reference import rules, slips
 from reference.answers import Answer
 from stand_in import StandIn, write
 
-COUNTS = {"read": 60, "judge": 100}
-RUNS = {"read": compare_read.run, "judge": compare_judge.run}
+COUNTS = {"read": 60, "judge": 100, "slips": 200}
+RUNS = {"read": compare_read.run, "judge": compare_judge.run, "slips": compare_slips.run}
 
 
 def answer_changed(**changes):
@@ -161,7 +162,59 @@ JUDGE_FAULTS = {
     **{f"rule {number} skipped": with_rules({number: always}) for number in rules.RULES},
 }
 
-FAULTS = {"read": READ_FAULTS, "judge": JUDGE_FAULTS}
+
+
+def slip_written(change):
+    """A writer whose slip is changed."""
+
+    def write_slip(answer, length):
+        code, written = slips.write_slip(answer, length)
+        return code, change(written) if written else written
+
+    return StandIn(write_slip=write_slip)
+
+
+def only_room(answer, length):
+    """Looks at the buffer before the verdict."""
+    return (11, b"") if length < 13 else slips.write_slip(answer, length)
+
+
+def wrapped(answer, length):
+    """Cuts fields to the slip's widths."""
+    cut = answer._replace(code=answer.code % 256, rule=answer.rule % 256, frame=answer.frame % 65536)
+    return slips.write_slip(cut, length)
+
+
+def refuses_with_count(answer, length):
+    return (14, b"") if answer.rows else slips.write_slip(answer, length)
+
+
+def frame_let_through(slip):
+    """Lets rule 26 with a frame through."""
+    code, verdict = slips.read_slip(slip)
+    if code == 14 and slip[5] == 9 and slip[6] == 26 and slip[9:] == bytes(4):
+        return 0, Answer(9, rule=26, frame=int.from_bytes(slip[7:9], "little"))
+    return code, verdict
+
+
+SLIP_FAULTS = {
+    "one slip for all": slip_written(lambda slip: slips.slip_bytes(0, 0, 0, 0)),
+    "bytes of the frame swapped": slip_written(lambda slip: slip[:7] + slip[8:9] + slip[7:8] + slip[9:]),
+    "bytes of the place swapped": slip_written(lambda slip: slip[:9] + slip[9:][::-1]),
+    "a 14th byte touched": slip_written(lambda slip: slip + b"\0"),
+    "12 bytes written": slip_written(lambda slip: slip[:12]),
+    "room before the verdict": StandIn(write_slip=only_room),
+    "fields wrapped": StandIn(write_slip=wrapped),
+    "the row count plays a part": StandIn(write_slip=refuses_with_count),
+    "a frame let through": StandIn(read_slip=frame_let_through),
+    "14 bytes taken": StandIn(read_slip=lambda slip: slips.read_slip(slip[:13])),
+    "version not looked at": StandIn(read_slip=lambda slip: slips.read_slip(slip[:3] + b"\1\0" + slip[5:])),
+    "mark not looked at": StandIn(read_slip=lambda slip: slips.read_slip(b"XAV" + slip[3:])),
+    "fields told with 14": StandIn(read_slip=lambda slip: (14, Answer(slip[5])) if slips.read_slip(slip)[0] == 14
+                                   else slips.read_slip(slip)),
+}
+
+FAULTS = {"read": READ_FAULTS, "judge": JUDGE_FAULTS, "slips": SLIP_FAULTS}
 
 
 def attempt(name, stand_in, folder):
@@ -177,12 +230,15 @@ def attempt(name, stand_in, folder):
 
 def main():
     parser = argparse.ArgumentParser(description=__doc__)
+    parser.add_argument("--only", help="one comparison")
     parser.add_argument("--verbose", action="store_true", help="show how each fault was found")
     arguments = parser.parse_args()
     folder = tempfile.mkdtemp(prefix="luuxidgaan-tests-")
     wrong = 0
     found = 0
     for name, faults in FAULTS.items():
+        if arguments.only not in (None, name):
+            continue
         difference = attempt(name, StandIn(), folder)
         if difference is not None:
             wrong += 1

@@ -11,7 +11,7 @@ import objects
 import reading_cases
 import sample_cases
 from mutations import CHANGES
-from reference import reading, rules, values
+from reference import reading, rules, slips, values
 from reference.answers import Answer, Outcome
 
 
@@ -152,6 +152,34 @@ class Rules(unittest.TestCase):
                     change.edit(model, frame)
                     named = frame if change.per_frame else change.frame
                     self.assertEqual(self.verdict(model), (9, change.rule, named) if change.rule else (0, 0, 0))
+
+
+class Slips(unittest.TestCase):
+    def test_written_bytes(self):
+        cases = [(Answer(0, rows=57), "58 41 56 01 00 00 00 00 00 00 00 00 00"),
+                 (Answer(2, offset=10), "58 41 56 01 00 02 00 00 00 0A 00 00 00"),
+                 (Answer(9, rule=37, frame=812, rows=5), "58 41 56 01 00 09 25 2C 03 00 00 00 00"),
+                 (Answer(9, rule=26), "58 41 56 01 00 09 1A 00 00 00 00 00 00"),
+                 (Answer(6, offset=2 ** 30), "58 41 56 01 00 06 00 00 00 00 00 00 40")]
+        for answer, text in cases:
+            self.assertEqual(slips.write_slip(answer, 13), (0, bytes.fromhex(text)))
+            self.assertEqual(slips.read_slip(bytes.fromhex(text)), (0, answer._replace(rows=0)))
+            self.assertEqual(slips.write_slip(answer, 12), (11, b""))
+
+    def test_impossible(self):
+        for answer in (Answer(10), Answer(0, rule=1), Answer(0, offset=1), Answer(7, frame=1), Answer(2, offset=2 ** 30 + 1),
+                       Answer(3, rule=1), Answer(9), Answer(9, rule=39), Answer(9, rule=26, frame=1), Answer(9, rule=27),
+                       Answer(9, rule=31, frame=1), Answer(9, rule=30, frame=65536), Answer(9, rule=1, offset=4), Answer(256),
+                       Answer(265, rule=1), Answer(9, rule=257)):
+            for length in (0, 13, 20):
+                self.assertEqual(slips.write_slip(answer, length), (14, b""), answer)
+
+    def test_refused_slips(self):
+        good = bytes.fromhex("58 41 56 01 00 02 00 00 00 0A 00 00 00")
+        for slip, code in ((good, 0), (good[:12], 12), (good + b"\0", 12), (b"", 12), (b"XAW" + good[3:], 12),
+                           (b"XAW\2" + good[4:], 12), (b"XAV\2" + good[4:], 13), (b"XAV\1\1" + good[5:], 13),
+                           (good[:5] + b"\x0A" + good[6:], 14), (good[:12] + b"\x41", 14), (good[:6] + b"\1" + good[7:], 14)):
+            self.assertEqual(slips.read_slip(slip)[0], code, slip)
 
 
 if __name__ == "__main__":

@@ -5,8 +5,8 @@ With no fault it must pass every comparison; with a fault it must fail one. So i
 
 import ctypes
 
-from library import AnswerStruct
-from reference import reading, rules
+from library import AnswerStruct, SlipStruct, answer_of
+from reference import reading, rules, slips
 
 
 def write(address, content):
@@ -26,10 +26,12 @@ def view(address, size):
 
 class StandIn:
     """The C functions. `change(outcome, data)` may answer another outcome, `after(...)` may write where nothing may be
-    written, `judge` may judge by other rules."""
+    written; the calls themselves may be played by others than the reference's."""
 
-    def __init__(self, change=None, after=None, judge=rules.judge):
+    def __init__(self, change=None, after=None, judge=rules.judge, write_slip=slips.write_slip, read_slip=slips.read_slip):
         self.judge = judge
+        self.write_slip = write_slip
+        self.read_slip = read_slip
         self.change = change or (lambda outcome, data: outcome)
         self.after = after or (lambda outcome, data, rows, rows_length: None)
 
@@ -46,3 +48,12 @@ class StandIn:
         write_rows(rows, outcome.rows)
         self.after(outcome, data, rows, rows_length)
         return AnswerStruct(*outcome.answer)
+
+    def xa_write_slip(self, verdict, slip, slip_length):
+        code, written = self.write_slip(answer_of(verdict), slip_length)
+        write(slip, written)
+        return code
+
+    def xa_read_slip(self, slip, slip_length):
+        code, verdict = self.read_slip(ctypes.string_at(slip, slip_length))
+        return SlipStruct(code, AnswerStruct(*verdict))
