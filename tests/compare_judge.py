@@ -250,7 +250,7 @@ def compare_size_limit(comparison):
         memory[:len(head)] = head
         outcome = rules.judge(memory, 6)
         comparison.must_equal("size limit: the reference", outcome.answer.code, code)
-        observed = comparison.library.read_large("xa_judge", memory, 6)
+        observed = comparison.library.call_on_mapping("xa_judge", memory, 6)
         comparison.must_equal(f"judge {size} bytes", observed.difference(outcome), None)
         comparison.note(("code", code))
 

@@ -195,7 +195,7 @@ def compare_size_limit(comparison):
             outcome = reading.read(memory, length)
             if expected.code == 7 or length >= 6:
                 comparison.must_equal(f"{name}: the reference", outcome.answer, expected)
-            observed = comparison.library.read_large("xa_read", memory, length)
+            observed = comparison.library.call_on_mapping("xa_read", memory, length)
             comparison.must_equal(f"{name}, row buffer of {length}", observed.difference(outcome), None)
             comparison.note(("code", outcome.answer.code))
 

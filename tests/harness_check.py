@@ -9,15 +9,17 @@ import tempfile
 
 import compare_judge
 import compare_read
+import compare_show
 import compare_slips
 from comparison import Comparison, DifferenceFound
 from library import Library
-from reference import rules, slips
+from reference import drawing, rules, slips
 from reference.answers import Answer
 from stand_in import StandIn, write
 
-COUNTS = {"read": 60, "judge": 100, "slips": 200}
-RUNS = {"read": compare_read.run, "judge": compare_judge.run, "slips": compare_slips.run}
+COUNTS = {"read": 60, "judge": 100, "slips": 200, "show": 30}
+RUNS = {"read": compare_read.run, "judge": compare_judge.run, "slips": compare_slips.run,
+        "show": compare_show.run}
 
 
 def answer_changed(**changes):
@@ -214,7 +216,137 @@ SLIP_FAULTS = {
                                    else slips.read_slip(slip)),
 }
 
-FAULTS = {"read": READ_FAULTS, "judge": JUDGE_FAULTS, "slips": SLIP_FAULTS}
+
+
+def drawn_with(**functions):
+    """A show in which some functions of the reference's steps are others."""
+
+    def show(*arguments):
+        kept = {name: getattr(drawing, name) for name in functions}
+        for name, function in functions.items():
+            setattr(drawing, name, function)
+        try:
+            return drawing.show(*arguments)
+        finally:
+            for name, function in kept.items():
+                setattr(drawing, name, function)
+
+    return StandIn(show=show)
+
+
+def high_bits_left(self, frame, row, column):
+    number = ((frame - 1) * self.rows + row) * self.columns + column
+    start = self.offset + number * self.cell_size
+    return int.from_bytes(self.data[start:start + self.cell_size], "little")
+
+
+class PixelsWithHighBits(drawing.Pixels):
+    cell = high_bits_left
+
+
+def level_with_width(x, center, width):
+    """W in place of W - 1000 in the divisor."""
+    if 2000 * x <= 2 * center - width:
+        return 0
+    if 2000 * x > 2 * center + width - 2000:
+        return 255
+    return drawing.limited((255 * (2000 * x - 2 * center + width) + width - 1000) // (2 * width), 0, 255)
+
+
+def level_rounded_down(x, center, width):
+    if 2000 * x <= 2 * center - width:
+        return 0
+    if 2000 * x > 2 * center + width - 2000:
+        return 255
+    return drawing.limited(255 * (2000 * x - 2 * center + width) // (2 * (width - 1000)), 0, 255)
+
+
+def first_centre_last_width(root, frame, stored, original=drawing.window):
+    group = drawing.frame_group(root, frame, drawing.tags.FRAME_VOI_LUT_SEQUENCE)
+    if group is None:
+        return original(root, frame, stored)
+    item = drawing.items_of(root.data, group)[0]
+    return (drawing.thousandths(item.texts(drawing.tags.WINDOW_CENTER, "DS")[-1]),
+            drawing.thousandths(item.texts(drawing.tags.WINDOW_WIDTH, "DS")[-1]))
+
+
+def last_applying_item(root, frame):
+    found = None
+    for item in root.items(drawing.tags.MASK_SUBTRACTION_SEQUENCE) or []:
+        numbers = item.unsigned_shorts(drawing.tags.APPLICABLE_FRAME_RANGE)
+        if numbers is None or any(first <= frame <= last for first, last in zip(numbers[0::2], numbers[1::2])):
+            found = item
+    return found
+
+
+def item_shift_first(root, item, frame):
+    """The frame's own shift loses to the item's."""
+    if item.present(drawing.tags.MASK_SUB_PIXEL_SHIFT):
+        return drawing.item_shift(item)
+    return drawing.frame_shift(root, item, frame) or drawing.NO_SHIFT
+
+
+def to_linear_used(data, frame, *rooms):
+    """Sends an 8-bit picture through the TO_LINEAR table where there is one."""
+    outcome = drawing.show(data, frame, *rooms)
+    position = data.find(b"TO_LINEAR")
+    if outcome.answer.code or position < 0:
+        return outcome
+    return outcome._replace(image=bytes(255 - cell for cell in outcome.image))
+
+
+def frame_wrapped(data, frame, *rooms):
+    """A frame number of 16 bits."""
+    return drawing.show(data, frame % 65536, *rooms)
+
+
+def small_image_first(data, frame, rows_length, image_length):
+    """Tests the image buffer before the frame number."""
+    outcome = drawing.show(data, frame, rows_length, image_length)
+    if outcome.answer.code == 10 and drawing.show(data, 1, rows_length, image_length).answer.code == 11:
+        return outcome._replace(answer=Answer(11))
+    return outcome
+
+
+def frame_1_for_all(data, frame, *rooms):
+    outcome = drawing.show(data, frame, *rooms)
+    return outcome if outcome.answer.code else outcome._replace(image=drawing.show(data, 1, *rooms).image)
+
+
+original_shifted = drawing.shifted
+original_subtracted = drawing.subtracted
+original_tid_frame = drawing.tid_frame
+original_shown = drawing.shown
+SHOW_FAULTS = {
+    "nothing written": StandIn(lambda o, data: o._replace(image=b"")),
+    "frame 1 for every frame": StandIn(show=frame_1_for_all),
+    "a byte too many written": StandIn(lambda o, data: o._replace(image=o.image + b"\0") if o.image else o),
+    "image touched at code 10": StandIn(lambda o, data: o._replace(image=b"\0") if o.answer.code == 10 else o),
+    "image touched at code 9": StandIn(lambda o, data: o._replace(image=b"\0") if o.answer.code == 9 else o),
+    "image touched at code 2": StandIn(lambda o, data: o._replace(image=b"\0") if o.answer.code == 2 else o),
+    "rows not written at code 11": StandIn(lambda o, data: o._replace(rows=()) if o.answer.code == 11 else o),
+    "row count told with code 10": StandIn(answer_changed(rows=lambda a: 5 if a.code == 10 else a.rows)),
+    "masked told as native": StandIn(answer_changed(masked=lambda a: 0)),
+    "16-bit frame number": StandIn(show=frame_wrapped),
+    "image buffer before frame": StandIn(show=small_image_first),
+    "the TO_LINEAR table used": StandIn(show=to_linear_used),
+    "unused high bits left in": drawn_with(Pixels=PixelsWithHighBits),
+    "W in place of W - 1000": drawn_with(level=level_with_width),
+    "not rounded": drawn_with(level=level_rounded_down),
+    "the last window": drawn_with(window=first_centre_last_width),
+    "the last mask item": drawn_with(applying_item=last_applying_item),
+    "-v for v": drawn_with(shifted=lambda mask, pair: original_shifted(mask, (-pair[0], pair[1]))),
+    "v and h swapped": drawn_with(shifted=lambda mask, pair: original_shifted(mask, pair[::-1])),
+    "the item's shift wins": drawn_with(shift=item_shift_first),
+    "no shift": drawn_with(shift=lambda root, item, frame: (0, 0)),
+    "average rounded down": drawn_with(average=lambda cells: sum(cells) // len(cells)),
+    "x not signed": drawn_with(subtracted=lambda cell, mask, stored: max(0, original_subtracted(cell, mask, stored))),
+    "TID the other way": drawn_with(tid_frame=lambda root, item, frame: original_tid_frame(root, item, 2 * frame - (
+        original_tid_frame(root, item, frame) or frame))),
+    "MONOCHROME1 not inverted": drawn_with(shown=lambda y, photometric: y),
+}
+
+FAULTS = {"read": READ_FAULTS, "judge": JUDGE_FAULTS, "slips": SLIP_FAULTS, "show": SHOW_FAULTS}
 
 
 def attempt(name, stand_in, folder):

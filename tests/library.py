@@ -156,12 +156,15 @@ class Library:
                                            image_buffer_length)
         return Observation(answer_of(result), rows, image, self.input)
 
-    def read_large(self, name, memory, row_buffer_length):
-        """xa_read or xa_judge on a large mapping (for the size limit); whether it changed is not looked at."""
+    def call_on_mapping(self, name, memory, row_buffer_length):
+        """A call on a large mapping (for the size limit); whether it changed is not looked at. Show gets frame 1."""
         address = ctypes.addressof(ctypes.c_char.from_buffer(memory))
         rows = GuardedBuffer(4 * row_buffer_length)
-        result = self.functions[name](address, len(memory), rows.address, row_buffer_length)
-        return Observation(answer_of(result), rows, GuardedBuffer(0), None)
+        image = GuardedBuffer(16)
+        between = (1,) if name == "xa_show" else ()
+        behind = (image.address, image.length) if name == "xa_show" else ()
+        result = self.functions[name](address, len(memory), *between, rows.address, row_buffer_length, *behind)
+        return Observation(answer_of(result), rows, image, None)
 
     def write_slip(self, verdict, slip_buffer_length):
         """The code answered, and the slip buffer."""

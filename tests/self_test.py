@@ -11,7 +11,7 @@ import objects
 import reading_cases
 import sample_cases
 from mutations import CHANGES
-from reference import reading, rules, slips, values
+from reference import drawing, reading, rules, slips, values
 from reference.answers import Answer, Outcome
 
 
@@ -180,6 +180,184 @@ class Slips(unittest.TestCase):
                            (b"XAW\2" + good[4:], 12), (b"XAV\2" + good[4:], 13), (b"XAV\1\1" + good[5:], 13),
                            (good[:5] + b"\x0A" + good[6:], 14), (good[:12] + b"\x41", 14), (good[:6] + b"\1" + good[7:], 14)):
             self.assertEqual(slips.read_slip(slip)[0], code, slip)
+
+
+def small_object(pixels, frames, rows, columns, **fixed):
+    """An 8-bit object with the given cells and no functional groups, for changes by hand."""
+    shape = xa.Shape(bits_allocated=8, bits_stored=8, frames=frames, rows=rows, columns=columns, voi="absent", extras=False, **fixed)
+    model = xa.build(random.Random(1), shape)
+    model[xa.PIXEL_DATA] = ("OB", bytes(pixels) + bytes(len(pixels) % 2))
+    return model
+
+
+def root_of(model):
+    data = objects.encode(model)
+    return values.Level(data, reading.read_data_set(data))
+
+
+def window_group(center, width):
+    return xa.sq({xa.CENTER: xa.text("DS", center), xa.WIDTH: xa.text("DS", width)})
+
+
+class Drawing(unittest.TestCase):
+    def test_sample_windows(self):
+        levels = lambda center, width, cells: [drawing.level(x, center * 1000, width * 1000) for x in cells]
+        self.assertEqual(levels(50, 1, (49, 50)), [0, 255])
+        self.assertEqual(levels(40, 10, (35, 36, 40, 44, 45)), [0, 28, 142, 255, 255])
+        self.assertEqual(drawing.shown(142, b"MONOCHROME1"), 113)
+        self.assertEqual(levels(128, 256, (0, 128, 255)), [0, 128, 255])
+
+    def test_sample_windows_in_objects(self):
+        cells = (35, 36, 40, 44, 45)
+        for photometric, expected in (("MONOCHROME2", [0, 28, 142, 255, 255]), ("MONOCHROME1", [255, 227, 113, 0, 0])):
+            model = small_object(cells, 1, 1, 5, photometric=photometric)
+            model[xa.SHARED][1][0][xa.VOI] = window_group("40", "10")
+            self.assertEqual(drawing.draw(root_of(model), 1), (False, bytes(expected)))
+        self.assertEqual(drawing.draw(root_of(small_object((0, 128, 255), 1, 1, 3)), 1), (False, bytes((0, 128, 255))))
+
+    def test_other_windows(self):
+        # C = 40.5, W = 2: 2000x <= 79000 gives 0, 2000x > 81000 gives 255. 40: (255 * 1000 + 1000) / 2000 = 128.
+        self.assertEqual([drawing.level(x, 40500, 2000) for x in (39, 40, 41)], [0, 128, 255])
+        # A wide window: W = 1000.5, C = -1: x = 0 gives (255 * 1002500 + 999500) / 1999000 = 128.38.
+        self.assertEqual(drawing.level(0, -1000, 1000500), 128)
+        self.assertEqual(drawing.level(-502, -1000, 1000500), 0)
+        # Widths under 1 never divide.
+        for width in (0, 999, -5000):
+            self.assertEqual({drawing.level(x, 10000, width) for x in range(-20, 40)}, {0, 255})
+
+    def test_sample_average(self):
+        self.assertEqual(drawing.average([90, 91]), 91)
+        self.assertEqual(drawing.average([90]), 90)
+        self.assertEqual(drawing.average([1, 1, 2]), 1)  # (8 + 3) / 6
+        self.assertEqual(drawing.average([1, 2, 2]), 2)  # (10 + 3) / 6
+        self.assertEqual(drawing.subtracted(100, 91, 8), 137)
+        model = small_object((90, 91, 100), 3, 1, 1, masks=("AVG_SUB",), ranges=False, shifts=False)
+        model[xa.MASKS][1][0][xa.MASK_FRAMES] = xa.us(1, 2)
+        # Without a VOI group 8 bits stay as they are.
+        self.assertEqual(drawing.draw(root_of(model), 3), (True, bytes([137])))
+        self.assertEqual(drawing.draw(root_of(model), 1), (True, bytes([127])))
+
+    def test_sample_tid(self):
+        model = small_object((10, 20, 50), 3, 1, 1, masks=("TID",), ranges=False, shifts=False)
+        item = model[xa.MASKS][1][0]
+        for offset, expected in ((1, [(False, 10), (True, 138), (True, 158)]), (None, [(False, 10), (True, 138), (True, 158)]),
+                                 (-1, [(True, 118), (True, 98), (False, 50)]), (0, [(True, 128)] * 3),
+                                 (2, [(False, 10), (False, 20), (True, 168)])):
+            item.pop(xa.TID_OFFSET, None)
+            if offset is not None:
+                item[xa.TID_OFFSET] = xa.ss(offset)
+            drawn = [drawing.draw(root_of(model), frame) for frame in (1, 2, 3)]
+            self.assertEqual(drawn, [(masked, bytes([cell])) for masked, cell in expected], offset)
+
+    def test_shift(self):
+        mask = [[1, 2, 3], [4, 5, 6]]
+        self.assertEqual(drawing.shifted(mask, (0, 1)), [[1, 1, 2], [4, 4, 5]])
+        self.assertEqual(drawing.shifted(mask, (0, -1)), [[2, 3, 3], [5, 6, 6]])
+        self.assertEqual(drawing.shifted(mask, (1, 0)), [[1, 2, 3], [1, 2, 3]])
+        self.assertEqual(drawing.shifted(mask, (-1, 0)), [[4, 5, 6], [4, 5, 6]])
+        self.assertEqual(drawing.shifted(mask, (64, -64)), [[3, 3, 3], [3, 3, 3]])
+
+    def test_whose_shift(self):
+        model = small_object((1, 2, 3, 4, 5, 6), 1, 2, 3, masks=("AVG_SUB",), ranges=False, shifts=False)
+        item = model[xa.MASKS][1][0]
+        item[xa.MASK_FRAMES] = xa.us(1)
+        item[xa.ITEM_ID] = xa.us(7)
+        find = lambda: drawing.shift(root_of(model), root_of(model).items(xa.MASKS)[0], 1)
+        self.assertEqual(find(), (0, 0))
+        item[xa.SHIFT] = xa.fl(2.0, -3.0)
+        self.assertEqual(find(), (2, -3))
+        own = model[xa.PER_FRAME][1][0]
+        own[xa.FRAME_SHIFT] = xa.sq({xa.ITEM_ID: xa.us(8), xa.SHIFT: xa.fl(4.0, 4.0)})
+        self.assertEqual(find(), (2, -3))
+        own[xa.FRAME_SHIFT] = xa.sq({xa.ITEM_ID: xa.us(8), xa.SHIFT: xa.fl(4.0, 4.0)}, {xa.ITEM_ID: xa.us(7), xa.SHIFT: xa.fl(-0.0, 0.0)})
+        self.assertEqual(find(), (0, 0))
+        del own[xa.FRAME_SHIFT]
+        model[xa.SHARED][1][0][xa.FRAME_SHIFT] = xa.sq({xa.ITEM_ID: xa.us(7), xa.SHIFT: xa.fl(1.0, 64.0)})
+        self.assertEqual(find(), (1, 64))
+
+    def test_masked_and_shifted_picture(self):
+        model = small_object((1, 2, 3, 4, 5, 6) + (10, 20, 30, 40, 50, 60), 2, 2, 3, masks=("AVG_SUB",), ranges=False, shifts=False)
+        item = model[xa.MASKS][1][0]
+        item[xa.MASK_FRAMES] = xa.us(1)
+        item[xa.SHIFT] = xa.fl(1.0, -1.0)  # the mask is 2 3 3 / 2 3 3
+        self.assertEqual(drawing.draw(root_of(model), 2), (True, bytes((136, 145, 155, 166, 175, 185))))
+
+    def test_unused_high_bits(self):
+        shape = xa.Shape(bits_allocated=16, bits_stored=9, frames=1, rows=1, columns=2, voi="absent", extras=False)
+        model = xa.build(random.Random(1), shape)
+        model[xa.PIXEL_DATA] = ("OW", struct.pack("<HH", 0xFE00, 0xFFFF))
+        self.assertEqual(drawing.draw(root_of(model), 1), (False, bytes((0, 255))))
+
+    def test_order_of_refusals(self):
+        model = small_object((1, 2, 3, 4), 2, 1, 2)
+        data = objects.encode(model)
+        count = reading.read(data, 10_000).answer.rows
+        table = reading.read(data, 10_000).rows
+        self.assertEqual(drawing.show(data, 1, 6 * count, 2), Outcome(Answer(0, rows=count), table, bytes((1, 2))))
+        self.assertEqual(drawing.show(data, 2, 6 * count, 2).image, bytes((3, 4)))
+        for frame in (0, 3, 65537, 2 ** 32 + 1):
+            self.assertEqual(drawing.show(data, frame, 6 * count, 0), Outcome(Answer(10), table))
+        self.assertEqual(drawing.show(data, 1, 6 * count, 1), Outcome(Answer(11), table))
+        self.assertEqual(drawing.show(data, 0, 6 * count - 1, 0), Outcome(Answer(8)))
+
+    def test_lacking(self):
+        """The steps on objects that are not accepted: what lacks, and what does not."""
+        def draws(edit, frame=1, **shape):
+            model = small_object((1, 2, 3, 4, 5, 6), 3, 1, 2, **{"masks": ("AVG_SUB",), "ranges": False, "shifts": False, **shape})
+            edit(model, model.get(xa.MASKS, ("SQ", [{}]))[1][0], model[xa.PER_FRAME][1], model[xa.SHARED][1])
+            try:
+                drawing.draw(root_of(model), frame)
+            except drawing.Lacking:
+                return False
+            return True
+
+        put = lambda tag, value: lambda root, mask, own, shared: root.update({tag: value})
+        mask = lambda tag, value: lambda root, mask, own, shared: mask.update({tag: value})
+        frame = lambda tag, value: lambda root, mask, own, shared: own[0].update({tag: value})
+        nothing = lambda root, mask, own, shared: None
+        good_group = xa.sq({xa.ITEM_ID: xa.us(1), xa.SHIFT: xa.fl(0.0, 0.0)})
+        yes = [
+            (nothing, 1), (nothing, 3),
+            (put(xa.MODALITY, xa.us(1)), 1), (put(xa.NUMBER_OF_FRAMES, xa.text("IS", "x")), 1), (put(xa.NUMBER_OF_FRAMES, xa.text("IS", "1")), 3),
+            (put(xa.ROWS, xa.us(0)), 1), (put(xa.BITS_STORED, xa.us(0)), 1), (put(xa.BITS_STORED, xa.us(12)), 1),
+            (put(xa.MASKS, xa.sq()), 1), (mask(xa.RANGE, xa.us(2, 1)), 1), (mask(xa.RANGE, xa.us(0, 9)), 1),
+            (mask(xa.OPERATION, xa.text("CS", "NONE")), 1), (mask(xa.SHIFT, xa.fl(500.0, -500.0)), 1),
+            (put(xa.PHOTOMETRIC, xa.text("CS", "RGB")), 1), (frame(xa.VOI, window_group("1\\x", "0\\7\\8")), 1),
+            (lambda root, mask, own, shared: (mask.update({xa.ITEM_ID: xa.us(1)}), own[0].update({xa.FRAME_SHIFT: good_group})), 1),
+        ]
+        no = [
+            (nothing, 0), (nothing, 4), (put(xa.ROWS, xa.us(1, 1)), 1), (put(xa.BITS_ALLOCATED, xa.us(12)), 1), (put(xa.BITS_ALLOCATED, xa.us(0)), 1),
+            (put(xa.PIXEL_DATA, ("UN", bytes(6))), 1), (put(xa.PIXEL_DATA, ("OB", bytes(2))), 2), (put(xa.SHARED, xa.sq()), 1),
+            (put(xa.SHARED, xa.sq({}, {})), 1), (put(xa.PER_FRAME, xa.sq({})), 2), (put(xa.MASKS, ("UN", b"")), 1),
+            (mask(xa.RANGE, xa.us()), 1), (mask(xa.RANGE, xa.us(1)), 1), (mask(xa.RANGE, xa.ss(1, 2)), 1),
+            (mask(xa.OPERATION, xa.text("CS", "REV_TID")), 1), (mask(xa.OPERATION, xa.text("CS", "TID\\TID")), 1),
+            (mask(xa.MASK_FRAMES, xa.us()), 1), (mask(xa.MASK_FRAMES, xa.us(4)), 1), (mask(xa.MASK_FRAMES, xa.us(1, 0)), 1),
+            (mask(xa.SHIFT, xa.fl(0.5, 0.0)), 1), (mask(xa.SHIFT, xa.fl()), 1), (put(xa.PHOTOMETRIC, xa.text("CS", "A\\B")), 1),
+            (frame(xa.VOI, xa.sq()), 1), (frame(xa.VOI, ("UN", b"")), 1), (frame(xa.VOI, window_group("x", "1")), 1),
+            (frame(xa.FRAME_SHIFT, xa.sq()), 1), (frame(xa.FRAME_SHIFT, ("UN", b"")), 1),
+            (lambda root, mask, own, shared: (mask.pop(xa.ITEM_ID, None), own[0].update({xa.FRAME_SHIFT: good_group})), 1),
+            (lambda root, mask, own, shared: (mask.update({xa.ITEM_ID: xa.us(1)}), own[0].update({xa.FRAME_SHIFT: xa.sq({})})), 1),
+        ]
+        for number, (edit, at) in enumerate(yes):
+            self.assertTrue(draws(edit, at), f"{number} of those that draw")
+        for number, (edit, at) in enumerate(no):
+            self.assertFalse(draws(edit, at), f"{number} of those that lack something")
+        tid = {"masks": ("TID",)}
+        self.assertFalse(draws(mask(xa.TID_OFFSET, xa.ss()), 2, **tid))
+        self.assertFalse(draws(mask(xa.TID_OFFSET, xa.us(1)), 2, **tid))
+        self.assertFalse(draws(put(xa.NUMBER_OF_FRAMES, xa.text("IS", "x")), 2, **tid))
+        # A native frame needs nothing of the shift.
+        self.assertTrue(draws(lambda root, mask, own, shared: (mask.update({xa.TID_OFFSET: xa.ss(5)}),
+                                                               own[0].update({xa.FRAME_SHIFT: xa.sq()})), 1, **tid))
+
+    def test_accepted_objects_lack_nothing(self):
+        rng = random.Random(4)
+        for _ in range(60):
+            shape = xa.random_shape(rng)
+            root = root_of(xa.build(rng, shape))
+            for frame in range(1, shape.frames + 1):
+                _, image = drawing.draw(root, frame)
+                self.assertEqual(len(image), shape.rows * shape.columns)
 
 
 if __name__ == "__main__":

@@ -6,7 +6,7 @@ With no fault it must pass every comparison; with a fault it must fail one. So i
 import ctypes
 
 from library import AnswerStruct, SlipStruct, answer_of
-from reference import reading, rules, slips
+from reference import drawing, reading, rules, slips
 
 
 def write(address, content):
@@ -28,8 +28,10 @@ class StandIn:
     """The C functions. `change(outcome, data)` may answer another outcome, `after(...)` may write where nothing may be
     written; the calls themselves may be played by others than the reference's."""
 
-    def __init__(self, change=None, after=None, judge=rules.judge, write_slip=slips.write_slip, read_slip=slips.read_slip):
+    def __init__(self, change=None, after=None, judge=rules.judge, show=drawing.show, write_slip=slips.write_slip,
+                 read_slip=slips.read_slip):
         self.judge = judge
+        self.show = show
         self.write_slip = write_slip
         self.read_slip = read_slip
         self.change = change or (lambda outcome, data: outcome)
@@ -46,6 +48,14 @@ class StandIn:
         content = view(data, size)
         outcome = self.change(self.judge(content, rows_length), content)
         write_rows(rows, outcome.rows)
+        self.after(outcome, data, rows, rows_length)
+        return AnswerStruct(*outcome.answer)
+
+    def xa_show(self, data, size, frame, rows, rows_length, image, image_length):
+        content = view(data, size)
+        outcome = self.change(self.show(content, frame, rows_length, image_length), content)
+        write_rows(rows, outcome.rows)
+        write(image, outcome.image)
         self.after(outcome, data, rows, rows_length)
         return AnswerStruct(*outcome.answer)
 
