@@ -251,7 +251,7 @@ def compare_size_limit(comparison):
         outcome = rules.judge(memory, 6)
         comparison.must_equal("size limit: the reference", outcome.answer.code, code)
         observed = comparison.library.call_on_mapping("xa_judge", memory, 6)
-        comparison.must_equal(f"judge {size} bytes", observed.difference(outcome), None)
+        comparison.must_be_right(f"judge {size} bytes", observed.difference(outcome))
         comparison.note(("code", code))
 
 
@@ -288,4 +288,4 @@ def run(comparison, arguments):
 
 
 if __name__ == "__main__":
-    run_as_program("judge", ["xa_judge"], 2000, run)
+    run_as_program("judge", ["xa_judge"], 3000, run)

@@ -1,4 +1,4 @@
-"""Compares xa_show with the reference: every frame and cell of accepted objects, and refusals that touch no image."""
+"""Compares xa_show with the reference: every frame and sample of accepted objects, and refusals that touch no image."""
 
 import mmap
 import random
@@ -47,11 +47,11 @@ def check_refusals(comparison, name, model, rng):
     count = 6 * reading.read(data, 6 * (len(data) // 8)).answer.rows
     rows, columns = (struct.unpack("<H", model[tag][1])[0] for tag in (xa.ROWS, xa.COLUMNS))
     frames = len(model[xa.PER_FRAME][1])
-    cells = rows * columns
+    size = rows * columns
     no_frames = (0, frames + 1, 256 * 256 + 1, 2 ** 31 + 1, 2 ** 32, 2 ** 32 + 1, 2 ** 63, 2 ** 64 - 1)
-    cases = [(frame, count, cells, 10) for frame in no_frames]
-    cases += [(0, count, cells - 1, 10), (frames + 1, count, 0, 10), (1, count, cells - 1, 11), (frames, count, 0, 11),
-              (frames, count + 1, cells, 0), (1, count - 1, cells, 8), (0, count - 1, 0, 8), (1, 0, cells, 8)]
+    cases = [(frame, count, size, 10) for frame in no_frames]
+    cases += [(0, count, size - 1, 10), (frames + 1, count, 0, 10), (1, count, size - 1, 11), (frames, count, 0, 11),
+              (frames, count + 1, size, 0), (1, count - 1, size, 8), (0, count - 1, 0, 8), (1, 0, size, 8)]
     for frame, row_length, image_length, code in cases:
         answer = check_show(comparison, name, data, frame, row_length, image_length)
         comparison.must_equal(f"{name}, frame {frame}: code", answer.code, code)
@@ -67,7 +67,7 @@ def base_shape(rng, **fixed):
 
 
 def every_value(stored):
-    """16 by 16 cells with every value of 8 bits, or values spread over all of the stored bits."""
+    """16 by 16 samples with every value of 8 bits, or values spread over all of the stored bits."""
     if stored == 8:
         return bytes(range(256))
     step = 2 ** stored // 256
@@ -121,7 +121,7 @@ def compare_averages(comparison, rng):
 
 
 def compare_shifts(comparison, rng, rounds):
-    """Shifts of the item and of the frame, at small pictures and at one that is larger than the greatest shift."""
+    """Shifts of the item and of the frame, at small images and at one that is larger than the greatest shift."""
     numbers = (0, 1, -1, 2, -2, 5, -5, 63, -63, 64, -64)
     for number in range(rounds):
         rows, columns = rng.choice(((1, 1), (1, 9), (9, 1), (3, 5), (4, 4), (7, 6), (1, 2)))
@@ -185,7 +185,7 @@ def compare_random_objects(comparison, rng, count):
 
 
 def compare_larger(comparison, rng):
-    """A few larger pictures of odd sizes."""
+    """A few larger images of odd sizes."""
     for rows, columns, bits in ((1, 700, 8), (301, 3, 16), (97, 101, 8), (64, 65, 16)):
         shape = xa.random_shape(rng, frames=3, rows=rows, columns=columns, bits_allocated=bits, bits_stored=8 if bits == 8 else 12,
                                 masks=("AVG_SUB",), ranges=False, frame_shift="frames", voi="frames", windows=1, pixel_vr="OW")
@@ -211,12 +211,12 @@ def compare_size_limit(comparison):
     outcome = drawing.show(memory, 1, 6, 16)
     comparison.must_equal("size limit: the reference", outcome.answer.code, 7)
     observed = comparison.library.call_on_mapping("xa_show", memory, 6)
-    comparison.must_equal("show too many bytes", observed.difference(outcome), None)
+    comparison.must_be_right("show too many bytes", observed.difference(outcome))
     comparison.note(("code", 7))
 
 
 def compare_pixel_intensity(comparison, rng):
-    """A TO_LINEAR table in a frame's groups is no part of the display: the picture is the one without it."""
+    """A TO_LINEAR table in a frame's groups is no part of the display: the image is the one without it."""
     table = {0x00283002: xa.us(256, 0, 16), 0x00283006: ("OW", bytes(reversed(range(256))) * 2), 0x00289474: xa.text("CS", "TO_LINEAR")}
     for where in ("shared", "frames"):
         model = xa.build(rng, base_shape(rng, bits_allocated=8, bits_stored=8, masks=("AVG_SUB",), voi="shared", frames=3))
@@ -245,4 +245,4 @@ def run(comparison, arguments):
 
 
 if __name__ == "__main__":
-    run_as_program("show", ["xa_show"], 800, run)
+    run_as_program("show", ["xa_show"], 2000, run)

@@ -18,7 +18,7 @@ def check_write(comparison, verdict, buffer_length):
     found, buffer = comparison.library.write_slip(verdict, buffer_length)
     name = f"write {verdict}, buffer of {buffer_length}"
     comparison.must_equal(name, found, code)
-    comparison.must_equal(name + ", slip buffer", buffer.fault(written), None)
+    comparison.must_be_right(name + ", slip buffer", buffer.fault(written))
     comparison.note(("write", code))
     return written
 

@@ -74,6 +74,12 @@ class Comparison:
             lines.append("  " + small.hex(" "))
         raise DifferenceFound("\n".join(lines))
 
+    def must_be_right(self, name, difference):
+        """For what is not an input of bytes, or has its expectation written out: a difference in words, or None."""
+        self.compared += 1
+        if difference is not None:
+            raise DifferenceFound(f"case {name}, seed {self.seed}: {difference}")
+
     def must_equal(self, name, found, expected):
         """For what is not an input of bytes: two values that must be equal."""
         self.compared += 1

@@ -194,7 +194,7 @@ for value in (1, 256, 65535):
     add(14, f"{value}", put(xa.PIXEL_REPRESENTATION, us(value)))
 
 never_had(15, xa.NUMBER_OF_FRAMES, "IS", text("IS", "5"), FRAMES)
-for word in ("0", "+0", "-5", "5.", "5.0", "1 2", "  ", "+", "+ 5", "--5", "5\\", "000000000005", "65541", "4294967301", "99999999999",
+for word in ("0", "+0", "-5", "5.", "5.0", "1 2", "  ", "+", "+ 5", "--5", "5\\", "000000000005", "65536", "65541", "4294967301", "99999999999",
              "5E0", "0x5", "+000000000005", "\t5"):
     add(15, f"{word!r}", put(xa.NUMBER_OF_FRAMES, text("IS", word)), FRAMES)
 for word in ("5", "+5", " 5 ", "00000000005", "+00000000005", "    +05"):
@@ -295,6 +295,7 @@ add(26, "last item left out", frames_left_out(5), FRAMES)
 add(26, "two items left out", frames_left_out(2, 3), FRAMES)
 add(26, "one item more", lambda model, frame: model[xa.PER_FRAME][1].append({xa.FRAME_CONTENT: sq({})}))
 add(26, "3 frames, 2 items", frames_left_out(3), {"frames": 3})
+add(26, "65535 frames told", put(xa.NUMBER_OF_FRAMES, text("IS", "65535")), FRAMES)
 
 # ---------------------------------------------------------------------------------------------------------------------
 # Rules 27 to 30

@@ -1,6 +1,5 @@
 """Objects made by others: the test files of Debian's python3-pydicom, and files made with dcmtk's tools."""
 
-import glob
 import os
 import shutil
 import struct
@@ -8,7 +7,7 @@ import subprocess
 
 from reference.reading import LONG_VRS
 
-PYDICOM_FOLDERS = ("/usr/lib/python3/dist-packages/pydicom/data", "/usr/share/python3-pydicom")
+PYDICOM_PACKAGE = "python3-pydicom"
 EXPLICIT_LITTLE_ENDIAN = "1.2.840.10008.1.2.1"
 ENCAPSULATED_PREFIXES = ("1.2.840.10008.1.2.4.", "1.2.840.10008.1.2.5")
 
@@ -38,20 +37,30 @@ def split_file(content):
     return transfer_syntax, content[offset:]
 
 
+def package_files(package):
+    """The files of an installed Debian package, [] if there is none."""
+    if not shutil.which("dpkg"):
+        return []
+    listed = subprocess.run(["dpkg", "-L", package], capture_output=True, text=True)
+    return sorted(path for path in listed.stdout.splitlines() if os.path.isfile(path)) if listed.returncode == 0 else []
+
+
 def pydicom_data_sets():
     """(name, transfer syntax, data set) of each test file whose data set is in Explicit VR Little Endian.
 
-    Those with encapsulated pixels are among them: they are to be refused.
+    Those with encapsulated pixels are among them: they are to be refused. So are files without a head, as they stand.
     """
     found = []
-    for folder in PYDICOM_FOLDERS:
-        for path in sorted(glob.glob(os.path.join(folder, "**", "*"), recursive=True)):
-            if not os.path.isfile(path) or os.path.getsize(path) > 20_000_000:
-                continue
-            with open(path, "rb") as file:
-                parts = split_file(file.read())
-            if parts and (parts[0] == EXPLICIT_LITTLE_ENDIAN or parts[0].startswith(ENCAPSULATED_PREFIXES)):
-                found.append((os.path.relpath(path, folder), parts[0], parts[1]))
+    for path in package_files(PYDICOM_PACKAGE):
+        if path.endswith((".py", ".pyc")):
+            continue
+        with open(path, "rb") as file:
+            content = file.read()
+        parts = split_file(content)
+        if parts is None and path.endswith(".dcm"):
+            found.append((os.path.basename(path), "no head", content))
+        if parts and (parts[0] == EXPLICIT_LITTLE_ENDIAN or parts[0].startswith(ENCAPSULATED_PREFIXES)):
+            found.append((os.path.basename(path), parts[0], parts[1]))
     return found
 
 

@@ -1,4 +1,4 @@
-"""The sample cases of document 01 ("Sample drawer") that are about reading, with the paper's answers written out."""
+"""The sample cases of document 01 that are about reading, with the paper's answers written out."""
 
 from reference.answers import Answer, Outcome
 from reading_cases import ROWS, nested

@@ -183,7 +183,7 @@ class Slips(unittest.TestCase):
 
 
 def small_object(pixels, frames, rows, columns, **fixed):
-    """An 8-bit object with the given cells and no functional groups, for changes by hand."""
+    """An 8-bit object with the given samples and no functional groups, for changes by hand."""
     shape = xa.Shape(bits_allocated=8, bits_stored=8, frames=frames, rows=rows, columns=columns, voi="absent", extras=False, **fixed)
     model = xa.build(random.Random(1), shape)
     model[xa.PIXEL_DATA] = ("OB", bytes(pixels) + bytes(len(pixels) % 2))
@@ -201,16 +201,16 @@ def window_group(center, width):
 
 class Drawing(unittest.TestCase):
     def test_sample_windows(self):
-        levels = lambda center, width, cells: [drawing.level(x, center * 1000, width * 1000) for x in cells]
+        levels = lambda center, width, samples: [drawing.level(x, center * 1000, width * 1000) for x in samples]
         self.assertEqual(levels(50, 1, (49, 50)), [0, 255])
         self.assertEqual(levels(40, 10, (35, 36, 40, 44, 45)), [0, 28, 142, 255, 255])
         self.assertEqual(drawing.shown(142, b"MONOCHROME1"), 113)
         self.assertEqual(levels(128, 256, (0, 128, 255)), [0, 128, 255])
 
     def test_sample_windows_in_objects(self):
-        cells = (35, 36, 40, 44, 45)
+        samples = (35, 36, 40, 44, 45)
         for photometric, expected in (("MONOCHROME2", [0, 28, 142, 255, 255]), ("MONOCHROME1", [255, 227, 113, 0, 0])):
-            model = small_object(cells, 1, 1, 5, photometric=photometric)
+            model = small_object(samples, 1, 1, 5, photometric=photometric)
             model[xa.SHARED][1][0][xa.VOI] = window_group("40", "10")
             self.assertEqual(drawing.draw(root_of(model), 1), (False, bytes(expected)))
         self.assertEqual(drawing.draw(root_of(small_object((0, 128, 255), 1, 1, 3)), 1), (False, bytes((0, 128, 255))))
@@ -247,7 +247,7 @@ class Drawing(unittest.TestCase):
             if offset is not None:
                 item[xa.TID_OFFSET] = xa.ss(offset)
             drawn = [drawing.draw(root_of(model), frame) for frame in (1, 2, 3)]
-            self.assertEqual(drawn, [(masked, bytes([cell])) for masked, cell in expected], offset)
+            self.assertEqual(drawn, [(masked, bytes([sample])) for masked, sample in expected], offset)
 
     def test_shift(self):
         mask = [[1, 2, 3], [4, 5, 6]]
@@ -275,7 +275,7 @@ class Drawing(unittest.TestCase):
         model[xa.SHARED][1][0][xa.FRAME_SHIFT] = xa.sq({xa.ITEM_ID: xa.us(7), xa.SHIFT: xa.fl(1.0, 64.0)})
         self.assertEqual(find(), (1, 64))
 
-    def test_masked_and_shifted_picture(self):
+    def test_masked_and_shifted_image(self):
         model = small_object((1, 2, 3, 4, 5, 6) + (10, 20, 30, 40, 50, 60), 2, 2, 3, masks=("AVG_SUB",), ranges=False, shifts=False)
         item = model[xa.MASKS][1][0]
         item[xa.MASK_FRAMES] = xa.us(1)

@@ -28,8 +28,9 @@ class StandIn:
     """The C functions. `change(outcome, data)` may answer another outcome, `after(...)` may write where nothing may be
     written; the calls themselves may be played by others than the reference's."""
 
-    def __init__(self, change=None, after=None, judge=rules.judge, show=drawing.show, write_slip=slips.write_slip,
-                 read_slip=slips.read_slip):
+    def __init__(self, change=None, after=None, read=reading.read, judge=rules.judge, show=drawing.show,
+                 write_slip=slips.write_slip, read_slip=slips.read_slip):
+        self.read = read
         self.judge = judge
         self.show = show
         self.write_slip = write_slip
@@ -39,7 +40,7 @@ class StandIn:
 
     def xa_read(self, data, size, rows, rows_length):
         content = view(data, size)
-        outcome = self.change(reading.read(content, rows_length), content)
+        outcome = self.change(self.read(content, rows_length), content)
         write_rows(rows, outcome.rows)
         self.after(outcome, data, rows, rows_length)
         return AnswerStruct(*outcome.answer)

@@ -26,13 +26,13 @@ def needed(value, what):
 
 
 # ---------------------------------------------------------------------------------------------------------------------
-# Frames of cells
+# Frames of samples
 
 
 class Pixels:
-    """The pixel bytes, and how they are parted into frames of cells.
+    """The pixel bytes, and how they are parted into frames of samples (document 01: cells).
 
-    Cells follow each other row by row, frames without padding.
+    Samples follow each other row by row, frames without padding.
     """
 
     def __init__(self, root):
@@ -40,8 +40,8 @@ class Pixels:
         self.columns = needed(root.unsigned_short(tags.COLUMNS), "Columns")
         allocated = needed(root.unsigned_short(tags.BITS_ALLOCATED), "Bits Allocated")
         if allocated == 0 or allocated % 8 != 0:
-            raise Lacking("a cell of whole bytes")
-        self.cell_size = allocated // 8
+            raise Lacking("a sample of whole bytes")
+        self.sample_size = allocated // 8
         self.stored = needed(root.unsigned_short(tags.BITS_STORED), "Bits Stored")
         element = needed(root.find(tags.PIXEL_DATA), "Pixel Data")
         if element.vr not in ("OW", "OB"):
@@ -52,19 +52,19 @@ class Pixels:
 
     def has_frame(self, frame):
         """Whether frame f lies whole inside the pixel bytes."""
-        return frame >= 1 and frame * self.rows * self.columns * self.cell_size <= self.length
+        return frame >= 1 and frame * self.rows * self.columns * self.sample_size <= self.length
 
     def frame(self, frame):
-        """The cells of a frame: a list of rows."""
+        """The samples of a frame: a list of rows."""
         if not self.has_frame(frame):
             raise Lacking(f"frame {frame}")
-        return [[self.cell(frame, row, column) for column in range(self.columns)] for row in range(self.rows)]
+        return [[self.sample(frame, row, column) for column in range(self.columns)] for row in range(self.rows)]
 
-    def cell(self, frame, row, column):
+    def sample(self, frame, row, column):
         """Step 1. A cell is its little-endian number modulo 2^stored."""
         number = ((frame - 1) * self.rows + row) * self.columns + column
-        start = self.offset + number * self.cell_size
-        return int.from_bytes(self.data[start:start + self.cell_size], "little") % 2 ** self.stored
+        start = self.offset + number * self.sample_size
+        return int.from_bytes(self.data[start:start + self.sample_size], "little") % 2 ** self.stored
 
 
 # ---------------------------------------------------------------------------------------------------------------------
@@ -116,9 +116,9 @@ def mask_operation(item):
     return operation
 
 
-def average(cells):
+def average(samples):
     """Step 3, AVG_SUB. The mask is floor((2S + n) / 2n), S the sum of the n mask frames' cells."""
-    return (2 * sum(cells) + len(cells)) // (2 * len(cells))
+    return (2 * sum(samples) + len(samples)) // (2 * len(samples))
 
 
 def average_mask(item, pixels):
@@ -181,8 +181,8 @@ def shifted(mask, pair):
              for column in range(columns)] for row in range(rows)]
 
 
-def mask_cells(root, frame, pixels):
-    """Steps 2 to 4: the mask's cells, shifted. None: the frame is native."""
+def mask_samples(root, frame, pixels):
+    """Steps 2 to 4: the mask's samples, shifted. None: the frame is native."""
     item = applying_item(root, frame)
     if item is None:
         return None
@@ -199,9 +199,9 @@ def mask_cells(root, frame, pixels):
     return shifted(mask, shift(root, item, frame))
 
 
-def subtracted(cell, mask, stored):
+def subtracted(sample, mask, stored):
     """Step 5. cell - mask + 2^(stored - 1); it stays signed."""
-    return cell - mask + Fraction(2 ** stored, 2)
+    return sample - mask + Fraction(2 ** stored, 2)
 
 
 # ---------------------------------------------------------------------------------------------------------------------
@@ -246,16 +246,16 @@ def shown(y, photometric):
 
 
 def draw(root, frame):
-    """All steps: whether the frame is masked, and its picture; or Lacking."""
+    """All steps: whether the frame is masked, and its image (document 01: picture); or Lacking."""
     pixels = Pixels(root)
-    cells = pixels.frame(frame)
-    mask = mask_cells(root, frame, pixels)
+    samples = pixels.frame(frame)
+    mask = mask_samples(root, frame, pixels)
     center, width = window(root, frame, pixels.stored)
     photometric = needed(root.text(tags.PHOTOMETRIC_INTERPRETATION, "CS"), "Photometric Interpretation")
     image = bytearray()
     for row in range(pixels.rows):
         for column in range(pixels.columns):
-            x = cells[row][column]
+            x = samples[row][column]
             if mask is not None:
                 x = subtracted(x, mask[row][column], pixels.stored)
             image.append(shown(level(x, center, width), photometric))
