@@ -120,6 +120,45 @@ def compare_averages(comparison, rng):
         comparison.must_equal("all masked", set(drawn.values()), {1})
 
 
+def compare_average_rounding(comparison, rng):
+    """For each n, sums with every remainder by n, small and great: a mask that is off by one shows in a narrow window.
+
+    The last frame holds q where the sum is q * n + r, so it is drawn as 2^(stored - 1) or one less.
+    """
+    for count in range(1, 65):
+        for stored in (16, rng.choice((12, 14, 15))):
+            top = 2 ** stored - 1
+            sums = [(q, r) for q in (0, 1, top // 2, top - 1) for r in range(count)] + [(top, 0)]
+            shape = base_shape(rng, bits_allocated=16, bits_stored=stored, frames=count, rows=1, columns=len(sums), masks=("AVG_SUB",),
+                               ranges=False, shifts=False)
+            model = xa.build(rng, shape)
+            model[xa.MASKS][1][0][xa.MASK_FRAMES] = xa.us(*range(1, count + 1))
+            model[xa.SHARED][1][0][xa.VOI] = xa.sq({xa.CENTER: xa.text("DS", str(2 ** (stored - 1))), xa.WIDTH: xa.text("DS", "10")})
+            junk = 65536 - top - 1  # unused high bits, set in every second sample
+            model[xa.PIXEL_DATA] = ("OW", b"".join(struct.pack("<H", q + (frame < r) + junk * (frame % 2))
+                                                   for frame in range(count) for q, r in sums))
+            drawn = check_every_frame(comparison, f"rounding of an average of {count}", model, rng, frames=[count])
+            comparison.must_equal("masked", drawn, {count: 1})
+
+
+def compare_window_edges(comparison, rng, rounds):
+    """Random windows, with the samples about both of their edges."""
+    for number in range(rounds):
+        stored = rng.randrange(9, 17)
+        width = rng.choice((1000, 1001, 1999, 2000, rng.randrange(1000, 20_000), rng.randrange(1000, 1000 * 2 ** stored)))
+        center = rng.randrange(-20_000, 1000 * 2 ** stored)
+        low, high = (2 * center - width) // 2000, (2 * center + width - 2000) // 2000
+        values = [edge + near for edge in (low, high, center // 1000) for near in range(-3, 4)]
+        values += [rng.randrange(low, high + 2) for _ in range(20)] + [rng.randrange(2 ** stored) for _ in range(8)]
+        values = [max(0, min(2 ** stored - 1, value)) for value in values]
+        shape = base_shape(rng, bits_allocated=16, bits_stored=stored, frames=1, rows=1, columns=len(values))
+        model = xa.build(rng, shape)
+        decimal = lambda value: f"{'-' if value < 0 else ''}{abs(value) // 1000}.{abs(value) % 1000:03d}"
+        model[xa.SHARED][1][0][xa.VOI] = xa.sq({xa.CENTER: xa.text("DS", decimal(center)), xa.WIDTH: xa.text("DS", decimal(width))})
+        model[xa.PIXEL_DATA] = ("OW", struct.pack(f"<{len(values)}H", *values))
+        check_every_frame(comparison, f"window {decimal(center)}, {decimal(width)}", model, rng)
+
+
 def compare_shifts(comparison, rng, rounds):
     """Shifts of the item and of the frame, at small images and at one that is larger than the greatest shift."""
     numbers = (0, 1, -1, 2, -2, 5, -5, 63, -63, 64, -64)
@@ -186,7 +225,7 @@ def compare_random_objects(comparison, rng, count):
 
 def compare_larger(comparison, rng):
     """A few larger images of odd sizes."""
-    for rows, columns, bits in ((1, 700, 8), (301, 3, 16), (97, 101, 8), (64, 65, 16)):
+    for rows, columns, bits in ((1, 700, 8), (301, 3, 16), (97, 101, 8), (64, 65, 16), (257, 256, 8)):
         shape = xa.random_shape(rng, frames=3, rows=rows, columns=columns, bits_allocated=bits, bits_stored=8 if bits == 8 else 12,
                                 masks=("AVG_SUB",), ranges=False, frame_shift="frames", voi="frames", windows=1, pixel_vr="OW")
         check_every_frame(comparison, f"{rows} rows, {columns} columns", xa.build(rng, shape), rng, frames=[2])
@@ -231,6 +270,8 @@ def run(comparison, arguments):
     compare_windows(comparison, rng)
     compare_no_window(comparison, rng)
     compare_averages(comparison, rng)
+    compare_average_rounding(comparison, rng)
+    compare_window_edges(comparison, rng, max(50, comparison.count // 4))
     compare_shifts(comparison, rng, max(40, comparison.count // 4))
     compare_tid(comparison, rng)
     compare_first_item(comparison, rng)

@@ -515,6 +515,49 @@ def shared_shift_broken(model, frame):
 add(37, "broken shared one, seen by frame 3 first", shared_shift_broken, NO_MASKS, NO_FRAME_SHIFT, FRAMES, frame=3)
 
 
+def shared_shift_seen_by(*frames):
+    """A good shared pixel shift that only these of the 5 frames see: the others have something else of that tag."""
+
+    def edit(model, frame):
+        shared_item(model)[xa.FRAME_SHIFT] = sq(GOOD_FRAME_SHIFT)
+        for number in range(1, 6):
+            if number not in frames:
+                frame_item(model, number)[xa.FRAME_SHIFT] = ("UN", b"")
+    return edit
+
+
+add(37, "shared one seen by no frame, mask items without ID", all_of(WITHOUT_ID, shared_shift_seen_by()), SUB, NO_FRAME_SHIFT, FRAMES,
+    frame=1)
+add(36, "shared one seen by frame 5 alone, mask items without ID", all_of(WITHOUT_ID, shared_shift_seen_by(5)), SUB, NO_FRAME_SHIFT,
+    FRAMES)
+
+# Elements that stand deeper, or at the wrong level, are not found.
+
+
+def moved_down(tag, into):
+    """An element moved from its data set into an item of a sequence there."""
+
+    def edit(model, frame):
+        model[into] = sq({tag: model.pop(tag)})
+    return edit
+
+
+add(2, "only in a sequence", moved_down(xa.MODALITY, 0x00081140))
+add(11, "only in a sequence", moved_down(xa.ROWS, 0x00081140))
+add(15, "only in a sequence", moved_down(xa.NUMBER_OF_FRAMES, 0x00080001))
+add(38, "only in a sequence", moved_down(xa.PIXEL_DATA, 0x7FE00001))
+add(28, "only in a sequence", in_frame(moved_down(xa.FRAME_CONTENT, 0x00189504)), per_frame=True)
+add(30, "centre only in a sequence", in_group(xa.VOI, moved_down(xa.CENTER, 0x00080001)), OWN_VOI, per_frame=True)
+add(31, "operation only in a sequence", in_mask(1, moved_down(xa.OPERATION, 0x00080001)), SUB)
+add(37, "ID only in a sequence", in_group(xa.FRAME_SHIFT, moved_down(xa.ITEM_ID, 0x00080001)), OWN_SHIFTS, per_frame=True)
+add(0, "characteristics only in a sequence", in_frame(moved_down(xa.CHARACTERISTICS, 0x00189504)), {"characteristics": "frames"},
+    per_frame=True)
+add(0, "masks only in a sequence", moved_down(xa.MASKS, 0x00081140), SUB, NO_FRAME_SHIFT)
+add(0, "broken VOI at the root", put(xa.VOI, ("UN", b"")))
+add(0, "frame content at the root", put(xa.FRAME_CONTENT, sq({}, {})))
+add(0, "mask items in the shared item", in_shared(put(xa.MASKS, sq({}))))
+
+
 def pixel_length(change):
     def edit(model, frame):
         vr, value = model[xa.PIXEL_DATA]
