@@ -1,0 +1,289 @@
+"""Compares xa_show with the reference: every frame and sample of accepted objects, and refusals that touch no image."""
+
+import mmap
+import random
+import struct
+
+import enhanced_xa as xa
+import reading_cases
+from comparison import DifferenceFound, run_as_program
+from mutations import CHANGES
+from reference import drawing, reading
+
+
+def check_show(comparison, name, data, frame, row_buffer_length, image_buffer_length):
+    """One call compared; answers the reference's answer."""
+    known = {}
+
+    def difference(candidate):
+        expected = drawing.show(candidate, frame, row_buffer_length, image_buffer_length)
+        known[candidate] = expected.answer
+        return comparison.library.show(candidate, frame, row_buffer_length, image_buffer_length).difference(expected)
+
+    comparison.check(f"{name}, frame {frame}, row buffer {row_buffer_length}, image buffer {image_buffer_length}", data, difference)
+    answer = known[data]
+    comparison.note(("code", answer.code))
+    comparison.note(("masked", answer.masked))
+    return answer
+
+
+def check_every_frame(comparison, name, model, rng, frames=None):
+    """An accepted object: each of its frames must be drawn. Answers (frame, masked or native) of each."""
+    data = xa.encode_at_random(rng, model)
+    count = 6 * reading.read(data, 6 * (len(data) // 8)).answer.rows
+    rows, columns = (struct.unpack("<H", model[tag][1])[0] for tag in (xa.ROWS, xa.COLUMNS))
+    drawn = {}
+    for frame in frames or range(1, len(model[xa.PER_FRAME][1]) + 1):
+        answer = check_show(comparison, name, data, frame, count + rng.choice((0, 0, 9)), rows * columns + rng.choice((0, 0, 1, 40)))
+        if answer.code != 0:
+            raise DifferenceFound(f"the comparison itself is at fault: {name}, frame {frame} is not drawn: {answer}")
+        drawn[frame] = answer.masked
+    return drawn
+
+
+def check_refusals(comparison, name, model, rng):
+    """An accepted object with frame numbers and buffers that are refused, one thing and several at once."""
+    data = xa.encode_at_random(rng, model)
+    count = 6 * reading.read(data, 6 * (len(data) // 8)).answer.rows
+    rows, columns = (struct.unpack("<H", model[tag][1])[0] for tag in (xa.ROWS, xa.COLUMNS))
+    frames = len(model[xa.PER_FRAME][1])
+    size = rows * columns
+    no_frames = (0, frames + 1, 256 * 256 + 1, 2 ** 31 + 1, 2 ** 32, 2 ** 32 + 1, 2 ** 63, 2 ** 64 - 1)
+    cases = [(frame, count, size, 10) for frame in no_frames]
+    cases += [(0, count, size - 1, 10), (frames + 1, count, 0, 10), (1, count, size - 1, 11), (frames, count, 0, 11),
+              (frames, count + 1, size, 0), (1, count - 1, size, 8), (0, count - 1, 0, 8), (1, 0, size, 8)]
+    for frame, row_length, image_length, code in cases:
+        answer = check_show(comparison, name, data, frame, row_length, image_length)
+        comparison.must_equal(f"{name}, frame {frame}: code", answer.code, code)
+
+
+# ---------------------------------------------------------------------------------------------------------------------
+
+
+def base_shape(rng, **fixed):
+    """A shape with little in it but what is fixed."""
+    return xa.random_shape(rng, **{"masks": (), "voi": "absent", "frame_shift": "absent", "characteristics": "absent", "extras": False,
+                                   **fixed})
+
+
+def every_value(stored):
+    """16 by 16 samples with every value of 8 bits, or values spread over all of the stored bits."""
+    if stored == 8:
+        return bytes(range(256))
+    step = 2 ** stored // 256
+    return b"".join(struct.pack("<H", number * step + number % step) for number in range(256))
+
+
+WINDOWS = (("50", "1"), ("40", "10"), ("128", "256"), ("0", "1"), ("-10", "50"), ("-10.5", "40.25"), ("127.5", "255"), ("128", "1.001"),
+           ("128", "1.5"), ("128.001", "1.999"), ("300", "100"), ("999999.999", "999999.999"), ("-999999.999", "999999.999"), ("0.5", "2"),
+           ("200", "999999.999"), (".5", "+1.000"), ("100.25", "3.75"), ("2048", "4096"), ("1000", "2500.5"))
+
+
+def compare_windows(comparison, rng):
+    """Each window on every 8-bit value, and on values of more bits; native and masked, both photometric interpretations."""
+    for number, (center, width) in enumerate(WINDOWS):
+        for photometric in ("MONOCHROME1", "MONOCHROME2"):
+            for stored in (8, 9 + number % 8):
+                shape = base_shape(rng, bits_allocated=8 if stored == 8 else 16, bits_stored=stored, frames=2, rows=16, columns=16,
+                                   photometric=photometric, masks=("AVG_SUB",), ranges=False, shifts=False, pixel_vr="OW")
+                model = xa.build(rng, shape)
+                model[xa.MASKS][1][0][xa.RANGE] = xa.us(2, 2)
+                model[xa.MASKS][1][0][xa.MASK_FRAMES] = xa.us(1)
+                values = every_value(stored)
+                model[xa.PIXEL_DATA] = ("OW", values + rng.randbytes(len(values)))
+                place = rng.choice((model[xa.SHARED][1], model[xa.PER_FRAME][1]))
+                for item in place:
+                    item[xa.VOI] = xa.sq({xa.CENTER: xa.padded(rng, "DS", center, "1"), xa.WIDTH: xa.padded(rng, "DS", width, "7")})
+                drawn = check_every_frame(comparison, f"window {center}, {width}, {stored} bits, {photometric}", model, rng)
+                comparison.must_equal("native, then masked", drawn, {1: 0, 2: 1})
+
+
+def compare_no_window(comparison, rng):
+    for stored in range(8, 17):
+        shape = base_shape(rng, bits_allocated=8 if stored == 8 else 16, bits_stored=stored, frames=1, rows=16, columns=16, pixel_vr="OW")
+        model = xa.build(rng, shape)
+        model[xa.PIXEL_DATA] = ("OW", every_value(stored))
+        check_every_frame(comparison, f"no window, {stored} bits", model, rng)
+
+
+def compare_averages(comparison, rng):
+    """Averages of 1 to 64 frames."""
+    for count in range(1, 65):
+        shape = base_shape(rng, masks=("AVG_SUB",), frames=rng.choice((2, 5, 20)), rows=2, columns=3, voi=rng.choice(xa.PLACES))
+        model = xa.build(rng, shape)
+        item = model[xa.MASKS][1][0]
+        item.pop(xa.RANGE, None)
+        item[xa.MASK_FRAMES] = xa.us(*(rng.randrange(1, shape.frames + 1) for _ in range(count)))
+        if count == 64:
+            model[xa.PIXEL_DATA] = (model[xa.PIXEL_DATA][0], b"\xFF" * len(model[xa.PIXEL_DATA][1]))
+        drawn = check_every_frame(comparison, f"average of {count}", model, rng, frames=[1, shape.frames])
+        comparison.must_equal("all masked", set(drawn.values()), {1})
+
+
+def compare_average_rounding(comparison, rng):
+    """For each n, sums with every remainder by n, small and great: a mask that is off by one shows in a narrow window.
+
+    The last frame holds q where the sum is q * n + r, so it is drawn as 2^(stored - 1) or one less.
+    """
+    for count in range(1, 65):
+        for stored in (16, rng.choice((12, 14, 15))):
+            top = 2 ** stored - 1
+            sums = [(q, r) for q in (0, 1, top // 2, top - 1) for r in range(count)] + [(top, 0)]
+            shape = base_shape(rng, bits_allocated=16, bits_stored=stored, frames=count, rows=1, columns=len(sums), masks=("AVG_SUB",),
+                               ranges=False, shifts=False)
+            model = xa.build(rng, shape)
+            model[xa.MASKS][1][0][xa.MASK_FRAMES] = xa.us(*range(1, count + 1))
+            model[xa.SHARED][1][0][xa.VOI] = xa.sq({xa.CENTER: xa.text("DS", str(2 ** (stored - 1))), xa.WIDTH: xa.text("DS", "10")})
+            junk = 65536 - top - 1  # unused high bits, set in every second sample
+            model[xa.PIXEL_DATA] = ("OW", b"".join(struct.pack("<H", q + (frame < r) + junk * (frame % 2))
+                                                   for frame in range(count) for q, r in sums))
+            drawn = check_every_frame(comparison, f"rounding of an average of {count}", model, rng, frames=[count])
+            comparison.must_equal("masked", drawn, {count: 1})
+
+
+def compare_window_edges(comparison, rng, rounds):
+    """Random windows, with the samples about both of their edges."""
+    for number in range(rounds):
+        stored = rng.randrange(9, 17)
+        width = rng.choice((1000, 1001, 1999, 2000, rng.randrange(1000, 20_000), rng.randrange(1000, 1000 * 2 ** stored)))
+        center = rng.randrange(-20_000, 1000 * 2 ** stored)
+        low, high = (2 * center - width) // 2000, (2 * center + width - 2000) // 2000
+        values = [edge + near for edge in (low, high, center // 1000) for near in range(-3, 4)]
+        values += [rng.randrange(low, high + 2) for _ in range(20)] + [rng.randrange(2 ** stored) for _ in range(8)]
+        values = [max(0, min(2 ** stored - 1, value)) for value in values]
+        shape = base_shape(rng, bits_allocated=16, bits_stored=stored, frames=1, rows=1, columns=len(values))
+        model = xa.build(rng, shape)
+        decimal = lambda value: f"{'-' if value < 0 else ''}{abs(value) // 1000}.{abs(value) % 1000:03d}"
+        model[xa.SHARED][1][0][xa.VOI] = xa.sq({xa.CENTER: xa.text("DS", decimal(center)), xa.WIDTH: xa.text("DS", decimal(width))})
+        model[xa.PIXEL_DATA] = ("OW", struct.pack(f"<{len(values)}H", *values))
+        check_every_frame(comparison, f"window {decimal(center)}, {decimal(width)}", model, rng)
+
+
+def compare_shifts(comparison, rng, rounds):
+    """Shifts of the item and of the frame, at small images and at one that is larger than the greatest shift."""
+    numbers = (0, 1, -1, 2, -2, 5, -5, 63, -63, 64, -64)
+    for number in range(rounds):
+        rows, columns = rng.choice(((1, 1), (1, 9), (9, 1), (3, 5), (4, 4), (7, 6), (1, 2)))
+        if number % 40 == 0:
+            rows, columns = 67, 70
+        shape = base_shape(rng, masks=("AVG_SUB",), frames=2, rows=rows, columns=columns, ranges=False)
+        model = xa.build(rng, shape)
+        item = model[xa.MASKS][1][0]
+        item[xa.MASK_FRAMES] = xa.us(1)
+        item.pop(xa.SHIFT, None)
+        pair = [float(rng.choice(numbers)), float(rng.choice(numbers))]
+        other = [float(rng.randrange(-64, 65)), rng.choice((0.0, -0.0))]
+        kind = number % 5
+        if kind in (0, 1, 2):
+            item[xa.SHIFT] = xa.fl(*pair)  # 0: the item's alone
+        if kind in (1, 2, 3):
+            item[xa.ITEM_ID] = xa.us(7)  # 1: the frame's own wins; 2: its group names another ID; 3: the frame's alone
+            named = 7 if kind != 2 else 8
+            members = [{xa.ITEM_ID: xa.us(named), xa.SHIFT: xa.fl(*other)}, {xa.ITEM_ID: xa.us(3), xa.SHIFT: xa.fl(9.0, 9.0)}]
+            rng.shuffle(members)
+            for place in rng.choice((model[xa.SHARED][1], model[xa.PER_FRAME][1])):
+                place[xa.FRAME_SHIFT] = xa.sq(*members)
+        check_every_frame(comparison, f"shift {pair}, frame's own {other}, kind {kind}", model, rng)
+
+
+def compare_tid(comparison, rng):
+    """TID offsets: positive, negative, zero, absent, out of range."""
+    for offset in (None, 1, -1, 0, 2, -2, 3, 4, 5, -4, -5, 32767, -32768):
+        for frames in (1, 3, 5):
+            shape = base_shape(rng, masks=("TID",), frames=frames, ranges=False)
+            model = xa.build(rng, shape)
+            item = model[xa.MASKS][1][0]
+            item.pop(xa.TID_OFFSET, None)
+            if offset is not None:
+                item[xa.TID_OFFSET] = xa.ss(offset)
+            drawn = check_every_frame(comparison, f"TID {offset}", model, rng)
+            step = 1 if offset is None else offset
+            comparison.must_equal(f"TID {offset}: masked or native", drawn,
+                                  {frame: int(1 <= frame - step <= frames) for frame in range(1, frames + 1)})
+
+
+def compare_first_item(comparison, rng):
+    """The first mask item whose range holds f applies, also where it makes the frame native."""
+    shape = base_shape(rng, masks=("TID", "NONE", "AVG_SUB", "AVG_SUB"), frames=9, ranges=False)
+    model = xa.build(rng, shape)
+    items = model[xa.MASKS][1]
+    items[0][xa.TID_OFFSET] = xa.ss(2)
+    for item, pairs in zip(items, ((2, 3), (3, 5, 9, 9), (5, 7), (4, 4, 8, 9))):
+        item[xa.RANGE] = xa.us(*pairs)
+    drawn = check_every_frame(comparison, "first mask item", model, rng)
+    # Frame 1: no item. 2: TID of frame 0. 3: TID of frame 1. 4, 5, 9: NONE. 6, 7: third item. 8: fourth.
+    comparison.must_equal("first mask item", drawn, {1: 0, 2: 0, 3: 1, 4: 0, 5: 0, 6: 1, 7: 1, 8: 1, 9: 0})
+
+
+def compare_random_objects(comparison, rng, count):
+    for number in range(count):
+        model = xa.build(rng, xa.random_shape(rng, frames=rng.choice((1, 2, 3, 5, 7))))
+        check_every_frame(comparison, f"object {number}", model, rng)
+        if number % 10 == 0:
+            check_refusals(comparison, f"object {number}", model, rng)
+
+
+def compare_larger(comparison, rng):
+    """A few larger images of odd sizes."""
+    for rows, columns, bits in ((1, 700, 8), (301, 3, 16), (97, 101, 8), (64, 65, 16), (257, 256, 8)):
+        shape = xa.random_shape(rng, frames=3, rows=rows, columns=columns, bits_allocated=bits, bits_stored=8 if bits == 8 else 12,
+                                masks=("AVG_SUB",), ranges=False, frame_shift="frames", voi="frames", windows=1, pixel_vr="OW")
+        check_every_frame(comparison, f"{rows} rows, {columns} columns", xa.build(rng, shape), rng, frames=[2])
+
+
+def compare_refused(comparison, rng):
+    """Objects that break a rule, and data sets that do not read: no byte of the image is touched."""
+    for change in rng.sample(CHANGES, len(CHANGES) // 3):
+        frame = 3 if change.per_frame else 0
+        model = xa.build(rng, xa.random_shape(rng, **change.shape))
+        change.edit(model, frame)
+        data = xa.encode_at_random(rng, model)
+        count = 6 * reading.read(data, 6 * (len(data) // 8)).answer.rows
+        answer = check_show(comparison, f"rule {change.rule}, {change.name}", data, rng.choice((1, 2, 0)), count, rng.choice((0, 100, 2000)))
+        comparison.must_equal("rule named", answer.rule, change.rule)
+    for name, data, _ in reading_cases.CASES:
+        check_show(comparison, f"small case {name}", data, 1, 1000, 100)
+
+
+def compare_size_limit(comparison):
+    memory = mmap.mmap(-1, reading.MAXIMUM_SIZE + 1, flags=mmap.MAP_PRIVATE | mmap.MAP_ANONYMOUS)
+    outcome = drawing.show(memory, 1, 6, 16)
+    comparison.must_equal("size limit: the reference", outcome.answer.code, 7)
+    observed = comparison.library.call_on_mapping("xa_show", memory, 6)
+    comparison.must_be_right("show too many bytes", observed.difference(outcome))
+    comparison.note(("code", 7))
+
+
+def compare_pixel_intensity(comparison, rng):
+    """A TO_LINEAR table in a frame's groups is no part of the display: the image is the one without it."""
+    table = {0x00283002: xa.us(256, 0, 16), 0x00283006: ("OW", bytes(reversed(range(256))) * 2), 0x00289474: xa.text("CS", "TO_LINEAR")}
+    for where in ("shared", "frames"):
+        model = xa.build(rng, base_shape(rng, bits_allocated=8, bits_stored=8, masks=("AVG_SUB",), voi="shared", frames=3))
+        for item in model[xa.SHARED][1] if where == "shared" else model[xa.PER_FRAME][1]:
+            item[0x00289422] = xa.sq(table)
+            item[0x00289443] = xa.sq({0x00281040: xa.text("CS", "LOG")})
+        check_every_frame(comparison, "TO_LINEAR table", model, rng)
+
+
+def run(comparison, arguments):
+    rng = random.Random(comparison.seed)
+    compare_windows(comparison, rng)
+    compare_no_window(comparison, rng)
+    compare_averages(comparison, rng)
+    compare_average_rounding(comparison, rng)
+    compare_window_edges(comparison, rng, max(50, comparison.count // 4))
+    compare_shifts(comparison, rng, max(40, comparison.count // 4))
+    compare_tid(comparison, rng)
+    compare_first_item(comparison, rng)
+    compare_random_objects(comparison, rng, comparison.count)
+    compare_larger(comparison, rng)
+    compare_refused(comparison, rng)
+    compare_pixel_intensity(comparison, rng)
+    compare_size_limit(comparison)
+    comparison.insist([("code", code) for code in range(12)])
+    comparison.insist([("masked", 0), ("masked", 1)])
+    return f"{comparison.tally[('masked', 1)]} masked frames"
+
+
+if __name__ == "__main__":
+    run_as_program("show", ["xa_show"], 2000, run)

@@ -1,0 +1,334 @@
+"""Stand-ins for the library that do one thing wrong, by the comparison that has to find them out."""
+
+import ctypes
+
+from reference import drawing, rules, slips
+from reference.answers import Answer
+from stand_in import StandIn, write
+
+
+def answer_changed(**changes):
+    """A fault in the answer of those outcomes that `changes` leaves different."""
+
+    def change(outcome, data):
+        fields = {name: function(outcome.answer) for name, function in changes.items()}
+        return outcome._replace(answer=outcome.answer._replace(**fields))
+
+    return change
+
+
+def row_number_changed(which, function):
+    def change(outcome, data):
+        numbers = list(outcome.rows)
+        for position in range(which, len(numbers), 6):
+            numbers[position] = function(numbers[position])
+        return outcome._replace(rows=tuple(numbers))
+
+    return change
+
+
+def touched(place):
+    """A fault in what is written: `place(outcome, data, rows, rows_length)` answers an address, or None for no write."""
+
+    def after(outcome, data, rows, rows_length):
+        address = place(outcome, data, rows, rows_length)
+        if address is not None:
+            write(address, bytes([ctypes.string_at(address, 1)[0] ^ 0x55]))
+
+    return after
+
+
+def last_number_of(rows, rows_length):
+    return rows + 4 * rows_length - 4 if rows_length else None
+
+
+READ_FAULTS = {
+    "row count one more": StandIn(answer_changed(rows=lambda a: a.rows + (a.code == 0))),
+    "row count told with code 8": StandIn(answer_changed(rows=lambda a: 1 if a.code == 8 else a.rows)),
+    "code 4 told as 1": StandIn(answer_changed(code=lambda a: 1 if a.code == 4 else a.code)),
+    "place of code 2 one element early": StandIn(answer_changed(offset=lambda a: max(0, a.offset - 10 * (a.code == 2)))),
+    "masked not 0": StandIn(answer_changed(masked=lambda a: 1)),
+    "depth one more": StandIn(row_number_changed(2, lambda value: value + 1)),
+    "length of an undefined sequence with its delimiter": StandIn(row_number_changed(4, lambda v: v + 8 if v == 34 else v)),
+    "rows below not told": StandIn(row_number_changed(5, lambda value: 0)),
+    "rows not written": StandIn(lambda outcome, data: outcome._replace(rows=())),
+    "last row not written": StandIn(lambda outcome, data: outcome._replace(rows=outcome.rows[:-6])),
+    "row buffer touched at a refusal": StandIn(after=touched(
+        lambda o, data, rows, length: rows if o.answer.code in range(1, 7) and length else None)),
+    "row buffer touched at code 8": StandIn(after=touched(
+        lambda o, data, rows, length: last_number_of(rows, length) if o.answer.code == 8 else None)),
+    "row buffer touched behind the rows": StandIn(after=touched(
+        lambda o, data, rows, length: rows + 4 * len(o.rows) if o.answer.code == 0 and length > len(o.rows) else None)),
+    "written behind the row buffer": StandIn(after=touched(lambda o, data, rows, length: rows + 4 * length)),
+    "written in front of the row buffer": StandIn(after=touched(lambda o, data, rows, length: rows - 1)),
+    "input changed": StandIn(after=touched(lambda o, data, rows, length: data - 1 if o.answer.code != 7 else None)),
+}
+
+
+
+def judge_by(first_broken_rule):
+    """A judge with another search for the broken rule. Where that search falls over, it accepts."""
+
+    def judge(data, row_buffer_length):
+        outcome, root = rules.judge_with_root(data, row_buffer_length)
+        if root is None:
+            return outcome
+        try:
+            broken = first_broken_rule(root)
+        except (AttributeError, IndexError, KeyError, TypeError):
+            broken = None
+        count = outcome.answer.rows
+        answer = Answer(0, rows=count) if broken is None else Answer(9, rows=count, rule=broken[0], frame=broken[1])
+        return outcome._replace(answer=answer)
+
+    return StandIn(judge=judge)
+
+
+def with_rules(changed_rules):
+    """A judge with other rules in the place of some."""
+
+    def first_broken_rule(root):
+        kept = dict(rules.RULES)
+        rules.RULES.update(changed_rules)
+        try:
+            return rules.first_broken_rule(root)
+        finally:
+            rules.RULES.update(kept)
+
+    return judge_by(first_broken_rule)
+
+
+def highest_frame(root):
+    broken = rules.first_broken_rule(root)
+    if broken is None or broken[0] not in rules.PER_FRAME_RULES:
+        return broken
+    number = broken[0]
+    return number, max(frame for frame in range(1, rules.number_of_frames(root) + 1)
+                       if not rules.RULES[number](root, frame))
+
+
+def last_broken_rule(root):
+    found = None
+    for number, rule in rules.RULES.items():
+        if number in rules.PER_FRAME_RULES:
+            frames = [frame for frame in range(1, rules.number_of_frames(root) + 1) if not rule(root, frame)]
+            found = (number, frames[0]) if frames else found
+        elif not rule(root):
+            found = (number, 0)
+    return found
+
+
+def shared_preferred(root):
+    """The shared group preferred to the frame's own."""
+    original = rules.frame_group
+
+    def frame_group(root, frame, tag):
+        shared = rules.shared_item(root).find(tag)
+        return shared if shared is not None else rules.frame_item(root, frame).find(tag)
+
+    rules.frame_group = frame_group
+    try:
+        return rules.first_broken_rule(root)
+    finally:
+        rules.frame_group = original
+
+
+def always(*arguments):
+    return True
+
+
+JUDGE_FAULTS = {
+    "everything refused": judge_by(lambda root: (1, 0)),
+    "everything accepted": judge_by(lambda root: None),
+    "the highest frame": judge_by(highest_frame),
+    "the last broken rule": judge_by(last_broken_rule),
+    "the shared group preferred": judge_by(shared_preferred),
+    "row count not told with code 9": StandIn(answer_changed(rows=lambda a: 0 if a.code == 9 else a.rows)),
+    "rows not written with code 9": StandIn(lambda o, data: o._replace(rows=()) if o.answer.code == 9 else o),
+    "frame named for rule 26": StandIn(answer_changed(frame=lambda a: 1 if a.rule == 26 else a.frame)),
+    **{f"rule {number} skipped": with_rules({number: always}) for number in rules.RULES},
+}
+
+
+
+def slip_written(change):
+    """A writer whose slip is changed."""
+
+    def write_slip(answer, length):
+        code, written = slips.write_slip(answer, length)
+        return code, change(written) if written else written
+
+    return StandIn(write_slip=write_slip)
+
+
+def buffer_first(answer, length):
+    """Looks at the buffer before the verdict."""
+    return (11, b"") if length < 13 else slips.write_slip(answer, length)
+
+
+def wrapped(answer, length):
+    """Cuts fields to the slip's widths."""
+    cut = answer._replace(code=answer.code % 256, rule=answer.rule % 256, frame=answer.frame % 65536)
+    return slips.write_slip(cut, length)
+
+
+def refuses_with_count(answer, length):
+    return (14, b"") if answer.rows else slips.write_slip(answer, length)
+
+
+def frame_let_through(slip):
+    """Lets rule 26 with a frame through."""
+    code, verdict = slips.read_slip(slip)
+    if code == 14 and slip[5] == 9 and slip[6] == 26 and slip[9:] == bytes(4):
+        return 0, Answer(9, rule=26, frame=int.from_bytes(slip[7:9], "little"))
+    return code, verdict
+
+
+SLIP_FAULTS = {
+    "one slip for all": slip_written(lambda slip: slips.slip_bytes(0, 0, 0, 0)),
+    "bytes of the frame swapped": slip_written(lambda slip: slip[:7] + slip[8:9] + slip[7:8] + slip[9:]),
+    "bytes of the place swapped": slip_written(lambda slip: slip[:9] + slip[9:][::-1]),
+    "a 14th byte touched": slip_written(lambda slip: slip + b"\0"),
+    "12 bytes written": slip_written(lambda slip: slip[:12]),
+    "the buffer before the verdict": StandIn(write_slip=buffer_first),
+    "fields wrapped": StandIn(write_slip=wrapped),
+    "the row count plays a part": StandIn(write_slip=refuses_with_count),
+    "a frame let through": StandIn(read_slip=frame_let_through),
+    "14 bytes taken": StandIn(read_slip=lambda slip: slips.read_slip(slip[:13])),
+    "version not looked at": StandIn(read_slip=lambda slip: slips.read_slip(slip[:3] + b"\1\0" + slip[5:])),
+    "mark not looked at": StandIn(read_slip=lambda slip: slips.read_slip(b"XAV" + slip[3:])),
+    "fields told with 14": StandIn(read_slip=lambda slip: (14, Answer(slip[5])) if slips.read_slip(slip)[0] == 14
+                                   else slips.read_slip(slip)),
+}
+
+
+
+def drawn_with(**functions):
+    """A show in which some functions of the reference's steps are others."""
+
+    def show(*arguments):
+        kept = {name: getattr(drawing, name) for name in functions}
+        for name, function in functions.items():
+            setattr(drawing, name, function)
+        try:
+            return drawing.show(*arguments)
+        finally:
+            for name, function in kept.items():
+                setattr(drawing, name, function)
+
+    return StandIn(show=show)
+
+
+def high_bits_left(self, frame, row, column):
+    number = ((frame - 1) * self.rows + row) * self.columns + column
+    start = self.offset + number * self.sample_size
+    return int.from_bytes(self.data[start:start + self.sample_size], "little")
+
+
+class PixelsWithHighBits(drawing.Pixels):
+    sample = high_bits_left
+
+
+def level_with_width(x, center, width):
+    """W in place of W - 1000 in the divisor."""
+    if 2000 * x <= 2 * center - width:
+        return 0
+    if 2000 * x > 2 * center + width - 2000:
+        return 255
+    return drawing.limited((255 * (2000 * x - 2 * center + width) + width - 1000) // (2 * width), 0, 255)
+
+
+def level_rounded_down(x, center, width):
+    if 2000 * x <= 2 * center - width:
+        return 0
+    if 2000 * x > 2 * center + width - 2000:
+        return 255
+    return drawing.limited(255 * (2000 * x - 2 * center + width) // (2 * (width - 1000)), 0, 255)
+
+
+def first_centre_last_width(root, frame, stored, original=drawing.window):
+    group = drawing.frame_group(root, frame, drawing.tags.FRAME_VOI_LUT_SEQUENCE)
+    if group is None:
+        return original(root, frame, stored)
+    item = drawing.items_of(root.data, group)[0]
+    return (drawing.thousandths(item.texts(drawing.tags.WINDOW_CENTER, "DS")[-1]),
+            drawing.thousandths(item.texts(drawing.tags.WINDOW_WIDTH, "DS")[-1]))
+
+
+def last_applying_item(root, frame):
+    found = None
+    for item in root.items(drawing.tags.MASK_SUBTRACTION_SEQUENCE) or []:
+        numbers = item.unsigned_shorts(drawing.tags.APPLICABLE_FRAME_RANGE)
+        if numbers is None or any(first <= frame <= last for first, last in zip(numbers[0::2], numbers[1::2])):
+            found = item
+    return found
+
+
+def item_shift_first(root, item, frame):
+    """The frame's own shift loses to the item's."""
+    if item.present(drawing.tags.MASK_SUB_PIXEL_SHIFT):
+        return drawing.item_shift(item)
+    return drawing.frame_shift(root, item, frame) or drawing.NO_SHIFT
+
+
+def to_linear_used(data, frame, *buffers):
+    """Sends an 8-bit picture through the TO_LINEAR table where there is one."""
+    outcome = drawing.show(data, frame, *buffers)
+    position = data.find(b"TO_LINEAR")
+    if outcome.answer.code or position < 0:
+        return outcome
+    return outcome._replace(image=bytes(255 - level for level in outcome.image))
+
+
+def frame_wrapped(data, frame, *buffers):
+    """A frame number of 16 bits."""
+    return drawing.show(data, frame % 65536, *buffers)
+
+
+def small_image_first(data, frame, rows_length, image_length):
+    """Tests the image buffer before the frame number."""
+    outcome = drawing.show(data, frame, rows_length, image_length)
+    if outcome.answer.code == 10 and drawing.show(data, 1, rows_length, image_length).answer.code == 11:
+        return outcome._replace(answer=Answer(11))
+    return outcome
+
+
+def frame_1_for_all(data, frame, *buffers):
+    outcome = drawing.show(data, frame, *buffers)
+    return outcome if outcome.answer.code else outcome._replace(image=drawing.show(data, 1, *buffers).image)
+
+
+original_shifted = drawing.shifted
+original_subtracted = drawing.subtracted
+original_tid_frame = drawing.tid_frame
+original_shown = drawing.shown
+SHOW_FAULTS = {
+    "nothing written": StandIn(lambda o, data: o._replace(image=b"")),
+    "frame 1 for every frame": StandIn(show=frame_1_for_all),
+    "a byte too many written": StandIn(lambda o, data: o._replace(image=o.image + b"\0") if o.image else o),
+    "image touched at code 10": StandIn(lambda o, data: o._replace(image=b"\0") if o.answer.code == 10 else o),
+    "image touched at code 9": StandIn(lambda o, data: o._replace(image=b"\0") if o.answer.code == 9 else o),
+    "image touched at code 2": StandIn(lambda o, data: o._replace(image=b"\0") if o.answer.code == 2 else o),
+    "rows not written at code 11": StandIn(lambda o, data: o._replace(rows=()) if o.answer.code == 11 else o),
+    "row count told with code 10": StandIn(answer_changed(rows=lambda a: 5 if a.code == 10 else a.rows)),
+    "masked told as native": StandIn(answer_changed(masked=lambda a: 0)),
+    "16-bit frame number": StandIn(show=frame_wrapped),
+    "image buffer before frame": StandIn(show=small_image_first),
+    "the TO_LINEAR table used": StandIn(show=to_linear_used),
+    "unused high bits left in": drawn_with(Pixels=PixelsWithHighBits),
+    "W in place of W - 1000": drawn_with(level=level_with_width),
+    "not rounded": drawn_with(level=level_rounded_down),
+    "the last window": drawn_with(window=first_centre_last_width),
+    "the last mask item": drawn_with(applying_item=last_applying_item),
+    "-v for v": drawn_with(shifted=lambda mask, pair: original_shifted(mask, (-pair[0], pair[1]))),
+    "v and h swapped": drawn_with(shifted=lambda mask, pair: original_shifted(mask, pair[::-1])),
+    "the item's shift wins": drawn_with(shift=item_shift_first),
+    "no shift": drawn_with(shift=lambda root, item, frame: (0, 0)),
+    "average rounded down": drawn_with(average=lambda samples: sum(samples) // len(samples)),
+    "x not signed": drawn_with(subtracted=lambda sample, mask, stored: max(0, original_subtracted(sample, mask, stored))),
+    "TID the other way": drawn_with(tid_frame=lambda root, item, frame: original_tid_frame(root, item, 2 * frame - (
+        original_tid_frame(root, item, frame) or frame))),
+    "MONOCHROME1 not inverted": drawn_with(shown=lambda y, photometric: y),
+}
+
+FAULTS = {"read": READ_FAULTS, "judge": JUDGE_FAULTS, "slips": SLIP_FAULTS, "show": SHOW_FAULTS}

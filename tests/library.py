@@ -1,0 +1,201 @@
+"""The library's C interface, called through ctypes, with everything around a call watched.
+
+* The input lies in memory that ends at an unreadable page, so a read past its end stops the process; it must be the
+  same after the call.
+* Each buffer handed to a call is filled with a pattern before it, and has guard zones in front of and behind it; a
+  write outside the buffer, or inside it where nothing may be written, is seen.
+"""
+
+import ctypes
+import mmap
+import os
+import struct
+import tempfile
+
+from reference.answers import Answer
+
+GUARD = 64  # bytes in front of and behind a buffer
+
+
+class AnswerStruct(ctypes.Structure):
+    """xa_answer of include/luuxidgaan.h."""
+
+    _fields_ = [(name, ctypes.c_uint32) for name in ("code", "offset", "rows", "rule", "frame", "masked")]
+
+
+class SlipStruct(ctypes.Structure):
+    """xa_slip of include/luuxidgaan.h."""
+
+    _fields_ = [("code", ctypes.c_uint32), ("verdict", AnswerStruct)]
+
+
+SIGNATURES = {
+    "xa_read": (AnswerStruct, [ctypes.c_void_p, ctypes.c_size_t, ctypes.c_void_p, ctypes.c_size_t]),
+    "xa_judge": (AnswerStruct, [ctypes.c_void_p, ctypes.c_size_t, ctypes.c_void_p, ctypes.c_size_t]),
+    "xa_show": (AnswerStruct, [ctypes.c_void_p, ctypes.c_size_t, ctypes.c_uint64, ctypes.c_void_p, ctypes.c_size_t,
+                               ctypes.c_void_p, ctypes.c_size_t]),
+    "xa_write_slip": (ctypes.c_uint32, [AnswerStruct, ctypes.c_void_p, ctypes.c_size_t]),
+    "xa_read_slip": (SlipStruct, [ctypes.c_void_p, ctypes.c_size_t]),
+}
+
+
+def answer_of(struct_value):
+    return Answer(*(getattr(struct_value, name) for name in Answer._fields))
+
+
+class GuardedBuffer:
+    """A buffer of `length` bytes full of a pattern, between two guard zones of the same pattern.
+
+    The pattern differs from call to call, so that bytes written by chance equal to it do not go unseen for long.
+    """
+
+    _count = 0
+
+    def __init__(self, length):
+        GuardedBuffer._count += 1
+        shift = GuardedBuffer._count % 241
+        unit = bytes((position * 7 + shift) % 251 + 3 for position in range(251))
+        total = length + 2 * GUARD
+        self.before = (unit * (total // 251 + 1))[:total]
+        self.length = length
+        self.memory = (ctypes.c_ubyte * total).from_buffer_copy(self.before)
+        self.address = ctypes.addressof(self.memory) + GUARD
+
+    def fault(self, written):
+        """None if the front of the buffer holds `written` and all else is as before; else what is wrong, in words."""
+        expected = self.before[:GUARD] + written + self.before[GUARD + len(written):]
+        after = bytes(self.memory)
+        if after == expected:
+            return None
+        position = next(at for at in range(len(after)) if after[at] != expected[at]) - GUARD
+        if position < 0:
+            return f"written in front of the buffer, at byte {position}"
+        if position >= self.length:
+            return f"written behind the buffer of {self.length} bytes, at byte {position}"
+        if position >= len(written):
+            return f"byte {position} is touched, though only {len(written)} bytes are to be written"
+        return (f"byte {position} is {after[position + GUARD]:02X}H, expected {written[position]:02X}H"
+                f" (of {len(written)} bytes written)")
+
+
+class InputMemory:
+    """Memory for the input, up against an unreadable page.
+
+    It is a file in the given folder, so that after a crash the last input can be taken from it: its size stands in the
+    first 8 bytes, the input itself ends one page before the file's end.
+    """
+
+    def __init__(self, folder, capacity):
+        page = mmap.PAGESIZE
+        size = (capacity + GUARD + 8 + page - 1) // page * page + page
+        self.path = os.path.join(folder, f"last-input-{os.getpid()}")
+        with open(self.path, "w+b") as file:
+            file.truncate(size)
+            self.memory = mmap.mmap(file.fileno(), size)
+        self.capacity = capacity
+        self.base = ctypes.addressof(ctypes.c_char.from_buffer(self.memory))
+        self.end = self.base + size - page
+        libc = ctypes.CDLL(None, use_errno=True)
+        libc.mprotect.argtypes = [ctypes.c_void_p, ctypes.c_size_t, ctypes.c_int]
+        if libc.mprotect(self.end, page, 0) != 0:
+            raise OSError(ctypes.get_errno(), "mprotect")
+
+    def place(self, data):
+        """Puts the input down and answers its address."""
+        self.memory[0:8] = struct.pack("<Q", len(data))
+        self.content = b"\xA5" * GUARD + bytes(data)
+        ctypes.memmove(self.end - len(self.content), self.content, len(self.content))
+        return self.end - len(data)
+
+    def fault(self):
+        if ctypes.string_at(self.end - len(self.content), len(self.content)) == self.content:
+            return None
+        return "the input was changed"
+
+
+class Library:
+    """The calls that a library has. `functions` is a ctypes library, or a stand-in with the same functions."""
+
+    def __init__(self, functions, folder=None):
+        self.functions = {}
+        for name, (result, parameters) in SIGNATURES.items():
+            function = getattr(functions, name, None)
+            if function is None:
+                continue
+            if isinstance(functions, ctypes.CDLL):
+                function.restype = result
+                function.argtypes = parameters
+            self.functions[name] = function
+        self.folder = folder or tempfile.mkdtemp(prefix="luuxidgaan-tests-")
+        self.input = None
+
+    @classmethod
+    def load(cls, path, folder=None):
+        return cls(ctypes.CDLL(os.path.abspath(path)), folder)
+
+    def has(self, name):
+        return name in self.functions
+
+    def _place(self, data):
+        if self.input is None or self.input.capacity < len(data):
+            self.input = InputMemory(self.folder, max(1 << 16, 2 * len(data)))
+        return self.input.place(data)
+
+    def call_with_rows(self, name, data, row_buffer_length):
+        """xa_read or xa_judge: the answer, and the buffers to look at."""
+        address = self._place(data)
+        rows = GuardedBuffer(4 * row_buffer_length)
+        result = self.functions[name](address, len(data), rows.address, row_buffer_length)
+        return Observation(answer_of(result), rows, GuardedBuffer(0), self.input)
+
+    def show(self, data, frame, row_buffer_length, image_buffer_length):
+        address = self._place(data)
+        rows = GuardedBuffer(4 * row_buffer_length)
+        image = GuardedBuffer(image_buffer_length)
+        result = self.functions["xa_show"](address, len(data), frame, rows.address, row_buffer_length, image.address,
+                                           image_buffer_length)
+        return Observation(answer_of(result), rows, image, self.input)
+
+    def call_on_mapping(self, name, memory, row_buffer_length):
+        """A call on a large mapping (for the size limit); whether it changed is not looked at. Show gets frame 1."""
+        address = ctypes.addressof(ctypes.c_char.from_buffer(memory))
+        rows = GuardedBuffer(4 * row_buffer_length)
+        image = GuardedBuffer(16)
+        between = (1,) if name == "xa_show" else ()
+        behind = (image.address, image.length) if name == "xa_show" else ()
+        result = self.functions[name](address, len(memory), *between, rows.address, row_buffer_length, *behind)
+        return Observation(answer_of(result), rows, image, None)
+
+    def write_slip(self, verdict, slip_buffer_length):
+        """The code answered, and the slip buffer."""
+        slip = GuardedBuffer(slip_buffer_length)
+        code = self.functions["xa_write_slip"](AnswerStruct(*verdict), slip.address, slip_buffer_length)
+        return int(code), slip
+
+    def read_slip(self, slip):
+        """The code answered, the verdict, and what is wrong with the input afterwards (None: nothing)."""
+        address = self._place(slip)
+        result = self.functions["xa_read_slip"](address, len(slip))
+        return int(result.code), answer_of(result.verdict), self.input.fault()
+
+
+class Observation:
+    """What a call answered, with the buffers that it was given."""
+
+    def __init__(self, answer, rows, image, input_memory):
+        self.answer = answer
+        self.rows = rows
+        self.image = image
+        self.input = input_memory
+
+    def difference(self, expected):
+        """None if the call did what the outcome `expected` says; else the first thing that differs, in words."""
+        if self.answer != expected.answer:
+            return f"answer {self.answer}, expected {expected.answer}"
+        fault = self.rows.fault(struct.pack(f"<{len(expected.rows)}I", *expected.rows))
+        if fault:
+            return "row buffer: " + fault
+        fault = self.image.fault(expected.image)
+        if fault:
+            return "image buffer: " + fault
+        return self.input.fault() if self.input else None

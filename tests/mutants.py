@@ -1,0 +1,192 @@
+"""Stand-ins for the library made from the reference with one line of it changed.
+
+Each is a copy of the reference package in which one piece of text stands for another. The comparison named has to find
+each of them out: this shows that a library with such a mistake would not pass.
+"""
+
+import importlib
+import os
+import shutil
+import sys
+
+from objects import LONG_HEADER_VRS, SHORT_HEADER_VRS
+from reference import reading
+from stand_in import StandIn
+
+HERE = os.path.dirname(os.path.abspath(__file__))
+
+# Comparison, file, text, the text in its place.
+MUTATIONS = [
+    # Reading.
+    ("read", "reading.py", "if end - offset < 8:", "if end - offset < 7:"),
+    ("read", "reading.py", "if end - offset < 8:", "if end - offset <= 8:"),
+    ("read", "reading.py", "if end - offset < 12:", "if end - offset < 10:"),
+    ("read", "reading.py", "if end - offset < 12:", "if end - offset <= 12:"),
+    ("read", "reading.py", "tag <= previous_tag", "tag < previous_tag"),
+    ("read", "reading.py", "MAXIMUM_SEQUENCE_DEPTH = 7", "MAXIMUM_SEQUENCE_DEPTH = 8"),
+    ("read", "reading.py", "MAXIMUM_SEQUENCE_DEPTH = 7", "MAXIMUM_SEQUENCE_DEPTH = 6"),
+    ("read", "reading.py", "MAXIMUM_SIZE = 1_073_741_824", "MAXIMUM_SIZE = 1_073_741_823"),
+    ("read", "reading.py", "MAXIMUM_SIZE = 1_073_741_824", "MAXIMUM_SIZE = 1_073_741_825"),
+    ("read", "reading.py", "raise Refusal(CUT_SHORT, end)", "raise Refusal(CUT_SHORT, len(data))"),
+    ("read", "reading.py", "value_end = end if undefined else", "value_end = len(data) if undefined else"),
+    ("read", "reading.py", "delimited and number(data, offset + 4, 4) == 0", "delimited"),
+    ("read", "reading.py", "tag == ITEM_DELIMITER and delimited and", "tag == ITEM_DELIMITER and"),
+    ("read", "reading.py", "tag == ITEM_DELIMITER and delimited", "tag in (ITEM_DELIMITER, SEQUENCE_DELIMITER) and delimited"),
+    ("read", "reading.py", "tag == SEQUENCE_DELIMITER and delimited and length == 0", "tag == SEQUENCE_DELIMITER and delimited"),
+    ("read", "reading.py", "undefined = False", "undefined = length == 0xFFFF"),
+    ("read", "reading.py", "if undefined and vr != \"SQ\":", "if undefined and vr not in (\"SQ\", \"UN\"):"),
+    ("read", "reading.py", "if length % 2 == 1:\n        raise Refusal(ODD_LENGTH, offset)\n    if value_offset + length > end:\n"
+     "        raise Refusal(CUT_SHORT, offset)", "if value_offset + length > end:\n        raise Refusal(CUT_SHORT, offset)\n"
+     "    if length % 2 == 1:\n        raise Refusal(ODD_LENGTH, offset)"),
+    ("read", "reading.py", "if number(data, offset + 6, 2) != 0:", "if data[offset + 6] != 0:"),
+    ("read", "reading.py", "if number(data, offset + 6, 2) != 0:", "if data[offset + 7] != 0:"),
+    ("read", "reading.py", "        if end - offset < 12:\n            raise Refusal(CUT_SHORT, offset)\n        if number(data, offset + 6, 2)"
+     " != 0:\n            raise Refusal(BAD_STRUCTURE, offset)", "        if number(data, offset + 6, 2) != 0:\n            raise Refusal("
+     "BAD_STRUCTURE, offset)\n        if end - offset < 12:\n            raise Refusal(CUT_SHORT, offset)"),
+    ("read", "reading.py", "    # Check 7.\n    check_defined_length(length, undefined, offset, value_offset, end)\n    # Check 8.\n"
+     "    if vr == \"SQ\" and depth > MAXIMUM_SEQUENCE_DEPTH:\n        raise Refusal(TOO_DEEP, offset)",
+     "    if vr == \"SQ\" and depth > MAXIMUM_SEQUENCE_DEPTH:\n        raise Refusal(TOO_DEEP, offset)\n"
+     "    check_defined_length(length, undefined, offset, value_offset, end)"),
+    ("read", "reading.py", "reached - value_offset, items)", "reached - value_offset + 8 * undefined, items)"),
+    ("read", "reading.py", "element.value_length, len(below)))", "element.value_length, len(element.items or [])))"),
+    ("read", "reading.py", "item.value_length, len(below)))", "item.value_length, 0))"),
+    ("read", "reading.py", "rows.append((ITEM, 0, depth,", "rows.append((ITEM, 0, depth - 1,"),
+    ("read", "reading.py", "previous_tag = tag", "previous_tag = tag if element.items is None else previous_tag"),
+    ("read", "reading.py", "row_buffer_length < 6 * len(rows)", "row_buffer_length <= 6 * len(rows)"),
+    ("read", "reading.py", "row_buffer_length < 6 * len(rows)", "row_buffer_length < 6 * len(rows) - 1"),
+    *[("read", "reading.py", f"{vr} ", "") for vr in LONG_HEADER_VRS + SHORT_HEADER_VRS if vr not in ("UV", "US", "SQ")],
+    ("read", "reading.py", " UV\"", "\""),
+    ("read", "reading.py", "UL US\"", "UL\""),
+    ("read", "reading.py", "UL US\"", "UL US XX\""),
+    # Values.
+    ("judge", "values.py", "and element.value_length != 0", ""),
+    ("judge", "values.py", "element.vr == vr and", ""),
+    ("judge", "values.py", "and len(values) == 1", "and len(values) >= 1"),
+    ("judge", "values.py", "part.rstrip(b\"\\0\") if", "part.rstrip(b\"\\0 \") if"),
+    ("judge", "values.py", "part.rstrip(b\"\\0\") if", "part.strip(b\"\\0\") if"),
+    ("judge", "values.py", "part.strip(b\" \")", "part.rstrip(b\" \")"),
+    ("judge", "values.py", "part.strip(b\" \")", "part.strip(b\" \\0\")"),
+    ("judge", "values.py", "part.strip(b\" \")", "part.strip()"),
+    ("judge", "values.py", "[+-]?[0-9]{1,11}", "[+-]?[0-9]{1,12}"),
+    ("judge", "values.py", "[+-]?[0-9]{1,11}", "[+-]?[0-9]{1,10}"),
+    ("judge", "values.py", "[+-]?[0-9]{1,11}", "[0-9]{1,11}"),
+    ("judge", "values.py", "([+-]?)([0-9]{0,6})", "([+-]?)([0-9]{0,7})"),
+    ("judge", "values.py", "([+-]?)([0-9]{0,6})", "([+-]?)([0-9]{1,6})"),
+    ("judge", "values.py", "([+-]?)([0-9]{0,6})", "(-?)([0-9]{0,6})"),
+    ("judge", "values.py", "(?:\\.([0-9]{0,3}))?", "(?:\\.([0-9]{0,4}))?"),
+    ("judge", "values.py", "(?:\\.([0-9]{0,3}))?", "(?:\\.([0-9]{1,3}))?"),
+    ("judge", "values.py", "(?:\\.([0-9]{0,3}))?", "(?:\\.([0-9]{0,2}))?"),
+    ("judge", "values.py", "if not whole + fraction:\n        return None", "pass"),
+    ("judge", "values.py", "len(value) != 8", "len(value) < 8"),
+    ("judge", "values.py", "len(value) != 2", "len(value) < 2"),
+    # Rules.
+    ("judge", "rules.py", "(b\"RF\" if is_xrf(root) else b\"XA\")", "b\"XA\""),
+    ("judge", "rules.py", "len(values) >= 4", "len(values) == 4"),
+    ("judge", "rules.py", "values[3] == b\"NONE\"", "values[-1] == b\"NONE\""),
+    ("judge", "rules.py", "return value is not None and value != b\"MONOPLANE\"", "return value != b\"MONOPLANE\""),
+    ("judge", "rules.py", "rows >= 1 and columns >= 1", "rows >= 1"),
+    ("judge", "rules.py", "9 <= stored <= 16", "8 <= stored <= 16"),
+    ("judge", "rules.py", "9 <= stored <= 16", "9 <= stored <= 17"),
+    ("judge", "rules.py", "1 <= frames <= 65_535", "0 <= frames <= 65_535"),
+    ("judge", "rules.py", "1 <= frames <= 65_535", "1 <= frames <= 65_536"),
+    ("judge", "rules.py", "1 <= frames <= 65_535", "1 <= frames < 65_535"),
+    ("judge", "rules.py", "in (b\"SC\", b\"GR\")", "in (b\"SC\",)"),
+    ("judge", "rules.py", "root.has(tags.EXPOSURE_TIME_IN_MS, \"FD\")\n", "True\n"),
+    ("judge", "rules.py", "len(items) == number_of_frames(root)", "len(items) >= number_of_frames(root)"),
+    ("judge", "rules.py", "len(items) == number_of_frames(root)", "len(items) <= number_of_frames(root)"),
+    ("judge", "rules.py", "if element.vr == \"SQ\"}", "}"),
+    ("judge", "rules.py", "not shared_item(root).present(tags.FRAME_CONTENT_SEQUENCE)",
+     "shared_item(root).items(tags.FRAME_CONTENT_SEQUENCE) is None"),
+    ("judge", "rules.py", "return own if own is not None else", "return own if own is not None and own.vr == \"SQ\" else"),
+    ("judge", "rules.py", "return own if own is not None else", "return own if own is not None and own.value_length else"),
+    ("judge", "rules.py", "or len(centers) != len(widths)", ""),
+    ("judge", "rules.py", "in centers + widths)", "in centers[:1] + widths)"),
+    ("judge", "rules.py", "in centers + widths)", "in centers + widths[:1])"),
+    ("judge", "rules.py", ">= 1000 for text in widths)", "> 1000 for text in widths)"),
+    ("judge", "rules.py", ">= 1000 for text in widths)", ">= 999 for text in widths)"),
+    ("judge", "rules.py", ">= 1000 for text in widths)", ">= 1000 for text in widths[:1])"),
+    ("judge", "rules.py", "1 <= len(items) <= 16", "0 <= len(items) <= 16"),
+    ("judge", "rules.py", "1 <= len(items) <= 16", "1 <= len(items) <= 15"),
+    ("judge", "rules.py", "1 <= len(items) <= 16", "1 <= len(items) <= 17"),
+    ("judge", "rules.py", "1 <= first <= last <= number_of_frames(root)", "1 <= first <= last"),
+    ("judge", "rules.py", "1 <= first <= last <= number_of_frames(root)", "first <= last <= number_of_frames(root)"),
+    ("judge", "rules.py", "1 <= first <= last <= number_of_frames(root)", "1 <= first < last <= number_of_frames(root)"),
+    ("judge", "rules.py", "len(numbers) > 64", "len(numbers) > 63"),
+    ("judge", "rules.py", "len(numbers) > 64", "len(numbers) > 65"),
+    ("judge", "rules.py", "1 <= number <= number_of_frames(root)", "number <= number_of_frames(root)"),
+    ("judge", "rules.py", "1 <= number <= number_of_frames(root)", "1 <= number"),
+    ("judge", "rules.py", "if item.text(tags.MASK_OPERATION, \"CS\") != b\"AVG_SUB\":", "if item.text(tags.MASK_OPERATION, \"CS\") == b\"TID\":"),
+    ("judge", "rules.py", "if item.text(tags.MASK_OPERATION, \"CS\") != b\"TID\":", "if item.text(tags.MASK_OPERATION, \"CS\") == b\"NONE\":"),
+    ("judge", "rules.py", "item.present(tags.TID_OFFSET)", "item.has(tags.TID_OFFSET, \"SS\")"),
+    ("judge", "rules.py", "-64 <= number <= 64", "-64 <= number <= 65"),
+    ("judge", "rules.py", "-64 <= number <= 64", "-64 < number <= 64"),
+    ("judge", "rules.py", "and len(set(ids)) == len(ids)", ""),
+    ("judge", "rules.py", "None not in ids and", ""),
+    ("judge", "rules.py", "and group.vr == \"SQ\" and group.value_length != 0", ""),
+    ("judge", "rules.py", "(element.vr == \"OB\" and allocated == 8)", "element.vr == \"OB\""),
+    ("judge", "rules.py", "(element.vr == \"OB\" and allocated == 8)", "False"),
+    ("judge", "rules.py", "== length + length % 2)", "== length)"),
+    ("judge", "rules.py", "== length + length % 2)", ">= length + length % 2)"),
+    ("judge", "rules.py", "== length + length % 2)", "== (length + length % 2) % 2 ** 32)"),
+    # Slips.
+    ("slips", "slips.py", "0 <= offset <= MAXIMUM_SIZE", "0 <= offset < MAXIMUM_SIZE"),
+    ("slips", "slips.py", "0 <= offset <= MAXIMUM_SIZE", "True"),
+    ("slips", "slips.py", "1 <= rule <= 38 and", "1 <= rule <= 39 and"),
+    ("slips", "slips.py", "1 <= rule <= 38 and", "0 <= rule <= 38 and"),
+    ("slips", "slips.py", "1 <= frame <= 65_535", "0 <= frame <= 65_535"),
+    ("slips", "slips.py", "if code in (0, 7, 8):", "if code in (0, 7, 8, 10):"),
+    ("slips", "slips.py", "if slip_buffer_length < LENGTH:", "if slip_buffer_length != LENGTH:"),
+    # Drawing.
+    ("show", "drawing.py", "first <= frame <= last for", "first < frame <= last for"),
+    ("show", "drawing.py", "first <= frame <= last for", "first <= frame < last for"),
+    ("show", "drawing.py", "numbers[0::2], numbers[1::2]", "numbers[0:1], numbers[1:2]"),
+    ("show", "drawing.py", "    offset = 1\n", "    offset = 0\n"),
+    ("show", "drawing.py", "1 <= frame - offset <= frames", "1 <= frame - offset < frames"),
+    ("show", "drawing.py", "== wanted:", "!= wanted:"),
+    ("show", "drawing.py", "limited(column - horizontal, 0, columns - 1)", "(column - horizontal) % columns"),
+    ("show", "drawing.py", "limited(row - vertical, 0, rows - 1)", "(row - vertical) % rows"),
+    ("show", "drawing.py", "column - horizontal", "column + horizontal"),
+    ("show", "drawing.py", "2000 * x <= 2 * center - width", "2000 * x < 2 * center - width"),
+    ("show", "drawing.py", "2000 * x > 2 * center + width - 2000", "2000 * x >= 2 * center + width"),
+    ("show", "drawing.py", "+ width - 1000, divisor", ", divisor"),
+    ("show", "drawing.py", "% 2 ** self.stored", ""),
+    ("show", "drawing.py", "centers[0]", "centers[-1]"),
+    ("show", "drawing.py", "widths[0]", "widths[-1]"),
+    ("show", "drawing.py", "Fraction(2 ** stored, 2)", "Fraction(2 ** 8, 2)"),
+    ("show", "drawing.py", "image_buffer_length < root", "image_buffer_length <= root"),
+    ("show", "drawing.py", "((frame - 1) * self.rows + row)", "(row)"),
+    ("show", "drawing.py", "own = frame_shift(root, item, frame)", "own = None"),
+]
+
+
+def mutant(folder, number, file, text, other):
+    """A stand-in that plays the changed copy of the reference."""
+    name = f"mutant_{number}"
+    target = os.path.join(folder, name)
+    shutil.copytree(os.path.join(HERE, "reference"), target, ignore=shutil.ignore_patterns("__pycache__"))
+    path = os.path.join(target, file)
+    with open(path) as source:
+        content = source.read()
+    if text not in content:
+        raise ValueError(f"{file} has no {text!r}")
+    with open(path, "w") as source:
+        source.write(content.replace(text, other))
+    if folder not in sys.path:
+        sys.path.insert(0, folder)
+    importlib.invalidate_caches()
+    load = lambda part: importlib.import_module(f"{name}.{part}")
+    return StandIn(read=load("reading").read, judge=forgiving(load("rules").judge), show=forgiving(load("drawing").show),
+                   write_slip=load("slips").write_slip, read_slip=load("slips").read_slip)
+
+
+def forgiving(call):
+    """A changed line may let pass what a later one relies on. Where the call then falls over, it answers "done"."""
+
+    def call_or_done(data, *arguments):
+        try:
+            return call(data, *arguments)
+        except Exception:  # whatever a changed line may lead to
+            row_buffer_length = arguments[0] if len(arguments) == 1 else arguments[1]
+            return reading.read(data, row_buffer_length)
+
+    return call_or_done

@@ -1,0 +1,115 @@
+"""Objects made by others: the test files of Debian's python3-pydicom, and files made with dcmtk's tools."""
+
+import os
+import shutil
+import struct
+import subprocess
+
+from reference.reading import LONG_VRS
+
+PYDICOM_PACKAGE = "python3-pydicom"
+EXPLICIT_LITTLE_ENDIAN = "1.2.840.10008.1.2.1"
+ENCAPSULATED_PREFIXES = ("1.2.840.10008.1.2.4.", "1.2.840.10008.1.2.5")
+
+
+def split_file(content):
+    """The transfer syntax and the data set of a DICOM file, or None if it has no file head (PS3.10).
+
+    The head is 128 bytes, "DICM", then the elements of group 0002 in Explicit VR Little Endian.
+    """
+    if content[128:132] != b"DICM":
+        return None
+    offset = 132
+    transfer_syntax = None
+    while len(content) - offset >= 8 and content[offset:offset + 2] == b"\2\0":
+        vr = content[offset + 4:offset + 6].decode("latin-1")
+        if vr in LONG_VRS:
+            length = struct.unpack_from("<I", content, offset + 8)[0]
+            value_offset = offset + 12
+        else:
+            length = struct.unpack_from("<H", content, offset + 6)[0]
+            value_offset = offset + 8
+        if content[offset + 2:offset + 4] == b"\x10\0":
+            transfer_syntax = content[value_offset:value_offset + length].rstrip(b"\0 ").decode("latin-1")
+        offset = value_offset + length
+    if transfer_syntax is None:
+        return None
+    return transfer_syntax, content[offset:]
+
+
+def package_files(package):
+    """The files of an installed Debian package, [] if there is none."""
+    if not shutil.which("dpkg"):
+        return []
+    listed = subprocess.run(["dpkg", "-L", package], capture_output=True, text=True)
+    return sorted(path for path in listed.stdout.splitlines() if os.path.isfile(path)) if listed.returncode == 0 else []
+
+
+def pydicom_data_sets():
+    """(name, transfer syntax, data set) of each test file whose data set is in Explicit VR Little Endian.
+
+    Those with encapsulated pixels are among them: they are to be refused. So are files without a head, as they stand.
+    """
+    found = []
+    for path in package_files(PYDICOM_PACKAGE):
+        if path.endswith((".py", ".pyc")):
+            continue
+        with open(path, "rb") as file:
+            content = file.read()
+        parts = split_file(content)
+        if parts is None and path.endswith(".dcm"):
+            found.append((os.path.basename(path), "no head", content))
+        if parts and (parts[0] == EXPLICIT_LITTLE_ENDIAN or parts[0].startswith(ENCAPSULATED_PREFIXES)):
+            found.append((os.path.basename(path), parts[0], parts[1]))
+    return found
+
+
+DUMP = """\
+(0008,0016) UI =EnhancedXAImageStorage
+(0008,0018) UI 1.2.3.4
+(0008,0060) CS XA
+(0008,1140) SQ
+(fffe,e000) -
+(0008,1150) UI 1.2.840.10008.5.1.4.1.1.7
+(0008,1155) UI 1.2.3.5
+(fffe,e00d) -
+(fffe,e000) -
+(fffe,e00d) -
+(fffe,e0dd) -
+(0010,0010) PN Doe^Jane
+(0028,0010) US 2
+(0028,0011) US 3
+(0028,6100) SQ
+(fffe,e0dd) -
+(5200,9229) SQ
+(fffe,e000) -
+(0028,9132) SQ
+(fffe,e000) -
+(0028,1050) DS 40\\20
+(0028,1051) DS 10\\5.5
+(fffe,e00d) -
+(fffe,e0dd) -
+(fffe,e00d) -
+(fffe,e0dd) -
+(7fe0,0010) OW 1\\2\\3\\4\\5\\6
+"""
+
+
+def dcmtk_data_sets(folder):
+    """(name, data set) of one object written by dcmtk with defined and with undefined lengths; [] without dcmtk."""
+    if not (shutil.which("dump2dcm") and shutil.which("dcmconv")):
+        return []
+    dump = os.path.join(folder, "object.dump")
+    source = os.path.join(folder, "object.dcm")
+    with open(dump, "w") as file:
+        file.write(DUMP)
+    subprocess.run(["dump2dcm", "+te", dump, source], check=True, capture_output=True)
+    found = []
+    for name, switch in (("defined lengths", "+e"), ("undefined lengths", "-e")):
+        target = os.path.join(folder, "converted.dcm")
+        subprocess.run(["dcmconv", "+te", switch, source, target], check=True, capture_output=True)
+        with open(target, "rb") as file:
+            transfer_syntax, data_set = split_file(file.read())
+        if transfer_syntax == EXPLICIT_LITTLE_ENDIAN:
+            found.append((f"dcmtk, {name}", data_set))
+    return found

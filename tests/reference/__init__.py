@@ -1,0 +1,11 @@
+"""A second, plain implementation of document 01, to compare the library with.
+
+Layers, each checkable against its paragraph of document 01:
+
+    answers.py   what a call hands back, and the buffers afterwards
+    reading.py   "Reading": data set -> elements, items, rows; codes 1 to 8
+    values.py    the value forms that rules and drawing steps read
+    rules.py     "The rule list": rules 1 to 38, first broken rule, lowest frame
+    drawing.py   "Drawing frame f": steps 1 to 7, or something is lacking
+    slips.py     the 13-byte verdict slips
+"""

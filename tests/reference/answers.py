@@ -1,0 +1,43 @@
+"""What a call hands back: "What is handed back" of document 01."""
+
+from typing import NamedTuple
+
+
+class Answer(NamedTuple):
+    """The fields of an answer. Those that its code does not name are 0."""
+
+    code: int
+    offset: int = 0
+    rows: int = 0
+    rule: int = 0
+    frame: int = 0
+    masked: int = 0
+
+
+class Outcome(NamedTuple):
+    """An answer together with what the call writes.
+
+    `rows` are the numbers written to the front of the row buffer, `image` the bytes written to the front of the image
+    buffer. What lies behind them keeps what it had.
+    """
+
+    answer: Answer
+    rows: tuple = ()
+    image: bytes = b""
+
+
+DONE = 0
+CUT_SHORT = 1  # a header or value reaches past the innermost known end
+TAG_ORDER = 2
+UNKNOWN_VR = 3
+ODD_LENGTH = 4
+BAD_STRUCTURE = 5
+TOO_DEEP = 6
+DATA_SET_TOO_LARGE = 7
+ROW_BUFFER_TOO_SMALL = 8
+RULE_BROKEN = 9
+NO_SUCH_FRAME = 10
+BUFFER_TOO_SMALL = 11  # the image buffer, or the slip buffer
+NOT_A_SLIP = 12
+SLIP_VERSION = 13
+IMPOSSIBLE_VERDICT = 14

@@ -1,0 +1,275 @@
+"""Drawing frame f: document 01, steps 1 to 7, computed with whole numbers and fractions.
+
+The steps are defined for every data set that reads well, accepted or not, so no rule is taken for granted here: what a
+step needs and does not find raises Lacking. A step that is not taken needs nothing.
+"""
+
+from fractions import Fraction
+from math import floor
+
+from . import attributes as tags
+from .answers import BUFFER_TOO_SMALL, DONE, NO_SUCH_FRAME, Answer, Outcome
+from .rules import judge_with_root
+from .values import integer, items_of, thousandths
+
+NO_SHIFT = (0, 0)
+
+
+class Lacking(Exception):
+    """A step does not find what it needs; the text says what."""
+
+
+def needed(value, what):
+    if value is None:
+        raise Lacking(what)
+    return value
+
+
+# ---------------------------------------------------------------------------------------------------------------------
+# Frames of samples
+
+
+class Pixels:
+    """The pixel bytes, and how they are parted into frames of samples (document 01: cells).
+
+    Samples follow each other row by row, frames without padding.
+    """
+
+    def __init__(self, root):
+        self.rows = needed(root.unsigned_short(tags.ROWS), "Rows")
+        self.columns = needed(root.unsigned_short(tags.COLUMNS), "Columns")
+        allocated = needed(root.unsigned_short(tags.BITS_ALLOCATED), "Bits Allocated")
+        if allocated == 0 or allocated % 8 != 0:
+            raise Lacking("a sample of whole bytes")
+        self.sample_size = allocated // 8
+        self.stored = needed(root.unsigned_short(tags.BITS_STORED), "Bits Stored")
+        element = needed(root.find(tags.PIXEL_DATA), "Pixel Data")
+        if element.vr not in ("OW", "OB"):
+            raise Lacking("Pixel Data of a VR that is read")
+        self.data = root.data
+        self.offset = element.value_offset
+        self.length = element.value_length
+
+    def has_frame(self, frame):
+        """Whether frame f lies whole inside the pixel bytes."""
+        return frame >= 1 and frame * self.rows * self.columns * self.sample_size <= self.length
+
+    def frame(self, frame):
+        """The samples of a frame: a list of rows."""
+        if not self.has_frame(frame):
+            raise Lacking(f"frame {frame}")
+        return [[self.sample(frame, row, column) for column in range(self.columns)] for row in range(self.rows)]
+
+    def sample(self, frame, row, column):
+        """Step 1. A cell is its little-endian number modulo 2^stored."""
+        number = ((frame - 1) * self.rows + row) * self.columns + column
+        start = self.offset + number * self.sample_size
+        return int.from_bytes(self.data[start:start + self.sample_size], "little") % 2 ** self.stored
+
+
+# ---------------------------------------------------------------------------------------------------------------------
+# Functional groups
+
+
+def frame_item(root, frame):
+    """Item f of the per-frame groups."""
+    items = needed(root.items(tags.PER_FRAME_FUNCTIONAL_GROUPS_SEQUENCE), "per-frame groups")
+    if not 1 <= frame <= len(items):
+        raise Lacking(f"item {frame}")
+    return items[frame - 1]
+
+
+def frame_group(root, frame, tag):
+    """A frame's group: that in item f, of any VR, else the shared one. The shared item is opened only then."""
+    own = frame_item(root, frame).find(tag)
+    if own is not None:
+        return own
+    items = needed(root.items(tags.SHARED_FUNCTIONAL_GROUPS_SEQUENCE), "shared groups")
+    if len(items) != 1:
+        raise Lacking("the shared item")
+    return items[0].find(tag)
+
+
+# ---------------------------------------------------------------------------------------------------------------------
+# The mask
+
+
+def applying_item(root, frame):
+    """Step 2. The first mask item whose range holds f (no range: all) applies. None: none of them."""
+    if not root.present(tags.MASK_SUBTRACTION_SEQUENCE):
+        return None
+    for item in needed(root.items(tags.MASK_SUBTRACTION_SEQUENCE), "Mask Subtraction Sequence of VR SQ"):
+        if not item.present(tags.APPLICABLE_FRAME_RANGE):
+            return item
+        numbers = needed(item.unsigned_shorts(tags.APPLICABLE_FRAME_RANGE), "a frame range")
+        if len(numbers) % 2 != 0:
+            raise Lacking("a frame range of pairs")
+        if any(first <= frame <= last for first, last in zip(numbers[0::2], numbers[1::2])):
+            return item
+    return None
+
+
+def mask_operation(item):
+    operation = item.text(tags.MASK_OPERATION, "CS")
+    if operation not in (b"NONE", b"AVG_SUB", b"TID"):
+        raise Lacking("a mask operation")
+    return operation
+
+
+def average(samples):
+    """Step 3, AVG_SUB. The mask is floor((2S + n) / 2n), S the sum of the n mask frames' cells."""
+    return (2 * sum(samples) + len(samples)) // (2 * len(samples))
+
+
+def average_mask(item, pixels):
+    numbers = needed(item.unsigned_shorts(tags.MASK_FRAME_NUMBERS), "mask frame numbers")
+    frames = [pixels.frame(number) for number in numbers]
+    return [[average([frame[row][column] for frame in frames]) for column in range(pixels.columns)]
+            for row in range(pixels.rows)]
+
+
+def tid_frame(root, item, frame):
+    """Step 3, TID: frame f - offset (absent: 1). None if it is outside 1..N."""
+    offset = 1
+    if item.present(tags.TID_OFFSET):
+        offset = needed(item.signed_short(tags.TID_OFFSET), "a TID offset")
+    frames = needed(integer(root.text(tags.NUMBER_OF_FRAMES, "IS")), "Number of Frames")
+    return frame - offset if 1 <= frame - offset <= frames else None
+
+
+def shift(root, item, frame):
+    """Step 4. The shift is no shift, the item's two numbers, or the frame's own two where its group names the item's ID
+    (an absent group names none); the frame's own win, and where neither are present there is no shift."""
+    own = frame_shift(root, item, frame)
+    if own is not None:
+        return own
+    return item_shift(item)
+
+
+def item_shift(item):
+    if not item.present(tags.MASK_SUB_PIXEL_SHIFT):
+        return NO_SHIFT
+    return needed(item.whole_pair(tags.MASK_SUB_PIXEL_SHIFT), "an item's shift")
+
+
+def frame_shift(root, item, frame):
+    """The two numbers of the frame's own group, if that names the item's ID; else None."""
+    group = frame_group(root, frame, tags.FRAME_PIXEL_SHIFT_SEQUENCE)
+    if group is None:
+        return None
+    members = needed(items_of(root.data, group), "Frame Pixel Shift of VR SQ")
+    if not members:
+        raise Lacking("an item of Frame Pixel Shift")
+    wanted = needed(item.unsigned_short(tags.SUBTRACTION_ITEM_ID), "the mask item's ID")
+    for member in members:
+        if needed(member.unsigned_short(tags.SUBTRACTION_ITEM_ID), "an ID") == wanted:
+            return needed(member.whole_pair(tags.MASK_SUB_PIXEL_SHIFT), "a frame's shift")
+    return None
+
+
+def limited(number, low, high):
+    return max(low, min(high, number))
+
+
+def shifted(mask, pair):
+    """Step 4. Vertical v, horizontal h: cell (r, c) takes mask cell (r - v, c - h), each limited to the picture's
+    edge."""
+    vertical, horizontal = pair
+    rows = len(mask)
+    columns = len(mask[0]) if mask else 0
+    return [[mask[limited(row - vertical, 0, rows - 1)][limited(column - horizontal, 0, columns - 1)]
+             for column in range(columns)] for row in range(rows)]
+
+
+def mask_samples(root, frame, pixels):
+    """Steps 2 to 4: the mask's samples, shifted. None: the frame is native."""
+    item = applying_item(root, frame)
+    if item is None:
+        return None
+    operation = mask_operation(item)
+    if operation == b"NONE":
+        return None
+    if operation == b"AVG_SUB":
+        mask = average_mask(item, pixels)
+    else:
+        number = tid_frame(root, item, frame)
+        if number is None:
+            return None
+        mask = pixels.frame(number)
+    return shifted(mask, shift(root, item, frame))
+
+
+def subtracted(sample, mask, stored):
+    """Step 5. cell - mask + 2^(stored - 1); it stays signed."""
+    return sample - mask + Fraction(2 ** stored, 2)
+
+
+# ---------------------------------------------------------------------------------------------------------------------
+# Window and polarity
+
+
+def window(root, frame, stored):
+    """Step 6. The first centre and width in thousandths are C, W; without a VOI group 1000 × 2^(stored - 1) and
+    1000 × 2^stored."""
+    group = frame_group(root, frame, tags.FRAME_VOI_LUT_SEQUENCE)
+    if group is None:
+        return 1000 * Fraction(2 ** stored, 2), 1000 * 2 ** stored
+    items = needed(items_of(root.data, group), "Frame VOI LUT of VR SQ")
+    if len(items) != 1:
+        raise Lacking("the one item of Frame VOI LUT")
+    centers = needed(items[0].texts(tags.WINDOW_CENTER, "DS"), "Window Center")
+    widths = needed(items[0].texts(tags.WINDOW_WIDTH, "DS"), "Window Width")
+    return needed(thousandths(centers[0]), "a centre"), needed(thousandths(widths[0]), "a width")
+
+
+def level(x, center, width):
+    """Step 6. y = 0 if 2000x ≤ 2C - W; 255 if 2000x > 2C + W - 2000; else floor((255(2000x - 2C + W) + W - 1000) /
+    (2(W - 1000))). Then y is limited to 0..255."""
+    if 2000 * x <= 2 * center - width:
+        y = 0
+    elif 2000 * x > 2 * center + width - 2000:
+        y = 255
+    else:
+        divisor = 2 * (width - 1000)
+        if divisor <= 0:
+            raise Lacking("a divisor above 0")
+        y = floor(Fraction(255 * (2000 * x - 2 * center + width) + width - 1000, divisor))
+    return limited(y, 0, 255)
+
+
+def shown(y, photometric):
+    """Step 7. MONOCHROME1: 255 - y."""
+    return 255 - y if photometric == b"MONOCHROME1" else y
+
+
+# ---------------------------------------------------------------------------------------------------------------------
+
+
+def draw(root, frame):
+    """All steps: whether the frame is masked, and its image (document 01: picture); or Lacking."""
+    pixels = Pixels(root)
+    samples = pixels.frame(frame)
+    mask = mask_samples(root, frame, pixels)
+    center, width = window(root, frame, pixels.stored)
+    photometric = needed(root.text(tags.PHOTOMETRIC_INTERPRETATION, "CS"), "Photometric Interpretation")
+    image = bytearray()
+    for row in range(pixels.rows):
+        for column in range(pixels.columns):
+            x = samples[row][column]
+            if mask is not None:
+                x = subtracted(x, mask[row][column], pixels.stored)
+            image.append(shown(level(x, center, width), photometric))
+    return mask is not None, bytes(image)
+
+
+def show(data, frame, row_buffer_length, image_buffer_length):
+    """The call `show`: it judges afresh, then draws."""
+    outcome, root = judge_with_root(data, row_buffer_length)
+    if outcome.answer.code != DONE:
+        return outcome
+    if not 1 <= frame <= integer(root.text(tags.NUMBER_OF_FRAMES, "IS")):
+        return Outcome(Answer(NO_SUCH_FRAME), rows=outcome.rows)
+    if image_buffer_length < root.unsigned_short(tags.ROWS) * root.unsigned_short(tags.COLUMNS):
+        return Outcome(Answer(BUFFER_TOO_SMALL), rows=outcome.rows)
+    masked, image = draw(root, frame)
+    return Outcome(Answer(DONE, rows=outcome.answer.rows, masked=int(masked)), rows=outcome.rows, image=image)

@@ -1,0 +1,364 @@
+#!/usr/bin/env python3
+"""Checks the reference by itself: the sample cases of document 01 and cases worked out by hand. No library is needed."""
+
+import random
+import struct
+import sys
+import unittest
+
+import enhanced_xa as xa
+import objects
+import reading_cases
+import sample_cases
+from mutations import CHANGES
+from reference import drawing, reading, rules, slips, values
+from reference.answers import Answer, Outcome
+
+
+class Reading(unittest.TestCase):
+    def test_sample_cases(self):
+        for name, data, expected in sample_cases.READING:
+            with self.subTest(name):
+                self.assertEqual(reading.read(data, 1000), expected)
+
+    def test_small_cases(self):
+        self.assertGreaterEqual(len(reading_cases.CASES), 60)
+        for name, data, (code, number) in reading_cases.CASES:
+            with self.subTest(name):
+                answer = reading.read(data, 1000).answer
+                self.assertEqual(answer, Answer(0, rows=number) if code == 0 else Answer(code, offset=number))
+
+    def test_listed_vrs(self):
+        self.assertEqual(len(reading.LONG_VRS), 13)
+        self.assertEqual(len(reading.SHORT_VRS), 21)
+
+    def test_rows_of_nested_sequences(self):
+        # (0008,1140) SQ undefined { item undefined { (0028,0010) US 2 } item of length 0 } then (0028,0011) US 2.
+        data = bytes.fromhex(
+            "08 00 40 11 53 51 00 00 FF FF FF FF"  # 0
+            "FE FF 00 E0 FF FF FF FF"  # 12
+            "28 00 10 00 55 53 02 00 02 00"  # 20
+            "FE FF 0D E0 00 00 00 00"  # 30
+            "FE FF 00 E0 00 00 00 00"  # 38
+            "FE FF DD E0 00 00 00 00"  # 46
+            "28 00 11 00 55 53 02 00 02 00")  # 54
+        self.assertEqual(reading.read(data, 30), Outcome(Answer(0, rows=5), rows=(
+            0x00081140, 0x5351, 0, 12, 34, 3,
+            0xFFFEE000, 0, 1, 20, 10, 1,
+            0x00280010, 0x5553, 1, 28, 2, 0,
+            0xFFFEE000, 0, 1, 46, 0, 0,
+            0x00280011, 0x5553, 0, 62, 2, 0)))
+        self.assertEqual(reading.read(data, 29), Outcome(Answer(8)))
+
+    def test_rowlist_lines(self):
+        self.assertEqual(reading_cases.rowlist(bytes.fromhex("28 00 10 00 55 53 02 00 02 00")),
+                         ["rows 1", "00280010 US 0 8 2 0"])
+        self.assertEqual(reading_cases.rowlist(bytes.fromhex("28 00 10 00 55 53 02 00 02 00" * 2)),
+                         ["code 2 place 10"])
+
+    def test_empty_data_set_needs_no_buffer(self):
+        self.assertEqual(reading.read(b"", 0), Outcome(Answer(0)))
+
+
+def level(**elements):
+    """A data set with elements named by tag, like t00280010=("US", b"..")."""
+    data = objects.encode({int(name[1:], 16): element for name, element in elements.items()})
+    return values.Level(data, reading.read_data_set(data))
+
+
+class Values(unittest.TestCase):
+    def test_decimals(self):
+        good = {".5": 500, "5.": 5000, "-.5": -500, "+1": 1000, "000001": 1000, "-0": 0, "000000.000": 0, "1.25": 1250,
+                "-12.034": -12034, "999999.999": 999999999, "-.05": -50, "0.1": 100, "+.001": 1, "40": 40000}
+        for word, number in good.items():
+            self.assertEqual(values.thousandths(word.encode()), number, word)
+        for word in (".", "+", "+.", "-", "", "0000001", "1.0000", "1E1", "4 0", " 4", "1.2.3", "++1", "+-1", "1-", "\n1", "1\n"):
+            self.assertIsNone(values.thousandths(word.encode()), word)
+        self.assertIsNone(values.thousandths("\u0661".encode()))
+        self.assertIsNone(values.thousandths(None))
+
+    def test_integers(self):
+        for word, number in {"3": 3, "+3": 3, "-3": -3, "00000000003": 3, "+0": 0, "99999999999": 99999999999}.items():
+            self.assertEqual(values.integer(word.encode()), number, word)
+        for word in ("3.", "1 2", "", "+", "000000000003", "3\n", "0x3", "3E0"):
+            self.assertIsNone(values.integer(word.encode()), word)
+
+    def test_text(self):
+        one = level(t00080008=("CS", b" A \\B\\ \\"), t00080016=("UI", b"1.2\0\0\0"), t00080060=("CS", b"XA\0\0"),
+                    t00080061=("CS", b"  "), t00080062=("CS", b""), t00080063=("UI", b"1.2 "), t00080064=("CS", b"\tXA\t"))
+        self.assertEqual(one.texts(0x00080008, "CS"), [b"A", b"B", b"", b""])
+        self.assertIsNone(one.text(0x00080008, "CS"))
+        self.assertEqual(one.text(0x00080016, "UI"), b"1.2")
+        self.assertEqual(one.text(0x00080060, "CS"), b"XA\0\0")
+        self.assertEqual(one.text(0x00080061, "CS"), b"")
+        self.assertIsNone(one.text(0x00080062, "CS"))
+        self.assertEqual(one.text(0x00080063, "UI"), b"1.2 ")
+        self.assertEqual(one.text(0x00080064, "CS"), b"\tXA\t")
+        self.assertIsNone(one.text(0x00080060, "LO"))
+        self.assertFalse(one.present(0x00080065))
+
+    def test_numbers(self):
+        one = level(t00280010=("US", b"\1\2"), t00280011=("US", b"\1\0\2\0"), t00280012=("SS", b"\xFF\xFF"),
+                    t00280013=("SS", bytes(4)), t00280014=("US", b""))
+        self.assertEqual(one.unsigned_short(0x00280010), 513)
+        self.assertEqual(one.unsigned_shorts(0x00280011), [1, 2])
+        self.assertIsNone(one.unsigned_short(0x00280011))
+        self.assertEqual(one.signed_short(0x00280012), -1)
+        self.assertIsNone(one.signed_short(0x00280013))
+        self.assertIsNone(one.unsigned_shorts(0x00280014))
+
+    def test_whole_pairs(self):
+        cases = [((0x42800000, 0xC2800000), (64, -64)), ((0x80000000, 0x3F800000), (0, 1)), ((0x42800001, 0), None),
+                 ((0x7FC00000, 0), None), ((0, 0x7F800000), None), ((0xFF800000, 0), None), ((0x3F000000, 0), None),
+                 ((1, 0), None), ((0, 0x80000001), None), ((0x4B800000, 0), (16777216, 0))]
+        for bits, expected in cases:
+            self.assertEqual(level(t00286114=("FL", struct.pack("<II", *bits))).whole_pair(0x00286114), expected, bits)
+        for size in (0, 4, 6, 10, 12):
+            self.assertIsNone(level(t00286114=("FL", bytes(size))).whole_pair(0x00286114), size)
+
+
+class Rules(unittest.TestCase):
+    def verdict(self, model):
+        answer = rules.judge(objects.encode(model), 100_000).answer
+        return answer.code, answer.rule, answer.frame
+
+    def test_no_bytes(self):
+        self.assertEqual(rules.judge(b"", 0), Outcome(Answer(9, rows=0, rule=1, frame=0)))
+
+    def test_three_frames_two_items(self):
+        model = xa.build(random.Random(1), xa.Shape(frames=3))
+        self.assertEqual(self.verdict(model), (0, 0, 0))
+        for number in range(3):
+            items = list(model[xa.PER_FRAME][1])
+            del items[number]
+            self.assertEqual(self.verdict({**model, xa.PER_FRAME: ("SQ", items)}), (9, 26, 0))
+
+    def test_every_rule_has_its_words(self):
+        self.assertEqual(list(rules.RULES), list(range(1, 39)))
+        for number, rule in rules.RULES.items():
+            self.assertTrue(rule.__doc__, number)
+
+    def test_good_objects(self):
+        rng = random.Random(2)
+        for _ in range(100):
+            self.assertEqual(self.verdict(xa.build(rng, xa.random_shape(rng))), (0, 0, 0))
+
+    def test_changes(self):
+        rng = random.Random(3)
+        for change in CHANGES:
+            for frame in (1, 3, 5) if change.per_frame else (0,):
+                with self.subTest(rule=change.rule, name=change.name, frame=frame):
+                    model = xa.build(rng, xa.random_shape(rng, **change.shape))
+                    change.edit(model, frame)
+                    named = frame if change.per_frame else change.frame
+                    self.assertEqual(self.verdict(model), (9, change.rule, named) if change.rule else (0, 0, 0))
+
+
+class Slips(unittest.TestCase):
+    def test_written_bytes(self):
+        cases = [(Answer(0, rows=57), "58 41 56 01 00 00 00 00 00 00 00 00 00"),
+                 (Answer(2, offset=10), "58 41 56 01 00 02 00 00 00 0A 00 00 00"),
+                 (Answer(9, rule=37, frame=812, rows=5), "58 41 56 01 00 09 25 2C 03 00 00 00 00"),
+                 (Answer(9, rule=26), "58 41 56 01 00 09 1A 00 00 00 00 00 00"),
+                 (Answer(6, offset=2 ** 30), "58 41 56 01 00 06 00 00 00 00 00 00 40")]
+        for answer, text in cases:
+            self.assertEqual(slips.write_slip(answer, 13), (0, bytes.fromhex(text)))
+            self.assertEqual(slips.read_slip(bytes.fromhex(text)), (0, answer._replace(rows=0)))
+            self.assertEqual(slips.write_slip(answer, 12), (11, b""))
+
+    def test_impossible(self):
+        for answer in (Answer(10), Answer(0, rule=1), Answer(0, offset=1), Answer(7, frame=1), Answer(2, offset=2 ** 30 + 1),
+                       Answer(3, rule=1), Answer(9), Answer(9, rule=39), Answer(9, rule=26, frame=1), Answer(9, rule=27),
+                       Answer(9, rule=31, frame=1), Answer(9, rule=30, frame=65536), Answer(9, rule=1, offset=4), Answer(256),
+                       Answer(265, rule=1), Answer(9, rule=257)):
+            for length in (0, 13, 20):
+                self.assertEqual(slips.write_slip(answer, length), (14, b""), answer)
+
+    def test_refused_slips(self):
+        good = bytes.fromhex("58 41 56 01 00 02 00 00 00 0A 00 00 00")
+        for slip, code in ((good, 0), (good[:12], 12), (good + b"\0", 12), (b"", 12), (b"XAW" + good[3:], 12),
+                           (b"XAW\2" + good[4:], 12), (b"XAV\2" + good[4:], 13), (b"XAV\1\1" + good[5:], 13),
+                           (good[:5] + b"\x0A" + good[6:], 14), (good[:12] + b"\x41", 14), (good[:6] + b"\1" + good[7:], 14)):
+            self.assertEqual(slips.read_slip(slip)[0], code, slip)
+
+
+def small_object(pixels, frames, rows, columns, **fixed):
+    """An 8-bit object with the given samples and no functional groups, for changes by hand."""
+    shape = xa.Shape(bits_allocated=8, bits_stored=8, frames=frames, rows=rows, columns=columns, voi="absent", extras=False, **fixed)
+    model = xa.build(random.Random(1), shape)
+    model[xa.PIXEL_DATA] = ("OB", bytes(pixels) + bytes(len(pixels) % 2))
+    return model
+
+
+def root_of(model):
+    data = objects.encode(model)
+    return values.Level(data, reading.read_data_set(data))
+
+
+def window_group(center, width):
+    return xa.sq({xa.CENTER: xa.text("DS", center), xa.WIDTH: xa.text("DS", width)})
+
+
+class Drawing(unittest.TestCase):
+    def test_sample_windows(self):
+        levels = lambda center, width, samples: [drawing.level(x, center * 1000, width * 1000) for x in samples]
+        self.assertEqual(levels(50, 1, (49, 50)), [0, 255])
+        self.assertEqual(levels(40, 10, (35, 36, 40, 44, 45)), [0, 28, 142, 255, 255])
+        self.assertEqual(drawing.shown(142, b"MONOCHROME1"), 113)
+        self.assertEqual(levels(128, 256, (0, 128, 255)), [0, 128, 255])
+
+    def test_sample_windows_in_objects(self):
+        samples = (35, 36, 40, 44, 45)
+        for photometric, expected in (("MONOCHROME2", [0, 28, 142, 255, 255]), ("MONOCHROME1", [255, 227, 113, 0, 0])):
+            model = small_object(samples, 1, 1, 5, photometric=photometric)
+            model[xa.SHARED][1][0][xa.VOI] = window_group("40", "10")
+            self.assertEqual(drawing.draw(root_of(model), 1), (False, bytes(expected)))
+        self.assertEqual(drawing.draw(root_of(small_object((0, 128, 255), 1, 1, 3)), 1), (False, bytes((0, 128, 255))))
+
+    def test_other_windows(self):
+        # C = 40.5, W = 2: 2000x <= 79000 gives 0, 2000x > 81000 gives 255. 40: (255 * 1000 + 1000) / 2000 = 128.
+        self.assertEqual([drawing.level(x, 40500, 2000) for x in (39, 40, 41)], [0, 128, 255])
+        # A wide window: W = 1000.5, C = -1: x = 0 gives (255 * 1002500 + 999500) / 1999000 = 128.38.
+        self.assertEqual(drawing.level(0, -1000, 1000500), 128)
+        self.assertEqual(drawing.level(-502, -1000, 1000500), 0)
+        # Widths under 1 never divide.
+        for width in (0, 999, -5000):
+            self.assertEqual({drawing.level(x, 10000, width) for x in range(-20, 40)}, {0, 255})
+
+    def test_sample_average(self):
+        self.assertEqual(drawing.average([90, 91]), 91)
+        self.assertEqual(drawing.average([90]), 90)
+        self.assertEqual(drawing.average([1, 1, 2]), 1)  # (8 + 3) / 6
+        self.assertEqual(drawing.average([1, 2, 2]), 2)  # (10 + 3) / 6
+        self.assertEqual(drawing.subtracted(100, 91, 8), 137)
+        model = small_object((90, 91, 100), 3, 1, 1, masks=("AVG_SUB",), ranges=False, shifts=False)
+        model[xa.MASKS][1][0][xa.MASK_FRAMES] = xa.us(1, 2)
+        # Without a VOI group 8 bits stay as they are.
+        self.assertEqual(drawing.draw(root_of(model), 3), (True, bytes([137])))
+        self.assertEqual(drawing.draw(root_of(model), 1), (True, bytes([127])))
+
+    def test_sample_tid(self):
+        model = small_object((10, 20, 50), 3, 1, 1, masks=("TID",), ranges=False, shifts=False)
+        item = model[xa.MASKS][1][0]
+        for offset, expected in ((1, [(False, 10), (True, 138), (True, 158)]), (None, [(False, 10), (True, 138), (True, 158)]),
+                                 (-1, [(True, 118), (True, 98), (False, 50)]), (0, [(True, 128)] * 3),
+                                 (2, [(False, 10), (False, 20), (True, 168)])):
+            item.pop(xa.TID_OFFSET, None)
+            if offset is not None:
+                item[xa.TID_OFFSET] = xa.ss(offset)
+            drawn = [drawing.draw(root_of(model), frame) for frame in (1, 2, 3)]
+            self.assertEqual(drawn, [(masked, bytes([sample])) for masked, sample in expected], offset)
+
+    def test_shift(self):
+        mask = [[1, 2, 3], [4, 5, 6]]
+        self.assertEqual(drawing.shifted(mask, (0, 1)), [[1, 1, 2], [4, 4, 5]])
+        self.assertEqual(drawing.shifted(mask, (0, -1)), [[2, 3, 3], [5, 6, 6]])
+        self.assertEqual(drawing.shifted(mask, (1, 0)), [[1, 2, 3], [1, 2, 3]])
+        self.assertEqual(drawing.shifted(mask, (-1, 0)), [[4, 5, 6], [4, 5, 6]])
+        self.assertEqual(drawing.shifted(mask, (64, -64)), [[3, 3, 3], [3, 3, 3]])
+
+    def test_whose_shift(self):
+        model = small_object((1, 2, 3, 4, 5, 6), 1, 2, 3, masks=("AVG_SUB",), ranges=False, shifts=False)
+        item = model[xa.MASKS][1][0]
+        item[xa.MASK_FRAMES] = xa.us(1)
+        item[xa.ITEM_ID] = xa.us(7)
+        find = lambda: drawing.shift(root_of(model), root_of(model).items(xa.MASKS)[0], 1)
+        self.assertEqual(find(), (0, 0))
+        item[xa.SHIFT] = xa.fl(2.0, -3.0)
+        self.assertEqual(find(), (2, -3))
+        own = model[xa.PER_FRAME][1][0]
+        own[xa.FRAME_SHIFT] = xa.sq({xa.ITEM_ID: xa.us(8), xa.SHIFT: xa.fl(4.0, 4.0)})
+        self.assertEqual(find(), (2, -3))
+        own[xa.FRAME_SHIFT] = xa.sq({xa.ITEM_ID: xa.us(8), xa.SHIFT: xa.fl(4.0, 4.0)}, {xa.ITEM_ID: xa.us(7), xa.SHIFT: xa.fl(-0.0, 0.0)})
+        self.assertEqual(find(), (0, 0))
+        del own[xa.FRAME_SHIFT]
+        model[xa.SHARED][1][0][xa.FRAME_SHIFT] = xa.sq({xa.ITEM_ID: xa.us(7), xa.SHIFT: xa.fl(1.0, 64.0)})
+        self.assertEqual(find(), (1, 64))
+
+    def test_masked_and_shifted_image(self):
+        model = small_object((1, 2, 3, 4, 5, 6) + (10, 20, 30, 40, 50, 60), 2, 2, 3, masks=("AVG_SUB",), ranges=False, shifts=False)
+        item = model[xa.MASKS][1][0]
+        item[xa.MASK_FRAMES] = xa.us(1)
+        item[xa.SHIFT] = xa.fl(1.0, -1.0)  # the mask is 2 3 3 / 2 3 3
+        self.assertEqual(drawing.draw(root_of(model), 2), (True, bytes((136, 145, 155, 166, 175, 185))))
+
+    def test_unused_high_bits(self):
+        shape = xa.Shape(bits_allocated=16, bits_stored=9, frames=1, rows=1, columns=2, voi="absent", extras=False)
+        model = xa.build(random.Random(1), shape)
+        model[xa.PIXEL_DATA] = ("OW", struct.pack("<HH", 0xFE00, 0xFFFF))
+        self.assertEqual(drawing.draw(root_of(model), 1), (False, bytes((0, 255))))
+
+    def test_order_of_refusals(self):
+        model = small_object((1, 2, 3, 4), 2, 1, 2)
+        data = objects.encode(model)
+        count = reading.read(data, 10_000).answer.rows
+        table = reading.read(data, 10_000).rows
+        self.assertEqual(drawing.show(data, 1, 6 * count, 2), Outcome(Answer(0, rows=count), table, bytes((1, 2))))
+        self.assertEqual(drawing.show(data, 2, 6 * count, 2).image, bytes((3, 4)))
+        for frame in (0, 3, 65537, 2 ** 32 + 1):
+            self.assertEqual(drawing.show(data, frame, 6 * count, 0), Outcome(Answer(10), table))
+        self.assertEqual(drawing.show(data, 1, 6 * count, 1), Outcome(Answer(11), table))
+        self.assertEqual(drawing.show(data, 0, 6 * count - 1, 0), Outcome(Answer(8)))
+
+    def test_lacking(self):
+        """The steps on objects that are not accepted: what lacks, and what does not."""
+        def draws(edit, frame=1, **shape):
+            model = small_object((1, 2, 3, 4, 5, 6), 3, 1, 2, **{"masks": ("AVG_SUB",), "ranges": False, "shifts": False, **shape})
+            edit(model, model.get(xa.MASKS, ("SQ", [{}]))[1][0], model[xa.PER_FRAME][1], model[xa.SHARED][1])
+            try:
+                drawing.draw(root_of(model), frame)
+            except drawing.Lacking:
+                return False
+            return True
+
+        put = lambda tag, value: lambda root, mask, own, shared: root.update({tag: value})
+        mask = lambda tag, value: lambda root, mask, own, shared: mask.update({tag: value})
+        frame = lambda tag, value: lambda root, mask, own, shared: own[0].update({tag: value})
+        nothing = lambda root, mask, own, shared: None
+        good_group = xa.sq({xa.ITEM_ID: xa.us(1), xa.SHIFT: xa.fl(0.0, 0.0)})
+        yes = [
+            (nothing, 1), (nothing, 3),
+            (put(xa.MODALITY, xa.us(1)), 1), (put(xa.NUMBER_OF_FRAMES, xa.text("IS", "x")), 1), (put(xa.NUMBER_OF_FRAMES, xa.text("IS", "1")), 3),
+            (put(xa.ROWS, xa.us(0)), 1), (put(xa.BITS_STORED, xa.us(0)), 1), (put(xa.BITS_STORED, xa.us(12)), 1),
+            (put(xa.MASKS, xa.sq()), 1), (mask(xa.RANGE, xa.us(2, 1)), 1), (mask(xa.RANGE, xa.us(0, 9)), 1),
+            (mask(xa.OPERATION, xa.text("CS", "NONE")), 1), (mask(xa.SHIFT, xa.fl(500.0, -500.0)), 1),
+            (put(xa.PHOTOMETRIC, xa.text("CS", "RGB")), 1), (frame(xa.VOI, window_group("1\\x", "0\\7\\8")), 1),
+            (lambda root, mask, own, shared: (mask.update({xa.ITEM_ID: xa.us(1)}), own[0].update({xa.FRAME_SHIFT: good_group})), 1),
+        ]
+        no = [
+            (nothing, 0), (nothing, 4), (put(xa.ROWS, xa.us(1, 1)), 1), (put(xa.BITS_ALLOCATED, xa.us(12)), 1), (put(xa.BITS_ALLOCATED, xa.us(0)), 1),
+            (put(xa.PIXEL_DATA, ("UN", bytes(6))), 1), (put(xa.PIXEL_DATA, ("OB", bytes(2))), 2), (put(xa.SHARED, xa.sq()), 1),
+            (put(xa.SHARED, xa.sq({}, {})), 1), (put(xa.PER_FRAME, xa.sq({})), 2), (put(xa.MASKS, ("UN", b"")), 1),
+            (mask(xa.RANGE, xa.us()), 1), (mask(xa.RANGE, xa.us(1)), 1), (mask(xa.RANGE, xa.ss(1, 2)), 1),
+            (mask(xa.OPERATION, xa.text("CS", "REV_TID")), 1), (mask(xa.OPERATION, xa.text("CS", "TID\\TID")), 1),
+            (mask(xa.MASK_FRAMES, xa.us()), 1), (mask(xa.MASK_FRAMES, xa.us(4)), 1), (mask(xa.MASK_FRAMES, xa.us(1, 0)), 1),
+            (mask(xa.SHIFT, xa.fl(0.5, 0.0)), 1), (mask(xa.SHIFT, xa.fl()), 1), (put(xa.PHOTOMETRIC, xa.text("CS", "A\\B")), 1),
+            (frame(xa.VOI, xa.sq()), 1), (frame(xa.VOI, ("UN", b"")), 1), (frame(xa.VOI, window_group("x", "1")), 1),
+            (frame(xa.FRAME_SHIFT, xa.sq()), 1), (frame(xa.FRAME_SHIFT, ("UN", b"")), 1),
+            (lambda root, mask, own, shared: (mask.pop(xa.ITEM_ID, None), own[0].update({xa.FRAME_SHIFT: good_group})), 1),
+            (lambda root, mask, own, shared: (mask.update({xa.ITEM_ID: xa.us(1)}), own[0].update({xa.FRAME_SHIFT: xa.sq({})})), 1),
+        ]
+        for number, (edit, at) in enumerate(yes):
+            self.assertTrue(draws(edit, at), f"{number} of those that draw")
+        for number, (edit, at) in enumerate(no):
+            self.assertFalse(draws(edit, at), f"{number} of those that lack something")
+        tid = {"masks": ("TID",)}
+        self.assertFalse(draws(mask(xa.TID_OFFSET, xa.ss()), 2, **tid))
+        self.assertFalse(draws(mask(xa.TID_OFFSET, xa.us(1)), 2, **tid))
+        self.assertFalse(draws(put(xa.NUMBER_OF_FRAMES, xa.text("IS", "x")), 2, **tid))
+        # A native frame needs nothing of the shift.
+        self.assertTrue(draws(lambda root, mask, own, shared: (mask.update({xa.TID_OFFSET: xa.ss(5)}),
+                                                               own[0].update({xa.FRAME_SHIFT: xa.sq()})), 1, **tid))
+
+    def test_accepted_objects_lack_nothing(self):
+        rng = random.Random(4)
+        for _ in range(60):
+            shape = xa.random_shape(rng)
+            root = root_of(xa.build(rng, shape))
+            for frame in range(1, shape.frames + 1):
+                _, image = drawing.draw(root, frame)
+                self.assertEqual(len(image), shape.rows * shape.columns)
+
+
+if __name__ == "__main__":
+    sys.exit(0 if unittest.main(exit=False).result.wasSuccessful() else 1)

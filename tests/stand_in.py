@@ -1,0 +1,70 @@
+"""A stand-in for the library: the C functions played by the reference, with a fault put in where one is wanted.
+
+With no fault it must pass every comparison; with a fault it must fail one. So it shows that the comparisons can fail.
+"""
+
+import ctypes
+
+from library import AnswerStruct, SlipStruct, answer_of
+from reference import drawing, reading, rules, slips
+
+
+def write(address, content):
+    ctypes.memmove(address, bytes(content), len(content))
+
+
+def write_rows(address, numbers):
+    write(address, b"".join((number & 0xFFFFFFFF).to_bytes(4, "little") for number in numbers))
+
+
+def view(address, size):
+    """The input: its bytes, or where it is huge something that is taken apart like bytes, without a copy."""
+    if size < 1 << 28:
+        return ctypes.string_at(address, size)
+    return (ctypes.c_char * size).from_address(address)
+
+
+class StandIn:
+    """The C functions. `change(outcome, data)` may answer another outcome, `after(...)` may write where nothing may be
+    written; the calls themselves may be played by others than the reference's."""
+
+    def __init__(self, change=None, after=None, read=reading.read, judge=rules.judge, show=drawing.show,
+                 write_slip=slips.write_slip, read_slip=slips.read_slip):
+        self.read = read
+        self.judge = judge
+        self.show = show
+        self.write_slip = write_slip
+        self.read_slip = read_slip
+        self.change = change or (lambda outcome, data: outcome)
+        self.after = after or (lambda outcome, data, rows, rows_length: None)
+
+    def xa_read(self, data, size, rows, rows_length):
+        content = view(data, size)
+        outcome = self.change(self.read(content, rows_length), content)
+        write_rows(rows, outcome.rows)
+        self.after(outcome, data, rows, rows_length)
+        return AnswerStruct(*outcome.answer)
+
+    def xa_judge(self, data, size, rows, rows_length):
+        content = view(data, size)
+        outcome = self.change(self.judge(content, rows_length), content)
+        write_rows(rows, outcome.rows)
+        self.after(outcome, data, rows, rows_length)
+        return AnswerStruct(*outcome.answer)
+
+    def xa_show(self, data, size, frame, rows, rows_length, image, image_length):
+        content = view(data, size)
+        outcome = self.change(self.show(content, frame, rows_length, image_length), content)
+        write_rows(rows, outcome.rows)
+        write(image, outcome.image)
+        self.after(outcome, data, rows, rows_length)
+        return AnswerStruct(*outcome.answer)
+
+    def xa_write_slip(self, verdict, slip, slip_length):
+        code, written = self.write_slip(answer_of(verdict), slip_length)
+        write(slip, written)
+        return code
+
+    def xa_read_slip(self, slip, slip_length):
+        code, verdict = self.read_slip(ctypes.string_at(slip, slip_length))
+        return SlipStruct(code, AnswerStruct(*verdict))
