@@ -1,6 +1,6 @@
 /* Times reading and judging of one bare data set.
 
-       bench_read FILE           medians of interleaved repetitions, one "name number" a line
+       bench_read FILE           medians over rounds of one call each, in turning order, one "name number" a line
        bench_read FILE read      one call of the library's read (else the walker), for timing the whole program
        bench_read FILE judge     one call of the library's judge
 
@@ -65,12 +65,12 @@ static const struct {
 #endif
 };
 
-enum { CALLS = sizeof calls / sizeof calls[0], MOST = 201, LEAST = 15 };
+enum { CALLS = sizeof calls / sizeof calls[0], MOST = 201, LEAST = 41 };
 
-/* About a second and a half of measuring, within the limits above. */
+/* About three seconds of measuring, within the limits above. */
 static int repetitions(double nanoseconds)
 {
-    double wanted = 1.5e9 / (nanoseconds * CALLS);
+    double wanted = 3e9 / (nanoseconds * CALLS);
     return wanted > MOST ? MOST : wanted < LEAST ? LEAST : (int)wanted;
 }
 
@@ -91,7 +91,7 @@ static int once(const char *which, const uint8_t *data, size_t size)
 
 int main(int argc, char **argv)
 {
-    static double times[CALLS][MOST];
+    static double times[CALLS][MOST], ratios[MOST];
     if (argc < 2)
         stop("a data set is wanted", argv[0]);
     size_t size;
@@ -99,7 +99,7 @@ int main(int argc, char **argv)
     if (argc > 2)
         return once(strcmp(argv[2], "judge") == 0 ? "xa_judge" : "xa_read", data, size);
 
-    /* How many rows there are is asked of the walker's counting pass: it answers before it looks at the buffer. */
+    /* Room for the most rows that so many bytes can have; what isn't written is never touched. */
     size_t rows_len = size / 8 * 6;
     uint32_t *all = malloc(rows_len * sizeof *all + 1);
     if (all == NULL)
@@ -123,13 +123,23 @@ int main(int argc, char **argv)
     int count = repetitions(now() - start);
     volatile uint32_t kept = 0;
     for (int n = 0; n < count; n++)
-        for (int k = 0; k < CALLS; k++) {
+        for (int turn = 0; turn < CALLS; turn++) {
+            int k = (n + turn) % CALLS;
             double from = now();
             kept += calls[k].run(data, size, rows, rows_len).rows;
             times[k][n] = now() - from;
         }
     printf("rows %u\nrepetitions %d\n", first.rows, count);
-    for (int k = 0; k < CALLS; k++)
-        printf("%s %.0f\n", calls[k].name, median(times[k], count));
+
+    /* A round's times are compared with the walker's of the same round, so that a machine that gets faster or slower
+       meanwhile does not show; the ratio is the median over the rounds. */
+    for (int k = CALLS - 1; k >= 0; k--) {
+        for (int n = 0; n < count; n++)
+            ratios[n] = times[k][n] / times[0][n];
+        printf("%s_ratio %.4f\n", calls[k].name, median(ratios, count));
+        if (k > 0)
+            printf("%s %.0f\n", calls[k].name, median(times[k], count));
+    }
+    printf("%s %.0f\n", calls[0].name, median(times[0], count));
     return 0;
 }

@@ -184,7 +184,7 @@ def main():
         for number in range(count):
             if number % 50 == 0:
                 encoder = source.choice(encoders)
-                data = make_objects.before_pixels(encoder, source.randrange(1, 4), 2, 2, source.random() < 0.5, 0, 4)
+                data = make_objects.before_pixels(encoder, source.randrange(1, 4), 2, 2, source.random() < 0.5, 0)
             else:
                 data = random_elements(source, encoders, 0)
             if source.random() < 0.7:

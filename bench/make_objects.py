@@ -147,7 +147,7 @@ def frame_item(encoder, frame, full):
     return encoder.item(*groups)
 
 
-def before_pixels(encoder, frames, rows, columns, full, leave_out, masks):
+def before_pixels(encoder, frames, rows, columns, full, leave_out, masks=4, stored=12):
     """All elements before Pixel Data."""
     mask_frames = [1 + k * (frames - 1) // max(masks - 1, 1) for k in range(min(masks, frames))]
     parts = [
@@ -196,8 +196,8 @@ def before_pixels(encoder, frames, rows, columns, full, leave_out, masks):
         element(0x00280010, "US", rows),
         element(0x00280011, "US", columns),
         element(0x00280100, "US", 16),                            # Bits Allocated
-        element(0x00280101, "US", 12),                            # Bits Stored
-        element(0x00280102, "US", 11),                            # High Bit
+        element(0x00280101, "US", stored),                        # Bits Stored
+        element(0x00280102, "US", stored - 1),                    # High Bit
         element(0x00280103, "US", 0),                             # Pixel Representation
         element(0x00280301, "CS", "NO"),                          # Burned In Annotation
         element(0x00281090, "CS", "SUB"),                         # Recommended Viewing Mode
@@ -228,12 +228,12 @@ def file_head(instance):
     return bytes(128) + b"DICM" + element(0x00020000, "UL", len(group)) + group
 
 
-def write(folder, name, frames, rows, columns, full, leave_out, lengths, masks):
+def write(folder, name, frames, rows, columns, full, leave_out, lengths, masks, stored):
     instance = UID_ROOT + ".1.%d.%d" % (frames, leave_out)
-    front = before_pixels(Encoder(lengths), frames, rows, columns, full, leave_out, masks)
+    front = before_pixels(Encoder(lengths), frames, rows, columns, full, leave_out, masks, stored)
     size = rows * columns * 2
     source = random.Random(83)
-    # 16 different frames are enough; a long run repeats them. The four unused high bits hold junk.
+    # 16 different frames are enough; a long run repeats them. Unused high bits hold junk.
     pictures = [source.randbytes(size) for _ in range(min(frames, 16))]
     for ending, head in ((".bin", b""), (".dcm", file_head(instance))):
         with open(os.path.join(folder, name + ending), "wb") as out:
@@ -254,6 +254,8 @@ def main():
     parser.add_argument("--frames", type=int, nargs="+", help="other frame counts, 1 to 65535")
     parser.add_argument("--leave-out", type=int, default=0, metavar="K", help="leave out the item of frame K")
     parser.add_argument("--size", type=int, help="other Rows and Columns")
+    parser.add_argument("--masks", type=int, default=4, help="how many mask frames, 1 to 64 (4)")
+    parser.add_argument("--stored", type=int, default=12, help="Bits Stored, 9 to 16 (12)")
     parser.add_argument("--lengths", choices=("defined", "undefined", "mixed"), default="defined")
     parser.add_argument("--name", help="name of the files, without ending (one frame count only)")
     chosen = parser.parse_args()
@@ -267,7 +269,8 @@ def main():
             name += "-without-%d" % chosen.leave_out
         if not chosen.name and chosen.lengths != "defined":
             name += "-" + chosen.lengths
-        write(chosen.folder, name, frames, rows, columns, full, chosen.leave_out, chosen.lengths, 4)
+        write(chosen.folder, name, frames, rows, columns, full,
+              chosen.leave_out, chosen.lengths, chosen.masks, chosen.stored)
 
 
 if __name__ == "__main__":
