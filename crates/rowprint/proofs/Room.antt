@@ -10,8 +10,9 @@ use lib.Dec.{leb}
 use lib.ListN.{length}
 use Rattle.dataset.specs.declared.ReadAnswer.the-variants as answer
 use Rattle.dataset.specs.Reading.{Reading, tooLarge, refusedAt, read, readingOf}
+use Rattle.dataset.specs.Tree.{rowsIn, rowsOf}
 use Rattle.dataset.specs.Answer.{answerOf, fits}
-use Rattle.dataset.proofs.Tree.{Reads, reading-reads}
+use Rattle.dataset.proofs.Laws.{row-count}
 use Rattle.rowprint.specs.Listing.{Held, Roomy}
 
 pub held : (o : Reading) (buffer after : List ℕ) → length after ≡ length buffer → Held (answerOf o buffer) after
@@ -24,13 +25,14 @@ held (read rows) buffer after e = by-room (fits rows buffer) refl
     by-room false f = tt
 
 pub roomy : (s buffer : List ℕ) → 6 * length s ≤ 8 * length buffer → Roomy (answerOf (readingOf s) buffer)
-roomy s buffer h = by-reading (readingOf s) (reading-reads s)
+unfolding rowsOf
+roomy s buffer h = by-reading (readingOf s) (row-count s)
   where
     by-room : (n : ℕ) → 8 * n ≤ length s → (t : Bool) → leb (6 * n) (length buffer) ≡ t → Roomy (cond t (answer.Done n) answer.NoRoom)
     by-room n l true f = tt
     by-room n l false f = omega (arith, leb-false (6 * n) (length buffer) f)
 
-    by-reading : (o : Reading) → Reads s o → Roomy (answerOf o buffer)
+    by-reading : (o : Reading) → 8 * length (rowsIn o) ≤ length s → Roomy (answerOf o buffer)
     by-reading tooLarge r = tt
     by-reading (refusedAt code offset) r = tt
-    by-reading (read rows) r = by-room (length rows) (r .sparse) (fits rows buffer) refl
+    by-reading (read rows) r = by-room (length rows) r (fits rows buffer) refl
