@@ -1,0 +1,28 @@
+-- What contracts say beside the definitions of a value's form: bounds of a number that was read, and what the loops of
+-- the code come to.
+use Prim.Native.Nat.{ℕ, _≤_, _<_}
+use mathlib.Core.Path.{_≡_}
+use mathlib.Core.Bool.{cond}
+use mathlib.Core.List.{List}
+use lib.ListN.{length, drop}
+use lib.Dec.{eqb}
+use Rattle.value.specs.declared.Num.{Num}
+use Rattle.value.specs.declared.Num.the-variants as num
+use Rattle.value.specs.declared.Signed.{Signed}
+use Rattle.value.specs.declared.Signed.the-variants as signed
+use Rattle.value.specs.Number.{digitsOf}
+
+-- A number that was read is below n.
+abbrev pub Below : ℕ → Num → Type 0
+Below n (num.Is k) = k < n
+Below n num.Lacks = Unit {0}
+
+-- The same without its sign.
+abbrev pub SizeBelow : ℕ → Signed → Type 0
+SizeBelow n (signed.Plus k) = k < n
+SizeBelow n (signed.Minus k) = k < n
+SizeBelow n signed.Lacks = Unit {0}
+
+-- How many values end at a byte.
+abbrev pub partsAt : ℕ → ℕ
+partsAt b = cond (eqb b 0x5C) 1 0
