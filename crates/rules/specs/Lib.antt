@@ -1,0 +1,4 @@
+pub mod Root
+pub mod Frame
+pub mod Mask
+pub mod Pixels
