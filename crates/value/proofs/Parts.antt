@@ -1,5 +1,5 @@
 -- The parting of a value at its backslashes: its first part, and what follows it.
-use mathlib.Core.Path.{_≡_, refl, sym, ap, _∙_, subst}
+use mathlib.Core.Path.{_≡_, refl, sym, ap, _∙_}
 use Prim.Native.Nat.{ℕ, zero, suc, _+_, _-_, _≤_, _<_}
 use native.Mathlib.Omega.{arith}
 use native.Mathlib.Nat.{eq-or-lt-of-le}
@@ -160,6 +160,10 @@ module _ (v : List ℕ) (from end : ℕ) (e : end ≡ from + length (valueOf (dr
   pub no-later : (left : ℕ) → 0 < left → length v ≤ end → getD (valuesOf (drop from v)) left [] ≡ []
   no-later zero p h = absurd (omega arith)
   no-later (suc left) p h = ap (λ (vs : List (List ℕ)). getD vs (suc left) []) (part-last h)
+
+  -- A test of that part is one of the first value.
+  pub part-test : (p : List ℕ → Bool) (t b : Bool) → t ≡ p (take (end - from) (drop from v)) → t ≡ b → p (valueOf (drop from v) 0) ≡ b
+  part-test p t b q e = sym (ap p part-is) ∙ sym q ∙ e
 
   -- A test of every value from there on.
   pub all-last : (p : List ℕ → Bool) → length v ≤ end → all p (valuesOf (drop from v)) ≡ p (valueOf (drop from v) 0)

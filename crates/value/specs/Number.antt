@@ -1,5 +1,5 @@
 -- Numbers in values: US and SS in binary, IS and DS in text. A read that has no number answers `Lacks`.
-use Prim.Native.Nat.{ℕ, zero, suc, _+_, _-_, _*_, _^_, _%_}
+use Prim.Native.Nat.{ℕ, zero, suc, _+_, _-_, _*_, _^_}
 use mathlib.Core.Bool.{Bool, true, false, cond, _&&_}
 use mathlib.Core.List.{List, [], _∷_}
 use lib.ListN.{length}
@@ -66,12 +66,12 @@ signedBy size (c ∷ s) = cond (eqb c 0x2B) (plus (size s)) (cond (eqb c 0x2D) (
 -- ---- IS
 
 -- Rule 15's form: 1 to 11 digits and nothing after them.
+abbrev pub wholeOn : Digits → List ℕ → Num
+wholeOn d [] = cond (eqb (d .count) 0) num.Lacks (num.Is (d .number))
+wholeOn d (c ∷ s) = num.Lacks
+
 abbrev pub wholeBy : Digits → Num
-wholeBy d = onRest (d .rest)
-  where
-    onRest : List ℕ → Num
-    onRest [] = cond (eqb (d .count) 0) num.Lacks (num.Is (d .number))
-    onRest (c ∷ s) = num.Lacks
+wholeBy d = wholeOn d (d .rest)
 
 unfoldable pub wholeOf : List ℕ → Num
 wholeOf s = wholeBy (digitsOf 11 0 0 s)
@@ -91,19 +91,19 @@ unit = 10 ^ decimals
 
 -- Rule 30's form: up to 6 digits, then optionally a point and up to 3 digits, at least one digit in all.
 -- After the point: `whole` digits stood before it, and the decimals that were not written are zeros.
+abbrev pub pointOn : ℕ → Digits → List ℕ → Num
+pointOn whole d [] = cond (eqb (whole + d .count) 0) num.Lacks (num.Is (d .number * 10 ^ (decimals - d .count)))
+pointOn whole d (c ∷ s) = num.Lacks
+
 abbrev pub pointBy : ℕ → Digits → Num
-pointBy whole d = onRest (d .rest)
-  where
-    onRest : List ℕ → Num
-    onRest [] = cond (eqb (whole + d .count) 0) num.Lacks (num.Is (d .number * 10 ^ (decimals - d .count)))
-    onRest (c ∷ s) = num.Lacks
+pointBy whole d = pointOn whole d (d .rest)
+
+abbrev pub fractionOn : Digits → List ℕ → Num
+fractionOn d [] = cond (eqb (d .count) 0) num.Lacks (num.Is (d .number * unit))
+fractionOn d (c ∷ s) = cond (eqb c 0x2E) (pointBy (d .count) (digitsOf decimals (d .number) 0 s)) num.Lacks
 
 abbrev pub fractionBy : Digits → Num
-fractionBy d = onRest (d .rest)
-  where
-    onRest : List ℕ → Num
-    onRest [] = cond (eqb (d .count) 0) num.Lacks (num.Is (d .number * unit))
-    onRest (c ∷ s) = cond (eqb c 0x2E) (pointBy (d .count) (digitsOf decimals (d .number) 0 s)) num.Lacks
+fractionBy d = fractionOn d (d .rest)
 
 unfoldable pub sizeOf : List ℕ → Num
 sizeOf s = fractionBy (digitsOf 6 0 0 s)

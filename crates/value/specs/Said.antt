@@ -8,6 +8,7 @@ use lib.ListN.{length, drop}
 use lib.Dec.{eqb}
 use Rattle.value.specs.declared.Num.{Num}
 use Rattle.value.specs.declared.Num.the-variants as num
+use Rattle.value.specs.declared.Run.{Run}
 use Rattle.value.specs.declared.Signed.{Signed}
 use Rattle.value.specs.declared.Signed.the-variants as signed
 use Rattle.value.specs.Number.{digitsOf}
@@ -26,3 +27,11 @@ SizeBelow n signed.Lacks = Unit {0}
 -- How many values end at a byte.
 abbrev pub partsAt : ℕ → ℕ
 partsAt b = cond (eqb b 0x5C) 1 0
+
+-- What the code read of the digits in front of the bytes s: their number and how many they are; the rest follows.
+pub record DigitsRead (limit start : ℕ) (s : List ℕ) (r : Run) : Type 0 where
+  pub number : r .number ≡ digitsOf limit start 0 s .number
+  pub count : r .count ≡ digitsOf limit start 0 s .count
+  pub rest : digitsOf limit start 0 s .rest ≡ drop (r .count) s
+  pub within : r .count ≤ length s
+  pub few : r .count ≤ limit

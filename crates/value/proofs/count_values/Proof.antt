@@ -1,4 +1,4 @@
-use mathlib.Core.Path.{_≡_, refl, sym, _∙_}
+use mathlib.Core.Path.{_≡_}
 use Prim.Native.Nat.{_+_, _-_, _≤_}
 use native.Mathlib.Omega.{arith}
 use borrow.Author.Needs.{needs}
@@ -7,10 +7,9 @@ use Rattle.value.specs.Text.{valuesOf}
 use Rattle.value.proofs.Parts as parts
 use Rattle.value.proofs.count_values.Statement.{statement}
 use Rattle.value.proofs.count_values.Tie as tie
-use Rattle.value.proofs.count_values.Reads as reads
-use Rattle.value.proofs.count_values.Lts as lts
-use Rattle.value.proofs.parts_at.Reads as parts-at-reads
 
+-- The loop: the values counted, with those of the bytes that are left, are one more than all, since the value at hand
+-- stands in both.
 abbrev Inv-loop : tie.InvT-loop
 Inv-loop v n₀ i₀ n i =
     (n + length (valuesOf (drop i v)) ≡ length (valuesOf v) + 1) × ((i ≤ length v) × (n ≤ i + 1))
@@ -19,43 +18,35 @@ abbrev μ-loop : tie.MeasureT-loop
 μ-loop v n₀ i₀ n i =
     length v - i
 
--- src/lib.rt:68:5
 loop-holds : tie.Need-loop-holds Inv-loop μ-loop
 loop-holds c =
     (omega arith, (omega arith, omega arith))
 
--- src/lib.rt:69:23
 shared-slice-read-parts-at : tie.Need-shared-slice-read-parts-at Inv-loop μ-loop
 shared-slice-read-parts-at c =
     search needs
 
--- src/lib.rt:69:14
 parts-at-requires : tie.Need-parts-at-requires Inv-loop μ-loop
 parts-at-requires c κs =
     search needs
 
--- src/lib.rt:69:9
 add-n : tie.Need-add-n Inv-loop μ-loop
 add-n c =
     omega (arith, c .parts-at .ensures .1)
 
--- src/lib.rt:70:9
 add-i : tie.Need-add-i Inv-loop μ-loop
 add-i c =
     search needs
 
--- src/lib.rt:68:5
 loop-less : tie.Need-loop-less Inv-loop μ-loop
 loop-less c =
     search needs
 
--- src/lib.rt:68:5
 loop-again : tie.Need-loop-again Inv-loop μ-loop
 loop-again c =
     let e = parts.count-next (c .before .before .before .before .before .args .v .now) (c .before .before .before .loop .i) (c .before .before .loop-test .taken) in
     (omega (arith, e, c .parts-at .ensures .0), (omega arith, omega (arith, c .parts-at .ensures .1)))
 
--- src/lib.rt:62:1
 returns : tie.Need-returns Inv-loop μ-loop
 returns c =
     (omega (arith, parts.count-end (c .before .before .before .args .v .now) (c .before .loop .i) (c .loop-test .left)), omega arith)

@@ -7,9 +7,8 @@ use Rattle.value.specs.Text.{equal}
 use Rattle.value.proofs.Lists as lists
 use Rattle.value.proofs.equal.Statement.{statement}
 use Rattle.value.proofs.equal.Tie as tie
-use Rattle.value.proofs.equal.Reads as reads
-use Rattle.value.proofs.equal.Lts as lts
 
+-- The loop: what is left of the two is equal exactly where the whole is.
 abbrev Inv-loop : tie.InvT-loop
 Inv-loop a b n i₀ i =
     (equal (drop i a) (drop i b) ≡ equal a b) × (i ≤ length a)
@@ -18,47 +17,38 @@ abbrev μ-loop : tie.MeasureT-loop
 μ-loop a b n i₀ i =
     length a - i
 
--- src/lib.rt:42:9
 returns : tie.Need-returns Inv-loop μ-loop
 returns c =
     sym (lists.equal-lengths _ _ (c .if1 .taken))
 
--- src/lib.rt:45:5
 loop-holds : tie.Need-loop-holds Inv-loop μ-loop
 loop-holds c =
     (refl, omega arith)
 
--- src/lib.rt:46:12
 shared-slice-read-if2 : tie.Need-shared-slice-read-if2 Inv-loop μ-loop
 shared-slice-read-if2 c =
     search needs
 
--- src/lib.rt:46:20
 shared-slice-read-if2-2 : tie.Need-shared-slice-read-if2-2 Inv-loop μ-loop
 shared-slice-read-if2-2 c =
     omega (arith, c .before .before .before .before .if1 .left)
 
--- src/lib.rt:47:13
 returns-2 : tie.Need-returns-2 Inv-loop μ-loop
 returns-2 c =
     sym (lists.equal-no _ _ _ (c .before .before .before .loop-test .taken) (omega (arith, c .before .before .before .before .before .if1 .left)) (c .if2 .taken)) ∙ c .before .before .before .before .loop .inv .0
 
--- src/lib.rt:49:9
 add-i : tie.Need-add-i Inv-loop μ-loop
 add-i c =
     search needs
 
--- src/lib.rt:45:5
 loop-less : tie.Need-loop-less Inv-loop μ-loop
 loop-less c =
     search needs
 
--- src/lib.rt:45:5
 loop-again : tie.Need-loop-again Inv-loop μ-loop
 loop-again c =
     (sym (lists.equal-next _ _ _ (c .before .before .before .loop-test .taken) (omega (arith, c .before .before .before .before .before .if1 .left)) (c .if2 .left)) ∙ c .before .before .before .before .loop .inv .0, omega arith)
 
--- src/lib.rt:37:1
 returns-3 : tie.Need-returns-3 Inv-loop μ-loop
 returns-3 c =
     sym (lists.equal-end _ _ _ (c .loop-test .left) (omega (arith, c .before .before .if1 .left))) ∙ c .before .loop .inv .0

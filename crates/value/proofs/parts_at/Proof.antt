@@ -1,18 +1,12 @@
-use mathlib.Core.Path.{refl}
 use native.Mathlib.Omega.{arith}
-use mathlib.Core.Path.{sym}
 use borrow.Author.Tests.{eq-eqb, ne-eqb}
 use Rattle.value.proofs.parts_at.Statement.{statement}
 use Rattle.value.proofs.parts_at.Tie as tie
-use Rattle.value.proofs.parts_at.Reads as reads
-use Rattle.value.proofs.parts_at.Lts as lts
 
--- src/lib.rt:55:1
 returns : tie.Need-returns
 returns c =
     (rw (eq-eqb _ _ (c .if1 .taken)), omega arith)
 
--- src/lib.rt:55:1
 returns-2 : tie.Need-returns-2
 returns-2 c =
     (rw (ne-eqb _ _ (c .if1 .left)), omega arith)

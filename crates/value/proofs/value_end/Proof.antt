@@ -1,5 +1,5 @@
-use mathlib.Core.Path.{_≡_, refl, sym, _∙_}
-use Prim.Native.Nat.{_+_, _-_, _≤_}
+use mathlib.Core.Path.{_≡_, refl}
+use Prim.Native.Nat.{_+_, _-_}
 use native.Mathlib.Omega.{arith}
 use borrow.Author.Needs.{needs}
 use lib.ListN.{length, drop}
@@ -7,9 +7,8 @@ use Rattle.value.specs.Text.{valueOf}
 use Rattle.value.proofs.Parts as parts
 use Rattle.value.proofs.value_end.Statement.{statement}
 use Rattle.value.proofs.value_end.Tie as tie
-use Rattle.value.proofs.value_end.Reads as reads
-use Rattle.value.proofs.value_end.Lts as lts
 
+-- The loop: the place, with the length of the part from there on, is where the part ends.
 abbrev Inv-loop : tie.InvT-loop
 Inv-loop v from i₀ i =
     i + length (valueOf (drop i v) 0) ≡ from + length (valueOf (drop from v) 0)
@@ -18,37 +17,30 @@ abbrev μ-loop : tie.MeasureT-loop
 μ-loop v from i₀ i =
     length v - i
 
--- src/lib.rt:86:5
 loop-holds : tie.Need-loop-holds Inv-loop μ-loop
 loop-holds c =
     refl
 
--- src/lib.rt:87:12
 shared-slice-read-if1 : tie.Need-shared-slice-read-if1 Inv-loop μ-loop
 shared-slice-read-if1 c =
     search needs
 
--- src/lib.rt:88:13
 returns : tie.Need-returns Inv-loop μ-loop
 returns c =
     omega (arith, parts.place-stop (c .before .before .before .before .args .v .now) (c .before .before .before .loop .i) (c .before .before .loop-test .taken) (c .if1 .taken))
 
--- src/lib.rt:90:9
 add-i : tie.Need-add-i Inv-loop μ-loop
 add-i c =
     search needs
 
--- src/lib.rt:86:5
 loop-less : tie.Need-loop-less Inv-loop μ-loop
 loop-less c =
     search needs
 
--- src/lib.rt:86:5
 loop-again : tie.Need-loop-again Inv-loop μ-loop
 loop-again c =
     omega (arith, parts.place-next (c .before .before .before .before .args .v .now) (c .before .before .before .loop .i) (c .before .before .loop-test .taken) (c .if1 .left))
 
--- src/lib.rt:82:1
 returns-2 : tie.Need-returns-2 Inv-loop μ-loop
 returns-2 c =
     omega (arith, parts.place-end (c .before .before .args .v .now) (c .before .loop .i) (c .loop-test .left))
