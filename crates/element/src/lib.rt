@@ -9,11 +9,12 @@ ghost use lib.ListN.{length, drop};
 ghost use Rattle.node.specs.Nodes.{Node, nodesOf, nodeAt, nextNode, members, root, inside};
 ghost use Rattle.node.specs.Find.{absent, find, findVr, has};
 ghost use Rattle.node.specs.Table.{Table};
-ghost use Rattle.value.specs.Said.{Below};
+ghost use Rattle.value.specs.Said.{Below, SizeBelow};
 ghost use Rattle.element.specs.Elements.{usIn, csIs, uiIs, oneItem, theItem, insideOf, itemsIn};
-ghost use Rattle.element.specs.Frames.{framesOf, sharedItem, frameItems, groupOf, maskItems};
+ghost use Rattle.element.specs.Frames.{counted, framesOf, sharedItem, frameItems, groupOf, maskItems};
 ghost use Rattle.element.specs.Along.{Along};
 use value::Num;
+use value::Signed;
 
 const SQ: usize = 0x5351;
 
@@ -24,6 +25,18 @@ pub struct Items {
 }
 
 // ---- Among the members from `from` up to `to`
+
+// A single US.
+pub fn us_in(bytes: &[u8], rows: &[u32], from: usize, to: usize, tag: usize) -> Num
+    requires { ⌜ Table (now bytes) (now rows) × (to ≤ length (nodesOf (now bytes))) ⌝ }
+    ensures { λ r. ⌜ r ≡ usIn (nodesOf (now (bytes .entry))) tag (members (nodesOf (now (bytes .entry))) from to) ⌝ }
+    ensures { λ r. ⌜ Below 65536 r ⌝ }
+{
+    match node::find_vr(bytes, rows, from, to, tag, tags::US) {
+        Num::Lacks => Num::Lacks,
+        Num::Is(i) => value::us_of(node::value(bytes, rows, i)),
+    }
+}
 
 // A CS that is the word.
 pub fn cs_in(bytes: &[u8], rows: &[u32], from: usize, to: usize, tag: usize, word: &[u8]) -> bool
@@ -72,6 +85,14 @@ pub fn has_root(bytes: &[u8], rows: &[u32], tag: usize, vr: usize) -> bool
     node::has_vr(bytes, rows, 0, node::count(bytes, rows), tag, vr)
 }
 
+pub fn us_root(bytes: &[u8], rows: &[u32], tag: usize) -> Num
+    requires { ⌜ Table (now bytes) (now rows) ⌝ }
+    ensures { λ r. ⌜ r ≡ usIn (nodesOf (now (bytes .entry))) tag (root (nodesOf (now (bytes .entry)))) ⌝ }
+    ensures { λ r. ⌜ Below 65536 r ⌝ }
+{
+    us_in(bytes, rows, 0, node::count(bytes, rows), tag)
+}
+
 pub fn cs_root(bytes: &[u8], rows: &[u32], tag: usize, word: &[u8]) -> bool
     requires { ⌜ Table (now bytes) (now rows) ⌝ }
     ensures { λ r. ⌜ r ≡ csIs (nodesOf (now (bytes .entry))) tag (now (word .entry)) (root (nodesOf (now (bytes .entry)))) ⌝ }
@@ -106,6 +127,14 @@ pub fn find_vr_item(bytes: &[u8], rows: &[u32], item: usize, tag: usize, vr: usi
     ensures { λ r. ⌜ Below (length (nodesOf (now (bytes .entry)))) r ⌝ }
 {
     node::find_vr(bytes, rows, item + 1, node::next(bytes, rows, item), tag, vr)
+}
+
+pub fn us_item(bytes: &[u8], rows: &[u32], item: usize, tag: usize) -> Num
+    requires { ⌜ Table (now bytes) (now rows) × (item < length (nodesOf (now bytes))) ⌝ }
+    ensures { λ r. ⌜ r ≡ usIn (nodesOf (now (bytes .entry))) tag (inside (nodesOf (now (bytes .entry))) item) ⌝ }
+    ensures { λ r. ⌜ Below 65536 r ⌝ }
+{
+    us_in(bytes, rows, item + 1, node::next(bytes, rows, item), tag)
 }
 
 pub fn cs_item(bytes: &[u8], rows: &[u32], item: usize, tag: usize, word: &[u8]) -> bool
@@ -198,6 +227,31 @@ pub fn advance(bytes: &[u8], rows: &[u32], c: Items) -> Items
 }
 
 // ---- Frames
+
+// A signed number that counts: what is below zero counts nothing.
+fn counted(n: Signed) -> Num
+    requires { ⌜ SizeBelow 100000000000 n ⌝ }
+    ensures { λ r. ⌜ r ≡ counted n ⌝ }
+    ensures { λ r. ⌜ Below 100000000000 r ⌝ }
+{
+    match n {
+        Signed::Plus(k) => Num::Is(k),
+        Signed::Minus(_) => Num::Is(0),
+        Signed::Lacks => Num::Lacks,
+    }
+}
+
+// Number of Frames.
+pub fn frame_count(bytes: &[u8], rows: &[u32]) -> Num
+    requires { ⌜ Table (now bytes) (now rows) ⌝ }
+    ensures { λ r. ⌜ r ≡ framesOf (nodesOf (now (bytes .entry))) ⌝ }
+    ensures { λ r. ⌜ Below 100000000000 r ⌝ }
+{
+    match find_vr_root(bytes, rows, tags::NUMBER_OF_FRAMES, tags::IS) {
+        Num::Lacks => Num::Lacks,
+        Num::Is(i) => counted(value::is_of(node::value(bytes, rows, i))),
+    }
+}
 
 // The one item of the shared functional groups.
 pub fn shared_item(bytes: &[u8], rows: &[u32]) -> Num
