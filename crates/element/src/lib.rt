@@ -126,7 +126,14 @@ pub fn find_vr_item(bytes: &[u8], rows: &[u32], item: usize, tag: usize, vr: usi
     ensures { λ r. ⌜ r ≡ findVr (nodesOf (now (bytes .entry))) tag vr (inside (nodesOf (now (bytes .entry))) item) ⌝ }
     ensures { λ r. ⌜ Below (length (nodesOf (now (bytes .entry)))) r ⌝ }
 {
-    node::find_vr(bytes, rows, item + 1, node::next(bytes, rows, item), tag, vr)
+    node::find_vr(
+        bytes,
+        rows,
+        item + 1,
+        node::next(bytes, rows, item),
+        tag,
+        vr,
+    )
 }
 
 pub fn us_item(bytes: &[u8], rows: &[u32], item: usize, tag: usize) -> Num
@@ -141,7 +148,14 @@ pub fn cs_item(bytes: &[u8], rows: &[u32], item: usize, tag: usize, word: &[u8])
     requires { ⌜ Table (now bytes) (now rows) × (item < length (nodesOf (now bytes))) ⌝ }
     ensures { λ r. ⌜ r ≡ csIs (nodesOf (now (bytes .entry))) tag (now (word .entry)) (inside (nodesOf (now (bytes .entry))) item) ⌝ }
 {
-    cs_in(bytes, rows, item + 1, node::next(bytes, rows, item), tag, word)
+    cs_in(
+        bytes,
+        rows,
+        item + 1,
+        node::next(bytes, rows, item),
+        tag,
+        word,
+    )
 }
 
 // ---- Items of a sequence
