@@ -18,7 +18,7 @@ use Rattle.element.specs.Tags.{DS, FL}
 use Rattle.element.specs.Elements.{valueAt, usIn, oneItem, theItem, every, some}
 use Rattle.element.specs.Frames.{frameItem, sharedItem, groupOf}
 
--- At frame f: what is asked of the shared item and item f.
+-- At frame f: what is asked of the shared item s and item f, whose node is i.
 abbrev pub atFrame : List Node → ℕ → (ℕ → ℕ → Bool) → Bool
 atFrame ns f asked = holds (sharedItem ns) (λ s. holds (frameItem ns f) (λ i. asked s i))
 
@@ -29,18 +29,26 @@ isShared ns s j = eqb (nodeAt ns j .vr) SQ && holds (findVr ns (nodeAt ns j .tag
 unfoldable pub repeatsShared : List Node → ℕ → ℕ → Bool
 repeatsShared ns s i = some (isShared ns s) (inside ns i)
 
+unfoldable pub item27 : List Node → ℕ → ℕ → Bool
+item27 ns s i = not (repeatsShared ns s i)
+
 unfoldable pub rule27 : List Node → ℕ → Bool
-rule27 ns f = atFrame ns f (λ s i. not (repeatsShared ns s i))
+rule27 ns f = atFrame ns f (item27 ns)
 
 -- Rule 28. Frame Content (0020,9111) absent, of any VR, from the shared item, one item in f.
+unfoldable pub item28 : List Node → ℕ → ℕ → Bool
+item28 ns s i =
+    absent (find ns Tags.FrameContentSequence (inside ns s)) && holds (find ns Tags.FrameContentSequence (inside ns i)) (oneItem ns)
+
 unfoldable pub rule28 : List Node → ℕ → Bool
-rule28 ns f =
-    atFrame ns f (λ s i.
-    absent (find ns Tags.FrameContentSequence (inside ns s)) && holds (find ns Tags.FrameContentSequence (inside ns i)) (oneItem ns))
+rule28 ns f = atFrame ns f (item28 ns)
 
 -- Rule 29. Frame Characteristics (0018,9412), if present, one item.
+unfoldable pub item29 : List Node → ℕ → ℕ → Bool
+item29 ns s i = ifPresent (groupOf ns Tags.FrameCharacteristicsSequence s i) (oneItem ns)
+
 unfoldable pub rule29 : List Node → ℕ → Bool
-rule29 ns f = atFrame ns f (λ s i. ifPresent (groupOf ns Tags.FrameCharacteristicsSequence s i) (oneItem ns))
+rule29 ns f = atFrame ns f (item29 ns)
 
 -- Rule 30. Frame VOI LUT (0028,9132), if present, one item; has Window Center (0028,1050) and Width (0028,1051) DS,
 -- equally many, each of the form of a DS number; widths at least 1. (An empty value is no number.)
@@ -54,8 +62,11 @@ hasWindow ns is =
 unfoldable pub isVoi : List Node → ℕ → Bool
 isVoi ns g = holds (theItem ns g) (λ j. hasWindow ns (inside ns j))
 
+unfoldable pub item30 : List Node → ℕ → ℕ → Bool
+item30 ns s i = ifPresent (groupOf ns Tags.FrameVOILUTSequence s i) (isVoi ns)
+
 unfoldable pub rule30 : List Node → ℕ → Bool
-rule30 ns f = atFrame ns f (λ s i. ifPresent (groupOf ns Tags.FrameVOILUTSequence s i) (isVoi ns))
+rule30 ns f = atFrame ns f (item30 ns)
 
 -- Rule 37. Frame Pixel Shift (0028,9415), if present, at least one item; each has an ID (US), none twice, and has a shift
 -- as in rule 35.
@@ -88,5 +99,8 @@ unfoldable pub isShiftGroup : List Node → ℕ → Bool
 isShiftGroup ns g =
     eqb (nodeAt ns g .vr) SQ && (leb 1 (length (inside ns g)) && (every (isShiftItem ns) (inside ns g) && uniqueIds ns (inside ns g)))
 
+unfoldable pub item37 : List Node → ℕ → ℕ → Bool
+item37 ns s i = ifPresent (groupOf ns Tags.FramePixelShiftSequence s i) (isShiftGroup ns)
+
 unfoldable pub rule37 : List Node → ℕ → Bool
-rule37 ns f = atFrame ns f (λ s i. ifPresent (groupOf ns Tags.FramePixelShiftSequence s i) (isShiftGroup ns))
+rule37 ns f = atFrame ns f (item37 ns)

@@ -2,3 +2,4 @@ pub mod Root
 pub mod Frame
 pub mod Mask
 pub mod Pixels
+pub mod All
