@@ -1,0 +1,33 @@
+-- A test of every member, and of some member, one member at a time.
+use mathlib.Core.Path.{_≡_, refl}
+use Prim.Native.Nat.{ℕ, _≤_, _<_}
+use mathlib.Core.List.{List}
+use mathlib.Core.Bool.{Bool, true, false}
+use Rattle.node.specs.Nodes.{Node, nextNode, members}
+use Rattle.node.proofs.Walks.{members-end, members-next}
+use Rattle.element.specs.Elements.{every, some}
+
+module _ (p : ℕ → Bool) (ns : List Node) (i to : ℕ) where
+  pub every-end : to ≤ i → every p (members ns i to) ≡ true
+  unfolding every
+  every-end h = rw (members-end ns i to h)
+
+  pub every-no : i < to → p i ≡ false → every p (members ns i to) ≡ false
+  unfolding every
+  every-no h e = rw (members-next ns i to h, e)
+
+  pub every-later : i < to → p i ≡ true → every p (members ns i to) ≡ every p (members ns (nextNode ns i) to)
+  unfolding every
+  every-later h e = rw (members-next ns i to h, e)
+
+  pub some-end : to ≤ i → some p (members ns i to) ≡ false
+  unfolding some
+  some-end h = rw (members-end ns i to h)
+
+  pub some-here : i < to → p i ≡ true → some p (members ns i to) ≡ true
+  unfolding some
+  some-here h e = rw (members-next ns i to h, e)
+
+  pub some-later : i < to → p i ≡ false → some p (members ns i to) ≡ some p (members ns (nextNode ns i) to)
+  unfolding some
+  some-later h e = rw (members-next ns i to h, e)
