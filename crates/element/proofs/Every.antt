@@ -1,6 +1,10 @@
 -- A test of every member, and of some member, one member at a time.
 use mathlib.Core.Path.{_≡_, refl}
-use Prim.Native.Nat.{ℕ, _≤_, _<_}
+use Prim.Native.Nat.{ℕ, suc, _≤_, _<_}
+use native.Mathlib.Omega.{arith}
+use lib.ListN.{length}
+use lib.Dec.{leb}
+use borrow.Author.Tests.{le-leb}
 use mathlib.Core.List.{List}
 use mathlib.Core.Bool.{Bool, true, false}
 use Rattle.node.specs.Nodes.{Node, nextNode, members}
@@ -31,3 +35,11 @@ module _ (p : ℕ → Bool) (ns : List Node) (i to : ℕ) where
   pub some-later : i < to → p i ≡ false → some p (members ns i to) ≡ some p (members ns (nextNode ns i) to)
   unfolding some
   some-later h e = rw (members-next ns i to h, e)
+
+-- At least one member, or none.
+module _ (ns : List Node) (i to : ℕ) where
+  pub members-some : i < to → leb 1 (length (members ns i to)) ≡ true
+  members-some h = rw (members-next ns i to h) (le-leb 1 (suc (length (members ns (nextNode ns i) to))) (omega arith))
+
+  pub members-none : to ≤ i → leb 1 (length (members ns i to)) ≡ false
+  members-none h = rw (members-end ns i to h)

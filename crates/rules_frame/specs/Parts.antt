@@ -5,10 +5,11 @@ use mathlib.Core.List.{List}
 use mathlib.Core.Bool.{Bool, true, cond}
 use lib.Dec.{eqb}
 use Rattle.node.specs.Nodes.{Node, inside}
-use Rattle.node.specs.Find.{absent, ifPresent, find}
+use Rattle.value.specs.declared.Num.{Num}
+use Rattle.value.specs.declared.Num.the-variants.{Is, Lacks}
+use Rattle.node.specs.Find.{absent, find}
 use Rattle.element.specs.Tags
 use Rattle.element.specs.Elements.{oneItem}
-use Rattle.element.specs.Frames.{groupOf}
 use Rattle.rules.specs.Frame.{item27, item28, isVoi, isShiftGroup}
 
 -- The functional group that rule 29, 30 or 37 is of, and what it asks of the group.
@@ -18,16 +19,24 @@ groupTag rule = cond (eqb rule 29) Tags.FrameCharacteristicsSequence (cond (eqb 
 unfoldable pub groupFits : List Node → ℕ → ℕ → Bool
 groupFits ns rule g = cond (eqb rule 29) (oneItem ns g) (cond (eqb rule 30) (isVoi ns g) (isShiftGroup ns g))
 
+-- What rule 29, 30 or 37 asks of an item alone; `otherwise` where the item has no such group.
+abbrev pub onGroup : Num → (ℕ → Bool) → Bool → Bool
+onGroup Lacks fits otherwise = otherwise
+onGroup (Is g) fits otherwise = fits g
+
+unfoldable pub groupIn : List Node → ℕ → ℕ → Bool → Bool
+groupIn ns rule i otherwise = onGroup (find ns (groupTag rule) (inside ns i)) (groupFits ns rule) otherwise
+
 -- What a rule asks of the shared item s alone.
 unfoldable pub sharedPart : List Node → ℕ → ℕ → Bool
 sharedPart ns rule s =
     cond (eqb rule 27) true
     (cond (eqb rule 28) (absent (find ns Tags.FrameContentSequence (inside ns s)))
-    (ifPresent (find ns (groupTag rule) (inside ns s)) (groupFits ns rule)))
+    (groupIn ns rule s true))
 
 -- What a rule asks of the shared item s and a frame's item i.
 unfoldable pub itemRule : List Node → ℕ → ℕ → ℕ → Bool
 itemRule ns rule s i =
     cond (eqb rule 27) (item27 ns s i)
     (cond (eqb rule 28) (item28 ns s i)
-    (ifPresent (groupOf ns (groupTag rule) s i) (groupFits ns rule)))
+    (groupIn ns rule i (groupIn ns rule s true)))
