@@ -1,0 +1,3 @@
+-- What the proofs of several functions use, and the theorems over the definitions.
+pub mod FrameRules
+pub mod First
