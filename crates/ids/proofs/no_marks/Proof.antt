@@ -1,10 +1,7 @@
 use Rattle.ids.proofs.Laws as laws
 use Rattle.ids.proofs.no_marks.Statement.{statement}
 use Rattle.ids.proofs.no_marks.Tie as tie
-use Rattle.ids.proofs.no_marks.Reads as reads
-use Rattle.ids.proofs.no_marks.Lts as lts
 
--- src/lib.rt:70:1
 returns : tie.Need-returns
 returns c = laws.no-marks 65536
 

@@ -1,21 +1,15 @@
 use lib.ListN.{length-set}
 use borrow.Author.Needs.{needs}
-use mathlib.Core.Path.{_≡_, refl, sym, ap, _∙_}
+use mathlib.Core.Path.{_≡_, sym, _∙_}
 use native.Mathlib.Omega.{arith}
-use mathlib.Core.List.{List}
-use Prim.Native.Nat.{ℕ, _+_, _-_, _≤_, _<_}
+use Prim.Native.Nat.{_-_}
 use lib.ListN.{length}
 use Rattle.node.specs.Nodes.{nodesOf, members}
-use Rattle.rules.specs.Frame.{isIn, uniqueIds}
+use Rattle.rules.specs.Frame.{uniqueIds}
 use Rattle.ids.specs.Marks.{idsOf}
 use Rattle.ids.proofs.Laws as laws
 use Rattle.ids.proofs.unique_marks.Statement.{statement}
 use Rattle.ids.proofs.unique_marks.Tie as tie
-use Rattle.ids.proofs.unique_marks.Reads as reads
-use Rattle.ids.proofs.unique_marks.Lts as lts
-use Rattle.ids.proofs.id_of.Reads as id-of-reads
-use Rattle.ids.proofs.no_marks.Reads as no-marks-reads
-use Rattle.node.proofs.next.Reads as next-reads
 
 abbrev Inv-loop : tie.InvT-loop
 Inv-loop bytes rows from to marks₀ at₀ marks at =
@@ -24,46 +18,36 @@ Inv-loop bytes rows from to marks₀ at₀ marks at =
 abbrev μ-loop : tie.MeasureT-loop
 μ-loop bytes rows from to marks₀ at₀ marks at = to - at
 
--- src/lib.rt:81:21
 no-marks-requires : tie.Need-no-marks-requires Inv-loop μ-loop
 no-marks-requires c κs = search needs
 
--- src/lib.rt:83:5
 loop-holds : tie.Need-loop-holds Inv-loop μ-loop
 loop-holds c =
     (c .no-marks .ensures .size, laws.fresh-start _ _ _ _ (c .no-marks .ensures .zeros))
 
--- src/lib.rt:84:13
 id-of-requires : tie.Need-id-of-requires Inv-loop μ-loop
 id-of-requires c κs = search needs
 
--- src/lib.rt:85:12
 array-read-if1 : tie.Need-array-read-if1 Inv-loop μ-loop
 array-read-if1 c = search needs
 
--- src/lib.rt:86:13
 returns : tie.Need-returns Inv-loop μ-loop
 returns c =
     sym (laws.fresh-marked _ _ _ _ _ (c .before .id-of .ensures .0) (c .before .before .loop-test .taken) (c .if1 .taken)) ∙ c .before .before .before .loop .inv .1
 
--- src/lib.rt:88:9
 array-write-marks : tie.Need-array-write-marks Inv-loop μ-loop
 array-write-marks c = search needs
 
--- src/lib.rt:89:9
 next-requires : tie.Need-next-requires Inv-loop μ-loop
 next-requires c κs = search needs
 
--- src/lib.rt:83:5
 loop-less : tie.Need-loop-less Inv-loop μ-loop
 loop-less c = search needs
 
--- src/lib.rt:83:5
 loop-again : tie.Need-loop-again Inv-loop μ-loop
 loop-again c =
     (omega (arith, length-set (c .before .before .before .before .loop .marks) (c .before .before .id-of .result) 1, c .before .before .before .before .loop .inv .0), rw (c .next .ensures .0) (laws.fresh-later _ _ _ _ _ (c .before .before .id-of .ensures .0) (c .before .before .before .loop-test .taken) (omega (arith, c .before .before .id-of .ensures .1, c .before .before .before .before .loop .inv .0)) (c .before .if1 .left) ∙ c .before .before .before .before .loop .inv .1))
 
--- src/lib.rt:77:1
 returns-2 : tie.Need-returns-2 Inv-loop μ-loop
 returns-2 c =
     sym (laws.fresh-end _ _ _ _ (c .loop-test .left)) ∙ c .before .loop .inv .1
