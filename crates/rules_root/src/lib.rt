@@ -1,14 +1,16 @@
 // The rules of elements in the root, 1 to 26, and of the pixel data, 38: whether each holds of a data set.
 ghost use mathlib.Core.Path.{_≡_};
-ghost use Prim.Native.Nat.{ℕ};
-ghost use mathlib.Core.Bool.{Bool};
-ghost use lib.Dec.{leb};
-ghost use Rattle.node.specs.Nodes.{Node, nodesOf, root};
+ghost use Prim.Native.Nat.{_*_, _≤_, _<_};
+ghost use lib.ListN.{length};
+ghost use lib.Dec.{eqb, leb};
+ghost use Rattle.node.specs.Nodes.{nodesOf, root};
 ghost use Rattle.node.specs.Find.{holds};
 ghost use Rattle.node.specs.Table.{Table};
 ghost use Rattle.element.specs.Elements.{usIn};
 ghost use Rattle.rules.specs.Root.{isXa, isXrf, imageTypeIs, isImageType, planesAre, isOtherPlane, photometricIs, bitsFit, lossyIs, isOriginal, hasRadiation, hasExposure};
 ghost use Rattle.rules.specs.Root.{rule1, rule2, rule3, rule4, rule5, rule6, rule7, rule8, rule9, rule10, rule11, rule12, rule13, rule14, rule15, rule16, rule17, rule18, rule19, rule20, rule21, rule22, rule23, rule24, rule25, rule26};
+ghost use Rattle.rules.specs.Pixels.{padded, isPixelVr, isPixelData, rule38};
+ghost use Rattle.rules.specs.All.{ruleAt};
 use element::tags;
 use value::Num;
 
@@ -215,7 +217,7 @@ fn rule_8(bytes: &[u8], rows: &[u32]) -> bool
     element::has_root(bytes, rows, tags::ACQUISITION_DATETIME, tags::DT)
 }
 
-// ---- How the cells are stored
+// ---- How the samples are stored
 
 // Rule 9: Samples per Pixel.
 fn rule_9(bytes: &[u8], rows: &[u32]) -> bool
@@ -490,7 +492,7 @@ fn rule_24(bytes: &[u8], rows: &[u32]) -> bool
 
 // ---- Functional groups
 
-// Rule 25: the shared groups are one item.
+// Rule 25: the shared functional groups are one item.
 fn rule_25(bytes: &[u8], rows: &[u32]) -> bool
     requires { ⌜ Table (now bytes) (now rows) ⌝ }
     ensures { λ r. ⌜ r ≡ rule25 (nodesOf (now (bytes .entry))) ⌝ }
@@ -501,7 +503,7 @@ fn rule_25(bytes: &[u8], rows: &[u32]) -> bool
     }
 }
 
-// Rule 26: the per-frame groups are an item for each frame.
+// Rule 26: the per-frame functional groups are an item for each frame.
 fn rule_26(bytes: &[u8], rows: &[u32]) -> bool
     requires { ⌜ Table (now bytes) (now rows) ⌝ }
     ensures { λ r. ⌜ r ≡ rule26 (nodesOf (now (bytes .entry))) ⌝ }
@@ -518,4 +520,120 @@ fn rule_26(bytes: &[u8], rows: &[u32]) -> bool
         return false;
     };
     element::count_items(bytes, rows, groups) == frames
+}
+
+// ---- Pixel data
+
+fn is_pixel_vr(vr: usize, allocated: usize) -> bool
+    ensures { λ r. ⌜ r ≡ isPixelVr vr allocated ⌝ }
+{
+    if vr == tags::OW {
+        true
+    } else {
+        if vr == tags::OB {
+            allocated == 8
+        } else {
+            false
+        }
+    }
+}
+
+// A length of so many parts of a size, plus 1 if odd. Where their product is above the length it may fit no usize.
+fn is_padded(length: usize, count: usize, size: usize) -> bool
+    ensures { λ r. ⌜ r ≡ eqb length (padded (count * size)) ⌝ }
+{
+    if size == 0 {
+        length == 0
+    } else {
+        if length / size < count {
+            false
+        } else {
+            let whole = count * size;
+            length - whole == whole % 2
+        }
+    }
+}
+
+fn is_pixel_data(
+    bytes: &[u8],
+    rows: &[u32],
+    frames: usize,
+    height: usize,
+    width: usize,
+    allocated: usize,
+    i: usize,
+) -> bool
+    requires { ⌜ Table (now bytes) (now rows) × ((i < length (nodesOf (now bytes))) × ((frames < 100000000000) × ((height < 65536) × ((width < 65536) × (allocated < 65536))))) ⌝ }
+    ensures { λ r. ⌜ r ≡ isPixelData (nodesOf (now (bytes .entry))) frames height width allocated i ⌝ }
+{
+    if is_pixel_vr(node::vr(bytes, rows, i), allocated) {
+        is_padded(
+            node::value(bytes, rows, i).len(),
+            frames * height,
+            width * (allocated / 8),
+        )
+    } else {
+        false
+    }
+}
+
+// Rule 38: Pixel Data.
+pub fn rule_38(bytes: &[u8], rows: &[u32]) -> bool
+    requires { ⌜ Table (now bytes) (now rows) ⌝ }
+    ensures { λ r. ⌜ r ≡ rule38 (nodesOf (now (bytes .entry))) ⌝ }
+    ensures { λ r. ⌜ r ≡ ruleAt (nodesOf (now (bytes .entry))) 38 0 ⌝ }
+{
+    let Num::Is(frames) = element::frame_count(bytes, rows) else {
+        return false;
+    };
+    let Num::Is(height) = element::us_root(bytes, rows, tags::ROWS) else {
+        return false;
+    };
+    let Num::Is(width) = element::us_root(bytes, rows, tags::COLUMNS) else {
+        return false;
+    };
+    let Num::Is(allocated) = element::us_root(bytes, rows, tags::BITS_ALLOCATED) else {
+        return false;
+    };
+    let Num::Is(i) = element::find_root(bytes, rows, tags::PIXEL_DATA) else {
+        return false;
+    };
+    is_pixel_data(bytes, rows, frames, height, width, allocated, i)
+}
+
+// ---- By their numbers
+
+// Whether a rule from 1 to 26 holds.
+pub fn root_rule(bytes: &[u8], rows: &[u32], rule: usize) -> bool
+    requires { ⌜ Table (now bytes) (now rows) × ((1 ≤ rule) × (rule ≤ 26)) ⌝ }
+    ensures { λ r. ⌜ r ≡ ruleAt (nodesOf (now (bytes .entry))) rule 0 ⌝ }
+{
+    match rule {
+        1 => rule_1(bytes, rows),
+        2 => rule_2(bytes, rows),
+        3 => rule_3(bytes, rows),
+        4 => rule_4(bytes, rows),
+        5 => rule_5(bytes, rows),
+        6 => rule_6(bytes, rows),
+        7 => rule_7(bytes, rows),
+        8 => rule_8(bytes, rows),
+        9 => rule_9(bytes, rows),
+        10 => rule_10(bytes, rows),
+        11 => rule_11(bytes, rows),
+        12 => rule_12(bytes, rows),
+        13 => rule_13(bytes, rows),
+        14 => rule_14(bytes, rows),
+        15 => rule_15(bytes, rows),
+        16 => rule_16(bytes, rows),
+        17 => rule_17(bytes, rows),
+        18 => rule_18(bytes, rows),
+        19 => rule_19(bytes, rows),
+        20 => rule_20(bytes, rows),
+        21 => rule_21(bytes, rows),
+        22 => rule_22(bytes, rows),
+        23 => rule_23(bytes, rows),
+        24 => rule_24(bytes, rows),
+        25 => rule_25(bytes, rows),
+        _ => rule_26(bytes, rows),
+    }
 }
