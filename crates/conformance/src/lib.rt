@@ -124,22 +124,14 @@ fn frame_total(bytes: &[u8], rows: &[u32]) -> usize
 fn first_frame(rule: usize) -> usize
     ensures { λ r. ⌜ r ≡ firstFrame rule ⌝ }
 {
-    if verdict::per_frame(rule) {
-        1
-    } else {
-        0
-    }
+    if verdict::per_frame(rule) { 1 } else { 0 }
 }
 
 fn end_frame(rule: usize, n: usize) -> usize
     requires { ⌜ n < 100000000000 ⌝ }
     ensures { λ r. ⌜ (r ≡ endFrame n rule) × (r ≤ 100000000000) ⌝ }
 {
-    if verdict::per_frame(rule) {
-        n + 1
-    } else {
-        1
-    }
+    if verdict::per_frame(rule) { n + 1 } else { 1 }
 }
 
 // The first broken rule, and at that rule the lowest frame.

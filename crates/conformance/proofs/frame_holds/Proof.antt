@@ -24,9 +24,16 @@ enum-known-shared c = search needs
 -- src/lib.rt:68:17
 item-rule-requires : tie.Need-item-rule-requires
 item-rule-requires c κs =
-    let p = c .before .before .before .before .before .before .pre in
-    (p .0, (node-laws.within _ (c .before .before .shared .given .1) (p .1 .0), (omega (arith, c .if1 .taken, p .1 .1 .1 .1 .1 .inner),
-    p .1 .1 .1 .0 ∙ ap (λ (x : Num). okFor (nodesOf (c .before .before .before .before .before .before .args .bytes .now)) (c .before .before .before .before .before .before .args .rule) x) (c .before .before .shared .given .1))))
+    let p = c .before .before .before .before .before .before .pre in (
+      p .0,
+      (
+        node-laws.within _ (c .before .before .shared .given .1) (p .1 .0),
+        (
+          omega (arith, c .if1 .taken, p .1 .1 .1 .1 .1 .inner),
+          p .1 .1 .1 .0 ∙ ap (λ (x : Num). okFor (nodesOf (c .before .before .before .before .before .before .args .bytes .now)) (c .before .before .before .before .before .before .args .rule) x) (c .before .before .shared .given .1),
+        ),
+      ),
+    )
 
 -- src/lib.rt:50:1
 returns : tie.Need-returns
