@@ -61,20 +61,20 @@ pub enum ReadAnswer {
     NoRoom,
 }
 
-fn wide(x: u8) -> usize
+pub fn wide(x: u8) -> usize
     ensures { λ r. ⌜ (r ≡ x) × (r < 256) ⌝ }
 {
     x as usize
 }
 
-fn u16_at(s: &[u8], p: usize) -> usize
+pub fn u16_at(s: &[u8], p: usize) -> usize
     requires { ⌜ p + 2 ≤ length (now s) ⌝ }
     ensures { λ r. ⌜ (r ≡ le16 (now (s .entry)) p) × (r < 65536) ⌝ }
 {
     wide(s[p]) + 256 * wide(s[p + 1])
 }
 
-fn u32_at(s: &[u8], p: usize) -> usize
+pub fn u32_at(s: &[u8], p: usize) -> usize
     requires { ⌜ p + 4 ≤ length (now s) ⌝ }
     ensures { λ r. ⌜ (r ≡ le32 (now (s .entry)) p) × (r < 4294967296) ⌝ }
 {

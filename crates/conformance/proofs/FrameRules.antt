@@ -1,0 +1,118 @@
+-- A rule that is asked at each frame is what the code asks of the shared item and the frame's item; any other rule does
+-- not look at the frame.
+use mathlib.Core.Path.{_≡_, refl, sym, ap, _∙_, subst}
+use Prim.Native.Nat.{ℕ, zero, suc, _+_, _-_, _≤_, _<_}
+use native.Mathlib.Omega.{arith}
+use mathlib.Core.List.{List, [], _∷_}
+use mathlib.Core.Bool.{Bool, true, false, cond, _&&_, _||_}
+use mathlib.Core.Logic.{_⊎_, inl, inr}
+use lib.ListN.{drop}
+use lib.Dec.{eqb, leb}
+use borrow.Author.Tests.{eq-eqb, ne-eqb, eqb-true, eqb-false, leb-true, leb-false}
+use Rattle.value.specs.declared.Num.{Num}
+use Rattle.value.specs.declared.Num.the-variants.{Is, Lacks}
+use Rattle.verdict.specs.Verdict.{perFrame}
+use Rattle.node.specs.Nodes.{Node, inside}
+use Rattle.node.specs.Find.{holds, ifPresent, orElse, find}
+use Rattle.node.proofs.Walks.{members-end, members-next}
+use Rattle.element.specs.declared.Items.{Items}
+use Rattle.element.specs.Elements.{first}
+use Rattle.element.specs.Along.{Along}
+use Rattle.element.specs.Frames.{sharedItem, frameItem, frameItems, groupOf}
+use Rattle.rules.specs.Frame.{atFrame, item27, item28, item29, item30, item37, rule27, rule28, rule29, rule30, rule37}
+use Rattle.rules.specs.All.{ruleList, ruleAt}
+use Rattle.rules_frame.specs.Parts.{groupTag, groupFits, onGroup, groupIn, itemRule}
+
+true-not-false : true ≡ false → ⊥
+true-not-false w = let u : _≡_ {A = ℕ} 0 1 = cc in omega arith
+
+-- What is asked of the items may be put in other words.
+at-same : (ns : List Node) (f : ℕ) (p q : ℕ → ℕ → Bool) → ((s i : ℕ) → p s i ≡ q s i) → atFrame ns f p ≡ atFrame ns f q
+at-same ns f p q e = go (sharedItem ns) (frameItem ns f)
+  where
+    go : (a b : Num) → holds a (λ s. holds b (λ i. p s i)) ≡ holds a (λ s. holds b (λ i. q s i))
+    go Lacks b = refl
+    go (Is s) Lacks = refl
+    go (Is s) (Is i) = e s i
+
+-- The group in the item, else the shared one.
+group-join : (a b : Num) (p : ℕ → Bool) → onGroup a p (onGroup b p true) ≡ ifPresent (orElse a b) p
+group-join Lacks Lacks p = refl
+group-join Lacks (Is s) p = refl
+group-join (Is g) b p = refl
+
+module _ (ns : List Node) (f : ℕ) where
+  same27 : (s i : ℕ) → item27 ns s i ≡ itemRule ns 27 s i
+  unfolding itemRule
+  same27 s i = refl
+
+  asked27 : ruleAt ns 27 f ≡ atFrame ns f (itemRule ns 27)
+  unfolding ruleAt ruleList rule27
+  asked27 = at-same ns f (item27 ns) (itemRule ns 27) same27
+
+  same28 : (s i : ℕ) → item28 ns s i ≡ itemRule ns 28 s i
+  unfolding itemRule
+  same28 s i = refl
+
+  asked28 : ruleAt ns 28 f ≡ atFrame ns f (itemRule ns 28)
+  unfolding ruleAt ruleList rule28
+  asked28 = at-same ns f (item28 ns) (itemRule ns 28) same28
+
+  same29 : (s i : ℕ) → item29 ns s i ≡ itemRule ns 29 s i
+  unfolding itemRule item29 groupIn groupTag groupFits
+  same29 s i = sym (group-join (find ns (groupTag 29) (inside ns i)) (find ns (groupTag 29) (inside ns s)) (groupFits ns 29))
+
+  asked29 : ruleAt ns 29 f ≡ atFrame ns f (itemRule ns 29)
+  unfolding ruleAt ruleList rule29
+  asked29 = at-same ns f (item29 ns) (itemRule ns 29) same29
+
+  same30 : (s i : ℕ) → item30 ns s i ≡ itemRule ns 30 s i
+  unfolding itemRule item30 groupIn groupTag groupFits
+  same30 s i = sym (group-join (find ns (groupTag 30) (inside ns i)) (find ns (groupTag 30) (inside ns s)) (groupFits ns 30))
+
+  asked30 : ruleAt ns 30 f ≡ atFrame ns f (itemRule ns 30)
+  unfolding ruleAt ruleList rule30
+  asked30 = at-same ns f (item30 ns) (itemRule ns 30) same30
+
+  same37 : (s i : ℕ) → item37 ns s i ≡ itemRule ns 37 s i
+  unfolding itemRule item37 groupIn groupTag groupFits
+  same37 s i = sym (group-join (find ns (groupTag 37) (inside ns i)) (find ns (groupTag 37) (inside ns s)) (groupFits ns 37))
+
+  asked37 : ruleAt ns 37 f ≡ atFrame ns f (itemRule ns 37)
+  unfolding ruleAt ruleList rule37
+  asked37 = at-same ns f (item37 ns) (itemRule ns 37) same37
+
+  -- The rules that are asked at each frame are 27, 28, 29, 30 and 37.
+  pub asked : (rule : ℕ) → perFrame rule ≡ true → ruleAt ns rule f ≡ atFrame ns f (itemRule ns rule)
+  unfolding perFrame
+  asked rule h = go (eqb rule 37) refl (eqb rule 27) refl (eqb rule 28) refl (eqb rule 29) refl (eqb rule 30) refl
+    where
+      Goal : ℕ → Type 0
+      Goal r = ruleAt ns r f ≡ atFrame ns f (itemRule ns r)
+
+      from : (k : ℕ) → eqb rule k ≡ true → Goal k → Goal rule
+      from k e g = subst Goal (sym (eqb-true rule k e)) g
+
+      range : (a b c : Bool) → leb 27 rule ≡ a → leb rule 30 ≡ b → c ≡ false → (a && b) || c ≡ true → (27 ≤ rule) × (rule ≤ 30)
+      range true true c x y z t = (leb-true 27 rule x, leb-true rule 30 y)
+      range true false c x y z t = absurd (true-not-false (sym t ∙ z))
+      range false b c x y z t = absurd (true-not-false (sym t ∙ z))
+
+      go : (a : Bool) → eqb rule 37 ≡ a → (b : Bool) → eqb rule 27 ≡ b → (c : Bool) → eqb rule 28 ≡ c → (d : Bool) → eqb rule 29 ≡ d → (e : Bool) → eqb rule 30 ≡ e → Goal rule
+      go true p b q c r d s e t = from 37 p asked37
+      go false p true q c r d s e t = from 27 q asked27
+      go false p false q true r d s e t = from 28 r asked28
+      go false p false q false r true s e t = from 29 s asked29
+      go false p false q false r false s true t = from 30 t asked30
+      go false p false q false r false s false t =
+          let w = range (leb 27 rule) (leb rule 30) (eqb rule 37) refl refl p h in
+          absurd (omega (arith, w, eqb-false rule 27 q, eqb-false rule 28 r, eqb-false rule 29 s, eqb-false rule 30 t))
+
+-- ---- The frame's item is the first of those that are left
+
+module _ (ns : List Node) (f : ℕ) (c : Items) (w : Along ns (drop (f - 1) (frameItems ns)) c) where
+  pub item-here : c .at < c .end → frameItem ns f ≡ Is (c .at)
+  item-here h = ap first (sym (w .ahead) ∙ members-next ns (c .at) (c .end) h)
+
+  pub item-none : c .end ≤ c .at → frameItem ns f ≡ Lacks
+  item-none h = ap first (sym (w .ahead) ∙ members-end ns (c .at) (c .end) h)

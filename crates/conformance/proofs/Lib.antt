@@ -1,0 +1,4 @@
+-- What the proofs of several functions use, and the theorems over the definitions.
+pub mod FrameRules
+pub mod First
+pub mod Loops

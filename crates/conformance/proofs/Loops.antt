@@ -1,0 +1,149 @@
+-- The search over rules and frames, at the counts that the loops have; and the row table that a reading left.
+use mathlib.Core.Path.{_≡_, refl, sym, ap, _∙_, subst}
+use mathlib.Core.Bool.{Bool, true, false, cond, _&&_, _||_}
+use mathlib.Core.List.{List, [], _∷_, _++_}
+use Prim.Native.Nat.{ℕ, zero, suc, _+_, _-_, _*_, _<_, _≤_}
+use native.Mathlib.Omega.{arith}
+use lib.ListN.{length, take, drop, length-append}
+use lib.Seq.{take-at, drop-drop}
+use lib.Dec.{eqb, leb}
+use borrow.Author.Tests.{le-leb, leb-true, leb-false, eqb-true, eqb-false}
+use Rattle.dataset.specs.Reading.{Row, Reading, tooLarge, refusedAt, read, readingOf}
+use Rattle.dataset.specs.Answer.{flat, fits, answerOf, bufferOf}
+use Rattle.dataset.specs.Tree.{rowsIn, rowsOf}
+use Rattle.dataset.specs.declared.ReadAnswer.{ReadAnswer}
+use Rattle.dataset.specs.declared.ReadAnswer.the-variants as answer
+use Rattle.dataset.proofs.Buffer.{length-flat}
+use Rattle.verdict.specs.Verdict.{perFrame}
+use Rattle.node.specs.Nodes.{Node, members}
+use Rattle.node.specs.Table.{Table}
+use Rattle.node.proofs.Laws.{table}
+use Rattle.element.specs.declared.Items.{Items}
+use Rattle.element.specs.Along.{Along}
+use Rattle.element.specs.Frames.{framesOf, frameItems}
+use Rattle.rules.specs.All.{ruleAt}
+use Rattle.conformance.specs.declared.Finding.{Finding}
+use Rattle.conformance.specs.declared.Finding.the-variants.{Accepted, Broken}
+use Rattle.conformance.specs.Judging.{numberOf, firstFrame, frameCount, lowest, firstBroken}
+use Rattle.conformance.specs.Parts.{endFrame, Asked}
+
+-- ---- Which rules are asked once
+
+true-not-false : true ≡ false → ⊥
+true-not-false w = let u : _≡_ {A = ℕ} 0 1 = cc in omega arith
+
+per-frame-range : (rule : ℕ) → 27 ≤ rule → rule ≤ 30 → perFrame rule ≡ true
+unfolding perFrame
+per-frame-range rule a b = rw (le-leb 27 rule a, le-leb rule 30 b)
+
+per-frame-37 : perFrame 37 ≡ true
+unfolding perFrame
+per-frame-37 = refl
+
+-- A rule from 27 on that is asked once is 31 at least, and from 37 on it is 38.
+pub once-mask : (rule : ℕ) → perFrame rule ≡ false → 26 < rule → 31 ≤ rule
+once-mask rule h l = go (leb rule 30) refl
+  where
+    go : (b : Bool) → leb rule 30 ≡ b → 31 ≤ rule
+    go true e = absurd (true-not-false (sym (per-frame-range rule (omega arith) (leb-true rule 30 e)) ∙ h))
+    go false e = omega (arith, leb-false rule 30 e)
+
+pub once-last : (rule : ℕ) → perFrame rule ≡ false → 36 < rule → rule ≤ 38 → rule ≡ 38
+once-last rule h l m = go (eqb rule 37) refl
+  where
+    go : (b : Bool) → eqb rule 37 ≡ b → rule ≡ 38
+    go true e = absurd (true-not-false (sym per-frame-37 ∙ subst (λ (x : ℕ). perFrame x ≡ false) (eqb-true rule 37 e) h))
+    go false e = omega (arith, eqb-false rule 37 e)
+
+-- ---- Frames of a rule
+
+left : (f e : ℕ) → f < e → e - f ≡ suc (e - (f + 1))
+left f e h = omega arith
+
+none : (f e : ℕ) → e ≤ f → e - f ≡ zero
+none f e h = omega arith
+
+module _ (ns : List Node) (after : Finding) (rule f e : ℕ) where
+  pub frames-pass : f < e → ruleAt ns rule f ≡ true → lowest ns rule (e - f) f after ≡ lowest ns rule (e - (f + 1)) (f + 1) after
+  unfolding lowest
+  frames-pass h q = rw (left f e h, q)
+
+  pub frames-hit : f < e → ruleAt ns rule f ≡ false → lowest ns rule (e - f) f after ≡ Broken rule f
+  unfolding lowest
+  frames-hit h q = rw (left f e h, q)
+
+  pub frames-done : e ≤ f → lowest ns rule (e - f) f after ≡ after
+  unfolding lowest
+  frames-done h = rw (none f e h)
+
+frame-span : (ns : List Node) (rule : ℕ) → frameCount ns rule ≡ endFrame (numberOf (framesOf ns)) rule - firstFrame rule
+unfolding frameCount firstFrame
+frame-span ns rule = go (perFrame rule) (numberOf (framesOf ns))
+  where
+    go : (t : Bool) (n : ℕ) → cond t n 1 ≡ cond t (n + 1) 1 - cond t 1 0
+    go true n = omega arith
+    go false n = refl
+
+rule-left : (r : ℕ) → r < 39 → 39 - r ≡ suc (39 - (r + 1))
+rule-left r h = omega arith
+
+pub rules-start : (ns : List Node) (r : ℕ) → r < 39
+    → firstBroken ns (39 - r) r ≡ lowest ns r (endFrame (numberOf (framesOf ns)) r - firstFrame r) (firstFrame r) (firstBroken ns (39 - (r + 1)) (r + 1))
+unfolding firstBroken
+rules-start ns r h = rw (rule-left r h, ← frame-span ns r)
+
+pub rules-done : (ns : List Node) (r : ℕ) → 39 ≤ r → firstBroken ns (39 - r) r ≡ Accepted
+unfolding firstBroken
+rules-done ns r h = rw (none r 39 h)
+
+-- ---- The items that are left, at a frame counted from the rule's first
+
+module _ (ns : List Node) where
+  pub asked-at : {c : Items} (n rule frame : ℕ) → 1 ≤ rule → rule < 39 → firstFrame rule ≤ frame → frame < endFrame n rule
+      → Along ns (drop (frame - firstFrame rule) (frameItems ns)) c → Asked ns rule frame c
+  unfolding firstFrame
+  asked-at {c} n rule frame a b f e w =
+      record {
+        low = a;
+        high = omega arith;
+        once = λ q. zero-frame (perFrame rule) q e;
+        along = λ q. rw (ap (λ (t : Bool). frame - cond t 1 0) q) at w;
+      }
+    where
+      zero-frame : (t : Bool) → t ≡ false → frame < cond t (n + 1) 1 → frame ≡ 0
+      zero-frame true q l = absurd (true-not-false q)
+      zero-frame false q l = omega arith
+
+  pub along-start : {c : Items} (a : ℕ) → Along ns (frameItems ns) c → Along ns (drop (a - a) (frameItems ns)) c
+  along-start a w =
+      let e : a - a ≡ 0 = omega arith in
+      rw e w
+
+  pub along-more : {c d : Items} (a frame : ℕ) → a ≤ frame → Along ns (drop (frame - a) (frameItems ns)) c
+      → Along ns (drop 1 (members ns (c .at) (c .end))) d → Along ns (drop (frame + 1 - a) (frameItems ns)) d
+  along-more {c} {d} a frame h w v =
+      let e : frame - a + 1 ≡ frame + 1 - a = omega arith in
+      rw (w .ahead, drop-drop 1 (frame - a) (frameItems ns), e) at v
+
+-- ---- The row table that a reading left
+
+left-table : (r : Reading) (before buffer : List ℕ) (n : ℕ) → answer.Done n ≡ answerOf r before → buffer ≡ bufferOf r before
+    → (6 * n ≤ length buffer) × (take (6 * n) buffer ≡ flat (rowsIn r))
+left-table tooLarge before buffer n e f = let z : _≡_ {A = ℕ} 0 1 = cc in absurd (omega arith)
+left-table (refusedAt code offset) before buffer n e f = let z : _≡_ {A = ℕ} 0 1 = cc in absurd (omega arith)
+left-table (read rows) before buffer n e f = go (fits rows before) e f
+  where
+    go : (t : Bool) → answer.Done n ≡ cond t (answer.Done (length rows)) answer.NoRoom
+        → buffer ≡ cond t (flat rows ++ drop (6 * length rows) before) before → (6 * n ≤ length buffer) × (take (6 * n) buffer ≡ flat rows)
+    go true e f =
+        let m : n ≡ length rows = cc in
+        let l : length (flat rows) ≡ 6 * n = omega (arith, length-flat rows) in
+        (rw (f, length-append (flat rows) (drop (6 * length rows) before)) (omega arith), rw f (take-at (flat rows) (drop (6 * length rows) before) (6 * n) l))
+    go false e f = let z : _≡_ {A = ℕ} 0 1 = cc in absurd (omega arith)
+
+pub after-reading : (s before buffer : List ℕ) (n : ℕ) → answer.Done n ≡ answerOf (readingOf s) before → buffer ≡ bufferOf (readingOf s) before
+    → (6 * n ≤ length buffer) × Table s (take (6 * n) buffer)
+unfolding rowsOf
+after-reading s before buffer n e f =
+    let t = left-table (readingOf s) before buffer n e f in
+    (t .0, table s (take (6 * n) buffer) (t .1))

@@ -1,0 +1,219 @@
+// The judge: reads a data set afresh, and finds the first broken rule and at that rule the lowest frame.
+ghost use mathlib.Core.Path.{_≡_};
+ghost use Prim.Native.Nat.{ℕ, _+_, _-_, _*_, _≤_, _<_};
+ghost use mathlib.Core.Bool.{Bool, true, false};
+ghost use lib.ListN.{length, drop};
+ghost use Rattle.dataset.specs.Reading.{readingOf};
+ghost use Rattle.dataset.specs.Answer.{bufferOf};
+ghost use Rattle.value.specs.Said.{Below};
+ghost use Rattle.verdict.specs.Verdict.{perFrame};
+ghost use Rattle.node.specs.Nodes.{nodesOf, members};
+ghost use Rattle.node.specs.Table.{Table};
+ghost use Rattle.element.specs.Frames.{framesOf, sharedItem, frameItems};
+ghost use Rattle.element.specs.Along.{Along};
+ghost use Rattle.rules.specs.All.{ruleAt};
+ghost use Rattle.conformance.specs.Judging.{numberOf, firstFrame, findingOf, judgeOf, verdictOf};
+ghost use Rattle.conformance.specs.Parts.{okFor, Asked, endFrame};
+use dataset::ReadAnswer;
+use element::Items;
+use value::Num;
+use verdict::Verdict;
+
+// What the rules come to: all hold, or the first broken one and its lowest frame.
+pub enum Finding {
+    Accepted,
+    Broken(usize, usize),
+}
+
+// The answer of `judge`: accepted, with the number of rows; code 9, with the number of rows, rule and frame; code and
+// offset of a refusal; code 7; code 8.
+pub enum JudgeAnswer {
+    Accepted(usize),
+    Broken(usize, usize, usize),
+    Refused(usize, usize),
+    TooLarge,
+    NoRoom,
+}
+
+// What a rule that is asked at each frame comes to in the shared item, worked out once for the rule.
+fn shared_ok(bytes: &[u8], rows: &[u32], rule: usize, shared: Num) -> bool
+    requires { ⌜ Table (now bytes) (now rows) × Below (length (nodesOf (now bytes))) shared ⌝ }
+    ensures { λ r. ⌜ r ≡ okFor (nodesOf (now (bytes .entry))) rule shared ⌝ }
+{
+    match shared {
+        Num::Lacks => true,
+        Num::Is(s) => rules_frame::shared_part(bytes, rows, rule, s),
+    }
+}
+
+// A rule that is asked at each frame, at the frame whose item stands first among the items that are left.
+fn frame_holds(
+    bytes: &[u8],
+    rows: &[u32],
+    rule: usize,
+    shared: Num,
+    ok: bool,
+    items: Items,
+    frame: usize,
+) -> bool
+    requires { ⌜ Table (now bytes) (now rows) × (Below (length (nodesOf (now bytes))) shared × ((shared ≡ sharedItem (nodesOf (now bytes))) × ((ok ≡ okFor (nodesOf (now bytes)) rule shared) × ((perFrame rule ≡ true) × Along (nodesOf (now bytes)) (drop (frame - 1) (frameItems (nodesOf (now bytes)))) items)))) ⌝ }
+    ensures { λ r. ⌜ r ≡ ruleAt (nodesOf (now (bytes .entry))) rule frame ⌝ }
+{
+    match shared {
+        Num::Lacks => false,
+        Num::Is(s) => {
+            let at = items.at;
+            let end = items.end;
+            if at < end {
+                rules_frame::item_rule(bytes, rows, rule, s, ok, at)
+            } else {
+                false
+            }
+        }
+    }
+}
+
+// A rule that is asked once.
+fn once_holds(bytes: &[u8], rows: &[u32], rule: usize) -> bool
+    requires { ⌜ Table (now bytes) (now rows) × ((1 ≤ rule) × ((rule ≤ 38) × (perFrame rule ≡ false))) ⌝ }
+    ensures { λ r. ⌜ r ≡ ruleAt (nodesOf (now (bytes .entry))) rule 0 ⌝ }
+{
+    if rule <= 26 {
+        rules_root::root_rule(bytes, rows, rule)
+    } else {
+        if rule <= 36 {
+            rules_mask::mask_rule(bytes, rows, rule)
+        } else {
+            rules_root::rule_38(bytes, rows)
+        }
+    }
+}
+
+// A rule at a frame: frame 0 for a rule that is asked once; else the items from the frame's own on.
+fn rule_holds(
+    bytes: &[u8],
+    rows: &[u32],
+    rule: usize,
+    shared: Num,
+    ok: bool,
+    items: Items,
+    frame: usize,
+) -> bool
+    requires { ⌜ Table (now bytes) (now rows) × (Below (length (nodesOf (now bytes))) shared × ((shared ≡ sharedItem (nodesOf (now bytes))) × ((ok ≡ okFor (nodesOf (now bytes)) rule shared) × Asked (nodesOf (now bytes)) rule frame items))) ⌝ }
+    ensures { λ r. ⌜ r ≡ ruleAt (nodesOf (now (bytes .entry))) rule frame ⌝ }
+{
+    if verdict::per_frame(rule) {
+        frame_holds(bytes, rows, rule, shared, ok, items, frame)
+    } else {
+        once_holds(bytes, rows, rule)
+    }
+}
+
+// Number of Frames, or 0.
+fn frame_total(bytes: &[u8], rows: &[u32]) -> usize
+    requires { ⌜ Table (now bytes) (now rows) ⌝ }
+    ensures { λ r. ⌜ (r ≡ numberOf (framesOf (nodesOf (now (bytes .entry))))) × (r < 100000000000) ⌝ }
+{
+    match element::frame_count(bytes, rows) {
+        Num::Is(n) => n,
+        Num::Lacks => 0,
+    }
+}
+
+// The frames at which a rule is asked: from the first up to, and without, the one after the last.
+fn first_frame(rule: usize) -> usize
+    ensures { λ r. ⌜ r ≡ firstFrame rule ⌝ }
+{
+    if verdict::per_frame(rule) { 1 } else { 0 }
+}
+
+fn end_frame(rule: usize, n: usize) -> usize
+    requires { ⌜ n < 100000000000 ⌝ }
+    ensures { λ r. ⌜ (r ≡ endFrame n rule) × (r ≤ 100000000000) ⌝ }
+{
+    if verdict::per_frame(rule) { n + 1 } else { 1 }
+}
+
+// The first broken rule, and at that rule the lowest frame.
+pub fn first_broken(bytes: &[u8], rows: &[u32]) -> Finding
+    requires { ⌜ Table (now bytes) (now rows) ⌝ }
+    ensures { λ r. ⌜ r ≡ findingOf (nodesOf (now (bytes .entry))) ⌝ }
+{
+    let n = frame_total(bytes, rows);
+    let shared = element::shared_item(bytes, rows);
+    let items = element::frame_items(bytes, rows);
+    let found = 'judge: loop {
+        for rule in 1..39 {
+            let ok = shared_ok(bytes, rows, rule, shared);
+            let first = first_frame(rule);
+            let end = end_frame(rule, n);
+            let mut left = items;
+            for frame in first..end {
+                if rule_holds(bytes, rows, rule, shared, ok, left, frame) {
+                    left = element::advance(bytes, rows, left);
+                } else {
+                    break 'judge Finding::Broken(rule, frame);
+                }
+            }
+        }
+        break Finding::Accepted;
+    };
+    found
+}
+
+// Reads the data set and judges it.
+pub fn judge(bytes: &[u8], rows: &mut [u32]) -> JudgeAnswer
+    ensures { λ r. ⌜ r ≡ judgeOf (now (bytes .entry)) (now (rows .entry)) ⌝ }
+    ensures { λ _. ⌜ now (rows .exit) ≡ bufferOf (readingOf (now (bytes .entry))) (now (rows .entry)) ⌝ }
+{
+    match dataset::read(bytes, rows) {
+        ReadAnswer::TooLarge => JudgeAnswer::TooLarge,
+        ReadAnswer::Refused(code, offset) => JudgeAnswer::Refused(code, offset),
+        ReadAnswer::NoRoom => JudgeAnswer::NoRoom,
+        ReadAnswer::Done(n) => {
+            let end = dataset::WIDTH * n;
+            match first_broken(bytes, &rows[..end]) {
+                Finding::Accepted => JudgeAnswer::Accepted(n),
+                Finding::Broken(rule, frame) => JudgeAnswer::Broken(n, rule, frame),
+            }
+        }
+    }
+}
+
+// The verdict of an answer: the answer without its row count.
+pub fn verdict_of(answer: JudgeAnswer) -> Verdict
+    ensures { λ r. ⌜ r ≡ verdictOf answer ⌝ }
+{
+    match answer {
+        JudgeAnswer::Accepted(_) => Verdict {
+            code: 0,
+            rule: 0,
+            frame: 0,
+            offset: 0,
+        },
+        JudgeAnswer::Broken(_, rule, frame) => Verdict {
+            code: 9,
+            rule,
+            frame,
+            offset: 0,
+        },
+        JudgeAnswer::Refused(code, offset) => Verdict {
+            code,
+            rule: 0,
+            frame: 0,
+            offset,
+        },
+        JudgeAnswer::TooLarge => Verdict {
+            code: 7,
+            rule: 0,
+            frame: 0,
+            offset: 0,
+        },
+        JudgeAnswer::NoRoom => Verdict {
+            code: 8,
+            rule: 0,
+            frame: 0,
+            offset: 0,
+        },
+    }
+}

@@ -1,0 +1,63 @@
+-- Reads of one element among members, by its tag: the words in which rules and drawing steps are written. Each asks for
+-- the element's VR; a read without an answer says `Lacks`, and a test of it is false.
+use Prim.Native.Nat.{ℕ}
+use mathlib.Core.List.{List, [], _∷_}
+use mathlib.Core.Bool.{Bool, true, false, cond, _&&_, _||_}
+use lib.ListN.{length}
+use lib.Dec.{eqb}
+use Rattle.dataset.specs.Vr.{SQ}
+use Rattle.value.specs.declared.Num.{Num}
+use Rattle.value.specs.declared.Num.the-variants.{Is, Lacks}
+use Rattle.value.specs.declared.Signed.{Signed}
+use Rattle.value.specs.declared.Signed.the-variants as signed
+use Rattle.value.specs.Number.{usOf, ssOf}
+use Rattle.value.specs.Words.{isWord, isUid}
+use Rattle.node.specs.Nodes.{Node, nodeAt, inside}
+use Rattle.node.specs.Find.{holds, andThen, find, findVr}
+use Rattle.element.specs.Tags.{CS, UI, US, SS}
+
+abbrev pub valueAt : List Node → ℕ → List ℕ
+valueAt ns i = nodeAt ns i .value
+
+-- A single US.
+abbrev pub usIn : List Node → ℕ → List ℕ → Num
+usIn ns tag is = andThen (findVr ns tag US is) (λ i. usOf (valueAt ns i))
+
+-- A CS that is the word.
+abbrev pub csIs : List Node → ℕ → List ℕ → List ℕ → Bool
+csIs ns tag word is = holds (findVr ns tag CS is) (λ i. isWord (valueAt ns i) word)
+
+-- A UI that is the UID.
+abbrev pub uiIs : List Node → ℕ → List ℕ → List ℕ → Bool
+uiIs ns tag uid is = holds (findVr ns tag UI is) (λ i. isUid (valueAt ns i) uid)
+
+-- ---- Sequences and items
+
+abbrev pub first : List ℕ → Num
+first [] = Lacks
+first (i ∷ is) = Is i
+
+-- A node is a sequence of one item, and that item.
+unfoldable pub oneItem : List Node → ℕ → Bool
+oneItem ns i = eqb (nodeAt ns i .vr) SQ && eqb (length (inside ns i)) 1
+
+unfoldable pub theItem : List Node → ℕ → Num
+theItem ns i = cond (oneItem ns i) (first (inside ns i)) Lacks
+
+-- The items of the sequence of the tag; none where there is no such sequence.
+abbrev pub insideOf : List Node → Num → List ℕ
+insideOf ns Lacks = []
+insideOf ns (Is i) = inside ns i
+
+unfoldable pub itemsIn : List Node → ℕ → List ℕ → List ℕ
+itemsIn ns tag is = insideOf ns (findVr ns tag SQ is)
+
+-- ---- Every member, and some member
+
+unfoldable pub every : (ℕ → Bool) → List ℕ → Bool
+every p [] = true
+every p (i ∷ is) = p i && every p is
+
+unfoldable pub some : (ℕ → Bool) → List ℕ → Bool
+some p [] = false
+some p (i ∷ is) = p i || some p is

@@ -1,0 +1,43 @@
+-- Frames and their functional groups (the paper's groups), and the mask items.
+use Prim.Native.Nat.{ℕ, _-_}
+use mathlib.Core.List.{List}
+use mathlib.Core.Bool.{Bool}
+use lib.ListN.{drop}
+use Rattle.value.specs.declared.Num.{Num}
+use Rattle.value.specs.declared.Num.the-variants.{Is, Lacks}
+use Rattle.value.specs.declared.Signed.{Signed}
+use Rattle.value.specs.declared.Signed.the-variants as signed
+use Rattle.value.specs.Number.{isOf}
+use Rattle.node.specs.Nodes.{Node, root, inside}
+use Rattle.node.specs.Find.{holds, andThen, orElse, find, findVr}
+use Rattle.element.specs.Tags.{IS, NumberOfFrames, SharedFunctionalGroupsSequence, PerFrameFunctionalGroupsSequence, MaskSubtractionSequence}
+use Rattle.element.specs.Elements.{valueAt, theItem, itemsIn, first}
+
+-- A signed number that counts: what is below zero counts nothing.
+abbrev pub counted : Signed → Num
+counted (signed.Plus n) = Is n
+counted (signed.Minus n) = Is 0
+counted signed.Lacks = Lacks
+
+-- Number of Frames, the paper's N.
+unfoldable pub framesOf : List Node → Num
+framesOf ns = andThen (findVr ns NumberOfFrames IS (root ns)) (λ i. counted (isOf (valueAt ns i)))
+
+-- The one item of the shared functional groups.
+unfoldable pub sharedItem : List Node → Num
+sharedItem ns = andThen (find ns SharedFunctionalGroupsSequence (root ns)) (theItem ns)
+
+-- The items of the per-frame functional groups, and item f, counted from 1.
+unfoldable pub frameItems : List Node → List ℕ
+frameItems ns = itemsIn ns PerFrameFunctionalGroupsSequence (root ns)
+
+abbrev pub frameItem : List Node → ℕ → Num
+frameItem ns f = first (drop (f - 1) (frameItems ns))
+
+-- "A frame's group is that in item f, of any VR, else the shared one": of the tag, for item i and the shared item s.
+abbrev pub groupOf : List Node → ℕ → ℕ → ℕ → Num
+groupOf ns tag s i = orElse (find ns tag (inside ns i)) (find ns tag (inside ns s))
+
+-- The mask items, in their order.
+unfoldable pub maskItems : List Node → List ℕ
+maskItems ns = itemsIn ns MaskSubtractionSequence (root ns)

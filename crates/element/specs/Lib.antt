@@ -1,0 +1,4 @@
+pub mod Tags
+pub mod Elements
+pub mod Frames
+pub mod Along

@@ -1,0 +1,308 @@
+// Reads of one element by its tag, items of sequences, frames and their functional groups: what the rules and the
+// drawing steps are made of.
+pub mod tags;
+
+ghost use mathlib.Core.Path.{_≡_};
+ghost use Prim.Native.Nat.{ℕ, _+_, _-_, _*_, _≤_, _<_};
+ghost use mathlib.Core.Bool.{Bool};
+ghost use lib.ListN.{length, drop};
+ghost use Rattle.node.specs.Nodes.{Node, nodesOf, nodeAt, nextNode, members, root, inside};
+ghost use Rattle.node.specs.Find.{absent, find, findVr, has};
+ghost use Rattle.node.specs.Table.{Table};
+ghost use Rattle.value.specs.Said.{Below, SizeBelow};
+ghost use Rattle.element.specs.Elements.{usIn, csIs, uiIs, oneItem, theItem, insideOf, itemsIn};
+ghost use Rattle.element.specs.Frames.{counted, framesOf, sharedItem, frameItems, groupOf, maskItems};
+ghost use Rattle.element.specs.Along.{Along};
+use value::Num;
+use value::Signed;
+
+const SQ: usize = 0x5351;
+
+// The items that are left of a sequence: from `at` up to `end`.
+pub struct Items {
+    pub at: usize,
+    pub end: usize,
+}
+
+// ---- Among the members from `from` up to `to`
+
+// A single US.
+pub fn us_in(bytes: &[u8], rows: &[u32], from: usize, to: usize, tag: usize) -> Num
+    requires { ⌜ Table (now bytes) (now rows) × (to ≤ length (nodesOf (now bytes))) ⌝ }
+    ensures { λ r. ⌜ r ≡ usIn (nodesOf (now (bytes .entry))) tag (members (nodesOf (now (bytes .entry))) from to) ⌝ }
+    ensures { λ r. ⌜ Below 65536 r ⌝ }
+{
+    match node::find_vr(bytes, rows, from, to, tag, tags::US) {
+        Num::Lacks => Num::Lacks,
+        Num::Is(i) => value::us_of(node::value(bytes, rows, i)),
+    }
+}
+
+// A CS that is the word.
+pub fn cs_in(bytes: &[u8], rows: &[u32], from: usize, to: usize, tag: usize, word: &[u8]) -> bool
+    requires { ⌜ Table (now bytes) (now rows) × (to ≤ length (nodesOf (now bytes))) ⌝ }
+    ensures { λ r. ⌜ r ≡ csIs (nodesOf (now (bytes .entry))) tag (now (word .entry)) (members (nodesOf (now (bytes .entry))) from to) ⌝ }
+{
+    match node::find_vr(bytes, rows, from, to, tag, tags::CS) {
+        Num::Lacks => false,
+        Num::Is(i) => value::is_word(node::value(bytes, rows, i), word),
+    }
+}
+
+// ---- In the root
+
+pub fn find_root(bytes: &[u8], rows: &[u32], tag: usize) -> Num
+    requires { ⌜ Table (now bytes) (now rows) ⌝ }
+    ensures { λ r. ⌜ r ≡ find (nodesOf (now (bytes .entry))) tag (root (nodesOf (now (bytes .entry)))) ⌝ }
+    ensures { λ r. ⌜ Below (length (nodesOf (now (bytes .entry)))) r ⌝ }
+{
+    node::find_tag(bytes, rows, 0, node::count(bytes, rows), tag)
+}
+
+// The element of the tag and VR.
+pub fn find_vr_root(bytes: &[u8], rows: &[u32], tag: usize, vr: usize) -> Num
+    requires { ⌜ Table (now bytes) (now rows) ⌝ }
+    ensures { λ r. ⌜ r ≡ findVr (nodesOf (now (bytes .entry))) tag vr (root (nodesOf (now (bytes .entry)))) ⌝ }
+    ensures { λ r. ⌜ Below (length (nodesOf (now (bytes .entry)))) r ⌝ }
+{
+    node::find_vr(bytes, rows, 0, node::count(bytes, rows), tag, vr)
+}
+
+pub fn absent_root(bytes: &[u8], rows: &[u32], tag: usize) -> bool
+    requires { ⌜ Table (now bytes) (now rows) ⌝ }
+    ensures { λ r. ⌜ r ≡ absent (find (nodesOf (now (bytes .entry))) tag (root (nodesOf (now (bytes .entry))))) ⌝ }
+{
+    match find_root(bytes, rows, tag) {
+        Num::Lacks => true,
+        Num::Is(_) => false,
+    }
+}
+
+pub fn has_root(bytes: &[u8], rows: &[u32], tag: usize, vr: usize) -> bool
+    requires { ⌜ Table (now bytes) (now rows) ⌝ }
+    ensures { λ r. ⌜ r ≡ has (nodesOf (now (bytes .entry))) tag vr (root (nodesOf (now (bytes .entry)))) ⌝ }
+{
+    node::has_vr(bytes, rows, 0, node::count(bytes, rows), tag, vr)
+}
+
+pub fn us_root(bytes: &[u8], rows: &[u32], tag: usize) -> Num
+    requires { ⌜ Table (now bytes) (now rows) ⌝ }
+    ensures { λ r. ⌜ r ≡ usIn (nodesOf (now (bytes .entry))) tag (root (nodesOf (now (bytes .entry)))) ⌝ }
+    ensures { λ r. ⌜ Below 65536 r ⌝ }
+{
+    us_in(bytes, rows, 0, node::count(bytes, rows), tag)
+}
+
+pub fn cs_root(bytes: &[u8], rows: &[u32], tag: usize, word: &[u8]) -> bool
+    requires { ⌜ Table (now bytes) (now rows) ⌝ }
+    ensures { λ r. ⌜ r ≡ csIs (nodesOf (now (bytes .entry))) tag (now (word .entry)) (root (nodesOf (now (bytes .entry)))) ⌝ }
+{
+    cs_in(bytes, rows, 0, node::count(bytes, rows), tag, word)
+}
+
+// A UI that is the UID.
+pub fn ui_root(bytes: &[u8], rows: &[u32], tag: usize, uid: &[u8]) -> bool
+    requires { ⌜ Table (now bytes) (now rows) ⌝ }
+    ensures { λ r. ⌜ r ≡ uiIs (nodesOf (now (bytes .entry))) tag (now (uid .entry)) (root (nodesOf (now (bytes .entry)))) ⌝ }
+{
+    match find_vr_root(bytes, rows, tag, tags::UI) {
+        Num::Lacks => false,
+        Num::Is(i) => value::is_uid(node::value(bytes, rows, i), uid),
+    }
+}
+
+// ---- In an item, or directly in another node
+
+pub fn find_item(bytes: &[u8], rows: &[u32], item: usize, tag: usize) -> Num
+    requires { ⌜ Table (now bytes) (now rows) × (item < length (nodesOf (now bytes))) ⌝ }
+    ensures { λ r. ⌜ r ≡ find (nodesOf (now (bytes .entry))) tag (inside (nodesOf (now (bytes .entry))) item) ⌝ }
+    ensures { λ r. ⌜ Below (length (nodesOf (now (bytes .entry)))) r ⌝ }
+{
+    node::find_tag(bytes, rows, item + 1, node::next(bytes, rows, item), tag)
+}
+
+pub fn find_vr_item(bytes: &[u8], rows: &[u32], item: usize, tag: usize, vr: usize) -> Num
+    requires { ⌜ Table (now bytes) (now rows) × (item < length (nodesOf (now bytes))) ⌝ }
+    ensures { λ r. ⌜ r ≡ findVr (nodesOf (now (bytes .entry))) tag vr (inside (nodesOf (now (bytes .entry))) item) ⌝ }
+    ensures { λ r. ⌜ Below (length (nodesOf (now (bytes .entry)))) r ⌝ }
+{
+    node::find_vr(
+        bytes,
+        rows,
+        item + 1,
+        node::next(bytes, rows, item),
+        tag,
+        vr,
+    )
+}
+
+pub fn us_item(bytes: &[u8], rows: &[u32], item: usize, tag: usize) -> Num
+    requires { ⌜ Table (now bytes) (now rows) × (item < length (nodesOf (now bytes))) ⌝ }
+    ensures { λ r. ⌜ r ≡ usIn (nodesOf (now (bytes .entry))) tag (inside (nodesOf (now (bytes .entry))) item) ⌝ }
+    ensures { λ r. ⌜ Below 65536 r ⌝ }
+{
+    us_in(bytes, rows, item + 1, node::next(bytes, rows, item), tag)
+}
+
+pub fn cs_item(bytes: &[u8], rows: &[u32], item: usize, tag: usize, word: &[u8]) -> bool
+    requires { ⌜ Table (now bytes) (now rows) × (item < length (nodesOf (now bytes))) ⌝ }
+    ensures { λ r. ⌜ r ≡ csIs (nodesOf (now (bytes .entry))) tag (now (word .entry)) (inside (nodesOf (now (bytes .entry))) item) ⌝ }
+{
+    cs_in(
+        bytes,
+        rows,
+        item + 1,
+        node::next(bytes, rows, item),
+        tag,
+        word,
+    )
+}
+
+// ---- Items of a sequence
+
+// How many members stand directly in a node.
+pub fn count_items(bytes: &[u8], rows: &[u32], i: usize) -> usize
+    requires { ⌜ Table (now bytes) (now rows) × (i < length (nodesOf (now bytes))) ⌝ }
+    ensures { λ r. ⌜ r ≡ length (inside (nodesOf (now (bytes .entry))) i) ⌝ }
+{
+    let end = node::next(bytes, rows, i);
+    let mut at = i + 1;
+    let mut n: usize = 0;
+    while at < end {
+        at = node::next(bytes, rows, at);
+        n += 1;
+    }
+    n
+}
+
+// The one item of a sequence: its node is the first below the sequence's.
+pub fn the_item(bytes: &[u8], rows: &[u32], i: usize) -> Num
+    requires { ⌜ Table (now bytes) (now rows) × (i < length (nodesOf (now bytes))) ⌝ }
+    ensures { λ r. ⌜ r ≡ theItem (nodesOf (now (bytes .entry))) i ⌝ }
+    ensures { λ r. ⌜ Below (length (nodesOf (now (bytes .entry)))) r ⌝ }
+{
+    if node::vr(bytes, rows, i) == SQ {
+        let end = node::next(bytes, rows, i);
+        let first = i + 1;
+        if first < end {
+            if node::next(bytes, rows, first) < end {
+                Num::Lacks
+            } else {
+                Num::Is(first)
+            }
+        } else {
+            Num::Lacks
+        }
+    } else {
+        Num::Lacks
+    }
+}
+
+// Whether a node is a sequence of one item.
+pub fn is_one_item(bytes: &[u8], rows: &[u32], i: usize) -> bool
+    requires { ⌜ Table (now bytes) (now rows) × (i < length (nodesOf (now bytes))) ⌝ }
+    ensures { λ r. ⌜ r ≡ oneItem (nodesOf (now (bytes .entry))) i ⌝ }
+{
+    match the_item(bytes, rows, i) {
+        Num::Lacks => false,
+        Num::Is(_) => true,
+    }
+}
+
+// The items of the root's sequence of the tag, from the first; none where there is no such sequence.
+pub fn items_root(bytes: &[u8], rows: &[u32], tag: usize) -> Items
+    requires { ⌜ Table (now bytes) (now rows) ⌝ }
+    ensures { λ r. ⌜ Along (nodesOf (now (bytes .entry))) (itemsIn (nodesOf (now (bytes .entry))) tag (root (nodesOf (now (bytes .entry))))) r ⌝ }
+{
+    match find_vr_root(bytes, rows, tag, SQ) {
+        Num::Lacks => Items { at: 0, end: 0 },
+        Num::Is(i) => Items {
+            at: i + 1,
+            end: node::next(bytes, rows, i),
+        },
+    }
+}
+
+// The items after the one at the cursor.
+pub fn advance(bytes: &[u8], rows: &[u32], c: Items) -> Items
+    requires { ⌜ Table (now bytes) (now rows) × (c .end ≤ length (nodesOf (now bytes))) ⌝ }
+    ensures { λ r. ⌜ Along (nodesOf (now (bytes .entry))) (drop 1 (members (nodesOf (now (bytes .entry))) (c .at) (c .end))) r ⌝ }
+{
+    let at = c.at;
+    let end = c.end;
+    if at < end {
+        Items {
+            at: node::next(bytes, rows, at),
+            end,
+        }
+    } else {
+        c
+    }
+}
+
+// ---- Frames
+
+// A signed number that counts: what is below zero counts nothing.
+fn counted(n: Signed) -> Num
+    requires { ⌜ SizeBelow 100000000000 n ⌝ }
+    ensures { λ r. ⌜ r ≡ counted n ⌝ }
+    ensures { λ r. ⌜ Below 100000000000 r ⌝ }
+{
+    match n {
+        Signed::Plus(k) => Num::Is(k),
+        Signed::Minus(_) => Num::Is(0),
+        Signed::Lacks => Num::Lacks,
+    }
+}
+
+// Number of Frames.
+pub fn frame_count(bytes: &[u8], rows: &[u32]) -> Num
+    requires { ⌜ Table (now bytes) (now rows) ⌝ }
+    ensures { λ r. ⌜ r ≡ framesOf (nodesOf (now (bytes .entry))) ⌝ }
+    ensures { λ r. ⌜ Below 100000000000 r ⌝ }
+{
+    match find_vr_root(bytes, rows, tags::NUMBER_OF_FRAMES, tags::IS) {
+        Num::Lacks => Num::Lacks,
+        Num::Is(i) => counted(value::is_of(node::value(bytes, rows, i))),
+    }
+}
+
+// The one item of the shared functional groups.
+pub fn shared_item(bytes: &[u8], rows: &[u32]) -> Num
+    requires { ⌜ Table (now bytes) (now rows) ⌝ }
+    ensures { λ r. ⌜ r ≡ sharedItem (nodesOf (now (bytes .entry))) ⌝ }
+    ensures { λ r. ⌜ Below (length (nodesOf (now (bytes .entry)))) r ⌝ }
+{
+    match find_root(bytes, rows, tags::SHARED_FUNCTIONAL_GROUPS_SEQUENCE) {
+        Num::Lacks => Num::Lacks,
+        Num::Is(i) => the_item(bytes, rows, i),
+    }
+}
+
+// The items of the per-frame functional groups, from the first.
+pub fn frame_items(bytes: &[u8], rows: &[u32]) -> Items
+    requires { ⌜ Table (now bytes) (now rows) ⌝ }
+    ensures { λ r. ⌜ Along (nodesOf (now (bytes .entry))) (frameItems (nodesOf (now (bytes .entry)))) r ⌝ }
+{
+    items_root(bytes, rows, tags::PER_FRAME_FUNCTIONAL_GROUPS_SEQUENCE)
+}
+
+// The mask items, from the first.
+pub fn mask_items(bytes: &[u8], rows: &[u32]) -> Items
+    requires { ⌜ Table (now bytes) (now rows) ⌝ }
+    ensures { λ r. ⌜ Along (nodesOf (now (bytes .entry))) (maskItems (nodesOf (now (bytes .entry)))) r ⌝ }
+{
+    items_root(bytes, rows, tags::MASK_SUBTRACTION_SEQUENCE)
+}
+
+// A frame's functional group of the tag: that in its item, else the shared one.
+pub fn group_of(bytes: &[u8], rows: &[u32], tag: usize, shared: usize, item: usize) -> Num
+    requires { ⌜ Table (now bytes) (now rows) × ((shared < length (nodesOf (now bytes))) × (item < length (nodesOf (now bytes)))) ⌝ }
+    ensures { λ r. ⌜ r ≡ groupOf (nodesOf (now (bytes .entry))) tag shared item ⌝ }
+    ensures { λ r. ⌜ Below (length (nodesOf (now (bytes .entry)))) r ⌝ }
+{
+    match find_item(bytes, rows, item, tag) {
+        Num::Is(g) => Num::Is(g),
+        Num::Lacks => find_item(bytes, rows, shared, tag),
+    }
+}

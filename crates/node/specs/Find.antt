@@ -1,0 +1,57 @@
+-- Finding an element among members, and what "present" and "has" mean (document 01, "The rule list"). A read that
+-- finds nothing answers `Lacks`.
+use Prim.Native.Nat.{ℕ}
+use mathlib.Core.List.{List, [], _∷_}
+use mathlib.Core.Bool.{Bool, true, false, cond, not, _&&_}
+use lib.ListN.{length}
+use lib.Dec.{eqb}
+use Rattle.value.specs.declared.Num.{Num}
+use Rattle.value.specs.declared.Num.the-variants.{Is, Lacks}
+use Rattle.dataset.specs.Vr.{SQ}
+use Rattle.node.specs.Nodes.{Node, nodeAt}
+
+-- ---- What a read answers, put to use
+
+-- Something is there, of which p holds.
+abbrev pub holds : Num → (ℕ → Bool) → Bool
+holds Lacks p = false
+holds (Is n) p = p n
+
+-- If something is there, p holds of it.
+abbrev pub ifPresent : Num → (ℕ → Bool) → Bool
+ifPresent Lacks p = true
+ifPresent (Is n) p = p n
+
+abbrev pub absent : Num → Bool
+absent Lacks = true
+absent (Is n) = false
+
+abbrev pub andThen : Num → (ℕ → Num) → Num
+andThen Lacks f = Lacks
+andThen (Is n) f = f n
+
+abbrev pub orElse : Num → Num → Num
+orElse Lacks other = other
+orElse (Is n) other = Is n
+
+-- ---- Elements
+
+-- The element of the tag among members, of any VR.
+unfoldable pub find : List Node → ℕ → List ℕ → Num
+find ns tag [] = Lacks
+find ns tag (i ∷ is) = cond (eqb (nodeAt ns i .tag) tag) (Is i) (find ns tag is)
+
+-- The same, of the VR.
+unfoldable pub ofVr : List Node → ℕ → ℕ → Num
+ofVr ns vr i = cond (eqb (nodeAt ns i .vr) vr) (Is i) Lacks
+
+abbrev pub findVr : List Node → ℕ → ℕ → List ℕ → Num
+findVr ns tag vr is = andThen (find ns tag is) (ofVr ns vr)
+
+-- A length that is not 0. A sequence's length is 0 just where no node stands in it.
+unfoldable pub filled : List Node → ℕ → Bool
+filled ns i = cond (eqb (nodeAt ns i .vr) SQ) (not (eqb (nodeAt ns i .descendants) 0)) (not (eqb (length (nodeAt ns i .value)) 0))
+
+-- "Has": present among the members, with the VR, length not 0.
+unfoldable pub has : List Node → ℕ → ℕ → List ℕ → Bool
+has ns tag vr is = holds (findVr ns tag vr is) (filled ns)

@@ -1,0 +1,135 @@
+// The row table of a data set, node by node. What stands above this crate sees no offset and no length.
+ghost use mathlib.Core.Path.{_≡_};
+ghost use Prim.Native.Nat.{ℕ, _+_, _-_, _*_, _≤_, _<_};
+ghost use lib.ListN.{length};
+ghost use Rattle.node.specs.Nodes.{Node, nodesOf, nodeAt, nextNode, members};
+ghost use Rattle.node.specs.Find.{find, findVr, filled, has};
+ghost use Rattle.node.specs.Table.{Table};
+ghost use Rattle.value.specs.Said.{Below};
+use value::Num;
+
+pub const SQ: usize = 0x5351;
+
+fn wide(x: u32) -> usize
+    ensures { λ r. ⌜ r ≡ x ⌝ }
+{
+    x as usize
+}
+
+// How many nodes there are.
+pub fn count(bytes: &[u8], rows: &[u32]) -> usize
+    requires { ⌜ Table (now bytes) (now rows) ⌝ }
+    ensures { λ r. ⌜ (r ≡ length (nodesOf (now (bytes .entry)))) × (r ≤ 134217728) ⌝ }
+{
+    rows.len() / dataset::WIDTH
+}
+
+pub fn tag(bytes: &[u8], rows: &[u32], i: usize) -> usize
+    requires { ⌜ Table (now bytes) (now rows) × (i < length (nodesOf (now bytes))) ⌝ }
+    ensures { λ r. ⌜ r ≡ nodeAt (nodesOf (now (bytes .entry))) i .tag ⌝ }
+{
+    wide(rows[6 * i])
+}
+
+pub fn vr(bytes: &[u8], rows: &[u32], i: usize) -> usize
+    requires { ⌜ Table (now bytes) (now rows) × (i < length (nodesOf (now bytes))) ⌝ }
+    ensures { λ r. ⌜ r ≡ nodeAt (nodesOf (now (bytes .entry))) i .vr ⌝ }
+{
+    wide(rows[6 * i + 1])
+}
+
+// The node after node i and all below it.
+pub fn next(bytes: &[u8], rows: &[u32], i: usize) -> usize
+    requires { ⌜ Table (now bytes) (now rows) × (i < length (nodesOf (now bytes))) ⌝ }
+    ensures { λ r. ⌜ (r ≡ nextNode (nodesOf (now (bytes .entry))) i) × (r ≤ length (nodesOf (now (bytes .entry)))) ⌝ }
+{
+    i + 1 + wide(rows[6 * i + 5])
+}
+
+// The value of node i, a part of the data set.
+pub fn value<'a, 'b>(bytes: &'a [u8], rows: &'b [u32], i: usize) -> &'a [u8]
+    requires { ⌜ Table (now bytes) (now rows) × (i < length (nodesOf (now bytes))) ⌝ }
+    ensures { λ r. ⌜ now r ≡ nodeAt (nodesOf (now (bytes .entry))) i .value ⌝ }
+{
+    let kind = wide(rows[6 * i + 1]);
+    if kind == SQ {
+        return &bytes[..0];
+    }
+    if kind == 0 {
+        return &bytes[..0];
+    }
+    let start = wide(rows[6 * i + 3]);
+    let end = start + wide(rows[6 * i + 4]);
+    &bytes[start..end]
+}
+
+// The element of the tag among the members from `from` up to `to`.
+pub fn find_tag(bytes: &[u8], rows: &[u32], from: usize, to: usize, wanted: usize) -> Num
+    requires { ⌜ Table (now bytes) (now rows) × (to ≤ length (nodesOf (now bytes))) ⌝ }
+    ensures { λ r. ⌜ r ≡ find (nodesOf (now (bytes .entry))) wanted (members (nodesOf (now (bytes .entry))) from to) ⌝ }
+    ensures { λ r. ⌜ Below to r ⌝ }
+{
+    let mut i = from;
+    while i < to {
+        if tag(bytes, rows, i) == wanted {
+            return Num::Is(i);
+        }
+        i = next(bytes, rows, i);
+    }
+    Num::Lacks
+}
+
+// The same, of the VR.
+pub fn find_vr(
+    bytes: &[u8],
+    rows: &[u32],
+    from: usize,
+    to: usize,
+    wanted: usize,
+    kind: usize,
+) -> Num
+    requires { ⌜ Table (now bytes) (now rows) × (to ≤ length (nodesOf (now bytes))) ⌝ }
+    ensures { λ r. ⌜ r ≡ findVr (nodesOf (now (bytes .entry))) wanted kind (members (nodesOf (now (bytes .entry))) from to) ⌝ }
+    ensures { λ r. ⌜ Below to r ⌝ }
+{
+    match find_tag(bytes, rows, from, to, wanted) {
+        Num::Lacks => Num::Lacks,
+        Num::Is(i) => {
+            if vr(bytes, rows, i) == kind {
+                Num::Is(i)
+            } else {
+                Num::Lacks
+            }
+        }
+    }
+}
+
+// Whether node i has a length that is not 0.
+pub fn is_filled(bytes: &[u8], rows: &[u32], i: usize) -> bool
+    requires { ⌜ Table (now bytes) (now rows) × (i < length (nodesOf (now bytes))) ⌝ }
+    ensures { λ r. ⌜ r ≡ filled (nodesOf (now (bytes .entry))) i ⌝ }
+{
+    if vr(bytes, rows, i) == SQ {
+        i + 1 != next(bytes, rows, i)
+    } else {
+        value(bytes, rows, i).len() != 0
+    }
+}
+
+// Whether the members have an element of the tag and VR, with a length that is not 0.
+pub fn has_vr(
+    bytes: &[u8],
+    rows: &[u32],
+    from: usize,
+    to: usize,
+    wanted: usize,
+    kind: usize,
+) -> bool
+    requires { ⌜ Table (now bytes) (now rows) × (to ≤ length (nodesOf (now bytes))) ⌝ }
+    ensures { λ r. ⌜ r ≡ has (nodesOf (now (bytes .entry))) wanted kind (members (nodesOf (now (bytes .entry))) from to) ⌝ }
+{
+    match find_vr(bytes, rows, from, to, wanted, kind) {
+        Num::Lacks => false,
+        Num::Is(i) => is_filled(bytes, rows, i),
+    }
+}

@@ -1,0 +1,5 @@
+pub mod Root
+pub mod Frame
+pub mod Mask
+pub mod Pixels
+pub mod All

@@ -1,0 +1,42 @@
+-- How the code takes the rules that are asked at each frame apart: what a rule asks of the shared item is worked out once, and
+-- what is left is asked of each frame's item. No paragraph of document 01 stands here; `Rattle.rules` has the rules.
+use Prim.Native.Nat.{ℕ}
+use mathlib.Core.List.{List}
+use mathlib.Core.Bool.{Bool, true, cond}
+use lib.Dec.{eqb}
+use Rattle.node.specs.Nodes.{Node, inside}
+use Rattle.value.specs.declared.Num.{Num}
+use Rattle.value.specs.declared.Num.the-variants.{Is, Lacks}
+use Rattle.node.specs.Find.{absent, find}
+use Rattle.element.specs.Tags
+use Rattle.element.specs.Elements.{oneItem}
+use Rattle.rules.specs.Frame.{item27, item28, isVoi, isShiftGroup}
+
+-- The functional group that rule 29, 30 or 37 is of, and what it asks of the group.
+unfoldable pub groupTag : ℕ → ℕ
+groupTag rule = cond (eqb rule 29) Tags.FrameCharacteristicsSequence (cond (eqb rule 30) Tags.FrameVOILUTSequence Tags.FramePixelShiftSequence)
+
+unfoldable pub groupFits : List Node → ℕ → ℕ → Bool
+groupFits ns rule g = cond (eqb rule 29) (oneItem ns g) (cond (eqb rule 30) (isVoi ns g) (isShiftGroup ns g))
+
+-- What rule 29, 30 or 37 asks of an item alone; `otherwise` where the item has no such group.
+abbrev pub onGroup : Num → (ℕ → Bool) → Bool → Bool
+onGroup Lacks fits otherwise = otherwise
+onGroup (Is g) fits otherwise = fits g
+
+unfoldable pub groupIn : List Node → ℕ → ℕ → Bool → Bool
+groupIn ns rule i otherwise = onGroup (find ns (groupTag rule) (inside ns i)) (groupFits ns rule) otherwise
+
+-- What a rule asks of the shared item s alone.
+unfoldable pub sharedPart : List Node → ℕ → ℕ → Bool
+sharedPart ns rule s =
+    cond (eqb rule 27) true
+    (cond (eqb rule 28) (absent (find ns Tags.FrameContentSequence (inside ns s)))
+    (groupIn ns rule s true))
+
+-- What a rule asks of the shared item s and a frame's item i.
+unfoldable pub itemRule : List Node → ℕ → ℕ → ℕ → Bool
+itemRule ns rule s i =
+    cond (eqb rule 27) (item27 ns s i)
+    (cond (eqb rule 28) (item28 ns s i)
+    (groupIn ns rule i (groupIn ns rule s true)))

@@ -1,0 +1,276 @@
+// Rules 27 to 30 and 37, which are asked at each frame, over a row table.
+ghost use mathlib.Core.Path.{_≡_};
+ghost use Prim.Native.Nat.{ℕ, _+_, _-_, _*_, _≤_, _<_};
+ghost use mathlib.Core.Bool.{Bool};
+ghost use lib.ListN.{length};
+ghost use Rattle.node.specs.Nodes.{Node, nodesOf, nodeAt, members, inside};
+ghost use Rattle.node.specs.Find.{absent, ifPresent, find};
+ghost use Rattle.node.specs.Table.{Table};
+ghost use Rattle.element.specs.Elements.{every};
+ghost use Rattle.rules.specs.Frame.{isShared, repeatsShared, item27, item28, isWindow, hasWindow, isVoi, isShiftItem, isShiftGroup};
+ghost use Rattle.rules_frame.specs.Parts.{groupTag, groupFits, groupIn, sharedPart, itemRule};
+use value::Num;
+
+const SQ: usize = 0x5351;
+
+// ---- Rule 27: no sequence stands both in the shared item and in the frame's item
+
+// Whether node j is a sequence whose tag is a sequence in the shared item too.
+fn is_shared(bytes: &[u8], rows: &[u32], shared: usize, j: usize) -> bool
+    requires { ⌜ Table (now bytes) (now rows) × ((shared < length (nodesOf (now bytes))) × (j < length (nodesOf (now bytes)))) ⌝ }
+    ensures { λ r. ⌜ r ≡ isShared (nodesOf (now (bytes .entry))) shared j ⌝ }
+{
+    if node::vr(bytes, rows, j) == SQ {
+        match element::find_vr_item(bytes, rows, shared, node::tag(bytes, rows, j), SQ) {
+            Num::Lacks => false,
+            Num::Is(_) => true,
+        }
+    } else {
+        false
+    }
+}
+
+fn repeats_shared(bytes: &[u8], rows: &[u32], shared: usize, item: usize) -> bool
+    requires { ⌜ Table (now bytes) (now rows) × ((shared < length (nodesOf (now bytes))) × (item < length (nodesOf (now bytes)))) ⌝ }
+    ensures { λ r. ⌜ r ≡ repeatsShared (nodesOf (now (bytes .entry))) shared item ⌝ }
+{
+    let end = node::next(bytes, rows, item);
+    let mut j = item + 1;
+    while j < end {
+        if is_shared(bytes, rows, shared, j) {
+            return true;
+        }
+        j = node::next(bytes, rows, j);
+    }
+    false
+}
+
+fn item_27(bytes: &[u8], rows: &[u32], shared: usize, item: usize) -> bool
+    requires { ⌜ Table (now bytes) (now rows) × ((shared < length (nodesOf (now bytes))) × (item < length (nodesOf (now bytes)))) ⌝ }
+    ensures { λ r. ⌜ r ≡ item27 (nodesOf (now (bytes .entry))) shared item ⌝ }
+{
+    if repeats_shared(bytes, rows, shared, item) {
+        false
+    } else {
+        true
+    }
+}
+
+// ---- Rule 28: Frame Content in no shared item, and one item in the frame's
+
+fn content_absent(bytes: &[u8], rows: &[u32], shared: usize) -> bool
+    requires { ⌜ Table (now bytes) (now rows) × (shared < length (nodesOf (now bytes))) ⌝ }
+    ensures { λ r. ⌜ r ≡ absent (find (nodesOf (now (bytes .entry))) 0x00209111 (inside (nodesOf (now (bytes .entry))) shared)) ⌝ }
+{
+    match element::find_item(bytes, rows, shared, element::tags::FRAME_CONTENT_SEQUENCE) {
+        Num::Lacks => true,
+        Num::Is(_) => false,
+    }
+}
+
+// `ok` is whether the shared item has no Frame Content.
+fn item_28(bytes: &[u8], rows: &[u32], shared: usize, ok: bool, item: usize) -> bool
+    requires { ⌜ Table (now bytes) (now rows) × ((item < length (nodesOf (now bytes))) × (ok ≡ absent (find (nodesOf (now bytes)) 0x00209111 (inside (nodesOf (now bytes)) shared)))) ⌝ }
+    ensures { λ r. ⌜ r ≡ item28 (nodesOf (now (bytes .entry))) shared item ⌝ }
+{
+    if ok {
+        match element::find_item(bytes, rows, item, element::tags::FRAME_CONTENT_SEQUENCE) {
+            Num::Lacks => false,
+            Num::Is(g) => element::is_one_item(bytes, rows, g),
+        }
+    } else {
+        false
+    }
+}
+
+// ---- Rule 30: Frame VOI LUT
+
+fn is_window(centers: &[u8], widths: &[u8]) -> bool
+    ensures { λ r. ⌜ r ≡ isWindow (now (centers .entry)) (now (widths .entry)) ⌝ }
+{
+    if value::count_values(centers) == value::count_values(widths) {
+        if value::all_decimals(centers) {
+            value::all_widths(widths)
+        } else {
+            false
+        }
+    } else {
+        false
+    }
+}
+
+fn has_window(bytes: &[u8], rows: &[u32], item: usize) -> bool
+    requires { ⌜ Table (now bytes) (now rows) × (item < length (nodesOf (now bytes))) ⌝ }
+    ensures { λ r. ⌜ r ≡ hasWindow (nodesOf (now (bytes .entry))) (inside (nodesOf (now (bytes .entry))) item) ⌝ }
+{
+    let Num::Is(c) = element::find_vr_item(
+        bytes,
+        rows,
+        item,
+        element::tags::WINDOW_CENTER,
+        element::tags::DS,
+    ) else {
+        return false;
+    };
+    let Num::Is(w) = element::find_vr_item(
+        bytes,
+        rows,
+        item,
+        element::tags::WINDOW_WIDTH,
+        element::tags::DS,
+    ) else {
+        return false;
+    };
+    is_window(node::value(bytes, rows, c), node::value(bytes, rows, w))
+}
+
+fn is_voi(bytes: &[u8], rows: &[u32], group: usize) -> bool
+    requires { ⌜ Table (now bytes) (now rows) × (group < length (nodesOf (now bytes))) ⌝ }
+    ensures { λ r. ⌜ r ≡ isVoi (nodesOf (now (bytes .entry))) group ⌝ }
+{
+    match element::the_item(bytes, rows, group) {
+        Num::Lacks => false,
+        Num::Is(j) => has_window(bytes, rows, j),
+    }
+}
+
+// ---- Rule 37: Frame Pixel Shift
+
+fn is_shift_item(bytes: &[u8], rows: &[u32], item: usize) -> bool
+    requires { ⌜ Table (now bytes) (now rows) × (item < length (nodesOf (now bytes))) ⌝ }
+    ensures { λ r. ⌜ r ≡ isShiftItem (nodesOf (now (bytes .entry))) item ⌝ }
+{
+    if ids::has_id(bytes, rows, item) {
+        match element::find_vr_item(
+            bytes,
+            rows,
+            item,
+            element::tags::MASK_SUB_PIXEL_SHIFT,
+            element::tags::FL,
+        ) {
+            Num::Lacks => false,
+            Num::Is(k) => shift::is_shift(node::value(bytes, rows, k)),
+        }
+    } else {
+        false
+    }
+}
+
+// Whether every item from `from` up to `to` has an ID and a shift.
+fn are_shift_items(bytes: &[u8], rows: &[u32], from: usize, to: usize) -> bool
+    requires { ⌜ Table (now bytes) (now rows) × (to ≤ length (nodesOf (now bytes))) ⌝ }
+    ensures { λ r. ⌜ r ≡ every (isShiftItem (nodesOf (now (bytes .entry)))) (members (nodesOf (now (bytes .entry))) from to) ⌝ }
+{
+    let mut j = from;
+    while j < to {
+        if is_shift_item(bytes, rows, j) {
+            j = node::next(bytes, rows, j);
+        } else {
+            return false;
+        }
+    }
+    true
+}
+
+fn is_shift_group(bytes: &[u8], rows: &[u32], group: usize) -> bool
+    requires { ⌜ Table (now bytes) (now rows) × (group < length (nodesOf (now bytes))) ⌝ }
+    ensures { λ r. ⌜ r ≡ isShiftGroup (nodesOf (now (bytes .entry))) group ⌝ }
+{
+    if node::vr(bytes, rows, group) == SQ {
+        let from = group + 1;
+        let to = node::next(bytes, rows, group);
+        if from < to {
+            if are_shift_items(bytes, rows, from, to) {
+                ids::unique_ids(bytes, rows, from, to)
+            } else {
+                false
+            }
+        } else {
+            false
+        }
+    } else {
+        false
+    }
+}
+
+// ---- The rules by their numbers
+
+fn group_tag(rule: usize) -> usize
+    ensures { λ r. ⌜ r ≡ groupTag rule ⌝ }
+{
+    if rule == 29 {
+        element::tags::FRAME_CHARACTERISTICS_SEQUENCE
+    } else {
+        if rule == 30 {
+            element::tags::FRAME_VOI_LUT_SEQUENCE
+        } else {
+            element::tags::FRAME_PIXEL_SHIFT_SEQUENCE
+        }
+    }
+}
+
+// What rule 29, 30 or 37 asks of its functional group.
+fn group_fits(bytes: &[u8], rows: &[u32], rule: usize, group: usize) -> bool
+    requires { ⌜ Table (now bytes) (now rows) × (group < length (nodesOf (now bytes))) ⌝ }
+    ensures { λ r. ⌜ r ≡ groupFits (nodesOf (now (bytes .entry))) rule group ⌝ }
+{
+    if rule == 29 {
+        element::is_one_item(bytes, rows, group)
+    } else {
+        if rule == 30 {
+            is_voi(bytes, rows, group)
+        } else {
+            is_shift_group(bytes, rows, group)
+        }
+    }
+}
+
+// The functional group of rule 29, 30 or 37 in an item; `otherwise` where the item has none.
+fn group_in(bytes: &[u8], rows: &[u32], rule: usize, item: usize, otherwise: bool) -> bool
+    requires { ⌜ Table (now bytes) (now rows) × (item < length (nodesOf (now bytes))) ⌝ }
+    ensures { λ r. ⌜ r ≡ groupIn (nodesOf (now (bytes .entry))) rule item otherwise ⌝ }
+{
+    match element::find_item(bytes, rows, item, group_tag(rule)) {
+        Num::Lacks => otherwise,
+        Num::Is(g) => group_fits(bytes, rows, rule, g),
+    }
+}
+
+// What a rule asks of the shared item alone: worked out once for the rule.
+pub fn shared_part(bytes: &[u8], rows: &[u32], rule: usize, shared: usize) -> bool
+    requires { ⌜ Table (now bytes) (now rows) × (shared < length (nodesOf (now bytes))) ⌝ }
+    ensures { λ r. ⌜ r ≡ sharedPart (nodesOf (now (bytes .entry))) rule shared ⌝ }
+{
+    if rule == 27 {
+        true
+    } else {
+        if rule == 28 {
+            content_absent(bytes, rows, shared)
+        } else {
+            group_in(bytes, rows, rule, shared, true)
+        }
+    }
+}
+
+// A rule at a frame: `shared` is the shared item, `ok` what the rule comes to there, `item` the frame's item.
+pub fn item_rule(
+    bytes: &[u8],
+    rows: &[u32],
+    rule: usize,
+    shared: usize,
+    ok: bool,
+    item: usize,
+) -> bool
+    requires { ⌜ Table (now bytes) (now rows) × ((shared < length (nodesOf (now bytes))) × ((item < length (nodesOf (now bytes))) × (ok ≡ sharedPart (nodesOf (now bytes)) rule shared))) ⌝ }
+    ensures { λ r. ⌜ r ≡ itemRule (nodesOf (now (bytes .entry))) rule shared item ⌝ }
+{
+    if rule == 27 {
+        item_27(bytes, rows, shared, item)
+    } else {
+        if rule == 28 {
+            item_28(bytes, rows, shared, ok, item)
+        } else {
+            group_in(bytes, rows, rule, item, ok)
+        }
+    }
+}

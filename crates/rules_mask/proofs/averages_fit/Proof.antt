@@ -1,0 +1,30 @@
+use mathlib.Core.Path.{refl, sym, _∙_}
+use Rattle.rules_mask.proofs.Laws as laws
+use Rattle.rules.specs.Mask.{averagesFit, operationIs}
+use borrow.Author.Needs.{needs}
+use Rattle.rules_mask.proofs.averages_fit.Statement.{statement}
+use Rattle.rules_mask.proofs.averages_fit.Tie as tie
+
+slice-aggregate-cs-item : tie.Need-slice-aggregate-cs-item
+slice-aggregate-cs-item c = search needs
+
+cs-item-requires : tie.Need-cs-item-requires
+cs-item-requires c κs = search needs
+
+average-fits-requires : tie.Need-average-fits-requires
+average-fits-requires c κs = search needs
+
+returns : tie.Need-returns
+unfolding averagesFit operationIs
+returns c =
+    sym (laws.then _ (sym (c .before .before .cs-item .ensures) ∙ c .before .if1 .taken) (sym (c .average-fits .ensures)))
+
+returns-2 : tie.Need-returns-2
+unfolding averagesFit operationIs
+returns-2 c =
+    sym (laws.otherwise _ (sym (c .before .cs-item .ensures) ∙ c .if1 .left) refl)
+
+pub averages-fit-spec : {M : Type 1} → statement M
+averages-fit-spec =
+    tie.close
+    (tie.spec slice-aggregate-cs-item cs-item-requires average-fits-requires returns returns-2)

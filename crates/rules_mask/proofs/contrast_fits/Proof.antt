@@ -1,0 +1,30 @@
+use Rattle.node.proofs.Laws as node-laws
+use borrow.Author.Needs.{needs}
+use Rattle.rules_mask.proofs.contrast_fits.Statement.{statement}
+use Rattle.rules_mask.proofs.contrast_fits.Tie as tie
+
+find-item-requires : tie.Need-find-item-requires
+find-item-requires c κs = search needs
+
+enum-told : tie.Need-enum-told
+enum-told c = search needs
+
+enum-known-i : tie.Need-enum-known-i
+enum-known-i c = search needs
+
+is-one-requires : tie.Need-is-one-requires
+is-one-requires c κs =
+    (c .before .before .before .before .before .before .pre .0, node-laws.within _ (c .before .i .given .1) (c .before .before .before .find-item .ensures .1))
+
+returns : tie.Need-returns
+returns c =
+    rw (node-laws.lacked (c .enum-told .given .1) (c .before .before .find-item .ensures .0))
+
+returns-2 : tie.Need-returns-2
+returns-2 c =
+    rw (node-laws.had (c .before .before .i .given .1) (c .before .before .before .before .find-item .ensures .0)) (c .is-one .ensures)
+
+pub contrast-fits-spec : {M : Type 1} → statement M
+contrast-fits-spec =
+    tie.close
+    (tie.spec find-item-requires enum-told enum-known-i is-one-requires returns returns-2)

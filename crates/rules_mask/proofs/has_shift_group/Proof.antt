@@ -1,0 +1,52 @@
+use Rattle.rules_mask.proofs.Laws as laws
+use Rattle.node.proofs.Laws as node-laws
+use Rattle.node.specs.Find.{ofVr}
+use Rattle.rules.specs.Mask.{hasShiftGroup}
+use borrow.Author.Needs.{needs}
+use Rattle.rules_mask.proofs.has_shift_group.Statement.{statement}
+use Rattle.rules_mask.proofs.has_shift_group.Tie as tie
+
+group-of-requires : tie.Need-group-of-requires
+group-of-requires c κs = search needs
+
+enum-told : tie.Need-enum-told
+enum-told c = search needs
+
+enum-known-g : tie.Need-enum-known-g
+enum-known-g c = search needs
+
+vr-requires : tie.Need-vr-requires
+vr-requires c κs =
+    (c .before .before .before .before .before .before .pre .0, node-laws.within _ (c .before .g .given .1) (c .before .before .before .group-of .ensures .1))
+
+is-filled-requires : tie.Need-is-filled-requires
+is-filled-requires c κs =
+    (c .before .before .before .before .before .before .before .before .pre .0, node-laws.within _ (c .before .before .before .g .given .1) (c .before .before .before .before .before .group-of .ensures .1))
+
+returns : tie.Need-returns
+unfolding hasShiftGroup ofVr
+returns c =
+    rw (node-laws.lacked (c .enum-told .given .1) (c .before .before .group-of .ensures .0))
+
+returns-2 : tie.Need-returns-2
+unfolding hasShiftGroup ofVr
+returns-2 c =
+    rw (node-laws.had (c .before .before .before .before .g .given .1) (c .before .before .before .before .before .before .group-of .ensures .0), laws.same _ (c .before .before .vr .ensures) (c .before .if1 .taken)) (c .is-filled .ensures)
+
+returns-3 : tie.Need-returns-3
+unfolding hasShiftGroup ofVr
+returns-3 c =
+    rw (node-laws.had (c .before .before .before .g .given .1) (c .before .before .before .before .before .group-of .ensures .0), laws.different _ (c .before .vr .ensures) (c .if1 .left))
+
+pub has-shift-group-spec : {M : Type 1} → statement M
+has-shift-group-spec =
+    tie.close
+    (tie.spec
+    group-of-requires
+    enum-told
+    enum-known-g
+    vr-requires
+    is-filled-requires
+    returns
+    returns-2
+    returns-3)

@@ -1,0 +1,55 @@
+use mathlib.Core.Path.{sym}
+use Rattle.rules_mask.proofs.Laws as laws
+use Rattle.rules.specs.Mask.{isMask}
+use borrow.Author.Needs.{needs}
+use Rattle.rules_mask.proofs.is_mask.Statement.{statement}
+use Rattle.rules_mask.proofs.is_mask.Tie as tie
+
+vr-requires : tie.Need-vr-requires
+vr-requires c κs = search needs
+
+count-items-requires : tie.Need-count-items-requires
+count-items-requires c κs = search needs
+
+add-all-operations : tie.Need-add-all-operations
+add-all-operations c = search needs
+
+next-requires : tie.Need-next-requires
+next-requires c κs = search needs
+
+all-operations-requires : tie.Need-all-operations-requires
+all-operations-requires c κs = search needs
+
+returns : tie.Need-returns
+unfolding isMask
+returns c =
+    sym (laws.both (laws.same _ (c .before .before .before .before .before .before .vr .ensures) (c .before .before .before .before .before .if1 .taken)) (laws.both (laws.both (laws.at-least _ (c .before .before .before .before .count-items .ensures) (c .before .before .before .if2 .taken)) (laws.at-most _ (c .before .before .before .before .count-items .ensures) (c .before .before .if3 .taken))) (laws.every-inside _ _ _ _ _ (c .before .next .ensures .0) (c .all-operations .ensures))))
+
+returns-2 : tie.Need-returns-2
+unfolding isMask
+returns-2 c =
+    sym (laws.both (laws.same _ (c .before .before .before .before .vr .ensures) (c .before .before .before .if1 .taken)) (laws.not-first _ (laws.both (laws.at-least _ (c .before .before .count-items .ensures) (c .before .if2 .taken)) (laws.over _ (c .before .before .count-items .ensures) (c .if3 .left)))))
+
+returns-3 : tie.Need-returns-3
+unfolding isMask
+returns-3 c =
+    sym (laws.both (laws.same _ (c .before .before .before .vr .ensures) (c .before .before .if1 .taken)) (laws.not-first _ (laws.not-first _ (laws.under _ (c .before .count-items .ensures) (c .if2 .left)))))
+
+returns-4 : tie.Need-returns-4
+unfolding isMask
+returns-4 c =
+    sym (laws.not-first _ (laws.different _ (c .before .vr .ensures) (c .if1 .left)))
+
+pub is-mask-spec : {M : Type 1} → statement M
+is-mask-spec =
+    tie.close
+    (tie.spec
+    vr-requires
+    count-items-requires
+    add-all-operations
+    next-requires
+    all-operations-requires
+    returns
+    returns-2
+    returns-3
+    returns-4)

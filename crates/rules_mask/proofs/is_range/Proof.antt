@@ -1,0 +1,44 @@
+use mathlib.Core.Path.{sym, ap, _∙_}
+use Prim.Native.Nat.{ℕ, _%_}
+use mathlib.Core.List.{List}
+use lib.ListN.{length}
+use Rattle.value.specs.Number.{usValues}
+use Rattle.rules_mask.proofs.Laws as laws
+use Rattle.rules.specs.Mask.{isRange, pairsFit}
+use borrow.Author.Needs.{needs}
+use Rattle.rules_mask.proofs.is_range.Statement.{statement}
+use Rattle.rules_mask.proofs.is_range.Tie as tie
+
+vr-requires : tie.Need-vr-requires
+vr-requires c κs = search needs
+
+value-requires : tie.Need-value-requires
+value-requires c κs = search needs
+
+pairs-fit-requires : tie.Need-pairs-fit-requires
+pairs-fit-requires c κs = search needs
+
+returns : tie.Need-returns
+unfolding isRange
+returns c =
+    sym (laws.both (laws.same _ (c .before .before .before .before .before .vr .ensures) (c .before .before .before .before .if1 .taken)) (laws.both (laws.both (laws.at-least _ (ap (λ (l : List ℕ). length l) (c .before .before .before .value .ensures)) (c .before .before .if2 .taken)) (laws.same _ (ap (λ (l : List ℕ). length l % 4) (c .before .before .before .value .ensures)) (c .before .if3 .taken))) (sym (c .pairs-fit .ensures ∙ ap (λ (l : List ℕ). pairsFit (c .before .before .before .before .before .before .before .before .args .n) (usValues l)) (c .before .before .before .value .ensures)))))
+
+returns-2 : tie.Need-returns-2
+unfolding isRange
+returns-2 c =
+    sym (laws.both (laws.same _ (c .before .before .before .before .vr .ensures) (c .before .before .before .if1 .taken)) (laws.not-first _ (laws.both (laws.at-least _ (ap (λ (l : List ℕ). length l) (c .before .before .value .ensures)) (c .before .if2 .taken)) (laws.different _ (ap (λ (l : List ℕ). length l % 4) (c .before .before .value .ensures)) (c .if3 .left)))))
+
+returns-3 : tie.Need-returns-3
+unfolding isRange
+returns-3 c =
+    sym (laws.both (laws.same _ (c .before .before .before .vr .ensures) (c .before .before .if1 .taken)) (laws.not-first _ (laws.not-first _ (laws.under _ (ap (λ (l : List ℕ). length l) (c .before .value .ensures)) (c .if2 .left)))))
+
+returns-4 : tie.Need-returns-4
+unfolding isRange
+returns-4 c =
+    sym (laws.not-first _ (laws.different _ (c .before .vr .ensures) (c .if1 .left)))
+
+pub is-range-spec : {M : Type 1} → statement M
+is-range-spec =
+    tie.close
+    (tie.spec vr-requires value-requires pairs-fit-requires returns returns-2 returns-3 returns-4)

@@ -1,0 +1,29 @@
+use mathlib.Core.Path.{sym, _∙_}
+use Rattle.rules_mask.proofs.Laws as laws
+use Rattle.rules.specs.Mask.{masksHaveIds}
+use borrow.Author.Needs.{needs}
+use Rattle.rules_mask.proofs.masks_have_ids.Statement.{statement}
+use Rattle.rules_mask.proofs.masks_have_ids.Tie as tie
+
+mask-items-requires : tie.Need-mask-items-requires
+mask-items-requires c κs = search needs
+
+all-ids-requires : tie.Need-all-ids-requires
+all-ids-requires c κs = search needs
+
+unique-ids-requires : tie.Need-unique-ids-requires
+unique-ids-requires c κs = search needs
+
+returns : tie.Need-returns
+unfolding masksHaveIds
+returns c =
+    rw (← c .before .before .before .mask-items .ensures .ahead) (sym (laws.both (sym (c .before .before .all-ids .ensures) ∙ c .before .if1 .taken) (sym (c .unique-ids .ensures))))
+
+returns-2 : tie.Need-returns-2
+unfolding masksHaveIds
+returns-2 c =
+    rw (← c .before .before .mask-items .ensures .ahead) (sym (laws.not-first _ (sym (c .before .all-ids .ensures) ∙ c .if1 .left)))
+
+pub masks-have-ids-spec : {M : Type 1} → statement M
+masks-have-ids-spec =
+    tie.close (tie.spec mask-items-requires all-ids-requires unique-ids-requires returns returns-2)

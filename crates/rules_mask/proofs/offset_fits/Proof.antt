@@ -1,0 +1,55 @@
+use mathlib.Core.Path.{refl, sym, _∙_}
+use Rattle.rules_mask.proofs.Laws as laws
+use Rattle.node.proofs.Laws as node-laws
+use Rattle.rules.specs.Mask.{offsetFits, operationIs}
+use borrow.Author.Needs.{needs}
+use Rattle.rules_mask.proofs.offset_fits.Statement.{statement}
+use Rattle.rules_mask.proofs.offset_fits.Tie as tie
+
+slice-aggregate-cs-item : tie.Need-slice-aggregate-cs-item
+slice-aggregate-cs-item c = search needs
+
+cs-item-requires : tie.Need-cs-item-requires
+cs-item-requires c κs = search needs
+
+find-item-requires : tie.Need-find-item-requires
+find-item-requires c κs = search needs
+
+enum-told : tie.Need-enum-told
+enum-told c = search needs
+
+enum-known-i : tie.Need-enum-known-i
+enum-known-i c = search needs
+
+is-offset-requires : tie.Need-is-offset-requires
+is-offset-requires c κs =
+    (c .before .before .before .before .before .before .before .before .before .pre .0, node-laws.within _ (c .before .i .given .1) (c .before .before .before .find-item .ensures .1))
+
+returns : tie.Need-returns
+unfolding offsetFits operationIs
+returns c =
+    sym (laws.then _ (sym (c .before .before .before .before .cs-item .ensures) ∙ c .before .before .before .if1 .taken) (sym (rw (node-laws.lacked (c .enum-told .given .1) (c .before .before .find-item .ensures .0)))))
+
+returns-2 : tie.Need-returns-2
+unfolding offsetFits operationIs
+returns-2 c =
+    sym (laws.then _ (sym (c .before .before .before .before .before .before .cs-item .ensures) ∙ c .before .before .before .before .before .if1 .taken) (sym (rw (node-laws.had (c .before .before .i .given .1) (c .before .before .before .before .find-item .ensures .0)) (c .is-offset .ensures))))
+
+returns-3 : tie.Need-returns-3
+unfolding offsetFits operationIs
+returns-3 c =
+    sym (laws.otherwise _ (sym (c .before .cs-item .ensures) ∙ c .if1 .left) refl)
+
+pub offset-fits-spec : {M : Type 1} → statement M
+offset-fits-spec =
+    tie.close
+    (tie.spec
+    slice-aggregate-cs-item
+    cs-item-requires
+    find-item-requires
+    enum-told
+    enum-known-i
+    is-offset-requires
+    returns
+    returns-2
+    returns-3)

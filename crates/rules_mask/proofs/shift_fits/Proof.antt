@@ -1,0 +1,33 @@
+use Rattle.node.proofs.Laws as node-laws
+use Rattle.rules.specs.Mask.{shiftFits}
+use borrow.Author.Needs.{needs}
+use Rattle.rules_mask.proofs.shift_fits.Statement.{statement}
+use Rattle.rules_mask.proofs.shift_fits.Tie as tie
+
+find-item-requires : tie.Need-find-item-requires
+find-item-requires c κs = search needs
+
+enum-told : tie.Need-enum-told
+enum-told c = search needs
+
+enum-known-i : tie.Need-enum-known-i
+enum-known-i c = search needs
+
+is-shift-at-requires : tie.Need-is-shift-at-requires
+is-shift-at-requires c κs =
+    (c .before .before .before .before .before .before .pre .0, node-laws.within _ (c .before .i .given .1) (c .before .before .before .find-item .ensures .1))
+
+returns : tie.Need-returns
+unfolding shiftFits
+returns c =
+    rw (node-laws.lacked (c .enum-told .given .1) (c .before .before .find-item .ensures .0))
+
+returns-2 : tie.Need-returns-2
+unfolding shiftFits
+returns-2 c =
+    rw (node-laws.had (c .before .before .i .given .1) (c .before .before .before .before .find-item .ensures .0)) (c .is-shift-at .ensures)
+
+pub shift-fits-spec : {M : Type 1} → statement M
+shift-fits-spec =
+    tie.close
+    (tie.spec find-item-requires enum-told enum-known-i is-shift-at-requires returns returns-2)

@@ -1,0 +1,58 @@
+-- The tests in turn are those of the definition.
+use Rattle.rules.specs.Root.{hasRadiation}
+use borrow.Author.Needs.{needs}
+use Rattle.rules_root.proofs.has_radiation.Statement.{statement}
+use Rattle.rules_root.proofs.has_radiation.Tie as tie
+
+has-root-requires : tie.Need-has-root-requires
+has-root-requires c κs = search needs
+
+has-root-requires-2 : tie.Need-has-root-requires-2
+has-root-requires-2 c κs = search needs
+
+slice-aggregate-cs-root : tie.Need-slice-aggregate-cs-root
+slice-aggregate-cs-root c = search needs
+
+cs-root-requires : tie.Need-cs-root-requires
+cs-root-requires c κs = search needs
+
+slice-aggregate-cs-root-2 : tie.Need-slice-aggregate-cs-root-2
+slice-aggregate-cs-root-2 c = search needs
+
+cs-root-requires-2 : tie.Need-cs-root-requires-2
+cs-root-requires-2 c κs = search needs
+
+returns : tie.Need-returns
+unfolding hasRadiation
+returns c =
+    rw (← c .before .before .before .before .before .before .has-root .ensures, c .before .before .before .before .before .if1 .taken, ← c .before .before .before .before .has-root2 .ensures, c .before .before .before .if2 .taken, ← c .before .cs-root .ensures, c .if3 .taken)
+
+returns-2 : tie.Need-returns-2
+unfolding hasRadiation
+returns-2 c =
+    rw (← c .before .before .before .before .before .before .before .before .has-root .ensures, c .before .before .before .before .before .before .before .if1 .taken, ← c .before .before .before .before .before .before .has-root2 .ensures, c .before .before .before .before .before .if2 .taken, ← c .before .before .before .cs-root .ensures, c .before .before .if3 .left) (c .cs-root2 .ensures)
+
+returns-3 : tie.Need-returns-3
+unfolding hasRadiation
+returns-3 c =
+    rw (← c .before .before .before .has-root .ensures, c .before .before .if1 .taken, ← c .before .has-root2 .ensures, c .if2 .left)
+
+returns-4 : tie.Need-returns-4
+unfolding hasRadiation
+returns-4 c =
+    rw (← c .before .has-root .ensures, c .if1 .left)
+
+pub has-radiation-spec : {M : Type 1} → statement M
+has-radiation-spec =
+    tie.close
+    (tie.spec
+    has-root-requires
+    has-root-requires-2
+    slice-aggregate-cs-root
+    cs-root-requires
+    slice-aggregate-cs-root-2
+    cs-root-requires-2
+    returns
+    returns-2
+    returns-3
+    returns-4)

@@ -1,0 +1,44 @@
+-- The definition by the element that was found, or was not.
+use Rattle.node.proofs.Laws as node-laws
+use Rattle.rules.specs.Root.{imageTypeIs}
+use borrow.Author.Needs.{needs}
+use Rattle.rules_root.proofs.image_type_is.Statement.{statement}
+use Rattle.rules_root.proofs.image_type_is.Tie as tie
+
+find-vr-root-requires : tie.Need-find-vr-root-requires
+find-vr-root-requires c κs = search needs
+
+enum-told : tie.Need-enum-told
+enum-told c = search needs
+
+enum-known-i : tie.Need-enum-known-i
+enum-known-i c = search needs
+
+value-requires : tie.Need-value-requires
+value-requires c κs =
+    (c .before .before .before .before .before .before .before .pre, node-laws.within _ (c .before .i .given .1) (c .before .before .before .find-vr-root .ensures .1))
+
+word-at-requires : tie.Need-word-at-requires
+word-at-requires c κs = search needs
+
+returns : tie.Need-returns
+unfolding imageTypeIs
+returns c =
+    rw (node-laws.lacked (c .enum-told .given .1) (c .before .before .find-vr-root .ensures .0))
+
+returns-2 : tie.Need-returns-2
+unfolding imageTypeIs
+returns-2 c =
+    rw (node-laws.had (c .before .before .before .i .given .1) (c .before .before .before .before .before .find-vr-root .ensures .0), ← c .before .value .ensures) (c .word-at .ensures)
+
+pub image-type-is-spec : {M : Type 1} → statement M
+image-type-is-spec =
+    tie.close
+    (tie.spec
+    find-vr-root-requires
+    enum-told
+    enum-known-i
+    value-requires
+    word-at-requires
+    returns
+    returns-2)

@@ -1,0 +1,78 @@
+-- The tests in turn are those of the definition; the fourth value is tested before the first.
+use mathlib.Core.Bool.{and-true, and-false}
+use borrow.Author.Tests.{le-leb, lt-leb}
+use Rattle.rules.specs.Root.{isImageType}
+use borrow.Author.Needs.{needs}
+use Rattle.rules_root.proofs.is_image_type.Statement.{statement}
+use Rattle.rules_root.proofs.is_image_type.Tie as tie
+
+count-values-requires : tie.Need-count-values-requires
+count-values-requires c κs = search needs
+
+slice-aggregate-word-at : tie.Need-slice-aggregate-word-at
+slice-aggregate-word-at c = search needs
+
+word-at-requires : tie.Need-word-at-requires
+word-at-requires c κs = search needs
+
+slice-aggregate-word-at-2 : tie.Need-slice-aggregate-word-at-2
+slice-aggregate-word-at-2 c = search needs
+
+word-at-requires-2 : tie.Need-word-at-requires-2
+word-at-requires-2 c κs = search needs
+
+slice-aggregate-word-at-3 : tie.Need-slice-aggregate-word-at-3
+slice-aggregate-word-at-3 c = search needs
+
+word-at-requires-3 : tie.Need-word-at-requires-3
+word-at-requires-3 c κs = search needs
+
+slice-aggregate-word-at-4 : tie.Need-slice-aggregate-word-at-4
+slice-aggregate-word-at-4 c = search needs
+
+word-at-requires-4 : tie.Need-word-at-requires-4
+word-at-requires-4 c κs = search needs
+
+returns : tie.Need-returns
+unfolding isImageType
+returns c =
+    rw (← c .before .before .before .before .before .before .before .count-values .ensures .0, le-leb 4 _ (c .before .before .before .before .before .before .if1 .taken), ← c .before .before .before .before .word-at .ensures, c .before .before .before .if2 .taken, ← c .before .word-at2 .ensures, c .if3 .taken)
+
+returns-2 : tie.Need-returns-2
+unfolding isImageType
+returns-2 c =
+    rw (← c .before .before .before .before .before .before .before .before .before .before .count-values .ensures .0, le-leb 4 _ (c .before .before .before .before .before .before .before .before .before .if1 .taken), ← c .before .before .before .before .before .before .before .word-at .ensures, c .before .before .before .before .before .before .if2 .taken, ← c .before .before .before .before .word-at2 .ensures, c .before .before .before .if3 .left, ← c .before .word-at3 .ensures, c .if4 .taken)
+
+returns-3 : tie.Need-returns-3
+unfolding isImageType
+returns-3 c =
+    rw (← c .before .before .before .before .before .before .before .before .before .before .before .before .count-values .ensures .0, le-leb 4 _ (c .before .before .before .before .before .before .before .before .before .before .before .if1 .taken), ← c .before .before .before .before .before .before .before .before .before .word-at .ensures, c .before .before .before .before .before .before .before .before .if2 .taken, ← c .before .before .before .before .before .before .word-at2 .ensures, c .before .before .before .before .before .if3 .left, ← c .before .before .before .word-at3 .ensures, c .before .before .if4 .left, ← c .word-at4 .ensures, and-true)
+
+returns-4 : tie.Need-returns-4
+unfolding isImageType
+returns-4 c =
+    rw (← c .before .before .before .before .count-values .ensures .0, le-leb 4 _ (c .before .before .before .if1 .taken), ← c .before .word-at .ensures, c .if2 .left, and-false)
+
+returns-5 : tie.Need-returns-5
+unfolding isImageType
+returns-5 c =
+    rw (← c .before .count-values .ensures .0, lt-leb 4 _ (c .if1 .left))
+
+pub is-image-type-spec : {M : Type 1} → statement M
+is-image-type-spec =
+    tie.close
+    (tie.spec
+    count-values-requires
+    slice-aggregate-word-at
+    word-at-requires
+    slice-aggregate-word-at-2
+    word-at-requires-2
+    slice-aggregate-word-at-3
+    word-at-requires-3
+    slice-aggregate-word-at-4
+    word-at-requires-4
+    returns
+    returns-2
+    returns-3
+    returns-4
+    returns-5)

@@ -1,0 +1,16 @@
+-- The test of a CS is the definition.
+use Rattle.rules.specs.Root.{planesAre}
+use borrow.Author.Needs.{needs}
+use Rattle.rules_root.proofs.planes_are.Statement.{statement}
+use Rattle.rules_root.proofs.planes_are.Tie as tie
+
+cs-root-requires : tie.Need-cs-root-requires
+cs-root-requires c κs = search needs
+
+returns : tie.Need-returns
+unfolding planesAre
+returns c =
+    c .cs-root .ensures
+
+pub planes-are-spec : {M : Type 1} → statement M
+planes-are-spec = tie.close (tie.spec cs-root-requires returns)

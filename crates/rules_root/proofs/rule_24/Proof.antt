@@ -1,0 +1,44 @@
+-- The arms are those of the definition.
+use Rattle.rules.specs.Root.{rule24}
+use borrow.Author.Needs.{needs}
+use Rattle.rules_root.proofs.rule_24.Statement.{statement}
+use Rattle.rules_root.proofs.rule_24.Tie as tie
+
+is-original-requires : tie.Need-is-original-requires
+is-original-requires c κs = search needs
+
+is-xrf-requires : tie.Need-is-xrf-requires
+is-xrf-requires c κs = search needs
+
+slice-aggregate-cs-root : tie.Need-slice-aggregate-cs-root
+slice-aggregate-cs-root c = search needs
+
+cs-root-requires : tie.Need-cs-root-requires
+cs-root-requires c κs = search needs
+
+returns : tie.Need-returns
+unfolding rule24
+returns c =
+    rw (← c .before .before .before .before .before .is-original .ensures, c .before .before .before .before .if1 .taken, ← c .before .before .before .is-xrf .ensures, c .before .before .if2 .taken) (c .cs-root .ensures)
+
+returns-2 : tie.Need-returns-2
+unfolding rule24
+returns-2 c =
+    rw (← c .before .before .before .is-original .ensures, c .before .before .if1 .taken, ← c .before .is-xrf .ensures, c .if2 .left)
+
+returns-3 : tie.Need-returns-3
+unfolding rule24
+returns-3 c =
+    rw (← c .before .is-original .ensures, c .if1 .left)
+
+pub rule-24-spec : {M : Type 1} → statement M
+rule-24-spec =
+    tie.close
+    (tie.spec
+    is-original-requires
+    is-xrf-requires
+    slice-aggregate-cs-root
+    cs-root-requires
+    returns
+    returns-2
+    returns-3)

@@ -1,0 +1,121 @@
+-- The definition by the four numbers and the element that were found, or were not.
+use Rattle.node.proofs.Laws as node-laws
+use denote.Ref.{now}
+use Rattle.node.specs.Nodes.{nodesOf}
+use Rattle.rules_root.proofs.Laws as laws
+use Rattle.rules.specs.Pixels.{rule38}
+use borrow.Author.Needs.{needs}
+use Rattle.rules_root.proofs.rule_38.Statement.{statement}
+use Rattle.rules_root.proofs.rule_38.Tie as tie
+
+frame-count-requires : tie.Need-frame-count-requires
+frame-count-requires c κs = search needs
+
+enum-known-frames : tie.Need-enum-known-frames
+enum-known-frames c = search needs
+
+enum-told : tie.Need-enum-told
+enum-told c = search needs
+
+returns : tie.Need-returns
+unfolding rule38
+returns c =
+    laws.rule38-holds (nodesOf (now (c .before .before .before .before .before .args .bytes)))
+    (rw (node-laws.lacked (c .enum-told .given .1) (c .before .before .frame-count .ensures .0)))
+
+us-root-requires : tie.Need-us-root-requires
+us-root-requires c κs = search needs
+
+enum-known-height : tie.Need-enum-known-height
+enum-known-height c = search needs
+
+enum-told-2 : tie.Need-enum-told-2
+enum-told-2 c = search needs
+
+returns-2 : tie.Need-returns-2
+unfolding rule38
+returns-2 c =
+    laws.rule38-holds (nodesOf (now (c .before .before .before .before .before .before .before .before .before .args .bytes)))
+    (rw (node-laws.had (c .before .before .before .before .frames .given .1) (c .before .before .before .before .before .before .frame-count .ensures .0), node-laws.lacked (c .enum-told2 .given .1) (c .before .before .us-root .ensures .0)))
+
+us-root-requires-2 : tie.Need-us-root-requires-2
+us-root-requires-2 c κs = search needs
+
+enum-known-width : tie.Need-enum-known-width
+enum-known-width c = search needs
+
+enum-told-3 : tie.Need-enum-told-3
+enum-told-3 c = search needs
+
+returns-3 : tie.Need-returns-3
+unfolding rule38
+returns-3 c =
+    laws.rule38-holds (nodesOf (now (c .before .before .before .before .before .before .before .before .before .before .before .before .before .args .bytes)))
+    (rw (node-laws.had (c .before .before .before .before .before .before .before .before .frames .given .1) (c .before .before .before .before .before .before .before .before .before .before .frame-count .ensures .0), node-laws.had (c .before .before .before .before .height .given .1) (c .before .before .before .before .before .before .us-root .ensures .0), node-laws.lacked (c .enum-told3 .given .1) (c .before .before .us-root2 .ensures .0)))
+
+us-root-requires-3 : tie.Need-us-root-requires-3
+us-root-requires-3 c κs = search needs
+
+enum-known-allocated : tie.Need-enum-known-allocated
+enum-known-allocated c = search needs
+
+enum-told-4 : tie.Need-enum-told-4
+enum-told-4 c = search needs
+
+returns-4 : tie.Need-returns-4
+unfolding rule38
+returns-4 c =
+    laws.rule38-holds (nodesOf (now (c .before .before .before .before .before .before .before .before .before .before .before .before .before .before .before .before .before .args .bytes)))
+    (rw (node-laws.had (c .before .before .before .before .before .before .before .before .before .before .before .before .frames .given .1) (c .before .before .before .before .before .before .before .before .before .before .before .before .before .before .frame-count .ensures .0), node-laws.had (c .before .before .before .before .before .before .before .before .height .given .1) (c .before .before .before .before .before .before .before .before .before .before .us-root .ensures .0), node-laws.had (c .before .before .before .before .width .given .1) (c .before .before .before .before .before .before .us-root2 .ensures .0), node-laws.lacked (c .enum-told4 .given .1) (c .before .before .us-root3 .ensures .0)))
+
+find-root-requires : tie.Need-find-root-requires
+find-root-requires c κs = search needs
+
+enum-known-i : tie.Need-enum-known-i
+enum-known-i c = search needs
+
+enum-told-5 : tie.Need-enum-told-5
+enum-told-5 c = search needs
+
+returns-5 : tie.Need-returns-5
+unfolding rule38
+returns-5 c =
+    laws.rule38-holds (nodesOf (now (c .before .before .before .before .before .before .before .before .before .before .before .before .before .before .before .before .before .before .before .before .before .args .bytes)))
+    (rw (node-laws.had (c .before .before .before .before .before .before .before .before .before .before .before .before .before .before .before .before .frames .given .1) (c .before .before .before .before .before .before .before .before .before .before .before .before .before .before .before .before .before .before .frame-count .ensures .0), node-laws.had (c .before .before .before .before .before .before .before .before .before .before .before .before .height .given .1) (c .before .before .before .before .before .before .before .before .before .before .before .before .before .before .us-root .ensures .0), node-laws.had (c .before .before .before .before .before .before .before .before .width .given .1) (c .before .before .before .before .before .before .before .before .before .before .us-root2 .ensures .0), node-laws.had (c .before .before .before .before .allocated .given .1) (c .before .before .before .before .before .before .us-root3 .ensures .0), node-laws.lacked (c .enum-told5 .given .1) (c .before .before .find-root .ensures .0)))
+
+is-pixel-data-requires : tie.Need-is-pixel-data-requires
+is-pixel-data-requires c κs =
+    (c .before .before .before .before .before .before .before .before .before .before .before .before .before .before .before .before .before .before .before .before .before .before .pre, (node-laws.within _ (c .before .i .given .1) (c .before .before .before .find-root .ensures .1), (node-laws.within 100000000000 (c .before .before .before .before .before .before .before .before .before .before .before .before .before .before .before .before .before .frames .given .1) (c .before .before .before .before .before .before .before .before .before .before .before .before .before .before .before .before .before .before .before .frame-count .ensures .1), (node-laws.within 65536 (c .before .before .before .before .before .before .before .before .before .before .before .before .before .height .given .1) (c .before .before .before .before .before .before .before .before .before .before .before .before .before .before .before .us-root .ensures .1), (node-laws.within 65536 (c .before .before .before .before .before .before .before .before .before .width .given .1) (c .before .before .before .before .before .before .before .before .before .before .before .us-root2 .ensures .1), node-laws.within 65536 (c .before .before .before .before .before .allocated .given .1) (c .before .before .before .before .before .before .before .us-root3 .ensures .1))))))
+
+returns-6 : tie.Need-returns-6
+unfolding rule38
+returns-6 c =
+    laws.rule38-holds (nodesOf (now (c .before .before .before .before .before .before .before .before .before .before .before .before .before .before .before .before .before .before .before .before .before .before .before .args .bytes)))
+    (rw (node-laws.had (c .before .before .before .before .before .before .before .before .before .before .before .before .before .before .before .before .before .before .frames .given .1) (c .before .before .before .before .before .before .before .before .before .before .before .before .before .before .before .before .before .before .before .before .frame-count .ensures .0), node-laws.had (c .before .before .before .before .before .before .before .before .before .before .before .before .before .before .height .given .1) (c .before .before .before .before .before .before .before .before .before .before .before .before .before .before .before .before .us-root .ensures .0), node-laws.had (c .before .before .before .before .before .before .before .before .before .before .width .given .1) (c .before .before .before .before .before .before .before .before .before .before .before .before .us-root2 .ensures .0), node-laws.had (c .before .before .before .before .before .before .allocated .given .1) (c .before .before .before .before .before .before .before .before .us-root3 .ensures .0), node-laws.had (c .before .before .i .given .1) (c .before .before .before .before .find-root .ensures .0)) (c .is-pixel-data .ensures))
+
+pub rule-38-spec : {M : Type 1} → statement M
+rule-38-spec =
+    tie.close
+    (tie.spec
+    frame-count-requires
+    enum-known-frames
+    enum-told
+    returns
+    us-root-requires
+    enum-known-height
+    enum-told-2
+    returns-2
+    us-root-requires-2
+    enum-known-width
+    enum-told-3
+    returns-3
+    us-root-requires-3
+    enum-known-allocated
+    enum-told-4
+    returns-4
+    find-root-requires
+    enum-known-i
+    enum-told-5
+    returns-5
+    is-pixel-data-requires
+    returns-6)

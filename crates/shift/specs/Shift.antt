@@ -1,0 +1,72 @@
+-- Shifts of the mask: two FL numbers, vertical then horizontal (rule 35, drawing step 4).
+use Prim.Native.Nat.{ℕ, zero, suc, _+_, _*_, _/_, _%_}
+use mathlib.Core.Bool.{Bool, true, false, cond, _&&_}
+use mathlib.Core.List.{List}
+use lib.ListN.{length}
+use lib.Dec.{eqb, leb}
+use lib.Ieee.{Float, nan, inf, fin, up, down, ofBits, binary32}
+use Rattle.dataset.specs.Bytes.{le32}
+use Rattle.value.specs.declared.Signed.{Signed}
+use Rattle.value.specs.declared.Signed.the-variants.{Plus, Minus, Lacks}
+use Rattle.shift.specs.declared.Shift.{Shift}
+use Rattle.shift.specs.declared.Shift.the-variants as shift
+use Rattle.shift.specs.declared.Moves.{Moves}
+
+-- The FL number at p, four bytes.
+abbrev pub floatAt : List ℕ → ℕ → Float
+floatAt v p = ofBits binary32 (le32 v p)
+
+-- A size with a sign. Minus zero is zero.
+abbrev pub signedSize : Bool → ℕ → Signed
+signedSize false n = Plus n
+signedSize true zero = Plus 0
+signedSize true (suc n) = Minus (suc n)
+
+-- The whole number that a float is, of any size; NaN, the infinities and fractions are none. The float `fin s m e` is
+-- m × 2^e, that is m × up e / down e, with the sign s.
+unfoldable pub wholeOf : Float → Signed
+wholeOf nan = Lacks
+wholeOf (inf s) = Lacks
+wholeOf (fin s m e) = cond (eqb (m * up e % down e) 0) (signedSize s (m * up e / down e)) Lacks
+
+-- The largest whole number that a shift may have, to either side (local rule).
+abbrev pub largestShift : ℕ
+largestShift = 64
+
+abbrev pub isShort : Signed → Bool
+isShort (Plus n) = leb n largestShift
+isShort (Minus n) = leb n largestShift
+isShort Lacks = false
+
+-- A whole number from -64 to 64.
+unfoldable pub shortOf : Float → Signed
+shortOf x = cond (isShort (wholeOf x)) (wholeOf x) Lacks
+
+-- ---- No shift, the item's two numbers, or the frame's own two
+
+-- How far a shift moves the mask, down and to the right.
+unfoldable pub movesOf : Shift → Moves
+movesOf shift.None = record { vertical = Plus 0; horizontal = Plus 0 }
+movesOf (shift.Item v h) = record { vertical = wholeOf v; horizontal = wholeOf h }
+movesOf (shift.Frame v h) = record { vertical = wholeOf v; horizontal = wholeOf h }
+
+-- The same, for whole numbers from -64 to 64 alone.
+unfoldable pub shortMovesOf : Shift → Moves
+shortMovesOf shift.None = record { vertical = Plus 0; horizontal = Plus 0 }
+shortMovesOf (shift.Item v h) = record { vertical = shortOf v; horizontal = shortOf h }
+shortMovesOf (shift.Frame v h) = record { vertical = shortOf v; horizontal = shortOf h }
+
+-- Both numbers of a shift are whole numbers from -64 to 64.
+unfoldable pub isShiftOf : Shift → Bool
+isShiftOf s = isShort (movesOf s .vertical) && isShort (movesOf s .horizontal)
+
+-- A value of two FL numbers, as the item's or the frame's own; no shift where it has another length.
+unfoldable pub itemShift : List ℕ → Shift
+itemShift v = cond (eqb (length v) 8) (shift.Item (floatAt v 0) (floatAt v 4)) shift.None
+
+unfoldable pub frameShift : List ℕ → Shift
+frameShift v = cond (eqb (length v) 8) (shift.Frame (floatAt v 0) (floatAt v 4)) shift.None
+
+-- Rule 35's form of a value: two whole numbers from -64 to 64.
+unfoldable pub isShift : List ℕ → Bool
+isShift v = eqb (length v) 8 && isShiftOf (itemShift v)

@@ -1,0 +1,147 @@
+// Verdict slips: 13 bytes that record a verdict. specs/ says what a slip is; `write_slip` and `read_slip` are the public
+// calls. A slip's bytes: the mark from 0, the version from 3, the code at 5, the rule at 6, the frame from 7, the offset
+// from 9.
+ghost use mathlib.Core.Path.{_≡_};
+ghost use mathlib.Core.List.{_++_};
+ghost use Prim.Native.Nat.{_+_, _≤_, _<_};
+ghost use lib.ListN.{length, take, drop};
+ghost use Rattle.slip.specs.Slip.{slipSize, mark, number, equal, fieldsOf, slipOf, readOf, writeOf, bufferOf};
+use verdict::Verdict;
+
+// How many bytes a slip has.
+pub const SIZE: usize = 13;
+
+const VERSION: usize = 1;
+
+// The answer of `read_slip`: the verdict, or a refusal's code.
+pub enum SlipAnswer {
+    Read(Verdict),
+    Refused(usize),
+}
+
+// The answer of `write_slip`: done, or a refusal's code.
+pub enum WriteAnswer {
+    Written,
+    Refused(usize),
+}
+
+// ---- Reading
+
+fn wide(x: u8) -> usize
+    ensures { λ r. ⌜ (r ≡ x) × (r < 256) ⌝ }
+{
+    x as usize
+}
+
+fn u16_at(s: &[u8], p: usize) -> usize
+    requires { ⌜ p + 2 ≤ length (now s) ⌝ }
+    ensures { λ r. ⌜ (r ≡ number 2 (now (s .entry)) p) × (r < 65536) ⌝ }
+{
+    wide(s[p]) + 256 * wide(s[p + 1])
+}
+
+fn u32_at(s: &[u8], p: usize) -> usize
+    requires { ⌜ p + 4 ≤ length (now s) ⌝ }
+    ensures { λ r. ⌜ (r ≡ number 4 (now (s .entry)) p) × (r < 4294967296) ⌝ }
+{
+    u16_at(s, p) + 65536 * u16_at(s, p + 2)
+}
+
+// Whether a slip starts with "XAV".
+fn is_marked(s: &[u8]) -> bool
+    requires { ⌜ 3 ≤ length (now s) ⌝ }
+    ensures { λ r. ⌜ r ≡ equal (take 3 (now (s .entry))) mark ⌝ }
+{
+    if s[0] == b'X' {
+        if s[1] == b'A' { s[2] == b'V' } else { false }
+    } else {
+        false
+    }
+}
+
+// The fields of a slip as they stand.
+fn fields(s: &[u8]) -> Verdict
+    requires { ⌜ slipSize ≤ length (now s) ⌝ }
+    ensures { λ r. ⌜ r ≡ fieldsOf (now (s .entry)) ⌝ }
+{
+    let code = wide(s[5]);
+    let rule = wide(s[6]);
+    let frame = u16_at(s, 7);
+    let offset = u32_at(s, 9);
+    Verdict {
+        code,
+        rule,
+        frame,
+        offset,
+    }
+}
+
+// The verdict that a slip records; code 12 where it is not 13 bytes or has another mark, 13 where its version is not 1,
+// 14 where its fields are not possible.
+pub fn read_slip(slip: &[u8]) -> SlipAnswer
+    ensures { λ r. ⌜ r ≡ readOf (now (slip .entry)) ⌝ }
+{
+    if slip.len() == SIZE {
+        if is_marked(slip) {
+            if u16_at(slip, 3) == VERSION {
+                let v = fields(slip);
+                if verdict::is_possible(v) {
+                    SlipAnswer::Read(v)
+                } else {
+                    SlipAnswer::Refused(14)
+                }
+            } else {
+                SlipAnswer::Refused(13)
+            }
+        } else {
+            SlipAnswer::Refused(12)
+        }
+    } else {
+        SlipAnswer::Refused(12)
+    }
+}
+
+// ---- Writing
+
+// Writes a verdict's slip over the first 13 bytes. A field too wide for its bytes would be cut: `write_slip` has the
+// verdict tested first.
+fn put_slip(v: Verdict, slip: &mut [u8])
+    requires { ⌜ slipSize ≤ length (now slip) ⌝ }
+    ensures { λ _. ⌜ now (slip .exit) ≡ slipOf v ++ drop slipSize (now (slip .entry)) ⌝ }
+{
+    let code = v.code;
+    let rule = v.rule;
+    let frame = v.frame;
+    let offset = v.offset;
+    slip[0] = b'X';
+    slip[1] = b'A';
+    slip[2] = b'V';
+    slip[3] = (VERSION % 256) as u8;
+    slip[4] = (VERSION / 256 % 256) as u8;
+    slip[5] = (code % 256) as u8;
+    slip[6] = (rule % 256) as u8;
+    slip[7] = (frame % 256) as u8;
+    slip[8] = (frame / 256 % 256) as u8;
+    slip[9] = (offset % 256) as u8;
+    slip[10] = (offset / 256 % 256) as u8;
+    slip[11] = (offset / 256 / 256 % 256) as u8;
+    slip[12] = (offset / 256 / 256 / 256 % 256) as u8;
+}
+
+// Writes a verdict's slip over the first 13 bytes of the buffer; code 14 where the verdict is not possible, then 11
+// where the buffer has fewer than 13 bytes. A refusal leaves the buffer as it was.
+pub fn write_slip(verdict: Verdict, slip: &mut [u8]) -> WriteAnswer
+    ensures { λ r. ⌜ r ≡ writeOf verdict (now (slip .entry)) ⌝ }
+    ensures { λ _. ⌜ now (slip .exit) ≡ bufferOf verdict (now (slip .entry)) ⌝ }
+{
+    if verdict::is_possible(verdict) {
+        if SIZE <= slip.len() {
+            put_slip(verdict, slip);
+            WriteAnswer::Written
+        } else {
+            WriteAnswer::Refused(11)
+        }
+    } else {
+        WriteAnswer::Refused(14)
+    }
+}

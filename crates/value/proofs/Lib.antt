@@ -1,0 +1,6 @@
+-- What the proofs of several functions use; `Laws` is for callers of the crate.
+pub mod Lists
+pub mod Parts
+pub mod Runs
+pub mod Forms
+pub mod Laws

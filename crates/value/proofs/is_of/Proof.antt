@@ -1,0 +1,41 @@
+use mathlib.Core.Path.{_≡_, sym, subst}
+use Rattle.value.specs.Number.{isOf}
+use Rattle.value.specs.Said.{SizeBelow}
+use Rattle.value.proofs.Laws as laws
+use borrow.Author.Needs.{needs}
+use Rattle.value.proofs.is_of.Statement.{statement}
+use Rattle.value.proofs.is_of.Tie as tie
+
+is-single-requires : tie.Need-is-single-requires
+is-single-requires c κs = search needs
+
+value-of-requires : tie.Need-value-of-requires
+value-of-requires c κs = search needs
+
+trimmed-requires : tie.Need-trimmed-requires
+trimmed-requires c κs = search needs
+
+signed-whole-requires : tie.Need-signed-whole-requires
+signed-whole-requires c κs = search needs
+
+returns : tie.Need-returns
+unfolding isOf
+returns c =
+    let e : c .signed-whole .result ≡ isOf (c .before .before .before .before .before .before .args .v .now) = rw (c .signed-whole .ensures, c .before .trimmed .ensures, c .before .before .value-of .ensures, ← c .before .before .before .before .is-single .ensures, c .before .before .before .if1 .taken) in
+    (e, subst (SizeBelow 100000000000) (sym e) (laws.isOf-below (c .before .before .before .before .before .before .args .v .now)))
+
+returns-2 : tie.Need-returns-2
+unfolding isOf
+returns-2 c =
+    (rw (← c .before .is-single .ensures, c .if1 .left), tt)
+
+pub is-of-spec : {M : Type 1} → statement M
+is-of-spec =
+    tie.close
+    (tie.spec
+    is-single-requires
+    value-of-requires
+    trimmed-requires
+    signed-whole-requires
+    returns
+    returns-2)

@@ -1,0 +1,21 @@
+use Rattle.value.specs.Words.{wordAt}
+use borrow.Author.Needs.{needs}
+use Rattle.value.proofs.word_at.Statement.{statement}
+use Rattle.value.proofs.word_at.Tie as tie
+
+value-of-requires : tie.Need-value-of-requires
+value-of-requires c κs = search needs
+
+trimmed-requires : tie.Need-trimmed-requires
+trimmed-requires c κs = search needs
+
+equal-requires : tie.Need-equal-requires
+equal-requires c κs = search needs
+
+returns : tie.Need-returns
+unfolding wordAt
+returns c =
+    rw (c .equal .ensures, c .before .trimmed .ensures, c .before .before .value-of .ensures)
+
+pub word-at-spec : {M : Type 1} → statement M
+word-at-spec = tie.close (tie.spec value-of-requires trimmed-requires equal-requires returns)

@@ -1,0 +1,58 @@
+-- Values of text (document 01, "The rule list"): backslash parts values; then each CS, IS and DS value loses outer
+-- spaces, UI trailing zero bytes.
+use Prim.Native.Nat.{ℕ}
+use Prim.Native.Char.{code}
+use Prim.Native.String.{String, [] as empty, _∷_ as _then_}
+use mathlib.Core.Bool.{Bool, true, false, cond, _&&_}
+use mathlib.Core.List.{List, [], _∷_}
+use lib.ListN.{length, getD}
+use lib.Dec.{eqb}
+
+-- A word as its bytes.
+abbrev pub ascii : String → List ℕ
+ascii empty = []
+ascii (c then s) = code c ∷ ascii s
+
+unfoldable pub equal : List ℕ → List ℕ → Bool
+equal [] [] = true
+equal [] (y ∷ ys) = false
+equal (x ∷ xs) [] = false
+equal (x ∷ xs) (y ∷ ys) = eqb x y && equal xs ys
+
+-- ---- Parting
+
+abbrev pub onFirst : ℕ → List (List ℕ) → List (List ℕ)
+onFirst c [] = (c ∷ []) ∷ []
+onFirst c (v ∷ vs) = (c ∷ v) ∷ vs
+
+-- The values, parted at each backslash: one more than there are backslashes.
+unfoldable pub valuesOf : List ℕ → List (List ℕ)
+valuesOf [] = [] ∷ []
+valuesOf (c ∷ s) = cond (eqb c 0x5C) ([] ∷ valuesOf s) (onFirst c (valuesOf s))
+
+-- Value k, counted from 0; an empty one where there are fewer.
+abbrev pub valueOf : List ℕ → ℕ → List ℕ
+valueOf v k = getD (valuesOf v) k []
+
+abbrev pub isSingle : List ℕ → Bool
+isSingle v = eqb (length (valuesOf v)) 1
+
+-- ---- Trimming
+
+-- Without the bytes b in front.
+unfoldable pub trimStart : ℕ → List ℕ → List ℕ
+trimStart b [] = []
+trimStart b (c ∷ s) = cond (eqb c b) (trimStart b s) (c ∷ s)
+
+abbrev pub before : ℕ → ℕ → List ℕ → List ℕ
+before b c [] = cond (eqb c b) [] (c ∷ [])
+before b c (x ∷ s) = c ∷ x ∷ s
+
+-- Without the bytes b behind.
+unfoldable pub trimEnd : ℕ → List ℕ → List ℕ
+trimEnd b [] = []
+trimEnd b (c ∷ s) = before b c (trimEnd b s)
+
+-- Without outer spaces (CS, IS, DS).
+abbrev pub trimmed : List ℕ → List ℕ
+trimmed v = trimStart 0x20 (trimEnd 0x20 v)

@@ -1,0 +1,478 @@
+// The forms of values: text parted and trimmed, words, and numbers. Each function is over one element's value, and goes
+// along it once.
+ghost use mathlib.Core.Path.{_≡_};
+ghost use Prim.Native.Nat.{_+_, _-_, _*_, _^_, _≤_, _<_};
+ghost use lib.ListN.{length, drop, getD};
+ghost use Rattle.value.specs.Text.{equal, valuesOf, valueOf, isSingle, trimStart, trimEnd, trimmed};
+ghost use Rattle.value.specs.Words.{wordAt, isWord, isUid};
+ghost use Rattle.value.specs.Number.{usOf, usValues, ssOf, digitsOf, plus, minus, signedBy, wholeOf, isOf, decimals, pointBy, sizeOf, decimalOf, isNumber, isWidth, allDecimals, allWidths};
+ghost use Rattle.value.specs.Said.{Below, SizeBelow, DigitsRead, partsAt};
+use dataset::u16_at;
+use dataset::wide;
+
+// A number, or none.
+pub enum Num {
+    Is(usize),
+    Lacks,
+}
+
+// A number with a sign, or none.
+pub enum Signed {
+    Plus(usize),
+    Minus(usize),
+    Lacks,
+}
+
+// Digits that were read: their number, and how many they are.
+struct Run {
+    number: usize,
+    count: usize,
+}
+
+const BACKSLASH: u8 = 0x5C;
+
+const SPACE: u8 = 0x20;
+
+const PLUS: u8 = 0x2B;
+
+const MINUS: u8 = 0x2D;
+
+const POINT: u8 = 0x2E;
+
+// The unit of a DS number: a thousandth.
+const UNIT: usize = 1000;
+
+// ---- Text
+
+pub fn equal(a: &[u8], b: &[u8]) -> bool
+    ensures { λ r. ⌜ r ≡ equal (now (a .entry)) (now (b .entry)) ⌝ }
+{
+    let n = a.len();
+    if n != b.len() {
+        return false;
+    }
+    let mut i = 0;
+    while i < n {
+        if a[i] != b[i] {
+            return false;
+        }
+        i += 1;
+    }
+    true
+}
+
+// How many parts a byte ends: one where it is a backslash.
+fn parts_at(b: u8) -> usize
+    ensures { λ r. ⌜ (r ≡ partsAt b) × (r ≤ 1) ⌝ }
+{
+    if b == BACKSLASH { 1 } else { 0 }
+}
+
+// How many values there are.
+pub fn count_values(v: &[u8]) -> usize
+    ensures { λ r. ⌜ r ≡ length (valuesOf (now (v .entry))) ⌝ }
+    ensures { λ r. ⌜ r ≤ length (now (v .entry)) + 1 ⌝ }
+{
+    let mut n: usize = 1;
+    let mut i = 0;
+    while i < v.len() {
+        n += parts_at(v[i]);
+        i += 1;
+    }
+    n
+}
+
+pub fn is_single(v: &[u8]) -> bool
+    ensures { λ r. ⌜ r ≡ isSingle (now (v .entry)) ⌝ }
+{
+    count_values(v) == 1
+}
+
+// Where the value that starts at `from` ends: at the next backslash, or with the bytes.
+fn value_end(v: &[u8], from: usize) -> usize
+    ensures { λ r. ⌜ r ≡ from + length (valueOf (drop from (now (v .entry))) 0) ⌝ }
+{
+    let mut i = from;
+    while i < v.len() {
+        if v[i] == BACKSLASH {
+            return i;
+        }
+        i += 1;
+    }
+    i
+}
+
+// Value k, counted from 0; an empty part where there are fewer.
+pub fn value_of<'a>(v: &'a [u8], k: usize) -> &'a [u8]
+    ensures { λ r. ⌜ now r ≡ valueOf (now (v .entry)) k ⌝ }
+{
+    let mut left = k;
+    let mut from = 0;
+    while 0 < left {
+        let end = value_end(v, from);
+        if end < v.len() {
+            from = end + 1;
+            left -= 1;
+        } else {
+            return &v[..0];
+        }
+    }
+    let end = value_end(v, from);
+    &v[from..end]
+}
+
+// Without the bytes b in front.
+pub fn trim_start<'a>(v: &'a [u8], b: u8) -> &'a [u8]
+    ensures { λ r. ⌜ now r ≡ trimStart b (now (v .entry)) ⌝ }
+{
+    let mut i = 0;
+    while i < v.len() {
+        if v[i] != b {
+            return &v[i..];
+        }
+        i += 1;
+    }
+    &v[..0]
+}
+
+// Without the bytes b behind.
+pub fn trim_end<'a>(v: &'a [u8], b: u8) -> &'a [u8]
+    ensures { λ r. ⌜ now r ≡ trimEnd b (now (v .entry)) ⌝ }
+{
+    let mut n = v.len();
+    while 0 < n {
+        if v[n - 1] != b {
+            return &v[..n];
+        }
+        n -= 1;
+    }
+    &v[..0]
+}
+
+// Without outer spaces.
+pub fn trimmed<'a>(v: &'a [u8]) -> &'a [u8]
+    ensures { λ r. ⌜ now r ≡ trimmed (now (v .entry)) ⌝ }
+{
+    let t = trim_end(v, SPACE);
+    trim_start(t, SPACE)
+}
+
+// ---- Words
+
+// Value k of a CS, without outer spaces, is the word.
+pub fn word_at(v: &[u8], k: usize, word: &[u8]) -> bool
+    ensures { λ r. ⌜ r ≡ wordAt (now (v .entry)) k (now (word .entry)) ⌝ }
+{
+    let p = value_of(v, k);
+    let t = trimmed(p);
+    equal(t, word)
+}
+
+// A CS is the word.
+pub fn is_word(v: &[u8], word: &[u8]) -> bool
+    ensures { λ r. ⌜ r ≡ isWord (now (v .entry)) (now (word .entry)) ⌝ }
+{
+    if is_single(v) {
+        word_at(v, 0, word)
+    } else {
+        false
+    }
+}
+
+// A UI is the UID, without trailing zero bytes.
+pub fn is_uid(v: &[u8], uid: &[u8]) -> bool
+    ensures { λ r. ⌜ r ≡ isUid (now (v .entry)) (now (uid .entry)) ⌝ }
+{
+    if is_single(v) {
+        let p = value_of(v, 0);
+        let t = trim_end(p, 0);
+        equal(t, uid)
+    } else {
+        false
+    }
+}
+
+// ---- US and SS
+
+// A single US.
+pub fn us_of(v: &[u8]) -> Num
+    ensures { λ r. ⌜ r ≡ usOf (now (v .entry)) ⌝ }
+    ensures { λ r. ⌜ Below 65536 r ⌝ }
+{
+    if v.len() == 2 {
+        Num::Is(u16_at(v, 0))
+    } else {
+        Num::Lacks
+    }
+}
+
+// Value k of a US.
+pub fn us_value(v: &[u8], k: usize) -> usize
+    requires { ⌜ 2 * k + 2 ≤ length (now v) ⌝ }
+    ensures { λ r. ⌜ r ≡ getD (usValues (now (v .entry))) k 0 ⌝ }
+    ensures { λ r. ⌜ r < 65536 ⌝ }
+{
+    u16_at(v, 2 * k)
+}
+
+// A single SS.
+pub fn ss_of(v: &[u8]) -> Signed
+    ensures { λ r. ⌜ r ≡ ssOf (now (v .entry)) ⌝ }
+    ensures { λ r. ⌜ SizeBelow 32769 r ⌝ }
+{
+    if v.len() == 2 {
+        let n = u16_at(v, 0);
+        if n < 32768 {
+            Signed::Plus(n)
+        } else {
+            Signed::Minus(65536 - n)
+        }
+    } else {
+        Signed::Lacks
+    }
+}
+
+// ---- Digits and signs
+
+// Up to `limit` digits in front, after digits that made `start`.
+fn digits(s: &[u8], limit: usize, start: usize) -> Run
+    requires { ⌜ (start + 1) * 10 ^ limit ≤ 100000000000 ⌝ }
+    ensures { λ r. ⌜ DigitsRead limit start (now (s .entry)) r ⌝ }
+{
+    let mut number = start;
+    let mut left = limit;
+    let mut i = 0;
+    while i < s.len() {
+        if left == 0 {
+            return Run {
+                number: number,
+                count: i,
+            };
+        }
+        let x = wide(s[i]);
+        if x < 0x30 {
+            return Run {
+                number: number,
+                count: i,
+            };
+        }
+        if 0x39 < x {
+            return Run {
+                number: number,
+                count: i,
+            };
+        }
+        number = 10 * number + (x - 0x30);
+        left -= 1;
+        i += 1;
+    }
+    Run {
+        number: number,
+        count: i,
+    }
+}
+
+fn plus(n: Num) -> Signed
+    ensures { λ r. ⌜ r ≡ plus n ⌝ }
+{
+    match n {
+        Num::Is(k) => Signed::Plus(k),
+        Num::Lacks => Signed::Lacks,
+    }
+}
+
+fn minus(n: Num) -> Signed
+    ensures { λ r. ⌜ r ≡ minus n ⌝ }
+{
+    match n {
+        Num::Is(k) => Signed::Minus(k),
+        Num::Lacks => Signed::Lacks,
+    }
+}
+
+// ---- IS
+
+// 1 to 11 digits and nothing after them.
+fn whole_of(s: &[u8]) -> Num
+    ensures { λ r. ⌜ r ≡ wholeOf (now (s .entry)) ⌝ }
+{
+    let d = digits(s, 11, 0);
+    let n = d.count;
+    if n == s.len() {
+        if n == 0 {
+            Num::Lacks
+        } else {
+            Num::Is(d.number)
+        }
+    } else {
+        Num::Lacks
+    }
+}
+
+// The same after an optional sign.
+fn signed_whole(s: &[u8]) -> Signed
+    ensures { λ r. ⌜ r ≡ signedBy wholeOf (now (s .entry)) ⌝ }
+{
+    if s.len() == 0 {
+        return plus(whole_of(s));
+    }
+    if s[0] == PLUS {
+        return plus(whole_of(&s[1..]));
+    }
+    if s[0] == MINUS {
+        return minus(whole_of(&s[1..]));
+    }
+    plus(whole_of(s))
+}
+
+// A single IS.
+pub fn is_of(v: &[u8]) -> Signed
+    ensures { λ r. ⌜ r ≡ isOf (now (v .entry)) ⌝ }
+    ensures { λ r. ⌜ SizeBelow 100000000000 r ⌝ }
+{
+    if is_single(v) {
+        let p = value_of(v, 0);
+        let t = trimmed(p);
+        signed_whole(t)
+    } else {
+        Signed::Lacks
+    }
+}
+
+// ---- DS
+
+// What a number with so many decimals is multiplied by to be in thousandths.
+fn scale(count: usize) -> usize
+    ensures { λ r. ⌜ r ≡ 10 ^ (decimals - count) ⌝ }
+{
+    match count {
+        0 => 1000,
+        1 => 100,
+        2 => 10,
+        _ => 1,
+    }
+}
+
+// The decimals after a point: `count` digits stood before it, and made `whole`.
+fn point_of(s: &[u8], count: usize, whole: usize) -> Num
+    requires { ⌜ (count ≤ 6) × (whole < 1000000) ⌝ }
+    ensures { λ r. ⌜ r ≡ pointBy count (digitsOf decimals whole 0 (now (s .entry))) ⌝ }
+{
+    let d = digits(s, 3, whole);
+    let n = d.count;
+    if n == s.len() {
+        if count + n == 0 {
+            Num::Lacks
+        } else {
+            Num::Is(d.number * scale(n))
+        }
+    } else {
+        Num::Lacks
+    }
+}
+
+// Up to 6 digits, then optionally a point and up to 3 digits, at least one digit in all.
+fn size_of(s: &[u8]) -> Num
+    ensures { λ r. ⌜ r ≡ sizeOf (now (s .entry)) ⌝ }
+{
+    let d = digits(s, 6, 0);
+    let n = d.count;
+    if n == s.len() {
+        if n == 0 {
+            Num::Lacks
+        } else {
+            Num::Is(d.number * UNIT)
+        }
+    } else {
+        if s[n] == POINT {
+            let after = n + 1;
+            point_of(&s[after..], n, d.number)
+        } else {
+            Num::Lacks
+        }
+    }
+}
+
+// The same after an optional sign.
+fn signed_size(s: &[u8]) -> Signed
+    ensures { λ r. ⌜ r ≡ signedBy sizeOf (now (s .entry)) ⌝ }
+{
+    if s.len() == 0 {
+        return plus(size_of(s));
+    }
+    if s[0] == PLUS {
+        return plus(size_of(&s[1..]));
+    }
+    if s[0] == MINUS {
+        return minus(size_of(&s[1..]));
+    }
+    plus(size_of(s))
+}
+
+// One value of a DS, in thousandths.
+pub fn decimal_of(v: &[u8]) -> Signed
+    ensures { λ r. ⌜ r ≡ decimalOf (now (v .entry)) ⌝ }
+    ensures { λ r. ⌜ SizeBelow 1000000000 r ⌝ }
+{
+    let t = trimmed(v);
+    signed_size(t)
+}
+
+fn is_decimal(v: &[u8]) -> bool
+    ensures { λ r. ⌜ r ≡ isNumber (decimalOf (now (v .entry))) ⌝ }
+{
+    match decimal_of(v) {
+        Signed::Plus(_) => true,
+        Signed::Minus(_) => true,
+        Signed::Lacks => false,
+    }
+}
+
+// A width: at least 1.
+fn is_width(v: &[u8]) -> bool
+    ensures { λ r. ⌜ r ≡ isWidth (decimalOf (now (v .entry))) ⌝ }
+{
+    match decimal_of(v) {
+        Signed::Plus(n) => UNIT <= n,
+        Signed::Minus(_) => false,
+        Signed::Lacks => false,
+    }
+}
+
+// Every value of a DS has the form.
+pub fn all_decimals(v: &[u8]) -> bool
+    ensures { λ r. ⌜ r ≡ allDecimals (now (v .entry)) ⌝ }
+{
+    let mut from = 0;
+    loop {
+        let end = value_end(v, from);
+        if is_decimal(&v[from..end]) {
+            if end < v.len() {
+                from = end + 1;
+            } else {
+                return true;
+            }
+        } else {
+            return false;
+        }
+    }
+}
+
+// Every value of a DS is a width.
+pub fn all_widths(v: &[u8]) -> bool
+    ensures { λ r. ⌜ r ≡ allWidths (now (v .entry)) ⌝ }
+{
+    let mut from = 0;
+    loop {
+        let end = value_end(v, from);
+        if is_width(&v[from..end]) {
+            if end < v.len() {
+                from = end + 1;
+            } else {
+                return true;
+            }
+        } else {
+            return false;
+        }
+    }
+}

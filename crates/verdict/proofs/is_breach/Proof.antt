@@ -1,0 +1,33 @@
+-- `is_breach` answers `possibleBreach`: at each return the tests on the way decide its comparisons in their order.
+use borrow.Author.Tests.{le-leb, lt-leb, eq-eqb, ne-eqb}
+use mathlib.Core.Path.{sym, _∙_}
+use borrow.Author.Needs.{needs}
+use Rattle.verdict.proofs.is_breach.Statement.{statement}
+use Rattle.verdict.proofs.is_breach.Tie as tie
+
+frame-fits-requires : tie.Need-frame-fits-requires
+frame-fits-requires c κs = search needs
+
+returns : tie.Need-returns
+returns c =
+    simp (eq-eqb _ _ (c .before .before .before .before .before .before .before .if1 .taken), le-leb _ _ (c .before .before .before .before .before .if2 .taken), le-leb _ _ (c .before .before .before .if3 .taken), sym (c .before .before .frame-fits .ensures) ∙ c .before .if4 .taken)
+
+returns-2 : tie.Need-returns-2
+returns-2 c =
+    simp (eq-eqb _ _ (c .before .before .before .before .before .before .if1 .taken), le-leb _ _ (c .before .before .before .before .if2 .taken), le-leb _ _ (c .before .before .if3 .taken), sym (c .before .frame-fits .ensures) ∙ c .if4 .left)
+
+returns-3 : tie.Need-returns-3
+returns-3 c =
+    simp (eq-eqb _ _ (c .before .before .before .before .if1 .taken), le-leb _ _ (c .before .before .if2 .taken), lt-leb _ _ (c .if3 .left))
+
+returns-4 : tie.Need-returns-4
+returns-4 c =
+    simp (eq-eqb _ _ (c .before .before .if1 .taken), lt-leb _ _ (c .if2 .left))
+
+returns-5 : tie.Need-returns-5
+returns-5 c =
+    simp (ne-eqb _ _ (c .if1 .left))
+
+pub is-breach-spec : {M : Type 1} → statement M
+is-breach-spec =
+    tie.close (tie.spec frame-fits-requires returns returns-2 returns-3 returns-4 returns-5)

@@ -1,0 +1,110 @@
+// Verdicts: the code, rule, frame and offset of a judge's answer.
+ghost use mathlib.Core.Path.{_≡_};
+ghost use Rattle.verdict.specs.Verdict.{perFrame, frameFits, alone, possiblePlain, possibleRefusal, possibleBreach, possible};
+
+// The number of the last rule.
+pub const LAST_RULE: usize = 38;
+
+// The last frame number that there is.
+pub const LAST_FRAME: usize = 65_535;
+
+// The largest offset of a refusal.
+const LAST_OFFSET: usize = 1_073_741_824;
+
+// The numbers are wide enough to hold verdicts that are not possible.
+pub struct Verdict {
+    pub code: usize,
+    pub rule: usize,
+    pub frame: usize,
+    pub offset: usize,
+}
+
+// Whether a rule is asked at each frame.
+pub fn per_frame(rule: usize) -> bool
+    ensures { λ r. ⌜ r ≡ perFrame rule ⌝ }
+{
+    if rule == 37 {
+        return true;
+    }
+    if 27 <= rule { rule <= 30 } else { false }
+}
+
+// Whether a frame goes with a broken rule.
+fn frame_fits(rule: usize, frame: usize) -> bool
+    ensures { λ r. ⌜ r ≡ frameFits rule frame ⌝ }
+{
+    if per_frame(rule) {
+        if 1 <= frame {
+            frame <= LAST_FRAME
+        } else {
+            false
+        }
+    } else {
+        frame == 0
+    }
+}
+
+fn is_alone(v: Verdict) -> bool
+    ensures { λ r. ⌜ r ≡ alone v ⌝ }
+{
+    if v.rule == 0 {
+        if v.frame == 0 { v.offset == 0 } else { false }
+    } else {
+        false
+    }
+}
+
+fn is_plain(v: Verdict) -> bool
+    ensures { λ r. ⌜ r ≡ possiblePlain v ⌝ }
+{
+    if v.code == 0 {
+        return is_alone(v);
+    }
+    if v.code == 7 {
+        return is_alone(v);
+    }
+    if v.code == 8 { is_alone(v) } else { false }
+}
+
+fn is_refusal(v: Verdict) -> bool
+    ensures { λ r. ⌜ r ≡ possibleRefusal v ⌝ }
+{
+    if 1 <= v.code {
+        if v.code <= 6 {
+            if v.rule == 0 {
+                if v.frame == 0 {
+                    return v.offset <= LAST_OFFSET;
+                }
+            }
+        }
+    }
+    false
+}
+
+fn is_breach(v: Verdict) -> bool
+    ensures { λ r. ⌜ r ≡ possibleBreach v ⌝ }
+{
+    if v.code == 9 {
+        if 1 <= v.rule {
+            if v.rule <= LAST_RULE {
+                if frame_fits(v.rule, v.frame) {
+                    return v.offset == 0;
+                }
+            }
+        }
+    }
+    false
+}
+
+// Whether a verdict is possible.
+pub fn is_possible(v: Verdict) -> bool
+    ensures { λ r. ⌜ r ≡ possible v ⌝ }
+{
+    if is_plain(v) {
+        return true;
+    }
+    if is_refusal(v) {
+        return true;
+    }
+    is_breach(v)
+}
