@@ -6,7 +6,7 @@ use native.Mathlib.Omega.{arith}
 use native.Mathlib.Nat.{add-zero}
 use mathlib.Core.List.{List, [], _∷_, _++_}
 use lib.ListN.{length, set, drop}
-use lib.Seq.{sets, set-comm, sets-eq}
+use lib.Seq.{sets, set-set, set-comm, sets-eq}
 use Rattle.dataset.specs.Reading.{Row}
 use Rattle.dataset.specs.Answer.{flat}
 
@@ -34,6 +34,15 @@ sets-swap [] l i j ys h = refl
 sets-swap (x ∷ xs) l i j ys h =
     sets-swap xs (set l i x) (suc i) j ys (omega arith)
     ∙ ap (λ (r : List ℕ). sets r (suc i) xs) (set-sets ys l i j x (omega arith))
+
+-- A run written over a shorter one.
+pub sets-over : (xs ys l : List ℕ) (i : ℕ) → length xs ≤ length ys → sets (sets l i xs) i ys ≡ sets l i ys
+sets-over [] ys l i h = refl
+sets-over (x ∷ xs) [] l i h = absurd (omega arith)
+sets-over (x ∷ xs) (y ∷ ys) l i h =
+    ap (λ (r : List ℕ). sets r (suc i) ys)
+    (sym (set-sets xs (set l i x) i (suc i) y (omega arith)) ∙ ap (λ (r : List ℕ). sets r (suc i) xs) (set-set l i x y))
+    ∙ sets-over xs ys (set l i y) (suc i) (omega arith)
 
 -- The rows below row n, then row n itself.
 pub row-over : (buffer : List ℕ) (n : ℕ) (r : Row) (below : List Row)

@@ -14,10 +14,11 @@ use Rattle.dataset.specs.declared.Head.{Head}
 use Rattle.dataset.specs.declared.Head.the-variants as heads
 use Rattle.dataset.specs.declared.Walk.{Walk}
 use Rattle.dataset.specs.declared.Walk.the-variants as walk
-use Rattle.dataset.specs.Reading.{Row, row, Run, done, refused, level, valueAt, itemsAt}
+use Rattle.dataset.specs.declared.Leaf.{Leaf}
+use Rattle.dataset.specs.Reading.{Row, row, Run, done, refused, onHead, onRun, level, valueAt, itemsAt}
 use Rattle.dataset.specs.Answer.{flat}
-use Rattle.dataset.specs.Walk.{Within, RunWithin, Walked}
-use Rattle.dataset.proofs.Buffer.{length-flat, flat-append, sets-append, row-over}
+use Rattle.dataset.specs.Walk.{Within, RunWithin, Walked, Replaced, LeafWalked}
+use Rattle.dataset.proofs.Buffer.{length-flat, flat-append, sets-append, sets-over, row-over}
 
 -- ---- A header and a walk, once it is known which they are
 
@@ -26,6 +27,15 @@ within c e w = subst (λ (x : Head). Within c x) e w
 
 pub walked : {o : Run} {c : Cursor} {first : ℕ} {buffer after : List ℕ} {r q : Walk} → r ≡ q → Walked o c first buffer after r → Walked o c first buffer after q
 walked {o} {c} {first} {buffer} {after} e w = subst (λ (x : Walk). Walked o c first buffer after x) e w
+
+pub leaf-walked : (o : Run) (c : Cursor) (first : ℕ) (buffer after : List ℕ) {r q : Leaf} → r ≡ q → LeafWalked o c first buffer after r → LeafWalked o c first buffer after q
+leaf-walked o c first buffer after e w = subst (λ (x : Leaf). LeafWalked o c first buffer after x) e w
+
+-- A walk over what a given up walk left behind.
+pub over : (o : Run) {c : Cursor} {first : ℕ} {buffer after last : List ℕ} {r : Walk} → length after ≡ length buffer → Replaced first o buffer after
+    → Walked o c first after last r → Walked o c first buffer last r
+over (done stop next rows) l p w = record { is = w .is; within = w .within; wrote = λ h. w .wrote (omega arith) ∙ p h }
+over (refused code offset) l p w = record { is = w .is; within = w .within; wrote = tt }
 
 -- What a walk that was done says of its run.
 pub record Below (o : Run) (v : Cursor) (first : ℕ) (buffer after : List ℕ) (stop next m : ℕ) : Type 0 where
@@ -89,6 +99,43 @@ module _ (head : ℕ → ℕ → Head) (inside : ℕ → Cursor → Run) (depth 
   unfolding level
   level-on tag vr stop next v below e f = rw (e, f)
 
+-- A level that is done has the rows so far among its rows.
+pub level-grows : (head : ℕ → ℕ → Head) (inside : ℕ → Cursor → Run) (depth turns at least : ℕ) (rows : List Row) (stop next : ℕ) (all : List Row)
+    → level head inside depth turns at least rows ≡ done stop next all → length rows ≤ length all
+unfolding level
+level-grows head inside depth zero at least rows stop next all e =
+    let z : _≡_ {A = ℕ} 0 1 = cc in
+    absurd (omega arith)
+level-grows head inside depth (suc turns) at least rows stop next all e =
+    by-head (head at least) (λ next′ tag below. level-grows head inside depth turns next′ (tag + 1) (rows ++ below) stop next all) e
+  where
+    Go : Type 0
+    Go = (next′ tag : ℕ) (below : List Row)
+        → level head inside depth turns next′ (tag + 1) (rows ++ below) ≡ done stop next all → length (rows ++ below) ≤ length all
+
+    by-run : (r : Run) (tag vr : ℕ) (v : Cursor) → Go
+        → onRun r (λ stop next below. level head inside depth turns next (tag + 1) (rows ++ (row tag vr depth (v .at) (stop - v .at) (length below) ∷ below))) ≡ done stop next all
+        → length rows ≤ length all
+    by-run (refused code offset) tag vr v go q =
+        let z : _≡_ {A = ℕ} 0 1 = cc in
+        absurd (omega arith)
+    by-run (done stop′ next′ below) tag vr v go q =
+        let new : List Row = row tag vr depth (v .at) (stop′ - v .at) (length below) ∷ below in
+        omega (arith, go next′ tag new q, length-append rows new)
+
+    by-head : (h : Head) → Go
+        → onHead h (λ code. refused code at) (λ next. done at next rows)
+        (λ tag vr value. onRun (inside vr value) (λ stop next below. level head inside depth turns next (tag + 1) (rows ++ (row tag vr depth (value .at) (stop - value .at) (length below) ∷ below))))
+        ≡ done stop next all
+        → length rows ≤ length all
+    by-head (heads.Refused code) go q =
+        let z : _≡_ {A = ℕ} 0 1 = cc in
+        absurd (omega arith)
+    by-head (heads.End next′) go q =
+        let f : rows ≡ all = cc in
+        omega (arith, ap (λ (l : List Row). length l) f)
+    by-head (heads.Header tag vr v) go q = by-run (inside vr v) tag vr v go q
+
 -- ---- The loop: at `at`, with the rows so far, what is left to read comes to what the whole level does
 
 pub record Inv (head : ℕ → ℕ → Head) (inside : ℕ → Cursor → Run) (depth : ℕ) (o : Run) (start end first : ℕ) (buffer₀ buffer : List ℕ) (at n least : ℕ) : Type 0 where
@@ -142,6 +189,17 @@ module _ (head : ℕ → ℕ → Head) (inside : ℕ → Cursor → Run) (depth 
         let m = turn at least (i .rows) (i .turns) (i .high) (i .rest) (i .enough) in
         let d : refused code at ≡ o = sym (level-refused head inside depth (m .0) at least (i .rows) code e) ∙ m .1 .0 in
         subst (λ (x : Run). Walked x c first buffer₀ buffer (walk.Refused code at)) d (record { is = refl; within = (p .0, (p .1, (i .low, i .high))); wrote = tt })
+
+    -- The walk is given up here.
+    pub given-up : Replaced first o buffer₀ buffer
+    given-up = by-run o (i .rest)
+      where
+        by-run : (x : Run) → level head inside depth (i .turns) at least (i .rows) ≡ x → Replaced first x buffer₀ buffer
+        by-run (refused code offset) e = tt
+        by-run (done stop next all) e = λ h.
+            let g : length (i .rows) ≤ length all = level-grows head inside depth (i .turns) at least (i .rows) stop next all e in
+            ap (λ (b : List ℕ). sets b (6 * first) (flat all)) (i .wrote (omega (arith, i .count)))
+            ∙ sets-over (flat (i .rows)) (flat all) buffer₀ (6 * first) (omega (arith, length-flat (i .rows), length-flat all))
 
     module _ {tag vr : ℕ} {v : Cursor} (e : head at least ≡ heads.Header tag vr v) (w : Within (record { at = at; end = c .end; delimited = c .delimited }) (heads.Header tag vr v)) {buffer₁ : List ℕ} where
       pub fails : {code offset : ℕ} → Walked (inside vr v) v (n + 1) buffer buffer₁ (walk.Refused code offset)

@@ -1,7 +1,7 @@
 -- What the functions inside `read` say of the definition of reading: bounds of a header, and what a walk along one
 -- level answers and writes. No paragraph of document 01 stands here.
 use mathlib.Core.Path.{_≡_}
-use Prim.Native.Nat.{ℕ, _+_, _-_, _*_, _≤_, _<_}
+use Prim.Native.Nat.{ℕ, _+_, _-_, _*_, _/_, _%_, _^_, _≤_, _<_}
 use mathlib.Core.List.{List}
 use lib.ListN.{length}
 use lib.Seq.{sets}
@@ -10,8 +10,15 @@ use Rattle.dataset.specs.declared.Head.{Head}
 use Rattle.dataset.specs.declared.Head.the-variants as head
 use Rattle.dataset.specs.declared.Walk.{Walk}
 use Rattle.dataset.specs.declared.Walk.the-variants as walk
+use Rattle.dataset.specs.declared.Leaf.{Leaf}
+use Rattle.dataset.specs.declared.Leaf.the-variants as leaf
+use Rattle.dataset.specs.Vr.{formOf}
 use Rattle.dataset.specs.Reading.{Row, Run, done, refused, largest, depths}
 use Rattle.dataset.specs.Answer.{flat, width}
+
+-- The forms of the VRs with a first letter, as one number: two bits for each second letter from 64 on.
+abbrev pub FormsAfter : ℕ → ℕ → Type 0
+FormsAfter first forms = (k : ℕ) → k < 32 → forms / 2 ^ (2 * k) % 4 ≡ formOf (first * 256 + 64 + k)
 
 -- A header moves on by 8 bytes at least and stays within the known end; a refusal has one of the codes 1 to 6.
 abbrev pub Within : Cursor → Head → Type 0
@@ -36,6 +43,17 @@ pub record Walked (run : Run) (c : Cursor) (first : ℕ) (buffer after : List �
   pub is : answer ≡ told first run
   pub within : RunWithin c run
   pub wrote : Wrote first run buffer after
+
+-- Rows written into what a given up walk left behind are as if written into what it began with.
+abbrev pub Replaced : ℕ → Run → List ℕ → List ℕ → Type 0
+Replaced first (done stop next rows) buffer after = width * (first + length rows) ≤ length buffer → sets after (width * first) (flat rows) ≡ sets buffer (width * first) (flat rows)
+Replaced first (refused code offset) buffer after = Unit {0}
+
+-- What a walk that may be given up says.
+abbrev pub LeafWalked : Run → Cursor → ℕ → List ℕ → List ℕ → Leaf → Type 0
+LeafWalked run c first buffer after (leaf.Done stop next m) = Walked run c first buffer after (walk.Done stop next m)
+LeafWalked run c first buffer after (leaf.Refused code offset) = Walked run c first buffer after (walk.Refused code offset)
+LeafWalked run c first buffer after leaf.Nested = Replaced first run buffer after
 
 -- What a walk needs: a cursor within the data set, and row numbers that its bytes leave room for.
 pub record Ready (s : List ℕ) (c : Cursor) (levels first : ℕ) : Type 0 where

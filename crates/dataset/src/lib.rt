@@ -10,7 +10,7 @@ ghost use Rattle.dataset.specs.Vr.{formOf};
 ghost use Rattle.dataset.specs.Header.{delimiterBy, levelBy, definedBy, longBy, typedAt, taggedAt, sizedBy, memberAt, elementAt, itemAt};
 ghost use Rattle.dataset.specs.Reading.{elementsAt, valueAt, readingOf, row};
 ghost use Rattle.dataset.specs.Answer.{answerOf, bufferOf, flat};
-ghost use Rattle.dataset.specs.Walk.{Within, Walked, Ready};
+ghost use Rattle.dataset.specs.Walk.{FormsAfter, Within, Walked, LeafWalked, Ready};
 
 // The most bytes that a data set may have.
 pub const LARGEST: usize = 1_073_741_824;
@@ -51,6 +51,13 @@ pub enum Head {
 pub enum Walk {
     Done(usize, usize, usize),
     Refused(usize, usize),
+}
+
+// What a walk along an item came to that is given up where a sequence stands: as of `Walk`, or given up.
+pub enum Leaf {
+    Done(usize, usize, usize),
+    Refused(usize, usize),
+    Nested,
 }
 
 // The answer of `read`: the number of rows; code and offset; code 7; code 8.
@@ -95,45 +102,40 @@ fn vr_at(s: &[u8], p: usize) -> usize
     256 * wide(s[p]) + wide(s[p + 1])
 }
 
-// The form of a VR: 2 with a 32-bit length, 1 with a 16-bit length, 0 where it is not listed. An arm holds no two
-// adjacent numbers, which would make a range of it.
+// The forms of the VRs with a first letter: two bits for each second letter, from 64 on, lowest first. This compiles to a
+// table, where a `match` over the VRs would be a tree of tests.
+fn forms_after(first: usize) -> u64
+    ensures { λ r. ⌜ FormsAfter first r ⌝ }
+{
+    match first {
+        0x41 => 0x0000_0140_0000_0400,
+        0x43 => 0x0000_0040_0000_0000,
+        0x44 => 0x0000_0140_0000_0004,
+        0x46 => 0x0000_0000_0100_0100,
+        0x49 => 0x0000_0040_0000_0000,
+        0x4C => 0x0000_0100_4000_0000,
+        0x4F => 0x0000_A000_0200_2220,
+        0x50 => 0x0000_0000_1000_0000,
+        0x53 => 0x0000_2148_0101_0000,
+        0x54 => 0x0000_0000_0400_0000,
+        0x55 => 0x0000_2260_2104_0080,
+        _ => 0,
+    }
+}
+
+// The form of a VR: 2 with a 32-bit length, 1 with a 16-bit length, 0 where it is not listed. SQ is told first, since the
+// readers ask for it again.
 fn vr_form(vr: usize) -> usize
     ensures { λ r. ⌜ r ≡ formOf vr ⌝ }
 {
-    match vr {
-        0x4F42
-        | 0x4F44
-        | 0x4F46
-        | 0x4F4C
-        | 0x4F56
-        | 0x5351
-        | 0x5356
-        | 0x5543
-        | 0x554E
-        | 0x5552
-        | 0x5554
-        | 0x5556 => 2,
-        0x4F57 => 2,
-        0x4145
-        | 0x4153
-        | 0x4353
-        | 0x4441
-        | 0x4453
-        | 0x4644
-        | 0x464C
-        | 0x4953
-        | 0x4C4F
-        | 0x4C54
-        | 0x504E
-        | 0x5348
-        | 0x534C
-        | 0x5353
-        | 0x544D
-        | 0x5549
-        | 0x554C
-        | 0x5553 => 1,
-        0x4154 | 0x4454 | 0x5354 => 1,
-        _ => 0,
+    if vr == SQ {
+        return 2;
+    }
+    let second = vr % 256;
+    if second / 32 == 2 {
+        ((forms_after(vr / 256) >> (2 * (second % 32))) % 4) as usize
+    } else {
+        0
     }
 }
 
@@ -356,6 +358,53 @@ fn put_row(
     }
 }
 
+// An item without sequences, element by element: the readers below call each other only for an item that has one. Where
+// a sequence stands it is given up, and what was written so far is written again.
+fn read_leaf(s: &[u8], c: Cursor, levels: usize, rows: &mut [u32], first: usize) -> Leaf
+    requires { ⌜ Ready (now s) c levels first ⌝ }
+    ensures { λ r. ⌜ LeafWalked (elementsAt levels (now (s .entry)) c) c first (now (rows .entry)) (now (rows .exit)) r ⌝ }
+{
+    let end = c.end;
+    let delimited = c.delimited;
+    let mut at = c.at;
+    let mut n = first;
+    let mut least: usize = 0;
+    loop {
+        let here = Cursor { at, end, delimited };
+        match here.element(s, least, levels) {
+            Head::Refused(code) => {
+                return Leaf::Refused(code, at);
+            }
+            Head::End(next) => {
+                return Leaf::Done(at, next, n);
+            }
+            Head::Header(tag, vr, value) => {
+                if vr == SQ {
+                    return Leaf::Nested;
+                }
+                let start = value.at;
+                let stop = value.end;
+                put_row(rows, n, tag, vr, levels, start, stop, n + 1);
+                at = stop;
+                n = n + 1;
+                least = tag + 1;
+            }
+        }
+    }
+}
+
+// An item of a sequence.
+fn read_member(s: &[u8], c: Cursor, levels: usize, rows: &mut [u32], first: usize) -> Walk
+    requires { ⌜ Ready (now s) c levels first ⌝ }
+    ensures { λ r. ⌜ Walked (elementsAt levels (now (s .entry)) c) c first (now (rows .entry)) (now (rows .exit)) r ⌝ }
+{
+    match read_leaf(s, c, levels, rows, first) {
+        Leaf::Refused(code, offset) => Walk::Refused(code, offset),
+        Leaf::Done(stop, next, m) => Walk::Done(stop, next, m),
+        Leaf::Nested => read_item(s, c, levels, rows, first),
+    }
+}
+
 // An item, or the whole data set, element by element.
 fn read_item(s: &[u8], c: Cursor, levels: usize, rows: &mut [u32], first: usize) -> Walk
     requires { ⌜ Ready (now s) c levels first ⌝ }
@@ -377,6 +426,14 @@ fn read_item(s: &[u8], c: Cursor, levels: usize, rows: &mut [u32], first: usize)
             }
             Head::Header(tag, vr, value) => {
                 let start = value.at;
+                if vr != SQ {
+                    let stop = value.end;
+                    put_row(rows, n, tag, vr, levels, start, stop, n + 1);
+                    at = stop;
+                    n = n + 1;
+                    least = tag + 1;
+                    continue;
+                }
                 match read_sequence(s, vr, value, levels, rows, n + 1) {
                     Walk::Refused(code, offset) => {
                         return Walk::Refused(code, offset);
@@ -427,7 +484,7 @@ fn read_sequence(
             }
             Head::Header(tag, kind, item) => {
                 let start = item.at;
-                match read_item(s, item, inner, rows, n + 1) {
+                match read_member(s, item, inner, rows, n + 1) {
                     Walk::Refused(code, offset) => {
                         return Walk::Refused(code, offset);
                     }
