@@ -1,4 +1,5 @@
-/* Reads X-ray angiographic (XA, XRF) data sets in Explicit VR Little Endian, without a file head.
+/* Reads and judges X-ray angiographic (XA, XRF) data sets in Explicit VR Little Endian, without a file head, and keeps
+ * verdicts on slips.
  *
  * Every call takes any bytes and any buffers; nothing is asked of the caller but that each pointer has as many
  * elements behind it as the size that follows it says, and that no two buffers overlap. A pointer whose size is 0 is
@@ -30,9 +31,11 @@ extern "C" {
  *      6  a sequence nested too deep: eight levels are read                    offset
  *      7  a data set of more than 1,073,741,824 bytes                          none
  *      8  it reads well, but the row buffer holds fewer than 6 numbers a row   none
+ *      9  a rule is broken: the first that is, and at it the lowest frame      rows, rule, frame
  *
  * `offset` counts bytes from 0: where the refused header starts, or the end at which an undefined length is still
- * open. The size (7) is tested first, then 1 to 6 header by header, then the row buffer (8).
+ * open. `rule` is 1 to 38; `frame` counts from 1, and is 0 for a rule that is not asked at each frame. The size (7) is
+ * tested first, then 1 to 6 header by header, then the row buffer (8), then the rules (9).
  */
 typedef struct {
     uint32_t code;
@@ -52,6 +55,39 @@ typedef struct {
  * With code 0 the first 6 x `rows` numbers are written, and nothing beyond them; with any other code nothing is.
  */
 xa_answer xa_read(const uint8_t *data, size_t size, uint32_t *rows, size_t rows_len);
+
+/* Reads the data set as `xa_read` does, afresh, and judges it by the 38 rules: code 0 where every rule holds, code 9
+ * where one is broken. With codes 0 and 9 the rows are written, and nothing beyond them; with any other code nothing is.
+ */
+xa_answer xa_judge(const uint8_t *data, size_t size, uint32_t *rows, size_t rows_len);
+
+/* A slip is 13 bytes that record a verdict: what `xa_judge` answers, without the number of rows. */
+
+/* What `xa_read_slip` answers.
+ *
+ *   code  meaning
+ *      0  read: `verdict` holds the verdict's code, offset, rule and frame; its other fields are 0
+ *     12  not a slip: not 13 bytes, or another mark
+ *     13  a version that is not 1
+ *     14  fields that no verdict has
+ *
+ * With codes 12 to 14 every field of `verdict` is 0. They are tested in that order.
+ */
+typedef struct {
+    uint32_t code;
+    xa_answer verdict;
+} xa_slip;
+
+/* Writes the slip of a verdict over the first 13 of the `slip_len` bytes at `slip`, and nothing beyond them.
+ *
+ * Answers 0 where it is written; 14 where no judge answers so; then 11 where there is room for fewer than 13 bytes. With
+ * 14 and 11 nothing is written. The verdict's code, offset, rule and frame are recorded; `rows` and `masked` are not
+ * looked at.
+ */
+uint32_t xa_write_slip(xa_answer verdict, uint8_t *slip, size_t slip_len);
+
+/* Reads the slip that the `slip_len` bytes at `slip` are. */
+xa_slip xa_read_slip(const uint8_t *slip, size_t slip_len);
 
 #ifdef __cplusplus
 }

@@ -1,8 +1,19 @@
 -- What a host is handed for each answer: one struct of six numbers, which every call answers with. Fields that a code
 -- does not name are 0.
+use Prim.Native.Nat.{ℕ, _<_}
 use Rattle.dataset.specs.declared.ReadAnswer.{ReadAnswer}
 use Rattle.dataset.specs.Answer.{codeOf, offsetOf, rowCountOf}
+use Rattle.verdict.specs.declared.Verdict.{Verdict}
+use Rattle.conformance.specs.declared.JudgeAnswer.{JudgeAnswer}
+use Rattle.conformance.specs.Judging as judging
+use Rattle.slip.specs.declared.SlipAnswer.{SlipAnswer}
+use Rattle.slip.specs.declared.SlipAnswer.the-variants as read
+use Rattle.slip.specs.declared.WriteAnswer.{WriteAnswer}
+use Rattle.slip.specs.declared.WriteAnswer.the-variants as write
 use Rattle.cabi.specs.declared.Answer.{Answer}
+use Rattle.cabi.specs.declared.slips.Slip.{Slip}
+
+-- ---- Reading and judging
 
 -- The answer of `xa_read`: code, offset and number of rows. Reading knows no rule, frame or mask.
 abbrev pub readAnswer : ReadAnswer → Answer
@@ -14,3 +25,51 @@ readAnswer a = record {
   frame = 0;
   masked = 0;
 }
+
+-- The answer of `xa_judge`: as `xa_read` for codes 1 to 8; with code 9 also the rule and the frame.
+abbrev pub judgeAnswer : JudgeAnswer → Answer
+judgeAnswer a = record {
+  code = judging.codeOf a;
+  offset = judging.offsetOf a;
+  rows = judging.rowCountOf a;
+  rule = judging.ruleOf a;
+  frame = judging.frameOf a;
+  masked = 0;
+}
+
+-- ---- Slips
+
+-- The verdict that an answer holds; its row count and whether it was masked play no part.
+abbrev pub verdictIn : Answer → Verdict
+verdictIn a = record { code = a .code; rule = a .rule; frame = a .frame; offset = a .offset }
+
+-- A verdict as an answer.
+abbrev pub verdictAnswer : Verdict → Answer
+verdictAnswer v = record {
+  code = v .code;
+  offset = v .offset;
+  rows = 0;
+  rule = v .rule;
+  frame = v .frame;
+  masked = 0;
+}
+
+-- The answer of `xa_write_slip`: 0 where the slip is written, else the refusal's code.
+abbrev pub writeCode : WriteAnswer → ℕ
+writeCode write.Written = 0
+writeCode (write.Refused code) = code
+
+-- The answer of `xa_read_slip`: 0 and the verdict, or the refusal's code and a verdict of which every field is 0.
+abbrev pub slipAnswer : SlipAnswer → Slip
+slipAnswer (read.Read v) = record { code = 0; verdict = verdictAnswer v }
+slipAnswer (read.Refused code) = record {
+  code = code;
+  verdict = record { code = 0; offset = 0; rows = 0; rule = 0; frame = 0; masked = 0 };
+}
+
+-- The numbers of a verdict fit 32 bits.
+pub record Narrow (v : Verdict) : Type 0 where
+  pub code : v .code < 4294967296
+  pub rule : v .rule < 4294967296
+  pub frame : v .frame < 4294967296
+  pub offset : v .offset < 4294967296

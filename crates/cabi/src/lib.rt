@@ -1,8 +1,14 @@
 // The library's calls for hosts in C and whatever calls C; include/luuxidgaan.h declares them. None has a `requires`:
 // any bytes and any buffers may be handed in.
+mod judge;
 mod read;
+mod slips;
 
+pub use judge::xa_judge;
 pub use read::xa_read;
+pub use slips::Slip;
+pub use slips::xa_read_slip;
+pub use slips::xa_write_slip;
 
 // What every call answers with. Fields that a code does not name are 0; specs/Host.antt says which code names which.
 #[repr(C)]

@@ -2,3 +2,4 @@
 pub mod FrameRules
 pub mod First
 pub mod Loops
+pub mod Possible

@@ -1,0 +1,69 @@
+-- The numbers of every answer fit 32 bits: those of a judge's answer, since it is a possible verdict and has few rows;
+-- those of a slip that reads well, since it is a possible verdict; a refusal's code, since it is 11 to 14.
+use mathlib.Core.Path.{_≡_, refl, sym, _∙_, subst}
+use mathlib.Core.Bool.{Bool, true, false, cond, not, _&&_}
+use mathlib.Core.List.{List}
+use Prim.Native.Nat.{ℕ, _≤_, _<_}
+use native.Mathlib.Omega.{arith}
+use lib.Dec.{eqb, leb}
+use lib.ListN.{length, take}
+use Rattle.verdict.specs.Verdict.{possible}
+use Rattle.verdict.specs.declared.Verdict.{Verdict}
+use Rattle.verdict.proofs.Bounds.{Small, possible-small}
+use Rattle.conformance.specs.declared.JudgeAnswer.{JudgeAnswer}
+use Rattle.conformance.specs.Judging.{judgeOf, verdictOf, rowCountOf}
+use Rattle.conformance.proofs.Possible.{judge-small, judge-rows}
+use Rattle.slip.specs.declared.SlipAnswer.{SlipAnswer}
+use Rattle.slip.specs.declared.SlipAnswer.the-variants as read
+use Rattle.slip.specs.declared.WriteAnswer.{WriteAnswer}
+use Rattle.slip.specs.declared.WriteAnswer.the-variants as write
+use Rattle.slip.specs.Slip.{mark, version, versionAt, slipSize, number, equal, fieldsOf, readOf, writeOf}
+use Rattle.slip.proofs.Theorems.{read-possible}
+use Rattle.cabi.specs.Host.{writeCode, slipAnswer, Narrow}
+
+-- ---- What a match found a judge's answer to be
+
+pub judged-small : {a b : JudgeAnswer} (s buffer : List ℕ) → a ≡ judgeOf s buffer → a ≡ b → Small (verdictOf b)
+judged-small s buffer e f = subst (λ (a : JudgeAnswer). Small (verdictOf a)) (sym e ∙ f) (judge-small s buffer)
+
+pub judged-rows : {a b : JudgeAnswer} (s buffer : List ℕ) → a ≡ judgeOf s buffer → a ≡ b → rowCountOf b ≤ 134217728
+judged-rows s buffer e f = subst (λ (a : JudgeAnswer). rowCountOf a ≤ 134217728) (sym e ∙ f) (judge-rows s buffer)
+
+-- ---- What a match found a slip's answer to be
+
+write-code : (v : Verdict) (buffer : List ℕ) → writeCode (writeOf v buffer) ≤ 14
+unfolding writeOf
+write-code v buffer = go (possible v) (leb slipSize (length buffer))
+  where
+    go : (a b : Bool) → writeCode (cond (not a) (write.Refused 14) (cond (not b) (write.Refused 11) write.Written)) ≤ 14
+    go false b = omega arith
+    go true false = omega arith
+    go true true = omega arith
+
+pub written-code : {a b : WriteAnswer} (v : Verdict) (buffer : List ℕ) → a ≡ writeOf v buffer → a ≡ b → writeCode b ≤ 14
+written-code v buffer e f = subst (λ (a : WriteAnswer). writeCode a ≤ 14) (sym e ∙ f) (write-code v buffer)
+
+read-code : (s : List ℕ) → slipAnswer (readOf s) .code ≤ 14
+unfolding readOf
+read-code s =
+    go (eqb (length s) slipSize && equal (take 3 s) mark) (eqb (number 2 s versionAt) version) (possible (fieldsOf s))
+  where
+    go : (a b d : Bool)
+        → slipAnswer (cond (not a) (read.Refused 12) (cond (not b) (read.Refused 13) (cond (not d) (read.Refused 14) (read.Read (fieldsOf s))))) .code ≤ 14
+    go false b d = omega arith
+    go true false d = omega arith
+    go true true false = omega arith
+    go true true true = omega arith
+
+pub slip-code : {a b : SlipAnswer} (s : List ℕ) → a ≡ readOf s → a ≡ b → slipAnswer b .code ≤ 14
+slip-code s e f = subst (λ (a : SlipAnswer). slipAnswer a .code ≤ 14) (sym e ∙ f) (read-code s)
+
+pub slip-narrow : {a : SlipAnswer} {v : Verdict} (s : List ℕ) → a ≡ readOf s → a ≡ read.Read v → Narrow v
+slip-narrow {a} {v} s e f =
+    let m = possible-small v (read-possible s v (sym e ∙ f)) in
+    record {
+      code = omega (arith, m .code);
+      rule = omega (arith, m .rule);
+      frame = omega (arith, m .frame);
+      offset = m .offset;
+    }

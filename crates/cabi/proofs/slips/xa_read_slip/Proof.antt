@@ -1,0 +1,45 @@
+-- The answer is the slip reader's, case by case; what reads well is a possible verdict, so its numbers fit 32 bits.
+use mathlib.Core.Path.{ap, sym, _∙_}
+use native.Mathlib.Omega.{arith}
+use Rattle.cabi.specs.Host.{slipAnswer}
+use Rattle.cabi.proofs.Numbers.{slip-code, slip-narrow}
+use borrow.Author.Needs.{needs}
+use Rattle.cabi.proofs.slips.xa_read_slip.Statement.{statement}
+use Rattle.cabi.proofs.slips.xa_read_slip.Tie as tie
+
+read-slip-requires : tie.Need-read-slip-requires
+read-slip-requires c κs = search needs
+
+enum-known-v : tie.Need-enum-known-v
+enum-known-v c = search needs
+
+answer-of-requires : tie.Need-answer-of-requires
+answer-of-requires c κs =
+    slip-narrow _ (c .before .before .before .read-slip .ensures) (c .before .v .given .1)
+
+enum-known-code : tie.Need-enum-known-code
+enum-known-code c = search needs
+
+cast-t7 : tie.Need-cast-t7
+cast-t7 c =
+    record { fits = omega (arith, slip-code _ (c .before .before .before .read-slip .ensures) (c .before .code .given .1)) }
+
+returns : tie.Need-returns
+returns c =
+    rw (← c .before .before .before .before .read-slip .ensures, c .before .before .v .given .1, c .answer-of .ensures)
+
+returns-2 : tie.Need-returns-2
+returns-2 c =
+    ap slipAnswer (sym (c .before .code .given .1) ∙ c .before .before .before .read-slip .ensures)
+
+pub xa-read-slip-spec : {M : Type 1} → statement M
+xa-read-slip-spec =
+    tie.close
+    (tie.spec
+    read-slip-requires
+    enum-known-v
+    answer-of-requires
+    enum-known-code
+    cast-t7
+    returns
+    returns-2)

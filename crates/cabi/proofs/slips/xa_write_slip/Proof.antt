@@ -1,0 +1,64 @@
+-- The verdict handed over is the one in the answer, and the code that comes back is 0, 11 or 14.
+use mathlib.Core.Path.{ap, sym, _∙_}
+use native.Mathlib.Omega.{arith}
+use Rattle.cabi.specs.Host.{writeCode}
+use Rattle.cabi.proofs.Numbers.{written-code}
+use borrow.Author.Needs.{needs}
+use Rattle.cabi.proofs.slips.xa_write_slip.Statement.{statement}
+use Rattle.cabi.proofs.slips.xa_write_slip.Tie as tie
+
+cast-t5 : tie.Need-cast-t5
+cast-t5 c = search needs
+
+cast-t6 : tie.Need-cast-t6
+cast-t6 c = search needs
+
+cast-t7 : tie.Need-cast-t7
+cast-t7 c = search needs
+
+cast-t8 : tie.Need-cast-t8
+cast-t8 c = search needs
+
+write-slip-requires : tie.Need-write-slip-requires
+write-slip-requires c κs = search needs
+
+enum-told : tie.Need-enum-told
+enum-told c = search needs
+
+enum-known-code : tie.Need-enum-known-code
+enum-known-code c = search needs
+
+cast-result : tie.Need-cast-result
+cast-result c =
+    record { fits = omega (arith, written-code _ _ (c .before .before .before .before .before .write-slip .ensures .0) (c .before .code .given .1)) }
+
+same-length : tie.Need-same-length
+same-length c = search needs
+
+returns : tie.Need-returns
+returns c =
+    (ap writeCode (sym (c .enum-told .given .1) ∙ c .before .before .before .before .write-slip .ensures .0), c .before .before .before .before .write-slip .ensures .1)
+
+same-length-2 : tie.Need-same-length-2
+same-length-2 c = search needs
+
+returns-2 : tie.Need-returns-2
+returns-2 c =
+    (ap writeCode (sym (c .before .code .given .1) ∙ c .before .before .before .before .before .write-slip .ensures .0), c .before .before .before .before .before .write-slip .ensures .1)
+
+pub xa-write-slip-spec : {M : Type 1} → statement M
+xa-write-slip-spec =
+    tie.close
+    (tie.spec
+    cast-t5
+    cast-t6
+    cast-t7
+    cast-t8
+    write-slip-requires
+    enum-told
+    enum-known-code
+    cast-result
+    same-length
+    returns
+    same-length-2
+    returns-2)

@@ -1,0 +1,58 @@
+// Judging, for hosts.
+use crate::Answer;
+use conformance::JudgeAnswer;
+ghost use mathlib.Core.Path.{_≡_};
+ghost use Rattle.dataset.specs.Reading.{readingOf};
+ghost use Rattle.dataset.specs.Answer.{bufferOf};
+ghost use Rattle.conformance.specs.Judging.{judgeOf};
+ghost use Rattle.cabi.specs.Host.{judgeAnswer};
+
+// Reads a data set into rows of six numbers and judges it. With codes 1 to 8 the buffer stays as it was.
+#[no_mangle]
+pub extern "C" fn xa_judge(bytes: &[u8], rows: &mut [u32]) -> Answer
+    ensures { λ r. ⌜ r ≡ judgeAnswer (judgeOf (now (bytes .entry)) (now (rows .entry))) ⌝ }
+    ensures { λ _. ⌜ now (rows .exit) ≡ bufferOf (readingOf (now (bytes .entry))) (now (rows .entry)) ⌝ }
+{
+    match conformance::judge(bytes, rows) {
+        JudgeAnswer::Accepted(n) => Answer {
+            code: 0,
+            offset: 0,
+            rows: n as u32,
+            rule: 0,
+            frame: 0,
+            masked: 0,
+        },
+        JudgeAnswer::Broken(n, rule, frame) => Answer {
+            code: 9,
+            offset: 0,
+            rows: n as u32,
+            rule: rule as u32,
+            frame: frame as u32,
+            masked: 0,
+        },
+        JudgeAnswer::Refused(code, offset) => Answer {
+            code: code as u32,
+            offset: offset as u32,
+            rows: 0,
+            rule: 0,
+            frame: 0,
+            masked: 0,
+        },
+        JudgeAnswer::TooLarge => Answer {
+            code: 7,
+            offset: 0,
+            rows: 0,
+            rule: 0,
+            frame: 0,
+            masked: 0,
+        },
+        JudgeAnswer::NoRoom => Answer {
+            code: 8,
+            offset: 0,
+            rows: 0,
+            rule: 0,
+            frame: 0,
+            masked: 0,
+        },
+    }
+}
