@@ -26,22 +26,22 @@ cast-t14 c =
 
 cast-t15 : tie.Need-cast-t15
 cast-t15 c =
-    record { fits = omega (arith, judged-small _ _ (c .before .before .before .before .before .judge .ensures .0) (c .before .n2 .given .1) .rule) }
+    record { fits = omega (arith, judged-small _ _ (c .before .before .before .before .before .judge .ensures .0) (c .before .n2 .given .1)) }
 
 cast-t16 : tie.Need-cast-t16
 cast-t16 c =
-    record { fits = omega (arith, judged-small _ _ (c .before .before .before .before .before .judge .ensures .0) (c .before .n2 .given .1) .frame) }
+    record { fits = omega (arith, judged-small _ _ (c .before .before .before .before .before .judge .ensures .0) (c .before .n2 .given .1)) }
 
 enum-known-code : tie.Need-enum-known-code
 enum-known-code c = search needs
 
 cast-t17 : tie.Need-cast-t17
 cast-t17 c =
-    record { fits = omega (arith, judged-small _ _ (c .before .before .before .before .before .judge .ensures .0) (c .before .code .given .1) .code) }
+    record { fits = omega (arith, judged-small _ _ (c .before .before .before .before .before .judge .ensures .0) (c .before .code .given .1)) }
 
 cast-t18 : tie.Need-cast-t18
 cast-t18 c =
-    record { fits = omega (arith, judged-small _ _ (c .before .before .before .before .before .judge .ensures .0) (c .before .code .given .1) .offset) }
+    record { fits = omega (arith, judged-small _ _ (c .before .before .before .before .before .judge .ensures .0) (c .before .code .given .1)) }
 
 enum-told : tie.Need-enum-told
 enum-told c = search needs

@@ -1,0 +1,64 @@
+// Judges the data set on standard input: whether it is accepted, the numbers of the answer, and for a broken rule what
+// the rule asks.
+mod sentence;
+
+use conformance::JudgeAnswer;
+ghost use mathlib.Core.Path.{_≡_};
+ghost use lib.ListN.{length};
+
+// One byte more than is judged, so that an input that is too long is seen to be.
+fn input() -> [u8; 65_537]
+    ensures { λ r. ⌜ 65537 ≡ length r ⌝ }
+{
+    [0; 65_537]
+}
+
+// A name and its number.
+fn print_field(name: &[u8], n: usize) {
+    io::write_all(1, name);
+    io::write_all(1, b" ");
+    io::print_decimal(1, n as u64);
+}
+
+fn print_accepted(rows: usize) {
+    print_field(b"accepted\ncode 0 rows", rows);
+    io::write_all(1, b"\n");
+}
+
+fn print_broken(rows: usize, rule: usize, frame: usize) {
+    print_field(b"refused\ncode 9 rule", rule);
+    print_field(b" frame", frame);
+    print_field(b" rows", rows);
+    io::write_all(1, b"\n");
+    sentence::print_sentence(rule);
+}
+
+fn print_unread(code: usize, offset: usize) {
+    print_field(b"refused\ncode", code);
+    print_field(b" place", offset);
+    io::write_all(1, b"\n");
+}
+
+fn print_answer(answer: JudgeAnswer) {
+    match answer {
+        JudgeAnswer::Accepted(rows) => print_accepted(rows),
+        JudgeAnswer::Broken(rows, rule, frame) => print_broken(rows, rule, frame),
+        JudgeAnswer::Refused(code, offset) => print_unread(code, offset),
+        JudgeAnswer::TooLarge => {
+            io::write_all(1, b"refused\ncode 7\n");
+        }
+        JudgeAnswer::NoRoom => {
+            io::write_all(1, b"refused\ncode 8\n");
+        }
+    }
+}
+
+fn main() {
+    let mut bytes = input();
+    let n = io::read_full(0, &mut bytes);
+    if judge_small::MOST < n {
+        io::write_all(1, b"too long: at most 65536 bytes\n");
+        return;
+    }
+    print_answer(judge_small::judge_small(&bytes[..n]));
+}

@@ -1,0 +1,19 @@
+-- A possible verdict is written, and its slip fills the 13 bytes.
+use mathlib.Core.Path.{_∙_}
+use borrow.Author.Needs.{needs}
+use Rattle.slip.specs.Slip.{le, slipOf, bufferOf}
+use Rattle.slip_one.proofs.slip_of.Statement.{statement}
+use Rattle.slip_one.proofs.slip_of.Tie as tie
+
+slice-aggregate-write-slip : tie.Need-slice-aggregate-write-slip
+slice-aggregate-write-slip c = search needs
+
+write-slip-requires : tie.Need-write-slip-requires
+write-slip-requires c κs = search needs
+
+returns : tie.Need-returns
+unfolding bufferOf slipOf le
+returns c = c .before .write-slip .ensures .1 ∙ rw (c .before .before .before .pre)
+
+pub slip-of-spec : {M : Type 1} → statement M
+slip-of-spec = tie.close (tie.spec slice-aggregate-write-slip write-slip-requires returns)

@@ -1,0 +1,46 @@
+// Writes the slip of the verdict on the data set on standard input to standard output: 13 bytes. An input that is too long
+// has none, and is said to be on standard error.
+ghost use mathlib.Core.Path.{_≡_};
+ghost use mathlib.Core.Bool.{true};
+ghost use Prim.Native.Nat.{_≤_};
+ghost use lib.ListN.{length};
+ghost use Rattle.verdict.specs.Verdict.{possible};
+ghost use Rattle.slip.specs.Slip.{slipOf};
+ghost use Rattle.conformance.specs.Judging.{verdictOf};
+ghost use Rattle.judge_small.specs.Roomy.{roomyOf};
+use verdict::Verdict;
+
+// One byte more than is judged, so that an input that is too long is seen to be.
+fn input() -> [u8; 65_537]
+    ensures { λ r. ⌜ 65537 ≡ length r ⌝ }
+{
+    [0; 65_537]
+}
+
+fn slip_of(v: Verdict) -> [u8; 13]
+    requires { ⌜ possible v ≡ true ⌝ }
+    ensures { λ r. ⌜ r ≡ slipOf v ⌝ }
+{
+    let mut slip = [0u8; 13];
+    slip::write_slip(v, &mut slip);
+    slip
+}
+
+// The slip of a data set's verdict.
+fn slip_for(bytes: &[u8]) -> [u8; 13]
+    requires { ⌜ length (now bytes) ≤ 65536 ⌝ }
+    ensures { λ r. ⌜ r ≡ slipOf (verdictOf (roomyOf (now (bytes .entry)))) ⌝ }
+{
+    slip_of(conformance::verdict_of(judge_small::judge_small(bytes)))
+}
+
+fn main() {
+    let mut bytes = input();
+    let n = io::read_full(0, &mut bytes);
+    if judge_small::MOST < n {
+        io::write_all(2, b"too long: at most 65536 bytes\n");
+        return;
+    }
+    let slip = slip_for(&bytes[..n]);
+    io::write_all(1, &slip);
+}
