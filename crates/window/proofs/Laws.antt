@@ -1,11 +1,14 @@
 -- The levels of a drawable window: which case of step 6 applies, in naturals; no level lacks, and each is at most 255.
 use mathlib.Core.Path.{_≡_, refl, sym, ap, _∙_, subst}
 use mathlib.Core.Bool.{Bool, true, false, cond}
-use Prim.Native.Nat.{ℕ, zero, suc, _+_, _*_, _-_, _/_, _≤_, _<_}
-use native.Mathlib.Nat.{div-lt-iff-lt-mul}
+use mathlib.Core.List.{List}
+use Prim.Native.Nat.{ℕ, zero, suc, _+_, _*_, _-_, _/_, _^_, _≤_, _<_}
+use native.Mathlib.Nat.{div-lt-iff-lt-mul, pow-le-pow-right}
 use native.Mathlib.Omega.{arith}
 use lib.Dec.{ltb, leb}
 use lib.IntN.{ℤ, pos, negsuc, _+ℤ_, _-ℤ_, _*ℤ_}
+use lib.ListN.{length, getD, set, length-set}
+use lib.Seq.{getD-set-same, getD-set-other}
 use lib.Signed.{leZ, ltZ}
 use borrow.Author.Tests.{ltb-true, ltb-false, lt-ltb, le-ltb, le-leb, lt-leb, leb-true, leb-false}
 use Rattle.value.specs.declared.Num.the-variants.{Is}
@@ -15,7 +18,7 @@ use Rattle.value.specs.Number.{unit, isWidth, isNumber}
 use Rattle.value.specs.Said.{SizeBelow}
 use Rattle.window.specs.declared.Window.{Window}
 use Rattle.window.specs.Window.{integer, floor, limited, levelFor, levelOf}
-use Rattle.window.specs.Said.{Drawable, above, below, rampOf}
+use Rattle.window.specs.Said.{Drawable, Filled, above, below, rampOf}
 use Rattle.window.proofs.Gaps.{Gap, whole, gap, plus, less, times, value, le-yes, le-no, lt-yes, lt-no}
 
 -- ---- A window's sizes
@@ -186,3 +189,27 @@ leveled window d x = go (leb u n) refl
           is = window-ramp window (sizes window d) (integer-gap x) u n refl refl l;
           small = ramp-small (u - n) (above (window .width)) (omega arith);
         }
+
+-- ---- Tables
+
+pub filled-more : (f : ℕ → ℕ) (n : ℕ) (s : List ℕ) → Filled f n s → n < 131072 → Filled f (n + 1) (set s n (f n))
+filled-more f n s t l = record { size = length-set s n (f n) ∙ t .size; value = each }
+  where
+    inside : n < length s
+    inside = omega (arith, t .size)
+
+    apart : (i : ℕ) → i < n → i ≡ n → ⊥
+    apart i h e = omega arith
+
+    last : {i : ℕ} → i < n + 1 → n ≤ i → i ≡ n
+    last h k = omega arith
+
+    each : (i : ℕ) → i < n + 1 → getD (set s n (f n)) i 0 ≡ f i
+    each i h = go (ltb i n) refl
+      where
+        go : (b : Bool) → ltb i n ≡ b → getD (set s n (f n)) i 0 ≡ f i
+        go true e = getD-set-other s n i (f n) 0 (apart i (ltb-true i n e)) ∙ t .value i (ltb-true i n e)
+        go false e = rw (last h (ltb-false i n e)) (getD-set-same s n (f n) 0 inside)
+
+pub power-small : (n k : ℕ) → n ≤ k → 2 ^ n ≤ 2 ^ k
+power-small n k h = pow-le-pow-right {n = 2} (omega arith) {i = n} {j = k} h

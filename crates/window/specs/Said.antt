@@ -46,7 +46,7 @@ number Lacks = 0
 unfoldable pub shadeAt : Window → ℕ → Bool → ℕ → ℕ
 shadeAt window stored inverse i = shadeOf inverse (number (levelOf window (pos (i + 2 ^ (stored - 1)) -ℤ pos (2 ^ stored - 1))))
 
--- The first n places of a list are those of f.
+-- A table whose first n places are those of f.
 pub record Filled (f : ℕ → ℕ) (n : ℕ) (s : List ℕ) : Type 0 where
   pub size : length s ≡ 131072
   pub value : (i : ℕ) → i < n → getD s i 0 ≡ f i
