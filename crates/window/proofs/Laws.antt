@@ -1,5 +1,5 @@
 -- The levels of a drawable window: which case of step 6 applies, in naturals; no level lacks, and each is at most 255.
-use mathlib.Core.Path.{_≡_, refl, sym, ap, _∙_, subst}
+use mathlib.Core.Path.{_≡_, refl, ap, _∙_}
 use mathlib.Core.Bool.{Bool, true, false, cond}
 use mathlib.Core.List.{List}
 use Prim.Native.Nat.{ℕ, zero, suc, _+_, _*_, _-_, _/_, _^_, _≤_, _<_}
@@ -10,15 +10,16 @@ use lib.IntN.{ℤ, pos, negsuc, _+ℤ_, _-ℤ_, _*ℤ_}
 use lib.ListN.{length, getD, set, length-set}
 use lib.Seq.{getD-set-same, getD-set-other}
 use lib.Signed.{leZ, ltZ}
-use borrow.Author.Tests.{ltb-true, ltb-false, lt-ltb, le-ltb, le-leb, lt-leb, leb-true, leb-false}
+use borrow.Author.Tests.{ltb-true, ltb-false, lt-ltb, le-leb, leb-true, leb-false}
+use Rattle.value.specs.declared.Num.{Num}
 use Rattle.value.specs.declared.Num.the-variants.{Is}
 use Rattle.value.specs.declared.Signed.{Signed}
 use Rattle.value.specs.declared.Signed.the-variants as signed
-use Rattle.value.specs.Number.{unit, isWidth, isNumber}
+use Rattle.value.specs.Number.{unit, isWidth}
 use Rattle.value.specs.Said.{SizeBelow}
 use Rattle.window.specs.declared.Window.{Window}
-use Rattle.window.specs.Window.{integer, floor, limited, levelFor, levelOf}
-use Rattle.window.specs.Said.{Drawable, Filled, above, below, rampOf}
+use Rattle.window.specs.Window.{integer, floor, levelFor, levelOf, shadeOf}
+use Rattle.window.specs.Said.{Drawable, Filled, above, below, rampOf, number, shadeAt}
 use Rattle.window.proofs.Gaps.{Gap, whole, gap, plus, less, times, value, le-yes, le-no, lt-yes, lt-no}
 
 -- ---- A window's sizes
@@ -213,3 +214,8 @@ filled-more f n s t l = record { size = length-set s n (f n) ∙ t .size; value 
 
 pub power-small : (n k : ℕ) → n ≤ k → 2 ^ n ≤ 2 ^ k
 power-small n k h = pow-le-pow-right {n = 2} (omega arith) {i = n} {j = k} h
+
+-- A place of the table, by its level.
+pub shade-is : (window : Window) (stored : ℕ) (inverse : Bool) (i y : ℕ) → levelOf window (pos (i + 2 ^ (stored - 1)) -ℤ pos (2 ^ stored - 1)) ≡ Is y → shadeAt window stored inverse i ≡ shadeOf inverse y
+unfolding shadeAt
+shade-is window stored inverse i y e = ap (λ (n : Num). shadeOf inverse (number n)) e

@@ -1,11 +1,10 @@
 use lib.IntN.{pos, _-ℤ_}
-use lib.ListN.{set}
 use Rattle.window.specs.Window.{levelOf, shadeOf}
-use mathlib.Core.Path.{_≡_, refl, sym, ap, _∙_, subst}
+use mathlib.Core.Path.{_≡_, ap, _∙_, subst}
 use native.Mathlib.Omega.{arith}
 use borrow.Author.Needs.{needs}
 use Rattle.window.proofs.Laws.{filled-more, power-small}
-use Prim.Native.Nat.{ℕ, _+_, _-_, _^_, _≤_, _<_}
+use Prim.Native.Nat.{ℕ, _+_, _-_, _^_, _≤_}
 use Rattle.window.specs.Said.{Filled, number, shadeAt}
 use Rattle.window.proofs.levels.Statement.{statement}
 use Rattle.window.proofs.levels.Tie as tie

@@ -1,4 +1,3 @@
-use mathlib.Core.Path.{_≡_, sym, ap, _∙_}
 use Rattle.window.specs.Window.{shadeOf}
 use borrow.Author.Needs.{needs}
 use Rattle.window.proofs.shade.Statement.{statement}
