@@ -1,8 +1,16 @@
-// Shifts of the mask: two FL numbers, vertical then horizontal.
+// Shifts of the mask: two FL numbers, vertical then horizontal. A shift is told from its two floats, so that a number
+// that is not whole can be named; a shift that the rules let pass has whole numbers from -64 to 64 alone.
 ghost use mathlib.Core.Path.{_≡_};
-ghost use Prim.Native.Nat.{_+_, _*_, _≤_, _<_};
+ghost use mathlib.Core.Bool.{false};
+ghost use Prim.Native.Nat.{_+_, _≤_};
 ghost use lib.ListN.{length};
-ghost use Rattle.shift.specs.Shift.{shortOf, shortMovesOf, isShiftOf, itemShift, frameShift, isShift};
+ghost use lib.Ieee.{ofBits, binary32, lt};
+ghost use Rattle.value.specs.Said.{Below, SizeBelow};
+ghost use Rattle.value.specs.Number.{isNumber};
+ghost use Rattle.shift.specs.Shift.{floatAt, shortOf, shortMovesOf, isShiftOf, itemShift, frameShift, isShift};
+ghost use Rattle.shift.specs.Said.{shortSize, ShortMoves};
+use dataset::u32_at;
+use value::Num;
 use value::Signed;
 
 // No shift, the mask item's two numbers, or the frame's own two.
@@ -16,4 +24,143 @@ pub enum Shift {
 pub struct Moves {
     pub vertical: Signed,
     pub horizontal: Signed,
+}
+
+// The largest bit pattern of a float without its sign that is not a NaN: infinity.
+const INFINITY: u32 = 0x7F80_0000;
+
+const SIGN: u32 = 0x8000_0000;
+
+// ---- Floats
+
+// The float of any bit pattern: a NaN's gives a NaN.
+fn float_of(bits: u32) -> f32
+    ensures { λ r. ⌜ r ≡ ofBits binary32 bits ⌝ }
+{
+    if INFINITY < bits % SIGN {
+        0.0 / 0.0
+    } else {
+        f32::from_bits(bits)
+    }
+}
+
+// The FL number at p.
+pub fn float_at(v: &[u8], p: usize) -> f32
+    requires { ⌜ p + 4 ≤ length (now v) ⌝ }
+    ensures { λ r. ⌜ r ≡ floatAt (now (v .entry)) p ⌝ }
+{
+    float_of(u32_at(v, p) as u32)
+}
+
+// ---- Whole numbers from -64 to 64
+
+// The size of a float that is not negative: it is whole where nothing was cut off.
+fn short_size(y: f32) -> Num
+    requires { ⌜ lt y (ofBits binary32 0) ≡ false ⌝ }
+    ensures { λ r. ⌜ r ≡ shortSize y ⌝ }
+    ensures { λ r. ⌜ Below 65 r ⌝ }
+{
+    if y <= 64.0 {
+        let n = std::num::truncating_f32_to_u64(y);
+        let back = std::num::nearest_u32_to_f32(n as u32);
+        if back == y {
+            Num::Is(n as usize)
+        } else {
+            Num::Lacks
+        }
+    } else {
+        Num::Lacks
+    }
+}
+
+pub fn short_of(x: f32) -> Signed
+    ensures { λ r. ⌜ r ≡ shortOf x ⌝ }
+    ensures { λ r. ⌜ SizeBelow 65 r ⌝ }
+{
+    if x < 0.0 {
+        match short_size(-x) {
+            Num::Is(n) => Signed::Minus(n),
+            Num::Lacks => Signed::Lacks,
+        }
+    } else {
+        match short_size(x) {
+            Num::Is(n) => Signed::Plus(n),
+            Num::Lacks => Signed::Lacks,
+        }
+    }
+}
+
+// ---- No shift, the item's two numbers, or the frame's own two
+
+pub fn short_moves_of(s: Shift) -> Moves
+    ensures { λ r. ⌜ r ≡ shortMovesOf s ⌝ }
+    ensures { λ r. ⌜ ShortMoves r ⌝ }
+{
+    match s {
+        Shift::None => Moves {
+            vertical: Signed::Plus(0),
+            horizontal: Signed::Plus(0),
+        },
+        Shift::Item(v, h) => Moves {
+            vertical: short_of(v),
+            horizontal: short_of(h),
+        },
+        Shift::Frame(v, h) => Moves {
+            vertical: short_of(v),
+            horizontal: short_of(h),
+        },
+    }
+}
+
+fn is_number(n: Signed) -> bool
+    ensures { λ r. ⌜ r ≡ isNumber n ⌝ }
+{
+    match n {
+        Signed::Plus(_) => true,
+        Signed::Minus(_) => true,
+        Signed::Lacks => false,
+    }
+}
+
+// Both numbers of a shift are whole numbers from -64 to 64.
+pub fn is_shift_of(s: Shift) -> bool
+    ensures { λ r. ⌜ r ≡ isShiftOf s ⌝ }
+{
+    let m = short_moves_of(s);
+    let v = m.vertical;
+    let h = m.horizontal;
+    if is_number(v) { is_number(h) } else { false }
+}
+
+// A value of two FL numbers, as the item's.
+pub fn item_shift(v: &[u8]) -> Shift
+    ensures { λ r. ⌜ r ≡ itemShift (now (v .entry)) ⌝ }
+{
+    if v.len() == 8 {
+        Shift::Item(float_at(v, 0), float_at(v, 4))
+    } else {
+        Shift::None
+    }
+}
+
+// The same, as the frame's own.
+pub fn frame_shift(v: &[u8]) -> Shift
+    ensures { λ r. ⌜ r ≡ frameShift (now (v .entry)) ⌝ }
+{
+    if v.len() == 8 {
+        Shift::Frame(float_at(v, 0), float_at(v, 4))
+    } else {
+        Shift::None
+    }
+}
+
+// A value has rule 35's form.
+pub fn is_shift(v: &[u8]) -> bool
+    ensures { λ r. ⌜ r ≡ isShift (now (v .entry)) ⌝ }
+{
+    if v.len() == 8 {
+        is_shift_of(item_shift(v))
+    } else {
+        false
+    }
 }

@@ -1,0 +1,58 @@
+-- Without its sign the float has the same size, and a negative one is not zero (`Floats`).
+use mathlib.Core.Path.{sym, _∙_, ap}
+use Rattle.value.proofs.Laws.{below-is}
+use Rattle.value.specs.Number.{plus, minus}
+use Rattle.shift.proofs.Floats.{neg-low, short-plus, short-minus}
+use borrow.Author.Needs.{needs}
+use Rattle.shift.proofs.short_of.Statement.{statement}
+use Rattle.shift.proofs.short_of.Tie as tie
+
+short-size-requires : tie.Need-short-size-requires
+short-size-requires c κs =
+    neg-low _ (c .if1 .taken)
+
+enum-known-n : tie.Need-enum-known-n
+enum-known-n c = search needs
+
+enum-told : tie.Need-enum-told
+enum-told c = search needs
+
+short-size-requires-2 : tie.Need-short-size-requires-2
+short-size-requires-2 c κs = search needs
+
+enum-known-n-2 : tie.Need-enum-known-n-2
+enum-known-n-2 c = search needs
+
+enum-told-2 : tie.Need-enum-told-2
+enum-told-2 c = search needs
+
+returns : tie.Need-returns
+returns c =
+    (sym (short-minus _ (c .before .before .before .before .if1 .taken) ∙ ap minus (sym (c .before .before .before .short-size .ensures .0) ∙ c .before .n .given .1)), below-is 65 _ _ (c .before .n .given .1) (c .before .before .before .short-size .ensures .1))
+
+returns-2 : tie.Need-returns-2
+returns-2 c =
+    (sym (short-minus _ (c .before .before .before .if1 .taken) ∙ ap minus (sym (c .before .before .short-size .ensures .0) ∙ c .enum-told .given .1)), tt)
+
+returns-3 : tie.Need-returns-3
+returns-3 c =
+    (sym (short-plus _ (c .before .before .before .before .if1 .left) ∙ ap plus (sym (c .before .before .before .short-size2 .ensures .0) ∙ c .before .n2 .given .1)), below-is 65 _ _ (c .before .n2 .given .1) (c .before .before .before .short-size2 .ensures .1))
+
+returns-4 : tie.Need-returns-4
+returns-4 c =
+    (sym (short-plus _ (c .before .before .before .if1 .left) ∙ ap plus (sym (c .before .before .short-size2 .ensures .0) ∙ c .enum-told2 .given .1)), tt)
+
+pub short-of-spec : {M : Type 1} → statement M
+short-of-spec =
+    tie.close
+    (tie.spec
+    short-size-requires
+    enum-known-n
+    enum-told
+    short-size-requires-2
+    enum-known-n-2
+    enum-told-2
+    returns
+    returns-2
+    returns-3
+    returns-4)

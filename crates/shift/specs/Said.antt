@@ -1,0 +1,25 @@
+-- What contracts say beside the definitions of a shift: the size of a float without its sign, and bounds of the moves.
+use Prim.Native.Nat.{ℕ, _*_, _/_, _%_}
+use mathlib.Core.Bool.{cond, _&&_}
+use lib.Dec.{eqb, leb}
+use lib.Ieee.{Float, nan, inf, fin, up, down}
+use Rattle.value.specs.declared.Num.{Num}
+use Rattle.value.specs.declared.Num.the-variants.{Is, Lacks}
+use Rattle.value.specs.Said.{SizeBelow}
+use Rattle.shift.specs.declared.Moves.{Moves}
+use Rattle.shift.specs.Shift.{largestShift}
+
+-- The fraction n / d as a whole number up to 64.
+abbrev pub shortFraction : ℕ → ℕ → Num
+shortFraction n d = cond (leb (n / d) largestShift && eqb (n % d) 0) (Is (n / d)) Lacks
+
+-- The size of a float, where it is a whole number up to 64.
+unfoldable pub shortSize : Float → Num
+shortSize nan = Lacks
+shortSize (inf s) = Lacks
+shortSize (fin s m e) = shortFraction (m * up e) (down e)
+
+-- Moves of at most 64.
+pub record ShortMoves (m : Moves) : Type 0 where
+  pub vertical : SizeBelow 65 (m .vertical)
+  pub horizontal : SizeBelow 65 (m .horizontal)
