@@ -1,0 +1,2 @@
+-- What the proofs of the drawing use.
+pub mod Accepted

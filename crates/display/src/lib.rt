@@ -1,0 +1,1 @@
+// Draws a frame of a data set that is accepted.
