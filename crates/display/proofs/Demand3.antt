@@ -26,7 +26,7 @@ use Rattle.window.specs.Window.{levelOf, shadeOf}
 use Rattle.window.specs.Said.{Drawable}
 use Rattle.window.proofs.Laws.{leveled}
 use Rattle.steps.specs.Given.{need, check, then, collect}
-use Rattle.steps.specs.Steps.{Picture, Mask, native, masked, shaded, nativeCell, maskedCell, areFrames, pictureBy, stepsOf}
+use Rattle.steps.specs.Steps.{Picture, Mask, shaded, nativeCell, maskedCell, areFrames, pictureBy, stepsOf, native as noMask, masked as maskBy}
 use Rattle.display.proofs.Accepted.{Object, Windowed, AllWithin, Sound, Masking}
 
 -- ---- Cells that all answer
@@ -111,13 +111,13 @@ module _ (ns : List Node) (f : ℕ) (o : Object ns) (low : 1 ≤ f) (high : f �
   to-picture = rw (o .geometry, o .pixels, o .whole f low high, k .mask, w .window, o .photometric)
 
   pub drawn : Drawn ns f (o .g)
+  unfolding pictureBy
   drawn = go (k .m) (k .sound) to-picture
     where
       go : (m : Mask) → Sound (o .n) m → stepsOf ns f ≡ pictureBy (o .g) (o .v) f (w .w) (o .inverse) m → Drawn ns f (o .g)
-      unfolding pictureBy
-      go native s e =
+      go noMask s e =
           let c = collect-all (nativeCell (o .g) (o .v) f (w .w) (o .inverse)) (samplesOf (o .g)) (λ i h. native-cell (o .g) (o .v) f (w .w) (w .drawable) (o .inverse) i) in
           record { p = record { masked = false; samples = c .l }; is = e ∙ rw (c .is); size = c .size; levels = c .levels }
-      go (masked ks mv) s e =
+      go (maskBy ks mv) s e =
           let c = collect-all (maskedCell (o .g) (o .v) f ks mv (w .w) (o .inverse)) (samplesOf (o .g)) (λ i h. masked-cell (o .g) (o .v) f ks mv (w .w) (w .drawable) (o .inverse) i (source-below (o .g) i h mv)) in
           record { p = record { masked = true; samples = c .l }; is = e ∙ rw (are-frames (o .g) (o .v) (o .n) (o .whole) ks (s .1 .1 .0), c .is); size = c .size; levels = c .levels }
