@@ -1,7 +1,6 @@
 // Draws a frame of a data set that is accepted.
+use shift::Moves;
 
-// The answer of `show`: drawn, with the number of rows and whether it is masked; code 9, with the number of rows, rule
-// and frame; code and offset of a refusal; codes 7, 8, 10 and 11.
 pub enum ShowAnswer {
     Drawn(usize, bool),
     Broken(usize, usize, usize),
@@ -10,4 +9,11 @@ pub enum ShowAnswer {
     NoRoom,
     NoFrame,
     NoImageRoom,
+}
+
+pub enum Masking {
+    Native,
+    Average(usize, Moves),
+    One(usize, Moves),
+    Lacks,
 }
