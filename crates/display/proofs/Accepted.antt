@@ -11,13 +11,18 @@ use Rattle.value.specs.declared.Num.the-variants.{Is}
 use Rattle.value.specs.Number.{isNumber}
 use Rattle.value.specs.Said.{SizeBelow}
 use Rattle.shift.specs.declared.Moves.{Moves}
-use Rattle.node.specs.Nodes.{Node}
+use Rattle.node.specs.Nodes.{Node, root}
+use Rattle.element.specs.Elements.{usIn}
 use Rattle.element.specs.Frames.{framesOf}
 use Rattle.pixel.specs.declared.Geometry.{Geometry}
 use Rattle.pixel.specs.Pixel.{isFrame}
 use Rattle.window.specs.declared.Window.{Window}
 use Rattle.window.specs.Said.{Drawable}
 use Rattle.steps.specs.Steps.{geometryOf, pixelsOf, windowFor, inverseOf, maskFor, Mask, native, masked}
+
+-- A US of the root is a number of two bytes: so it is where the nodes hold bytes.
+abbrev pub SmallRoot : List Node → Type 0
+SmallRoot ns = (tag k : ℕ) → usIn ns tag (root ns) ≡ Is k → k < 65536
 
 -- The object has n frames, and each of them lies whole inside the pixel bytes.
 pub record Object (ns : List Node) : Type 0 where

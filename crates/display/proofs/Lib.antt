@@ -1,6 +1,7 @@
--- What the proofs of the drawing use.
+-- What the proofs of the drawing use; demand 3 stands in Demand3.
 pub mod Given
 pub mod Accepted
+pub mod Objects
 pub mod Demand3
 pub mod Pictures
 pub mod Small
