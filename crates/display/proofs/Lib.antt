@@ -1,2 +1,3 @@
 -- What the proofs of the drawing use.
 pub mod Accepted
+pub mod Masks
