@@ -18,7 +18,8 @@ use Rattle.pixel.specs.declared.Geometry.{Geometry}
 use Rattle.pixel.specs.Pixel.{isFrame}
 use Rattle.window.specs.declared.Window.{Window}
 use Rattle.window.specs.Said.{Drawable}
-use Rattle.steps.specs.Steps.{geometryOf, pixelsOf, windowFor, inverseOf, maskFor, Mask, native, masked}
+use Rattle.steps.specs.Steps.{geometryOf, pixelsOf, windowFor, inverseOf, maskFor}
+pub use Rattle.display.specs.Said.{AllWithin, Sound, Gives}
 
 -- A US of the root is a number of two bytes: so it is where the nodes hold bytes.
 abbrev pub SmallRoot : List Node → Type 0
@@ -52,17 +53,6 @@ pub record Windowed (ns : List Node) (f stored : ℕ) : Type 0 where
   pub window : windowFor ns f stored ≡ some w
   pub drawable : Drawable w
 
--- What masks a frame: nothing, or 1 to 64 of the object's frames, moved by whole numbers of at most 64.
-abbrev pub AllWithin : ℕ → List ℕ → Type 0
-AllWithin n [] = Unit {0}
-AllWithin n (k ∷ ks) = ((1 ≤ k) × (k ≤ n)) × AllWithin n ks
-
-abbrev pub Sound : ℕ → Mask → Type 0
-Sound n native = Unit {0}
-Sound n (masked ks m) =
-    (1 ≤ length ks) × ((length ks ≤ 64) × (AllWithin n ks × ((isNumber (m .vertical) ≡ true) × ((isNumber (m .horizontal) ≡ true) × (SizeBelow 65 (m .vertical) × SizeBelow 65 (m .horizontal))))))
-
-pub record Masking (ns : List Node) (f n : ℕ) : Type 0 where
-  pub m : Mask
-  pub mask : maskFor ns f ≡ some m
-  pub sound : Sound n m
+-- What masks frame f, of n frames.
+abbrev pub Masking : List Node → ℕ → ℕ → Type 0
+Masking ns f n = Gives n (maskFor ns f)

@@ -2,6 +2,7 @@
 pub mod Given
 pub mod Accepted
 pub mod Objects
+pub mod Masks
 pub mod Demand3
 pub mod Pictures
 pub mod Small

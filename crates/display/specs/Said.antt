@@ -27,14 +27,10 @@ abbrev pub AllWithin : ℕ → List ℕ → Type 0
 AllWithin n [] = Unit {0}
 AllWithin n (k ∷ ks) = ((1 ≤ k) × (k ≤ n)) × AllWithin n ks
 
--- Moves by whole numbers of at most 64.
-pub record Short (m : Moves) : Type 0 where
-  pub down : isNumber (m .vertical) ≡ true
-  pub right : isNumber (m .horizontal) ≡ true
-  pub near-down : SizeBelow 65 (m .vertical)
-  pub near-right : SizeBelow 65 (m .horizontal)
+-- Nothing, or 1 to 64 of the n frames, moved by whole numbers of at most 64.
+abbrev pub Short : Moves → Type 0
+Short m = (isNumber (m .vertical) ≡ true) × ((isNumber (m .horizontal) ≡ true) × (SizeBelow 65 (m .vertical) × SizeBelow 65 (m .horizontal)))
 
--- Nothing, or 1 to 64 of the n frames, moved.
 abbrev pub Sound : ℕ → Mask → Type 0
 Sound n noMask = Unit {0}
 Sound n (maskOf ks m) = (1 ≤ length ks) × ((length ks ≤ 64) × (AllWithin n ks × Short m))
@@ -42,7 +38,7 @@ Sound n (maskOf ks m) = (1 ≤ length ks) × ((length ks ≤ 64) × (AllWithin n
 -- A step that gives such a mask.
 pub record Gives (n : ℕ) (o : Option Mask) : Type 0 where
   pub m : Mask
-  pub is : o ≡ some m
+  pub mask : o ≡ some m
   pub sound : Sound n m
 
 pub record GivesMoves (o : Option Moves) : Type 0 where
