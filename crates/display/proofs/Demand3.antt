@@ -8,16 +8,16 @@ use mathlib.Core.Path.{_≡_, refl, sym, ap, _∙_, subst}
 use mathlib.Core.Bool.{Bool, true, false, cond, _&&_}
 use mathlib.Core.List.{List, [], _∷_, _++_}
 use mathlib.Core.Option.{Option, none, some}
-use Prim.Native.Nat.{ℕ, zero, suc, _+_, _-_, _*_, _^_, _≤_, _<_}
+use Prim.Native.Nat.{ℕ, zero, suc, _+_, _-_, _*_, _/_, _%_, _^_, _≤_, _<_}
 use native.Mathlib.Omega.{arith}
 use lib.ListN.{length, length-append, drop}
 use lib.IntN.{ℤ, pos, _+ℤ_, _-ℤ_}
-use lib.Dec.{ltb}
+use lib.Dec.{eqb, leb, ltb}
 use borrow.Author.Tests.{lt-ltb}
 use Rattle.value.specs.declared.Num.{Num}
 use Rattle.value.specs.declared.Num.the-variants.{Is, Lacks}
 use Rattle.shift.specs.declared.Moves.{Moves}
-use Rattle.node.specs.Nodes.{Node}
+use Rattle.node.specs.Nodes.{Node, nodesOf, root}
 use Rattle.pixel.specs.declared.Geometry.{Geometry}
 use Rattle.pixel.specs.Pixel.{samplesOf, isFrame, sampleAt, maskAt, sourceOf}
 use Rattle.pixel.proofs.Laws.{source-below}
@@ -26,7 +26,17 @@ use Rattle.window.specs.Window.{levelOf, shadeOf}
 use Rattle.window.specs.Said.{Drawable}
 use Rattle.window.proofs.Laws.{leveled}
 use Rattle.steps.specs.Given.{need, check, then, collect}
-use Rattle.steps.specs.Steps.{Picture, Mask, shaded, nativeCell, maskedCell, areFrames, pictureBy, stepsOf, native as noMask, masked as maskBy}
+use Rattle.steps.specs.Steps.{Picture, Mask, shaded, nativeCell, maskedCell, areFrames, pictureBy, geometryOf, stepsOf, native as noMask, masked as maskBy}
+use Rattle.element.specs.Tags
+use Rattle.element.specs.Elements.{usIn}
+use Rattle.element.specs.Frames.{framesOf}
+use Rattle.conformance.specs.declared.Finding.the-variants.{Accepted}
+use Rattle.conformance.specs.Judging.{numberOf, findingOf}
+use Rattle.display.specs.Show.{imageSize}
+use Rattle.display.proofs.Given.{never}
+use Rattle.display.proofs.Small.{Bytes, us-in-small}
+use Rattle.display.proofs.Objects.{object, windowed}
+use Rattle.display.proofs.Masks.{masking}
 use Rattle.display.proofs.Accepted.{Object, Windowed, AllWithin, Sound, Masking}
 
 -- ---- Cells that all answer
@@ -121,3 +131,42 @@ module _ (ns : List Node) (f : ℕ) (o : Object ns) (low : 1 ≤ f) (high : f �
       go (maskBy ks mv) s e =
           let c = collect-all (maskedCell (o .g) (o .v) f ks mv (w .w) (o .inverse)) (samplesOf (o .g)) (λ i h. masked-cell (o .g) (o .v) f ks mv (w .w) (w .drawable) (o .inverse) i (source-below (o .g) i h mv)) in
           record { p = record { masked = true; samples = c .l }; is = e ∙ rw (are-frames (o .g) (o .v) (o .n) (o .whole) ks (s .1 .1 .0), c .is); size = c .size; levels = c .levels }
+
+-- ---- The claim
+
+-- The size of a frame is Rows × Columns.
+size-checked : (t u : Bool) (x g : Geometry) → check t (check u (some x)) ≡ some g → samplesOf g ≡ samplesOf x
+size-checked true true x g e =
+    let q : x ≡ g = cc in
+    ap samplesOf (sym q)
+size-checked true false x g e = absurd (never e)
+size-checked false u x g e = absurd (never e)
+
+size-given : (r c a b : Num) (g : Geometry)
+    → need r (λ r. need c (λ c. need a (λ a. need b (λ b. check (leb 8 a && eqb (a % 8) 0) (check (leb 1 b) (some (record { rows = r; columns = c; width = a / 8; stored = b }))))))) ≡ some g
+    → samplesOf g ≡ numberOf r * numberOf c
+size-given (Is r) (Is c) (Is a) (Is b) g e = size-checked (leb 8 a && eqb (a % 8) 0) (leb 1 b) (record { rows = r; columns = c; width = a / 8; stored = b }) g e
+size-given (Is r) (Is c) (Is a) Lacks g e = absurd (never e)
+size-given (Is r) (Is c) Lacks b g e = absurd (never e)
+size-given (Is r) Lacks a b g e = absurd (never e)
+size-given Lacks c a b g e = absurd (never e)
+
+pub geometry-size : (ns : List Node) (g : Geometry) → geometryOf ns ≡ some g → samplesOf g ≡ imageSize ns
+unfolding geometryOf
+geometry-size ns g e = size-given (usIn ns Tags.Rows (root ns)) (usIn ns Tags.Columns (root ns)) (usIn ns Tags.BitsAllocated (root ns)) (usIn ns Tags.BitsStored (root ns)) g e
+
+-- What demand 3 says of frame f: the steps give a picture of exactly Rows × Columns cells, each from 0 to 255.
+pub record Whole (ns : List Node) (f : ℕ) : Type 0 where
+  pub p : Picture
+  pub is : stepsOf ns f ≡ some p
+  pub size : length (p .samples) ≡ imageSize ns
+  pub levels : AllLevels (p .samples)
+
+-- For every data set, given as bytes, that is accepted, and every frame from 1 to its Number of Frames.
+pub demand-3 : (s : List ℕ) → Bytes s → findingOf (nodesOf s) ≡ Accepted → (f : ℕ) → 1 ≤ f → f ≤ numberOf (framesOf (nodesOf s)) → Whole (nodesOf s) f
+demand-3 s b ok f low high =
+    let ns = nodesOf s in
+    let o = object ns (λ tag k e. us-in-small s b tag k (root ns) e) ok in
+    let h : f ≤ o .n = subst (λ (x : Num). f ≤ numberOf x) (o .frames) high in
+    let d = drawn ns f o low h (windowed ns ok o f low h) (masking ns ok (o .n) (o .frames) (o .some-frame) (o .few-frames) f low h) in
+    record { p = d .p; is = d .is; size = d .size ∙ geometry-size ns (o .g) (o .geometry); levels = d .levels }
