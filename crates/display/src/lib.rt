@@ -1,6 +1,33 @@
 // Draws a frame of a data set that is accepted.
+ghost use mathlib.Core.Path.{_≡_};
+ghost use Prim.Native.Nat.{ℕ, _+_, _-_, _*_, _^_, _≤_, _<_};
+ghost use mathlib.Core.Bool.{Bool, true, false};
+ghost use mathlib.Core.Option.{Option, none, some};
+ghost use lib.ListN.{length};
+ghost use Rattle.dataset.specs.Reading.{readingOf};
+ghost use Rattle.dataset.specs.Answer.{bufferOf};
+ghost use Rattle.value.specs.Said.{Below};
+ghost use Rattle.node.specs.Nodes.{nodesOf};
+ghost use Rattle.node.specs.Table.{Table};
+ghost use Rattle.element.specs.Frames.{frameItem};
+ghost use Rattle.element.specs.Elements.{valueAt};
+ghost use Rattle.pixel.specs.Pixel.{samplesOf};
+ghost use Rattle.pixel.specs.Painted.{painted};
+ghost use Rattle.pixel.specs.Said.{Ready};
+ghost use Rattle.steps.specs.Steps.{movesFor, maskBy, maskFor};
+ghost use Rattle.display.specs.Show.{showOf, imageOf};
+ghost use Rattle.display.specs.Said.{Gives, GivesMoves, averageBy, tidBy, maskingOf, MaskingBelow, isMasked, shadeBy, MasksReady};
+use element::tags;
+use pixel::Geometry;
 use shift::Moves;
+use steps::Applies;
+use steps::Found;
+use steps::Shifts;
+use value::Num;
+use value::Signed;
 
+// The answer of `show`: drawn, with the number of rows and whether it is masked; code 9, with the number of rows, rule
+// and frame; code and offset of a refusal; codes 7, 8, 10 and 11.
 pub enum ShowAnswer {
     Drawn(usize, bool),
     Broken(usize, usize, usize),
@@ -11,9 +38,144 @@ pub enum ShowAnswer {
     NoImageRoom,
 }
 
+// What masks a frame: nothing; the frames that an element lists, moved; one frame, moved; or a step lacks something.
 pub enum Masking {
     Native,
     Average(usize, Moves),
     One(usize, Moves),
     Lacks,
+}
+
+// No shift: what stands where a step lacks one, which it does in no accepted object.
+fn no_moves() -> Moves {
+    Moves {
+        vertical: Signed::Plus(0),
+        horizontal: Signed::Plus(0),
+    }
+}
+
+// Step 4: how far mask item j is moved at the frame.
+fn moves_for(bytes: &[u8], rows: &[u32], frame: usize, item: Num, j: usize) -> Moves
+    requires { ⌜ Table (now bytes) (now rows) × ((item ≡ frameItem (nodesOf (now bytes)) frame) × (Below (length (nodesOf (now bytes))) item × ((j < length (nodesOf (now bytes))) × GivesMoves (movesFor (nodesOf (now bytes)) frame j)))) ⌝ }
+    ensures { λ r. ⌜ movesFor (nodesOf (now (bytes .entry))) frame j ≡ some r ⌝ }
+{
+    match steps::shift_for(bytes, rows, frame, item, j) {
+        Shifts::Is(s) => shift::short_moves_of(s),
+        Shifts::Lacks => no_moves(),
+    }
+}
+
+// Steps 3 and 4 for a mask item that averages.
+fn average_by(bytes: &[u8], rows: &[u32], frame: usize, item: Num, j: usize, n: usize) -> Masking
+    requires { ⌜ Table (now bytes) (now rows) × ((item ≡ frameItem (nodesOf (now bytes)) frame) × (Below (length (nodesOf (now bytes))) item × ((j < length (nodesOf (now bytes))) × Gives n (averageBy (nodesOf (now bytes)) frame j)))) ⌝ }
+    ensures { λ r. ⌜ maskingOf (nodesOf (now (bytes .entry))) r ≡ averageBy (nodesOf (now (bytes .entry))) frame j ⌝ }
+    ensures { λ r. ⌜ MaskingBelow (length (nodesOf (now (bytes .entry)))) r ⌝ }
+{
+    match steps::average_element(bytes, rows, j) {
+        Num::Lacks => Masking::Lacks,
+        Num::Is(k) => Masking::Average(k, moves_for(bytes, rows, frame, item, j)),
+    }
+}
+
+// Steps 3 and 4 for a mask item that takes one frame.
+fn tid_by(bytes: &[u8], rows: &[u32], frame: usize, item: Num, j: usize, n: usize) -> Masking
+    requires { ⌜ Table (now bytes) (now rows) × ((item ≡ frameItem (nodesOf (now bytes)) frame) × (Below (length (nodesOf (now bytes))) item × ((j < length (nodesOf (now bytes))) × ((frame < 4294967296) × Gives n (tidBy (nodesOf (now bytes)) frame j))))) ⌝ }
+    ensures { λ r. ⌜ maskingOf (nodesOf (now (bytes .entry))) r ≡ tidBy (nodesOf (now (bytes .entry))) frame j ⌝ }
+    ensures { λ r. ⌜ MaskingBelow (length (nodesOf (now (bytes .entry)))) r ⌝ }
+{
+    match steps::tid_frame(bytes, rows, frame, j) {
+        Found::Lacks => Masking::Lacks,
+        Found::Absent => Masking::Native,
+        Found::At(t) => Masking::One(t, moves_for(bytes, rows, frame, item, j)),
+    }
+}
+
+// Steps 3 and 4 for the mask item that applies.
+fn mask_by(bytes: &[u8], rows: &[u32], frame: usize, item: Num, j: usize, n: usize) -> Masking
+    requires { ⌜ Table (now bytes) (now rows) × ((item ≡ frameItem (nodesOf (now bytes)) frame) × (Below (length (nodesOf (now bytes))) item × ((j < length (nodesOf (now bytes))) × ((frame < 4294967296) × Gives n (maskBy (nodesOf (now bytes)) frame j))))) ⌝ }
+    ensures { λ r. ⌜ maskingOf (nodesOf (now (bytes .entry))) r ≡ maskBy (nodesOf (now (bytes .entry))) frame j ⌝ }
+    ensures { λ r. ⌜ MaskingBelow (length (nodesOf (now (bytes .entry)))) r ⌝ }
+{
+    if element::cs_item(bytes, rows, j, tags::MASK_OPERATION, b"NONE") {
+        Masking::Native
+    } else {
+        if element::cs_item(bytes, rows, j, tags::MASK_OPERATION, b"AVG_SUB") {
+            average_by(bytes, rows, frame, item, j, n)
+        } else {
+            if element::cs_item(bytes, rows, j, tags::MASK_OPERATION, b"TID") {
+                tid_by(bytes, rows, frame, item, j, n)
+            } else {
+                Masking::Lacks
+            }
+        }
+    }
+}
+
+// Steps 2 to 4: what masks the frame. Where no mask item applies the frame is native.
+fn mask_for(bytes: &[u8], rows: &[u32], frame: usize, item: Num, n: usize) -> Masking
+    requires { ⌜ Table (now bytes) (now rows) × ((item ≡ frameItem (nodesOf (now bytes)) frame) × (Below (length (nodesOf (now bytes))) item × ((frame < 4294967296) × Gives n (maskFor (nodesOf (now bytes)) frame)))) ⌝ }
+    ensures { λ r. ⌜ maskingOf (nodesOf (now (bytes .entry))) r ≡ maskFor (nodesOf (now (bytes .entry))) frame ⌝ }
+    ensures { λ r. ⌜ MaskingBelow (length (nodesOf (now (bytes .entry)))) r ⌝ }
+{
+    let Applies::Item(j) = steps::applying_to(bytes, rows, frame) else {
+        return Masking::Native;
+    };
+    mask_by(bytes, rows, frame, item, j, n)
+}
+
+// Paints the frame's samples, from a table of shades; answers whether it is masked.
+fn paint(
+    bytes: &[u8],
+    rows: &[u32],
+    frame: usize,
+    g: Geometry,
+    p: usize,
+    masking: Masking,
+    table: &[u8],
+    image: &mut [u8],
+) -> bool
+    requires { ⌜ Table (now bytes) (now rows) × ((p < length (nodesOf (now bytes))) × (Ready (valueAt (nodesOf (now bytes)) p) g frame (now table) (now image) × MasksReady (nodesOf (now bytes)) (valueAt (nodesOf (now bytes)) p) g masking)) ⌝ }
+    ensures { λ r. ⌜ r ≡ isMasked masking ⌝ }
+    ensures { λ _. ⌜ now (image .exit) ≡ painted (shadeBy (nodesOf (now (bytes .entry))) (now (table .entry)) g (valueAt (nodesOf (now (bytes .entry))) p) frame masking) (samplesOf g) (now (image .entry)) ⌝ }
+{
+    let pixels = node::value(bytes, rows, p);
+    match masking {
+        Masking::Native => {
+            pixel::paint_native(pixels, g, frame, table, image);
+            false
+        }
+        Masking::Average(k, m) => {
+            pixel::paint_masked(pixels, g, frame, node::value(bytes, rows, k), m, table, image);
+            true
+        }
+        Masking::One(t, m) => {
+            let one = [(t % 256) as u8, (t / 256 % 256) as u8];
+            pixel::paint_masked(pixels, g, frame, &one, m, table, image);
+            true
+        }
+        Masking::Lacks => false,
+    }
+}
+
+// Draws a frame of an accepted object; answers whether it is masked.
+fn draw(bytes: &[u8], rows: &[u32], frame: usize, n: usize, image: &mut [u8]) -> bool
+    requires { ⌜ Table (now bytes) (now rows) × ((findingOf (nodesOf (now bytes)) ≡ finding.Accepted) × ((1 ≤ frame) × ((frame ≤ n) × ((framesOf (nodesOf (now bytes)) ≡ num.Is n) × (imageSize (nodesOf (now bytes)) ≤ length (now image)))))) ⌝ }
+    ensures { λ r. ⌜ r ≡ pictureOf (nodesOf (now (bytes .entry))) frame .masked ⌝ }
+    ensures { λ _. ⌜ now (image .exit) ≡ pictureOf (nodesOf (now (bytes .entry))) frame .samples ++ drop (length (pictureOf (nodesOf (now (bytes .entry))) frame .samples)) (now (image .entry)) ⌝ }
+{
+    let Sized::Is(g) = steps::geometry_of(bytes, rows) else {
+        return false;
+    };
+    let Num::Is(p) = steps::pixel_element(bytes, rows) else {
+        return false;
+    };
+    let item = steps::item_at(bytes, rows, frame);
+    let stored = g.stored;
+    let Windowed::Is(w) = steps::window_for(bytes, rows, frame, item, stored) else {
+        return false;
+    };
+    let inverse = is_inverse(bytes, rows);
+    let table = window::levels(w, stored, inverse);
+    let masking = mask_for(bytes, rows, frame, item, n);
+    paint(bytes, rows, frame, g, p, masking, &table, image)
 }
