@@ -6,3 +6,4 @@ pub mod Masks
 pub mod Demand3
 pub mod Pictures
 pub mod Small
+pub mod Plan

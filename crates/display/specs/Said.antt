@@ -17,6 +17,8 @@ use Rattle.pixel.specs.Said.{Masks}
 use Rattle.pixel.specs.Painted.{nativeShade, maskedShade}
 use Rattle.steps.specs.Given.{then}
 use Rattle.steps.specs.Steps.{Mask, native as noMask, masked as maskOf, averageFrames, tidFrame, onTid, movesFor, maskBy, maskFor}
+use Rattle.steps.specs.declared.Applying.{Applying}
+use Rattle.steps.specs.declared.Applying.the-variants as applying
 use Rattle.display.specs.declared.Masking.{Masking}
 use Rattle.display.specs.declared.Masking.the-variants as masking
 
@@ -66,6 +68,11 @@ MaskingBelow n masking.Native = Unit {0}
 MaskingBelow n (masking.Average k m) = k < n
 MaskingBelow n (masking.One t m) = Unit {0}
 MaskingBelow n masking.Lacks = Unit {0}
+
+-- The mask item that applies is one of the nodes.
+abbrev pub ApplyingBelow : ℕ → Applying → Type 0
+ApplyingBelow n (applying.Item j) = j < n
+ApplyingBelow n applying.Nothing = Unit {0}
 
 -- ---- Painting
 

@@ -14,13 +14,14 @@ ghost use Rattle.element.specs.Elements.{valueAt};
 ghost use Rattle.pixel.specs.Pixel.{samplesOf};
 ghost use Rattle.pixel.specs.Painted.{painted};
 ghost use Rattle.pixel.specs.Said.{Ready};
-ghost use Rattle.steps.specs.Steps.{movesFor, maskBy, maskFor};
+ghost use Rattle.steps.specs.Steps.{applyingTo, movesFor, maskBy, maskFor};
 ghost use Rattle.display.specs.Show.{showOf, imageOf};
-ghost use Rattle.display.specs.Said.{Gives, GivesMoves, averageBy, tidBy, maskingOf, MaskingBelow, isMasked, shadeBy, MasksReady};
+ghost use Rattle.display.specs.Said.{Gives, GivesMoves, averageBy, tidBy, maskingOf, MaskingBelow, ApplyingBelow, isMasked, shadeBy, MasksReady};
 use element::tags;
 use pixel::Geometry;
 use shift::Moves;
 use steps::Applies;
+use steps::Applying;
 use steps::Found;
 use steps::Shifts;
 use value::Num;
@@ -111,13 +112,26 @@ fn mask_by(bytes: &[u8], rows: &[u32], frame: usize, item: Num, j: usize, n: usi
     }
 }
 
+// Step 2: the first mask item whose range holds the frame, or none.
+fn applying(bytes: &[u8], rows: &[u32], frame: usize, n: usize) -> Applying
+    requires { ⌜ Table (now bytes) (now rows) × Gives n (maskFor (nodesOf (now bytes)) frame) ⌝ }
+    ensures { λ r. ⌜ applyingTo (nodesOf (now (bytes .entry))) frame ≡ some r ⌝ }
+    ensures { λ r. ⌜ ApplyingBelow (length (nodesOf (now (bytes .entry)))) r ⌝ }
+{
+    match steps::applying_to(bytes, rows, frame) {
+        Applies::Item(j) => Applying::Item(j),
+        Applies::Nothing => Applying::Nothing,
+        Applies::Lacks => Applying::Nothing,
+    }
+}
+
 // Steps 2 to 4: what masks the frame. Where no mask item applies the frame is native.
 fn mask_for(bytes: &[u8], rows: &[u32], frame: usize, item: Num, n: usize) -> Masking
     requires { ⌜ Table (now bytes) (now rows) × ((item ≡ frameItem (nodesOf (now bytes)) frame) × (Below (length (nodesOf (now bytes))) item × ((frame < 4294967296) × Gives n (maskFor (nodesOf (now bytes)) frame)))) ⌝ }
     ensures { λ r. ⌜ maskingOf (nodesOf (now (bytes .entry))) r ≡ maskFor (nodesOf (now (bytes .entry))) frame ⌝ }
     ensures { λ r. ⌜ MaskingBelow (length (nodesOf (now (bytes .entry)))) r ⌝ }
 {
-    let Applies::Item(j) = steps::applying_to(bytes, rows, frame) else {
+    let Applying::Item(j) = applying(bytes, rows, frame, n) else {
         return Masking::Native;
     };
     mask_by(bytes, rows, frame, item, j, n)
@@ -155,27 +169,4 @@ fn paint(
         }
         Masking::Lacks => false,
     }
-}
-
-// Draws a frame of an accepted object; answers whether it is masked.
-fn draw(bytes: &[u8], rows: &[u32], frame: usize, n: usize, image: &mut [u8]) -> bool
-    requires { ⌜ Table (now bytes) (now rows) × ((findingOf (nodesOf (now bytes)) ≡ finding.Accepted) × ((1 ≤ frame) × ((frame ≤ n) × ((framesOf (nodesOf (now bytes)) ≡ num.Is n) × (imageSize (nodesOf (now bytes)) ≤ length (now image)))))) ⌝ }
-    ensures { λ r. ⌜ r ≡ pictureOf (nodesOf (now (bytes .entry))) frame .masked ⌝ }
-    ensures { λ _. ⌜ now (image .exit) ≡ pictureOf (nodesOf (now (bytes .entry))) frame .samples ++ drop (length (pictureOf (nodesOf (now (bytes .entry))) frame .samples)) (now (image .entry)) ⌝ }
-{
-    let Sized::Is(g) = steps::geometry_of(bytes, rows) else {
-        return false;
-    };
-    let Num::Is(p) = steps::pixel_element(bytes, rows) else {
-        return false;
-    };
-    let item = steps::item_at(bytes, rows, frame);
-    let stored = g.stored;
-    let Windowed::Is(w) = steps::window_for(bytes, rows, frame, item, stored) else {
-        return false;
-    };
-    let inverse = is_inverse(bytes, rows);
-    let table = window::levels(w, stored, inverse);
-    let masking = mask_for(bytes, rows, frame, item, n);
-    paint(bytes, rows, frame, g, p, masking, &table, image)
 }
