@@ -1,33 +1,37 @@
 -- Bounds of samples, sums and averages, where a sample takes its mask from, and a painted picture.
 use mathlib.Core.Path.{_≡_, refl, sym, _∙_, ap, subst}
 use mathlib.Core.Bool.{Bool, true, false, _&&_}
-use mathlib.Core.List.{List, [], _∷_}
+use mathlib.Core.List.{List, [], _∷_, _++_}
 use mathlib.Core.Logic.{_⊎_, inl, inr, ⊎-elim}
 use Prim.Native.Nat.{ℕ, zero, suc, _+_, _-_, _*_, _/_, _%_, _^_, _≤_, _<_, min}
 use native.Mathlib.Numerals.{add-one}
-use native.Mathlib.Nat.{eq-or-lt-of-le, le-of-suc-le-suc, mul-le-mul-right, le-mul-of-pos-right, mod-lt, mod-eq-of-lt, mul-add-div-right, mul-add-mod-self-right, div-eq-of-lt, pow-le-pow-right, mul-le-mul, min-le-right, div-lt-iff-lt-mul}
+use native.Mathlib.Nat.{eq-or-lt-of-le, le-of-suc-le-suc, mul-le-mul-right, le-mul-of-pos-right, mod-lt, mod-eq-of-lt, mul-add-div-right, mul-add-mod-self-right, div-eq-of-lt, pow-le-pow-right, mul-le-mul, min-le-right, div-lt-iff-lt-mul, zero-add}
 use native.Mathlib.Omega.{arith}
 use borrow.Author.Tests.{leb-true}
 use lib.Bits.{bitAnd, and-mask}
 use lib.Dec.{T, leb}
-use lib.Pow.{pow-pos, pow-lt, le-ones}
-use lib.ListN.{length, getD, set, drop, length-set, length-drop}
-use lib.Seq.{getD-set-same, getD-set-other, drop-cons, drop-length}
+use lib.Pow.{pow-pos, pow-lt, le-ones, lt-of-le-ones}
+use lib.ListN.{length, getD, set, take, drop, length-set, length-drop, List·getD-append}
+use lib.Seq.{getD-set-same, getD-set-other, drop-cons, drop-length, getD-append-add, length-take-le}
 use Rattle.dataset.specs.Bytes.{le16}
 use Rattle.value.specs.Number.{usValues}
 use Rattle.value.specs.declared.Signed.{Signed}
 use Rattle.value.specs.declared.Signed.the-variants.{Plus, Minus, Lacks}
 use Rattle.shift.specs.declared.Moves.{Moves}
 use Rattle.pixel.specs.declared.Geometry.{Geometry}
-use Rattle.pixel.specs.declared.Step.{Step}
 use Rattle.pixel.specs.Pixel.{leBytes, samplesOf, isFrame, sampleAt, sumAt, averageOf, maskAt, movedBy, sourceOf}
 use Rattle.pixel.specs.Painted.{painted, nativeShade, maskedShade}
-use Rattle.pixel.specs.Said.{Masks, cellAt, paintedFrom, Summed, stepped, StepOf, rowShade, stepShade}
+use Rattle.pixel.specs.Said.{Masks, cellAt, paintedFrom, Summed, Spread, shifted, OffsetOf, rowShade, offsetShade}
 use Rattle.pixel.proofs.Division.{average-most}
 
 both : (p q : Bool) → p && q ≡ true → (p ≡ true) × (q ≡ true)
 both true q h = (refl, h)
 both false q h = absurd (subst T (sym h) tt)
+
+below-or-not : (a b : ℕ) → (a < b) ⊎ (b ≤ a)
+below-or-not a zero = inr (omega arith)
+below-or-not zero (suc b) = inl (omega arith)
+below-or-not (suc a) (suc b) = ⊎-elim (λ l. inl (omega arith)) (λ l. inr (omega arith)) (below-or-not a b)
 
 -- ---- Powers of two
 
@@ -83,7 +87,7 @@ module _ (g : Geometry) (v : List ℕ) where
       let b : getD v (2 * j + 1) 0 + 256 * 0 ≡ getD v (2 * j + 1) 0 = omega arith in
       rw (e, a, b) (kept-bits (getD v (2 * j) 0 + 256 * getD v (2 * j + 1) 0) low (g .stored) k)
 
-  -- A sample is below 2^stored.
+  -- A sample is below 2^stored, that is at most 2^stored - 1.
   pub cell-most : (j : ℕ) → cellAt g v j ≤ 2 ^ g .stored - 1
   unfolding cellAt
   cell-most j = le-ones (g .stored) (mod-lt (leBytes (g .width) v (j * g .width)) (pow-pos (g .stored)))
@@ -94,6 +98,9 @@ module _ (g : Geometry) (v : List ℕ) where
 
   pub sample-most : (k i : ℕ) → sampleAt g v k i ≤ 2 ^ g .stored - 1
   sample-most k i = rw (sample-cell k i) (cell-most ((k - 1) * samplesOf g + i))
+
+  pub sample-below : (k i : ℕ) → sampleAt g v k i < 2 ^ g .stored
+  sample-below k i = lt-of-le-ones (g .stored) (sample-most k i)
 
   -- ---- Frames
 
@@ -173,6 +180,9 @@ module _ (g : Geometry) (v : List ℕ) where
   unfolding maskAt
   mask-most ks i some few = average-most (sumAt g v ks i) (length ks) some few (2 ^ g .stored - 1) (sum-most ks i)
 
+  pub mask-below : (ks : List ℕ) (i : ℕ) → 1 ≤ length ks → length ks ≤ 64 → maskAt g v ks i < 2 ^ g .stored
+  mask-below ks i some few = lt-of-le-ones (g .stored) (mask-most ks i some few)
+
   pub sum-drop : (ks : List ℕ) (k i : ℕ) → k < length ks → sumAt g v (drop k ks) i ≡ sampleAt g v (getD ks k 0) i + sumAt g v (drop (k + 1) ks) i
   unfolding sumAt
   sum-drop ks k i h = rw (add-one k, drop-cons ks k 0)
@@ -193,14 +203,14 @@ place-row r columns c h =
 pub place-column : (r columns c : ℕ) → c < columns → (r * columns + c) % columns ≡ c
 place-column r columns c h = mul-add-mod-self-right r columns c ∙ mod-eq-of-lt h
 
-pub step-plus : (n size i : ℕ) → i < size → min (i - n + 0) (size - 1) ≡ i - n
-step-plus n size i h = omega arith
+pub offset-plus : (n size i : ℕ) → n < 65 → i < size → shifted (64 - n) size i ≡ i - n
+offset-plus n size i b h = omega arith
 
-pub step-minus : (n size i : ℕ) → i < size → min (i - 0 + n) (size - 1) ≡ min (i + n) (size - 1)
-step-minus n size i h = omega arith
+pub offset-minus : (n size i : ℕ) → i < size → shifted (64 + n) size i ≡ min (i + n) (size - 1)
+offset-minus n size i h = omega arith
 
-pub step-none : (size i : ℕ) → i < size → min (i - 0 + 0) (size - 1) ≡ i
-step-none size i h = omega arith
+pub offset-none : (size i : ℕ) → i < size → shifted 64 size i ≡ i
+offset-none size i h = omega arith
 
 -- A row or a column that is moved is one still.
 pub moved-below : (m : Signed) (size r : ℕ) → r < size → movedBy m size r < size
@@ -233,23 +243,22 @@ module _ (g : Geometry) (i : ℕ) (inside : i < samplesOf g) where
           let b : (r + 1) * g .columns ≡ r * g .columns + g .columns = omega arith in
           omega arith
 
-  -- The steps of two moves.
-  pub step-shade : (table v : List ℕ) (f : ℕ) (ks : List ℕ) (m : Moves) (down right : Step) → StepOf (m .vertical) down → StepOf (m .horizontal) right → stepShade table g v f ks down right i ≡ maskedShade table g v f ks m i
-  unfolding stepShade maskedShade sourceOf
-  step-shade table v f ks m down right d r = rw (d .moves (g .rows) (i / g .columns) row-below, r .moves (g .columns) (i % g .columns) column-below)
+  -- The offsets of two moves.
+  pub offset-shade : (table v : List ℕ) (f : ℕ) (ks : List ℕ) (m : Moves) (down right : ℕ) → OffsetOf (m .vertical) down → OffsetOf (m .horizontal) right → offsetShade table g v f ks down right i ≡ maskedShade table g v f ks m i
+  unfolding offsetShade maskedShade sourceOf
+  offset-shade table v f ks m down right d r = rw (d .moves (g .rows) (i / g .columns) row-below, r .moves (g .columns) (i % g .columns) column-below)
 
 -- A row's shades are those of its samples.
-pub row-step : (table v : List ℕ) (g : Geometry) (f : ℕ) (ks sums : List ℕ) (down right : Step) (r n : ℕ) → r < g .rows → n ≡ length ks → Summed v g ks (stepped down (g .rows) r) sums → (c : ℕ) → c < g .columns → rowShade table g v ((f - 1) * samplesOf g + r * g .columns) sums n right c ≡ stepShade table g v f ks down right (r * g .columns + c)
-unfolding rowShade stepShade maskAt
-row-step table v g f ks sums down right r n hr e s c hc =
+pub row-offset : (table v : List ℕ) (g : Geometry) (f : ℕ) (ks sums : List ℕ) (down right r n : ℕ) → right ≤ 128 → n ≡ length ks → Spread v g ks (shifted down (g .rows) r) sums → (c : ℕ) → c < g .columns → rowShade table g v ((f - 1) * samplesOf g + r * g .columns) sums n right c ≡ offsetShade table g v f ks down right (r * g .columns + c)
+unfolding rowShade offsetShade maskAt
+row-offset table v g f ks sums down right r n hr e s c hc =
     let a : (f - 1) * samplesOf g + r * g .columns + c ≡ (f - 1) * samplesOf g + (r * g .columns + c) = omega arith in
-    let k : stepped right (g .columns) c < g .columns = omega (arith, min-le-right (c - right .back + right .ahead) (g .columns - 1)) in
-    rw (place-row r (g .columns) c hc, place-column r (g .columns) c hc, sample-cell g v f (r * g .columns + c), a, s .at (stepped right (g .columns) c) k, e)
+    rw (place-row r (g .columns) c hc, place-column r (g .columns) c hc, sample-cell g v f (r * g .columns + c), a, s .at (c + right) (omega arith), e)
 
 -- The shade of a sample of a row, by its place in the table.
-pub row-shade : (g : Geometry) (v table sums : List ℕ) (from n : ℕ) (st : Step) (c s p j a : ℕ) → s ≡ cellAt g v (from + c) → p ≡ 2 ^ g .stored → j ≡ stepped st (g .columns) c → a ≡ averageOf (getD sums j 0) n → getD table (s + (p - 1) - a) 0 ≡ rowShade table g v from sums n st c
+pub row-shade : (g : Geometry) (v table sums : List ℕ) (from n right c s p a : ℕ) → s ≡ cellAt g v (from + c) → p ≡ 2 ^ g .stored → a ≡ averageOf (getD sums (c + right) 0) n → getD table (s + (p - 1) - a) 0 ≡ rowShade table g v from sums n right c
 unfolding rowShade
-row-shade g v table sums from n st c s p j a h k m o = rw (h, k, o, m)
+row-shade g v table sums from n right c s p a h k o = rw (h, k, o)
 
 -- ---- Painting
 
@@ -316,6 +325,40 @@ painted-none f n s =
     let z : 0 * n ≡ 0 = omega arith in
     rw z
 
+-- What it says, place by place.
+pub from-before : (f : ℕ → ℕ) (at n : ℕ) (s : List ℕ) (j : ℕ) → j < at → getD (paintedFrom f at n s) j 0 ≡ getD s j 0
+unfolding paintedFrom
+from-before f at zero s j h = refl
+from-before f at (suc n) s j h = getD-set-other (paintedFrom f at n s) (at + n) j (f n) 0 ne ∙ from-before f at n s j h
+  where
+    ne : j ≡ at + n → ⊥
+    ne e = omega arith
+
+pub from-after : (f : ℕ → ℕ) (at n : ℕ) (s : List ℕ) (j : ℕ) → at + n ≤ j → getD (paintedFrom f at n s) j 0 ≡ getD s j 0
+unfolding paintedFrom
+from-after f at zero s j h = refl
+from-after f at (suc n) s j h = getD-set-other (paintedFrom f at n s) (at + n) j (f n) 0 ne ∙ from-after f at n s j (omega arith)
+  where
+    ne : j ≡ at + n → ⊥
+    ne e = omega arith
+
+pub from-at : (f : ℕ → ℕ) (at n : ℕ) (s : List ℕ) (k : ℕ) → at + n ≤ length s → k < n → getD (paintedFrom f at n s) (at + k) 0 ≡ f k
+unfolding paintedFrom
+from-at f at zero s k h l = absurd (omega arith)
+from-at f at (suc n) s k h l = ⊎-elim at-n (before (from-at f at n s k (omega arith))) (eq-or-lt-of-le (le-of-suc-le-suc l))
+  where
+    ne : k < n → at + k ≡ at + n → ⊥
+    ne l e = omega arith
+
+    fits : at + n < length (paintedFrom f at n s)
+    fits = rw (from-length f at n s) (omega arith)
+
+    at-n : k ≡ n → getD (set (paintedFrom f at n s) (at + n) (f n)) (at + k) 0 ≡ f k
+    at-n e = rw e (getD-set-same (paintedFrom f at n s) (at + n) (f n) 0 fits)
+
+    before : (k < n → getD (paintedFrom f at n s) (at + k) 0 ≡ f k) → k < n → getD (set (paintedFrom f at n s) (at + n) (f n)) (at + k) 0 ≡ f k
+    before r l = getD-set-other (paintedFrom f at n s) (at + n) (at + k) (f n) 0 (ne l) ∙ r l
+
 -- A picture painted up to a place, and on from there.
 pub from-painted : (f h : ℕ → ℕ) (at n : ℕ) (s : List ℕ) → ((c : ℕ) → c < n → f c ≡ h (at + c)) → paintedFrom f at n (painted h at s) ≡ painted h (at + n) s
 unfolding painted paintedFrom
@@ -340,11 +383,52 @@ module _ (k r c w : ℕ) (hk : k ≤ 65535) (hr : r ≤ 65535) (hc : c ≤ 65535
 
 -- ---- The sums of a row
 
+-- A row from place 64 on, its first value put before it, and its last behind it.
+module _ (columns : ℕ) (s : List ℕ) (some : 1 ≤ columns) (fits : columns + 128 ≤ length s) where
+  abbrev left : List ℕ
+  left = paintedFrom (λ _. getD s 64 0) 0 64 s
+
+  abbrev whole : List ℕ
+  whole = paintedFrom (λ _. getD s (64 + columns - 1) 0) (64 + columns) 64 left
+
+  at-left : (j : ℕ) → j < 64 → getD whole j 0 ≡ getD s (64 + min (j - 64) (columns - 1)) 0
+  at-left j l =
+      let a : 64 + min (j - 64) (columns - 1) ≡ 64 = omega arith in
+      let b : getD left (0 + j) 0 ≡ getD s 64 0 = from-at (λ _. getD s 64 0) 0 64 s j (omega arith) l in
+      from-before (λ _. getD s (64 + columns - 1) 0) (64 + columns) 64 left j (omega arith) ∙ ap (λ (i : ℕ). getD left i 0) (sym (zero-add j)) ∙ b ∙ ap (λ (i : ℕ). getD s i 0) (sym a)
+
+  at-middle : (j : ℕ) → 64 ≤ j → j < 64 + columns → getD whole j 0 ≡ getD s (64 + min (j - 64) (columns - 1)) 0
+  at-middle j h l =
+      let a : 64 + min (j - 64) (columns - 1) ≡ j = omega arith in
+      from-before (λ _. getD s (64 + columns - 1) 0) (64 + columns) 64 left j l ∙ from-after (λ _. getD s 64 0) 0 64 s j (omega arith) ∙ ap (λ (i : ℕ). getD s i 0) (sym a)
+
+  at-right : (j : ℕ) → 64 + columns ≤ j → j < columns + 128 → getD whole j 0 ≡ getD s (64 + min (j - 64) (columns - 1)) 0
+  at-right j h l =
+      let a : 64 + min (j - 64) (columns - 1) ≡ 64 + columns - 1 = omega arith in
+      let e : 64 + columns + (j - (64 + columns)) ≡ j = omega arith in
+      let f : length left ≡ length s = from-length (λ _. getD s 64 0) 0 64 s in
+      ap (λ (i : ℕ). getD whole i 0) (sym e) ∙ from-at (λ _. getD s (64 + columns - 1) 0) (64 + columns) 64 left (j - (64 + columns)) (omega arith) (omega arith) ∙ ap (λ (i : ℕ). getD s i 0) (sym a)
+
+  pub spread-at : (j : ℕ) → j < columns + 128 → getD whole j 0 ≡ getD s (64 + min (j - 64) (columns - 1)) 0
+  spread-at j l = ⊎-elim (at-left j) (λ h. ⊎-elim (at-middle j h) (λ m. at-right j m l) (below-or-not j (64 + columns))) (below-or-not j 64)
+
+-- The sums of a row, put so into a list from place 64 on.
+pub spread-row : (v : List ℕ) (g : Geometry) (ks : List ℕ) (row : ℕ) (sums s rest after : List ℕ) → 1 ≤ g .columns → g .columns ≤ length sums → 64 ≤ length s → Summed v g ks row sums → ((j : ℕ) → j < g .columns + 128 → getD after j 0 ≡ getD (take 64 s ++ (sums ++ rest)) (64 + min (j - 64) (g .columns - 1)) 0) → Spread v g ks row after
+spread-row v g ks row sums s rest after some fits room r a = record { at = λ j l. a j l ∙ part (min (j - 64) (g .columns - 1)) (low j) ∙ r .at (min (j - 64) (g .columns - 1)) (low j) }
+  where
+    low : (j : ℕ) → min (j - 64) (g .columns - 1) < g .columns
+    low j = omega (arith, min-le-right (j - 64) (g .columns - 1))
+
+    part : (c : ℕ) → c < g .columns → getD (take 64 s ++ (sums ++ rest)) (64 + c) 0 ≡ getD sums c 0
+    part c l =
+        let e : length (take 64 s) ≡ 64 = length-take-le 64 s room in
+        ap (λ (n : ℕ). getD (take 64 s ++ (sums ++ rest)) (n + c) 0) (sym e) ∙ getD-append-add (take 64 s) (sums ++ rest) c 0 ∙ List·getD-append sums rest 0 c (omega arith)
+
 module _ (v : List ℕ) (g : Geometry) (ks : List ℕ) (row : ℕ) where
   -- Of no frame.
-  pub summed-none : (n : ℕ) (s : List ℕ) → n ≡ length ks → g .columns ≤ length s → Summed v g (drop n ks) row (painted (λ _. 0) (g .columns) s)
+  pub summed-none : (n : ℕ) (s : List ℕ) → n ≡ length ks → g .columns ≤ length s → Summed v g (drop n ks) row (paintedFrom (λ _. 0) 0 (g .columns) s)
   unfolding sumAt
-  summed-none n s e h = record { at = λ c l. painted-at (λ _. 0) (g .columns) s c h l ∙ sym (ap (λ (t : List ℕ). sumAt g v t (row * g .columns + c)) (ap (λ (m : ℕ). drop m ks) e ∙ drop-length ks)) }
+  summed-none n s e h = record { at = λ c l. ap (λ (j : ℕ). getD (paintedFrom (λ _. 0) 0 (g .columns) s) j 0) (sym (zero-add c)) ∙ from-at (λ _. 0) 0 (g .columns) s c (omega arith) l ∙ sym (ap (λ (t : List ℕ). sumAt g v t (row * g .columns + c)) (ap (λ (m : ℕ). drop m ks) e ∙ drop-length ks)) }
 
   -- Of one frame more, in front.
   pub summed-more : (k x from : ℕ) (s : List ℕ) → 0 < k → k ≤ length ks → x ≡ getD ks (k - 1) 0 → from ≡ (x - 1) * samplesOf g + row * g .columns → g .columns ≤ length s → Summed v g (drop k ks) row s → Summed v g (drop (k - 1) ks) row (painted (λ c. getD s c 0 + cellAt g v (from + c)) (g .columns) s)
@@ -370,16 +454,16 @@ module _ (v : List ℕ) (g : Geometry) (ks : List ℕ) (row : ℕ) where
       let e : getD s c 0 ≡ sumAt g v (drop k ks) (row * g .columns + c) = sums .at c l in
       omega arith
 
-pub summed-row : (v : List ℕ) (g : Geometry) (ks : List ℕ) (row : ℕ) (s : List ℕ) (n : ℕ) → n ≡ length ks → Summed v g ks row s → (c : ℕ) → c < g .columns → getD s c 0 ≤ n * (2 ^ g .stored - 1)
-summed-row v g ks row s n e sums c l = rw (sums .at c l, e) (sum-most g v ks (row * g .columns + c))
+pub spread-most : (v : List ℕ) (g : Geometry) (ks : List ℕ) (row : ℕ) (s : List ℕ) (n : ℕ) → n ≡ length ks → Spread v g ks row s → (j : ℕ) → j < g .columns + 128 → getD s j 0 ≤ n * (2 ^ g .stored - 1)
+spread-most v g ks row s n e sums j l = rw (sums .at j l, e) (sum-most g v ks (row * g .columns + min (j - 64) (g .columns - 1)))
 
 -- Number k of the mask frames.
 pub mask-frame : (v : List ℕ) (g : Geometry) (ms : List ℕ) (k x : ℕ) → Masks v g ms → 0 < k → k ≤ length (usValues ms) → x ≡ getD (usValues ms) (k - 1) 0 → isFrame g v x ≡ true
 mask-frame v g ms k x m some h e = rw e (m .frames (k - 1) (omega arith))
 
 -- A frame painted up to row r, and that row.
-pub row-painted : (table v : List ℕ) (g : Geometry) (f : ℕ) (ks sums image : List ℕ) (down right : Step) (r n : ℕ) → r < g .rows → n ≡ length ks → Summed v g ks (stepped down (g .rows) r) sums → paintedFrom (rowShade table g v ((f - 1) * samplesOf g + r * g .columns) sums n right) (r * g .columns) (g .columns) (painted (stepShade table g v f ks down right) (r * g .columns) image) ≡ painted (stepShade table g v f ks down right) ((r + 1) * g .columns) image
+pub row-painted : (table v : List ℕ) (g : Geometry) (f : ℕ) (ks sums image : List ℕ) (down right r n : ℕ) → right ≤ 128 → n ≡ length ks → Spread v g ks (shifted down (g .rows) r) sums → paintedFrom (rowShade table g v ((f - 1) * samplesOf g + r * g .columns) sums n right) (r * g .columns) (g .columns) (painted (offsetShade table g v f ks down right) (r * g .columns) image) ≡ painted (offsetShade table g v f ks down right) ((r + 1) * g .columns) image
 row-painted table v g f ks sums image down right r n h e s =
     let z : r * g .columns + g .columns ≡ (r + 1) * g .columns = omega arith in
-    from-painted (rowShade table g v ((f - 1) * samplesOf g + r * g .columns) sums n right) (stepShade table g v f ks down right) (r * g .columns) (g .columns) image (row-step table v g f ks sums down right r n h e s)
-    ∙ ap (λ (m : ℕ). painted (stepShade table g v f ks down right) m image) z
+    from-painted (rowShade table g v ((f - 1) * samplesOf g + r * g .columns) sums n right) (offsetShade table g v f ks down right) (r * g .columns) (g .columns) image (row-offset table v g f ks sums down right r n h e s)
+    ∙ ap (λ (m : ℕ). painted (offsetShade table g v f ks down right) m image) z

@@ -10,7 +10,6 @@ use Rattle.value.specs.declared.Signed.{Signed}
 use Rattle.shift.specs.declared.Moves.{Moves}
 use Rattle.shift.specs.Said.{ShortMoves}
 use Rattle.pixel.specs.declared.Geometry.{Geometry}
-use Rattle.pixel.specs.declared.Step.{Step}
 use Rattle.pixel.specs.Pixel.{leBytes, samplesOf, isFrame, sampleAt, sumAt, averageOf, maskAt, movedBy}
 
 -- ---- What painting needs
@@ -18,10 +17,11 @@ use Rattle.pixel.specs.Pixel.{leBytes, samplesOf, isFrame, sampleAt, sum
 -- A sample is one byte or two, and holds 1 to 16 bits; a row fits the room for sums.
 pub record Shaped (g : Geometry) : Type 0 where
   pub width : (g .width ≡ 1) ⊎ (g .width ≡ 2)
-  pub low : 1 ≤ g .stored
-  pub high : g .stored ≤ 16
-  pub rows : g .rows ≤ 65535
-  pub columns : g .columns ≤ 65535
+  pub stored-some : 1 ≤ g .stored
+  pub stored-most : g .stored ≤ 16
+  pub rows-most : g .rows ≤ 65535
+  pub columns-some : 1 ≤ g .columns
+  pub columns-most : g .columns ≤ 65535
 
 pub record Ready (pixels : List ℕ) (g : Geometry) (frame : ℕ) (table image : List ℕ) : Type 0 where
   pub shape : Shaped g
@@ -67,53 +67,56 @@ pub record Row (v : List ℕ) (g : Geometry) (from : ℕ) : Type 0 where
 
 -- ---- Moves
 
--- A move as a step back, limited at 0, then a step ahead, limited at the last place.
-abbrev pub stepped : Step → ℕ → ℕ → ℕ
-stepped s size i = min (i - s .back + s .ahead) (size - 1)
+-- Where place i comes to by an offset, that is 64 less a move, limited at either edge, where there are `size` places.
+abbrev pub shifted : ℕ → ℕ → ℕ → ℕ
+shifted s size i = min (i + s - 64) (size - 1)
 
-pub record StepOf (m : Signed) (s : Step) : Type 0 where
-  pub ahead : s .ahead ≤ 64
-  pub moves : (size i : ℕ) → i < size → stepped s size i ≡ movedBy m size i
+pub record OffsetOf (m : Signed) (s : ℕ) : Type 0 where
+  pub most : s ≤ 128
+  pub moves : (size i : ℕ) → i < size → shifted s size i ≡ movedBy m size i
 
--- ---- Painting
-
--- From place `at` on, n bytes are f 0, f 1, ..; the others are untouched.
-unfoldable pub paintedFrom : (ℕ → ℕ) → ℕ → ℕ → List ℕ → List ℕ
-paintedFrom f at zero image = image
-paintedFrom f at (suc n) image = set (paintedFrom f at n image) (at + n) (f n)
+-- ---- Sums of a row
 
 -- A row's sums are those of the mask frames.
 pub record Summed (v : List ℕ) (g : Geometry) (ks : List ℕ) (row : ℕ) (sums : List ℕ) : Type 0 where
   pub at : (c : ℕ) → c < g .columns → getD sums c 0 ≡ sumAt g v ks (row * g .columns + c)
 
--- The shade of cell c of a row that begins with sample `from`, by the sums of a row of n mask frames.
-unfoldable pub rowShade : List ℕ → Geometry → List ℕ → ℕ → List ℕ → ℕ → Step → ℕ → ℕ
-rowShade table g v from sums n s c =
-    getD table
-    (cellAt g v (from + c) + (2 ^ g .stored - 1) - averageOf (getD sums (stepped s (g .columns) c) 0) n)
-    0
+-- The same from place 64 on, with the first of them in the 64 places before, and the last in the 64 places after.
+pub record Spread (v : List ℕ) (g : Geometry) (ks : List ℕ) (row : ℕ) (sums : List ℕ) : Type 0 where
+  pub at : (j : ℕ) → j < g .columns + 128 → getD sums j 0 ≡ sumAt g v ks (row * g .columns + min (j - 64) (g .columns - 1))
 
--- The shade of sample i by two steps, down and to the right.
-unfoldable pub stepShade : List ℕ → Geometry → List ℕ → ℕ → List ℕ → Step → Step → ℕ → ℕ
-stepShade table g v f ks down right i =
+-- ---- Painting
+
+-- From place `at` on, n places are f 0, f 1, ..; the others are untouched.
+unfoldable pub paintedFrom : (ℕ → ℕ) → ℕ → ℕ → List ℕ → List ℕ
+paintedFrom f at zero image = image
+paintedFrom f at (suc n) image = set (paintedFrom f at n image) (at + n) (f n)
+
+-- The shade of cell c of a row that begins with sample `from`, by the spread sums of a row of n mask frames.
+unfoldable pub rowShade : List ℕ → Geometry → List ℕ → ℕ → List ℕ → ℕ → ℕ → ℕ → ℕ
+rowShade table g v from sums n s c = getD table (cellAt g v (from + c) + (2 ^ g .stored - 1) - averageOf (getD sums (c + s) 0) n) 0
+
+-- The shade of sample i by two offsets, down and to the right.
+unfoldable pub offsetShade : List ℕ → Geometry → List ℕ → ℕ → List ℕ → ℕ → ℕ → ℕ → ℕ
+offsetShade table g v f ks down right i =
     getD table
-    (sampleAt g v f i + (2 ^ g .stored - 1) - maskAt g v ks (stepped down (g .rows) (i / g .columns) * g .columns + stepped right (g .columns) (i % g .columns)))
+    (sampleAt g v f i + (2 ^ g .stored - 1) - maskAt g v ks (shifted down (g .rows) (i / g .columns) * g .columns + shifted right (g .columns) (i % g .columns)))
     0
 
 -- What a row is drawn from.
-pub record Drawn (v : List ℕ) (g : Geometry) (from at n : ℕ) (s : Step) (table sums image : List ℕ) : Type 0 where
+pub record Drawn (v : List ℕ) (g : Geometry) (from at n s : ℕ) (table sums image : List ℕ) : Type 0 where
   pub row : Row v g from
   pub some : 1 ≤ n
   pub few : n ≤ 64
-  pub ahead : s .ahead ≤ 64
+  pub most : s ≤ 128
   pub shades : 131072 ≤ length table
-  pub summed : (c : ℕ) → c < g .columns → (c < length sums) × (getD sums c 0 ≤ n * (2 ^ g .stored - 1))
+  pub summed : (j : ℕ) → j < g .columns + 128 → (j < length sums) × (getD sums j 0 ≤ n * (2 ^ g .stored - 1))
   pub room : at + g .columns ≤ length image
 
--- What the rows of a frame are painted from; `sums` is room for a row.
-pub record RowsReady (v : List ℕ) (g : Geometry) (f : ℕ) (masks : List ℕ) (down right : Step) (table sums image : List ℕ) : Type 0 where
+-- What the rows of a frame are painted from; `sums` is room for a row and its edges.
+pub record RowsReady (v : List ℕ) (g : Geometry) (f : ℕ) (masks : List ℕ) (down right : ℕ) (table sums image : List ℕ) : Type 0 where
   pub ready : Ready v g f table image
   pub taken : Masks v g masks
-  pub down-ahead : down .ahead ≤ 64
-  pub right-ahead : right .ahead ≤ 64
-  pub row : 65536 ≤ length sums
+  pub down-most : down ≤ 128
+  pub right-most : right ≤ 128
+  pub row : 65663 ≤ length sums

@@ -6,7 +6,7 @@ ghost use Rattle.value.specs.Said.{SizeBelow};
 ghost use Rattle.value.specs.Number.{usValues};
 ghost use Rattle.pixel.specs.Pixel.{samplesOf, isFrame, averageOf};
 ghost use Rattle.pixel.specs.Painted.{painted, nativeShade, maskedShade};
-ghost use Rattle.pixel.specs.Said.{Ready, Masks, MaskedReady, Small, Shaped, cellAt, Lies, Row, StepOf, stepped, paintedFrom, Summed, rowShade, stepShade, Drawn, RowsReady};
+ghost use Rattle.pixel.specs.Said.{Ready, Masks, MaskedReady, Small, Shaped, cellAt, Lies, Row, OffsetOf, shifted, Summed, Spread, paintedFrom, rowShade, offsetShade, Drawn, RowsReady};
 use dataset::u16_at;
 use dataset::wide;
 use shift::Moves;
@@ -21,14 +21,11 @@ pub struct Geometry {
     pub stored: usize,
 }
 
-// A move along a row or a column: back, then ahead.
-struct Step {
-    back: usize,
-    ahead: usize,
-}
-
 // The divisor of an average that was multiplied, 2^32.
 const SCALE: usize = 4294967296;
+
+// The largest move to either side, and so the room at either edge of a row.
+const MARGIN: usize = 64;
 
 // ---- Frames
 
@@ -93,34 +90,35 @@ fn at_most(i: usize, most: usize) -> usize
     if i <= most { i } else { most }
 }
 
-// A move down or to the right takes cells from above or from the left, that is from smaller numbers.
-fn step_of(m: Signed) -> Step
+// The offset of a move: 64 less it, since a move down or to the right takes samples from above or from the left.
+fn offset_of(m: Signed) -> usize
     requires { ⌜ SizeBelow 65 m ⌝ }
-    ensures { λ r. ⌜ StepOf m r ⌝ }
+    ensures { λ r. ⌜ OffsetOf m r ⌝ }
 {
     match m {
-        Signed::Plus(n) => Step { back: n, ahead: 0 },
-        Signed::Minus(n) => Step { back: 0, ahead: n },
-        Signed::Lacks => Step { back: 0, ahead: 0 },
+        Signed::Plus(n) => MARGIN - n,
+        Signed::Minus(n) => MARGIN + n,
+        Signed::Lacks => MARGIN,
     }
 }
 
-// Where the step from i comes to, of `size` rows or columns.
-fn moved(s: Step, size: usize, i: usize) -> usize
-    requires { ⌜ (i < size) × ((size ≤ 65535) × (s .ahead ≤ 64)) ⌝ }
-    ensures { λ r. ⌜ (r ≡ stepped s size i) × (r < size) ⌝ }
+// Where place i comes to by an offset, of `size` places.
+fn moved(s: usize, size: usize, i: usize) -> usize
+    requires { ⌜ (i < size) × ((size ≤ 65535) × (s ≤ 128)) ⌝ }
+    ensures { λ r. ⌜ (r ≡ shifted s size i) × (r < size) ⌝ }
 {
-    at_most(less(i, s.back) + s.ahead, size - 1)
+    at_most(less(i + s, MARGIN), size - 1)
 }
 
-// ---- Masks
+// ---- Sums of a row
 
-fn clear(columns: usize, sums: &mut [u32])
-    requires { ⌜ columns ≤ length (now sums) ⌝ }
-    ensures { λ _. ⌜ now (sums .exit) ≡ painted (λ _. 0) columns (now (sums .entry)) ⌝ }
+// Sets `count` sums from place `at` on.
+fn fill(at: usize, count: usize, value: u32, sums: &mut [u32])
+    requires { ⌜ at + count ≤ length (now sums) ⌝ }
+    ensures { λ _. ⌜ now (sums .exit) ≡ paintedFrom (λ _. value) at count (now (sums .entry)) ⌝ }
 {
-    for c in 0..columns {
-        sums[c] = 0;
+    for k in 0..count {
+        sums[at + k] = value;
     }
 }
 
@@ -144,13 +142,37 @@ fn sum_row(pixels: &[u8], g: Geometry, masks: &[u8], row: usize, sums: &mut [u32
     let columns = g.columns;
     let n = g.rows * columns;
     let at = row * columns;
-    clear(columns, sums);
+    fill(0, columns, 0, sums);
     let mut k = masks.len() / 2;
     while 0 < k {
         k -= 1;
         add_row(pixels, g, (us_value(masks, k) - 1) * n + at, sums);
     }
 }
+
+// Puts the first sum before the row, and the last one behind it, so that no edge is met in drawing.
+fn spread(columns: usize, sums: &mut [u32])
+    requires { ⌜ (1 ≤ columns) × (columns + 128 ≤ length (now sums)) ⌝ }
+    ensures { λ _. ⌜ ((j : ℕ) → j < columns + 128 → getD (now (sums .exit)) j 0 ≡ getD (now (sums .entry)) (64 + min (j - 64) (columns - 1)) 0) ⌝ }
+{
+    let first = sums[MARGIN];
+    let end = MARGIN + columns;
+    let last = sums[end - 1];
+    fill(0, MARGIN, first, sums);
+    fill(end, MARGIN, last, sums);
+}
+
+// The sums of the mask frames' samples in a row, with its edges.
+fn mask_row(pixels: &[u8], g: Geometry, masks: &[u8], row: usize, sums: &mut [u32])
+    requires { ⌜ Shaped g × (Masks (now pixels) g (now masks) × ((row < g .rows) × (g .columns + 128 ≤ length (now sums)))) ⌝ }
+    ensures { λ _. ⌜ Spread (now (pixels .entry)) g (usValues (now (masks .entry))) row (now (sums .exit)) ⌝ }
+{
+    let margin = MARGIN;
+    sum_row(pixels, g, masks, row, &mut sums[margin..]);
+    spread(g.columns, sums);
+}
+
+// ---- Masked frames
 
 // floor((2 sum + n) / 2n), by a multiplication.
 fn average(sum: usize, n: usize, factor: usize) -> usize
@@ -166,14 +188,14 @@ fn wider(x: u32) -> usize
     x as usize
 }
 
-// Draws a row of a frame from the sums of a row of n mask frames.
+// Draws a row of a frame from the sums of a row of n mask frames and the offset to the right.
 fn draw_row(
     pixels: &[u8],
     g: Geometry,
     from: usize,
     at: usize,
     n: usize,
-    s: Step,
+    s: usize,
     table: &[u8],
     sums: &[u32],
     image: &mut [u8],
@@ -185,26 +207,25 @@ fn draw_row(
     let low = power(g.stored) - 1;
     let factor = SCALE / (2 * n) + 1;
     for c in 0..columns {
-        let j = moved(s, columns, c);
-        let mask = average(wider(sums[j]), n, factor);
+        let mask = average(wider(sums[c + s]), n, factor);
         image[at + c] = table[sample(pixels, g, low, from + c) + low - mask];
     }
 }
 
-// Paints the rows of a frame with their masks; `sums` is room for one row.
+// Paints the rows of a frame with their masks, by two offsets; `sums` is room for one row and its edges.
 fn paint_rows(
     pixels: &[u8],
     g: Geometry,
     frame: usize,
     masks: &[u8],
-    down: Step,
-    right: Step,
+    down: usize,
+    right: usize,
     table: &[u8],
     sums: &mut [u32],
     image: &mut [u8],
 )
     requires { ⌜ RowsReady (now pixels) g frame (now masks) down right (now table) (now sums) (now image) ⌝ }
-    ensures { λ _. ⌜ now (image .exit) ≡ painted (stepShade (now (table .entry)) g (now (pixels .entry)) frame (usValues (now (masks .entry))) down right) (samplesOf g) (now (image .entry)) ⌝ }
+    ensures { λ _. ⌜ now (image .exit) ≡ painted (offsetShade (now (table .entry)) g (now (pixels .entry)) frame (usValues (now (masks .entry))) down right) (samplesOf g) (now (image .entry)) ⌝ }
 {
     let rows = g.rows;
     let columns = g.columns;
@@ -212,7 +233,7 @@ fn paint_rows(
     let n = masks.len() / 2;
     for r in 0..rows {
         let at = r * columns;
-        sum_row(pixels, g, masks, moved(down, rows, r), sums);
+        mask_row(pixels, g, masks, moved(down, rows, r), sums);
         draw_row(pixels, g, first + at, at, n, right, table, sums, image);
     }
 }
@@ -232,9 +253,9 @@ pub fn paint_masked(
 {
     let vertical = moves.vertical;
     let horizontal = moves.horizontal;
-    let down = step_of(vertical);
-    let right = step_of(horizontal);
-    let mut sums: [u32; 65536] = [0; 65536];
+    let down = offset_of(vertical);
+    let right = offset_of(horizontal);
+    let mut sums: [u32; 65664] = [0; 65664];
     paint_rows(
         pixels,
         g,

@@ -23,7 +23,7 @@ abbrev μ-loop : tie.MeasureT-loop
 
 power-requires : tie.Need-power-requires Inv-loop μ-loop
 power-requires c κs =
-    c .before .before .pre .0 .shape .high
+    c .before .before .pre .0 .shape .stored-most
 
 sub-low : tie.Need-sub-low Inv-loop μ-loop
 sub-low c =
@@ -48,7 +48,7 @@ sample-requires c κs =
 
 cast-sums : tie.Need-cast-sums Inv-loop μ-loop
 cast-sums c =
-    omega (arith, c .sample .ensures .1, power-most (c .before .before .before .before .before .before .args .g .stored) (c .before .before .before .before .before .before .pre .0 .shape .high), c .before .before .before .power .ensures)
+    omega (arith, c .sample .ensures .1, power-most (c .before .before .before .before .before .before .args .g .stored) (c .before .before .before .before .before .before .pre .0 .shape .stored-most), c .before .before .before .power .ensures)
 
 mul-sums : tie.Need-mul-sums Inv-loop μ-loop
 mul-sums c =
@@ -60,7 +60,7 @@ slice-read-sums c =
 
 add-sums : tie.Need-add-sums Inv-loop μ-loop
 add-sums c =
-    omega (arith, ap (λ (s : List ℕ). getD s (c .before .before .before .loop .c) 0) (c .before .before .before .loop .inv .1) ∙ painted-beyond _ _ _ _ (omega arith), c .before .before .before .before .before .before .before .pre .1 (c .before .before .before .loop .c) (c .before .before .loop-test .taken) .1, c .before .sample .ensures .1, power-most (c .before .before .before .before .before .before .before .args .g .stored) (c .before .before .before .before .before .before .before .pre .0 .shape .high), c .before .before .before .before .power .ensures)
+    omega (arith, ap (λ (s : List ℕ). getD s (c .before .before .before .loop .c) 0) (c .before .before .before .loop .inv .1) ∙ painted-beyond _ _ _ _ (omega arith), c .before .before .before .before .before .before .before .pre .1 (c .before .before .before .loop .c) (c .before .before .loop-test .taken) .1, c .before .sample .ensures .1, power-most (c .before .before .before .before .before .before .before .args .g .stored) (c .before .before .before .before .before .before .before .pre .0 .shape .stored-most), c .before .before .before .before .power .ensures)
 
 slice-write-sums : tie.Need-slice-write-sums Inv-loop μ-loop
 slice-write-sums c =

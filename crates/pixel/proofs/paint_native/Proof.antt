@@ -25,7 +25,7 @@ mul-n c =
 
 sub-from : tie.Need-sub-from Inv-loop μ-loop
 sub-from c =
-    frame-facts _ _ _ (c .before .before .before .before .pre .inside) .0
+    omega (arith, frame-facts _ _ _ (c .before .before .before .before .pre .inside) .0)
 
 mul-from : tie.Need-mul-from Inv-loop μ-loop
 mul-from c =
@@ -33,7 +33,7 @@ mul-from c =
 
 power-requires : tie.Need-power-requires Inv-loop μ-loop
 power-requires c κs =
-    c .before .before .before .before .pre .shape .high
+    c .before .before .before .before .pre .shape .stored-most
 
 sub-low : tie.Need-sub-low Inv-loop μ-loop
 sub-low c =
@@ -41,15 +41,15 @@ sub-low c =
 
 sub-power : tie.Need-sub-power Inv-loop μ-loop
 sub-power c =
-    c .before .before .before .before .before .before .pre .shape .low
+    c .before .before .before .before .before .before .pre .shape .stored-some
 
 power-requires-2 : tie.Need-power-requires-2 Inv-loop μ-loop
 power-requires-2 c κs =
-    omega (arith, c .before .before .before .before .before .before .pre .shape .high)
+    omega (arith, c .before .before .before .before .before .before .pre .shape .stored-most)
 
 sub-middle : tie.Need-sub-middle Inv-loop μ-loop
 sub-middle c =
-    omega (arith, c .before .before .power .ensures, c .power2 .ensures, half-low (c .before .before .before .before .before .before .before .args .g .stored) (c .before .before .before .before .before .before .before .pre .shape .low))
+    omega (arith, c .before .before .power .ensures, c .power2 .ensures, half-low (c .before .before .before .before .before .before .before .args .g .stored) (c .before .before .before .before .before .before .before .pre .shape .stored-some))
 
 loop-holds : tie.Need-loop-holds Inv-loop μ-loop
 unfolding painted
@@ -70,11 +70,11 @@ sample-requires c κs =
 
 add-image : tie.Need-add-image Inv-loop μ-loop
 add-image c =
-    omega (arith, c .sample .ensures .1, power-most (c .before .before .before .before .before .before .before .before .before .before .args .g .stored) (c .before .before .before .before .before .before .before .before .before .before .pre .shape .high), c .before .before .before .before .before .power .ensures)
+    omega (arith, c .sample .ensures .1, power-most (c .before .before .before .before .before .before .before .before .before .before .args .g .stored) (c .before .before .before .before .before .before .before .before .before .before .pre .shape .stored-most), c .before .before .before .before .before .power .ensures)
 
 shared-slice-read-image : tie.Need-shared-slice-read-image Inv-loop μ-loop
 shared-slice-read-image c =
-    omega (arith, c .before .sample .ensures .1, power-most (c .before .before .before .before .before .before .before .before .before .before .before .args .g .stored) (c .before .before .before .before .before .before .before .before .before .before .before .pre .shape .high), c .before .before .before .before .before .before .power .ensures, c .before .before .before .before .before .before .before .before .before .before .before .pre .shades)
+    omega (arith, c .before .sample .ensures .1, power-most (c .before .before .before .before .before .before .before .before .before .before .before .args .g .stored) (c .before .before .before .before .before .before .before .before .before .before .before .pre .shape .stored-most), c .before .before .before .before .before .before .power .ensures, c .before .before .before .before .before .before .before .before .before .before .before .pre .shades)
 
 slice-write-image : tie.Need-slice-write-image Inv-loop μ-loop
 slice-write-image c =

@@ -7,14 +7,14 @@ use lib.ListN.{length}
 use Rattle.value.specs.Number.{usValues}
 use Rattle.value.proofs.Laws.{usValues-length}
 use Rattle.pixel.specs.Painted.{painted}
-use Rattle.pixel.specs.Said.{stepShade}
-use Rattle.pixel.proofs.Laws.{full, cells-fit, frame-facts, frame-row, native-run, row-end, summed-row, painted-none, painted-length, row-painted}
+use Rattle.pixel.specs.Said.{offsetShade}
+use Rattle.pixel.proofs.Laws.{full, cells-fit, frame-facts, frame-row, native-run, row-end, spread-most, painted-none, painted-length, row-painted}
 use Rattle.pixel.proofs.paint_rows.Statement.{statement}
 use Rattle.pixel.proofs.paint_rows.Tie as tie
 
 abbrev Inv-loop : tie.InvT-loop
 Inv-loop pixels g frame masks down right table sums₀ image₀ rows columns first n r₀ sums image r =
-    (r ≤ g .rows) × ((length sums ≡ length sums₀) × (image ≡ painted (stepShade table g pixels frame (usValues masks) down right) (r * g .columns) image₀))
+    (r ≤ g .rows) × ((length sums ≡ length sums₀) × (image ≡ painted (offsetShade table g pixels frame (usValues masks) down right) (r * g .columns) image₀))
 
 abbrev μ-loop : tie.MeasureT-loop
 μ-loop pixels g frame masks down right table sums₀ image₀ rows columns first n r₀ sums image r =
@@ -22,11 +22,11 @@ abbrev μ-loop : tie.MeasureT-loop
 
 sub-first : tie.Need-sub-first Inv-loop μ-loop
 sub-first c =
-    frame-facts (c .before .before .before .before .before .args .g) (c .before .before .before .before .before .args .pixels .now) (c .before .before .before .before .before .args .frame) (c .before .before .before .before .before .pre .ready .inside) .0
+    omega (arith, frame-facts (c .before .before .before .before .before .args .g) (c .before .before .before .before .before .args .pixels .now) (c .before .before .before .before .before .args .frame) (c .before .before .before .before .before .pre .ready .inside) .0)
 
 mul-first : tie.Need-mul-first Inv-loop μ-loop
 mul-first c =
-    omega (arith, cells-fit 0 (c .before .before .before .before .before .args .g .rows) (c .before .before .before .before .before .args .g .columns) 0 (omega arith) (c .before .before .before .before .before .pre .ready .shape .rows) (c .before .before .before .before .before .pre .ready .shape .columns) (omega arith))
+    omega (arith, cells-fit 0 (c .before .before .before .before .before .args .g .rows) (c .before .before .before .before .before .args .g .columns) 0 (omega arith) (c .before .before .before .before .before .pre .ready .shape .rows-most) (c .before .before .before .before .before .pre .ready .shape .columns-most) (omega arith))
 
 mul-first-2 : tie.Need-mul-first-2 Inv-loop μ-loop
 mul-first-2 c =
@@ -42,11 +42,11 @@ mul-at c =
 
 moved-requires : tie.Need-moved-requires Inv-loop μ-loop
 moved-requires c κs =
-    (c .loop-test .taken, (c .before .before .before .before .before .before .before .pre .ready .shape .rows, c .before .before .before .before .before .before .before .pre .down-ahead))
+    (c .loop-test .taken, (c .before .before .before .before .before .before .before .pre .ready .shape .rows-most, c .before .before .before .before .before .before .before .pre .down-most))
 
-sum-row-requires : tie.Need-sum-row-requires Inv-loop μ-loop
-sum-row-requires c κs =
-    (c .before .before .before .before .before .before .before .before .before .pre .ready .shape, (c .before .before .before .before .before .before .before .before .before .pre .taken, (c .before .moved .ensures .1, omega (arith, c .before .before .before .loop .inv .1 .0, c .before .before .before .before .before .before .before .before .before .pre .row, c .before .before .before .before .before .before .before .before .before .pre .ready .shape .columns))))
+mask-row-requires : tie.Need-mask-row-requires Inv-loop μ-loop
+mask-row-requires c κs =
+    (c .before .before .before .before .before .before .before .before .before .pre .ready .shape, (c .before .before .before .before .before .before .before .before .before .pre .taken, (c .before .moved .ensures .1, omega (arith, c .before .before .before .loop .inv .1 .0, c .before .before .before .before .before .before .before .before .before .pre .row, c .before .before .before .before .before .before .before .before .before .pre .ready .shape .columns-most))))
 
 add-draw-row : tie.Need-add-draw-row Inv-loop μ-loop
 add-draw-row c =
@@ -61,9 +61,9 @@ draw-row-requires c κs =
       };
       some = omega (arith, usValues-length (c .before .before .before .before .before .before .before .before .before .before .before .before .before .before .args .masks .now), c .before .before .before .before .before .before .before .before .before .before .before .before .before .before .pre .taken .some);
       few = omega (arith, usValues-length (c .before .before .before .before .before .before .before .before .before .before .before .before .before .before .args .masks .now), c .before .before .before .before .before .before .before .before .before .before .before .before .before .before .pre .taken .few);
-      ahead = c .before .before .before .before .before .before .before .before .before .before .before .before .before .before .pre .right-ahead;
+      most = c .before .before .before .before .before .before .before .before .before .before .before .before .before .before .pre .right-most;
       shades = c .before .before .before .before .before .before .before .before .before .before .before .before .before .before .pre .ready .shades;
-      summed = λ c' l. (omega (arith, c .before .before .before .sums .given, c .before .before .before .before .before .before .before .before .loop .inv .1 .0, c .before .before .before .before .before .before .before .before .before .before .before .before .before .before .pre .row, c .before .before .before .before .before .before .before .before .before .before .before .before .before .before .pre .ready .shape .columns), summed-row (c .before .before .before .before .before .before .before .before .before .before .before .before .before .before .args .pixels .now) (c .before .before .before .before .before .before .before .before .before .before .before .before .before .before .args .g) (usValues (c .before .before .before .before .before .before .before .before .before .before .before .before .before .before .args .masks .now)) (c .before .before .before .before .before .before .moved .result) _ _ (sym (usValues-length (c .before .before .before .before .before .before .before .before .before .before .before .before .before .before .args .masks .now))) (c .before .before .before .before .sum-row .ensures) c' l);
+      summed = λ c' l. (omega (arith, c .before .before .before .sums .given, c .before .before .before .before .before .before .before .before .loop .inv .1 .0, c .before .before .before .before .before .before .before .before .before .before .before .before .before .before .pre .row, c .before .before .before .before .before .before .before .before .before .before .before .before .before .before .pre .ready .shape .columns-most), spread-most (c .before .before .before .before .before .before .before .before .before .before .before .before .before .before .args .pixels .now) (c .before .before .before .before .before .before .before .before .before .before .before .before .before .before .args .g) (usValues (c .before .before .before .before .before .before .before .before .before .before .before .before .before .before .args .masks .now)) (c .before .before .before .before .before .before .moved .result) _ _ (sym (usValues-length (c .before .before .before .before .before .before .before .before .before .before .before .before .before .before .args .masks .now))) (c .before .before .before .before .mask-row .ensures) c' l);
       room = omega (arith, row-end (c .before .before .before .before .before .before .before .before .before .before .before .before .before .before .args .g) (c .before .before .before .before .before .before .before .before .loop .r) (c .before .before .before .before .before .before .before .loop-test .taken), c .before .before .before .before .before .before .before .before .before .before .before .before .before .before .pre .ready .room, ap length (c .before .before .before .before .before .before .before .before .loop .inv .1 .1) ∙ painted-length _ _ _);
     }
 
@@ -80,7 +80,7 @@ loop-again c = (
   omega (arith, c .before .before .before .before .before .before .before .before .before .before .loop-test .taken),
   (
     c .before .before .before .before .before .before .sums .given ∙ c .before .before .before .before .before .before .before .before .before .before .before .loop .inv .1 .0,
-    rw (c .before .before .draw-row .ensures, c .before .before .before .before .before .before .before .before .before .before .before .loop .inv .1 .1) (row-painted (c .before .before .before .before .before .before .before .before .before .before .before .before .before .before .before .before .before .args .table .now) (c .before .before .before .before .before .before .before .before .before .before .before .before .before .before .before .before .before .args .pixels .now) (c .before .before .before .before .before .before .before .before .before .before .before .before .before .before .before .before .before .args .g) (c .before .before .before .before .before .before .before .before .before .before .before .before .before .before .before .before .before .args .frame) (usValues (c .before .before .before .before .before .before .before .before .before .before .before .before .before .before .before .before .before .args .masks .now)) _ (c .before .before .before .before .before .before .before .before .before .before .before .before .before .before .before .before .before .args .image .now) (c .before .before .before .before .before .before .before .before .before .before .before .before .before .before .before .before .before .args .down) (c .before .before .before .before .before .before .before .before .before .before .before .before .before .before .before .before .before .args .right) (c .before .before .before .before .before .before .before .before .before .before .before .loop .r) _ (c .before .before .before .before .before .before .before .before .before .before .loop-test .taken) (sym (usValues-length (c .before .before .before .before .before .before .before .before .before .before .before .before .before .before .before .before .before .args .masks .now))) (rw (← c .before .before .before .before .before .before .before .before .before .moved .ensures .0) (c .before .before .before .before .before .before .before .sum-row .ensures))),
+    rw (c .before .before .draw-row .ensures, c .before .before .before .before .before .before .before .before .before .before .before .loop .inv .1 .1) (row-painted (c .before .before .before .before .before .before .before .before .before .before .before .before .before .before .before .before .before .args .table .now) (c .before .before .before .before .before .before .before .before .before .before .before .before .before .before .before .before .before .args .pixels .now) (c .before .before .before .before .before .before .before .before .before .before .before .before .before .before .before .before .before .args .g) (c .before .before .before .before .before .before .before .before .before .before .before .before .before .before .before .before .before .args .frame) (usValues (c .before .before .before .before .before .before .before .before .before .before .before .before .before .before .before .before .before .args .masks .now)) _ (c .before .before .before .before .before .before .before .before .before .before .before .before .before .before .before .before .before .args .image .now) (c .before .before .before .before .before .before .before .before .before .before .before .before .before .before .before .before .before .args .down) (c .before .before .before .before .before .before .before .before .before .before .before .before .before .before .before .before .before .args .right) (c .before .before .before .before .before .before .before .before .before .before .before .loop .r) _ (c .before .before .before .before .before .before .before .before .before .before .before .before .before .before .before .before .before .pre .right-most) (sym (usValues-length (c .before .before .before .before .before .before .before .before .before .before .before .before .before .before .before .before .before .args .masks .now))) (rw (← c .before .before .before .before .before .before .before .before .before .moved .ensures .0) (c .before .before .before .before .before .before .before .mask-row .ensures))),
   ),
 )
 
@@ -108,7 +108,7 @@ paint-rows-spec =
     loop-holds
     mul-at
     moved-requires
-    sum-row-requires
+    mask-row-requires
     add-draw-row
     draw-row-requires
     add-r

@@ -1,26 +1,30 @@
--- Invariant: the first c sums are 0, the others are untouched.
+-- Invariant: k sums from the place on have the value, the others are untouched.
 use mathlib.Core.Path.{_≡_, refl, ap, _∙_}
 use Prim.Native.Nat.{_-_, _≤_}
 use native.Mathlib.Omega.{arith}
 use borrow.Author.Needs.{needs}
 use lib.ListN.{length}
-use Rattle.pixel.specs.Painted.{painted}
-use Rattle.pixel.proofs.Laws.{full, painted-more, painted-length}
-use Rattle.pixel.proofs.clear.Statement.{statement}
-use Rattle.pixel.proofs.clear.Tie as tie
+use Rattle.pixel.specs.Said.{paintedFrom}
+use Rattle.pixel.proofs.Laws.{full, from-more, from-length}
+use Rattle.pixel.proofs.fill.Statement.{statement}
+use Rattle.pixel.proofs.fill.Tie as tie
 
 abbrev Inv-loop : tie.InvT-loop
-Inv-loop columns sums₀ c₀ sums c =
-    (c ≤ columns) × (sums ≡ painted (λ _. 0) c sums₀)
+Inv-loop at count value sums₀ k₀ sums k =
+    (k ≤ count) × (sums ≡ paintedFrom (λ _. value) at k sums₀)
 
 abbrev μ-loop : tie.MeasureT-loop
-μ-loop columns sums₀ c₀ sums c =
-    columns - c
+μ-loop at count value sums₀ k₀ sums k =
+    count - k
 
 loop-holds : tie.Need-loop-holds Inv-loop μ-loop
-unfolding painted
+unfolding paintedFrom
 loop-holds c =
     (omega arith, refl)
+
+add-sums : tie.Need-add-sums Inv-loop μ-loop
+add-sums c =
+    omega (arith, c .before .before .pre)
 
 mul-sums : tie.Need-mul-sums Inv-loop μ-loop
 mul-sums c =
@@ -28,10 +32,10 @@ mul-sums c =
 
 slice-write-sums : tie.Need-slice-write-sums Inv-loop μ-loop
 slice-write-sums c =
-    omega (arith, ap length (c .before .loop .inv .1) ∙ painted-length _ _ _)
+    omega (arith, ap length (c .before .loop .inv .1) ∙ from-length _ _ _ _)
 
-add-c : tie.Need-add-c Inv-loop μ-loop
-add-c c =
+add-k : tie.Need-add-k Inv-loop μ-loop
+add-k c =
     omega arith
 
 loop-less : tie.Need-loop-less Inv-loop μ-loop
@@ -40,26 +44,27 @@ loop-less c =
 
 loop-again : tie.Need-loop-again Inv-loop μ-loop
 loop-again c =
-    (omega arith, rw (c .before .loop .inv .1) (painted-more _ _ _))
+    (omega arith, rw (c .before .loop .inv .1) (from-more _ _ _ _))
 
 same-length : tie.Need-same-length Inv-loop μ-loop
 same-length c =
-    ap length (c .before .loop .inv .1) ∙ painted-length _ _ _
+    ap length (c .before .loop .inv .1) ∙ from-length _ _ _ _
 
 returns : tie.Need-returns Inv-loop μ-loop
 returns c =
     rw (full (c .before .loop .inv .0) (c .loop-test .left)) at (c .before .loop .inv .1)
 
-pub clear-spec : {M : Type 1} → statement M
-clear-spec =
+pub fill-spec : {M : Type 1} → statement M
+fill-spec =
     tie.close
     (tie.spec
     Inv-loop
     μ-loop
     loop-holds
+    add-sums
     mul-sums
     slice-write-sums
-    add-c
+    add-k
     loop-less
     loop-again
     same-length
