@@ -64,3 +64,10 @@ gives-same n o p e g = subst (Gives n) e g
 -- A step that lacks something gives no mask.
 pub gives-none : (n : ℕ) (o : Option Mask) → o ≡ none → Gives n o → ⊥
 gives-none n o e g = never (sym e ∙ g .mask)
+
+-- Where the steps give a mask, the search for a mask item lacks nothing.
+pub applying-some : (ns : List Node) (f n : ℕ) → applyingTo ns f ≡ none → Gives n (maskFor ns f) → ⊥
+unfolding maskFor
+applying-some ns f n e g =
+    let u : maskFor ns f ≡ none = rw e in
+    never (sym u ∙ g .mask)

@@ -1,3 +1,10 @@
+use mathlib.Core.Path.{_≡_, refl, sym, ap, _∙_, subst}
+use Rattle.display.proofs.Plan as plan
+use Rattle.steps.proofs.Laws as steps-laws
+use Rattle.node.specs.Nodes.{nodesOf}
+use lib.ListN.{length}
+use Rattle.steps.specs.declared.Applies.{Applies}
+use Rattle.steps.specs.Said.{appliesOf, AppliesBelow}
 use borrow.Author.Needs.{needs}
 use Rattle.display.proofs.applying.Statement.{statement}
 use Rattle.display.proofs.applying.Tie as tie
@@ -23,15 +30,18 @@ enum-told-2 c = search needs
 
 -- src/lib.rt:116:1
 returns : tie.Need-returns
-returns c = ?
+returns c =
+    (steps-laws.said appliesOf (c .before .j .given .1) (c .before .before .before .applying-to .ensures .0), subst (λ (x : Applies). AppliesBelow (length (nodesOf (c .before .before .before .before .before .before .args .bytes .now))) x) (c .before .j .given .1) (c .before .before .before .applying-to .ensures .1))
 
 -- src/lib.rt:116:1
 returns-2 : tie.Need-returns-2
-returns-2 c = ?
+returns-2 c =
+    (steps-laws.said appliesOf (c .enum-told .given .1) (c .before .before .applying-to .ensures .0), tt)
 
 -- src/lib.rt:116:1
 returns-3 : tie.Need-returns-3
-returns-3 c = ?
+returns-3 c =
+    absurd (plan.applying-some (nodesOf (c .before .before .before .before .before .args .bytes .now)) (c .before .before .before .before .before .args .frame) (c .before .before .before .before .before .args .n) (steps-laws.said appliesOf (c .enum-told2 .given .1) (c .before .before .applying-to .ensures .0)) (c .before .before .before .before .before .pre .1))
 
 pub applying-spec : {M : Type 1} → statement M
 applying-spec =
