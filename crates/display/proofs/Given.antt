@@ -1,0 +1,26 @@
+-- A computation that can lack something and gave something: each step of it gave something.
+use mathlib.Core.Path.{_≡_, refl}
+use mathlib.Core.Bool.{Bool, true, false}
+use mathlib.Core.Option.{Option, none, some}
+use Prim.Native.Nat.{ℕ}
+use native.Mathlib.Omega.{arith}
+use Rattle.value.specs.declared.Num.{Num}
+use Rattle.value.specs.declared.Num.the-variants.{Is, Lacks}
+use Rattle.steps.specs.Given.{need, check, then}
+
+module _ {A : Type 0} where
+  pub never : {a : A} → none ≡ some a → ⊥
+  never e = let z : _≡_ {A = ℕ} 0 1 = cc in omega arith
+
+  pub check-some : (t : Bool) (o : Option A) {a : A} → check t o ≡ some a → (t ≡ true) × (o ≡ some a)
+  check-some true o e = (refl, e)
+  check-some false o e = absurd (never e)
+
+  pub need-some : (o : Num) (go : ℕ → Option A) {a : A} → need o go ≡ some a → (n : ℕ) × ((o ≡ Is n) × (go n ≡ some a))
+  need-some (Is n) go e = (n, (refl, e))
+  need-some Lacks go e = absurd (never e)
+
+  module _ {B : Type 0} where
+    pub then-some : (o : Option B) (go : B → Option A) {a : A} → then o go ≡ some a → (b : B) × ((o ≡ some b) × (go b ≡ some a))
+    then-some (some b) go e = (b, (refl, e))
+    then-some none go e = absurd (never e)

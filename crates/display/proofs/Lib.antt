@@ -1,0 +1,9 @@
+-- What the proofs of the drawing use; demand 3 stands in Demand3.
+pub mod Given
+pub mod Accepted
+pub mod Objects
+pub mod Masks
+pub mod Demand3
+pub mod Pictures
+pub mod Small
+pub mod Plan

@@ -1,0 +1,447 @@
+-- Every frame of an accepted object has a mask: each of rules 31 to 37 says of an element just what the step that reads it
+-- needs, so that no read of steps 2 to 4 lacks its answer.
+use mathlib.Core.Path.{_≡_, refl, sym, _∙_, ap, subst}
+use mathlib.Core.Bool.{Bool, true, false, cond, not, _&&_, _||_}
+use mathlib.Core.List.{List, [], _∷_}
+use mathlib.Core.Option.{Option, none, some}
+use Prim.Native.Nat.{ℕ, zero, suc, _+_, _-_, _%_, _≤_, _<_}
+use package.native.Mathlib.Omega.{arith}
+use lib.ListN.{length, drop}
+use lib.Dec.{eqb, leb}
+use borrow.Author.Tests.{eq-eqb, eqb-true, leb-true}
+use Rattle.dataset.specs.Vr.{SQ}
+use Rattle.value.specs.declared.Num.{Num}
+use Rattle.value.specs.declared.Num.the-variants.{Is, Lacks}
+use Rattle.value.specs.declared.Signed.{Signed}
+use Rattle.value.specs.declared.Signed.the-variants as signed
+use Rattle.value.specs.Text.{ascii}
+use Rattle.value.specs.Number.{usValues, ssOf, isNumber}
+use Rattle.value.specs.Said.{SizeBelow}
+use Rattle.shift.specs.declared.Shift.{Shift}
+use Rattle.shift.specs.declared.Shift.the-variants as shift
+use Rattle.shift.specs.declared.Moves.{Moves}
+use Rattle.shift.specs.Shift.{largestShift, isShort, itemShift, frameShift, movesOf, isShiftOf, isShift}
+use Rattle.shift.proofs.Laws.{moves-both, shift-length, item-is, frame-is}
+use Rattle.verdict.specs.Verdict.{perFrame}
+use Rattle.verdict.proofs.Tests.{false-is-true, and-both}
+use Rattle.node.specs.Nodes.{Node, nodeAt, nextNode, root, inside}
+use Rattle.node.specs.Find.{holds, ifPresent, andThen, orElse, find, findVr, ofVr, filled}
+use Rattle.node.proofs.Walks.{members-end}
+use Rattle.element.specs.Tags
+use Rattle.element.specs.Tags.{US, FL}
+use Rattle.element.specs.Elements as elements
+use Rattle.element.specs.Elements.{valueAt, first, insideOf, itemsIn, every}
+use Rattle.element.specs.Frames.{framesOf, frameItems, frameItem, sharedItem, groupOf, maskItems}
+use Rattle.rules.specs.Frame.{idIn, hasId, uniqueIds, isShiftItem, isShiftGroup, item37, rule37}
+use Rattle.rules.specs.Mask.{operationIs, isOperation, isMask, rule31, isRange, rangeFits, rule32, allFrames, areMaskFrames, averageFits, averagesFit, rule33, isOffset, offsetFits, rule34, isShiftAt, shiftFits, rule35, hasShiftGroup, anyShift, masksHaveIds, rule36}
+use Rattle.rules.specs.All.{ruleList, ruleAt}
+use Rattle.conformance.specs.declared.Finding.the-variants.{Accepted}
+use Rattle.conformance.specs.Judging.{firstFrame, frameCount, findingOf}
+use Rattle.conformance.proofs.First.{accepted-holds}
+use Rattle.steps.specs.declared.Applying.{Applying}
+use Rattle.steps.specs.declared.Applying.the-variants.{Item, Nothing}
+use Rattle.steps.specs.Given.{need, check, then}
+use Rattle.steps.specs.Steps.{orShared, groupFor, inPairs, rangeHas, rangeHolds, firstHolding, onMask, applyingTo, averageFrames, offsetAt, offsetOf, less, tidFrame, naming, ownIn, itemAt, shiftFrom, shiftFor, movesFor, Mask, native, masked, onTid, maskBy, maskOn, maskFor}
+use Rattle.display.proofs.Accepted.{AllWithin, Sound, Masking}
+
+-- ---- What a test that holds says
+
+had : (o : Num) (p : ℕ → Bool) → holds o p ≡ true → (n : ℕ) × ((o ≡ Is n) × (p n ≡ true))
+had Lacks p e = absurd (false-is-true e)
+had (Is n) p e = (n, (refl, e))
+
+held : (o : Num) (p : ℕ → Bool) (n : ℕ) → o ≡ Is n → holds o p ≡ true → p n ≡ true
+held o p n q e = subst (λ (x : Num). holds x p ≡ true) q e
+
+both-true : (a b : Bool) → a ≡ true → b ≡ true → (a && b) ≡ true
+both-true true true p q = refl
+both-true true false p q = q
+both-true false b p q = p
+
+true-either : (a b : Bool) → a ≡ true → (a || b) ≡ true
+true-either true b e = refl
+true-either false b e = absurd (false-is-true e)
+
+true-or : (a b : Bool) → b ≡ true → (a || b) ≡ true
+true-or true b e = refl
+true-or false b e = e
+
+where-true : (t a : Bool) → t ≡ true → cond t a true ≡ true → a ≡ true
+where-true true a p e = e
+where-true false a p e = absurd (false-is-true p)
+
+checked : {A : Type 0} (t : Bool) (x : Option A) → t ≡ true → check t x ≡ x
+checked true x e = refl
+checked false x e = absurd (false-is-true e)
+
+-- ---- Members
+
+data Among (j : ℕ) : List ℕ → Type 0 where
+  here : {l : List ℕ} → Among j (j ∷ l)
+  there : {k : ℕ} {l : List ℕ} → Among j l → Among j (k ∷ l)
+
+every-at : (p : ℕ → Bool) {j : ℕ} {l : List ℕ} → Among j l → every p l ≡ true → p j ≡ true
+unfolding every
+every-at p {j} (here) e = and-both (p j) _ e .0
+every-at p (there {k} m) e = every-at p m (and-both (p k) _ e .1)
+
+some-at : (p : ℕ → Bool) {j : ℕ} {l : List ℕ} → Among j l → p j ≡ true → elements.some p l ≡ true
+unfolding elements.some
+some-at p {j} (here) e = true-either (p j) _ e
+some-at p (there {k} m) e = true-or (p k) _ (some-at p m e)
+
+first-among : (k i : ℕ) (l : List ℕ) → first (drop k l) ≡ Is i → Among i l
+first-among zero i [] e = let z : _≡_ {A = ℕ} 0 1 = cc in absurd (omega arith)
+first-among zero i (x ∷ l) e =
+    let q : x ≡ i = cc in
+    subst (λ (y : ℕ). Among i (y ∷ l)) (sym q) here
+first-among (suc k) i [] e = let z : _≡_ {A = ℕ} 0 1 = cc in absurd (omega arith)
+first-among (suc k) i (x ∷ l) e = there (first-among k i l e)
+
+of-vr : (ns : List Node) (vr i : ℕ) → eqb (nodeAt ns i .vr) vr ≡ true → ofVr ns vr i ≡ Is i
+unfolding ofVr
+of-vr ns vr i e = rw e
+
+-- ---- Step 2: a range that fits is read, so that the first item that applies is found
+
+data Applies (l : List ℕ) (a : Option Applying) : Type 0 where
+  nothing : a ≡ some Nothing → Applies l a
+  item : (j : ℕ) → Among j l → a ≡ some (Item j) → Applies l a
+
+module _ (ns : List Node) (f n : ℕ) where
+  range-has : (o : Num) → ifPresent o (isRange ns n) ≡ true → (h : Bool) × (rangeHas ns f o ≡ some h)
+  unfolding isRange
+  range-has Lacks e = (true, refl)
+  range-has (Is r) e =
+      let a = and-both (eqb (nodeAt ns r .vr) US) _ e in
+      let b = and-both (leb 4 (length (valueAt ns r)) && eqb (length (valueAt ns r) % 4) 0) _ (a .1) in
+      (inPairs f (usValues (valueAt ns r)), checked _ _ (both-true _ _ (a .0) (b .0)))
+
+  range-holds : (j : ℕ) → rangeFits ns n j ≡ true → (h : Bool) × (rangeHolds ns f j ≡ some h)
+  unfolding rangeFits rangeHolds
+  range-holds j e = range-has (find ns Tags.ApplicableFrameRange (inside ns j)) e
+
+  first-next : (j : ℕ) (l : List ℕ) (h : Bool) → rangeHolds ns f j ≡ some h → Applies l (firstHolding ns f l) → Applies (j ∷ l) (firstHolding ns f (j ∷ l))
+  unfolding firstHolding
+  first-next j l true q r = item j here (rw q)
+  first-next j l false q (nothing e) = nothing (rw q e)
+  first-next j l false q (item k m e) = item k (there m) (rw q e)
+
+  first-applies : (l : List ℕ) → every (rangeFits ns n) l ≡ true → Applies l (firstHolding ns f l)
+  unfolding every firstHolding
+  first-applies [] e = nothing refl
+  first-applies (j ∷ l) e =
+      let a = and-both (rangeFits ns n j) _ e in
+      let h = range-holds j (a .0) in
+      first-next j l (h .0) (h .1) (first-applies l (a .1))
+
+  on-mask : (o : Num) → ifPresent o (isMask ns) ≡ true → every (rangeFits ns n) (insideOf ns (andThen o (ofVr ns SQ))) ≡ true
+      → Applies (insideOf ns (andThen o (ofVr ns SQ))) (onMask ns f o)
+  unfolding isMask
+  on-mask Lacks e w = nothing refl
+  on-mask (Is m) e w =
+      let v : eqb (nodeAt ns m .vr) SQ ≡ true = and-both (eqb (nodeAt ns m .vr) SQ) _ e .0 in
+      let q : ofVr ns SQ m ≡ Is m = of-vr ns SQ m v in
+      let w' : every (rangeFits ns n) (inside ns m) ≡ true = rw q at w in
+      rw (q, v) (first-applies (inside ns m) w')
+
+  applies : rule31 ns ≡ true → every (rangeFits ns n) (maskItems ns) ≡ true → Applies (maskItems ns) (applyingTo ns f)
+  unfolding rule31 maskItems itemsIn applyingTo
+  applies e w = on-mask (find ns Tags.MaskSubtractionSequence (root ns)) e w
+
+operations-in : (ns : List Node) (o : Num) → ifPresent o (isMask ns) ≡ true → every (isOperation ns) (insideOf ns (andThen o (ofVr ns SQ))) ≡ true
+unfolding isMask every
+operations-in ns Lacks e = refl
+operations-in ns (Is m) e =
+    let a = and-both (eqb (nodeAt ns m .vr) SQ) _ e in
+    let b = and-both (leb 1 (length (inside ns m)) && leb (length (inside ns m)) 16) _ (a .1) in
+    let q : ofVr ns SQ m ≡ Is m = of-vr ns SQ m (a .0) in
+    rw q (b .1)
+
+operations : (ns : List Node) → rule31 ns ≡ true → every (isOperation ns) (maskItems ns) ≡ true
+unfolding rule31 maskItems itemsIn
+operations ns e = operations-in ns (find ns Tags.MaskSubtractionSequence (root ns)) e
+
+-- ---- Step 4: two whole numbers of at most 64
+
+abbrev Shifted : Option Shift → Type 0
+Shifted o = (s : Shift) × ((o ≡ some s) × (isShiftOf s ≡ true))
+
+abbrev SoundMoves : Moves → Type 0
+SoundMoves m =
+    (isNumber (m .vertical) ≡ true) × ((isNumber (m .horizontal) ≡ true) × (SizeBelow 65 (m .vertical) × SizeBelow 65 (m .horizontal)))
+
+short-number : (w : Signed) → isShort w ≡ true → isNumber w ≡ true
+short-number (signed.Plus k) e = refl
+short-number (signed.Minus k) e = refl
+short-number signed.Lacks e = e
+
+short-size : (w : Signed) → isShort w ≡ true → SizeBelow 65 w
+short-size (signed.Plus k) e = omega (arith, leb-true k largestShift e)
+short-size (signed.Minus k) e = omega (arith, leb-true k largestShift e)
+short-size signed.Lacks e = tt
+
+moves : (ns : List Node) (f j : ℕ) → Shifted (shiftFor ns f j) → (m : Moves) × ((movesFor ns f j ≡ some m) × SoundMoves m)
+unfolding movesFor
+moves ns f j (s, (q, e)) =
+    let b = moves-both s e in
+    let v : isNumber (movesOf s .vertical) ≡ true = short-number (movesOf s .vertical) (b .0) in
+    let h : isNumber (movesOf s .horizontal) ≡ true = short-number (movesOf s .horizontal) (b .1) in
+    (movesOf s, (rw q (checked _ _ (both-true _ _ v h)), (v, (h, (short-size (movesOf s .vertical) (b .0), short-size (movesOf s .horizontal) (b .1))))))
+
+data Named (l : List ℕ) (o : Option Num) : Type 0 where
+  unnamed : o ≡ some Lacks → Named l o
+  named : (k : ℕ) → Among k l → o ≡ some (Is k) → Named l o
+
+module _ (ns : List Node) where
+  item-shift : (o : Num) → ifPresent o (isShiftAt ns) ≡ true → Shifted (itemAt ns o)
+  unfolding isShiftAt isShiftOf movesOf
+  item-shift Lacks e = (shift.None, (refl, refl))
+  item-shift (Is k) e =
+      let a = and-both (eqb (nodeAt ns k .vr) FL) _ e in (
+        itemShift (valueAt ns k),
+        (checked _ _ (both-true _ _ (a .0) (eq-eqb _ _ (shift-length (valueAt ns k) (a .1)))), item-is (valueAt ns k) (a .1)),
+      )
+
+  frame-at : (o : Num) → holds o (λ x. isShift (valueAt ns x)) ≡ true
+      → Shifted (need o (λ x. check (eqb (length (valueAt ns x)) 8) (some (frameShift (valueAt ns x)))))
+  frame-at Lacks e = absurd (false-is-true e)
+  frame-at (Is x) e = (frameShift (valueAt ns x), (checked _ _ (eq-eqb _ _ (shift-length (valueAt ns x) e)), frame-is (valueAt ns x) e))
+
+  frame-shift : (k : ℕ) → isShiftItem ns k ≡ true → (j : ℕ) → Shifted (shiftFrom ns j (Is k))
+  unfolding isShiftItem
+  frame-shift k e j = frame-at (findVr ns Tags.MaskSubPixelShift FL (inside ns k)) (and-both (hasId ns k) _ e .1)
+
+  id-had : (j : ℕ) → hasId ns j ≡ true → (x : ℕ) × (idIn ns j ≡ Is x)
+  unfolding hasId
+  id-had j e =
+      let x = had (idIn ns j) _ e in
+      (x .0, x .1 .0)
+
+  name-next : (id k : ℕ) (l : List ℕ) (x : ℕ) → idIn ns k ≡ Is x → Named l (naming ns id l) → (t : Bool) → eqb x id ≡ t → Named (k ∷ l) (naming ns id (k ∷ l))
+  unfolding naming
+  name-next id k l x q r true t = named k here (rw (q, t))
+  name-next id k l x q (unnamed e) false t = unnamed (rw (q, t) e)
+  name-next id k l x q (named i m e) false t = named i (there m) (rw (q, t) e)
+
+  names : (id : ℕ) (l : List ℕ) → every (isShiftItem ns) l ≡ true → Named l (naming ns id l)
+  unfolding every naming isShiftItem
+  names id [] e = unnamed refl
+  names id (k ∷ l) e =
+      let a = and-both (isShiftItem ns k) _ e in
+      let b = and-both (hasId ns k) _ (a .0) in
+      let x = id-had k (b .0) in
+      name-next id k l (x .0) (x .1) (names id l (a .1)) (eqb (x .0) id) refl
+
+  by-name : (j : ℕ) (l : List ℕ) (o : Option Num) → every (isShiftItem ns) l ≡ true → shiftFits ns j ≡ true → Named l o → Shifted (then o (shiftFrom ns j))
+  unfolding shiftFits
+  by-name j l o e w (unnamed q) = rw q (item-shift (find ns Tags.MaskSubPixelShift (inside ns j)) w)
+  by-name j l o e w (named k m q) = rw q (frame-shift k (every-at (isShiftItem ns) m e) j)
+
+  own-shift : (j : ℕ) (o : Num) → shiftFits ns j ≡ true → ifPresent o (isShiftGroup ns) ≡ true → ((g : ℕ) → o ≡ Is g → hasId ns j ≡ true)
+      → Shifted (then (ownIn ns j o) (shiftFrom ns j))
+  unfolding shiftFits isShiftGroup
+  own-shift j Lacks w e i = item-shift (find ns Tags.MaskSubPixelShift (inside ns j)) w
+  own-shift j (Is g) w e i =
+      let a = and-both (eqb (nodeAt ns g .vr) SQ) _ e in
+      let b = and-both (leb 1 (length (inside ns g))) _ (a .1) in
+      let c = and-both (every (isShiftItem ns) (inside ns g)) _ (b .1) in
+      let x = id-had j (i g refl) in
+      let y : need (idIn ns j) (λ id. naming ns id (inside ns g)) ≡ naming ns (x .0) (inside ns g) = rw (x .1) in
+      let q : ownIn ns j (Is g) ≡ naming ns (x .0) (inside ns g) = checked _ _ (both-true _ _ (a .0) (b .0)) ∙ y in
+      by-name j (inside ns g) (ownIn ns j (Is g)) (c .0) w (rw q (names (x .0) (inside ns g) (c .0)))
+
+  -- A group that is there and fits is filled, so that rule 36 asks every mask item for its ID.
+  group-filled : (g : ℕ) → isShiftGroup ns g ≡ true → (eqb (nodeAt ns g .vr) SQ ≡ true) × (filled ns g ≡ true)
+  unfolding isShiftGroup filled
+  group-filled g e = (a .0, rw (a .0) (go (eqb (nodeAt ns g .descendants) 0) refl))
+    where
+      a : (eqb (nodeAt ns g .vr) SQ ≡ true) × ((leb 1 (length (inside ns g)) && (every (isShiftItem ns) (inside ns g) && uniqueIds ns (inside ns g))) ≡ true)
+      a = and-both (eqb (nodeAt ns g .vr) SQ) _ e
+
+      go : (t : Bool) → eqb (nodeAt ns g .descendants) 0 ≡ t → not t ≡ true
+      go false h = refl
+      go true h =
+          let z : nodeAt ns g .descendants ≡ 0 = eqb-true _ _ h in
+          let y : inside ns g ≡ [] = members-end ns (g + 1) (nextNode ns g) (omega arith) in
+          let l : 1 ≤ length (inside ns g) = leb-true _ _ (and-both (leb 1 (length (inside ns g))) _ (a .1) .0) in
+          absurd (omega (arith, ap length y))
+
+  has-group : (s i g : ℕ) → groupOf ns Tags.FramePixelShiftSequence s i ≡ Is g → isShiftGroup ns g ≡ true → hasShiftGroup ns s i ≡ true
+  unfolding hasShiftGroup
+  has-group s i g q e =
+      let a = group-filled g e in
+      rw (q, of-vr ns SQ g (a .0)) (a .1)
+
+  shift-ids : rule36 ns ≡ true → (f s i g : ℕ) → sharedItem ns ≡ Is s → frameItem ns f ≡ Is i → groupOf ns Tags.FramePixelShiftSequence s i ≡ Is g
+      → isShiftGroup ns g ≡ true → every (hasId ns) (maskItems ns) ≡ true
+  unfolding rule36 anyShift masksHaveIds
+  shift-ids r f s i g p q h e =
+      let t : anyShift ns s ≡ true = some-at (hasShiftGroup ns s) (first-among (f - 1) i (frameItems ns) q) (has-group s i g h e) in
+      let u : cond (anyShift ns s) (masksHaveIds ns) true ≡ true = held (sharedItem ns) _ s p r in
+      and-both (every (hasId ns) (maskItems ns)) _ (where-true _ _ t u) .0
+
+  group-for : (f tag s i : ℕ) → sharedItem ns ≡ Is s → frameItem ns f ≡ Is i → groupFor ns f tag ≡ some (groupOf ns tag s i)
+  unfolding groupFor
+  group-for f tag s i p q = rw q (go (find ns tag (inside ns i)))
+    where
+      go : (o : Num) → orShared ns tag o ≡ some (orElse o (find ns tag (inside ns s)))
+      go Lacks = rw p
+      go (Is g) = refl
+
+  shift-for : (f j : ℕ) → rule36 ns ≡ true → rule37 ns f ≡ true → Among j (maskItems ns) → shiftFits ns j ≡ true → Shifted (shiftFor ns f j)
+  unfolding shiftFor rule37 item37
+  shift-for f j r e m w =
+      let s = had (sharedItem ns) _ e in
+      let i = had (frameItem ns f) _ (s .1 .1) in
+      let fits : ifPresent (groupOf ns Tags.FramePixelShiftSequence (s .0) (i .0)) (isShiftGroup ns) ≡ true = i .1 .1 in
+      rw (group-for f Tags.FramePixelShiftSequence (s .0) (i .0) (s .1 .0) (i .1 .0))
+      (own-shift j (groupOf ns Tags.FramePixelShiftSequence (s .0) (i .0)) w fits (λ g q.
+      every-at (hasId ns) m (shift-ids r f (s .0) (i .0) g (s .1 .0) (i .1 .0) q (subst (λ (x : Num). ifPresent x (isShiftGroup ns) ≡ true) q fits))))
+
+-- ---- Step 3: the mask frames
+
+within : (n : ℕ) (l : List ℕ) → allFrames n l ≡ true → AllWithin n l
+unfolding allFrames
+within n [] e = tt
+within n (k ∷ l) e =
+    let a = and-both (leb 1 k && leb k n) _ e in
+    let b = and-both (leb 1 k) (leb k n) (a .0) in
+    ((leb-true 1 k (b .0), leb-true k n (b .1)), within n l (a .1))
+
+module _ (ns : List Node) (n j : ℕ) where
+  average-at : (o : Num) → holds o (λ k. areMaskFrames n (valueAt ns k)) ≡ true
+      → (ks : List ℕ) × ((need o (λ k. check (eqb (length (valueAt ns k) % 2) 0 && leb 1 (length (usValues (valueAt ns k)))) (some (usValues (valueAt ns k)))) ≡ some ks) × ((1 ≤ length ks) × ((length ks ≤ 64) × AllWithin n ks)))
+  unfolding areMaskFrames
+  average-at Lacks e = absurd (false-is-true e)
+  average-at (Is k) e =
+      let a = and-both (eqb (length (valueAt ns k) % 2) 0) _ e in
+      let b = and-both (leb 1 (length (usValues (valueAt ns k))) && leb (length (usValues (valueAt ns k))) 64) _ (a .1) in
+      let c = and-both (leb 1 (length (usValues (valueAt ns k)))) _ (b .0) in (
+        usValues (valueAt ns k),
+        (checked _ _ (both-true _ _ (a .0) (c .0)), (leb-true _ _ (c .0), (leb-true _ _ (c .1), within n _ (b .1)))),
+      )
+
+  averages : operationIs ns (ascii "AVG_SUB") j ≡ true → averagesFit ns n j ≡ true
+      → (ks : List ℕ) × ((averageFrames ns j ≡ some ks) × ((1 ≤ length ks) × ((length ks ≤ 64) × AllWithin n ks)))
+  unfolding averagesFit averageFits averageFrames
+  averages op e =
+      let a : averageFits ns n j ≡ true = where-true (operationIs ns (ascii "AVG_SUB") j) (averageFits ns n j) op e in
+      average-at (findVr ns Tags.MaskFrameNumbers US (inside ns j))
+      (and-both (holds (findVr ns Tags.MaskFrameNumbers US (inside ns j)) (λ k. areMaskFrames n (valueAt ns k))) _ a .0)
+
+  offset-at : (o : Num) → ifPresent o (isOffset ns) ≡ true → (d : Signed) × (offsetAt ns o ≡ some d)
+  unfolding isOffset
+  offset-at Lacks e = (signed.Plus 1, refl)
+  offset-at (Is k) e = (ssOf (valueAt ns k), checked _ _ e)
+
+  offset : operationIs ns (ascii "TID") j ≡ true → offsetFits ns j ≡ true → (d : Signed) × (offsetOf ns j ≡ some d)
+  unfolding offsetFits offsetOf
+  offset op e = offset-at (find ns Tags.TIDOffset (inside ns j)) (where-true (operationIs ns (ascii "TID") j) _ op e)
+
+-- ---- Steps 2 to 4 together
+
+abbrev Masks : ℕ → Option Mask → Type 0
+Masks n o = (m : Mask) × ((o ≡ some m) × Sound n m)
+
+module _ (ns : List Node) (f n j : ℕ) (m : Moves) (moved : movesFor ns f j ≡ some m) (sound : SoundMoves m) where
+  by-average : (o : Option (List ℕ)) (ks : List ℕ) → o ≡ some ks → 1 ≤ length ks → length ks ≤ 64 → AllWithin n ks
+      → Masks n (then o (λ l. then (movesFor ns f j) (λ x. some (masked l x))))
+  by-average o ks q a b c = (masked ks m, (rw (q, moved), (a, (b, (c, sound)))))
+
+  by-tid : (k : ℕ) (t : Bool) → (leb 1 k && leb k n) ≡ t → Masks n (onTid ns f j (cond t (Is k) Lacks))
+  by-tid k false e = (native, (refl, tt))
+  by-tid k true e =
+      let a = and-both (leb 1 k) _ e in
+      (masked (k ∷ []) m, (rw moved, (omega arith, (omega arith, (((leb-true 1 k (a .0), leb-true k n (a .1)), tt), sound)))))
+
+  tid : framesOf ns ≡ Is n → (d : Signed) → offsetOf ns j ≡ some d → Masks n (then (tidFrame ns f j) (onTid ns f j))
+  unfolding tidFrame
+  tid count d q = rw (q, count) (by-tid (less f d) (leb 1 (less f d) && leb (less f d) n) refl)
+
+  mask-by : framesOf ns ≡ Is n → isOperation ns j ≡ true → averagesFit ns n j ≡ true → offsetFits ns j ≡ true → Masks n (maskBy ns f j)
+  unfolding maskBy isOperation
+  mask-by count op av off =
+      go (operationIs ns (ascii "NONE") j) refl (operationIs ns (ascii "AVG_SUB") j) refl (operationIs ns (ascii "TID") j) refl
+    where
+      go : (a : Bool) → operationIs ns (ascii "NONE") j ≡ a → (b : Bool) → operationIs ns (ascii "AVG_SUB") j ≡ b → (c : Bool) → operationIs ns (ascii "TID") j ≡ c
+          → Masks n (cond a (some native) (cond b (then (averageFrames ns j) (λ ks. then (movesFor ns f j) (λ x. some (masked ks x)))) (cond c (then (tidFrame ns f j) (onTid ns f j)) none)))
+      go true p b q c r = (native, (refl, tt))
+      go false p true q c r =
+          let w = averages ns n j q av in
+          by-average (averageFrames ns j) (w .0) (w .1 .0) (w .1 .1 .0) (w .1 .1 .1 .0) (w .1 .1 .1 .1)
+      go false p false q true r =
+          let d = offset ns n j r off in
+          tid count (d .0) (d .1)
+      go false p false q false r = absurd (false-is-true (rw (p, q, r) at op))
+
+module _ (ns : List Node) (ok : findingOf ns ≡ Accepted) where
+  once : (rule : ℕ) → 1 ≤ rule → rule < 39 → perFrame rule ≡ false → ruleAt ns rule 0 ≡ true
+  unfolding firstFrame frameCount
+  once rule a b e = accepted-holds ns ok rule a b 0 (rw e (omega arith)) (rw e (omega arith))
+
+  r31 : rule31 ns ≡ true
+  unfolding ruleAt ruleList perFrame
+  r31 = once 31 (omega arith) (omega arith) refl
+
+  r32 : rule32 ns ≡ true
+  unfolding ruleAt ruleList perFrame
+  r32 = once 32 (omega arith) (omega arith) refl
+
+  r33 : rule33 ns ≡ true
+  unfolding ruleAt ruleList perFrame
+  r33 = once 33 (omega arith) (omega arith) refl
+
+  r34 : rule34 ns ≡ true
+  unfolding ruleAt ruleList perFrame
+  r34 = once 34 (omega arith) (omega arith) refl
+
+  r35 : rule35 ns ≡ true
+  unfolding ruleAt ruleList perFrame
+  r35 = once 35 (omega arith) (omega arith) refl
+
+  r36 : rule36 ns ≡ true
+  unfolding ruleAt ruleList perFrame
+  r36 = once 36 (omega arith) (omega arith) refl
+
+  module _ (n : ℕ) (count : framesOf ns ≡ Is n) where
+    r37 : (f : ℕ) → 1 ≤ f → f ≤ n → rule37 ns f ≡ true
+    unfolding ruleAt ruleList perFrame firstFrame frameCount
+    r37 f a b = accepted-holds ns ok 37 (omega arith) (omega arith) f a (rw count (omega arith))
+
+    ranges : every (rangeFits ns n) (maskItems ns) ≡ true
+    unfolding rule32
+    ranges = held (framesOf ns) _ n count r32
+
+    averages-fit : every (averagesFit ns n) (maskItems ns) ≡ true
+    unfolding rule33
+    averages-fit = held (framesOf ns) _ n count r33
+
+    offsets-fit : every (offsetFits ns) (maskItems ns) ≡ true
+    unfolding rule34
+    offsets-fit = r34
+
+    shifts-fit : every (shiftFits ns) (maskItems ns) ≡ true
+    unfolding rule35
+    shifts-fit = r35
+
+    module _ (f : ℕ) (low : 1 ≤ f) (high : f ≤ n) where
+      by-item : (j : ℕ) → Among j (maskItems ns) → Masks n (maskBy ns f j)
+      by-item j a =
+          let m = moves ns f j (shift-for ns f j r36 (r37 f low high) a (every-at (shiftFits ns) a shifts-fit)) in
+          mask-by ns f n j (m .0) (m .1 .0) (m .1 .1) count (every-at (isOperation ns) a (operations ns r31))
+          (every-at (averagesFit ns n) a averages-fit) (every-at (offsetFits ns) a offsets-fit)
+
+      mask-on : (o : Option Applying) → Applies (maskItems ns) o → Masks n (then o (maskOn ns f))
+      mask-on o (nothing q) = (native, (rw q, tt))
+      mask-on o (item j a q) = rw q (by-item j a)
+
+      mask-for : Masks n (maskFor ns f)
+      unfolding maskFor
+      mask-for = mask-on (applyingTo ns f) (applies ns f n r31 ranges)
+
+-- What demand 3 asks of steps 2 to 4.
+pub masking : (ns : List Node) → findingOf ns ≡ Accepted → (n : ℕ) → framesOf ns ≡ Is n → 1 ≤ n → n ≤ 65535 → (f : ℕ) → 1 ≤ f → f ≤ n → Masking ns f n
+masking ns ok n count some-frame few f low high =
+    let w = mask-for ns ok n count f low high in
+    record { m = w .0; mask = w .1 .0; sound = w .1 .1 }

@@ -1,0 +1,73 @@
+-- What the code's answers say of the steps, where a step is known to give something.
+use mathlib.Core.Path.{_≡_, refl, sym, ap, _∙_, subst}
+use mathlib.Core.Bool.{Bool, true, false, cond, _&&_}
+use mathlib.Core.List.{List, [], _∷_}
+use mathlib.Core.Option.{Option, none, some}
+use Prim.Native.Nat.{ℕ, _+_, _≤_, _<_}
+use native.Mathlib.Omega.{arith}
+use lib.Dec.{leb}
+use borrow.Author.Tests.{le-leb}
+use Rattle.value.specs.declared.Num.{Num}
+use Rattle.value.specs.declared.Num.the-variants.{Is, Lacks}
+use Rattle.value.specs.declared.Signed.{Signed}
+use Rattle.value.specs.declared.Signed.the-variants as signed
+use Rattle.value.specs.Number.{isNumber}
+use Rattle.value.specs.Said.{SizeBelow}
+use Rattle.shift.specs.declared.Shift.{Shift}
+use Rattle.shift.specs.declared.Moves.{Moves}
+use Rattle.shift.specs.Shift.{isShort, isShiftOf, movesOf, shortMovesOf}
+use Rattle.shift.proofs.Laws.{moves-short}
+use Rattle.node.specs.Nodes.{Node}
+use Rattle.steps.specs.Given.{check, then}
+use Rattle.steps.specs.Steps.{Mask, shiftFor, movesFor, applyingTo, maskFor, maskOn, native as noMask, masked as maskOf}
+use Rattle.display.specs.Said.{Short, Sound, Gives, GivesMoves}
+use Rattle.display.proofs.Given.{never}
+
+short-is : (x : Signed) → isNumber x ≡ true → SizeBelow 65 x → isShort x ≡ true
+short-is (signed.Plus n) e h = le-leb n 64 (omega arith)
+short-is (signed.Minus n) e h = le-leb n 64 (omega arith)
+short-is signed.Lacks e h = e
+
+is-shift : (s : Shift) → Short (movesOf s) → isShiftOf s ≡ true
+unfolding isShiftOf
+is-shift s h = rw (short-is (movesOf s .vertical) (h .0) (h .1 .1 .0), short-is (movesOf s .horizontal) (h .1 .0) (h .1 .1 .1))
+
+-- The short moves of the shift that a step gave are the step's moves.
+checked-moves : (t : Bool) (s : Shift) (m : Moves) → check t (some (movesOf s)) ≡ some m → Short m → check t (some (movesOf s)) ≡ some (shortMovesOf s)
+checked-moves true s m e h =
+    let q : m ≡ movesOf s = cc in
+    ap some (moves-short s (is-shift s (subst Short q h)))
+checked-moves false s m e h = absurd (never e)
+
+pub moves-are : (ns : List Node) (f j : ℕ) (s : Shift) → shiftFor ns f j ≡ some s → GivesMoves (movesFor ns f j) → movesFor ns f j ≡ some (shortMovesOf s)
+unfolding movesFor
+moves-are ns f j s e g =
+    let u : movesFor ns f j ≡ check (isNumber (movesOf s .vertical) && isNumber (movesOf s .horizontal)) (some (movesOf s)) = rw e in
+    u ∙ checked-moves (isNumber (movesOf s .vertical) && isNumber (movesOf s .horizontal)) s (g .m) (sym u ∙ g .is) (g .short)
+
+pub moves-none : (ns : List Node) (f j : ℕ) → shiftFor ns f j ≡ none → GivesMoves (movesFor ns f j) → ⊥
+unfolding movesFor
+moves-none ns f j e g =
+    let u : movesFor ns f j ≡ none = rw e in
+    never (sym u ∙ g .is)
+
+-- A mask that a step gives has its moves.
+pub gives-moves : (n : ℕ) (ks : List ℕ) (o : Option Moves) → Gives n (then o (λ m. some (maskOf ks m))) → GivesMoves o
+gives-moves n ks none g = absurd (never (g .mask))
+gives-moves n ks (some mv) g =
+    let q : g .m ≡ maskOf ks mv = cc in
+    record { m = mv; is = refl; short = subst (Sound n) q (g .sound) .1 .1 .1 }
+
+pub gives-same : (n : ℕ) (o p : Option Mask) → o ≡ p → Gives n o → Gives n p
+gives-same n o p e g = subst (Gives n) e g
+
+-- A step that lacks something gives no mask.
+pub gives-none : (n : ℕ) (o : Option Mask) → o ≡ none → Gives n o → ⊥
+gives-none n o e g = never (sym e ∙ g .mask)
+
+-- Where the steps give a mask, the search for a mask item lacks nothing.
+pub applying-some : (ns : List Node) (f n : ℕ) → applyingTo ns f ≡ none → Gives n (maskFor ns f) → ⊥
+unfolding maskFor
+applying-some ns f n e g =
+    let u : maskFor ns f ≡ none = rw e in
+    never (sym u ∙ g .mask)

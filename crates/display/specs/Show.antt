@@ -1,0 +1,120 @@
+-- What `show` answers, and what its buffers then hold (document 01, "What is handed back"): as judging up to code 9, then
+-- 10 for a frame that is not in 1..N, then 11 for an image buffer under Rows × Columns bytes, then 0.
+use Prim.Native.Nat.{ℕ, _*_}
+use mathlib.Core.Bool.{Bool, true, false, cond, _&&_}
+use mathlib.Core.List.{List, [], _++_}
+use mathlib.Core.Option.{Option, none, some}
+use lib.ListN.{length, drop}
+use lib.Dec.{leb}
+use Rattle.node.specs.Nodes.{Node, nodesOf, root}
+use Rattle.element.specs.Tags
+use Rattle.element.specs.Elements.{usIn}
+use Rattle.element.specs.Frames.{framesOf}
+use Rattle.conformance.specs.Judging.{numberOf, judgeOf}
+use Rattle.conformance.specs.declared.JudgeAnswer.{JudgeAnswer}
+use Rattle.conformance.specs.declared.JudgeAnswer.the-variants as judged
+use Rattle.steps.specs.Steps.{Picture, stepsOf}
+use Rattle.display.specs.declared.ShowAnswer.{ShowAnswer}
+use Rattle.display.specs.declared.ShowAnswer.the-variants as shown
+
+-- The frame is one of 1 to N.
+abbrev pub isFrameOf : List Node → ℕ → Bool
+isFrameOf ns f = leb 1 f && leb f (numberOf (framesOf ns))
+
+-- Rows × Columns.
+abbrev pub imageSize : List Node → ℕ
+imageSize ns = numberOf (usIn ns Tags.Rows (root ns)) * numberOf (usIn ns Tags.Columns (root ns))
+
+-- The picture that the steps give. Where they lack something, which they never do for a frame of an accepted object
+-- (proofs/Demand3), an empty one stands for it.
+abbrev pub pictureIn : Option Picture → Picture
+pictureIn none = record { masked = false; samples = [] }
+pictureIn (some p) = p
+
+unfoldable pub pictureOf : List Node → ℕ → Picture
+pictureOf ns f = pictureIn (stepsOf ns f)
+
+-- The answer for an accepted object with n rows.
+unfoldable pub acceptedAnswer : List Node → ℕ → List ℕ → ℕ → ShowAnswer
+acceptedAnswer ns f image n =
+    cond (isFrameOf ns f)
+    (cond (leb (imageSize ns) (length image)) (shown.Drawn n (pictureOf ns f .masked)) shown.NoImageRoom)
+    shown.NoFrame
+
+abbrev pub answerFor : List Node → ℕ → List ℕ → JudgeAnswer → ShowAnswer
+answerFor ns f image (judged.Accepted n) = acceptedAnswer ns f image n
+answerFor ns f image (judged.Broken n rule frame) = shown.Broken n rule frame
+answerFor ns f image (judged.Refused code offset) = shown.Refused code offset
+answerFor ns f image judged.TooLarge = shown.TooLarge
+answerFor ns f image judged.NoRoom = shown.NoRoom
+
+unfoldable pub showOf : List ℕ → ℕ → List ℕ → List ℕ → ShowAnswer
+showOf s f buffer image = answerFor (nodesOf s) f image (judgeOf s buffer)
+
+-- The image buffer afterwards: the picture's cells, and untouched beyond them; untouched by a refusal.
+abbrev pub imageBy : Picture → List ℕ → ShowAnswer → List ℕ
+imageBy p image (shown.Drawn n masked) = p .samples ++ drop (length (p .samples)) image
+imageBy p image (shown.Broken n rule frame) = image
+imageBy p image (shown.Refused code offset) = image
+imageBy p image shown.TooLarge = image
+imageBy p image shown.NoRoom = image
+imageBy p image shown.NoFrame = image
+imageBy p image shown.NoImageRoom = image
+
+unfoldable pub imageOf : List ℕ → ℕ → List ℕ → List ℕ → List ℕ
+imageOf s f buffer image = imageBy (pictureOf (nodesOf s) f) image (showOf s f buffer image)
+
+-- The paper's numbers of each case; fields not named are 0. Masked is 1, native 0.
+abbrev pub codeOf : ShowAnswer → ℕ
+codeOf (shown.Drawn n masked) = 0
+codeOf (shown.Broken n rule frame) = 9
+codeOf (shown.Refused code offset) = code
+codeOf shown.TooLarge = 7
+codeOf shown.NoRoom = 8
+codeOf shown.NoFrame = 10
+codeOf shown.NoImageRoom = 11
+
+abbrev pub rowCountOf : ShowAnswer → ℕ
+rowCountOf (shown.Drawn n masked) = n
+rowCountOf (shown.Broken n rule frame) = n
+rowCountOf (shown.Refused code offset) = 0
+rowCountOf shown.TooLarge = 0
+rowCountOf shown.NoRoom = 0
+rowCountOf shown.NoFrame = 0
+rowCountOf shown.NoImageRoom = 0
+
+abbrev pub ruleOf : ShowAnswer → ℕ
+ruleOf (shown.Drawn n masked) = 0
+ruleOf (shown.Broken n rule frame) = rule
+ruleOf (shown.Refused code offset) = 0
+ruleOf shown.TooLarge = 0
+ruleOf shown.NoRoom = 0
+ruleOf shown.NoFrame = 0
+ruleOf shown.NoImageRoom = 0
+
+abbrev pub frameOf : ShowAnswer → ℕ
+frameOf (shown.Drawn n masked) = 0
+frameOf (shown.Broken n rule frame) = frame
+frameOf (shown.Refused code offset) = 0
+frameOf shown.TooLarge = 0
+frameOf shown.NoRoom = 0
+frameOf shown.NoFrame = 0
+frameOf shown.NoImageRoom = 0
+
+abbrev pub offsetOf : ShowAnswer → ℕ
+offsetOf (shown.Drawn n masked) = 0
+offsetOf (shown.Broken n rule frame) = 0
+offsetOf (shown.Refused code offset) = offset
+offsetOf shown.TooLarge = 0
+offsetOf shown.NoRoom = 0
+offsetOf shown.NoFrame = 0
+offsetOf shown.NoImageRoom = 0
+
+abbrev pub maskedOf : ShowAnswer → ℕ
+maskedOf (shown.Drawn n masked) = cond masked 1 0
+maskedOf (shown.Broken n rule frame) = 0
+maskedOf (shown.Refused code offset) = 0
+maskedOf shown.TooLarge = 0
+maskedOf shown.NoRoom = 0
+maskedOf shown.NoFrame = 0
+maskedOf shown.NoImageRoom = 0

@@ -1,0 +1,130 @@
+// Draws a frame of a data set that is accepted.
+ghost use mathlib.Core.Path.{_≡_};
+ghost use Prim.Native.Nat.{ℕ, _+_, _-_, _*_, _^_, _≤_, _<_};
+ghost use mathlib.Core.Bool.{Bool, true, false};
+ghost use mathlib.Core.Option.{Option, none, some};
+ghost use lib.ListN.{length};
+ghost use Rattle.value.specs.Said.{Below};
+ghost use Rattle.node.specs.Nodes.{nodesOf};
+ghost use Rattle.node.specs.Table.{Table};
+ghost use Rattle.element.specs.Frames.{frameItem};
+ghost use Rattle.steps.specs.Steps.{applyingTo, movesFor, maskBy, maskFor};
+ghost use Rattle.display.specs.Said.{Gives, GivesMoves, averageBy, tidBy, maskingOf, MaskingBelow, ApplyingBelow};
+use element::tags;
+use shift::Moves;
+use steps::Applies;
+use steps::Applying;
+use steps::Found;
+use steps::Shifts;
+use value::Num;
+use value::Signed;
+
+// The answer of `show`: drawn, with the number of rows and whether it is masked; code 9, with the number of rows, rule
+// and frame; code and offset of a refusal; codes 7, 8, 10 and 11.
+pub enum ShowAnswer {
+    Drawn(usize, bool),
+    Broken(usize, usize, usize),
+    Refused(usize, usize),
+    TooLarge,
+    NoRoom,
+    NoFrame,
+    NoImageRoom,
+}
+
+// What masks a frame: nothing; the frames that an element lists, moved; one frame, moved; or a step lacks something.
+pub enum Masking {
+    Native,
+    Average(usize, Moves),
+    One(usize, Moves),
+    Lacks,
+}
+
+// No shift: what stands where a step lacks one, which it does in no accepted object.
+fn no_moves() -> Moves {
+    Moves {
+        vertical: Signed::Plus(0),
+        horizontal: Signed::Plus(0),
+    }
+}
+
+// Step 4: how far mask item j is moved at the frame.
+fn moves_for(bytes: &[u8], rows: &[u32], frame: usize, item: Num, j: usize) -> Moves
+    requires { ⌜ Table (now bytes) (now rows) × ((item ≡ frameItem (nodesOf (now bytes)) frame) × (Below (length (nodesOf (now bytes))) item × ((j < length (nodesOf (now bytes))) × GivesMoves (movesFor (nodesOf (now bytes)) frame j)))) ⌝ }
+    ensures { λ r. ⌜ movesFor (nodesOf (now (bytes .entry))) frame j ≡ some r ⌝ }
+{
+    match steps::shift_for(bytes, rows, frame, item, j) {
+        Shifts::Is(s) => shift::short_moves_of(s),
+        Shifts::Lacks => no_moves(),
+    }
+}
+
+// Steps 3 and 4 for a mask item that averages.
+fn average_by(bytes: &[u8], rows: &[u32], frame: usize, item: Num, j: usize, n: usize) -> Masking
+    requires { ⌜ Table (now bytes) (now rows) × ((item ≡ frameItem (nodesOf (now bytes)) frame) × (Below (length (nodesOf (now bytes))) item × ((j < length (nodesOf (now bytes))) × Gives n (averageBy (nodesOf (now bytes)) frame j)))) ⌝ }
+    ensures { λ r. ⌜ maskingOf (nodesOf (now (bytes .entry))) r ≡ averageBy (nodesOf (now (bytes .entry))) frame j ⌝ }
+    ensures { λ r. ⌜ MaskingBelow (length (nodesOf (now (bytes .entry)))) r ⌝ }
+{
+    match steps::average_element(bytes, rows, j) {
+        Num::Lacks => Masking::Lacks,
+        Num::Is(k) => Masking::Average(k, moves_for(bytes, rows, frame, item, j)),
+    }
+}
+
+// Steps 3 and 4 for a mask item that takes one frame.
+fn tid_by(bytes: &[u8], rows: &[u32], frame: usize, item: Num, j: usize, n: usize) -> Masking
+    requires { ⌜ Table (now bytes) (now rows) × ((item ≡ frameItem (nodesOf (now bytes)) frame) × (Below (length (nodesOf (now bytes))) item × ((j < length (nodesOf (now bytes))) × ((frame < 4294967296) × Gives n (tidBy (nodesOf (now bytes)) frame j))))) ⌝ }
+    ensures { λ r. ⌜ maskingOf (nodesOf (now (bytes .entry))) r ≡ tidBy (nodesOf (now (bytes .entry))) frame j ⌝ }
+    ensures { λ r. ⌜ MaskingBelow (length (nodesOf (now (bytes .entry)))) r ⌝ }
+{
+    match steps::tid_frame(bytes, rows, frame, j) {
+        Found::Lacks => Masking::Lacks,
+        Found::Absent => Masking::Native,
+        Found::At(t) => Masking::One(t, moves_for(bytes, rows, frame, item, j)),
+    }
+}
+
+// Steps 3 and 4 for the mask item that applies.
+fn mask_by(bytes: &[u8], rows: &[u32], frame: usize, item: Num, j: usize, n: usize) -> Masking
+    requires { ⌜ Table (now bytes) (now rows) × ((item ≡ frameItem (nodesOf (now bytes)) frame) × (Below (length (nodesOf (now bytes))) item × ((j < length (nodesOf (now bytes))) × ((frame < 4294967296) × Gives n (maskBy (nodesOf (now bytes)) frame j))))) ⌝ }
+    ensures { λ r. ⌜ maskingOf (nodesOf (now (bytes .entry))) r ≡ maskBy (nodesOf (now (bytes .entry))) frame j ⌝ }
+    ensures { λ r. ⌜ MaskingBelow (length (nodesOf (now (bytes .entry)))) r ⌝ }
+{
+    if element::cs_item(bytes, rows, j, tags::MASK_OPERATION, b"NONE") {
+        Masking::Native
+    } else {
+        if element::cs_item(bytes, rows, j, tags::MASK_OPERATION, b"AVG_SUB") {
+            average_by(bytes, rows, frame, item, j, n)
+        } else {
+            if element::cs_item(bytes, rows, j, tags::MASK_OPERATION, b"TID") {
+                tid_by(bytes, rows, frame, item, j, n)
+            } else {
+                Masking::Lacks
+            }
+        }
+    }
+}
+
+// Step 2: the first mask item whose range holds the frame, or none.
+fn applying(bytes: &[u8], rows: &[u32], frame: usize, n: usize) -> Applying
+    requires { ⌜ Table (now bytes) (now rows) × Gives n (maskFor (nodesOf (now bytes)) frame) ⌝ }
+    ensures { λ r. ⌜ applyingTo (nodesOf (now (bytes .entry))) frame ≡ some r ⌝ }
+    ensures { λ r. ⌜ ApplyingBelow (length (nodesOf (now (bytes .entry)))) r ⌝ }
+{
+    match steps::applying_to(bytes, rows, frame) {
+        Applies::Item(j) => Applying::Item(j),
+        Applies::Nothing => Applying::Nothing,
+        Applies::Lacks => Applying::Nothing,
+    }
+}
+
+// Steps 2 to 4: what masks the frame. Where no mask item applies the frame is native.
+fn mask_for(bytes: &[u8], rows: &[u32], frame: usize, item: Num, n: usize) -> Masking
+    requires { ⌜ Table (now bytes) (now rows) × ((item ≡ frameItem (nodesOf (now bytes)) frame) × (Below (length (nodesOf (now bytes))) item × ((frame < 4294967296) × Gives n (maskFor (nodesOf (now bytes)) frame)))) ⌝ }
+    ensures { λ r. ⌜ maskingOf (nodesOf (now (bytes .entry))) r ≡ maskFor (nodesOf (now (bytes .entry))) frame ⌝ }
+    ensures { λ r. ⌜ MaskingBelow (length (nodesOf (now (bytes .entry)))) r ⌝ }
+{
+    let Applying::Item(j) = applying(bytes, rows, frame, n) else {
+        return Masking::Native;
+    };
+    mask_by(bytes, rows, frame, item, j, n)
+}

@@ -1,0 +1,122 @@
+-- What contracts say beside the definitions of a picture: what painting needs, and what each part of the code comes to.
+use mathlib.Core.Path.{_≡_}
+use mathlib.Core.Bool.{true}
+use mathlib.Core.List.{List}
+use mathlib.Core.Logic.{_⊎_}
+use Prim.Native.Nat.{ℕ, zero, suc, _+_, _-_, _*_, _/_, _%_, _^_, _≤_, _<_, min}
+use lib.ListN.{length, getD, set}
+use Rattle.value.specs.Number.{usValues}
+use Rattle.value.specs.declared.Signed.{Signed}
+use Rattle.shift.specs.declared.Moves.{Moves}
+use Rattle.shift.specs.Said.{ShortMoves}
+use Rattle.pixel.specs.declared.Geometry.{Geometry}
+use Rattle.pixel.specs.Pixel.{leBytes, samplesOf, isFrame, sampleAt, sumAt, averageOf, maskAt, movedBy}
+
+-- ---- What painting needs
+
+-- A sample is one byte or two, and holds 1 to 16 bits; a row fits the room for sums.
+pub record Shaped (g : Geometry) : Type 0 where
+  pub width : (g .width ≡ 1) ⊎ (g .width ≡ 2)
+  pub stored-some : 1 ≤ g .stored
+  pub stored-most : g .stored ≤ 16
+  pub rows-most : g .rows ≤ 65535
+  pub columns-some : 1 ≤ g .columns
+  pub columns-most : g .columns ≤ 65535
+
+pub record Ready (pixels : List ℕ) (g : Geometry) (frame : ℕ) (table image : List ℕ) : Type 0 where
+  pub shape : Shaped g
+  pub inside : isFrame g pixels frame ≡ true
+  pub room : samplesOf g ≤ length image
+  pub shades : 131072 ≤ length table
+
+-- Mask frames: 1 to 64 numbers of frames.
+pub record Masks (pixels : List ℕ) (g : Geometry) (masks : List ℕ) : Type 0 where
+  pub some : 1 ≤ length (usValues masks)
+  pub few : length (usValues masks) ≤ 64
+  pub frames : (k : ℕ) → k < length (usValues masks) → isFrame g pixels (getD (usValues masks) k 0) ≡ true
+
+pub record MaskedReady (pixels : List ℕ) (g : Geometry) (frame : ℕ) (masks : List ℕ) (moves : Moves) (table image : List ℕ) : Type 0 where
+  pub ready : Ready pixels g frame table image
+  pub taken : Masks pixels g masks
+  pub short : ShortMoves moves
+
+-- ---- Numbers below which no product passes 64 bits
+
+pub record Small (g : Geometry) (k : ℕ) : Type 0 where
+  pub rows : g .rows ≤ 65535
+  pub columns : g .columns ≤ 65535
+  pub width : g .width ≤ 8191
+  pub number : k ≤ 65535
+
+-- ---- Samples
+
+-- Sample j of all frames, counted from 0.
+unfoldable pub cellAt : Geometry → List ℕ → ℕ → ℕ
+cellAt g v j = leBytes (g .width) v (j * g .width) % 2 ^ g .stored
+
+-- Sample j lies in the pixel bytes, and `low` keeps its stored bits.
+pub record Lies (v : List ℕ) (g : Geometry) (low j : ℕ) : Type 0 where
+  pub width : (g .width ≡ 1) ⊎ (g .width ≡ 2)
+  pub kept : low ≡ 2 ^ g .stored - 1
+  pub inside : j * g .width + g .width ≤ length v
+
+-- The samples of a row that begins with sample `from` lie in the pixel bytes.
+pub record Row (v : List ℕ) (g : Geometry) (from : ℕ) : Type 0 where
+  pub shape : Shaped g
+  pub inside : (from + g .columns) * g .width ≤ length v
+
+-- ---- Moves
+
+-- Where place i comes to by an offset, that is 64 less a move, limited at either edge, where there are `size` places.
+abbrev pub shifted : ℕ → ℕ → ℕ → ℕ
+shifted s size i = min (i + s - 64) (size - 1)
+
+pub record OffsetOf (m : Signed) (s : ℕ) : Type 0 where
+  pub most : s ≤ 128
+  pub moves : (size i : ℕ) → i < size → shifted s size i ≡ movedBy m size i
+
+-- ---- Sums of a row
+
+-- A row's sums are those of the mask frames.
+pub record Summed (v : List ℕ) (g : Geometry) (ks : List ℕ) (row : ℕ) (sums : List ℕ) : Type 0 where
+  pub at : (c : ℕ) → c < g .columns → getD sums c 0 ≡ sumAt g v ks (row * g .columns + c)
+
+-- The same from place 64 on, with the first of them in the 64 places before, and the last in the 64 places after.
+pub record Spread (v : List ℕ) (g : Geometry) (ks : List ℕ) (row : ℕ) (sums : List ℕ) : Type 0 where
+  pub at : (j : ℕ) → j < g .columns + 128 → getD sums j 0 ≡ sumAt g v ks (row * g .columns + min (j - 64) (g .columns - 1))
+
+-- ---- Painting
+
+-- From place `at` on, n places are f 0, f 1, ..; the others are untouched.
+unfoldable pub paintedFrom : (ℕ → ℕ) → ℕ → ℕ → List ℕ → List ℕ
+paintedFrom f at zero image = image
+paintedFrom f at (suc n) image = set (paintedFrom f at n image) (at + n) (f n)
+
+-- The shade of cell c of a row that begins with sample `from`, by the spread sums of a row of n mask frames.
+unfoldable pub rowShade : List ℕ → Geometry → List ℕ → ℕ → List ℕ → ℕ → ℕ → ℕ → ℕ
+rowShade table g v from sums n s c = getD table (cellAt g v (from + c) + (2 ^ g .stored - 1) - averageOf (getD sums (c + s) 0) n) 0
+
+-- The shade of sample i by two offsets, down and to the right.
+unfoldable pub offsetShade : List ℕ → Geometry → List ℕ → ℕ → List ℕ → ℕ → ℕ → ℕ → ℕ
+offsetShade table g v f ks down right i =
+    getD table
+    (sampleAt g v f i + (2 ^ g .stored - 1) - maskAt g v ks (shifted down (g .rows) (i / g .columns) * g .columns + shifted right (g .columns) (i % g .columns)))
+    0
+
+-- What a row is drawn from.
+pub record Drawn (v : List ℕ) (g : Geometry) (from at n s : ℕ) (table sums image : List ℕ) : Type 0 where
+  pub row : Row v g from
+  pub some : 1 ≤ n
+  pub few : n ≤ 64
+  pub most : s ≤ 128
+  pub shades : 131072 ≤ length table
+  pub summed : (j : ℕ) → j < g .columns + 128 → (j < length sums) × (getD sums j 0 ≤ n * (2 ^ g .stored - 1))
+  pub room : at + g .columns ≤ length image
+
+-- What the rows of a frame are painted from; `sums` is room for a row and its edges.
+pub record RowsReady (v : List ℕ) (g : Geometry) (f : ℕ) (masks : List ℕ) (down right : ℕ) (table sums image : List ℕ) : Type 0 where
+  pub ready : Ready v g f table image
+  pub taken : Masks v g masks
+  pub down-most : down ≤ 128
+  pub right-most : right ≤ 128
+  pub row : 65663 ≤ length sums

@@ -1,0 +1,161 @@
+-- What an answer says once it is taken apart, and the steps' walks one member or one pair at a time.
+use mathlib.Core.Path.{_≡_, refl, sym, ap, _∙_, subst}
+use Prim.Native.Nat.{ℕ, zero, suc, _+_, _-_, _*_, _/_, _≤_, _<_}
+use native.Mathlib.Omega.{arith}
+use native.Mathlib.Numerals.{add-one}
+use mathlib.Core.List.{List, [], _∷_}
+use mathlib.Core.Bool.{Bool, true, false, _&&_}
+use mathlib.Core.Option.{Option, none, some}
+use lib.ListN.{length, getD, drop}
+use lib.Seq.{drop-cons, drop-length}
+use lib.Dec.{leb}
+use borrow.Author.Tests.{eq-eqb, ne-eqb, le-leb, lt-leb}
+use Rattle.value.specs.declared.Num.{Num}
+use Rattle.value.specs.declared.Num.the-variants.{Is, Lacks}
+use Rattle.value.specs.declared.Signed.{Signed}
+use Rattle.value.specs.declared.Signed.the-variants as signed
+use Rattle.value.specs.Number.{usValues, isNumber}
+use Rattle.value.specs.Said.{SizeBelow}
+use Rattle.value.proofs.Laws.{usValues-length}
+use Rattle.node.specs.Nodes.{Node, nextNode, members}
+use Rattle.node.proofs.Walks.{members-end, members-next}
+use Rattle.shift.specs.declared.Shift.{Shift}
+use Rattle.element.specs.Tags
+use Rattle.element.specs.Elements.{first}
+use Rattle.rules.specs.Frame.{idIn}
+use Rattle.steps.specs.declared.Applying.the-variants.{Item, Nothing}
+use Rattle.steps.specs.declared.Found.{Found}
+use Rattle.steps.specs.declared.Found.the-variants as found
+use Rattle.steps.specs.Given.{check, then}
+use Rattle.steps.specs.Steps.{groupFor, inPairs, rangeHolds, firstHolding, naming, ownIn, shiftFrom, shiftFor}
+use Rattle.steps.specs.Said.{FoundBelow, signedOf}
+
+-- ---- Answers
+
+-- What is said of an answer that is v.
+pub said : {A B : Type 0} (f : A → B) {r v : A} {o : B} → r ≡ v → f r ≡ o → o ≡ f v
+said f e h = sym h ∙ ap f e
+
+pub found-within : (n : ℕ) {r : Found} {k : ℕ} → r ≡ found.At k → FoundBelow n r → k < n
+found-within n e w = subst (λ (x : Found). FoundBelow n x) e w
+
+pub minus-within : (n : ℕ) {r : Signed} {k : ℕ} → r ≡ signed.Minus k → SizeBelow n r → k < n
+minus-within n e w = subst (λ (x : Signed). SizeBelow n x) e w
+
+pub signed-said : {r s : Signed} → r ≡ s → signedOf r ≡ check (isNumber s) (some s)
+signed-said {r} {s} e = rw e (cases s)
+  where
+    cases : (s : Signed) → signedOf s ≡ check (isNumber s) (some s)
+    cases (signed.Plus n) = refl
+    cases (signed.Minus n) = refl
+    cases signed.Lacks = refl
+
+-- ---- The item of a frame
+
+module _ (ns : List Node) (at end : ℕ) where
+  pub first-none : (n : ℕ) → end ≤ at → first (drop n (members ns at end)) ≡ Lacks
+  first-none zero h = rw (members-end ns at end h)
+  first-none (suc n) h = rw (members-end ns at end h)
+
+  pub first-at : (f k : ℕ) → f ≤ k → at < end → first (drop (f - k) (members ns at end)) ≡ Is at
+  first-at f k e h =
+      let z : f - k ≡ 0 = omega arith in
+      rw (z, members-next ns at end h)
+
+  pub first-later : (f k next : ℕ) → next ≡ nextNode ns at → k < f → at < end
+      → first (drop (f - k) (members ns at end)) ≡ first (drop (f - (k + 1)) (members ns next end))
+  first-later f k next e l h =
+      let d : f - k ≡ suc (f - (k + 1)) = omega arith in
+      rw (d, members-next ns at end h, e)
+
+-- ---- Values of a US, in pairs
+
+value-next : (v : List ℕ) (k : ℕ) → k < length v / 2 → drop k (usValues v) ≡ getD (usValues v) k 0 ∷ drop (k + 1) (usValues v)
+value-next v k h = rw (add-one k, drop-cons (usValues v) k 0 (omega (arith, usValues-length v)))
+
+values-end : (v : List ℕ) (k : ℕ) → k ≡ length v / 2 → drop k (usValues v) ≡ []
+values-end v k e = rw (e, ← usValues-length v) (drop-length (usValues v))
+
+module _ (f : ℕ) (v : List ℕ) (k : ℕ) where
+  pub pairs-end : 2 * k ≡ length v / 2 → inPairs f (drop (2 * k) (usValues v)) ≡ false
+  unfolding inPairs
+  pairs-end e = rw (values-end v (2 * k) e)
+
+  module _ (a b : ℕ) (ea : a ≡ getD (usValues v) (2 * k) 0) (eb : b ≡ getD (usValues v) (2 * k + 1) 0) (h : 2 * k + 1 < length v / 2) where
+    pair-at : drop (2 * k) (usValues v) ≡ a ∷ b ∷ drop (2 * (k + 1)) (usValues v)
+    pair-at =
+        let d : 2 * (k + 1) ≡ 2 * k + 1 + 1 = omega arith in
+        rw (value-next v (2 * k) (omega arith), value-next v (2 * k + 1) h, ← ea, ← eb, d)
+
+    pub pairs-here : (leb a f && leb f b) ≡ true → inPairs f (drop (2 * k) (usValues v)) ≡ true
+    unfolding inPairs
+    pairs-here q = rw (pair-at, q)
+
+    pub pairs-next : (leb a f && leb f b) ≡ false → inPairs f (drop (2 * k) (usValues v)) ≡ inPairs f (drop (2 * (k + 1)) (usValues v))
+    unfolding inPairs
+    pairs-next q = rw (pair-at, q)
+
+pub values-some : (v : List ℕ) → 2 ≤ length v → leb 1 (length (usValues v)) ≡ true
+values-some v h = le-leb 1 (length (usValues v)) (omega (arith, usValues-length v))
+
+pub values-none : (v : List ℕ) → length v < 2 → leb 1 (length (usValues v)) ≡ false
+values-none v h = lt-leb 1 (length (usValues v)) (omega (arith, usValues-length v))
+
+-- ---- Tests one after the other
+
+pub both : {a b r : Bool} → a ≡ true → b ≡ r → (a && b) ≡ r
+both e f = rw e f
+
+pub not-first : {a : Bool} (b : Bool) → a ≡ false → (a && b) ≡ false
+not-first b e = rw e
+
+-- ---- Walks
+
+module _ (ns : List Node) (f at to : ℕ) where
+  pub holding-end : to ≤ at → firstHolding ns f (members ns at to) ≡ some Nothing
+  unfolding firstHolding
+  holding-end h = rw (members-end ns at to h)
+
+  pub holding-lacks : at < to → rangeHolds ns f at ≡ none → firstHolding ns f (members ns at to) ≡ none
+  unfolding firstHolding
+  holding-lacks h q = rw (members-next ns at to h, q)
+
+  pub holding-here : at < to → rangeHolds ns f at ≡ some true → firstHolding ns f (members ns at to) ≡ some (Item at)
+  unfolding firstHolding
+  holding-here h q = rw (members-next ns at to h, q)
+
+  pub holding-next : (next : ℕ) → next ≡ nextNode ns at → at < to → rangeHolds ns f at ≡ some false
+      → firstHolding ns f (members ns at to) ≡ firstHolding ns f (members ns next to)
+  unfolding firstHolding
+  holding-next next e h q = rw (members-next ns at to h, q, e)
+
+module _ (ns : List Node) (id at to : ℕ) where
+  pub naming-end : to ≤ at → naming ns id (members ns at to) ≡ some Lacks
+  unfolding naming
+  naming-end h = rw (members-end ns at to h)
+
+  pub naming-lacks : at < to → idIn ns at ≡ Lacks → naming ns id (members ns at to) ≡ none
+  unfolding naming
+  naming-lacks h q = rw (members-next ns at to h, q)
+
+  module _ (x : ℕ) (h : at < to) (q : idIn ns at ≡ Is x) where
+    pub naming-here : x ≡ id → naming ns id (members ns at to) ≡ some (Is at)
+    unfolding naming
+    naming-here s = rw (members-next ns at to h, q, eq-eqb x id s)
+
+    pub naming-next : (next : ℕ) → next ≡ nextNode ns at → (x ≡ id → ⊥) → naming ns id (members ns at to) ≡ naming ns id (members ns next to)
+    unfolding naming
+    naming-next next e s = rw (members-next ns at to h, q, ne-eqb x id s, e)
+
+-- ---- One step after the other
+
+then-then : {A B C : Type 0} (o : Option A) (f : A → Option B) (g : B → Option C) → then (then o f) g ≡ then o (λ x. then (f x) g)
+then-then none f g = refl
+then-then (some a) f g = refl
+
+-- The group's answer, then which item names the ID, then the shift.
+pub shift-said : (ns : List Node) (f j : ℕ) {group named : Option Num} {o : Option Shift}
+    → group ≡ groupFor ns f Tags.FramePixelShiftSequence → named ≡ then group (ownIn ns j) → o ≡ then named (shiftFrom ns j)
+    → o ≡ shiftFor ns f j
+unfolding shiftFor
+shift-said ns f j a b d = d ∙ rw (b, a) (then-then (groupFor ns f Tags.FramePixelShiftSequence) (ownIn ns j) (shiftFrom ns j))

@@ -1,0 +1,52 @@
+use lib.ListN.{length}
+use Rattle.node.specs.Nodes.{nodesOf}
+use borrow.Author.Tests.{eq-eqb, ne-eqb}
+use Rattle.steps.specs.Steps.{applyingTo}
+use borrow.Author.Needs.{needs}
+use native.Mathlib.Omega.{arith}
+use Rattle.node.proofs.Laws as node-laws
+use Rattle.steps.proofs.applying_to.Statement.{statement}
+use Rattle.steps.proofs.applying_to.Tie as tie
+
+find-root-requires : tie.Need-find-root-requires
+find-root-requires c κs = search needs
+
+enum-told : tie.Need-enum-told
+enum-told c = search needs
+
+enum-known-m : tie.Need-enum-known-m
+enum-known-m c = search needs
+
+vr-requires : tie.Need-vr-requires
+vr-requires c κs =
+    (c .before .before .before .before .before .before .pre, node-laws.within _ (c .before .m .given .1) (c .before .before .before .find-root .ensures .1))
+
+add-first-holding : tie.Need-add-first-holding
+add-first-holding c =
+    omega (arith, node-laws.within (length (nodesOf (c .before .before .before .before .before .before .before .before .args .bytes .now))) (c .before .before .before .m .given .1) (c .before .before .before .before .before .find-root .ensures .1), c .before .before .before .before .before .before .before .before .pre .few)
+
+next-requires : tie.Need-next-requires
+next-requires c κs =
+    (c .before .before .before .before .before .before .before .before .pre, node-laws.within _ (c .before .before .before .m .given .1) (c .before .before .before .before .before .find-root .ensures .1))
+
+first-holding-requires : tie.Need-first-holding-requires
+first-holding-requires c κs =
+    (c .before .before .before .before .before .before .before .before .before .pre, c .next .ensures .1)
+
+returns : tie.Need-returns
+unfolding applyingTo
+returns c =
+    (rw (node-laws.lacked (c .enum-told .given .1) (c .before .before .find-root .ensures .0)), tt)
+
+returns-2 : tie.Need-returns-2
+unfolding applyingTo
+returns-2 c =
+    (rw (node-laws.had (c .before .before .before .before .before .m .given .1) (c .before .before .before .before .before .before .before .find-root .ensures .0), ← c .before .before .before .vr .ensures, eq-eqb _ _ (c .before .before .if1 .taken), ← c .before .next .ensures .0) (c .first-holding .ensures .0), c .first-holding .ensures .1)
+
+returns-3 : tie.Need-returns-3
+unfolding applyingTo
+returns-3 c =
+    (rw (node-laws.had (c .before .before .before .m .given .1) (c .before .before .before .before .before .find-root .ensures .0), ← c .before .vr .ensures, ne-eqb _ _ (c .if1 .left)), tt)
+
+pub applying-to-spec : {M : Type 1} → statement M
+applying-to-spec = tie.close (tie.spec find-root-requires enum-told enum-known-m vr-requires add-first-holding next-requires first-holding-requires returns returns-2 returns-3)

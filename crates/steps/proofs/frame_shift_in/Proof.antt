@@ -1,0 +1,36 @@
+use borrow.Author.Tests.{eq-eqb, ne-eqb}
+use borrow.Author.Needs.{needs}
+use Rattle.node.proofs.Laws as node-laws
+use Rattle.steps.proofs.frame_shift_in.Statement.{statement}
+use Rattle.steps.proofs.frame_shift_in.Tie as tie
+
+find-vr-item-requires : tie.Need-find-vr-item-requires
+find-vr-item-requires c κs = search needs
+
+enum-told : tie.Need-enum-told
+enum-told c = search needs
+
+enum-known-x : tie.Need-enum-known-x
+enum-known-x c = search needs
+
+value-requires : tie.Need-value-requires
+value-requires c κs =
+    (c .before .before .before .before .before .before .pre .0, node-laws.within _ (c .before .x .given .1) (c .before .before .before .find-vr-item .ensures .1))
+
+frame-shift-requires : tie.Need-frame-shift-requires
+frame-shift-requires c κs = search needs
+
+returns : tie.Need-returns
+returns c =
+    rw (node-laws.lacked (c .enum-told .given .1) (c .before .before .find-vr-item .ensures .0))
+
+returns-2 : tie.Need-returns-2
+returns-2 c =
+    rw (node-laws.had (c .before .before .before .before .x .given .1) (c .before .before .before .before .before .before .find-vr-item .ensures .0), ← c .before .before .value .ensures, eq-eqb _ _ (c .before .if1 .taken), ← c .frame-shift .ensures)
+
+returns-3 : tie.Need-returns-3
+returns-3 c =
+    rw (node-laws.had (c .before .before .before .x .given .1) (c .before .before .before .before .before .find-vr-item .ensures .0), ← c .before .value .ensures, ne-eqb _ _ (c .if1 .left))
+
+pub frame-shift-in-spec : {M : Type 1} → statement M
+frame-shift-in-spec = tie.close (tie.spec find-vr-item-requires enum-told enum-known-x value-requires frame-shift-requires returns returns-2 returns-3)

@@ -1,0 +1,42 @@
+use Rattle.steps.specs.Steps.{groupFor}
+use borrow.Author.Needs.{needs}
+use Rattle.node.proofs.Laws as node-laws
+use Rattle.steps.proofs.group_for.Statement.{statement}
+use Rattle.steps.proofs.group_for.Tie as tie
+
+enum-told : tie.Need-enum-told
+enum-told c = search needs
+
+enum-known-item : tie.Need-enum-known-item
+enum-known-item c = search needs
+
+find-item-requires : tie.Need-find-item-requires
+find-item-requires c κs =
+    (c .before .before .before .before .before .pre .0, node-laws.within _ (c .before .item .given .1) (c .before .before .before .before .before .pre .1 .1))
+
+enum-told-2 : tie.Need-enum-told-2
+enum-told-2 c = search needs
+
+shared-group-requires : tie.Need-shared-group-requires
+shared-group-requires c κs = search needs
+
+enum-known-g : tie.Need-enum-known-g
+enum-known-g c = search needs
+
+returns : tie.Need-returns
+unfolding groupFor
+returns c =
+    (rw (node-laws.lacked (c .enum-told .given .1) (c .before .before .before .before .pre .1 .0)), tt)
+
+returns-2 : tie.Need-returns-2
+unfolding groupFor
+returns-2 c =
+    (rw (node-laws.had (c .before .before .before .before .before .item .given .1) (c .before .before .before .before .before .before .before .before .before .pre .1 .0), node-laws.lacked (c .before .enum-told2 .given .1) (c .before .before .before .find-item .ensures .0)) (c .shared-group .ensures .0), c .shared-group .ensures .1)
+
+returns-3 : tie.Need-returns-3
+unfolding groupFor
+returns-3 c =
+    (rw (node-laws.had (c .before .before .before .before .before .item .given .1) (c .before .before .before .before .before .before .before .before .before .pre .1 .0), node-laws.had (c .before .g .given .1) (c .before .before .before .find-item .ensures .0)), node-laws.within _ (c .before .g .given .1) (c .before .before .before .find-item .ensures .1))
+
+pub group-for-spec : {M : Type 1} → statement M
+group-for-spec = tie.close (tie.spec enum-told enum-known-item find-item-requires enum-told-2 shared-group-requires enum-known-g returns returns-2 returns-3)

@@ -1,0 +1,60 @@
+use Prim.Native.Nat.{_-_, _*_, _/_, _≤_}
+use lib.ListN.{length, drop}
+use Rattle.value.specs.Number.{usValues}
+use Rattle.steps.specs.Steps.{inPairs}
+use borrow.Author.Needs.{needs}
+use mathlib.Core.Path.{_≡_, sym, _∙_}
+use native.Mathlib.Omega.{arith}
+use Rattle.steps.proofs.Laws as laws
+use Rattle.steps.proofs.in_pairs.Statement.{statement}
+use Rattle.steps.proofs.in_pairs.Tie as tie
+
+abbrev Inv-loop : tie.InvT-loop
+Inv-loop v frame pairs k₀ k =
+    ((pairs ≡ length v / 4) × (k ≤ pairs)) × (inPairs frame (drop (2 * k) (usValues v)) ≡ inPairs frame (usValues v))
+
+abbrev μ-loop : tie.MeasureT-loop
+μ-loop v frame pairs k₀ k =
+    pairs - k
+
+loop-holds : tie.Need-loop-holds Inv-loop μ-loop
+loop-holds c = search needs
+
+mul-us-value : tie.Need-mul-us-value Inv-loop μ-loop
+mul-us-value c = search needs
+
+us-value-requires : tie.Need-us-value-requires Inv-loop μ-loop
+us-value-requires c κs = search needs
+
+mul-us-value-2 : tie.Need-mul-us-value-2 Inv-loop μ-loop
+mul-us-value-2 c = search needs
+
+add-us-value : tie.Need-add-us-value Inv-loop μ-loop
+add-us-value c = search needs
+
+us-value-requires-2 : tie.Need-us-value-requires-2 Inv-loop μ-loop
+us-value-requires-2 c κs = search needs
+
+in-pair-requires : tie.Need-in-pair-requires Inv-loop μ-loop
+in-pair-requires c κs = search needs
+
+returns : tie.Need-returns Inv-loop μ-loop
+returns c =
+    sym (laws.pairs-here _ _ _ _ _ (c .before .before .before .us-value .ensures .0) (c .before .before .us-value2 .ensures .0) (omega arith) (sym (c .before .in-pair .ensures) ∙ c .if1 .taken)) ∙ c .before .before .before .before .before .loop .inv .1
+
+add-k : tie.Need-add-k Inv-loop μ-loop
+add-k c = search needs
+
+loop-less : tie.Need-loop-less Inv-loop μ-loop
+loop-less c = search needs
+
+loop-again : tie.Need-loop-again Inv-loop μ-loop
+loop-again c =
+    ((search needs, search needs), sym (laws.pairs-next _ _ _ _ _ (c .before .before .before .us-value .ensures .0) (c .before .before .us-value2 .ensures .0) (omega arith) (sym (c .before .in-pair .ensures) ∙ c .if1 .left)) ∙ c .before .before .before .before .before .loop .inv .1)
+
+returns-2 : tie.Need-returns-2 Inv-loop μ-loop
+returns-2 c =
+    sym (laws.pairs-end (c .before .before .before .args .frame) (c .before .before .before .args .v .now) (c .before .loop .k) (omega arith)) ∙ c .before .loop .inv .1
+
+pub in-pairs-spec : {M : Type 1} → statement M
+in-pairs-spec = tie.close (tie.spec Inv-loop μ-loop loop-holds mul-us-value us-value-requires mul-us-value-2 add-us-value us-value-requires-2 in-pair-requires returns add-k loop-less loop-again returns-2)

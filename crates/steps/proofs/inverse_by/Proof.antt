@@ -1,0 +1,28 @@
+use borrow.Author.Needs.{needs}
+use mathlib.Core.Path.{sym, _∙_}
+use Rattle.steps.proofs.inverse_by.Statement.{statement}
+use Rattle.steps.proofs.inverse_by.Tie as tie
+
+is-single-requires : tie.Need-is-single-requires
+is-single-requires c κs = search needs
+
+slice-aggregate-is-word : tie.Need-slice-aggregate-is-word
+slice-aggregate-is-word c = search needs
+
+is-word-requires : tie.Need-is-word-requires
+is-word-requires c κs = search needs
+
+returns : tie.Need-returns
+returns c =
+    rw (sym (c .before .before .before .before .is-single .ensures) ∙ c .before .before .before .if1 .taken, sym (c .before .is-word .ensures) ∙ c .if2 .taken)
+
+returns-2 : tie.Need-returns-2
+returns-2 c =
+    rw (sym (c .before .before .before .before .is-single .ensures) ∙ c .before .before .before .if1 .taken, sym (c .before .is-word .ensures) ∙ c .if2 .left)
+
+returns-3 : tie.Need-returns-3
+returns-3 c =
+    rw (sym (c .before .is-single .ensures) ∙ c .if1 .left)
+
+pub inverse-by-spec : {M : Type 1} → statement M
+inverse-by-spec = tie.close (tie.spec is-single-requires slice-aggregate-is-word is-word-requires returns returns-2 returns-3)

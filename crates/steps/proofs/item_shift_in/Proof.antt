@@ -1,0 +1,28 @@
+use borrow.Author.Needs.{needs}
+use Rattle.node.proofs.Laws as node-laws
+use Rattle.steps.proofs.item_shift_in.Statement.{statement}
+use Rattle.steps.proofs.item_shift_in.Tie as tie
+
+find-item-requires : tie.Need-find-item-requires
+find-item-requires c κs = search needs
+
+enum-told : tie.Need-enum-told
+enum-told c = search needs
+
+enum-known-k : tie.Need-enum-known-k
+enum-known-k c = search needs
+
+item-shift-at-requires : tie.Need-item-shift-at-requires
+item-shift-at-requires c κs =
+    (c .before .before .before .before .before .before .pre .0, node-laws.within _ (c .before .k .given .1) (c .before .before .before .find-item .ensures .1))
+
+returns : tie.Need-returns
+returns c =
+    rw (node-laws.lacked (c .enum-told .given .1) (c .before .before .find-item .ensures .0))
+
+returns-2 : tie.Need-returns-2
+returns-2 c =
+    rw (node-laws.had (c .before .before .k .given .1) (c .before .before .before .before .find-item .ensures .0)) (c .item-shift-at .ensures)
+
+pub item-shift-in-spec : {M : Type 1} → statement M
+item-shift-in-spec = tie.close (tie.spec find-item-requires enum-told enum-known-k item-shift-at-requires returns returns-2)

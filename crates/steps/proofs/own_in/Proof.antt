@@ -1,0 +1,47 @@
+use borrow.Author.Tests.{eq-eqb, ne-eqb}
+use Rattle.element.proofs.Every.{members-some, members-none}
+use borrow.Author.Needs.{needs}
+use Rattle.node.proofs.Laws as node-laws
+use Rattle.steps.proofs.own_in.Statement.{statement}
+use Rattle.steps.proofs.own_in.Tie as tie
+
+vr-requires : tie.Need-vr-requires
+vr-requires c κs = search needs
+
+add-from : tie.Need-add-from
+add-from c = search needs
+
+next-requires : tie.Need-next-requires
+next-requires c κs = search needs
+
+us-item-requires : tie.Need-us-item-requires
+us-item-requires c κs = search needs
+
+enum-told : tie.Need-enum-told
+enum-told c = search needs
+
+enum-known-id : tie.Need-enum-known-id
+enum-known-id c = search needs
+
+naming-requires : tie.Need-naming-requires
+naming-requires c κs =
+    (c .before .before .before .before .before .before .before .before .before .before .pre .0, c .before .before .before .before .before .next .ensures .1)
+
+returns : tie.Need-returns
+returns c =
+    (rw (← c .before .before .before .before .before .before .vr .ensures, eq-eqb _ _ (c .before .before .before .before .before .if1 .taken), ← c .before .before .before .before .next .ensures .0, members-some _ _ _ (c .before .before .before .if2 .taken), node-laws.lacked (c .enum-told .given .1) (c .before .before .us-item .ensures .0)), tt)
+
+returns-2 : tie.Need-returns-2
+returns-2 c =
+    (rw (← c .before .before .before .before .before .before .before .before .vr .ensures, eq-eqb _ _ (c .before .before .before .before .before .before .before .if1 .taken), ← c .before .before .before .before .before .before .next .ensures .0, members-some _ _ _ (c .before .before .before .before .before .if2 .taken), node-laws.had (c .before .before .id .given .1) (c .before .before .before .before .us-item .ensures .0)) (c .naming .ensures .0), c .naming .ensures .1)
+
+returns-3 : tie.Need-returns-3
+returns-3 c =
+    (rw (← c .before .before .before .vr .ensures, eq-eqb _ _ (c .before .before .if1 .taken), ← c .before .next .ensures .0, members-none _ _ _ (c .if2 .left)), tt)
+
+returns-4 : tie.Need-returns-4
+returns-4 c =
+    (rw (← c .before .vr .ensures, ne-eqb _ _ (c .if1 .left)), tt)
+
+pub own-in-spec : {M : Type 1} → statement M
+own-in-spec = tie.close (tie.spec vr-requires add-from next-requires us-item-requires enum-told enum-known-id naming-requires returns returns-2 returns-3 returns-4)

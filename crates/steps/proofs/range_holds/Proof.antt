@@ -1,0 +1,31 @@
+use Rattle.steps.specs.Steps.{rangeHolds}
+use borrow.Author.Needs.{needs}
+use Rattle.node.proofs.Laws as node-laws
+use Rattle.steps.proofs.range_holds.Statement.{statement}
+use Rattle.steps.proofs.range_holds.Tie as tie
+
+find-item-requires : tie.Need-find-item-requires
+find-item-requires c κs = search needs
+
+enum-told : tie.Need-enum-told
+enum-told c = search needs
+
+enum-known-i : tie.Need-enum-known-i
+enum-known-i c = search needs
+
+range-at-requires : tie.Need-range-at-requires
+range-at-requires c κs =
+    (c .before .before .before .before .before .before .pre .0, node-laws.within _ (c .before .i .given .1) (c .before .before .before .find-item .ensures .1))
+
+returns : tie.Need-returns
+unfolding rangeHolds
+returns c =
+    rw (node-laws.lacked (c .enum-told .given .1) (c .before .before .find-item .ensures .0))
+
+returns-2 : tie.Need-returns-2
+unfolding rangeHolds
+returns-2 c =
+    rw (node-laws.had (c .before .before .i .given .1) (c .before .before .before .before .find-item .ensures .0)) (c .range-at .ensures)
+
+pub range-holds-spec : {M : Type 1} → statement M
+range-holds-spec = tie.close (tie.spec find-item-requires enum-told enum-known-i range-at-requires returns returns-2)

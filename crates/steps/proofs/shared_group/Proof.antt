@@ -1,0 +1,38 @@
+use borrow.Author.Needs.{needs}
+use Rattle.node.proofs.Laws as node-laws
+use Rattle.steps.proofs.shared_group.Statement.{statement}
+use Rattle.steps.proofs.shared_group.Tie as tie
+
+shared-item-requires : tie.Need-shared-item-requires
+shared-item-requires c κs = search needs
+
+enum-told : tie.Need-enum-told
+enum-told c = search needs
+
+enum-known-s : tie.Need-enum-known-s
+enum-known-s c = search needs
+
+find-item-requires : tie.Need-find-item-requires
+find-item-requires c κs =
+    (c .before .before .before .before .before .before .pre, node-laws.within _ (c .before .s .given .1) (c .before .before .before .shared-item .ensures .1))
+
+enum-told-2 : tie.Need-enum-told-2
+enum-told-2 c = search needs
+
+enum-known-g : tie.Need-enum-known-g
+enum-known-g c = search needs
+
+returns : tie.Need-returns
+returns c =
+    (rw (node-laws.lacked (c .enum-told .given .1) (c .before .before .shared-item .ensures .0)), tt)
+
+returns-2 : tie.Need-returns-2
+returns-2 c =
+    (rw (node-laws.had (c .before .before .before .before .s .given .1) (c .before .before .before .before .before .before .shared-item .ensures .0), node-laws.lacked (c .enum-told2 .given .1) (c .before .before .find-item .ensures .0)), tt)
+
+returns-3 : tie.Need-returns-3
+returns-3 c =
+    (rw (node-laws.had (c .before .before .before .before .before .s .given .1) (c .before .before .before .before .before .before .before .shared-item .ensures .0), node-laws.had (c .before .g .given .1) (c .before .before .before .find-item .ensures .0)), node-laws.within _ (c .before .g .given .1) (c .before .before .before .find-item .ensures .1))
+
+pub shared-group-spec : {M : Type 1} → statement M
+shared-group-spec = tie.close (tie.spec shared-item-requires enum-told enum-known-s find-item-requires enum-told-2 enum-known-g returns returns-2 returns-3)

@@ -1,0 +1,106 @@
+-- What the answers of the code say: each is what a definition of the steps gives, and says `Lacks` where that is `none`.
+use Prim.Native.Nat.{ℕ, _≤_, _<_}
+use mathlib.Core.Bool.{Bool, true, false}
+use mathlib.Core.List.{List}
+use mathlib.Core.Option.{Option, none, some}
+use Rattle.value.specs.declared.Num.{Num}
+use Rattle.value.specs.declared.Num.the-variants as num
+use Rattle.value.specs.declared.Signed.{Signed}
+use Rattle.value.specs.declared.Signed.the-variants as signed
+use Rattle.value.specs.Number.{usValues}
+use Rattle.shift.specs.declared.Shift.{Shift}
+use Rattle.node.specs.Nodes.{Node}
+use Rattle.element.specs.Elements.{valueAt}
+use Rattle.pixel.specs.declared.Geometry.{Geometry}
+use Rattle.window.specs.declared.Window.{Window}
+use Rattle.steps.specs.declared.Applying.{Applying}
+use Rattle.steps.specs.declared.Applying.the-variants as applying
+use Rattle.steps.specs.declared.Found.{Found}
+use Rattle.steps.specs.declared.Found.the-variants as found
+use Rattle.steps.specs.declared.Holds.{Holds}
+use Rattle.steps.specs.declared.Holds.the-variants as holds
+use Rattle.steps.specs.declared.Applies.{Applies}
+use Rattle.steps.specs.declared.Applies.the-variants as applies
+use Rattle.steps.specs.declared.Shifts.{Shifts}
+use Rattle.steps.specs.declared.Shifts.the-variants as shifts
+use Rattle.steps.specs.declared.Sized.{Sized}
+use Rattle.steps.specs.declared.Sized.the-variants as sized
+use Rattle.steps.specs.declared.Windowed.{Windowed}
+use Rattle.steps.specs.declared.Windowed.the-variants as windowed
+use Rattle.steps.specs.declared.Inverse.{Inverse}
+use Rattle.steps.specs.declared.Inverse.the-variants as inverse
+
+-- A number that may be absent.
+abbrev pub foundOf : Found → Option Num
+foundOf (found.At n) = some (num.Is n)
+foundOf found.Absent = some num.Lacks
+foundOf found.Lacks = none
+
+-- The number that was found is below n.
+abbrev pub FoundBelow : ℕ → Found → Type 0
+FoundBelow n (found.At k) = k < n
+FoundBelow n found.Absent = Unit {0}
+FoundBelow n found.Lacks = Unit {0}
+
+-- A test.
+abbrev pub holdsOf : Holds → Option Bool
+holdsOf holds.Yes = some true
+holdsOf holds.No = some false
+holdsOf holds.Lacks = none
+
+-- The mask item that applies.
+abbrev pub appliesOf : Applies → Option Applying
+appliesOf (applies.Item j) = some (applying.Item j)
+appliesOf applies.Nothing = some applying.Nothing
+appliesOf applies.Lacks = none
+
+-- Its node is below n.
+abbrev pub AppliesBelow : ℕ → Applies → Type 0
+AppliesBelow n (applies.Item j) = j < n
+AppliesBelow n applies.Nothing = Unit {0}
+AppliesBelow n applies.Lacks = Unit {0}
+
+-- The value of the node that was found, and the frame numbers in it.
+abbrev pub valueIn : List Node → Num → Option (List ℕ)
+valueIn ns (num.Is k) = some (valueAt ns k)
+valueIn ns num.Lacks = none
+
+abbrev pub framesIn : List Node → Num → Option (List ℕ)
+framesIn ns (num.Is k) = some (usValues (valueAt ns k))
+framesIn ns num.Lacks = none
+
+-- A signed number.
+abbrev pub signedOf : Signed → Option Signed
+signedOf (signed.Plus n) = some (signed.Plus n)
+signedOf (signed.Minus n) = some (signed.Minus n)
+signedOf signed.Lacks = none
+
+abbrev pub shiftsOf : Shifts → Option Shift
+shiftsOf (shifts.Is s) = some s
+shiftsOf shifts.Lacks = none
+
+abbrev pub sizedOf : Sized → Option Geometry
+sizedOf (sized.Is g) = some g
+sizedOf sized.Lacks = none
+
+-- Each number of a geometry is that of a US, and the width is in bytes.
+pub record Small (g : Geometry) : Type 0 where
+  pub rows : g .rows < 65536
+  pub columns : g .columns < 65536
+  pub some-bytes : 1 ≤ g .width
+  pub width : g .width ≤ 8191
+  pub some-bits : 1 ≤ g .stored
+  pub stored : g .stored < 65536
+
+abbrev pub SizedSmall : Sized → Type 0
+SizedSmall (sized.Is g) = Small g
+SizedSmall sized.Lacks = Unit {0}
+
+abbrev pub windowedOf : Windowed → Option Window
+windowedOf (windowed.Is w) = some w
+windowedOf windowed.Lacks = none
+
+abbrev pub inverseSaid : Inverse → Option Bool
+inverseSaid inverse.Yes = some true
+inverseSaid inverse.No = some false
+inverseSaid inverse.Lacks = none

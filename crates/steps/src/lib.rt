@@ -1,0 +1,616 @@
+// The drawing steps: what is worked out before the samples. Each answer says what its step gives, or that the step lacks
+// something.
+ghost use mathlib.Core.Path.{_≡_};
+ghost use Prim.Native.Nat.{_-_, _/_, _%_, _≤_, _<_};
+ghost use mathlib.Core.Bool.{cond, _&&_};
+ghost use mathlib.Core.Option.{some};
+ghost use lib.ListN.{length};
+ghost use lib.Dec.{eqb, leb};
+ghost use Rattle.value.specs.declared.Num.the-variants as num;
+ghost use Rattle.value.specs.Text.{ascii, valueOf, isSingle};
+ghost use Rattle.value.specs.Words.{isWord};
+ghost use Rattle.value.specs.Number.{usValues, isNumber, decimalOf};
+ghost use Rattle.value.specs.Said.{Below, SizeBelow};
+ghost use Rattle.node.specs.Nodes.{nodesOf, members, inside};
+ghost use Rattle.node.specs.Table.{Table};
+ghost use Rattle.element.specs.Frames.{framesOf, frameItem};
+ghost use Rattle.steps.specs.Given.{need, check, then};
+ghost use Rattle.steps.specs.Steps.{orShared, groupFor, inPairs, rangeHas, rangeHolds, firstHolding, applyingTo, averageFrames, offsetAt, offsetOf, tidFrame, naming, ownIn, itemAt, shiftFrom, shiftFor, geometryOf, pixelsOf, windowIn, windowOn, windowFor, inverseOf};
+ghost use Rattle.steps.specs.Said.{foundOf, FoundBelow, holdsOf, appliesOf, AppliesBelow, valueIn, framesIn, signedOf, shiftsOf, sizedOf, SizedSmall, windowedOf, inverseSaid};
+use element::tags;
+use pixel::Geometry;
+use shift::Shift;
+use value::Num;
+use value::Signed;
+use window::Window;
+
+// The mask item that applies to a frame, or none.
+pub enum Applying {
+    Item(usize),
+    Nothing,
+}
+
+// ---- Answers
+
+// A number, that there is none, or that a step lacks something.
+pub enum Found {
+    At(usize),
+    Absent,
+    Lacks,
+}
+
+// A test, or that a step lacks something.
+pub enum Holds {
+    Yes,
+    No,
+    Lacks,
+}
+
+// The mask item that applies to a frame, that none does, or that a step lacks something.
+pub enum Applies {
+    Item(usize),
+    Nothing,
+    Lacks,
+}
+
+pub enum Shifts {
+    Is(Shift),
+    Lacks,
+}
+
+pub enum Sized {
+    Is(Geometry),
+    Lacks,
+}
+
+pub enum Windowed {
+    Is(Window),
+    Lacks,
+}
+
+// Whether the image is inverted.
+pub enum Inverse {
+    Yes,
+    No,
+    Lacks,
+}
+
+// ---- Functional groups of a frame
+
+// The node of item f of the per-frame functional groups.
+pub fn item_at(bytes: &[u8], rows: &[u32], frame: usize) -> Num
+    requires { ⌜ Table (now bytes) (now rows) ⌝ }
+    ensures { λ r. ⌜ r ≡ frameItem (nodesOf (now (bytes .entry))) frame ⌝ }
+    ensures { λ r. ⌜ Below (length (nodesOf (now (bytes .entry)))) r ⌝ }
+{
+    let items = element::frame_items(bytes, rows);
+    let end = items.end;
+    let mut at = items.at;
+    let mut k: usize = 1;
+    while k < frame {
+        if at < end {
+            at = node::next(bytes, rows, at);
+            k += 1;
+        } else {
+            return Num::Lacks;
+        }
+    }
+    if at < end { Num::Is(at) } else { Num::Lacks }
+}
+
+// The shared functional group of the tag.
+fn shared_group(bytes: &[u8], rows: &[u32], tag: usize) -> Found
+    requires { ⌜ Table (now bytes) (now rows) ⌝ }
+    ensures { λ r. ⌜ foundOf r ≡ orShared (nodesOf (now (bytes .entry))) tag num.Lacks ⌝ }
+    ensures { λ r. ⌜ FoundBelow (length (nodesOf (now (bytes .entry)))) r ⌝ }
+{
+    match element::shared_item(bytes, rows) {
+        Num::Lacks => Found::Lacks,
+        Num::Is(s) => match element::find_item(bytes, rows, s, tag) {
+            Num::Lacks => Found::Absent,
+            Num::Is(g) => Found::At(g),
+        },
+    }
+}
+
+// A frame's functional group of the tag: that in its item, else the shared one.
+pub fn group_for(bytes: &[u8], rows: &[u32], frame: usize, item: Num, tag: usize) -> Found
+    requires { ⌜ Table (now bytes) (now rows) × ((item ≡ frameItem (nodesOf (now bytes)) frame) × Below (length (nodesOf (now bytes))) item) ⌝ }
+    ensures { λ r. ⌜ foundOf r ≡ groupFor (nodesOf (now (bytes .entry))) frame tag ⌝ }
+    ensures { λ r. ⌜ FoundBelow (length (nodesOf (now (bytes .entry)))) r ⌝ }
+{
+    match item {
+        Num::Lacks => Found::Lacks,
+        Num::Is(i) => match element::find_item(bytes, rows, i, tag) {
+            Num::Lacks => shared_group(bytes, rows, tag),
+            Num::Is(g) => Found::At(g),
+        },
+    }
+}
+
+// ---- Step 2: the mask item that applies
+
+// Whether a frame stands between a first and a last one.
+fn in_pair(frame: usize, a: usize, b: usize) -> bool
+    ensures { λ r. ⌜ r ≡ (leb a frame && leb frame b) ⌝ }
+{
+    if a <= frame { frame <= b } else { false }
+}
+
+fn in_pairs(v: &[u8], frame: usize) -> bool
+    requires { ⌜ length (now v) % 4 ≡ 0 ⌝ }
+    ensures { λ r. ⌜ r ≡ inPairs frame (usValues (now (v .entry))) ⌝ }
+{
+    let pairs = v.len() / 4;
+    let mut k: usize = 0;
+    while k < pairs {
+        let first = value::us_value(v, 2 * k);
+        let last = value::us_value(v, 2 * k + 1);
+        if in_pair(frame, first, last) {
+            return true;
+        } else {
+            k += 1;
+        }
+    }
+    false
+}
+
+// Whether the range at node i holds a frame.
+fn range_at(bytes: &[u8], rows: &[u32], frame: usize, i: usize) -> Holds
+    requires { ⌜ Table (now bytes) (now rows) × (i < length (nodesOf (now bytes))) ⌝ }
+    ensures { λ r. ⌜ holdsOf r ≡ rangeHas (nodesOf (now (bytes .entry))) frame (num.Is i) ⌝ }
+{
+    if node::vr(bytes, rows, i) == tags::US {
+        let v = node::value(bytes, rows, i);
+        if 4 <= v.len() {
+            if v.len() % 4 == 0 {
+                if in_pairs(v, frame) {
+                    Holds::Yes
+                } else {
+                    Holds::No
+                }
+            } else {
+                Holds::Lacks
+            }
+        } else {
+            Holds::Lacks
+        }
+    } else {
+        Holds::Lacks
+    }
+}
+
+// Whether the range of mask item j holds a frame.
+fn range_holds(bytes: &[u8], rows: &[u32], frame: usize, j: usize) -> Holds
+    requires { ⌜ Table (now bytes) (now rows) × (j < length (nodesOf (now bytes))) ⌝ }
+    ensures { λ r. ⌜ holdsOf r ≡ rangeHolds (nodesOf (now (bytes .entry))) frame j ⌝ }
+{
+    match element::find_item(bytes, rows, j, tags::APPLICABLE_FRAME_RANGE) {
+        Num::Lacks => Holds::Yes,
+        Num::Is(i) => range_at(bytes, rows, frame, i),
+    }
+}
+
+// The first mask item from `from` up to `to` whose range holds a frame.
+fn first_holding(bytes: &[u8], rows: &[u32], frame: usize, from: usize, to: usize) -> Applies
+    requires { ⌜ Table (now bytes) (now rows) × (to ≤ length (nodesOf (now bytes))) ⌝ }
+    ensures { λ r. ⌜ appliesOf r ≡ firstHolding (nodesOf (now (bytes .entry))) frame (members (nodesOf (now (bytes .entry))) from to) ⌝ }
+    ensures { λ r. ⌜ AppliesBelow (length (nodesOf (now (bytes .entry)))) r ⌝ }
+{
+    let mut at = from;
+    while at < to {
+        match range_holds(bytes, rows, frame, at) {
+            Holds::Yes => {
+                return Applies::Item(at);
+            }
+            Holds::No => {
+                at = node::next(bytes, rows, at);
+            }
+            Holds::Lacks => {
+                return Applies::Lacks;
+            }
+        }
+    }
+    Applies::Nothing
+}
+
+// Step 2: the mask item that applies to a frame.
+pub fn applying_to(bytes: &[u8], rows: &[u32], frame: usize) -> Applies
+    requires { ⌜ Table (now bytes) (now rows) ⌝ }
+    ensures { λ r. ⌜ appliesOf r ≡ applyingTo (nodesOf (now (bytes .entry))) frame ⌝ }
+    ensures { λ r. ⌜ AppliesBelow (length (nodesOf (now (bytes .entry)))) r ⌝ }
+{
+    match element::find_root(bytes, rows, tags::MASK_SUBTRACTION_SEQUENCE) {
+        Num::Lacks => Applies::Nothing,
+        Num::Is(m) => {
+            if node::vr(bytes, rows, m) == node::SQ {
+                first_holding(bytes, rows, frame, m + 1, node::next(bytes, rows, m))
+            } else {
+                Applies::Lacks
+            }
+        }
+    }
+}
+
+// ---- Step 3: the mask frames
+
+// The element of an averaging mask item that has the mask frames.
+pub fn average_element(bytes: &[u8], rows: &[u32], j: usize) -> Num
+    requires { ⌜ Table (now bytes) (now rows) × (j < length (nodesOf (now bytes))) ⌝ }
+    ensures { λ r. ⌜ framesIn (nodesOf (now (bytes .entry))) r ≡ averageFrames (nodesOf (now (bytes .entry))) j ⌝ }
+    ensures { λ r. ⌜ Below (length (nodesOf (now (bytes .entry)))) r ⌝ }
+{
+    match element::find_vr_item(bytes, rows, j, tags::MASK_FRAME_NUMBERS, tags::US) {
+        Num::Lacks => Num::Lacks,
+        Num::Is(k) => {
+            let n = node::value(bytes, rows, k).len();
+            if n % 2 == 0 {
+                if 2 <= n { Num::Is(k) } else { Num::Lacks }
+            } else {
+                Num::Lacks
+            }
+        }
+    }
+}
+
+// The offset at node k.
+fn offset_at(bytes: &[u8], rows: &[u32], k: usize) -> Signed
+    requires { ⌜ Table (now bytes) (now rows) × (k < length (nodesOf (now bytes))) ⌝ }
+    ensures { λ r. ⌜ signedOf r ≡ offsetAt (nodesOf (now (bytes .entry))) (num.Is k) ⌝ }
+    ensures { λ r. ⌜ SizeBelow 32769 r ⌝ }
+{
+    if node::vr(bytes, rows, k) == tags::SS {
+        value::ss_of(node::value(bytes, rows, k))
+    } else {
+        Signed::Lacks
+    }
+}
+
+// The offset of mask item j: 1 where it names none.
+fn offset_of(bytes: &[u8], rows: &[u32], j: usize) -> Signed
+    requires { ⌜ Table (now bytes) (now rows) × (j < length (nodesOf (now bytes))) ⌝ }
+    ensures { λ r. ⌜ signedOf r ≡ offsetOf (nodesOf (now (bytes .entry))) j ⌝ }
+    ensures { λ r. ⌜ SizeBelow 32769 r ⌝ }
+{
+    match element::find_item(bytes, rows, j, tags::TID_OFFSET) {
+        Num::Lacks => Signed::Plus(1),
+        Num::Is(k) => offset_at(bytes, rows, k),
+    }
+}
+
+// A number x, where it is one of the frames.
+fn among_frames(bytes: &[u8], rows: &[u32], x: usize) -> Found
+    requires { ⌜ Table (now bytes) (now rows) ⌝ }
+    ensures { λ r. ⌜ foundOf r ≡ need (framesOf (nodesOf (now (bytes .entry)))) (λ n. some (cond (leb 1 x && leb x n) (num.Is x) num.Lacks)) ⌝ }
+{
+    match element::frame_count(bytes, rows) {
+        Num::Lacks => Found::Lacks,
+        Num::Is(n) => {
+            if 1 <= x {
+                if x <= n { Found::At(x) } else { Found::Absent }
+            } else {
+                Found::Absent
+            }
+        }
+    }
+}
+
+// a - b, or 0 where b is larger.
+fn less(a: usize, b: usize) -> usize
+    ensures { λ r. ⌜ r ≡ a - b ⌝ }
+{
+    if b <= a { a - b } else { 0 }
+}
+
+// The mask frame that a TID mask item gives a frame.
+pub fn tid_frame(bytes: &[u8], rows: &[u32], frame: usize, j: usize) -> Found
+    requires { ⌜ Table (now bytes) (now rows) × ((j < length (nodesOf (now bytes))) × (frame < 4294967296)) ⌝ }
+    ensures { λ r. ⌜ foundOf r ≡ tidFrame (nodesOf (now (bytes .entry))) frame j ⌝ }
+{
+    match offset_of(bytes, rows, j) {
+        Signed::Plus(d) => among_frames(bytes, rows, less(frame, d)),
+        Signed::Minus(d) => among_frames(bytes, rows, frame + d),
+        Signed::Lacks => Found::Lacks,
+    }
+}
+
+// ---- Step 4: the shift
+
+// The first item from `from` up to `to` that names the ID.
+fn naming(bytes: &[u8], rows: &[u32], id: usize, from: usize, to: usize) -> Found
+    requires { ⌜ Table (now bytes) (now rows) × (to ≤ length (nodesOf (now bytes))) ⌝ }
+    ensures { λ r. ⌜ foundOf r ≡ naming (nodesOf (now (bytes .entry))) id (members (nodesOf (now (bytes .entry))) from to) ⌝ }
+    ensures { λ r. ⌜ FoundBelow (length (nodesOf (now (bytes .entry)))) r ⌝ }
+{
+    let mut at = from;
+    while at < to {
+        match element::us_item(bytes, rows, at, tags::SUBTRACTION_ITEM_ID) {
+            Num::Lacks => {
+                return Found::Lacks;
+            }
+            Num::Is(x) => {
+                if x == id {
+                    return Found::At(at);
+                } else {
+                    at = node::next(bytes, rows, at);
+                }
+            }
+        }
+    }
+    Found::Absent
+}
+
+// The item of the shift group g that names the ID of mask item j.
+fn own_in(bytes: &[u8], rows: &[u32], j: usize, g: usize) -> Found
+    requires { ⌜ Table (now bytes) (now rows) × ((j < length (nodesOf (now bytes))) × (g < length (nodesOf (now bytes)))) ⌝ }
+    ensures { λ r. ⌜ foundOf r ≡ ownIn (nodesOf (now (bytes .entry))) j (num.Is g) ⌝ }
+    ensures { λ r. ⌜ FoundBelow (length (nodesOf (now (bytes .entry)))) r ⌝ }
+{
+    if node::vr(bytes, rows, g) == node::SQ {
+        let from = g + 1;
+        let to = node::next(bytes, rows, g);
+        if from < to {
+            match element::us_item(bytes, rows, j, tags::SUBTRACTION_ITEM_ID) {
+                Num::Lacks => Found::Lacks,
+                Num::Is(id) => naming(bytes, rows, id, from, to),
+            }
+        } else {
+            Found::Lacks
+        }
+    } else {
+        Found::Lacks
+    }
+}
+
+// The same, for a frame that may have no shift group.
+fn own(bytes: &[u8], rows: &[u32], j: usize, group: Found) -> Found
+    requires { ⌜ Table (now bytes) (now rows) × ((j < length (nodesOf (now bytes))) × FoundBelow (length (nodesOf (now bytes))) group) ⌝ }
+    ensures { λ r. ⌜ foundOf r ≡ then (foundOf group) (ownIn (nodesOf (now (bytes .entry))) j) ⌝ }
+    ensures { λ r. ⌜ FoundBelow (length (nodesOf (now (bytes .entry)))) r ⌝ }
+{
+    match group {
+        Found::At(g) => own_in(bytes, rows, j, g),
+        Found::Absent => Found::Absent,
+        Found::Lacks => Found::Lacks,
+    }
+}
+
+// The two numbers at node k, as a mask item's.
+fn item_shift_at(bytes: &[u8], rows: &[u32], k: usize) -> Shifts
+    requires { ⌜ Table (now bytes) (now rows) × (k < length (nodesOf (now bytes))) ⌝ }
+    ensures { λ r. ⌜ shiftsOf r ≡ itemAt (nodesOf (now (bytes .entry))) (num.Is k) ⌝ }
+{
+    if node::vr(bytes, rows, k) == tags::FL {
+        let v = node::value(bytes, rows, k);
+        if v.len() == 8 {
+            Shifts::Is(shift::item_shift(v))
+        } else {
+            Shifts::Lacks
+        }
+    } else {
+        Shifts::Lacks
+    }
+}
+
+// The shift of mask item j itself.
+fn item_shift_in(bytes: &[u8], rows: &[u32], j: usize) -> Shifts
+    requires { ⌜ Table (now bytes) (now rows) × (j < length (nodesOf (now bytes))) ⌝ }
+    ensures { λ r. ⌜ shiftsOf r ≡ shiftFrom (nodesOf (now (bytes .entry))) j num.Lacks ⌝ }
+{
+    match element::find_item(bytes, rows, j, tags::MASK_SUB_PIXEL_SHIFT) {
+        Num::Lacks => Shifts::Is(Shift::None),
+        Num::Is(k) => item_shift_at(bytes, rows, k),
+    }
+}
+
+// The frame's own shift, in item k of its shift group.
+fn frame_shift_in(bytes: &[u8], rows: &[u32], j: usize, k: usize) -> Shifts
+    requires { ⌜ Table (now bytes) (now rows) × (k < length (nodesOf (now bytes))) ⌝ }
+    ensures { λ r. ⌜ shiftsOf r ≡ shiftFrom (nodesOf (now (bytes .entry))) j (num.Is k) ⌝ }
+{
+    match element::find_vr_item(bytes, rows, k, tags::MASK_SUB_PIXEL_SHIFT, tags::FL) {
+        Num::Lacks => Shifts::Lacks,
+        Num::Is(x) => {
+            let v = node::value(bytes, rows, x);
+            if v.len() == 8 {
+                Shifts::Is(shift::frame_shift(v))
+            } else {
+                Shifts::Lacks
+            }
+        }
+    }
+}
+
+// The frame's own shift where it names one, else that of mask item j.
+fn shift_from(bytes: &[u8], rows: &[u32], j: usize, named: Found) -> Shifts
+    requires { ⌜ Table (now bytes) (now rows) × ((j < length (nodesOf (now bytes))) × FoundBelow (length (nodesOf (now bytes))) named) ⌝ }
+    ensures { λ r. ⌜ shiftsOf r ≡ then (foundOf named) (shiftFrom (nodesOf (now (bytes .entry))) j) ⌝ }
+{
+    match named {
+        Found::At(k) => frame_shift_in(bytes, rows, j, k),
+        Found::Absent => item_shift_in(bytes, rows, j),
+        Found::Lacks => Shifts::Lacks,
+    }
+}
+
+// Step 4: the shift of a frame under mask item j; `item` is the frame's item.
+pub fn shift_for(bytes: &[u8], rows: &[u32], frame: usize, item: Num, j: usize) -> Shifts
+    requires { ⌜ Table (now bytes) (now rows) × ((j < length (nodesOf (now bytes))) × ((item ≡ frameItem (nodesOf (now bytes)) frame) × Below (length (nodesOf (now bytes))) item)) ⌝ }
+    ensures { λ r. ⌜ shiftsOf r ≡ shiftFor (nodesOf (now (bytes .entry))) frame j ⌝ }
+{
+    let group = group_for(bytes, rows, frame, item, tags::FRAME_PIXEL_SHIFT_SEQUENCE);
+    let named = own(bytes, rows, j, group);
+    shift_from(bytes, rows, j, named)
+}
+
+// ---- Step 6: the window
+
+fn is_number(n: Signed) -> bool
+    ensures { λ r. ⌜ r ≡ isNumber n ⌝ }
+{
+    match n {
+        Signed::Plus(_) => true,
+        Signed::Minus(_) => true,
+        Signed::Lacks => false,
+    }
+}
+
+// A centre and a width, where both are numbers.
+fn window_of(center: Signed, width: Signed) -> Windowed
+    ensures { λ r. ⌜ windowedOf r ≡ check (isNumber center && isNumber width) (some (record { center = center; width = width })) ⌝ }
+{
+    if is_number(center) {
+        if is_number(width) {
+            Windowed::Is(Window { center, width })
+        } else {
+            Windowed::Lacks
+        }
+    } else {
+        Windowed::Lacks
+    }
+}
+
+// The first value of a DS.
+fn first_decimal(v: &[u8]) -> Signed
+    ensures { λ r. ⌜ r ≡ decimalOf (valueOf (now (v .entry)) 0) ⌝ }
+{
+    value::decimal_of(value::value_of(v, 0))
+}
+
+// The window in item j of a VOI group.
+fn window_in(bytes: &[u8], rows: &[u32], j: usize) -> Windowed
+    requires { ⌜ Table (now bytes) (now rows) × (j < length (nodesOf (now bytes))) ⌝ }
+    ensures { λ r. ⌜ windowedOf r ≡ windowIn (nodesOf (now (bytes .entry))) (inside (nodesOf (now (bytes .entry))) j) ⌝ }
+{
+    let Num::Is(c) = element::find_vr_item(bytes, rows, j, tags::WINDOW_CENTER, tags::DS) else {
+        return Windowed::Lacks;
+    };
+    let Num::Is(w) = element::find_vr_item(bytes, rows, j, tags::WINDOW_WIDTH, tags::DS) else {
+        return Windowed::Lacks;
+    };
+    let center = first_decimal(node::value(bytes, rows, c));
+    let width = first_decimal(node::value(bytes, rows, w));
+    window_of(center, width)
+}
+
+// The window of a VOI group.
+fn window_at(bytes: &[u8], rows: &[u32], stored: usize, g: usize) -> Windowed
+    requires { ⌜ Table (now bytes) (now rows) × (g < length (nodesOf (now bytes))) ⌝ }
+    ensures { λ r. ⌜ windowedOf r ≡ windowOn (nodesOf (now (bytes .entry))) stored (num.Is g) ⌝ }
+{
+    match element::the_item(bytes, rows, g) {
+        Num::Lacks => Windowed::Lacks,
+        Num::Is(j) => window_in(bytes, rows, j),
+    }
+}
+
+// Step 6: the window of a frame; `item` is the frame's item.
+pub fn window_for(bytes: &[u8], rows: &[u32], frame: usize, item: Num, stored: usize) -> Windowed
+    requires { ⌜ Table (now bytes) (now rows) × ((item ≡ frameItem (nodesOf (now bytes)) frame) × (Below (length (nodesOf (now bytes))) item × ((1 ≤ stored) × (stored ≤ 16)))) ⌝ }
+    ensures { λ r. ⌜ windowedOf r ≡ windowFor (nodesOf (now (bytes .entry))) frame stored ⌝ }
+{
+    match group_for(bytes, rows, frame, item, tags::FRAME_VOI_LUT_SEQUENCE) {
+        Found::At(g) => window_at(bytes, rows, stored, g),
+        Found::Absent => Windowed::Is(window::full_window(stored)),
+        Found::Lacks => Windowed::Lacks,
+    }
+}
+
+// ---- Step 7: whether the image is inverted
+
+fn inverse_by(v: &[u8]) -> Inverse
+    ensures { λ r. ⌜ inverseSaid r ≡ check (isSingle (now (v .entry))) (some (isWord (now (v .entry)) (ascii "MONOCHROME1"))) ⌝ }
+{
+    if value::is_single(v) {
+        if value::is_word(v, b"MONOCHROME1") {
+            Inverse::Yes
+        } else {
+            Inverse::No
+        }
+    } else {
+        Inverse::Lacks
+    }
+}
+
+// Step 7: MONOCHROME1 inverts.
+pub fn inverse_of(bytes: &[u8], rows: &[u32]) -> Inverse
+    requires { ⌜ Table (now bytes) (now rows) ⌝ }
+    ensures { λ r. ⌜ inverseSaid r ≡ inverseOf (nodesOf (now (bytes .entry))) ⌝ }
+{
+    match element::find_vr_root(bytes, rows, tags::PHOTOMETRIC_INTERPRETATION, tags::CS) {
+        Num::Lacks => Inverse::Lacks,
+        Num::Is(i) => inverse_by(node::value(bytes, rows, i)),
+    }
+}
+
+// ---- The size of a frame, and the pixel bytes
+
+// A geometry of whole bytes, and at least one bit stored.
+fn geometry_by(r: usize, c: usize, allocated: usize, stored: usize) -> Sized
+    requires { ⌜ (r < 65536) × ((c < 65536) × ((allocated < 65536) × (stored < 65536))) ⌝ }
+    ensures { λ s. ⌜ sizedOf s ≡ check (leb 8 allocated && eqb (allocated % 8) 0) (check (leb 1 stored) (some (record { rows = r; columns = c; width = allocated / 8; stored = stored }))) ⌝ }
+    ensures { λ s. ⌜ SizedSmall s ⌝ }
+{
+    if 8 <= allocated {
+        if allocated % 8 == 0 {
+            if 1 <= stored {
+                Sized::Is(Geometry {
+                    rows: r,
+                    columns: c,
+                    width: allocated / 8,
+                    stored,
+                })
+            } else {
+                Sized::Lacks
+            }
+        } else {
+            Sized::Lacks
+        }
+    } else {
+        Sized::Lacks
+    }
+}
+
+// The size of a frame and of its samples.
+pub fn geometry_of(bytes: &[u8], rows: &[u32]) -> Sized
+    requires { ⌜ Table (now bytes) (now rows) ⌝ }
+    ensures { λ r. ⌜ sizedOf r ≡ geometryOf (nodesOf (now (bytes .entry))) ⌝ }
+    ensures { λ r. ⌜ SizedSmall r ⌝ }
+{
+    let Num::Is(r) = element::us_root(bytes, rows, tags::ROWS) else {
+        return Sized::Lacks;
+    };
+    let Num::Is(c) = element::us_root(bytes, rows, tags::COLUMNS) else {
+        return Sized::Lacks;
+    };
+    let Num::Is(a) = element::us_root(bytes, rows, tags::BITS_ALLOCATED) else {
+        return Sized::Lacks;
+    };
+    let Num::Is(b) = element::us_root(bytes, rows, tags::BITS_STORED) else {
+        return Sized::Lacks;
+    };
+    geometry_by(r, c, a, b)
+}
+
+// The element of the pixel bytes.
+pub fn pixel_element(bytes: &[u8], rows: &[u32]) -> Num
+    requires { ⌜ Table (now bytes) (now rows) ⌝ }
+    ensures { λ r. ⌜ valueIn (nodesOf (now (bytes .entry))) r ≡ pixelsOf (nodesOf (now (bytes .entry))) ⌝ }
+    ensures { λ r. ⌜ Below (length (nodesOf (now (bytes .entry)))) r ⌝ }
+{
+    match element::find_root(bytes, rows, tags::PIXEL_DATA) {
+        Num::Lacks => Num::Lacks,
+        Num::Is(p) => {
+            let vr = node::vr(bytes, rows, p);
+            if vr == tags::OW {
+                Num::Is(p)
+            } else {
+                if vr == tags::OB {
+                    Num::Is(p)
+                } else {
+                    Num::Lacks
+                }
+            }
+        }
+    }
+}

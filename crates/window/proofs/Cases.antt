@@ -1,0 +1,51 @@
+-- Sample cells: their window, whether 255 - y is shown, x, and the shade.
+use Prim.Native.Nat.{ℕ, _*_}
+use mathlib.Core.Path.{_≡_, refl}
+use mathlib.Core.Bool.{Bool, true, false}
+use mathlib.Core.List.{List, [], _∷_, map}
+use lib.IntN.{pos}
+use Rattle.value.specs.declared.Num.{Num}
+use Rattle.value.specs.declared.Num.the-variants.{Is, Lacks}
+use Rattle.value.specs.declared.Signed.the-variants as signed
+use Rattle.value.specs.Number.{unit}
+use Rattle.window.specs.declared.Window.{Window}
+use Rattle.window.specs.Window.{fullWindow, levelFor, levelOf, shadeOf}
+
+pub record Cell : Type 0 where
+  pub window : Window
+  pub inverse : Bool
+  pub x : ℕ
+  pub shade : ℕ
+
+-- Width 1 and centre 50; width 10 and centre 40.
+narrow : Window
+narrow = record { center = signed.Plus (50 * unit); width = signed.Plus (1 * unit) }
+
+wide : Window
+wide = record { center = signed.Plus (40 * unit); width = signed.Plus (10 * unit) }
+
+abbrev cell : Window → Bool → ℕ → ℕ → Cell
+cell w i x s = record { window = w; inverse = i; x = x; shade = s }
+
+pub samples : List Cell
+samples =
+    cell narrow false 49 0
+    ∷ cell narrow false 50 255
+    ∷ cell wide false 35 0
+    ∷ cell wide false 36 28
+    ∷ cell wide false 40 142
+    ∷ cell wide false 44 255
+    ∷ cell wide false 45 255
+    ∷ cell wide true 40 113
+    ∷ cell (fullWindow 8) false 0 0
+    ∷ cell (fullWindow 8) false 128 128
+    ∷ cell (fullWindow 8) false 255 255
+    ∷ []
+
+abbrev shaded : Bool → Num → Num
+shaded inverse (Is y) = Is (shadeOf inverse y)
+shaded inverse Lacks = Lacks
+
+pub sample-shades : map (λ (c : Cell). shaded (c .inverse) (levelOf (c .window) (pos (c .x)))) samples ≡ map (λ (c : Cell). Is (c .shade)) samples
+unfolding samples narrow wide fullWindow levelOf levelFor shadeOf
+sample-shades = refl

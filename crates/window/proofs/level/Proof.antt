@@ -1,0 +1,93 @@
+use mathlib.Core.Path.{sym, ap, _∙_}
+use Prim.Native.Nat.{ℕ, _+_, _-_, _*_}
+use native.Mathlib.Omega.{arith}
+use Rattle.value.specs.declared.Num.the-variants.{Is}
+use Rattle.window.specs.Said.{rampOf}
+use Rattle.window.proofs.Gaps.{gap}
+use Rattle.window.proofs.Laws.{sizes, window-none, window-ramp}
+use borrow.Author.Needs.{needs}
+use Rattle.window.proofs.level.Statement.{statement}
+use Rattle.window.proofs.level.Tie as tie
+
+above-requires : tie.Need-above-requires
+above-requires c κs = search needs
+
+mul-up : tie.Need-mul-up
+mul-up c = search needs
+
+mul-up-2 : tie.Need-mul-up-2
+mul-up-2 c = search needs
+
+below-requires : tie.Need-below-requires
+below-requires c κs = search needs
+
+mul-up-3 : tie.Need-mul-up-3
+mul-up-3 c =
+    omega (arith, sizes (c .before .before .args .window) (c .before .before .pre .0) .low)
+
+add-up : tie.Need-add-up
+add-up c =
+    omega (arith, sizes (c .before .before .args .window) (c .before .before .pre .0) .low)
+
+add-up-2 : tie.Need-add-up-2
+add-up-2 c =
+    omega (arith, sizes (c .before .before .args .window) (c .before .before .pre .0) .low, sizes (c .before .before .args .window) (c .before .before .pre .0) .narrow)
+
+mul-down : tie.Need-mul-down
+mul-down c = search needs
+
+mul-down-2 : tie.Need-mul-down-2
+mul-down-2 c = search needs
+
+above-requires-2 : tie.Need-above-requires-2
+above-requires-2 c κs = search needs
+
+mul-down-3 : tie.Need-mul-down-3
+mul-down-3 c =
+    omega (arith, sizes (c .before .before .before .args .window) (c .before .before .before .pre .0) .high)
+
+add-down : tie.Need-add-down
+add-down c =
+    omega (arith, sizes (c .before .before .before .args .window) (c .before .before .before .pre .0) .high)
+
+ramp-requires : tie.Need-ramp-requires
+ramp-requires c κs =
+    let s = sizes (c .before .before .before .before .args .window) (c .before .before .before .before .pre .0) in
+    omega (arith, s .wide, s .narrow, s .high, s .low)
+
+returns : tie.Need-returns
+returns c =
+    let a = c .before .before .before .before .args in
+    let s = sizes (a .window) (c .before .before .before .before .pre .0) in
+    let u = 2000 * a .plus + 2 * c .before .before .below .result + c .before .before .before .above .result in
+    let n = 2000 * a .minus + 2 * c .before .above2 .result in
+    (sym (window-none (a .window) s (gap (a .plus) (a .minus)) u n (omega arith) (omega arith) (c .if1 .taken)), omega arith)
+
+returns-2 : tie.Need-returns-2
+returns-2 c =
+    let a = c .before .before .before .before .before .args in
+    let s = sizes (a .window) (c .before .before .before .before .before .pre .0) in
+    let u = 2000 * a .plus + 2 * c .before .before .before .below .result + c .before .before .before .before .above .result in
+    let n = 2000 * a .minus + 2 * c .before .before .above2 .result in
+    let e = c .ramp .ensures .0 ∙ ap (λ (w : ℕ). rampOf (u - n) w) (c .before .before .before .before .above .ensures) in
+    (ap Is e ∙ sym (window-ramp (a .window) s (gap (a .plus) (a .minus)) u n (omega arith) (omega arith) (c .before .if1 .left)), c .ramp .ensures .1)
+
+pub level-spec : {M : Type 1} → statement M
+level-spec =
+    tie.close
+    (tie.spec
+    above-requires
+    mul-up
+    mul-up-2
+    below-requires
+    mul-up-3
+    add-up
+    add-up-2
+    mul-down
+    mul-down-2
+    above-requires-2
+    mul-down-3
+    add-down
+    ramp-requires
+    returns
+    returns-2)

@@ -1,0 +1,30 @@
+use Rattle.window.specs.Window.{shadeOf}
+use borrow.Author.Needs.{needs}
+use Rattle.window.proofs.shade.Statement.{statement}
+use Rattle.window.proofs.shade.Tie as tie
+
+level-requires : tie.Need-level-requires
+level-requires c κs = search needs
+
+sub-result : tie.Need-sub-result
+sub-result c = search needs
+
+cast-result : tie.Need-cast-result
+cast-result c = search needs
+
+cast-result-2 : tie.Need-cast-result-2
+cast-result-2 c = search needs
+
+returns : tie.Need-returns
+unfolding shadeOf
+returns c =
+    rw (c .if1 .taken, ← c .before .level .ensures .0)
+
+returns-2 : tie.Need-returns-2
+unfolding shadeOf
+returns-2 c =
+    rw (c .if1 .left, ← c .before .level .ensures .0)
+
+pub shade-spec : {M : Type 1} → statement M
+shade-spec =
+    tie.close (tie.spec level-requires sub-result cast-result cast-result-2 returns returns-2)

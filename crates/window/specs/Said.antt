@@ -1,0 +1,52 @@
+-- What contracts say beside the definition of a level: the windows that are drawn, and a table of shades.
+use Prim.Native.Nat.{ℕ, _+_, _-_, _*_, _/_, _^_, _<_}
+use mathlib.Core.Path.{_≡_}
+use mathlib.Core.Bool.{Bool, true, cond}
+use mathlib.Core.List.{List}
+use lib.Dec.{ltb}
+use lib.ListN.{length, getD}
+use lib.IntN.{pos, _-ℤ_}
+use Rattle.value.specs.declared.Num.{Num}
+use Rattle.value.specs.declared.Num.the-variants.{Is, Lacks}
+use Rattle.value.specs.declared.Signed.{Signed}
+use Rattle.value.specs.declared.Signed.the-variants as signed
+use Rattle.value.specs.Number.{unit, isNumber, isWidth}
+use Rattle.value.specs.Said.{SizeBelow}
+use Rattle.window.specs.declared.Window.{Window}
+use Rattle.window.specs.Window.{levelOf, shadeOf}
+
+-- A window that can be drawn: its centre and its width are numbers, the width at least 1, and both are of a DS's size.
+pub record Drawable (w : Window) : Type 0 where
+  pub number : isNumber (w .center) ≡ true
+  pub near : SizeBelow 1000000000 (w .center)
+  pub wide : isWidth (w .width) ≡ true
+  pub narrow : SizeBelow 1000000000 (w .width)
+
+-- A signed number is the difference of these two.
+abbrev pub above : Signed → ℕ
+above (signed.Plus n) = n
+above (signed.Minus n) = 0
+above signed.Lacks = 0
+
+abbrev pub below : Signed → ℕ
+below (signed.Plus n) = 0
+below (signed.Minus n) = n
+below signed.Lacks = 0
+
+-- The level where d is 2ux - 2C + W and above 0.
+unfoldable pub rampOf : ℕ → ℕ → ℕ
+rampOf d w = cond (ltb (2 * w) (d + 2 * unit)) 255 ((255 * d + w - unit) / (2 * (w - unit)))
+
+-- The number of a level that does not lack.
+abbrev pub number : Num → ℕ
+number (Is n) = n
+number Lacks = 0
+
+-- Place i of a table for so many stored bits: the shade of x = i + 2^(stored - 1) - (2^stored - 1).
+unfoldable pub shadeAt : Window → ℕ → Bool → ℕ → ℕ
+shadeAt window stored inverse i = shadeOf inverse (number (levelOf window (pos (i + 2 ^ (stored - 1)) -ℤ pos (2 ^ stored - 1))))
+
+-- A table whose first n places are those of f.
+pub record Filled (f : ℕ → ℕ) (n : ℕ) (s : List ℕ) : Type 0 where
+  pub size : length s ≡ 131072
+  pub value : (i : ℕ) → i < n → getD s i 0 ≡ f i

@@ -1,0 +1,49 @@
+-- Drawing steps 6 and 7: the window, and its levels.
+use Prim.Native.Nat.{ℕ, zero, suc, _+_, _-_, _*_, _/_, _^_}
+use mathlib.Core.Bool.{Bool, true, false, cond}
+use lib.IntN.{ℤ, pos, negsuc, natAbs, _+ℤ_, _-ℤ_, _*ℤ_}
+use lib.Signed.{leZ, ltZ}
+use Rattle.value.specs.declared.Num.{Num}
+use Rattle.value.specs.declared.Num.the-variants.{Is, Lacks}
+use Rattle.value.specs.declared.Signed.{Signed}
+use Rattle.value.specs.declared.Signed.the-variants as signed
+use Rattle.value.specs.Number.{unit}
+use Rattle.window.specs.declared.Window.{Window}
+
+-- A signed number as an integer.
+abbrev pub integer : Signed → ℤ
+integer (signed.Plus n) = pos n
+integer (signed.Minus zero) = pos 0
+integer (signed.Minus (suc n)) = negsuc n
+integer signed.Lacks = pos 0
+
+-- The window of a frame without a VOI group: centre 2^(stored - 1) and width 2^stored, in units.
+unfoldable pub fullWindow : ℕ → Window
+fullWindow stored = record { center = signed.Plus (unit * 2 ^ (stored - 1)); width = signed.Plus (unit * 2 ^ stored) }
+
+-- a / b rounded down, for a b above 0.
+abbrev pub floor : ℤ → ℤ → ℤ
+floor (pos a) b = pos (a / natAbs b)
+floor (negsuc a) b = negsuc (a / natAbs b)
+
+-- Limited to 0..255.
+abbrev pub limited : ℤ → ℕ
+limited (negsuc n) = 0
+limited (pos n) = cond (leZ (pos n) (pos 255)) n 255
+
+-- Step 6, for a centre C and a width W, with u the units to one: 0 if 2ux ≤ 2C - W; 255 if 2ux > 2C + W - 2u; else
+-- floor((255(2ux - 2C + W) + W - u) / (2(W - u))), whose divisor must be above 0. Then limited.
+unfoldable pub levelFor : ℤ → ℤ → ℤ → ℤ → Num
+levelFor u c w x =
+    cond (leZ (pos 2 *ℤ u *ℤ x) (pos 2 *ℤ c -ℤ w)) (Is 0)
+    (cond (ltZ (pos 2 *ℤ c +ℤ w -ℤ pos 2 *ℤ u) (pos 2 *ℤ u *ℤ x)) (Is 255)
+    (cond (ltZ (pos 0) (pos 2 *ℤ (w -ℤ u)))
+    (Is (limited (floor (pos 255 *ℤ (pos 2 *ℤ u *ℤ x -ℤ pos 2 *ℤ c +ℤ w) +ℤ w -ℤ u) (pos 2 *ℤ (w -ℤ u)))))
+    Lacks))
+
+unfoldable pub levelOf : Window → ℤ → Num
+levelOf w x = levelFor (pos unit) (integer (w .center)) (integer (w .width)) x
+
+-- Step 7: MONOCHROME1 shows 255 - y.
+unfoldable pub shadeOf : Bool → ℕ → ℕ
+shadeOf inverse y = cond inverse (255 - y) y

@@ -1,0 +1,122 @@
+// The window of a frame and its levels.
+ghost use mathlib.Core.Path.{_≡_};
+ghost use Prim.Native.Nat.{_+_, _-_, _^_, _≤_, _<_};
+ghost use lib.ListN.{length};
+ghost use lib.IntN.{pos, _-ℤ_};
+ghost use Rattle.value.specs.declared.Num.the-variants.{Is};
+ghost use Rattle.value.specs.Number.{unit};
+ghost use Rattle.window.specs.Window.{fullWindow, levelOf, shadeOf};
+ghost use Rattle.window.specs.Said.{Drawable, Filled, above, below, rampOf, number, shadeAt};
+use value::Signed;
+
+// Centre and width, in units of a DS number.
+pub struct Window {
+    pub center: Signed,
+    pub width: Signed,
+}
+
+// The units to one.
+const UNIT: usize = 1000;
+
+// A signed number is above(s) - below(s).
+fn above(s: Signed) -> usize
+    ensures { λ r. ⌜ r ≡ above s ⌝ }
+{
+    match s {
+        Signed::Plus(n) => n,
+        Signed::Minus(n) => 0,
+        Signed::Lacks => 0,
+    }
+}
+
+fn below(s: Signed) -> usize
+    ensures { λ r. ⌜ r ≡ below s ⌝ }
+{
+    match s {
+        Signed::Plus(n) => 0,
+        Signed::Minus(n) => n,
+        Signed::Lacks => 0,
+    }
+}
+
+// The level where up - down is 2ux - 2C + W, above 0, and w the width.
+fn ramp(up: usize, down: usize, w: usize) -> usize
+    requires { ⌜ (down < up) × ((up < 4000000000) × ((unit ≤ w) × (w < 1000000000))) ⌝ }
+    ensures { λ r. ⌜ (r ≡ rampOf (up - down) w) × (r ≤ 255) ⌝ }
+{
+    let d = up - down;
+    if 2 * w < d + 2 * UNIT {
+        255
+    } else {
+        (255 * d + w - UNIT) / (2 * (w - UNIT))
+    }
+}
+
+// The level of x = plus - minus.
+pub fn level(window: Window, plus: usize, minus: usize) -> usize
+    requires { ⌜ Drawable window × ((plus < 200000) × (minus < 200000)) ⌝ }
+    ensures { λ r. ⌜ (Is r ≡ levelOf window (pos plus -ℤ pos minus)) × (r ≤ 255) ⌝ }
+{
+    let center = window.center;
+    let width = window.width;
+    let w = above(width);
+    let up = 2 * UNIT * plus + 2 * below(center) + w;
+    let down = 2 * UNIT * minus + 2 * above(center);
+    if up <= down { 0 } else { ramp(up, down, w) }
+}
+
+// 2^n.
+pub fn power(n: usize) -> usize
+    requires { ⌜ n ≤ 17 ⌝ }
+    ensures { λ r. ⌜ (r ≡ 2 ^ n) × ((1 ≤ r) × (r ≤ 131072)) ⌝ }
+{
+    let mut r: usize = 1;
+    for i in 0..n {
+        r = 2 * r;
+    }
+    r
+}
+
+// The window of a frame that names none.
+pub fn full_window(stored: usize) -> Window
+    requires { ⌜ (1 ≤ stored) × (stored ≤ 16) ⌝ }
+    ensures { λ r. ⌜ (r ≡ fullWindow stored) × Drawable r ⌝ }
+{
+    let half = power(stored - 1);
+    let full = power(stored);
+    Window {
+        center: Signed::Plus(UNIT * half),
+        width: Signed::Plus(UNIT * full),
+    }
+}
+
+// The shade of x = plus - minus: its level, or 255 less the level.
+fn shade(window: Window, plus: usize, minus: usize, inverse: bool) -> u8
+    requires { ⌜ Drawable window × ((plus < 200000) × (minus < 200000)) ⌝ }
+    ensures { λ r. ⌜ r ≡ shadeOf inverse (number (levelOf window (pos plus -ℤ pos minus))) ⌝ }
+{
+    let y = level(window, plus, minus);
+    if inverse { (255 - y) as u8 } else { y as u8 }
+}
+
+// An empty table.
+fn blank() -> [u8; 131072]
+    ensures { λ r. ⌜ length r ≡ 131072 ⌝ }
+{
+    [0; 131072]
+}
+
+// The shade at place i is that of x = i + 2^(stored - 1) - (2^stored - 1).
+pub fn levels(window: Window, stored: usize, inverse: bool) -> [u8; 131072]
+    requires { ⌜ Drawable window × ((1 ≤ stored) × (stored ≤ 16)) ⌝ }
+    ensures { λ r. ⌜ Filled (shadeAt window stored inverse) (2 ^ (stored + 1) - 1) r ⌝ }
+{
+    let half = power(stored - 1);
+    let least = power(stored) - 1;
+    let n = power(stored + 1) - 1;
+    let mut table = blank();
+    for i in 0..n {
+        table[i] = shade(window, i + half, least, inverse);
+    }
+    table
+}
