@@ -7,3 +7,4 @@ pub mod Demand3
 pub mod Pictures
 pub mod Small
 pub mod Plan
+pub mod Paints

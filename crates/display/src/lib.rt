@@ -8,9 +8,14 @@ ghost use Rattle.value.specs.Said.{Below};
 ghost use Rattle.node.specs.Nodes.{nodesOf};
 ghost use Rattle.node.specs.Table.{Table};
 ghost use Rattle.element.specs.Frames.{frameItem};
+ghost use Rattle.element.specs.Elements.{valueAt};
+ghost use Rattle.pixel.specs.Pixel.{samplesOf};
+ghost use Rattle.pixel.specs.Painted.{painted};
+ghost use Rattle.pixel.specs.Said.{Ready};
 ghost use Rattle.steps.specs.Steps.{applyingTo, movesFor, maskBy, maskFor};
-ghost use Rattle.display.specs.Said.{Gives, GivesMoves, averageBy, tidBy, maskingOf, MaskingBelow, ApplyingBelow};
+ghost use Rattle.display.specs.Said.{Gives, GivesMoves, averageBy, tidBy, maskingOf, MaskingBelow, ApplyingBelow, isMasked, shadeBy, MasksReady};
 use element::tags;
+use pixel::Geometry;
 use shift::Moves;
 use steps::Applies;
 use steps::Applying;
@@ -127,4 +132,46 @@ fn mask_for(bytes: &[u8], rows: &[u32], frame: usize, item: Num, n: usize) -> Ma
         return Masking::Native;
     };
     mask_by(bytes, rows, frame, item, j, n)
+}
+
+// Paints the frame's samples, from a table of shades; answers whether it is masked.
+fn paint(
+    bytes: &[u8],
+    rows: &[u32],
+    frame: usize,
+    g: Geometry,
+    p: usize,
+    masking: Masking,
+    table: &[u8],
+    image: &mut [u8],
+) -> bool
+    requires { ⌜ Table (now bytes) (now rows) × ((p < length (nodesOf (now bytes))) × (Ready (valueAt (nodesOf (now bytes)) p) g frame (now table) (now image) × MasksReady (nodesOf (now bytes)) (valueAt (nodesOf (now bytes)) p) g masking)) ⌝ }
+    ensures { λ r. ⌜ r ≡ isMasked masking ⌝ }
+    ensures { λ _. ⌜ now (image .exit) ≡ painted (shadeBy (nodesOf (now (bytes .entry))) (now (table .entry)) g (valueAt (nodesOf (now (bytes .entry))) p) frame masking) (samplesOf g) (now (image .entry)) ⌝ }
+{
+    let pixels = node::value(bytes, rows, p);
+    match masking {
+        Masking::Native => {
+            pixel::paint_native(pixels, g, frame, table, image);
+            false
+        }
+        Masking::Average(k, m) => {
+            pixel::paint_masked(
+                pixels,
+                g,
+                frame,
+                node::value(bytes, rows, k),
+                m,
+                table,
+                image,
+            );
+            true
+        }
+        Masking::One(t, m) => {
+            let one = [(t % 256) as u8, (t / 256 % 256) as u8];
+            pixel::paint_masked(pixels, g, frame, &one, m, table, image);
+            true
+        }
+        Masking::Lacks => false,
+    }
 }
