@@ -8,3 +8,4 @@ pub mod Pictures
 pub mod Small
 pub mod Plan
 pub mod Paints
+pub mod Draws
