@@ -9,3 +9,4 @@ pub mod Small
 pub mod Plan
 pub mod Paints
 pub mod Draws
+pub mod Whole

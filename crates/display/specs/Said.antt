@@ -48,6 +48,10 @@ pub record GivesMoves (o : Option Moves) : Type 0 where
   pub is : o ≡ some m
   pub short : Short m
 
+pub record GivesInverse (o : Option Bool) : Type 0 where
+  pub b : Bool
+  pub is : o ≡ some b
+
 -- The two kinds of masks, as parts of step 3.
 abbrev pub averageBy : List Node → ℕ → ℕ → Option Mask
 averageBy ns f j = then (averageFrames ns j) (λ ks. then (movesFor ns f j) (λ m. some (maskOf ks m)))

@@ -3,24 +3,32 @@ ghost use mathlib.Core.Path.{_≡_};
 ghost use Prim.Native.Nat.{ℕ, _+_, _-_, _*_, _^_, _≤_, _<_};
 ghost use mathlib.Core.Bool.{Bool, true, false};
 ghost use mathlib.Core.Option.{Option, none, some};
-ghost use lib.ListN.{length};
+ghost use mathlib.Core.List.{_++_};
+ghost use lib.ListN.{length, drop, getD};
+ghost use Rattle.value.specs.declared.Num.the-variants as num;
+ghost use Rattle.conformance.specs.declared.Finding.the-variants as finding;
+ghost use Rattle.conformance.specs.Judging.{findingOf};
+ghost use Rattle.display.specs.Show.{imageSize, pictureOf};
 ghost use Rattle.value.specs.Said.{Below};
 ghost use Rattle.node.specs.Nodes.{nodesOf};
 ghost use Rattle.node.specs.Table.{Table};
-ghost use Rattle.element.specs.Frames.{frameItem};
+ghost use Rattle.element.specs.Frames.{frameItem, framesOf};
 ghost use Rattle.element.specs.Elements.{valueAt};
 ghost use Rattle.pixel.specs.Pixel.{samplesOf};
 ghost use Rattle.pixel.specs.Painted.{painted};
 ghost use Rattle.pixel.specs.Said.{Ready};
-ghost use Rattle.steps.specs.Steps.{applyingTo, movesFor, maskBy, maskFor};
-ghost use Rattle.display.specs.Said.{Gives, GivesMoves, averageBy, tidBy, maskingOf, MaskingBelow, ApplyingBelow, isMasked, shadeBy, MasksReady};
+ghost use Rattle.steps.specs.Steps.{applyingTo, inverseOf, movesFor, maskBy, maskFor};
+ghost use Rattle.display.specs.Said.{Gives, GivesMoves, GivesInverse, averageBy, tidBy, maskingOf, MaskingBelow, ApplyingBelow, isMasked, shadeBy, MasksReady};
 use element::tags;
 use pixel::Geometry;
 use shift::Moves;
 use steps::Applies;
 use steps::Applying;
 use steps::Found;
+use steps::Inverse;
 use steps::Shifts;
+use steps::Sized;
+use steps::Windowed;
 use value::Num;
 use value::Signed;
 
@@ -174,4 +182,39 @@ fn paint(
         }
         Masking::Lacks => false,
     }
+}
+
+// Step 7: whether the picture is inverted.
+fn is_inverse(bytes: &[u8], rows: &[u32]) -> bool
+    requires { ⌜ Table (now bytes) (now rows) × GivesInverse (inverseOf (nodesOf (now bytes))) ⌝ }
+    ensures { λ r. ⌜ inverseOf (nodesOf (now (bytes .entry))) ≡ some r ⌝ }
+{
+    match steps::inverse_of(bytes, rows) {
+        Inverse::Yes => true,
+        Inverse::No => false,
+        Inverse::Lacks => false,
+    }
+}
+
+// Draws a frame of an accepted object of n frames; answers whether it is masked.
+fn draw(bytes: &[u8], rows: &[u32], frame: usize, n: usize, image: &mut [u8]) -> bool
+    requires { ⌜ Table (now bytes) (now rows) × (((i : ℕ) → getD (now bytes) i 0 < 256) × ((findingOf (nodesOf (now bytes)) ≡ finding.Accepted) × ((framesOf (nodesOf (now bytes)) ≡ num.Is n) × ((1 ≤ frame) × ((frame ≤ n) × (imageSize (nodesOf (now bytes)) ≤ length (now image))))))) ⌝ }
+    ensures { λ r. ⌜ r ≡ pictureOf (nodesOf (now (bytes .entry))) frame .masked ⌝ }
+    ensures { λ _. ⌜ now (image .exit) ≡ pictureOf (nodesOf (now (bytes .entry))) frame .samples ++ drop (length (pictureOf (nodesOf (now (bytes .entry))) frame .samples)) (now (image .entry)) ⌝ }
+{
+    let Sized::Is(g) = steps::geometry_of(bytes, rows) else {
+        return false;
+    };
+    let Num::Is(p) = steps::pixel_element(bytes, rows) else {
+        return false;
+    };
+    let item = steps::item_at(bytes, rows, frame);
+    let stored = g.stored;
+    let Windowed::Is(w) = steps::window_for(bytes, rows, frame, item, stored) else {
+        return false;
+    };
+    let inverse = is_inverse(bytes, rows);
+    let table = window::levels(w, stored, inverse);
+    let masking = mask_for(bytes, rows, frame, item, n);
+    paint(bytes, rows, frame, g, p, masking, &table, image)
 }
