@@ -1,172 +1,147 @@
--- Demand 3, for the definitions. An accepted object breaks no rule. Take any frame of it, from 1 to its Number of Frames.
--- Then no drawing step lacks anything: the frame lies whole inside the pixel bytes, the functional groups that the steps
--- open are there, every value has the VR, count and form that a step reads, every mask cell lies inside the picture, and
--- no step divides by zero. So the steps give a picture, native or masked, of exactly Rows × Columns cells, each from 0 to 255.
--- This is one claim over all steps, all frames and all cells; it is stated over the same definitions of the rules and of
--- the steps that the calls are proved to follow, and no rule is built into the steps.
+-- Demand 3: every frame of an accepted object can be drawn, and `show` draws exactly those, as the steps say. The statement
+-- stands in specs/Demand3, which opens with it in plain words; here is its proof. That no step lacks anything is from
+-- Lacking; the rest follows what `show` answers back to what it was asked.
 use mathlib.Core.Path.{_≡_, refl, sym, ap, _∙_, subst}
 use mathlib.Core.Bool.{Bool, true, false, cond, _&&_}
 use mathlib.Core.List.{List, [], _∷_, _++_}
 use mathlib.Core.Option.{Option, none, some}
-use Prim.Native.Nat.{ℕ, zero, suc, _+_, _-_, _*_, _/_, _%_, _^_, _≤_, _<_}
+use Prim.Native.Nat.{ℕ, _*_, _≤_, _<_}
 use native.Mathlib.Omega.{arith}
-use lib.ListN.{length, length-append, drop}
-use lib.IntN.{ℤ, pos, _+ℤ_, _-ℤ_}
-use lib.Dec.{eqb, leb, ltb}
-use borrow.Author.Tests.{lt-ltb}
-use Rattle.value.specs.declared.Num.{Num}
-use Rattle.value.specs.declared.Num.the-variants.{Is, Lacks}
-use Rattle.shift.specs.declared.Moves.{Moves}
-use Rattle.node.specs.Nodes.{Node, nodesOf, root}
-use Rattle.pixel.specs.declared.Geometry.{Geometry}
-use Rattle.pixel.specs.Pixel.{samplesOf, isFrame, sampleAt, maskAt, sourceOf}
-use Rattle.pixel.proofs.Laws.{source-below}
-use Rattle.window.specs.declared.Window.{Window}
-use Rattle.window.specs.Window.{levelOf, shadeOf}
-use Rattle.window.specs.Said.{Drawable}
-use Rattle.window.proofs.Laws.{leveled}
-use Rattle.steps.specs.Given.{need, check, then, collect}
-use Rattle.steps.specs.Steps.{Picture, Mask, shaded, nativeCell, maskedCell, areFrames, pictureBy, geometryOf, stepsOf, native as noMask, masked as maskBy}
-use Rattle.element.specs.Tags
-use Rattle.element.specs.Elements.{usIn}
+use lib.ListN.{length, drop}
+use lib.Dec.{leb}
+use borrow.Author.Tests.{le-leb, leb-true}
+use Rattle.dataset.specs.Reading.{Row, Reading, tooLarge, refusedAt, read, readingOf}
+use Rattle.dataset.specs.Answer.{width, answerOf}
+use Rattle.dataset.specs.Tree.{rowsIn, rowsOf}
+use Rattle.dataset.specs.declared.ReadAnswer.{ReadAnswer}
+use Rattle.dataset.specs.declared.ReadAnswer.the-variants as answer
+use Rattle.dataset.proofs.Laws.{Small, answer-small}
+use Rattle.node.specs.Nodes.{Node, nodesOf}
 use Rattle.element.specs.Frames.{framesOf}
-use Rattle.conformance.specs.declared.Finding.the-variants.{Accepted}
-use Rattle.conformance.specs.Judging.{numberOf, findingOf}
-use Rattle.display.specs.Show.{imageSize}
-use Rattle.display.proofs.Given.{never}
-use Rattle.display.proofs.Small.{Bytes, us-in-small}
-use Rattle.display.proofs.Objects.{object, windowed}
-use Rattle.display.proofs.Masks.{masking}
-use Rattle.display.proofs.Accepted.{Object, Windowed, AllWithin, Sound, Masking}
+use Rattle.conformance.specs.declared.Finding.{Finding}
+use Rattle.conformance.specs.declared.Finding.the-variants as finding
+use Rattle.conformance.specs.declared.JudgeAnswer.{JudgeAnswer}
+use Rattle.conformance.specs.declared.JudgeAnswer.the-variants as judged
+use Rattle.conformance.specs.Judging.{numberOf, findingOf, answerFor, judgeOf}
+use Rattle.steps.specs.Steps.{Picture, stepsOf}
+use Rattle.display.specs.declared.ShowAnswer.{ShowAnswer}
+use Rattle.display.specs.declared.ShowAnswer.the-variants as shown
+use Rattle.display.specs.Show.{isFrameOf, imageSize, pictureOf, acceptedAnswer, answerFor as shownFor, imageBy, showOf, imageOf, codeOf, rowCountOf, maskedOf}
+use Rattle.display.specs.Demand3.{Bytes, IsAccepted, IsFrame, HasRoom, Whole, HandsBack, Promise, Demand3}
+use Rattle.display.proofs.Lacking.{nothing-lacks}
 
--- ---- Cells that all answer
+-- ---- Where there is room, the answer is a picture
 
--- Every cell of a list is a level.
-abbrev pub AllLevels : List ℕ → Type 0
-AllLevels [] = Unit {0}
-AllLevels (y ∷ ys) = (y ≤ 255) × AllLevels ys
+both : (p q : Bool) → p && q ≡ true → (p ≡ true) × (q ≡ true)
+both true q h = (refl, h)
+both false q h = let z : _≡_ {A = ℕ} 0 1 = cc in absurd (omega arith)
 
-all-levels-append : (a b : List ℕ) → AllLevels a → AllLevels b → AllLevels (a ++ b)
-all-levels-append [] b p q = q
-all-levels-append (y ∷ ys) b p q = (p .0, all-levels-append ys b (p .1) q)
+room-answer : (rows : List Row) (buffer : List ℕ) → width * length rows ≤ length buffer → answerOf (read rows) buffer ≡ answer.Done (length rows)
+room-answer rows buffer h = rw (le-leb (width * length rows) (length buffer) h)
 
--- A cell that lacks nothing.
-pub record Cell (o : Num) : Type 0 where
-  pub y : ℕ
-  pub is : o ≡ Is y
-  pub small : y ≤ 255
+module _ (s : List ℕ) (f : ℕ) (buffer image : List ℕ) where
+  rows-are : (a : IsAccepted s) → rowsOf s ≡ a .rows
+  unfolding rowsOf
+  rows-are a = ap rowsIn (a .reads)
 
--- The list of n cells that lack nothing.
-pub record Cells (f : ℕ → Num) (n : ℕ) : Type 0 where
-  pub l : List ℕ
-  pub is : collect f n ≡ some l
-  pub size : length l ≡ n
-  pub levels : AllLevels l
+  judged-accepted : (a : IsAccepted s) → HasRoom s buffer image → judgeOf s buffer ≡ judged.Accepted (length (rowsOf s))
+  unfolding judgeOf
+  judged-accepted a r =
+      let h : width * length (a .rows) ≤ length buffer = subst (λ (l : List Row). width * length l ≤ length buffer) (rows-are a) (r .rows) in
+      rw (a .reads, room-answer (a .rows) buffer h, a .sound, rows-are a)
 
-pub collect-all : (f : ℕ → Num) (n : ℕ) → ((i : ℕ) → i < n → Cell (f i)) → Cells f n
-unfolding collect
-collect-all f zero h = record { l = []; is = refl; size = refl; levels = tt }
-collect-all f (suc n) h =
-    let c = collect-all f n (λ i k. h i (omega arith)) in
-    let e = h n (omega arith) in
-    record {
-      l = c .l ++ (e .y ∷ []);
-      is = rw (c .is, e .is);
-      size = simp length-append (omega (arith, c .size));
-      levels = all-levels-append (c .l) (e .y ∷ []) (c .levels) (e .small, tt);
-    }
+  answer-drawn : (n : ℕ) → IsFrame s f → HasRoom s buffer image → acceptedAnswer (nodesOf s) f image n ≡ shown.Drawn n (pictureOf (nodesOf s) f .masked)
+  unfolding acceptedAnswer
+  answer-drawn n i r =
+      rw (le-leb 1 f (i .low), le-leb f (numberOf (framesOf (nodesOf s))) (i .high), le-leb (imageSize (nodesOf s)) (length image) (r .cells))
 
--- ---- A cell lacks nothing in a window that can be drawn with
+  shows : (a : IsAccepted s) → IsFrame s f → HasRoom s buffer image → showOf s f buffer image ≡ shown.Drawn (length (rowsOf s)) (pictureOf (nodesOf s) f .masked)
+  unfolding showOf
+  shows a i r = rw (judged-accepted a r, answer-drawn (length (rowsOf s)) i r)
 
-shade-small : (inverse : Bool) (y : ℕ) → y ≤ 255 → shadeOf inverse y ≤ 255
-unfolding shadeOf
-shade-small true y h = omega arith
-shade-small false y h = h
+  -- ---- And from a picture back to what there was
 
-level-cell : (w : Window) → Drawable w → (inverse : Bool) (x : ℤ) → Cell (shaded inverse (levelOf w x))
-level-cell w d inverse x =
-    let l = leveled w d x in
-    record { y = shadeOf inverse (l .y); is = ap (shaded inverse) (l .is); small = shade-small inverse (l .y) (l .small) }
+  -- What the answer of an accepted object says of the frame and of the image buffer.
+  record Shown (n : ℕ) : Type 0 where
+    pub frame : IsFrame s f
+    pub cells : imageSize (nodesOf s) ≤ length image
 
-pub native-cell : (g : Geometry) (v : List ℕ) (f : ℕ) (w : Window) → Drawable w → (inverse : Bool) (i : ℕ) → Cell (nativeCell g v f w inverse i)
-unfolding nativeCell
-native-cell g v f w d inverse i = level-cell w d inverse (pos (sampleAt g v f i))
-
-pub masked-cell : (g : Geometry) (v : List ℕ) (f : ℕ) (ks : List ℕ) (m : Moves) (w : Window) → Drawable w → (inverse : Bool) (i : ℕ)
-    → sourceOf g m i < samplesOf g → Cell (maskedCell g v f ks m w inverse i)
-unfolding maskedCell
-masked-cell g v f ks m w d inverse i h =
-    rw (lt-ltb (sourceOf g m i) (samplesOf g) h)
-    (level-cell w d inverse (pos (sampleAt g v f i) -ℤ pos (maskAt g v ks (sourceOf g m i)) +ℤ pos (2 ^ (g .stored - 1))))
-
--- ---- The mask frames are frames
-
-pub are-frames : (g : Geometry) (v : List ℕ) (n : ℕ) → ((k : ℕ) → 1 ≤ k → k ≤ n → isFrame g v k ≡ true) → (ks : List ℕ) → AllWithin n ks → areFrames g v ks ≡ true
-unfolding areFrames
-are-frames g v n h [] a = refl
-are-frames g v n h (k ∷ ks) a = rw (h k (a .0 .0) (a .0 .1), are-frames g v n h ks (a .1))
-
--- ---- The picture
-
--- What the steps give for a frame: a picture of Rows × Columns cells, each a level.
-pub record Drawn (ns : List Node) (f : ℕ) (g : Geometry) : Type 0 where
-  pub p : Picture
-  pub is : stepsOf ns f ≡ some p
-  pub size : length (p .samples) ≡ samplesOf g
-  pub levels : AllLevels (p .samples)
-
-module _ (ns : List Node) (f : ℕ) (o : Object ns) (low : 1 ≤ f) (high : f ≤ o .n) (w : Windowed ns f (o .g .stored)) (k : Masking ns f (o .n)) where
-  to-picture : stepsOf ns f ≡ pictureBy (o .g) (o .v) f (w .w) (o .inverse) (k .m)
-  unfolding stepsOf
-  to-picture = rw (o .geometry, o .pixels, o .whole f low high, k .mask, w .window, o .photometric)
-
-  pub drawn : Drawn ns f (o .g)
-  unfolding pictureBy
-  drawn = go (k .m) (k .sound) to-picture
+  was-shown : (n : ℕ) → codeOf (acceptedAnswer (nodesOf s) f image n) ≡ 0 → Shown n
+  unfolding acceptedAnswer
+  was-shown n e = go (isFrameOf (nodesOf s) f) (leb (imageSize (nodesOf s)) (length image)) refl refl e
     where
-      go : (m : Mask) → Sound (o .n) m → stepsOf ns f ≡ pictureBy (o .g) (o .v) f (w .w) (o .inverse) m → Drawn ns f (o .g)
-      go noMask s e =
-          let c = collect-all (nativeCell (o .g) (o .v) f (w .w) (o .inverse)) (samplesOf (o .g)) (λ i h. native-cell (o .g) (o .v) f (w .w) (w .drawable) (o .inverse) i) in
-          record { p = record { masked = false; samples = c .l }; is = e ∙ rw (c .is); size = c .size; levels = c .levels }
-      go (maskBy ks mv) s e =
-          let c = collect-all (maskedCell (o .g) (o .v) f ks mv (w .w) (o .inverse)) (samplesOf (o .g)) (λ i h. masked-cell (o .g) (o .v) f ks mv (w .w) (w .drawable) (o .inverse) i (source-below (o .g) i h mv)) in
-          record { p = record { masked = true; samples = c .l }; is = e ∙ rw (are-frames (o .g) (o .v) (o .n) (o .whole) ks (s .1 .1 .0), c .is); size = c .size; levels = c .levels }
+      go : (t u : Bool) → isFrameOf (nodesOf s) f ≡ t → leb (imageSize (nodesOf s)) (length image) ≡ u
+          → codeOf (cond t (cond u (shown.Drawn n (pictureOf (nodesOf s) f .masked)) shown.NoImageRoom) shown.NoFrame) ≡ 0 → Shown n
+      go true true p q e =
+          let b = both (leb 1 f) (leb f (numberOf (framesOf (nodesOf s)))) p in
+          record {
+            frame = record { low = leb-true 1 f (b .0); high = leb-true f (numberOf (framesOf (nodesOf s))) (b .1) };
+            cells = leb-true (imageSize (nodesOf s)) (length image) q;
+          }
+      go true false p q e = absurd (omega (arith, e))
+      go false u p q e = absurd (omega (arith, e))
+
+  -- An answer of the judge that lets a picture follow is that of an accepted object with room for its rows.
+  record Judged (r : Reading) (found : Finding) : Type 0 where
+    pub rows : List Row
+    pub reads : r ≡ read rows
+    pub sound : found ≡ finding.Accepted
+    pub room : width * length (rowsIn r) ≤ length buffer
+    pub code : codeOf (acceptedAnswer (nodesOf s) f image (length rows)) ≡ 0
+
+  was-judged : (r : Reading) (found : Finding) → Small (answerOf r buffer) → codeOf (shownFor (nodesOf s) f image (answerFor found (answerOf r buffer))) ≡ 0 → Judged r found
+  was-judged tooLarge found w e = absurd (omega (arith, e))
+  was-judged (refusedAt code offset) found w e = absurd (omega (arith, e, w .0))
+  was-judged (read rows) found w e = go found (leb (width * length rows) (length buffer)) refl e
+    where
+      go : (x : Finding) (t : Bool) → leb (width * length rows) (length buffer) ≡ t
+          → codeOf (shownFor (nodesOf s) f image (answerFor x (cond t (answer.Done (length rows)) answer.NoRoom))) ≡ 0 → Judged (read rows) x
+      go finding.Accepted true p e = record { rows = rows; reads = refl; sound = refl; room = leb-true (width * length rows) (length buffer) p; code = e }
+      go (finding.Broken rule frame) true p e = absurd (omega (arith, e))
+      go x false p e = absurd (omega (arith, e))
+
+  was-accepted : codeOf (showOf s f buffer image) ≡ 0 → IsAccepted s × (IsFrame s f × HasRoom s buffer image)
+  unfolding showOf judgeOf rowsOf
+  was-accepted e =
+      let j = was-judged (readingOf s) (findingOf (nodesOf s)) (answer-small s buffer) e in
+      let d = was-shown (length (j .rows)) (j .code) in
+      (record { rows = j .rows; reads = j .reads; sound = j .sound }, (d .frame, record { rows = j .room; cells = d .cells }))
+
+  -- ---- What is handed back
+
+  picture-is : (p : Picture) → stepsOf (nodesOf s) f ≡ some p → pictureOf (nodesOf s) f ≡ p
+  unfolding pictureOf
+  picture-is p e = rw e
+
+  image-is : (a : IsAccepted s) → IsFrame s f → HasRoom s buffer image → imageOf s f buffer image ≡ pictureOf (nodesOf s) f .samples ++ drop (length (pictureOf (nodesOf s) f .samples)) image
+  unfolding imageOf
+  image-is a i r = rw (shows a i r)
+
+  handed : (a : IsAccepted s) → IsFrame s f → HasRoom s buffer image → (w : Whole (nodesOf s) f) (p : Picture) → stepsOf (nodesOf s) f ≡ some p → HandsBack s f buffer image p
+  handed a i r w p e =
+      let q = picture-is p e in
+      let same : some (w .p) ≡ some p = sym (w .is) ∙ e in
+      let v : w .p ≡ p = cc in
+      record {
+        rows = ap rowCountOf (shows a i r);
+        masked = ap maskedOf (shows a i r) ∙ ap (λ (x : Picture). cond (x .masked) 1 0) q;
+        cells =
+            subst (λ (n : ℕ). imageOf s f buffer image ≡ p .samples ++ drop n image) (ap (λ (x : Picture). length (x .samples)) (sym v) ∙ w .size)
+            (subst (λ (x : Picture). imageOf s f buffer image ≡ x .samples ++ drop (length (x .samples)) image) q (image-is a i r));
+      }
 
 -- ---- The claim
 
--- The size of a frame is Rows × Columns.
-size-checked : (t u : Bool) (x g : Geometry) → check t (check u (some x)) ≡ some g → samplesOf g ≡ samplesOf x
-size-checked true true x g e =
-    let q : x ≡ g = cc in
-    ap samplesOf (sym q)
-size-checked true false x g e = absurd (never e)
-size-checked false u x g e = absurd (never e)
-
-size-given : (r c a b : Num) (g : Geometry)
-    → need r (λ r. need c (λ c. need a (λ a. need b (λ b. check (leb 8 a && eqb (a % 8) 0) (check (leb 1 b) (some (record { rows = r; columns = c; width = a / 8; stored = b }))))))) ≡ some g
-    → samplesOf g ≡ numberOf r * numberOf c
-size-given (Is r) (Is c) (Is a) (Is b) g e = size-checked (leb 8 a && eqb (a % 8) 0) (leb 1 b) (record { rows = r; columns = c; width = a / 8; stored = b }) g e
-size-given (Is r) (Is c) (Is a) Lacks g e = absurd (never e)
-size-given (Is r) (Is c) Lacks b g e = absurd (never e)
-size-given (Is r) Lacks a b g e = absurd (never e)
-size-given Lacks c a b g e = absurd (never e)
-
-pub geometry-size : (ns : List Node) (g : Geometry) → geometryOf ns ≡ some g → samplesOf g ≡ imageSize ns
-unfolding geometryOf
-geometry-size ns g e = size-given (usIn ns Tags.Rows (root ns)) (usIn ns Tags.Columns (root ns)) (usIn ns Tags.BitsAllocated (root ns)) (usIn ns Tags.BitsStored (root ns)) g e
-
--- What demand 3 says of frame f: the steps give a picture of exactly Rows × Columns cells, each from 0 to 255.
-pub record Whole (ns : List Node) (f : ℕ) : Type 0 where
-  pub p : Picture
-  pub is : stepsOf ns f ≡ some p
-  pub size : length (p .samples) ≡ imageSize ns
-  pub levels : AllLevels (p .samples)
-
--- For every data set, given as bytes, that is accepted, and every frame from 1 to its Number of Frames.
-pub demand-3 : (s : List ℕ) → Bytes s → findingOf (nodesOf s) ≡ Accepted → (f : ℕ) → 1 ≤ f → f ≤ numberOf (framesOf (nodesOf s)) → Whole (nodesOf s) f
-demand-3 s b ok f low high =
-    let ns = nodesOf s in
-    let o = object ns (λ tag k e. us-in-small s b tag k (root ns) e) ok in
-    let h : f ≤ o .n = subst (λ (x : Num). f ≤ numberOf x) (o .frames) high in
-    let d = drawn ns f o low h (windowed ns ok o f low h) (masking ns ok (o .n) (o .frames) (o .some-frame) (o .few-frames) f low h) in
-    record { p = d .p; is = d .is; size = d .size ∙ geometry-size ns (o .g) (o .geometry); levels = d .levels }
+pub demand-3 : Demand3
+demand-3 s b f =
+    record {
+      drawable = whole;
+      drawn = λ buffer image a i r. ap codeOf (shows s f buffer image a i r);
+      nothing-else = was-accepted s f;
+      as-stepped = λ buffer image e p q.
+          let w = was-accepted s f buffer image e in
+          handed s f buffer image (w .0) (w .1 .0) (w .1 .1) (whole (w .0) (w .1 .0)) p q;
+    }
+  where
+    whole : IsAccepted s → IsFrame s f → Whole (nodesOf s) f
+    whole a i = nothing-lacks s b (a .sound) f (i .low) (i .high)

@@ -22,7 +22,7 @@ use Rattle.display.specs.declared.Masking.the-variants as masking
 use Rattle.display.specs.Show.{pictureIn, pictureOf}
 use Rattle.display.specs.Said.{Sound, Gives, maskingOf, isMasked, shadeBy}
 use Rattle.display.proofs.Given.{never}
-use Rattle.display.proofs.Demand3.{are-frames}
+use Rattle.display.proofs.Lacking.{are-frames}
 use Rattle.display.proofs.Pictures.{Collected, collected, native-is, masked-is}
 
 -- The picture is p, and painting gives its samples.

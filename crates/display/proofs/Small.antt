@@ -15,10 +15,7 @@ use Rattle.value.specs.Number.{usOf}
 use Rattle.node.specs.Nodes.{Node, holdsNodes, nodeOf, nodesOf, noNode, nodeAt, root}
 use Rattle.node.specs.Find.{andThen, find, findVr}
 use Rattle.element.specs.Elements.{usIn}
-
--- Every number of the list is that of a byte.
-abbrev pub Bytes : List ℕ → Type 0
-Bytes s = (i : ℕ) → getD s i 0 < 256
+use Rattle.display.specs.Demand3.{Bytes}
 
 none-bytes : Bytes []
 none-bytes i = omega arith

@@ -23,8 +23,9 @@ use Rattle.display.specs.declared.Masking.the-variants as masking
 use Rattle.display.specs.Said.{AllWithin, Sound, Gives, maskingOf, MaskingBelow, MasksReady}
 use Rattle.display.specs.Show.{imageSize}
 use Rattle.display.proofs.Given.{never}
-use Rattle.display.proofs.Demand3.{geometry-size}
-use Rattle.display.proofs.Small.{Bytes, us-in-small}
+use Rattle.display.proofs.Lacking.{geometry-size}
+use Rattle.display.specs.Demand3.{Bytes}
+use Rattle.display.proofs.Small.{us-in-small}
 use Rattle.display.proofs.Objects.{object, windowed, same-is}
 use Rattle.display.proofs.Masks as masks
 use Rattle.display.proofs.Accepted.{Object, Windowed}

@@ -1,2 +1,3 @@
 pub mod Show
 pub mod Said
+pub mod Demand3

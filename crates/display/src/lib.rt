@@ -7,8 +7,10 @@ ghost use mathlib.Core.List.{_++_};
 ghost use lib.ListN.{length, drop, getD};
 ghost use Rattle.value.specs.declared.Num.the-variants as num;
 ghost use Rattle.conformance.specs.declared.Finding.the-variants as finding;
-ghost use Rattle.conformance.specs.Judging.{findingOf};
-ghost use Rattle.display.specs.Show.{imageSize, pictureOf};
+ghost use Rattle.dataset.specs.Reading.{readingOf};
+ghost use Rattle.dataset.specs.Answer.{bufferOf};
+ghost use Rattle.conformance.specs.Judging.{numberOf, findingOf};
+ghost use Rattle.display.specs.Show.{imageSize, imageBy, pictureOf, acceptedAnswer, showOf, imageOf};
 ghost use Rattle.value.specs.Said.{Below};
 ghost use Rattle.node.specs.Nodes.{nodesOf};
 ghost use Rattle.node.specs.Table.{Table};
@@ -19,6 +21,7 @@ ghost use Rattle.pixel.specs.Painted.{painted};
 ghost use Rattle.pixel.specs.Said.{Ready};
 ghost use Rattle.steps.specs.Steps.{applyingTo, inverseOf, movesFor, maskBy, maskFor};
 ghost use Rattle.display.specs.Said.{Gives, GivesMoves, GivesInverse, averageBy, tidBy, maskingOf, MaskingBelow, ApplyingBelow, isMasked, shadeBy, MasksReady};
+use conformance::JudgeAnswer;
 use element::tags;
 use pixel::Geometry;
 use shift::Moves;
@@ -217,4 +220,71 @@ fn draw(bytes: &[u8], rows: &[u32], frame: usize, n: usize, image: &mut [u8]) ->
     let table = window::levels(w, stored, inverse);
     let masking = mask_for(bytes, rows, frame, item, n);
     paint(bytes, rows, frame, g, p, masking, &table, image)
+}
+
+// A number, or 0 where it is lacking.
+fn number_of(n: Num) -> usize
+    requires { ⌜ Below 65536 n ⌝ }
+    ensures { λ r. ⌜ (r ≡ numberOf n) × (r < 65536) ⌝ }
+{
+    match n {
+        Num::Is(k) => k,
+        Num::Lacks => 0,
+    }
+}
+
+// Rows times Columns.
+fn image_size(bytes: &[u8], rows: &[u32]) -> usize
+    requires { ⌜ Table (now bytes) (now rows) ⌝ }
+    ensures { λ r. ⌜ r ≡ imageSize (nodesOf (now (bytes .entry))) ⌝ }
+{
+    let height = number_of(element::us_root(bytes, rows, tags::ROWS));
+    let width = number_of(element::us_root(bytes, rows, tags::COLUMNS));
+    height * width
+}
+
+// Shows a frame of an accepted object with so many rows: codes 10 and 11, or the picture.
+fn show_table(
+    bytes: &[u8],
+    rows: &[u32],
+    frame: usize,
+    count: usize,
+    image: &mut [u8],
+) -> ShowAnswer
+    requires { ⌜ Table (now bytes) (now rows) × (((i : ℕ) → getD (now bytes) i 0 < 256) × (findingOf (nodesOf (now bytes)) ≡ finding.Accepted)) ⌝ }
+    ensures { λ r. ⌜ r ≡ acceptedAnswer (nodesOf (now (bytes .entry))) frame (now (image .entry)) count ⌝ }
+    ensures { λ r. ⌜ now (image .exit) ≡ imageBy (pictureOf (nodesOf (now (bytes .entry))) frame) (now (image .entry)) r ⌝ }
+{
+    let Num::Is(n) = element::frame_count(bytes, rows) else {
+        return ShowAnswer::NoFrame;
+    };
+    if frame < 1 {
+        return ShowAnswer::NoFrame;
+    }
+    if n < frame {
+        return ShowAnswer::NoFrame;
+    }
+    if image.len() < image_size(bytes, rows) {
+        return ShowAnswer::NoImageRoom;
+    }
+    let masked = draw(bytes, rows, frame, n, image);
+    ShowAnswer::Drawn(count, masked)
+}
+
+// Judges the data set afresh and draws a frame of it.
+pub fn show(bytes: &[u8], frame: u64, rows: &mut [u32], image: &mut [u8]) -> ShowAnswer
+    ensures { λ r. ⌜ r ≡ showOf (now (bytes .entry)) frame (now (rows .entry)) (now (image .entry)) ⌝ }
+    ensures { λ _. ⌜ now (rows .exit) ≡ bufferOf (readingOf (now (bytes .entry))) (now (rows .entry)) ⌝ }
+    ensures { λ _. ⌜ now (image .exit) ≡ imageOf (now (bytes .entry)) frame (now (rows .entry)) (now (image .entry)) ⌝ }
+{
+    match conformance::judge(bytes, rows) {
+        JudgeAnswer::TooLarge => ShowAnswer::TooLarge,
+        JudgeAnswer::Refused(code, offset) => ShowAnswer::Refused(code, offset),
+        JudgeAnswer::NoRoom => ShowAnswer::NoRoom,
+        JudgeAnswer::Broken(count, rule, broken) => ShowAnswer::Broken(count, rule, broken),
+        JudgeAnswer::Accepted(count) => {
+            let end = dataset::WIDTH * count;
+            show_table(bytes, &rows[..end], frame as usize, count, image)
+        }
+    }
 }

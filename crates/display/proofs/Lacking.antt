@@ -1,0 +1,156 @@
+-- For a frame of an accepted object no step lacks anything: its cells all answer, and the list of them is the picture. What
+-- demand 3 (Demand3) says of the definitions is `nothing-lacks`.
+use mathlib.Core.Path.{_≡_, refl, sym, ap, _∙_, subst}
+use mathlib.Core.Bool.{Bool, true, false, cond, _&&_}
+use mathlib.Core.List.{List, [], _∷_, _++_}
+use mathlib.Core.Option.{Option, none, some}
+use Prim.Native.Nat.{ℕ, zero, suc, _+_, _-_, _*_, _/_, _%_, _^_, _≤_, _<_}
+use native.Mathlib.Omega.{arith}
+use lib.ListN.{length, length-append, drop}
+use lib.IntN.{ℤ, pos, _+ℤ_, _-ℤ_}
+use lib.Dec.{eqb, leb, ltb}
+use borrow.Author.Tests.{lt-ltb}
+use Rattle.value.specs.declared.Num.{Num}
+use Rattle.value.specs.declared.Num.the-variants.{Is, Lacks}
+use Rattle.shift.specs.declared.Moves.{Moves}
+use Rattle.node.specs.Nodes.{Node, nodesOf, root}
+use Rattle.pixel.specs.declared.Geometry.{Geometry}
+use Rattle.pixel.specs.Pixel.{samplesOf, isFrame, sampleAt, maskAt, sourceOf}
+use Rattle.pixel.proofs.Laws.{source-below}
+use Rattle.window.specs.declared.Window.{Window}
+use Rattle.window.specs.Window.{levelOf, shadeOf}
+use Rattle.window.specs.Said.{Drawable}
+use Rattle.window.proofs.Laws.{leveled}
+use Rattle.steps.specs.Given.{need, check, then, collect}
+use Rattle.steps.specs.Steps.{Picture, Mask, shaded, nativeCell, maskedCell, areFrames, pictureBy, geometryOf, stepsOf, native as noMask, masked as maskBy}
+use Rattle.element.specs.Tags
+use Rattle.element.specs.Elements.{usIn}
+use Rattle.element.specs.Frames.{framesOf}
+use Rattle.conformance.specs.declared.Finding.the-variants.{Accepted}
+use Rattle.conformance.specs.Judging.{numberOf, findingOf}
+use Rattle.display.specs.Show.{imageSize}
+use Rattle.display.proofs.Given.{never}
+use Rattle.display.specs.Demand3.{Bytes, AllLevels, Whole}
+use Rattle.display.proofs.Small.{us-in-small}
+use Rattle.display.proofs.Objects.{object, windowed}
+use Rattle.display.proofs.Masks.{masking}
+use Rattle.display.proofs.Accepted.{Object, Windowed, AllWithin, Sound, Masking}
+
+-- ---- Cells that all answer
+
+all-levels-append : (a b : List ℕ) → AllLevels a → AllLevels b → AllLevels (a ++ b)
+all-levels-append [] b p q = q
+all-levels-append (y ∷ ys) b p q = (p .0, all-levels-append ys b (p .1) q)
+
+-- A cell that lacks nothing.
+pub record Cell (o : Num) : Type 0 where
+  pub y : ℕ
+  pub is : o ≡ Is y
+  pub small : y ≤ 255
+
+-- The list of n cells that lack nothing.
+pub record Cells (f : ℕ → Num) (n : ℕ) : Type 0 where
+  pub l : List ℕ
+  pub is : collect f n ≡ some l
+  pub size : length l ≡ n
+  pub levels : AllLevels l
+
+pub collect-all : (f : ℕ → Num) (n : ℕ) → ((i : ℕ) → i < n → Cell (f i)) → Cells f n
+unfolding collect
+collect-all f zero h = record { l = []; is = refl; size = refl; levels = tt }
+collect-all f (suc n) h =
+    let c = collect-all f n (λ i k. h i (omega arith)) in
+    let e = h n (omega arith) in
+    record {
+      l = c .l ++ (e .y ∷ []);
+      is = rw (c .is, e .is);
+      size = simp length-append (omega (arith, c .size));
+      levels = all-levels-append (c .l) (e .y ∷ []) (c .levels) (e .small, tt);
+    }
+
+-- ---- A cell lacks nothing in a window that can be drawn with
+
+shade-small : (inverse : Bool) (y : ℕ) → y ≤ 255 → shadeOf inverse y ≤ 255
+unfolding shadeOf
+shade-small true y h = omega arith
+shade-small false y h = h
+
+level-cell : (w : Window) → Drawable w → (inverse : Bool) (x : ℤ) → Cell (shaded inverse (levelOf w x))
+level-cell w d inverse x =
+    let l = leveled w d x in
+    record { y = shadeOf inverse (l .y); is = ap (shaded inverse) (l .is); small = shade-small inverse (l .y) (l .small) }
+
+pub native-cell : (g : Geometry) (v : List ℕ) (f : ℕ) (w : Window) → Drawable w → (inverse : Bool) (i : ℕ) → Cell (nativeCell g v f w inverse i)
+unfolding nativeCell
+native-cell g v f w d inverse i = level-cell w d inverse (pos (sampleAt g v f i))
+
+pub masked-cell : (g : Geometry) (v : List ℕ) (f : ℕ) (ks : List ℕ) (m : Moves) (w : Window) → Drawable w → (inverse : Bool) (i : ℕ)
+    → sourceOf g m i < samplesOf g → Cell (maskedCell g v f ks m w inverse i)
+unfolding maskedCell
+masked-cell g v f ks m w d inverse i h =
+    rw (lt-ltb (sourceOf g m i) (samplesOf g) h)
+    (level-cell w d inverse (pos (sampleAt g v f i) -ℤ pos (maskAt g v ks (sourceOf g m i)) +ℤ pos (2 ^ (g .stored - 1))))
+
+-- ---- The mask frames are frames
+
+pub are-frames : (g : Geometry) (v : List ℕ) (n : ℕ) → ((k : ℕ) → 1 ≤ k → k ≤ n → isFrame g v k ≡ true) → (ks : List ℕ) → AllWithin n ks → areFrames g v ks ≡ true
+unfolding areFrames
+are-frames g v n h [] a = refl
+are-frames g v n h (k ∷ ks) a = rw (h k (a .0 .0) (a .0 .1), are-frames g v n h ks (a .1))
+
+-- ---- The picture
+
+-- What the steps give for a frame: a picture of Rows × Columns cells, each a level.
+pub record Drawn (ns : List Node) (f : ℕ) (g : Geometry) : Type 0 where
+  pub p : Picture
+  pub is : stepsOf ns f ≡ some p
+  pub size : length (p .samples) ≡ samplesOf g
+  pub levels : AllLevels (p .samples)
+
+module _ (ns : List Node) (f : ℕ) (o : Object ns) (low : 1 ≤ f) (high : f ≤ o .n) (w : Windowed ns f (o .g .stored)) (k : Masking ns f (o .n)) where
+  to-picture : stepsOf ns f ≡ pictureBy (o .g) (o .v) f (w .w) (o .inverse) (k .m)
+  unfolding stepsOf
+  to-picture = rw (o .geometry, o .pixels, o .whole f low high, k .mask, w .window, o .photometric)
+
+  pub drawn : Drawn ns f (o .g)
+  unfolding pictureBy
+  drawn = go (k .m) (k .sound) to-picture
+    where
+      go : (m : Mask) → Sound (o .n) m → stepsOf ns f ≡ pictureBy (o .g) (o .v) f (w .w) (o .inverse) m → Drawn ns f (o .g)
+      go noMask s e =
+          let c = collect-all (nativeCell (o .g) (o .v) f (w .w) (o .inverse)) (samplesOf (o .g)) (λ i h. native-cell (o .g) (o .v) f (w .w) (w .drawable) (o .inverse) i) in
+          record { p = record { masked = false; samples = c .l }; is = e ∙ rw (c .is); size = c .size; levels = c .levels }
+      go (maskBy ks mv) s e =
+          let c = collect-all (maskedCell (o .g) (o .v) f ks mv (w .w) (o .inverse)) (samplesOf (o .g)) (λ i h. masked-cell (o .g) (o .v) f ks mv (w .w) (w .drawable) (o .inverse) i (source-below (o .g) i h mv)) in
+          record { p = record { masked = true; samples = c .l }; is = e ∙ rw (are-frames (o .g) (o .v) (o .n) (o .whole) ks (s .1 .1 .0), c .is); size = c .size; levels = c .levels }
+
+-- ---- The size of the picture
+
+-- The size of a frame is Rows × Columns.
+size-checked : (t u : Bool) (x g : Geometry) → check t (check u (some x)) ≡ some g → samplesOf g ≡ samplesOf x
+size-checked true true x g e =
+    let q : x ≡ g = cc in
+    ap samplesOf (sym q)
+size-checked true false x g e = absurd (never e)
+size-checked false u x g e = absurd (never e)
+
+size-given : (r c a b : Num) (g : Geometry)
+    → need r (λ r. need c (λ c. need a (λ a. need b (λ b. check (leb 8 a && eqb (a % 8) 0) (check (leb 1 b) (some (record { rows = r; columns = c; width = a / 8; stored = b }))))))) ≡ some g
+    → samplesOf g ≡ numberOf r * numberOf c
+size-given (Is r) (Is c) (Is a) (Is b) g e = size-checked (leb 8 a && eqb (a % 8) 0) (leb 1 b) (record { rows = r; columns = c; width = a / 8; stored = b }) g e
+size-given (Is r) (Is c) (Is a) Lacks g e = absurd (never e)
+size-given (Is r) (Is c) Lacks b g e = absurd (never e)
+size-given (Is r) Lacks a b g e = absurd (never e)
+size-given Lacks c a b g e = absurd (never e)
+
+pub geometry-size : (ns : List Node) (g : Geometry) → geometryOf ns ≡ some g → samplesOf g ≡ imageSize ns
+unfolding geometryOf
+geometry-size ns g e = size-given (usIn ns Tags.Rows (root ns)) (usIn ns Tags.Columns (root ns)) (usIn ns Tags.BitsAllocated (root ns)) (usIn ns Tags.BitsStored (root ns)) g e
+
+pub nothing-lacks : (s : List ℕ) → Bytes s → findingOf (nodesOf s) ≡ Accepted → (f : ℕ) → 1 ≤ f → f ≤ numberOf (framesOf (nodesOf s)) → Whole (nodesOf s) f
+nothing-lacks s b ok f low high =
+    let ns = nodesOf s in
+    let o = object ns (λ tag k e. us-in-small s b tag k (root ns) e) ok in
+    let h : f ≤ o .n = subst (λ (x : Num). f ≤ numberOf x) (o .frames) high in
+    let d = drawn ns f o low h (windowed ns ok o f low h) (masking ns ok (o .n) (o .frames) (o .some-frame) (o .few-frames) f low h) in
+    record { p = d .p; is = d .is; size = d .size ∙ geometry-size ns (o .g) (o .geometry); levels = d .levels }

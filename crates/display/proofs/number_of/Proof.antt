@@ -1,0 +1,28 @@
+use mathlib.Core.Path.{sym, ap}
+use Rattle.node.proofs.Laws as node-laws
+use Rattle.conformance.specs.Judging.{numberOf}
+use borrow.Author.Needs.{needs}
+use Rattle.display.proofs.number_of.Statement.{statement}
+use Rattle.display.proofs.number_of.Tie as tie
+use Rattle.display.proofs.number_of.Reads as reads
+use Rattle.display.proofs.number_of.Lts as lts
+
+-- src/lib.rt:231:17
+enum-known-n : tie.Need-enum-known-n
+enum-known-n c = search needs
+
+-- src/lib.rt:232:23
+enum-told : tie.Need-enum-told
+enum-told c = search needs
+
+-- src/lib.rt:226:1
+returns : tie.Need-returns
+returns c =
+    (ap numberOf (sym (c .before .n .given .1)), node-laws.within _ (c .before .n .given .1) (c .before .before .before .pre))
+
+-- src/lib.rt:226:1
+returns-2 : tie.Need-returns-2
+returns-2 c = search needs
+
+pub number-of-spec : {M : Type 1} → statement M
+number-of-spec = tie.close (tie.spec enum-known-n enum-told returns returns-2)
