@@ -1,5 +1,5 @@
-/* Reads and judges X-ray angiographic (XA, XRF) data sets in Explicit VR Little Endian, without a file head, and keeps
- * verdicts on slips.
+/* Reads, judges and draws X-ray angiographic (XA, XRF) data sets in Explicit VR Little Endian, without a file head, and
+ * keeps verdicts on slips.
  *
  * Every call takes any bytes and any buffers; nothing is asked of the caller but that each pointer has as many
  * elements behind it as the size that follows it says, and that no two buffers overlap. A pointer whose size is 0 is
@@ -18,7 +18,7 @@ extern "C" {
 /* What a call answers. Fields that the code does not name are 0.
  *
  *   code  meaning                                                              fields named
- *      0  done                                                                 rows
+ *      0  done                                                                 rows, and by xa_show: masked
  *      1  cut short: fewer bytes left than a header has, a header or a value   offset
  *         that reaches past what holds it, or an undefined length that is
  *         still open there
@@ -32,10 +32,13 @@ extern "C" {
  *      7  a data set of more than 1,073,741,824 bytes                          none
  *      8  it reads well, but the row buffer holds fewer than 6 numbers a row   none
  *      9  a rule is broken: the first that is, and at it the lowest frame      rows, rule, frame
+ *     10  no such frame: the number is not in 1 to Number of Frames            none
+ *     11  the image buffer holds fewer than Rows x Columns bytes               none
  *
  * `offset` counts bytes from 0: where the refused header starts, or the end at which an undefined length is still
  * open. `rule` is 1 to 38; `frame` counts from 1, and is 0 for a rule that is not asked at each frame. The size (7) is
- * tested first, then 1 to 6 header by header, then the row buffer (8), then the rules (9).
+ * tested first, then 1 to 6 header by header, then the row buffer (8), then the rules (9), then the frame (10), then the
+ * image buffer (11).
  */
 typedef struct {
     uint32_t code;
@@ -60,6 +63,16 @@ xa_answer xa_read(const uint8_t *data, size_t size, uint32_t *rows, size_t rows_
  * where one is broken. With codes 0 and 9 the rows are written, and nothing beyond them; with any other code nothing is.
  */
 xa_answer xa_judge(const uint8_t *data, size_t size, uint32_t *rows, size_t rows_len);
+
+/* Judges the data set as `xa_judge` does, afresh, and draws its frame `frame`, counted from 1: masked and moved as its mask
+ * items say, and windowed. `masked` is 1 for a masked picture and 0 for a native one.
+ *
+ * `image` has room for `image_len` bytes. With code 0 the first Rows x Columns of them are written, row by row, each a grey
+ * level from 0 (black) to 255 (white), and nothing beyond them; with any other code no byte of `image` is. The rows are
+ * written with codes 0, 9, 10 and 11. Every frame of a data set that `xa_judge` accepts is drawn where there is room.
+ */
+xa_answer xa_show(const uint8_t *data, size_t size, uint64_t frame, uint32_t *rows, size_t rows_len, uint8_t *image,
+                  size_t image_len);
 
 /* A slip is 13 bytes that record a verdict: what `xa_judge` answers, without the number of rows. */
 

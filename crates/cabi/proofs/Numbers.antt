@@ -1,4 +1,5 @@
--- The numbers of every answer fit 32 bits: those of a judge's answer, since it is a possible verdict and has few rows;
+-- The numbers of every answer fit 32 bits: those of a judge's answer, since it is a possible verdict and has few rows; those
+-- of `show`, since they are the judge's;
 -- those of a slip that reads well, since it is a possible verdict; a refusal's code, since it is 11 to 14.
 use mathlib.Core.Path.{_≡_, refl, sym, _∙_, subst}
 use mathlib.Core.Bool.{Bool, true, false, cond, not, _&&_}
@@ -13,13 +14,18 @@ use Rattle.verdict.proofs.Bounds.{Small, possible-small}
 use Rattle.conformance.specs.declared.JudgeAnswer.{JudgeAnswer}
 use Rattle.conformance.specs.Judging.{judgeOf, verdictOf, rowCountOf}
 use Rattle.conformance.proofs.Possible.{judge-small, judge-rows}
+use Rattle.conformance.specs.declared.JudgeAnswer.the-variants as judged
+use Rattle.node.specs.Nodes.{Node, nodesOf}
+use Rattle.display.specs.declared.ShowAnswer.{ShowAnswer}
+use Rattle.display.specs.declared.ShowAnswer.the-variants as shown
+use Rattle.display.specs.Show.{isFrameOf, imageSize, pictureOf, acceptedAnswer, answerFor, showOf}
 use Rattle.slip.specs.declared.SlipAnswer.{SlipAnswer}
 use Rattle.slip.specs.declared.SlipAnswer.the-variants as read
 use Rattle.slip.specs.declared.WriteAnswer.{WriteAnswer}
 use Rattle.slip.specs.declared.WriteAnswer.the-variants as write
 use Rattle.slip.specs.Slip.{mark, version, versionAt, slipSize, number, equal, fieldsOf, readOf, writeOf}
 use Rattle.slip.proofs.Theorems.{read-possible}
-use Rattle.cabi.specs.Host.{writeCode, slipAnswer, Narrow}
+use Rattle.cabi.specs.Host.{writeCode, slipAnswer, Narrow, Fits32}
 
 -- ---- What a match found a judge's answer to be
 
@@ -28,6 +34,36 @@ judged-small s buffer e f = subst (λ (a : JudgeAnswer). Small (verdictOf a)) (s
 
 pub judged-rows : {a b : JudgeAnswer} (s buffer : List ℕ) → a ≡ judgeOf s buffer → a ≡ b → rowCountOf b ≤ 134217728
 judged-rows s buffer e f = subst (λ (a : JudgeAnswer). rowCountOf a ≤ 134217728) (sym e ∙ f) (judge-rows s buffer)
+
+-- ---- What a match found an answer of `show` to be
+
+-- The judge's numbers, or none.
+accepted-narrow : (ns : List Node) (f : ℕ) (image : List ℕ) (n : ℕ) → n ≤ 134217728 → Fits32 (acceptedAnswer ns f image n)
+unfolding acceptedAnswer
+accepted-narrow ns f image n h = go (isFrameOf ns f) (leb (imageSize ns) (length image))
+  where
+    go : (t u : Bool) → Fits32 (cond t (cond u (shown.Drawn n (pictureOf ns f .masked)) shown.NoImageRoom) shown.NoFrame)
+    go true true = record { code = omega arith; offset = omega arith; rows = omega arith; rule = omega arith; frame = omega arith }
+    go true false = record { code = omega arith; offset = omega arith; rows = omega arith; rule = omega arith; frame = omega arith }
+    go false u = record { code = omega arith; offset = omega arith; rows = omega arith; rule = omega arith; frame = omega arith }
+
+answer-narrow : (ns : List Node) (f : ℕ) (image : List ℕ) (j : JudgeAnswer) → Small (verdictOf j) → rowCountOf j ≤ 134217728 → Fits32 (answerFor ns f image j)
+answer-narrow ns f image (judged.Accepted n) m h = accepted-narrow ns f image n h
+answer-narrow ns f image (judged.Broken n rule frame) m h =
+    record { code = omega arith; offset = omega arith; rows = omega arith; rule = omega (arith, m .rule); frame = omega (arith, m .frame) }
+answer-narrow ns f image (judged.Refused code offset) m h =
+    record { code = omega (arith, m .code); offset = omega (arith, m .offset); rows = omega arith; rule = omega arith; frame = omega arith }
+answer-narrow ns f image judged.TooLarge m h =
+    record { code = omega arith; offset = omega arith; rows = omega arith; rule = omega arith; frame = omega arith }
+answer-narrow ns f image judged.NoRoom m h =
+    record { code = omega arith; offset = omega arith; rows = omega arith; rule = omega arith; frame = omega arith }
+
+show-narrow : (s : List ℕ) (f : ℕ) (buffer image : List ℕ) → Fits32 (showOf s f buffer image)
+unfolding showOf
+show-narrow s f buffer image = answer-narrow (nodesOf s) f image (judgeOf s buffer) (judge-small s buffer) (judge-rows s buffer)
+
+pub shown-narrow : {a b : ShowAnswer} (s : List ℕ) (f : ℕ) (buffer image : List ℕ) → a ≡ showOf s f buffer image → a ≡ b → Fits32 b
+shown-narrow s f buffer image e g = subst Fits32 (sym e ∙ g) (show-narrow s f buffer image)
 
 -- ---- What a match found a slip's answer to be
 

@@ -6,6 +6,8 @@ use Rattle.dataset.specs.Answer.{codeOf, offsetOf, rowCountOf}
 use Rattle.verdict.specs.declared.Verdict.{Verdict}
 use Rattle.conformance.specs.declared.JudgeAnswer.{JudgeAnswer}
 use Rattle.conformance.specs.Judging as judging
+use Rattle.display.specs.declared.ShowAnswer.{ShowAnswer}
+use Rattle.display.specs.Show as showing
 use Rattle.slip.specs.declared.SlipAnswer.{SlipAnswer}
 use Rattle.slip.specs.declared.SlipAnswer.the-variants as read
 use Rattle.slip.specs.declared.WriteAnswer.{WriteAnswer}
@@ -13,7 +15,7 @@ use Rattle.slip.specs.declared.WriteAnswer.the-variants as write
 use Rattle.cabi.specs.declared.Answer.{Answer}
 use Rattle.cabi.specs.declared.slips.Slip.{Slip}
 
--- ---- Reading and judging
+-- ---- Reading, judging and drawing
 
 -- The answer of `xa_read`: code, offset and number of rows. Reading knows no rule, frame or mask.
 abbrev pub readAnswer : ReadAnswer → Answer
@@ -36,6 +38,26 @@ judgeAnswer a = record {
   frame = judging.frameOf a;
   masked = 0;
 }
+
+-- The answer of `xa_show`: as `xa_judge` for codes 1 to 9; with code 0 also whether the picture is masked; codes 10 and 11
+-- name nothing else.
+abbrev pub showAnswer : ShowAnswer → Answer
+showAnswer a = record {
+  code = showing.codeOf a;
+  offset = showing.offsetOf a;
+  rows = showing.rowCountOf a;
+  rule = showing.ruleOf a;
+  frame = showing.frameOf a;
+  masked = showing.maskedOf a;
+}
+
+-- The numbers of an answer fit 32 bits.
+pub record Fits32 (a : ShowAnswer) : Type 0 where
+  pub code : showing.codeOf a < 4294967296
+  pub offset : showing.offsetOf a < 4294967296
+  pub rows : showing.rowCountOf a < 4294967296
+  pub rule : showing.ruleOf a < 4294967296
+  pub frame : showing.frameOf a < 4294967296
 
 -- ---- Slips
 

@@ -2,10 +2,12 @@
 // any bytes and any buffers may be handed in.
 mod judge;
 mod read;
+mod show;
 mod slips;
 
 pub use judge::xa_judge;
 pub use read::xa_read;
+pub use show::xa_show;
 pub use slips::Slip;
 pub use slips::xa_read_slip;
 pub use slips::xa_write_slip;

@@ -8,28 +8,22 @@ use Rattle.display.proofs.image_size.Lts as lts
 use Rattle.display.proofs.number_of.Reads as number-of-reads
 use Rattle.element.proofs.us_root.Reads as us-root-reads
 
--- src/lib.rt:241:28
 us-root-requires : tie.Need-us-root-requires
 us-root-requires c κs = search needs
 
--- src/lib.rt:241:9
 number-of-requires : tie.Need-number-of-requires
 number-of-requires c κs = search needs
 
--- src/lib.rt:242:27
 us-root-requires-2 : tie.Need-us-root-requires-2
 us-root-requires-2 c κs = search needs
 
--- src/lib.rt:242:9
 number-of-requires-2 : tie.Need-number-of-requires-2
 number-of-requires-2 c κs = search needs
 
--- src/lib.rt:243:5
 mul-result : tie.Need-mul-result
 mul-result c =
     omega (arith, answers.product-fits (c .before .before .number-of .result) (c .number-of2 .result) (c .before .before .number-of .ensures .1) (c .number-of2 .ensures .1))
 
--- src/lib.rt:237:1
 returns : tie.Need-returns
 returns c =
     rw (c .before .before .number-of .ensures .0, c .number-of2 .ensures .0, c .before .before .before .us-root .ensures .0, c .before .us-root2 .ensures .0)

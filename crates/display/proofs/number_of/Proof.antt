@@ -7,20 +7,16 @@ use Rattle.display.proofs.number_of.Tie as tie
 use Rattle.display.proofs.number_of.Reads as reads
 use Rattle.display.proofs.number_of.Lts as lts
 
--- src/lib.rt:231:17
 enum-known-n : tie.Need-enum-known-n
 enum-known-n c = search needs
 
--- src/lib.rt:232:23
 enum-told : tie.Need-enum-told
 enum-told c = search needs
 
--- src/lib.rt:226:1
 returns : tie.Need-returns
 returns c =
     (ap numberOf (sym (c .before .n .given .1)), node-laws.within _ (c .before .n .given .1) (c .before .before .before .pre))
 
--- src/lib.rt:226:1
 returns-2 : tie.Need-returns-2
 returns-2 c = search needs
 

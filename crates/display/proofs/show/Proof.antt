@@ -14,97 +14,76 @@ use Rattle.display.proofs.show.Lts as lts
 use Rattle.conformance.proofs.judge.Reads as judge-reads
 use Rattle.display.proofs.show_table.Reads as show-table-reads
 
--- src/lib.rt:274:11
 judge-requires : tie.Need-judge-requires
 judge-requires c κs = search needs
 
--- src/lib.rt:275:34
 enum-told : tie.Need-enum-told
 enum-told c = search needs
 
--- src/lib.rt:276:30
 enum-known-code : tie.Need-enum-known-code
 enum-known-code c = search needs
 
--- src/lib.rt:277:32
 enum-told-2 : tie.Need-enum-told-2
 enum-told-2 c = search needs
 
--- src/lib.rt:278:29
 enum-known-count : tie.Need-enum-known-count
 enum-known-count c = search needs
 
--- src/lib.rt:279:31
 enum-known-count-2 : tie.Need-enum-known-count-2
 enum-known-count-2 c = search needs
 
--- src/lib.rt:280:23
 mul-end : tie.Need-mul-end
 mul-end c =
     let t = laws.after-judging (c .before .before .before .before .before .before .before .before .before .before .args .bytes .now) (c .before .before .before .before .before .before .before .before .before .before .args .rows .now) (c .before .before .before .before .before .judge .last .1 .0) (c .before .count2 .given .0 .0) (sym (c .before .count2 .given .1) ∙ c .before .before .before .before .before .judge .ensures .0) (c .before .before .before .before .before .judge .ensures .1) .0 in
     omega (arith, t .1 .size, t .1 .few, length-take-le (6 * c .before .count2 .given .0 .0) (c .before .before .before .before .before .judge .last .1 .0) (t .0))
 
--- src/lib.rt:281:31
 slice-reshare-prefix-show-table : tie.Need-slice-reshare-prefix-show-table
 slice-reshare-prefix-show-table c =
     laws.after-judging (c .before .before .before .before .before .before .before .before .before .before .args .bytes .now) (c .before .before .before .before .before .before .before .before .before .before .args .rows .now) (c .before .before .before .before .before .judge .last .1 .0) (c .before .count2 .given .0 .0) (sym (c .before .count2 .given .1) ∙ c .before .before .before .before .before .judge .ensures .0) (c .before .before .before .before .before .judge .ensures .1) .0 .0
 
--- src/lib.rt:281:31
 slice-aggregate-show-table : tie.Need-slice-aggregate-show-table
 slice-aggregate-show-table c =
     sym (length-take-le _ _ (laws.after-judging (c .before .before .before .before .before .before .before .before .before .before .before .args .bytes .now) (c .before .before .before .before .before .before .before .before .before .before .before .args .rows .now) (c .before .before .before .before .before .before .judge .last .1 .0) (c .before .before .count2 .given .0 .0) (sym (c .before .before .count2 .given .1) ∙ c .before .before .before .before .before .before .judge .ensures .0) (c .before .before .before .before .before .before .judge .ensures .1) .0 .0))
 
--- src/lib.rt:281:13
 show-table-requires : tie.Need-show-table-requires
 show-table-requires c κs =
     let t = laws.after-judging (c .before .before .before .before .before .before .before .before .before .before .before .before .args .bytes .now) (c .before .before .before .before .before .before .before .before .before .before .before .before .args .rows .now) (c .before .before .before .before .before .before .before .judge .last .1 .0) (c .before .before .before .count2 .given .0 .0) (sym (c .before .before .before .count2 .given .1) ∙ c .before .before .before .before .before .before .before .judge .ensures .0) (c .before .before .before .before .before .before .before .judge .ensures .1) in
     (t .0 .1, (λ i. omega (arith, c .before .before .before .before .before .before .before .before .before .before .before .shared-slice-known .given i), t .1))
 
--- src/lib.rt:269:1
 same-length : tie.Need-same-length
 same-length c = search needs
 
--- src/lib.rt:269:1
 returns : tie.Need-returns
 returns c =
     (laws.shown-by (c .before .before .before .before .before .before .before .before .before .args .bytes .now) (c .before .before .before .before .before .before .before .before .before .args .frame) (c .before .before .before .before .before .before .before .before .before .args .rows .now) (c .before .before .before .before .before .before .before .before .before .args .image .now) judged.TooLarge (sym (c .enum-told .given .1) ∙ c .before .before .before .before .judge .ensures .0), (c .before .before .before .before .judge .ensures .1, laws.image-by (c .before .before .before .before .before .before .before .before .before .args .bytes .now) (c .before .before .before .before .before .before .before .before .before .args .frame) (c .before .before .before .before .before .before .before .before .before .args .rows .now) (c .before .before .before .before .before .before .before .before .before .args .image .now) judged.TooLarge (sym (c .enum-told .given .1) ∙ c .before .before .before .before .judge .ensures .0)))
 
--- src/lib.rt:269:1
 same-length-2 : tie.Need-same-length-2
 same-length-2 c = search needs
 
--- src/lib.rt:269:1
 returns-2 : tie.Need-returns-2
 returns-2 c =
     (laws.shown-by (c .before .before .before .before .before .before .before .before .before .before .args .bytes .now) (c .before .before .before .before .before .before .before .before .before .before .args .frame) (c .before .before .before .before .before .before .before .before .before .before .args .rows .now) (c .before .before .before .before .before .before .before .before .before .before .args .image .now) (judged.Refused (c .before .code .given .0 .0) (c .before .code .given .0 .1 .0)) (sym (c .before .code .given .1) ∙ c .before .before .before .before .before .judge .ensures .0), (c .before .before .before .before .before .judge .ensures .1, laws.image-by (c .before .before .before .before .before .before .before .before .before .before .args .bytes .now) (c .before .before .before .before .before .before .before .before .before .before .args .frame) (c .before .before .before .before .before .before .before .before .before .before .args .rows .now) (c .before .before .before .before .before .before .before .before .before .before .args .image .now) (judged.Refused (c .before .code .given .0 .0) (c .before .code .given .0 .1 .0)) (sym (c .before .code .given .1) ∙ c .before .before .before .before .before .judge .ensures .0)))
 
--- src/lib.rt:269:1
 same-length-3 : tie.Need-same-length-3
 same-length-3 c = search needs
 
--- src/lib.rt:269:1
 returns-3 : tie.Need-returns-3
 returns-3 c =
     (laws.shown-by (c .before .before .before .before .before .before .before .before .before .args .bytes .now) (c .before .before .before .before .before .before .before .before .before .args .frame) (c .before .before .before .before .before .before .before .before .before .args .rows .now) (c .before .before .before .before .before .before .before .before .before .args .image .now) judged.NoRoom (sym (c .enum-told2 .given .1) ∙ c .before .before .before .before .judge .ensures .0), (c .before .before .before .before .judge .ensures .1, laws.image-by (c .before .before .before .before .before .before .before .before .before .args .bytes .now) (c .before .before .before .before .before .before .before .before .before .args .frame) (c .before .before .before .before .before .before .before .before .before .args .rows .now) (c .before .before .before .before .before .before .before .before .before .args .image .now) judged.NoRoom (sym (c .enum-told2 .given .1) ∙ c .before .before .before .before .judge .ensures .0)))
 
--- src/lib.rt:269:1
 same-length-4 : tie.Need-same-length-4
 same-length-4 c = search needs
 
--- src/lib.rt:269:1
 returns-4 : tie.Need-returns-4
 returns-4 c =
     (laws.shown-by (c .before .before .before .before .before .before .before .before .before .before .args .bytes .now) (c .before .before .before .before .before .before .before .before .before .before .args .frame) (c .before .before .before .before .before .before .before .before .before .before .args .rows .now) (c .before .before .before .before .before .before .before .before .before .before .args .image .now) (judged.Broken (c .before .count .given .0 .0) (c .before .count .given .0 .1 .0) (c .before .count .given .0 .1 .1 .0)) (sym (c .before .count .given .1) ∙ c .before .before .before .before .before .judge .ensures .0), (c .before .before .before .before .before .judge .ensures .1, laws.image-by (c .before .before .before .before .before .before .before .before .before .before .args .bytes .now) (c .before .before .before .before .before .before .before .before .before .before .args .frame) (c .before .before .before .before .before .before .before .before .before .before .args .rows .now) (c .before .before .before .before .before .before .before .before .before .before .args .image .now) (judged.Broken (c .before .count .given .0 .0) (c .before .count .given .0 .1 .0) (c .before .count .given .0 .1 .1 .0)) (sym (c .before .count .given .1) ∙ c .before .before .before .before .before .judge .ensures .0)))
 
--- src/lib.rt:269:1
 same-length-5 : tie.Need-same-length-5
 same-length-5 c = search needs
 
--- src/lib.rt:269:1
 same-length-6 : tie.Need-same-length-6
 same-length-6 c = search needs
 
--- src/lib.rt:269:1
 returns-5 : tie.Need-returns-5
 returns-5 c =
     let e = sym (c .before .before .before .before .before .before .count2 .given .1) ∙ c .before .before .before .before .before .before .before .before .before .before .judge .ensures .0 in

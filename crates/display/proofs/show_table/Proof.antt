@@ -12,52 +12,41 @@ use Rattle.display.proofs.draw.Reads as draw-reads
 use Rattle.display.proofs.image_size.Reads as image-size-reads
 use Rattle.element.proofs.frame_count.Reads as frame-count-reads
 
--- src/lib.rt:252:22
 frame-count-requires : tie.Need-frame-count-requires
 frame-count-requires c κs = search needs
 
--- src/lib.rt:252:17
 enum-known-n : tie.Need-enum-known-n
 enum-known-n c = search needs
 
--- src/lib.rt:253:9
 enum-told : tie.Need-enum-told
 enum-told c = search needs
 
--- src/lib.rt:253:9
 returns : tie.Need-returns
 returns c =
     (answers.no-frames (nodesOf (c .before .before .before .before .before .before .args .bytes .now)) (c .before .before .before .before .before .before .args .frame) (c .before .before .before .before .before .before .args .image .now) (c .before .before .before .before .before .before .args .count) (node-laws.lacked (c .enum-told .given .1) (c .before .before .frame-count .ensures .0)), refl)
 
--- src/lib.rt:256:9
 returns-2 : tie.Need-returns-2
 returns-2 c =
     (answers.below-frames (nodesOf (c .before .before .before .before .before .before .before .before .args .bytes .now)) (c .before .before .before .before .before .before .before .before .args .frame) (c .before .before .before .before .before .before .before .before .args .image .now) (c .before .before .before .before .before .before .before .before .args .count) _ (node-laws.had (c .before .before .n .given .1) (c .before .before .before .before .frame-count .ensures .0)) (c .if1 .taken), refl)
 
--- src/lib.rt:259:9
 returns-3 : tie.Need-returns-3
 returns-3 c =
     (answers.above-frames (nodesOf (c .before .before .before .before .before .before .before .before .before .args .bytes .now)) (c .before .before .before .before .before .before .before .before .before .args .frame) (c .before .before .before .before .before .before .before .before .before .args .image .now) (c .before .before .before .before .before .before .before .before .before .args .count) _ (node-laws.had (c .before .before .before .n .given .1) (c .before .before .before .before .before .frame-count .ensures .0)) (c .if2 .taken), refl)
 
--- src/lib.rt:261:22
 image-size-requires : tie.Need-image-size-requires
 image-size-requires c κs = search needs
 
--- src/lib.rt:262:9
 returns-4 : tie.Need-returns-4
 returns-4 c =
     (answers.no-room (nodesOf (c .before .before .before .before .before .before .before .before .before .before .before .args .bytes .now)) (c .before .before .before .before .before .before .before .before .before .before .before .args .frame) (c .before .before .before .before .before .before .before .before .before .before .before .args .image .now) (c .before .before .before .before .before .before .before .before .before .before .before .args .count) _ (node-laws.had (c .before .before .before .before .before .n .given .1) (c .before .before .before .before .before .before .before .frame-count .ensures .0)) (omega (arith, c .before .before .before .if1 .left)) (omega (arith, c .before .before .if2 .left)) (omega (arith, c .if3 .taken, c .before .image-size .ensures)), refl)
 
--- src/lib.rt:264:9
 draw-requires : tie.Need-draw-requires
 draw-requires c κs =
     (c .before .before .before .before .before .before .before .before .before .before .before .before .pre .0, (c .before .before .before .before .before .before .before .before .before .before .before .before .pre .1 .0, (c .before .before .before .before .before .before .before .before .before .before .before .before .pre .1 .1, (node-laws.had (c .before .before .before .before .before .before .n .given .1) (c .before .before .before .before .before .before .before .before .frame-count .ensures .0), (omega (arith, c .before .before .before .before .if1 .left), (omega (arith, c .before .before .before .if2 .left), omega (arith, c .before .if3 .left, c .before .before .image-size .ensures)))))))
 
--- src/lib.rt:247:1
 same-length : tie.Need-same-length
 same-length c = search needs
 
--- src/lib.rt:247:1
 returns-5 : tie.Need-returns-5
 returns-5 c =
     (rw (c .before .before .draw .ensures .0) (answers.is-drawn (nodesOf (c .before .before .before .before .before .before .before .before .before .before .before .before .before .before .before .args .bytes .now)) (c .before .before .before .before .before .before .before .before .before .before .before .before .before .before .before .args .frame) (c .before .before .before .before .before .before .before .before .before .before .before .before .before .before .before .args .image .now) (c .before .before .before .before .before .before .before .before .before .before .before .before .before .before .before .args .count) _ (node-laws.had (c .before .before .before .before .before .before .before .before .before .n .given .1) (c .before .before .before .before .before .before .before .before .before .before .before .frame-count .ensures .0)) (omega (arith, c .before .before .before .before .before .before .before .if1 .left)) (omega (arith, c .before .before .before .before .before .before .if2 .left)) (omega (arith, c .before .before .before .before .if3 .left, c .before .before .before .before .before .image-size .ensures))), c .before .before .draw .ensures .1)

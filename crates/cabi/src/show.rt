@@ -1,0 +1,84 @@
+// Drawing a frame, for hosts.
+use crate::Answer;
+use display::ShowAnswer;
+ghost use mathlib.Core.Path.{_≡_};
+ghost use mathlib.Core.Bool.{cond};
+ghost use Rattle.dataset.specs.Reading.{readingOf};
+ghost use Rattle.dataset.specs.Answer.{bufferOf};
+ghost use Rattle.display.specs.Show.{showOf, imageOf};
+ghost use Rattle.cabi.specs.Host.{showAnswer};
+
+// 1 for a masked frame, 0 for a native one.
+fn masked_number(masked: bool) -> u32
+    ensures { λ r. ⌜ r ≡ cond masked 1 0 ⌝ }
+{
+    if masked { 1 } else { 0 }
+}
+
+// Reads a data set into rows of six numbers, judges it and draws a frame of it, a byte for each sample. With codes 1 to 8
+// the row buffer stays as it was, with every code but 0 the image buffer.
+#[no_mangle]
+pub extern "C" fn xa_show(bytes: &[u8], frame: u64, rows: &mut [u32], image: &mut [u8]) -> Answer
+    ensures { λ r. ⌜ r ≡ showAnswer (showOf (now (bytes .entry)) frame (now (rows .entry)) (now (image .entry))) ⌝ }
+    ensures { λ _. ⌜ now (rows .exit) ≡ bufferOf (readingOf (now (bytes .entry))) (now (rows .entry)) ⌝ }
+    ensures { λ _. ⌜ now (image .exit) ≡ imageOf (now (bytes .entry)) frame (now (rows .entry)) (now (image .entry)) ⌝ }
+{
+    match display::show(bytes, frame, rows, image) {
+        ShowAnswer::Drawn(n, masked) => Answer {
+            code: 0,
+            offset: 0,
+            rows: n as u32,
+            rule: 0,
+            frame: 0,
+            masked: masked_number(masked),
+        },
+        ShowAnswer::Broken(n, rule, broken) => Answer {
+            code: 9,
+            offset: 0,
+            rows: n as u32,
+            rule: rule as u32,
+            frame: broken as u32,
+            masked: 0,
+        },
+        ShowAnswer::Refused(code, offset) => Answer {
+            code: code as u32,
+            offset: offset as u32,
+            rows: 0,
+            rule: 0,
+            frame: 0,
+            masked: 0,
+        },
+        ShowAnswer::TooLarge => Answer {
+            code: 7,
+            offset: 0,
+            rows: 0,
+            rule: 0,
+            frame: 0,
+            masked: 0,
+        },
+        ShowAnswer::NoRoom => Answer {
+            code: 8,
+            offset: 0,
+            rows: 0,
+            rule: 0,
+            frame: 0,
+            masked: 0,
+        },
+        ShowAnswer::NoFrame => Answer {
+            code: 10,
+            offset: 0,
+            rows: 0,
+            rule: 0,
+            frame: 0,
+            masked: 0,
+        },
+        ShowAnswer::NoImageRoom => Answer {
+            code: 11,
+            offset: 0,
+            rows: 0,
+            rule: 0,
+            frame: 0,
+            masked: 0,
+        },
+    }
+}
