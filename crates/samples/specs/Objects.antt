@@ -1,5 +1,5 @@
--- Small data sets for the drawing samples, put together from elements in Explicit VR Little Endian. They hold what the
--- drawing steps read and no more; the judge would refuse them, and no step asks that.
+-- Small data sets for the samples of drawing, put together from elements in Explicit VR Little Endian. They have what the
+-- rules ask for and no more, so that they are accepted; that they are is part of what the samples say.
 use Prim.Native.Nat.{ℕ, _/_, _%_}
 use Prim.Native.String.{String}
 use mathlib.Core.Bool.{cond}
@@ -68,25 +68,41 @@ voi center width =
 abbrev pub padded : List ℕ → List ℕ
 padded value = cond (eqb (length value % 2) 1) (value ++ (0 ∷ [])) value
 
--- Frames of one row, of 8 bits, with an empty per-frame item for each.
-abbrev pub frames : String → ℕ → String → List ℕ → List ℕ → List ℕ → List ℕ → List ℕ
-frames photometric columns number mask window items pixels =
-    short 0x0028 0x0004 "CS" (ascii photometric)
+-- An item with an empty Frame Content.
+abbrev pub frameItem : List ℕ
+frameItem = item (sequence 0x0020 0x9111 (item []))
+
+-- Frames of one row, of 8 bits.
+abbrev pub frames : String → String → ℕ → String → List ℕ → List ℕ → List ℕ → List ℕ → List ℕ
+frames photometric shape columns number mask window items pixels =
+    short 0x0008 0x0008 "CS" (padded (ascii "DERIVED\\PRIMARY\\X\\NONE"))
+    ++ (short 0x0008 0x0016 "UI" (padded (ascii "1.2.840.10008.5.1.4.1.1.12.1.1"))
+    ++ (short 0x0008 0x002A "DT" (ascii "20240101")
+    ++ (short 0x0008 0x0060 "CS" (ascii "XA")
+    ++ (short 0x0018 0x9004 "CS" (ascii "PRODUCT ")
+    ++ (short 0x0018 0x9410 "CS" (ascii "UNDEFINED ")
+    ++ (short 0x0028 0x0002 "US" (two 1)
+    ++ (short 0x0028 0x0004 "CS" (ascii photometric)
     ++ (short 0x0028 0x0008 "IS" (ascii number)
     ++ (short 0x0028 0x0010 "US" (two 1)
     ++ (short 0x0028 0x0011 "US" (two columns)
     ++ (short 0x0028 0x0100 "US" (two 8)
     ++ (short 0x0028 0x0101 "US" (two 8)
+    ++ (short 0x0028 0x0102 "US" (two 7)
+    ++ (short 0x0028 0x0103 "US" (two 0)
+    ++ (short 0x0028 0x0301 "CS" (ascii "NO")
+    ++ (short 0x0028 0x2110 "CS" (ascii "00")
     ++ (mask
+    ++ (short 0x2050 0x0020 "CS" (ascii shape)
     ++ (sequence 0x5200 0x9229 (item window)
     ++ (sequence 0x5200 0x9230 items
-    ++ long 0x7FE0 0x0010 "OB" (padded pixels)))))))))
+    ++ long 0x7FE0 0x0010 "OB" (padded pixels)))))))))))))))))))))
 
 -- Three frames of one cell, with a mask.
 abbrev pub threeFrames : List ℕ → ℕ → ℕ → ℕ → List ℕ
 threeFrames mask a b c =
-    frames "MONOCHROME2 " 1 "3 " mask noWindow (item [] ++ (item [] ++ item [])) (a ∷ b ∷ c ∷ [])
+    frames "MONOCHROME2 " "IDENTITY" 1 "3 " mask noWindow (frameItem ++ (frameItem ++ frameItem)) (a ∷ b ∷ c ∷ [])
 
 -- One frame of some cells, with a window.
-abbrev pub oneFrame : String → List ℕ → List ℕ → List ℕ
-oneFrame photometric window cells = frames photometric (length cells) "1 " unmasked window (item []) cells
+abbrev pub oneFrame : String → String → List ℕ → List ℕ → List ℕ
+oneFrame photometric shape window cells = frames photometric shape (length cells) "1 " unmasked window frameItem cells

@@ -4,14 +4,17 @@
 -- numbers that the paper says come out. The first word of a line is its kind. A kind is defined once, above the list, by
 -- two fields: `gives` is what the definitions of this library give for what is put in, and `says` is what the paper
 -- says. The definitions are those that the calls are proved to follow: `readingOf` for reading, `judgeOf` for judging,
--- `levelOf` for the window, `maskAt` and `maskedCell` for masks, `stepsOf` for a whole picture. The claim that both
--- fields are the same in every line is `starred`, in proofs/Starred.antt; the prover works out every line.
+-- `levelOf` for the window, `maskAt`, `maskedCell` and `maskFor` for masks, and `showOf` with `imageOf` for a whole picture, which is
+-- judged and drawn by all steps. The claim that both fields are the same in every line is `starred`, in
+-- proofs/Starred.antt; the prover works out every line.
+--
+-- Some sentences of the paper have more lines than numbers: the same numbers come out of a part and of a whole picture.
 use Prim.Native.Nat.{ℕ, _*_}
 use mathlib.Core.Bool.{Bool, true, false}
 use mathlib.Core.List.{List, [], _∷_, _++_}
 use mathlib.Core.Option.{Option, some}
 use lib.IntN.{pos}
-use lib.ListN.{take}
+use lib.ListN.{take, replicate}
 use Rattle.dataset.specs.Reading.{readingOf}
 use Rattle.dataset.specs.Answer.{answerOf, bufferOf}
 use Rattle.dataset.specs.Answer as read
@@ -29,7 +32,10 @@ use Rattle.window.specs.declared.Window.{Window}
 use Rattle.window.specs.Window.{levelOf, fullWindow}
 use Rattle.pixel.specs.declared.Geometry.{Geometry}
 use Rattle.pixel.specs.Pixel.{maskAt}
-use Rattle.steps.specs.Steps.{Picture, Mask, native, masked, shaded, maskedCell, maskFor, stepsOf}
+use Rattle.steps.specs.Steps.{Mask, native, masked, shaded, maskedCell, maskFor}
+use Rattle.display.specs.Show.{showOf, imageOf}
+use Rattle.display.specs.Show as shown
+use Rattle.display.specs.declared.ShowAnswer.{ShowAnswer}
 use Rattle.samples.specs.Objects.{two, threeFrames, oneFrame, tid, tidAbsent, averageOfTwo, noWindow, voi}
 
 -- ---- What comes out
@@ -41,19 +47,27 @@ pub record Numbers : Type 0 where
   pub rule : ℕ
   pub frame : ℕ
   pub offset : ℕ
+  pub masked : ℕ
 
--- Fields not named are 0: so many rows; a code and its place; code 9 with so many rows, a rule and a frame.
+-- Fields not named are 0: done, with so many rows; a code and its place; code 9, with so many rows, a rule and a frame; a picture that
+-- is shown, native (0) or masked (1), with so many rows.
 abbrev pub done : ℕ → Numbers
-done rows = record { code = 0; rows = rows; rule = 0; frame = 0; offset = 0 }
+done rows = record { code = 0; rows = rows; rule = 0; frame = 0; offset = 0; masked = 0 }
 
 abbrev pub refused : ℕ → ℕ → Numbers
-refused code offset = record { code = code; rows = 0; rule = 0; frame = 0; offset = offset }
+refused code offset = record { code = code; rows = 0; rule = 0; frame = 0; offset = offset; masked = 0 }
 
 abbrev pub broken : ℕ → ℕ → ℕ → Numbers
-broken rows rule frame = record { code = 9; rows = rows; rule = rule; frame = frame; offset = 0 }
+broken rows rule frame = record { code = 9; rows = rows; rule = rule; frame = frame; offset = 0; masked = 0 }
+
+abbrev pub shownNative : ℕ → Numbers
+shownNative = done
+
+abbrev pub shownMasked : ℕ → Numbers
+shownMasked rows = record { code = 0; rows = rows; rule = 0; frame = 0; offset = 0; masked = 1 }
 
 pub data Outcome : Type 0 where
-  -- the numbers of an answer, and the row buffer afterwards
+  -- the numbers of an answer, and a buffer afterwards: the rows, or the image
   Answer : Numbers → List ℕ → Outcome
   -- a grey level
   Level : Num → Outcome
@@ -63,8 +77,6 @@ pub data Outcome : Type 0 where
   Levels : (Window → Num) → Outcome
   -- what masks a frame
   MaskedBy : Option Mask → Outcome
-  -- the picture of a frame
-  Image : Option Picture → Outcome
 
 pub record Sample : Type 0 where
   pub gives : Outcome
@@ -72,9 +84,13 @@ pub record Sample : Type 0 where
 
 -- ---- What is put in
 
--- A row buffer of seven numbers: room for one row, and one number more.
+-- A buffer of seven numbers: room for one row, or a small picture, and more.
 abbrev pub lent : List ℕ
 lent = 9 ∷ 9 ∷ 9 ∷ 9 ∷ 9 ∷ 9 ∷ 9 ∷ []
+
+-- A row buffer for the data sets that are shown.
+abbrev pub manyRows : List ℕ
+manyRows = replicate 300 9
 
 -- Rows (0028,0010), US, of two bytes; and with length 3.
 abbrev pub rowsElement : List ℕ
@@ -119,7 +135,7 @@ unmoved = record { vertical = Plus 0; horizontal = Plus 0 }
 
 -- Bytes that are read with a row buffer: the answer, and the buffer afterwards.
 abbrev pub numbersRead : ReadAnswer → Numbers
-numbersRead a = record { code = read.codeOf a; rows = read.rowCountOf a; rule = 0; frame = 0; offset = read.offsetOf a }
+numbersRead a = record { code = read.codeOf a; rows = read.rowCountOf a; rule = 0; frame = 0; offset = read.offsetOf a; masked = 0 }
 
 abbrev pub reads : List ℕ → List ℕ → Numbers → List ℕ → Sample
 reads bytes buffer numbers after =
@@ -131,7 +147,7 @@ reads bytes buffer numbers after =
 -- Bytes that are judged with a row buffer: the same.
 abbrev pub numbersJudged : JudgeAnswer → Numbers
 numbersJudged a =
-    record { code = judged.codeOf a; rows = judged.rowCountOf a; rule = judged.ruleOf a; frame = judged.frameOf a; offset = judged.offsetOf a }
+    record { code = judged.codeOf a; rows = judged.rowCountOf a; rule = judged.ruleOf a; frame = judged.frameOf a; offset = judged.offsetOf a; masked = 0 }
 
 abbrev pub judges : List ℕ → List ℕ → Numbers → List ℕ → Sample
 judges bytes buffer numbers after =
@@ -141,8 +157,8 @@ judges bytes buffer numbers after =
     }
 
 -- A number x under a window, and whether it is MONOCHROME1: the grey level y.
-abbrev pub shows : Bool → Window → ℕ → ℕ → Sample
-shows inverse window x y = record { gives = Level (shaded inverse (levelOf window (pos x))); says = Level (Is y) }
+abbrev pub levels : Bool → Window → ℕ → ℕ → Sample
+levels inverse window x y = record { gives = Level (shaded inverse (levelOf window (pos x))); says = Level (Is y) }
 
 -- Frames of one cell of 8 bits, and which of them are mask frames: the mask cell.
 abbrev pub averages : List ℕ → List ℕ → ℕ → Sample
@@ -160,19 +176,17 @@ subtracts cells masks frame x =
 abbrev pub takes : List ℕ → ℕ → Mask → Sample
 takes bytes frame mask = record { gives = MaskedBy (maskFor (nodesOf bytes) frame); says = MaskedBy (some mask) }
 
--- A data set and a frame: the cells of its picture, which is native, or masked.
-abbrev pub draws : Bool → List ℕ → ℕ → List ℕ → Sample
-draws isMasked bytes frame cells =
+-- A data set that is shown at a frame, with room for its rows and an image buffer: the answer, and the image buffer afterwards.
+abbrev pub numbersShown : ShowAnswer → Numbers
+numbersShown a =
+    record { code = shown.codeOf a; rows = shown.rowCountOf a; rule = shown.ruleOf a; frame = shown.frameOf a; offset = shown.offsetOf a; masked = shown.maskedOf a }
+
+abbrev pub shows : List ℕ → ℕ → List ℕ → Numbers → List ℕ → Sample
+shows bytes frame image numbers after =
     record {
-      gives = Image (stepsOf (nodesOf bytes) frame);
-      says = Image (some (record { masked = isMasked; samples = cells }));
+      gives = Answer (numbersShown (showOf bytes frame manyRows image)) (imageOf bytes frame manyRows image);
+      says = Answer numbers after;
     }
-
-abbrev pub drawsNative : List ℕ → ℕ → List ℕ → Sample
-drawsNative = draws false
-
-abbrev pub drawsMasked : List ℕ → ℕ → List ℕ → Sample
-drawsMasked = draws true
 
 -- ---- The samples
 
@@ -193,36 +207,36 @@ samples =
     -- "00 52 29 92 53 51 00 00, FF FF FF FF, FE FF DD E0 00 00 00 00: one row, length 0."
     ∷ reads emptySequence lent (done 1) (0x52009229 ∷ 0x5351 ∷ 0 ∷ 12 ∷ 0 ∷ 0 ∷ 9 ∷ [])
     -- "Width 1, centre 50: 49 gives 0, 50 gives 255."
-    ∷ shows monochrome2 (window 50 1) 49 0
-    ∷ shows monochrome2 (window 50 1) 50 255
+    ∷ levels monochrome2 (window 50 1) 49 0
+    ∷ levels monochrome2 (window 50 1) 50 255
     -- "Width 10, centre 40: 35, 36, 40, 44, 45 give 0, 28, 142, 255, 255; MONOCHROME1 makes 142 into 113."
-    ∷ shows monochrome2 (window 40 10) 35 0
-    ∷ shows monochrome2 (window 40 10) 36 28
-    ∷ shows monochrome2 (window 40 10) 40 142
-    ∷ shows monochrome2 (window 40 10) 44 255
-    ∷ shows monochrome2 (window 40 10) 45 255
-    ∷ shows monochrome1 (window 40 10) 40 113
-    ∷ drawsNative (oneFrame "MONOCHROME2 " (voi "40" "10") widthTen) 1 (0 ∷ 28 ∷ 142 ∷ 255 ∷ 255 ∷ [])
-    ∷ drawsNative (oneFrame "MONOCHROME1 " (voi "40" "10") widthTen) 1 (255 ∷ 227 ∷ 113 ∷ 0 ∷ 0 ∷ [])
+    ∷ levels monochrome2 (window 40 10) 35 0
+    ∷ levels monochrome2 (window 40 10) 36 28
+    ∷ levels monochrome2 (window 40 10) 40 142
+    ∷ levels monochrome2 (window 40 10) 44 255
+    ∷ levels monochrome2 (window 40 10) 45 255
+    ∷ levels monochrome1 (window 40 10) 40 113
+    ∷ shows (oneFrame "MONOCHROME2 " "IDENTITY" (voi "40" "10") widthTen) 1 lent (shownNative 29) (0 ∷ 28 ∷ 142 ∷ 255 ∷ 255 ∷ 9 ∷ 9 ∷ [])
+    ∷ shows (oneFrame "MONOCHROME1 " "INVERSE " (voi "40" "10") widthTen) 1 lent (shownNative 29) (255 ∷ 227 ∷ 113 ∷ 0 ∷ 0 ∷ 9 ∷ 9 ∷ [])
     -- "8 bits, no VOI: 0, 128, 255 stay."
-    ∷ shows monochrome2 (fullWindow 8) 0 0
-    ∷ shows monochrome2 (fullWindow 8) 128 128
-    ∷ shows monochrome2 (fullWindow 8) 255 255
-    ∷ drawsNative (oneFrame "MONOCHROME2 " noWindow (0 ∷ 128 ∷ 255 ∷ [])) 1 (0 ∷ 128 ∷ 255 ∷ [])
+    ∷ levels monochrome2 (fullWindow 8) 0 0
+    ∷ levels monochrome2 (fullWindow 8) 128 128
+    ∷ levels monochrome2 (fullWindow 8) 255 255
+    ∷ shows (oneFrame "MONOCHROME2 " "IDENTITY" noWindow (0 ∷ 128 ∷ 255 ∷ [])) 1 lent (shownNative 25) (0 ∷ 128 ∷ 255 ∷ 9 ∷ 9 ∷ 9 ∷ 9 ∷ [])
     -- "Masks 90 and 91: 91; contrast 100, 8 bits: x = 137."
     ∷ averages (90 ∷ 91 ∷ 100 ∷ []) (1 ∷ 2 ∷ []) 91
     ∷ subtracts (90 ∷ 91 ∷ 100 ∷ []) (1 ∷ 2 ∷ []) 3 137
     ∷ takes (threeFrames averageOfTwo 90 91 100) 3 (masked (1 ∷ 2 ∷ []) unmoved)
-    ∷ drawsMasked (threeFrames averageOfTwo 90 91 100) 3 (137 ∷ [])
+    ∷ shows (threeFrames averageOfTwo 90 91 100) 3 lent (shownMasked 35) (137 ∷ 9 ∷ 9 ∷ 9 ∷ 9 ∷ 9 ∷ 9 ∷ [])
     -- "TID 1: frame 1 native, frame 2 takes 1."
     ∷ takes (threeFrames (tid (two 1)) 10 30 60) 1 native
     ∷ takes (threeFrames (tid (two 1)) 10 30 60) 2 (masked (1 ∷ []) unmoved)
-    ∷ drawsNative (threeFrames (tid (two 1)) 10 30 60) 1 (10 ∷ [])
-    ∷ drawsMasked (threeFrames (tid (two 1)) 10 30 60) 2 (148 ∷ [])
+    ∷ shows (threeFrames (tid (two 1)) 10 30 60) 1 lent (shownNative 35) (10 ∷ 9 ∷ 9 ∷ 9 ∷ 9 ∷ 9 ∷ 9 ∷ [])
+    ∷ shows (threeFrames (tid (two 1)) 10 30 60) 2 lent (shownMasked 35) (148 ∷ 9 ∷ 9 ∷ 9 ∷ 9 ∷ 9 ∷ 9 ∷ [])
     ∷ takes (threeFrames tidAbsent 10 30 60) 1 native
     ∷ takes (threeFrames tidAbsent 10 30 60) 2 (masked (1 ∷ []) unmoved)
     -- "TID -1, N 3: frame 3 native."
     ∷ takes (threeFrames (tid minusOne) 10 30 60) 3 native
     ∷ takes (threeFrames (tid minusOne) 10 30 60) 2 (masked (3 ∷ []) unmoved)
-    ∷ drawsNative (threeFrames (tid minusOne) 10 30 60) 3 (60 ∷ [])
+    ∷ shows (threeFrames (tid minusOne) 10 30 60) 3 lent (shownNative 35) (60 ∷ 9 ∷ 9 ∷ 9 ∷ 9 ∷ 9 ∷ 9 ∷ [])
     ∷ []
