@@ -1,14 +1,15 @@
 -- Document 01's "Sample drawer": its starred cases, in its order and with its numbers, as one list.
 --
--- How to read it. A line of the list `samples`, at the end of this file, is one sample: what is put in, and after it the
--- numbers that the paper says come out. The first word of a line is its kind. A kind is defined once, above the list, by
--- two fields: `gives` is what the definitions of this library give for what is put in, and `says` is what the paper
--- says. The definitions are those that the calls are proved to follow: `readingOf` for reading, `judgeOf` for judging,
--- `levelOf` for the window, `maskAt`, `maskedCell` and `maskFor` for masks, and `showOf` with `imageOf` for a whole picture, which is
--- judged and drawn by all steps. The claim that both fields are the same in every line is `starred`, in
+-- How to read it. A line of the list `samples`, at the end of this file, is one sample, under the sentence of the paper that
+-- it is of: what is put in, and after it the numbers that have to come out. The first word of a line is its kind. A kind is
+-- defined once, above the list, by two fields: `gives` is what the definitions of this library give for what is put in, and
+-- `says` is what the line says. The definitions are those that the calls have to follow: `readingOf` for reading, `judgeOf` for
+-- judging, `levelOf` for the window, `maskAt`, `maskedCell` and `maskFor` for masks, and `showOf` with `imageOf` for a whole
+-- picture, which is judged and drawn by all steps. The claim that both fields are the same in every line is `starred`, in
 -- proofs/Starred.antt; the prover works out every line.
 --
--- Some sentences of the paper have more lines than numbers: the same numbers come out of a part and of a whole picture.
+-- Numbers that the paper leaves open are worked out by hand: the fields of a row, how many rows a whole data set has, and the
+-- cells of its picture beside those that the paper names. A number 9 in a buffer is one that was not touched.
 use Prim.Native.Nat.{ℕ, _*_}
 use mathlib.Core.Bool.{Bool, true, false}
 use mathlib.Core.List.{List, [], _∷_, _++_}
