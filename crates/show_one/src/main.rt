@@ -1,0 +1,122 @@
+// Draws one frame of the data set on standard input. Its one argument is the frame's number. It writes the image to
+// standard output in the form PGM, which says in a comment whether the frame is masked; or the refusal, in a line.
+mod decimal;
+
+use decimal::Decimal;
+use display::ShowAnswer;
+use show_small::Shown;
+ghost use mathlib.Core.Path.{_≡_};
+ghost use Prim.Native.Nat.{_*_, _≤_};
+ghost use lib.ListN.{length};
+
+// One byte more than is drawn, so that an input that is too long is seen to be.
+fn input() -> [u8; 65_537]
+    ensures { λ r. ⌜ 65537 ≡ length r ⌝ }
+{
+    [0; 65_537]
+}
+
+// A name and its number.
+fn print_field(name: &[u8], n: usize) {
+    io::write_all(1, name);
+    io::write_all(1, b" ");
+    io::print_decimal(1, n as u64);
+}
+
+fn print_broken(rows: usize, rule: usize, frame: usize) {
+    print_field(b"code 9 rule", rule);
+    print_field(b" frame", frame);
+    print_field(b" rows", rows);
+    io::write_all(1, b"\n");
+}
+
+fn print_unread(code: usize, offset: usize) {
+    print_field(b"code", code);
+    print_field(b" place", offset);
+    io::write_all(1, b"\n");
+}
+
+// The head of the image: its kind, masked or native, its size, and the highest level.
+fn print_head(masked: bool, width: usize, height: usize) {
+    if masked {
+        io::write_all(1, b"P5\n# masked\n");
+    } else {
+        io::write_all(1, b"P5\n# native\n");
+    }
+    io::print_decimal(1, width as u64);
+    print_field(b"", height);
+    io::write_all(1, b"\n255\n");
+}
+
+fn print_image(masked: bool, width: usize, height: usize, image: &[u8])
+    requires { ⌜ height * width ≤ length (now image) ⌝ }
+{
+    print_head(masked, width, height);
+    let size = height * width;
+    io::write_all(1, &image[..size]);
+}
+
+fn print_shown(shown: Shown, image: &[u8])
+    requires { ⌜ shown .height * shown .width ≤ length (now image) ⌝ }
+{
+    let answer = shown.answer;
+    match answer {
+        ShowAnswer::Drawn(_, masked) => print_image(masked, shown.width, shown.height, image),
+        ShowAnswer::Broken(rows, rule, frame) => print_broken(rows, rule, frame),
+        ShowAnswer::Refused(code, offset) => print_unread(code, offset),
+        ShowAnswer::TooLarge => {
+            io::write_all(1, b"code 7\n");
+        }
+        ShowAnswer::NoRoom => {
+            io::write_all(1, b"code 8\n");
+        }
+        ShowAnswer::NoFrame => {
+            io::write_all(1, b"code 10\n");
+        }
+        ShowAnswer::NoImageRoom => {
+            io::write_all(1, b"code 11\n");
+        }
+    }
+}
+
+// The image buffer is large enough: an accepted object has as many bytes of pixel data.
+fn show_frame(bytes: &[u8], frame: u64)
+    requires { ⌜ length (now bytes) ≤ 65536 ⌝ }
+{
+    let mut image = io::large_buffer();
+    let shown = show_small::show_small(bytes, frame, &mut image);
+    print_shown(shown, &image);
+}
+
+// Reads the data set.
+fn show_input(frame: u64) {
+    let mut bytes = input();
+    let n = io::read_full(0, &mut bytes);
+    if judge_small::MOST < n {
+        io::write_all(1, b"too long: at most 65536 bytes\n");
+        return;
+    }
+    show_frame(&bytes[..n], frame);
+}
+
+fn main() {
+    if os::arg_count() != 2 {
+        io::write_all(1, b"frame: one number is wanted\n");
+        return;
+    }
+    let mut text = [0u8; 20];
+    let n = os::arg(1, &mut text);
+    if os::errno() != 0 {
+        io::write_all(1, b"frame: at most 20 digits\n");
+        return;
+    }
+    match decimal::read_decimal(&text[..n]) {
+        Decimal::Number(frame) => show_input(frame),
+        Decimal::TooLarge => {
+            io::write_all(1, b"frame: at most 18446744073709551615\n");
+        }
+        Decimal::NotNumber => {
+            io::write_all(1, b"frame: a number is wanted\n");
+        }
+    }
+}

@@ -1,0 +1,75 @@
+-- A frame is drawn only where the object was accepted; then its rows stand in the buffer, and its size is read from them.
+-- The buffer has six numbers for each 8 bytes that there may be, so the rows fit.
+use mathlib.Core.Path.{sym, _∙_}
+use Prim.Native.Nat.{_*_}
+use native.Mathlib.Omega.{arith}
+use lib.Seq.{length-take-le}
+use Rattle.node.specs.Nodes.{nodesOf}
+use Rattle.show_small.proofs.Roomy as laws
+use borrow.Author.Needs.{needs}
+use Rattle.show_small.proofs.show_small.Statement.{statement}
+use Rattle.show_small.proofs.show_small.Tie as tie
+
+row-buffer-requires : tie.Need-row-buffer-requires
+row-buffer-requires c κs = search needs
+
+slice-aggregate-show : tie.Need-slice-aggregate-show
+slice-aggregate-show c = search needs
+
+show-requires : tie.Need-show-requires
+show-requires c κs = search needs
+
+enum-known-answer : tie.Need-enum-known-answer
+enum-known-answer c = search needs
+
+same-length : tie.Need-same-length
+same-length c = search needs
+
+returns : tie.Need-returns
+returns c =
+    let t = laws.roomy-shown _ _ _ _ (omega (arith, c .before .before .before .before .before .before .before .row-buffer .ensures, c .before .before .before .before .before .before .before .before .before .before .pre)) _ _ (c .before .before .before .before .show .ensures .0) (c .before .before .before .before .show .ensures .1 .1) in
+    let e = laws.not-drawn (nodesOf (c .before .before .before .before .before .before .before .before .before .before .args .bytes .now)) (c .before .before .before .before .show .result) (c .match .keys2) ∙ t .0 in
+    (e, (t .1, laws.fits _ _ _ _ e))
+
+mul-end : tie.Need-mul-end
+mul-end c =
+    let t = laws.after-showing _ _ _ _ _ _ _ (sym (c .before .answer .given .1) ∙ c .before .before .before .before .before .before .show .ensures .0) (c .before .before .before .before .before .before .show .ensures .1 .0) in
+    omega (arith, t .1 .size, t .1 .few, length-take-le (6 * c .before .answer .given .0 .0) (c .before .before .before .before .before .before .show .last .1 .1 .0) (t .0))
+
+array-share-prefix-rows : tie.Need-array-share-prefix-rows
+array-share-prefix-rows c =
+    laws.after-showing _ _ _ _ _ _ _ (sym (c .before .answer .given .1) ∙ c .before .before .before .before .before .before .show .ensures .0) (c .before .before .before .before .before .before .show .ensures .1 .0) .0
+
+slice-aggregate-with-size : tie.Need-slice-aggregate-with-size
+slice-aggregate-with-size c =
+    sym (length-take-le _ _ (laws.after-showing _ _ _ _ _ _ _ (sym (c .before .before .answer .given .1) ∙ c .before .before .before .before .before .before .before .show .ensures .0) (c .before .before .before .before .before .before .before .show .ensures .1 .0) .0))
+
+with-size-requires : tie.Need-with-size-requires
+with-size-requires c κs =
+    laws.after-showing _ _ _ _ _ _ _ (sym (c .before .before .answer .given .1) ∙ c .before .before .before .before .before .before .before .show .ensures .0) (c .before .before .before .before .before .before .before .show .ensures .1 .0) .1
+
+same-length-2 : tie.Need-same-length-2
+same-length-2 c = search needs
+
+returns-2 : tie.Need-returns-2
+returns-2 c =
+    let t = laws.roomy-shown _ _ _ _ (omega (arith, c .before .before .before .before .before .before .before .before .before .before .before .row-buffer .ensures, c .before .before .before .before .before .before .before .before .before .before .before .before .before .before .pre)) _ _ (sym (c .before .before .before .answer .given .1) ∙ c .before .before .before .before .before .before .before .before .show .ensures .0) (c .before .before .before .before .before .before .before .before .show .ensures .1 .1) in
+    let e = c .with-size .ensures ∙ t .0 in
+    (e, (t .1, laws.fits _ _ _ _ e))
+
+pub show-small-spec : {M : Type 1} → statement M
+show-small-spec =
+    tie.close
+    (tie.spec
+    row-buffer-requires
+    slice-aggregate-show
+    show-requires
+    enum-known-answer
+    same-length
+    returns
+    mul-end
+    array-share-prefix-rows
+    slice-aggregate-with-size
+    with-size-requires
+    same-length-2
+    returns-2)
