@@ -1,0 +1,293 @@
+//! `luux judge`: several files at a time, one line for each in the order in which they were found.
+
+use std::collections::{BTreeMap, HashMap};
+use std::io::{self, Write};
+use std::os::unix::ffi::OsStrExt;
+use std::path::{Path, PathBuf};
+use std::sync::atomic::{AtomicBool, AtomicUsize, Ordering};
+use std::sync::mpsc::{channel, Sender};
+use std::thread;
+
+use indicatif::{ProgressBar, ProgressDrawTarget, ProgressStyle};
+
+use crate::buffer::RowBuffer;
+use crate::files::{self, Finding, Found, Opened};
+use crate::head;
+use crate::library::{self, Answer, SLIP_SIZE};
+use crate::output::{json_text, line, note, note_of, Status};
+use crate::sentences;
+
+/// What `luux judge` was asked.
+pub struct Wanted {
+    pub named: Vec<PathBuf>,
+    pub slips: Option<PathBuf>,
+    pub json: bool,
+    pub jobs: usize,
+}
+
+/// What is said of one file.
+struct Report {
+    /// The answer, and whether the file has a DICOM head; or why there is none.
+    verdict: Result<(Answer, bool), String>,
+    /// Where its slip was written, and what went wrong in that.
+    slip: Option<(PathBuf, Option<String>)>,
+}
+
+impl Report {
+    fn status(&self) -> Status {
+        match (&self.verdict, &self.slip) {
+            (Err(_), _) | (_, Some((_, Some(_)))) => Status::Failed,
+            (Ok((answer, _)), _) if answer.code != 0 => Status::Refused,
+            _ => Status::Fine,
+        }
+    }
+
+    fn text(&self) -> String {
+        let mut text = match &self.verdict {
+            Ok((answer, is_head)) => head::line_of(answer, *is_head),
+            Err(trouble) => trouble.clone(),
+        };
+        if let Some((path, Some(trouble))) = &self.slip {
+            text.push_str(&format!("; its slip {} cannot be written: {trouble}", path.display()));
+        }
+        text
+    }
+
+    /// One object: `path`, `verdict`, then the answer's numbers and its sentence, or the error.
+    fn json(&self, path: &Path) -> String {
+        let mut fields = path_fields("path", path);
+        match &self.verdict {
+            Ok((answer, is_head)) => {
+                let verdict = if answer.code == 0 { "accepted" } else { "refused" };
+                let sentence =
+                    if answer.code == 9 { sentences::rule(answer.rule) } else { sentences::code(answer.code) };
+                fields.push_str(&format!(
+                    ",\"verdict\":\"{verdict}\",\"code\":{},\"offset\":{},\"rows\":{},\"rule\":{},\"frame\":{},\"sentence\":{}",
+                    answer.code,
+                    answer.offset,
+                    answer.rows,
+                    answer.rule,
+                    answer.frame,
+                    json_text(sentence)
+                ));
+                if *is_head {
+                    fields.push_str(&format!(",\"hint\":{}", json_text(head::HINT)));
+                }
+            }
+            Err(trouble) => fields.push_str(&format!(",\"verdict\":\"none\",\"error\":{}", json_text(trouble))),
+        }
+        match &self.slip {
+            Some((slip, None)) => fields.push_str(&format!(",{}", path_fields("slip", slip))),
+            Some((_, Some(trouble))) => fields.push_str(&format!(",\"slip_error\":{}", json_text(trouble))),
+            None => {}
+        }
+        format!("{{{fields}}}\n")
+    }
+}
+
+/// A path as a JSON field. Where it is not UTF-8, its bytes follow in hexadecimal, since no JSON string can hold them.
+fn path_fields(name: &str, path: &Path) -> String {
+    let mut fields = format!("\"{name}\":{}", json_text(&path.to_string_lossy()));
+    if path.to_str().is_none() {
+        let digits: String = path.as_os_str().as_bytes().iter().map(|byte| format!("{byte:02x}")).collect();
+        fields.push_str(&format!(",\"{name}_hex\":\"{digits}\""));
+    }
+    fields
+}
+
+/// The verdict on one file.
+pub fn judge_file(path: &Path, buffer: &mut RowBuffer) -> Result<(Answer, bool), String> {
+    let opened = Opened::open(path)?;
+    let answer = buffer.judge(opened.bytes())?;
+    let is_head = head::is_head(opened.bytes(), &answer);
+    opened.unchanged()?;
+    Ok((answer, is_head))
+}
+
+fn write_slip(path: &Path, answer: Answer) -> Option<String> {
+    let mut slip = [0; SLIP_SIZE];
+    let code = library::write_slip(answer, &mut slip);
+    if code != 0 {
+        return Some(format!("code {code}: {}", sentences::code(code)));
+    }
+    files::write_whole(path, &slip, true).err().map(|error| files::trouble(&error))
+}
+
+fn report(found: &Found, slips: Option<&Path>, buffer: &mut RowBuffer) -> Report {
+    if let Some(trouble) = &found.unreadable {
+        return Report { verdict: Err(trouble.clone()), slip: None };
+    }
+    let verdict = judge_file(&found.path, buffer);
+    buffer.let_go();
+    let slip = match (slips, &verdict) {
+        (Some(folder), Ok((answer, _))) => {
+            let path = files::slip_path(folder, &found.path);
+            let trouble = write_slip(&path, *answer);
+            Some((path, trouble))
+        }
+        _ => None,
+    };
+    Report { verdict, slip }
+}
+
+/// Takes one file after another until there is none left, or nobody listens.
+fn work(
+    found: &[Found],
+    slips: Option<&Path>,
+    next: &AtomicUsize,
+    stop: &AtomicBool,
+    reports: Sender<(usize, Report)>,
+) {
+    let mut buffer = RowBuffer::default();
+    while let Some((number, one)) = take(found, next) {
+        let sent = reports.send((number, report(one, slips, &mut buffer)));
+        if sent.is_err() || stop.load(Ordering::Relaxed) {
+            return;
+        }
+    }
+}
+
+fn take<'a>(found: &'a [Found], next: &AtomicUsize) -> Option<(usize, &'a Found)> {
+    let number = next.fetch_add(1, Ordering::Relaxed);
+    found.get(number).map(|one| (number, one))
+}
+
+/// Two different files whose slips would be one file.
+fn same_slip<'a>(found: &'a [Found], folder: &Path) -> Option<(&'a Path, &'a Path)> {
+    let mut taken: HashMap<PathBuf, &Path> = HashMap::new();
+    for one in found {
+        let slip = files::slip_path(folder, &one.path);
+        match taken.get(&slip) {
+            Some(&other) if !files::is_same(other, &one.path) => {
+                return Some((other, &one.path));
+            }
+            _ => {
+                taken.insert(slip, &one.path);
+            }
+        }
+    }
+    None
+}
+
+/// A bar on standard error, where that is a terminal and there is more than one file.
+fn progress(files: usize) -> ProgressBar {
+    if files < 2 {
+        return ProgressBar::hidden();
+    }
+    let bar = ProgressBar::with_draw_target(Some(files as u64), ProgressDrawTarget::stderr());
+    if let Ok(style) = ProgressStyle::with_template("{bar:40} {pos} of {len} files, {eta} left") {
+        bar.set_style(style);
+    }
+    bar
+}
+
+/// How many files got which end.
+#[derive(Default)]
+struct Counts {
+    accepted: usize,
+    refused: usize,
+    unread: usize,
+    slips_lost: usize,
+}
+
+impl Counts {
+    fn add(&mut self, report: &Report) {
+        match &report.verdict {
+            Ok((answer, _)) if answer.code == 0 => self.accepted += 1,
+            Ok(_) => self.refused += 1,
+            Err(_) => self.unread += 1,
+        }
+        if let Some((_, Some(_))) = &report.slip {
+            self.slips_lost += 1;
+        }
+    }
+
+    fn text(&self, skipped: usize) -> String {
+        let files = self.accepted + self.refused + self.unread;
+        let mut text = format!(
+            "{files} {}: {} accepted, {} refused, {} could not be read",
+            if files == 1 { "file" } else { "files" },
+            self.accepted,
+            self.refused,
+            self.unread
+        );
+        for (count, what) in [(self.slips_lost, "slips could not be written"), (skipped, "skipped")] {
+            if count > 0 {
+                text.push_str(&format!(", {count} {what}"));
+            }
+        }
+        text
+    }
+}
+
+/// Judges what was named and prints the lines. An error is one of standard output.
+pub fn run(wanted: &Wanted, out: &mut dyn Write) -> io::Result<Status> {
+    let finding = Finding::of(&wanted.named, wanted.slips.as_deref());
+    for (path, reason) in &finding.skipped {
+        note_of(path, &format!("skipped: {reason}"));
+    }
+    let found = &finding.found;
+    if found.is_empty() {
+        note("nothing was judged: there is no file in what was named");
+        return Ok(Status::Failed);
+    }
+    if let Some((one, other)) = wanted.slips.as_deref().and_then(|folder| same_slip(found, folder)) {
+        note_of(one, "its slip would have the same name as that of the next file; judge them in two runs");
+        note_of(other, "nothing was judged");
+        return Ok(Status::Failed);
+    }
+
+    let mut counts = Counts::default();
+    let mut status = Status::Fine;
+    let bar = progress(found.len());
+    let (next, stop) = (AtomicUsize::new(0), AtomicBool::new(false));
+    thread::scope(|scope| {
+        let (reports, arriving) = channel();
+        let mut workers = 0;
+        for _ in 0..wanted.jobs.min(found.len()) {
+            let (reports, next, stop) = (reports.clone(), &next, &stop);
+            let job = move || work(found, wanted.slips.as_deref(), next, stop, reports);
+            // Fewer threads than asked for do the same work.
+            workers += usize::from(thread::Builder::new().spawn_scoped(scope, job).is_ok());
+        }
+        if workers == 0 {
+            work(found, wanted.slips.as_deref(), &next, &stop, reports.clone());
+        }
+        drop(reports);
+
+        // Reports arrive in any order and are printed in that of the files.
+        let mut waiting = BTreeMap::new();
+        let mut due = 0;
+        for (number, report) in arriving {
+            waiting.insert(number, report);
+            while let Some(report) = waiting.remove(&due) {
+                counts.add(&report);
+                status = status.max(report.status());
+                let printed = bar.suspend(|| {
+                    if wanted.json {
+                        out.write_all(report.json(&found[due].path).as_bytes())
+                    } else {
+                        line(out, &found[due].path, &report.text())
+                    }
+                });
+                if let Err(error) = printed {
+                    stop.store(true, Ordering::Relaxed);
+                    bar.finish_and_clear();
+                    return Err(error);
+                }
+                bar.inc(1);
+                due += 1;
+            }
+        }
+        Ok(())
+    })?;
+    bar.finish_and_clear();
+
+    let summary = counts.text(finding.skipped.len());
+    if wanted.json {
+        note(&summary);
+    } else {
+        writeln!(out, "{summary}")?;
+    }
+    Ok(status)
+}
