@@ -188,7 +188,7 @@ impl Vessels {
     fn grown() -> Vessels {
         let mut vessels = Vessels { depth: vec![0.0; SIDE * SIDE], arrival: vec![0.0; SIDE * SIDE] };
         let mut noise = Noise(83);
-        vessels.branch(&mut noise, (18.0, 140.0), -0.1, 6.5, MASKS as f64 + 1.0, 6);
+        vessels.branch(&mut noise, (-6.0, 140.0), -0.1, 6.5, MASKS as f64 + 1.0, 6);
         vessels
     }
 
@@ -244,7 +244,7 @@ fn pixels() -> Vec<u8> {
                 // What is seen here was at (row - down, column - right) before the patient moved.
                 let (y, x) = (row as i32 - down, column as i32 - right);
                 let inside = (y.clamp(0, SIDE as i32 - 1) as usize) * SIDE + x.clamp(0, SIDE as i32 - 1) as usize;
-                let grain = (noise.next() + noise.next() - 1.0) * 14.0;
+                let grain = (noise.next() + noise.next() - 1.0) * 3.0;
                 let cell = bones(f64::from(x), f64::from(y)) - 46.0 * vessels.contrast(inside, frame as f64) + grain;
                 bytes.extend((cell.clamp(0.0, 4095.0) as u16).to_le_bytes());
             }

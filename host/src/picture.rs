@@ -69,6 +69,7 @@ impl Image {
                 let mut encoder = png::Encoder::new(&mut content, self.width as u32, self.height as u32);
                 encoder.set_color(png::ColorType::Grayscale);
                 encoder.set_depth(png::BitDepth::Eight);
+                encoder.set_filter(png::FilterType::NoFilter);
                 encoder
                     .write_header()
                     .and_then(|mut writer| writer.write_image_data(&self.cells))
