@@ -1,7 +1,7 @@
 //! `luux demo`: sample runs, made here, and what luux says of them.
 //!
 //! A run is a picture of bones over which a tree of vessels fills with contrast, while the patient moves a little. Its mask
-//! is the average of the first four frames, and each frame has its own window and its own shift of the mask.
+//! is the average of the first two frames, and each frame has its own window and its own shift of the mask.
 
 use std::io::{self, Write};
 use std::path::Path;
@@ -14,7 +14,7 @@ use crate::picture;
 const FRAMES: usize = 24;
 const SIDE: usize = 256;
 /// The first frames are without contrast: they are the mask.
-const MASKS: usize = 4;
+const MASKS: usize = 2;
 /// The item that one of the runs lacks, and the frame whose window another lacks.
 const LEFT_OUT: usize = 13;
 const WINDOWLESS: usize = 17;
@@ -85,7 +85,7 @@ fn frame_item(frame: usize, with_window: bool) -> Vec<u8> {
         &[item(&[text(0x0018_9074, "DT", &format!("202403050500{:02}.{:03}", frame / 4, frame % 4 * 250))])],
     )];
     // Mask frames are drawn as they are, the others as differences from the mask.
-    let (center, width) = if frame <= MASKS { ("1900", "2400") } else { ("1920", "640.5") };
+    let (center, width) = if frame <= MASKS { ("1900", "2400") } else { ("1931", "800") };
     let mut window = vec![text(0x0028_1050, "DS", center)];
     if with_window {
         window.push(text(0x0028_1051, "DS", width));
@@ -244,8 +244,8 @@ fn pixels() -> Vec<u8> {
                 // What is seen here was at (row - down, column - right) before the patient moved.
                 let (y, x) = (row as i32 - down, column as i32 - right);
                 let inside = (y.clamp(0, SIDE as i32 - 1) as usize) * SIDE + x.clamp(0, SIDE as i32 - 1) as usize;
-                let grain = (noise.next() + noise.next() - 1.0) * 3.0;
-                let cell = bones(f64::from(x), f64::from(y)) - 46.0 * vessels.contrast(inside, frame as f64) + grain;
+                let grain = (noise.next() + noise.next() - 1.0) * 1.5;
+                let cell = bones(f64::from(x), f64::from(y)) - 60.0 * vessels.contrast(inside, frame as f64) + grain;
                 bytes.extend((cell.clamp(0.0, 4095.0) as u16).to_le_bytes());
             }
         }
@@ -268,7 +268,7 @@ pub fn run(folder: &Path, jobs: usize, out: &mut dyn Write) -> io::Result<Status
     let good = data_set(&pixels, None, None);
     let samples: [(&str, &[u8], &str); 4] = [
         ("cut-short.xa", &good[..good.len() / 2], "the first half of the good run"),
-        ("good.xa", &good, "24 frames of 256 x 256, a mask of the first four"),
+        ("good.xa", &good, "24 frames of 256 x 256, a mask of the first two"),
         ("item-left-out.xa", &data_set(&pixels, Some(LEFT_OUT), None), "without the per-frame item of frame 13"),
         ("window-lost.xa", &data_set(&pixels, None, Some(WINDOWLESS)), "no Window Width in frame 17"),
     ];
@@ -293,7 +293,7 @@ pub fn run(folder: &Path, jobs: usize, out: &mut dyn Write) -> io::Result<Status
     };
 
     let path = runs.join("good.xa");
-    for frame in [2, 9, 13, 20] {
+    for frame in [1, 7, 11, 19] {
         let to = folder.join(format!("frame-{frame}.png"));
         typed(out, &["show", &path.to_string_lossy(), &frame.to_string(), "-o"], &to)?;
         status = status.max(picture::show(&path, frame, Some(&to), out)?);
