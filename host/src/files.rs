@@ -8,7 +8,7 @@ use std::path::{Component, Path, PathBuf};
 use std::sync::atomic::{AtomicUsize, Ordering};
 use std::time::SystemTime;
 
-use crate::library::Mapping;
+use crate::library::{self, Mapping};
 
 /// What went wrong with a file, and what to do about it.
 pub fn trouble(error: &io::Error) -> String {
@@ -124,11 +124,18 @@ impl Finding {
                     }
                 }
                 Ok(about) if !about.is_file() => self.skipped.push((path, "not a regular file")),
+                _ if is_slip(&path) => self.skipped.push((path, "a verdict slip is not judged")),
                 // One that cannot be asked gets its line when it is opened.
                 _ => self.file(path),
             }
         }
     }
+}
+
+/// Whether a file has the name of a slip and is one.
+fn is_slip(path: &Path) -> bool {
+    path.extension() == Some(OsStr::new("slip"))
+        && Opened::open(path).map_or(false, |opened| library::read_slip(opened.bytes()).code == 0)
 }
 
 /// The path of the slip: that of the file as it was named, under the folder of the slips. Of `/` and `..` nothing is kept.
