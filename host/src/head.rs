@@ -1,25 +1,33 @@
-//! DICOM files with a head (128 bytes, `DICM`, group 0002), which the library does not take.
+//! An answer about a file, and DICOM files with a head (128 bytes, `DICM`, group 0002), which the library does not take.
 
 use crate::library::Answer;
 use crate::sentences;
 
-/// What to do with such a file.
+/// What to do with a file that has a head.
 pub const HINT: &str =
     "it is a DICOM file with a head (DICM at byte 128), and luux takes the bare data set behind it; \
                         dcmconv -F +te FILE NEWFILE (package dcmtk) writes that";
 
-/// Whether the bytes that got this answer are such a file. The library is asked first: bytes that it reads are a bare
-/// data set, whatever stands at byte 128.
-pub fn is_head(data: &[u8], answer: &Answer) -> bool {
-    matches!(answer.code, 1..=6) && data.get(128..134) == Some(b"DICM\x02\x00")
+/// What the library answered about a file, and whether the file has a head.
+pub struct Judged {
+    pub answer: Answer,
+    pub has_head: bool,
 }
 
-/// An answer in a line, with the hint where it helps.
-pub fn line_of(answer: &Answer, is_head: bool) -> String {
-    let mut text = sentences::answer(answer);
-    if is_head {
-        text.push_str("; ");
-        text.push_str(HINT);
+impl Judged {
+    /// The library is asked first: bytes that it reads are a bare data set, whatever stands at byte 128.
+    pub fn of(data: &[u8], answer: Answer) -> Judged {
+        let has_head = matches!(answer.code, 1..=6) && data.get(128..134) == Some(b"DICM\x02\x00");
+        Judged { answer, has_head }
     }
-    text
+
+    /// The answer in a line, with the hint where it helps.
+    pub fn line(&self) -> String {
+        let mut text = sentences::answer(&self.answer);
+        if self.has_head {
+            text.push_str("; ");
+            text.push_str(HINT);
+        }
+        text
+    }
 }

@@ -12,7 +12,7 @@ use indicatif::{ProgressBar, ProgressDrawTarget, ProgressStyle};
 
 use crate::buffer::RowBuffer;
 use crate::files::{self, Finding, Found, Opened};
-use crate::head;
+use crate::head::{self, Judged};
 use crate::library::{self, Answer, SLIP_SIZE};
 use crate::output::{json_text, line, note, note_of, Status};
 use crate::sentences;
@@ -27,9 +27,9 @@ pub struct Wanted {
 
 /// What is said of one file.
 struct Report {
-    /// The answer, and whether the file has a DICOM head; or why there is none.
-    verdict: Result<(Answer, bool), String>,
-    /// Where its slip was written, and what went wrong in that.
+    /// The answer, or why there is none.
+    verdict: Result<Judged, String>,
+    /// Where its slip is to stand, and what went wrong in writing it.
     slip: Option<(PathBuf, Option<String>)>,
 }
 
@@ -37,18 +37,19 @@ impl Report {
     fn status(&self) -> Status {
         match (&self.verdict, &self.slip) {
             (Err(_), _) | (_, Some((_, Some(_)))) => Status::Failed,
-            (Ok((answer, _)), _) if answer.code != 0 => Status::Refused,
+            (Ok(judged), _) if judged.answer.code != 0 => Status::Refused,
             _ => Status::Fine,
         }
     }
 
     fn text(&self) -> String {
         let mut text = match &self.verdict {
-            Ok((answer, is_head)) => head::line_of(answer, *is_head),
+            Ok(judged) => judged.line(),
             Err(trouble) => trouble.clone(),
         };
         if let Some((path, Some(trouble))) = &self.slip {
-            text.push_str(&format!("; its slip {} cannot be written: {trouble}", path.display()));
+            let path = files::printed(path);
+            text.push_str(&format!("; its slip {} cannot be written: {trouble}", String::from_utf8_lossy(&path)));
         }
         text
     }
@@ -57,7 +58,7 @@ impl Report {
     fn json(&self, path: &Path) -> String {
         let mut fields = path_fields("path", path);
         match &self.verdict {
-            Ok((answer, is_head)) => {
+            Ok(Judged { answer, has_head }) => {
                 let verdict = if answer.code == 0 { "accepted" } else { "refused" };
                 let sentence =
                     if answer.code == 9 { sentences::rule(answer.rule) } else { sentences::code(answer.code) };
@@ -70,7 +71,7 @@ impl Report {
                     answer.frame,
                     json_text(sentence)
                 ));
-                if *is_head {
+                if *has_head {
                     fields.push_str(&format!(",\"hint\":{}", json_text(head::HINT)));
                 }
             }
@@ -95,13 +96,11 @@ fn path_fields(name: &str, path: &Path) -> String {
     fields
 }
 
-/// The verdict on one file.
-pub fn judge_file(path: &Path, buffer: &mut RowBuffer) -> Result<(Answer, bool), String> {
+fn judge_file(path: &Path, buffer: &mut RowBuffer) -> Result<Judged, String> {
     let opened = Opened::open(path)?;
     let answer = buffer.judge(opened.bytes())?;
-    let is_head = head::is_head(opened.bytes(), &answer);
-    opened.unchanged()?;
-    Ok((answer, is_head))
+    let judged = Judged::of(opened.bytes(), answer);
+    opened.unchanged().map(|()| judged)
 }
 
 fn write_slip(path: &Path, answer: Answer) -> Option<String> {
@@ -120,9 +119,9 @@ fn report(found: &Found, slips: Option<&Path>, buffer: &mut RowBuffer) -> Report
     let verdict = judge_file(&found.path, buffer);
     buffer.let_go();
     let slip = match (slips, &verdict) {
-        (Some(folder), Ok((answer, _))) => {
+        (Some(folder), Ok(judged)) => {
             let path = files::slip_path(folder, &found.path);
-            let trouble = write_slip(&path, *answer);
+            let trouble = write_slip(&path, judged.answer);
             Some((path, trouble))
         }
         _ => None,
@@ -193,7 +192,7 @@ struct Counts {
 impl Counts {
     fn add(&mut self, report: &Report) {
         match &report.verdict {
-            Ok((answer, _)) if answer.code == 0 => self.accepted += 1,
+            Ok(judged) if judged.answer.code == 0 => self.accepted += 1,
             Ok(_) => self.refused += 1,
             Err(_) => self.unread += 1,
         }
@@ -220,74 +219,103 @@ impl Counts {
     }
 }
 
-/// Judges what was named and prints the lines. An error is one of standard output.
-pub fn run(wanted: &Wanted, out: &mut dyn Write) -> io::Result<Status> {
-    let finding = Finding::of(&wanted.named, wanted.slips.as_deref());
-    for (path, reason) in &finding.skipped {
-        note_of(path, &format!("skipped: {reason}"));
-    }
-    let found = &finding.found;
-    if found.is_empty() {
-        note("nothing was judged: there is no file in what was named");
-        return Ok(Status::Failed);
-    }
-    if let Some((one, other)) = wanted.slips.as_deref().and_then(|folder| same_slip(found, folder)) {
-        note_of(one, "its slip would have the same name as that of the next file; judge them in two runs");
-        note_of(other, "nothing was judged");
-        return Ok(Status::Failed);
-    }
+/// Prints reports, which arrive in any order, in the order of the files.
+struct Printing<'a> {
+    found: &'a [Found],
+    json: bool,
+    out: &'a mut dyn Write,
+    bar: ProgressBar,
+    waiting: BTreeMap<usize, Report>,
+    due: usize,
+    counts: Counts,
+    status: Status,
+}
 
-    let mut counts = Counts::default();
-    let mut status = Status::Fine;
-    let bar = progress(found.len());
+impl Printing<'_> {
+    fn add(&mut self, number: usize, report: Report) -> io::Result<()> {
+        self.waiting.insert(number, report);
+        while let Some(report) = self.waiting.remove(&self.due) {
+            self.counts.add(&report);
+            self.status = self.status.max(report.status());
+            let path = &self.found[self.due].path;
+            let (out, json) = (&mut self.out, self.json);
+            self.bar.suspend(|| match json {
+                true => out.write_all(report.json(path).as_bytes()),
+                false => line(*out, path, &report.text()),
+            })?;
+            self.bar.inc(1);
+            self.due += 1;
+        }
+        Ok(())
+    }
+}
+
+/// Judges on several threads, and prints on this one. With an error of standard output the threads stop too.
+fn judge_all(wanted: &Wanted, printing: &mut Printing) -> io::Result<()> {
+    let (found, slips) = (printing.found, wanted.slips.as_deref());
     let (next, stop) = (AtomicUsize::new(0), AtomicBool::new(false));
     thread::scope(|scope| {
         let (reports, arriving) = channel();
         let mut workers = 0;
         for _ in 0..wanted.jobs.min(found.len()) {
             let (reports, next, stop) = (reports.clone(), &next, &stop);
-            let job = move || work(found, wanted.slips.as_deref(), next, stop, reports);
+            let job = move || work(found, slips, next, stop, reports);
             // Fewer threads than asked for do the same work.
             workers += usize::from(thread::Builder::new().spawn_scoped(scope, job).is_ok());
         }
         if workers == 0 {
-            work(found, wanted.slips.as_deref(), &next, &stop, reports.clone());
+            work(found, slips, &next, &stop, reports.clone());
         }
         drop(reports);
+        let printed = arriving.iter().try_for_each(|(number, report)| printing.add(number, report));
+        stop.store(true, Ordering::Relaxed);
+        printed
+    })
+}
 
-        // Reports arrive in any order and are printed in that of the files.
-        let mut waiting = BTreeMap::new();
-        let mut due = 0;
-        for (number, report) in arriving {
-            waiting.insert(number, report);
-            while let Some(report) = waiting.remove(&due) {
-                counts.add(&report);
-                status = status.max(report.status());
-                let printed = bar.suspend(|| {
-                    if wanted.json {
-                        out.write_all(report.json(&found[due].path).as_bytes())
-                    } else {
-                        line(out, &found[due].path, &report.text())
-                    }
-                });
-                if let Err(error) = printed {
-                    stop.store(true, Ordering::Relaxed);
-                    bar.finish_and_clear();
-                    return Err(error);
-                }
-                bar.inc(1);
-                due += 1;
-            }
-        }
-        Ok(())
-    })?;
-    bar.finish_and_clear();
+/// What was named, unless there is nothing to judge or two files would share a slip.
+fn find(wanted: &Wanted) -> Option<Finding> {
+    let finding = Finding::of(&wanted.named, wanted.slips.as_deref());
+    for (path, reason) in &finding.skipped {
+        note_of(path, &format!("skipped: {reason}"));
+    }
+    if finding.found.is_empty() {
+        note("nothing was judged: there is no file in what was named");
+        return None;
+    }
+    if let Some((one, other)) = wanted.slips.as_deref().and_then(|folder| same_slip(&finding.found, folder)) {
+        note_of(one, "its slip would have the same name as that of the next file; judge them in two runs");
+        note_of(other, "nothing was judged");
+        return None;
+    }
+    Some(finding)
+}
 
-    let summary = counts.text(finding.skipped.len());
+/// Judges what was named and prints the lines. An error is one of standard output.
+pub fn run(wanted: &Wanted, out: &mut dyn Write) -> io::Result<Status> {
+    let finding = match find(wanted) {
+        Some(finding) => finding,
+        None => return Ok(Status::Failed),
+    };
+    let mut printing = Printing {
+        found: &finding.found,
+        json: wanted.json,
+        out,
+        bar: progress(finding.found.len()),
+        waiting: BTreeMap::new(),
+        due: 0,
+        counts: Counts::default(),
+        status: Status::Fine,
+    };
+    let judged = judge_all(wanted, &mut printing);
+    printing.bar.finish_and_clear();
+    judged?;
+
+    let summary = printing.counts.text(finding.skipped.len());
     if wanted.json {
         note(&summary);
     } else {
-        writeln!(out, "{summary}")?;
+        writeln!(printing.out, "{summary}")?;
     }
-    Ok(status)
+    Ok(printing.status)
 }

@@ -5,7 +5,7 @@ use std::path::{Path, PathBuf};
 
 use crate::buffer::RowBuffer;
 use crate::files::Opened;
-use crate::head;
+use crate::head::Judged;
 use crate::library::{self, ROW_WIDTH};
 use crate::output::{line, note_of, Status};
 use crate::sentences;
@@ -15,23 +15,22 @@ pub fn rows(path: &Path, out: &mut dyn Write) -> io::Result<Status> {
     let mut buffer = RowBuffer::default();
     let read = Opened::open(path).and_then(|opened| {
         let answer = buffer.read(opened.bytes())?;
-        let is_head = head::is_head(opened.bytes(), &answer);
-        opened.unchanged().map(|()| (answer, is_head))
+        opened.unchanged().map(|()| Judged::of(opened.bytes(), answer))
     });
-    let (answer, is_head) = match read {
-        Ok(read) => read,
+    let rows = match read {
+        Ok(Judged { answer, .. }) if answer.code == 0 => buffer.rows(answer.rows),
+        Ok(refused) => {
+            line(out, path, &refused.line())?;
+            return Ok(Status::Refused);
+        }
         Err(trouble) => {
             note_of(path, &trouble);
             return Ok(Status::Failed);
         }
     };
-    if answer.code != 0 {
-        line(out, path, &head::line_of(&answer, is_head))?;
-        return Ok(Status::Refused);
-    }
     let mut out = BufWriter::new(out);
-    writeln!(out, "rows {}", answer.rows)?;
-    for row in buffer.rows(answer.rows).chunks_exact(ROW_WIDTH) {
+    writeln!(out, "rows {}", rows.len() / ROW_WIDTH)?;
+    for row in rows.chunks_exact(ROW_WIDTH) {
         let vr = match row[1] {
             0 => String::from("--"),
             letters => [letters >> 8, letters & 255].iter().map(|&letter| letter as u8 as char).collect(),

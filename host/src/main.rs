@@ -83,6 +83,7 @@ enum Command {
         /// A data set
         file: PathBuf,
         /// The frame, from 1 on
+        #[arg(value_parser = frame_number)]
         frame: u64,
         /// The picture, .png or .pgm [default: FILE.frame-FRAME.png in the working folder]
         #[arg(short, long, value_name = "PICTURE")]
@@ -120,6 +121,10 @@ enum SlipCommand {
         #[arg(required = true, value_name = "FILE")]
         files: Vec<PathBuf>,
     },
+}
+
+fn frame_number(text: &str) -> Result<u64, &'static str> {
+    text.parse().map_err(|_| "a frame is a whole number, from 1 on")
 }
 
 /// Ends with a usage message where the picture has another form than we write.

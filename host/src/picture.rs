@@ -7,7 +7,7 @@ use std::path::{Path, PathBuf};
 
 use crate::buffer::RowBuffer;
 use crate::files::{self, Opened};
-use crate::head;
+use crate::head::Judged;
 use crate::library::ROW_WIDTH;
 use crate::output::{line, note_of, Status};
 use crate::sentences;
@@ -113,7 +113,7 @@ impl Run {
         let data = opened.bytes();
         let answer = buffer.judge(data)?;
         if answer.code != 0 {
-            return Err(Failure::Refused(head::line_of(&answer, head::is_head(data, &answer))));
+            return Err(Failure::Refused(Judged::of(data, answer).line()));
         }
         let table = buffer.rows(answer.rows);
         let found = (number_of(data, table, ROWS), number_of(data, table, COLUMNS), items_of(table, PER_FRAME_GROUPS));
