@@ -70,7 +70,7 @@ impl Image {
                 encoder.set_color(png::ColorType::Grayscale);
                 encoder.set_depth(png::BitDepth::Eight);
                 encoder.set_filter(png::FilterType::NoFilter);
-                encoder.set_compression(png::Compression::Best);
+                encoder.set_compression(png::Compression::Default);
                 encoder
                     .write_header()
                     .and_then(|mut writer| writer.write_image_data(&self.cells))
