@@ -1,0 +1,79 @@
+//! The row buffer that is lent to the library.
+//!
+//! Nothing says beforehand how many rows a data set has. A header has at least 8 bytes, so there are at most size / 8 rows;
+//! but most bytes are pixels, and a run of 900 frames has 22,598 rows. So the buffer starts small and is doubled each time
+//! the library answers that it is too small.
+
+use crate::library::{self, Answer, ROW_WIDTH};
+
+/// Rows of the first buffer: 96 KiB.
+const FIRST: usize = 4096;
+
+/// Rows that are kept from one file to the next: 24 MiB.
+const KEPT: usize = 1 << 20;
+
+/// The code of a buffer that is too small.
+const NO_ROOM: u32 = 8;
+
+/// Room for rows, used for one file after another.
+#[derive(Default)]
+pub struct RowBuffer {
+    numbers: Vec<u32>,
+}
+
+impl RowBuffer {
+    /// The rows of a data set, or its refusal.
+    pub fn read(&mut self, data: &[u8]) -> Result<Answer, String> {
+        self.lend(data, library::read)
+    }
+
+    /// The verdict on a data set.
+    pub fn judge(&mut self, data: &[u8]) -> Result<Answer, String> {
+        self.lend(data, library::judge)
+    }
+
+    /// Draws a frame into the image.
+    pub fn show(&mut self, data: &[u8], frame: u64, image: &mut [u8]) -> Result<Answer, String> {
+        self.lend(data, |data, rows| library::show(data, frame, rows, image))
+    }
+
+    /// The numbers of the first `rows` rows.
+    pub fn rows(&self, rows: u32) -> &[u32] {
+        let end = (rows as usize).saturating_mul(ROW_WIDTH).min(self.numbers.len());
+        &self.numbers[..end]
+    }
+
+    /// Gives back what one large file needed.
+    pub fn let_go(&mut self) {
+        if self.numbers.len() > KEPT * ROW_WIDTH {
+            self.numbers = Vec::new();
+        }
+    }
+
+    fn lend(&mut self, data: &[u8], mut call: impl FnMut(&[u8], &mut [u32]) -> Answer) -> Result<Answer, String> {
+        let most = data.len() / 8;
+        let mut room = most.min(FIRST);
+        loop {
+            self.grow(room)?;
+            let answer = call(data, &mut self.numbers);
+            let had = self.numbers.len() / ROW_WIDTH;
+            if answer.code != NO_ROOM || had >= most {
+                return Ok(answer);
+            }
+            room = most.min(had.max(1) * 2);
+        }
+    }
+
+    fn grow(&mut self, room: usize) -> Result<(), String> {
+        let wanted = room * ROW_WIDTH;
+        if wanted > self.numbers.len() {
+            // What is in it is not needed, so nothing is copied.
+            self.numbers = Vec::new();
+            if self.numbers.try_reserve_exact(wanted).is_err() {
+                return Err(format!("there is no memory for {room} rows; use fewer --jobs, or a larger machine"));
+            }
+            self.numbers.resize(wanted, 0);
+        }
+        Ok(())
+    }
+}

@@ -1,0 +1,305 @@
+//! `luux demo`: sample runs, made here, and what luux says of them.
+//!
+//! A run is a picture of bones over which a tree of vessels fills with contrast, while the patient moves a little. Its mask
+//! is the average of the first two frames, and each frame has its own window and its own shift of the mask.
+
+use std::io::{self, Write};
+use std::path::Path;
+
+use crate::files;
+use crate::judging;
+use crate::output::{note_of, Status};
+use crate::picture;
+
+const FRAMES: usize = 24;
+const SIDE: usize = 256;
+/// The first frames are without contrast: they are the mask.
+const MASKS: usize = 2;
+/// The item that one of the runs lacks, and the frame whose window another lacks.
+const LEFT_OUT: usize = 13;
+const WINDOWLESS: usize = 17;
+
+// ---------------------------------------------------------------------------------------------------------------------
+// Explicit VR Little Endian
+
+/// An element, with the long header where its VR has one. A value of odd length gets a byte more.
+fn element(tag: u32, vr: &str, value: &[u8]) -> Vec<u8> {
+    let mut value = value.to_vec();
+    if value.len() % 2 == 1 {
+        value.push(if vr == "UI" { 0 } else { b' ' });
+    }
+    let mut bytes = tag_bytes(tag);
+    bytes.extend(vr.as_bytes());
+    if matches!(vr, "SQ" | "OW") {
+        bytes.extend([0, 0]);
+        bytes.extend((value.len() as u32).to_le_bytes());
+    } else {
+        bytes.extend((value.len() as u16).to_le_bytes());
+    }
+    bytes.extend(value);
+    bytes
+}
+
+fn tag_bytes(tag: u32) -> Vec<u8> {
+    let mut bytes = ((tag >> 16) as u16).to_le_bytes().to_vec();
+    bytes.extend((tag as u16).to_le_bytes());
+    bytes
+}
+
+fn text(tag: u32, vr: &str, value: &str) -> Vec<u8> {
+    element(tag, vr, value.as_bytes())
+}
+
+fn us(tag: u32, values: &[u16]) -> Vec<u8> {
+    element(tag, "US", &values.iter().flat_map(|value| value.to_le_bytes()).collect::<Vec<u8>>())
+}
+
+fn item(elements: &[Vec<u8>]) -> Vec<u8> {
+    let content = elements.concat();
+    let mut bytes = tag_bytes(0xFFFE_E000);
+    bytes.extend((content.len() as u32).to_le_bytes());
+    bytes.extend(content);
+    bytes
+}
+
+fn sequence(tag: u32, items: &[Vec<u8>]) -> Vec<u8> {
+    element(tag, "SQ", &items.concat())
+}
+
+// ---------------------------------------------------------------------------------------------------------------------
+// The run
+
+/// How far the patient has moved in a frame: down and to the right.
+fn moved(frame: usize) -> (i32, i32) {
+    match frame {
+        1..=9 => (0, 0),
+        10..=15 => (2, -1),
+        _ => (3, -2),
+    }
+}
+
+/// The functional groups of a frame.
+fn frame_item(frame: usize, with_window: bool) -> Vec<u8> {
+    let mut groups = vec![sequence(
+        0x0020_9111, // Frame Content
+        &[item(&[text(0x0018_9074, "DT", &format!("202403050500{:02}.{:03}", frame / 4, frame % 4 * 250))])],
+    )];
+    // Mask frames are drawn as they are, the others as differences from the mask.
+    let (center, width) = if frame <= MASKS { ("1900", "2400") } else { ("1931", "800") };
+    let mut window = vec![text(0x0028_1050, "DS", center)];
+    if with_window {
+        window.push(text(0x0028_1051, "DS", width));
+    }
+    groups.push(sequence(0x0028_9132, &[item(&window)])); // Frame VOI LUT
+    let (down, right) = moved(frame);
+    let shift: Vec<u8> = [down, right].iter().flat_map(|&by| (by as f32).to_le_bytes()).collect();
+    groups.push(sequence(
+        0x0028_9415, // Frame Pixel Shift
+        &[item(&[element(0x0028_6114, "FL", &shift), us(0x0028_9416, &[1])])],
+    ));
+    item(&groups)
+}
+
+/// A data set around pixel bytes. Frame `left_out` has no item, frame `windowless` no Window Width.
+fn data_set(pixels: &[u8], left_out: Option<usize>, windowless: Option<usize>) -> Vec<u8> {
+    let frames = (1..=FRAMES).filter(|&frame| Some(frame) != left_out);
+    let items: Vec<Vec<u8>> = frames.map(|frame| frame_item(frame, Some(frame) != windowless)).collect();
+    let masks: Vec<u16> = (1..=MASKS as u16).collect();
+    [
+        text(0x0008_0008, "CS", "ORIGINAL\\PRIMARY\\\\NONE"), // Image Type
+        text(0x0008_0016, "UI", "1.2.840.10008.5.1.4.1.1.12.1.1"), // SOP Class UID: Enhanced XA
+        text(0x0008_002A, "DT", "20240305050000"),            // Acquisition DateTime
+        text(0x0008_0060, "CS", "XA"),                        // Modality
+        text(0x0010_0010, "PN", "Sample^Run"),
+        text(0x0018_0060, "DS", "72"),                      // KVP
+        text(0x0018_1155, "CS", "GR"),                      // Radiation Setting
+        text(0x0018_115A, "CS", "PULSED"),                  // Radiation Mode
+        text(0x0018_9004, "CS", "PRODUCT"),                 // Content Qualification
+        element(0x0018_9332, "FD", &67.2f64.to_le_bytes()), // Exposure in mAs
+        text(0x0018_9410, "CS", "SINGLE PLANE"),            // Planes in Acquisition
+        text(0x0018_9457, "CS", "MONOPLANE"),               // Plane Identification
+        us(0x0028_0002, &[1]),                              // Samples per Pixel
+        text(0x0028_0004, "CS", "MONOCHROME2"),             // Photometric Interpretation
+        text(0x0028_0008, "IS", &FRAMES.to_string()),       // Number of Frames
+        us(0x0028_0010, &[SIDE as u16]),                    // Rows
+        us(0x0028_0011, &[SIDE as u16]),                    // Columns
+        us(0x0028_0100, &[16]),                             // Bits Allocated
+        us(0x0028_0101, &[12]),                             // Bits Stored
+        us(0x0028_0102, &[11]),                             // High Bit
+        us(0x0028_0103, &[0]),                              // Pixel Representation
+        text(0x0028_0301, "CS", "NO"),                      // Burned In Annotation
+        text(0x0028_2110, "CS", "00"),                      // Lossy Image Compression
+        sequence(
+            0x0028_6100, // Mask Subtraction
+            &[item(&[
+                text(0x0028_6101, "CS", "AVG_SUB"),                  // Mask Operation
+                us(0x0028_6102, &[MASKS as u16 + 1, FRAMES as u16]), // Applicable Frame Range
+                us(0x0028_6110, &masks),                             // Mask Frame Numbers
+                us(0x0028_9416, &[1]),                               // Subtraction Item ID
+            ])],
+        ),
+        text(0x2050_0020, "CS", "IDENTITY"), // Presentation LUT Shape
+        sequence(0x5200_9229, &[item(&[])]), // Shared Functional Groups
+        sequence(0x5200_9230, &items),       // Per-Frame Functional Groups
+        element(0x7FE0_0010, "OW", pixels),  // Pixel Data
+    ]
+    .concat()
+}
+
+// ---------------------------------------------------------------------------------------------------------------------
+// The pixels
+
+/// A plain generator of numbers, the same at every run.
+struct Noise(u64);
+
+impl Noise {
+    fn next(&mut self) -> f64 {
+        self.0 = self.0.wrapping_mul(6_364_136_223_846_793_005).wrapping_add(1_442_695_040_888_963_407);
+        (self.0 >> 40) as f64 / (1u64 << 24) as f64
+    }
+}
+
+/// A bump of height 1 around 0 that ends at `wide`.
+fn bump(from: f64, wide: f64) -> f64 {
+    let part = (from / wide).abs();
+    if part < 1.0 {
+        (1.0 - part * part).sqrt()
+    } else {
+        0.0
+    }
+}
+
+/// Soft tissue with a spine and ribs in it; bone lets less through and is darker.
+fn bones(x: f64, y: f64) -> f64 {
+    let spine = bump(x - 70.0 - 6.0 * (y / 60.0).sin(), 24.0) * (0.8 + 0.2 * (y / 7.5).sin());
+    let rib = bump((y + (x - 70.0).abs() * 0.35 + 400.0) % 48.0 - 24.0, 8.0) * bump(x - 128.0, 160.0);
+    let tissue = 3000.0 - 500.0 * bump(x - 150.0, 150.0) - 300.0 * bump(y - 150.0, 170.0);
+    tissue - 800.0 * spine - 450.0 * rib
+}
+
+/// Contrast in each cell: how much there is at most, and the frame at which it arrives.
+struct Vessels {
+    depth: Vec<f64>,
+    arrival: Vec<f64>,
+}
+
+impl Vessels {
+    /// A tree that grows from the left edge and forks.
+    fn grown() -> Vessels {
+        let mut vessels = Vessels { depth: vec![0.0; SIDE * SIDE], arrival: vec![0.0; SIDE * SIDE] };
+        let mut noise = Noise(83);
+        vessels.branch(&mut noise, (-6.0, 140.0), -0.1, 6.5, MASKS as f64 + 1.0, 6);
+        vessels
+    }
+
+    fn branch(&mut self, noise: &mut Noise, from: (f64, f64), angle: f64, radius: f64, time: f64, forks: u32) {
+        let (mut x, mut y, mut angle) = (from.0, from.1, angle);
+        let steps = 26 + (noise.next() * 30.0) as u32;
+        for _ in 0..steps {
+            angle += (noise.next() - 0.5) * 0.22;
+            x += angle.cos() * 1.4;
+            y += angle.sin() * 1.4;
+            self.dab(x, y, radius, time + (x - from.0).hypot(y - from.1) / 32.0);
+        }
+        if forks > 0 {
+            let time = time + (x - from.0).hypot(y - from.1) / 32.0;
+            let spread = 0.35 + noise.next() * 0.3;
+            self.branch(noise, (x, y), angle - spread, radius * 0.78, time, forks - 1);
+            self.branch(noise, (x, y), angle + spread, radius * 0.7, time, forks - 1);
+        }
+    }
+
+    /// A round piece of vessel; where two lie over each other the thicker one counts.
+    fn dab(&mut self, x: f64, y: f64, radius: f64, time: f64) {
+        let (left, top) = ((x - radius).max(0.0) as usize, (y - radius).max(0.0) as usize);
+        for row in top..((y + radius).max(0.0) as usize + 2).min(SIDE) {
+            for column in left..((x + radius).max(0.0) as usize + 2).min(SIDE) {
+                let depth = radius * bump((column as f64 - x).hypot(row as f64 - y), radius.max(0.8));
+                let cell = row * SIDE + column;
+                if depth > self.depth[cell] {
+                    self.depth[cell] = depth;
+                    self.arrival[cell] = time;
+                }
+            }
+        }
+    }
+
+    /// How much contrast a cell has in a frame: it fills within three frames and later fades.
+    fn contrast(&self, cell: usize, frame: f64) -> f64 {
+        let since = frame - self.arrival[cell];
+        let filled = (since / 3.0).clamp(0.0, 1.0) - ((since - 9.0) / 12.0).clamp(0.0, 0.7);
+        self.depth[cell] * filled
+    }
+}
+
+/// All frames, 16 bits a cell.
+fn pixels() -> Vec<u8> {
+    let vessels = Vessels::grown();
+    let mut noise = Noise(1);
+    let mut bytes = Vec::with_capacity(FRAMES * SIDE * SIDE * 2);
+    for frame in 1..=FRAMES {
+        let (down, right) = moved(frame);
+        for row in 0..SIDE {
+            for column in 0..SIDE {
+                // What is seen here was at (row - down, column - right) before the patient moved.
+                let (y, x) = (row as i32 - down, column as i32 - right);
+                let inside = (y.clamp(0, SIDE as i32 - 1) as usize) * SIDE + x.clamp(0, SIDE as i32 - 1) as usize;
+                let grain = (noise.next() + noise.next() - 1.0) * 1.5;
+                let cell = bones(f64::from(x), f64::from(y)) - 60.0 * vessels.contrast(inside, frame as f64) + grain;
+                bytes.extend((cell.clamp(0.0, 4095.0) as u16).to_le_bytes());
+            }
+        }
+    }
+    bytes
+}
+
+// ---------------------------------------------------------------------------------------------------------------------
+// The demonstration
+
+/// A command as one would type it, before what it prints.
+fn typed(out: &mut dyn Write, words: &[&str], path: &Path) -> io::Result<()> {
+    write!(out, "\n$ luux {} ", words.join(" "))?;
+    out.write_all(&files::printed(path))?;
+    writeln!(out)
+}
+
+pub fn run(folder: &Path, jobs: usize, out: &mut dyn Write) -> io::Result<Status> {
+    let pixels = pixels();
+    let good = data_set(&pixels, None, None);
+    let samples: [(&str, &[u8], &str); 4] = [
+        ("cut-short.xa", &good[..good.len() / 2], "the first half of the good run"),
+        ("good.xa", &good, "24 frames of 256 x 256, a mask of the first two"),
+        ("item-left-out.xa", &data_set(&pixels, Some(LEFT_OUT), None), "without the per-frame item of frame 13"),
+        ("window-lost.xa", &data_set(&pixels, None, Some(WINDOWLESS)), "no Window Width in frame 17"),
+    ];
+    let runs = folder.join("runs");
+    writeln!(out, "Sample runs:")?;
+    for (name, content, about) in samples {
+        let path = runs.join(name);
+        if let Err(error) = files::write_whole(&path, content, true) {
+            note_of(&path, &format!("cannot be written: {}", files::trouble(&error)));
+            return Ok(Status::Failed);
+        }
+        out.write_all(&files::printed(&path))?;
+        writeln!(out, ": {about}")?;
+    }
+
+    typed(out, &["judge"], &runs)?;
+    let wanted = judging::Wanted { named: vec![runs.clone()], slips: None, json: false, jobs };
+    let mut status = match judging::run(&wanted, out)? {
+        // Three of the runs are made to be refused.
+        Status::Refused => Status::Fine,
+        _ => Status::Failed,
+    };
+
+    let path = runs.join("good.xa");
+    for frame in [1, 7, 11, 19] {
+        let to = folder.join(format!("frame-{frame}.png"));
+        typed(out, &["show", &path.to_string_lossy(), &frame.to_string(), "-o"], &to)?;
+        status = status.max(picture::show(&path, frame, Some(&to), out)?);
+    }
+    let to = folder.join("contact.png");
+    typed(out, &["contact", &path.to_string_lossy(), "-o"], &to)?;
+    status = status.max(picture::contact(&path, Some(&to), out)?);
+    Ok(status)
+}

@@ -1,0 +1,106 @@
+//! The five calls of the proved library, and the mapping of a file. All `unsafe` code of the host is here.
+//!
+//! `include/luuxidgaan.h` says what the calls answer. Of the caller they ask two things: each pointer has as many
+//! elements behind it as its size says, and buffers do not overlap. Slices are so: a shared slice is not changed while
+//! it is lent, and a mutable one is nobody else's.
+
+#![allow(unsafe_code)]
+
+use std::fs::File;
+use std::io;
+
+/// `xa_answer` of the header: fields that the code does not name are 0.
+#[repr(C)]
+#[derive(Clone, Copy, Debug, Default, PartialEq, Eq)]
+pub struct Answer {
+    pub code: u32,
+    pub offset: u32,
+    pub rows: u32,
+    pub rule: u32,
+    pub frame: u32,
+    pub masked: u32,
+}
+
+/// `xa_slip` of the header.
+#[repr(C)]
+#[derive(Clone, Copy, Debug, PartialEq, Eq)]
+pub struct Slip {
+    pub code: u32,
+    pub verdict: Answer,
+}
+
+/// The bytes of a slip.
+pub const SLIP_SIZE: usize = 13;
+
+/// The numbers of a row.
+pub const ROW_WIDTH: usize = 6;
+
+extern "C" {
+    fn xa_read(data: *const u8, size: usize, rows: *mut u32, rows_len: usize) -> Answer;
+    fn xa_judge(data: *const u8, size: usize, rows: *mut u32, rows_len: usize) -> Answer;
+    fn xa_show(
+        data: *const u8,
+        size: usize,
+        frame: u64,
+        rows: *mut u32,
+        rows_len: usize,
+        image: *mut u8,
+        image_len: usize,
+    ) -> Answer;
+    fn xa_write_slip(verdict: Answer, slip: *mut u8, slip_len: usize) -> u32;
+    fn xa_read_slip(slip: *const u8, slip_len: usize) -> Slip;
+}
+
+/// The rows of a data set.
+pub fn read(data: &[u8], rows: &mut [u32]) -> Answer {
+    // Sound: pointer and length of each buffer are those of one slice; the call writes within `rows` alone and keeps
+    // no pointer.
+    unsafe { xa_read(data.as_ptr(), data.len(), rows.as_mut_ptr(), rows.len()) }
+}
+
+/// The verdict on a data set, and its rows.
+pub fn judge(data: &[u8], rows: &mut [u32]) -> Answer {
+    // Sound: as in `read`.
+    unsafe { xa_judge(data.as_ptr(), data.len(), rows.as_mut_ptr(), rows.len()) }
+}
+
+/// Draws a frame of an accepted data set.
+pub fn show(data: &[u8], frame: u64, rows: &mut [u32], image: &mut [u8]) -> Answer {
+    // Sound: as in `read`; two mutable slices never overlap, and the call writes within these two alone.
+    unsafe { xa_show(data.as_ptr(), data.len(), frame, rows.as_mut_ptr(), rows.len(), image.as_mut_ptr(), image.len()) }
+}
+
+/// Writes the slip of a verdict; answers the code.
+pub fn write_slip(verdict: Answer, slip: &mut [u8]) -> u32 {
+    // Sound: the verdict goes by value, and the call writes within `slip` alone.
+    unsafe { xa_write_slip(verdict, slip.as_mut_ptr(), slip.len()) }
+}
+
+/// The verdict that a slip records.
+pub fn read_slip(slip: &[u8]) -> Slip {
+    // Sound: the call reads within `slip` alone and writes nothing.
+    unsafe { xa_read_slip(slip.as_ptr(), slip.len()) }
+}
+
+/// The bytes of a file, without a copy of them.
+pub struct Mapping(Option<memmap2::Mmap>);
+
+impl Mapping {
+    /// Maps a regular file. One without bytes cannot be mapped, and needs no mapping.
+    pub fn of(file: &File) -> io::Result<Mapping> {
+        if file.metadata()?.len() == 0 {
+            return Ok(Mapping(None));
+        }
+        // Sound as long as nobody else changes the file while it is mapped. That cannot be enforced here: `docs/DESK.md`
+        // asks it of the user, and a file whose size or time changed meanwhile gets no verdict (`files::Opened`).
+        let map = unsafe { memmap2::Mmap::map(file)? };
+        Ok(Mapping(Some(map)))
+    }
+
+    pub fn bytes(&self) -> &[u8] {
+        match &self.0 {
+            Some(map) => map,
+            None => &[],
+        }
+    }
+}

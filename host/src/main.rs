@@ -1,0 +1,175 @@
+//! The desk tool: reads, judges and draws runs of X-ray angiography.
+//!
+//! It does nothing that matters: it maps files, lends buffers to the proved library, and prints what that answers.
+
+#![deny(unsafe_code)]
+
+mod buffer;
+mod demo;
+mod files;
+mod head;
+mod judging;
+mod library;
+mod listing;
+mod output;
+mod picture;
+mod sentences;
+
+use std::io::{self, Write};
+use std::path::{Path, PathBuf};
+use std::process::ExitCode;
+
+use clap::error::ErrorKind;
+use clap::{CommandFactory, Parser, Subcommand};
+
+use output::{note, Status};
+
+const STATUSES: &str = "\
+Exit status:
+  0  all was accepted (judge, slip read), read (rows) or drawn (show, contact)
+  1  something was refused; the line says why
+  2  wrong usage, nothing to judge, or a file that cannot be read or written
+
+Run luux COMMAND --help for what a command takes.";
+
+#[derive(Parser)]
+#[command(
+    name = "luux",
+    version,
+    about = "Reads, judges and draws runs of X-ray angiography (Enhanced XA and XRF)",
+    long_about = "Reads, judges and draws runs of X-ray angiography (Enhanced XA and XRF).\n\n\
+        A run is one file: a bare DICOM data set in Explicit VR Little Endian. Every verdict, row and picture comes \
+        from a library that is proved to give what its rules and drawing steps say, whatever bytes it gets.",
+    after_help = STATUSES
+)]
+struct Arguments {
+    #[command(subcommand)]
+    command: Command,
+}
+
+#[derive(Subcommand)]
+enum Command {
+    /// List the elements and items of a data set
+    ///
+    /// The first line is `rows N`. A line for each row follows: tag, VR (-- for an item), depth, offset of the value,
+    /// length of the value, number of rows below.
+    Rows {
+        /// A data set
+        file: PathBuf,
+    },
+    /// Judge files by the 38 rules, one line for each
+    ///
+    /// A line says: accepted; or the first broken rule, the lowest frame that breaks it (0: not a matter of one frame) and
+    /// what the rule asks; or the code and the byte at which reading stopped. A summary is the last line. Folders are gone
+    /// through in the order of names. Links to folders are not followed.
+    Judge {
+        /// Files, or folders whose files are judged
+        #[arg(required = true, value_name = "FILE|DIR")]
+        paths: Vec<PathBuf>,
+        /// Write the verdict on each FILE to DIR/FILE.slip, folders as in FILE
+        #[arg(long, value_name = "DIR")]
+        slips: Option<PathBuf>,
+        /// Print one JSON object a line, and the summary on standard error
+        #[arg(long)]
+        json: bool,
+        /// How many files to judge at a time [default: as many as there are processors]
+        #[arg(long, value_name = "N", value_parser = clap::value_parser!(u16).range(1..=256))]
+        jobs: Option<u16>,
+    },
+    /// Draw one frame
+    ///
+    /// The frame is drawn as the run's own mask, shifts and window say.
+    Show {
+        /// A data set
+        file: PathBuf,
+        /// The frame, from 1 on
+        #[arg(value_parser = frame_number)]
+        frame: u64,
+        /// The picture, .png or .pgm [default: FILE.frame-FRAME.png in the working folder]
+        #[arg(short, long, value_name = "PICTURE")]
+        output: Option<PathBuf>,
+    },
+    /// Draw a contact sheet of up to 24 frames, for sampling by eye
+    ///
+    /// The frames are spread evenly over the run, the first and the last among them; their numbers stand below them. A frame
+    /// that is larger than 192 x 192 is shown by every second, third, ... pixel of it.
+    Contact {
+        /// A data set
+        file: PathBuf,
+        /// The picture, .png or .pgm [default: FILE.contact.png in the working folder]
+        #[arg(short, long, value_name = "PICTURE")]
+        output: Option<PathBuf>,
+    },
+    /// Look at verdict slips
+    Slip {
+        #[command(subcommand)]
+        command: SlipCommand,
+    },
+    /// Make a few sample runs, judge them, and draw the good one
+    Demo {
+        /// The folder for runs and pictures
+        #[arg(default_value = "luux-demo")]
+        folder: PathBuf,
+    },
+}
+
+#[derive(Subcommand)]
+enum SlipCommand {
+    /// Print the verdict that each slip records
+    Read {
+        /// Slips, as luux judge --slips writes them
+        #[arg(required = true, value_name = "FILE")]
+        files: Vec<PathBuf>,
+    },
+}
+
+fn frame_number(text: &str) -> Result<u64, &'static str> {
+    text.parse().map_err(|_| "a frame is a whole number, from 1 on")
+}
+
+/// Ends with a usage message where the picture has another form than we write.
+fn check_picture(path: Option<&Path>) {
+    if let Some(path) = path.filter(|path| !picture::is_picture_name(path)) {
+        let text = format!("{}: the name of a picture must end in .png or .pgm", path.display());
+        Arguments::command().error(ErrorKind::ValueValidation, text).exit();
+    }
+}
+
+/// As many threads as there are processors.
+fn processors() -> usize {
+    std::thread::available_parallelism().map_or(1, usize::from)
+}
+
+fn run(command: Command, out: &mut dyn Write) -> io::Result<Status> {
+    match command {
+        Command::Rows { file } => listing::rows(&file, out),
+        Command::Judge { paths, slips, json, jobs } => {
+            let jobs = jobs.map_or_else(processors, usize::from);
+            judging::run(&judging::Wanted { named: paths, slips, json, jobs }, out)
+        }
+        Command::Show { file, frame, output } => {
+            check_picture(output.as_deref());
+            picture::show(&file, frame, output.as_deref(), out)
+        }
+        Command::Contact { file, output } => {
+            check_picture(output.as_deref());
+            picture::contact(&file, output.as_deref(), out)
+        }
+        Command::Slip { command: SlipCommand::Read { files } } => listing::read_slips(&files, out),
+        Command::Demo { folder } => demo::run(&folder, processors(), out),
+    }
+}
+
+fn main() -> ExitCode {
+    let arguments = Arguments::parse();
+    let mut out = io::stdout().lock();
+    let ended = run(arguments.command, &mut out).and_then(|status| out.flush().map(|()| status));
+    let status = ended.unwrap_or_else(|error| {
+        // Whoever closed the pipe has seen enough; any other trouble is told.
+        if error.kind() != io::ErrorKind::BrokenPipe {
+            note(&format!("standard output cannot be written: {error}"));
+        }
+        Status::Failed
+    });
+    ExitCode::from(status as u8)
+}

@@ -1,0 +1,54 @@
+//! Printing, where the reader of a pipe may leave at any time.
+
+use std::io::{self, Write};
+use std::path::Path;
+
+use crate::files;
+
+/// How a command ends. The worst of its parts counts.
+#[derive(Clone, Copy, Debug, PartialEq, Eq, PartialOrd, Ord)]
+pub enum Status {
+    /// All was accepted, read or drawn.
+    Fine = 0,
+    /// The library refused something.
+    Refused = 1,
+    /// Something could not be read or written.
+    Failed = 2,
+}
+
+/// A line about a file.
+pub fn line(out: &mut dyn Write, path: &Path, text: &str) -> io::Result<()> {
+    let mut whole = files::printed(path);
+    whole.extend_from_slice(b": ");
+    whole.extend_from_slice(text.as_bytes());
+    whole.push(b'\n');
+    out.write_all(&whole)
+}
+
+/// A line on standard error. Where that is closed, there is nobody to tell.
+pub fn note(text: &str) {
+    let _ = writeln!(io::stderr(), "luux: {text}");
+}
+
+/// A line about a file on standard error.
+pub fn note_of(path: &Path, text: &str) {
+    let mut whole = b"luux: ".to_vec();
+    whole.extend(files::printed(path));
+    whole.extend_from_slice(format!(": {text}\n").as_bytes());
+    let _ = io::stderr().write_all(&whole);
+}
+
+/// A text as a JSON string, with its quotes.
+pub fn json_text(text: &str) -> String {
+    let mut quoted = String::from("\"");
+    for letter in text.chars() {
+        match letter {
+            '"' => quoted.push_str("\\\""),
+            '\\' => quoted.push_str("\\\\"),
+            _ if letter.is_control() => quoted.push_str(&format!("\\u{:04x}", letter as u32)),
+            _ => quoted.push(letter),
+        }
+    }
+    quoted.push('"');
+    quoted
+}

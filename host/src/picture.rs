@@ -1,0 +1,307 @@
+//! `luux show` and `luux contact`: frames as the library drew them, in PNG or PGM files.
+//!
+//! No cell is computed here. A contact sheet takes every k-th cell of every k-th row of a drawn frame.
+
+use std::io::{self, Write};
+use std::path::{Path, PathBuf};
+
+use crate::buffer::RowBuffer;
+use crate::files::{self, Opened};
+use crate::head::Judged;
+use crate::library::ROW_WIDTH;
+use crate::output::{line, note_of, Status};
+use crate::sentences;
+
+const ROWS: u32 = 0x0028_0010;
+const COLUMNS: u32 = 0x0028_0011;
+const PER_FRAME_GROUPS: u32 = 0x5200_9230;
+
+/// The code of a frame that is none of the run.
+const NO_SUCH_FRAME: u32 = 10;
+
+/// Why there is no picture, in words.
+enum Failure {
+    /// The library refused.
+    Refused(String),
+    /// Something else.
+    Trouble(String),
+}
+
+impl From<String> for Failure {
+    fn from(trouble: String) -> Failure {
+        Failure::Trouble(trouble)
+    }
+}
+
+/// Grey cells, row by row.
+struct Image {
+    width: usize,
+    height: usize,
+    cells: Vec<u8>,
+}
+
+impl Image {
+    fn new(width: usize, height: usize, grey: u8) -> Result<Image, String> {
+        let mut cells = Vec::new();
+        let size = width.saturating_mul(height);
+        if cells.try_reserve_exact(size).is_err() {
+            return Err(format!("there is no memory for a picture of {width} x {height}"));
+        }
+        cells.resize(size, grey);
+        Ok(Image { width, height, cells })
+    }
+
+    fn put(&mut self, x: usize, y: usize, grey: u8) {
+        if let Some(cell) = self.cells.get_mut(y * self.width + x) {
+            *cell = grey;
+        }
+    }
+
+    /// The file's content, in the form that its name asks for.
+    fn encoded(&self, form: Form) -> Result<Vec<u8>, String> {
+        let mut content = Vec::new();
+        match form {
+            Form::Pgm => {
+                content.extend(format!("P5\n{} {}\n255\n", self.width, self.height).into_bytes());
+                content.extend(&self.cells);
+            }
+            Form::Png => {
+                let mut encoder = png::Encoder::new(&mut content, self.width as u32, self.height as u32);
+                encoder.set_color(png::ColorType::Grayscale);
+                encoder.set_depth(png::BitDepth::Eight);
+                encoder.set_filter(png::FilterType::NoFilter);
+                encoder.set_compression(png::Compression::Default);
+                encoder
+                    .write_header()
+                    .and_then(|mut writer| writer.write_image_data(&self.cells))
+                    .map_err(|error| format!("cannot be made a PNG: {error}"))?;
+            }
+        }
+        Ok(content)
+    }
+}
+
+#[derive(Clone, Copy)]
+enum Form {
+    Png,
+    Pgm,
+}
+
+fn form_of(path: &Path) -> Option<Form> {
+    let ending = path.extension()?.to_str()?.to_ascii_lowercase();
+    match ending.as_str() {
+        "png" => Some(Form::Png),
+        "pgm" => Some(Form::Pgm),
+        _ => None,
+    }
+}
+
+/// An accepted run, ready to be drawn from.
+struct Run {
+    opened: Opened,
+    buffer: RowBuffer,
+    width: usize,
+    height: usize,
+    frames: u64,
+}
+
+impl Run {
+    /// Width, height and the number of frames are taken from the rows of an accepted data set.
+    fn open(path: &Path) -> Result<Run, Failure> {
+        let opened = Opened::open(path)?;
+        let mut buffer = RowBuffer::default();
+        let data = opened.bytes();
+        let answer = buffer.judge(data)?;
+        if answer.code != 0 {
+            return Err(Failure::Refused(Judged::of(data, answer).line()));
+        }
+        let table = buffer.rows(answer.rows);
+        let found = (number_of(data, table, ROWS), number_of(data, table, COLUMNS), items_of(table, PER_FRAME_GROUPS));
+        match found {
+            (Some(height), Some(width), Some(frames)) => Ok(Run { opened, buffer, width, height, frames }),
+            _ => Err(Failure::Trouble(String::from("its rows do not say how large a frame is"))),
+        }
+    }
+
+    /// A frame, and whether it is masked.
+    fn draw(&mut self, frame: u64) -> Result<(Image, bool), Failure> {
+        let mut image = Image::new(self.width, self.height, 0)?;
+        let answer = self.buffer.show(self.opened.bytes(), frame, &mut image.cells)?;
+        self.opened.unchanged()?;
+        match answer.code {
+            0 => Ok((image, answer.masked == 1)),
+            NO_SUCH_FRAME => {
+                let text = format!("{}; it has frames 1 to {}", sentences::answer(&answer), self.frames);
+                Err(Failure::Refused(text))
+            }
+            _ => Err(Failure::Refused(sentences::answer(&answer))),
+        }
+    }
+}
+
+/// Where the root row of a tag starts among the numbers. What stands below a row is stepped over.
+fn root_row(table: &[u32], tag: u32) -> Option<usize> {
+    let mut at = 0;
+    while let Some(row) = table.get(at..at + ROW_WIDTH) {
+        if row[0] == tag {
+            return Some(at);
+        }
+        at += (row[5] as usize + 1) * ROW_WIDTH;
+    }
+    None
+}
+
+/// The two bytes of a root element as a number.
+fn number_of(data: &[u8], table: &[u32], tag: u32) -> Option<usize> {
+    let row = root_row(table, tag)?;
+    let offset = table[row + 3] as usize;
+    match data.get(offset..offset + 2) {
+        Some(&[low, high]) => Some(usize::from(u16::from_le_bytes([low, high]))),
+        _ => None,
+    }
+}
+
+/// How many items a root sequence has. Of an accepted run, the per-frame groups have one for each frame.
+fn items_of(table: &[u32], tag: u32) -> Option<u64> {
+    let row = root_row(table, tag)?;
+    let mut at = row + ROW_WIDTH;
+    let end = at + table[row + 5] as usize * ROW_WIDTH;
+    let mut items = 0;
+    while at < end {
+        at += (*table.get(at + 5)? as usize + 1) * ROW_WIDTH;
+        items += 1;
+    }
+    Some(items)
+}
+
+/// Frames that are spread evenly over the run, the first and the last among them.
+fn chosen(frames: u64, most: u64) -> Vec<u64> {
+    let count = frames.min(most);
+    (0..count).map(|k| 1 + k * (frames - 1) / (count - 1).max(1)).collect()
+}
+
+/// Frames on a contact sheet, and in one line of it.
+const SHEET: u64 = 24;
+const ACROSS: usize = 6;
+/// The longest side of a frame on it, and what is left between frames.
+const SIDE: usize = 192;
+const GAP: usize = 4;
+/// A label is the frame's number in digits of 3 x 5 dots, each dot 2 x 2 cells.
+const DOT: usize = 2;
+const LABEL_HEIGHT: usize = 5 * DOT + GAP;
+const LABEL_WIDTH: usize = 5 * 4 * DOT;
+const PAPER: u8 = 40;
+const INK: u8 = 255;
+
+/// The digits 0 to 9: five lines of three dots, the highest bit first.
+const DIGITS: [u16; 10] = [
+    0b111_101_101_101_111,
+    0b010_110_010_010_111,
+    0b111_001_111_100_111,
+    0b111_001_111_001_111,
+    0b101_101_111_001_001,
+    0b111_100_111_001_111,
+    0b111_100_111_101_111,
+    0b111_001_001_010_010,
+    0b111_101_111_101_111,
+    0b111_101_111_001_111,
+];
+
+fn put_label(sheet: &mut Image, left: usize, top: usize, frame: u64) {
+    for (place, digit) in frame.to_string().bytes().enumerate() {
+        let dots = DIGITS[usize::from(digit - b'0')];
+        for dot in (0..15).filter(|dot| dots >> (14 - dot) & 1 == 1) {
+            for cell in 0..DOT * DOT {
+                let x = left + (place * 4 + dot % 3) * DOT + cell % DOT;
+                let y = top + dot / 3 * DOT + cell / DOT;
+                sheet.put(x, y, INK);
+            }
+        }
+    }
+}
+
+/// The sheet, and the frames on it.
+fn sheet_of(run: &mut Run) -> Result<(Image, Vec<u64>), Failure> {
+    let frames = chosen(run.frames, SHEET);
+    let step = ((run.width.max(run.height) + SIDE - 1) / SIDE).max(1);
+    let (width, height) = ((run.width + step - 1) / step, (run.height + step - 1) / step);
+    let (across, down) = (frames.len().min(ACROSS), (frames.len() + ACROSS - 1) / ACROSS);
+    let (wide, high) = (width.max(LABEL_WIDTH) + GAP, height + LABEL_HEIGHT + GAP);
+    let mut sheet = Image::new(across * wide + GAP, down * high + GAP, PAPER)?;
+    for (place, &frame) in frames.iter().enumerate() {
+        let (image, _) = run.draw(frame)?;
+        let (left, top) = (GAP + place % ACROSS * wide, GAP + place / ACROSS * high);
+        for y in 0..height {
+            for x in 0..width {
+                sheet.put(left + x, top + y, image.cells[y * step * image.width + x * step]);
+            }
+        }
+        put_label(&mut sheet, left, top + height + GAP / 2, frame);
+    }
+    Ok((sheet, frames))
+}
+
+/// Says why there is no picture.
+fn explain(path: &Path, failure: Failure, out: &mut dyn Write) -> io::Result<Status> {
+    match failure {
+        Failure::Refused(text) => {
+            line(out, path, &text)?;
+            Ok(Status::Refused)
+        }
+        Failure::Trouble(trouble) => {
+            note_of(path, &trouble);
+            Ok(Status::Failed)
+        }
+    }
+}
+
+/// Writes an image and says so.
+fn write(image: &Image, from: &Path, to: &Path, about: &str, out: &mut dyn Write) -> io::Result<Status> {
+    let written = match form_of(to) {
+        None => Err(String::from("its name must end in .png or .pgm")),
+        Some(_) if files::is_same(from, to) => Err(String::from("it is the run itself; name another file")),
+        Some(form) => image
+            .encoded(form)
+            .and_then(|content| files::write_whole(to, &content, false).map_err(|error| files::trouble(&error))),
+    };
+    match written {
+        Ok(()) => {
+            line(out, to, &format!("{} x {}, {about}", image.width, image.height))?;
+            Ok(Status::Fine)
+        }
+        Err(trouble) => {
+            note_of(to, &format!("cannot be written: {trouble}"));
+            Ok(Status::Failed)
+        }
+    }
+}
+
+/// Draws one frame.
+pub fn show(path: &Path, frame: u64, to: Option<&Path>, out: &mut dyn Write) -> io::Result<Status> {
+    let to = to.map_or_else(|| files::beside(path, &format!(".frame-{frame}.png")), PathBuf::from);
+    match Run::open(path).and_then(|mut run| run.draw(frame)) {
+        Ok((image, masked)) => {
+            let about = format!("frame {frame}, {}", if masked { "masked" } else { "native" });
+            write(&image, path, &to, &about, out)
+        }
+        Err(failure) => explain(path, failure, out),
+    }
+}
+
+/// Draws a contact sheet.
+pub fn contact(path: &Path, to: Option<&Path>, out: &mut dyn Write) -> io::Result<Status> {
+    let to = to.map_or_else(|| files::beside(path, ".contact.png"), PathBuf::from);
+    match Run::open(path).and_then(|mut run| sheet_of(&mut run).map(|sheet| (sheet, run.frames))) {
+        Ok(((sheet, frames), all)) => {
+            let named: Vec<String> = frames.iter().map(u64::to_string).collect();
+            let about = format!("{} of {all} frames: {}", frames.len(), named.join(" "));
+            write(&sheet, path, &to, &about, out)
+        }
+        Err(failure) => explain(path, failure, out),
+    }
+}
+
+/// Whether a picture of this name can be made; asked before anything is drawn.
+pub fn is_picture_name(path: &Path) -> bool {
+    form_of(path).is_some()
+}
