@@ -3,8 +3,10 @@
 import mmap
 import random
 import struct
+import tempfile
 
 import enhanced_xa as xa
+import outside
 import reading_cases
 from comparison import DifferenceFound, run_as_program
 from mutations import CHANGES
@@ -265,6 +267,62 @@ def compare_pixel_intensity(comparison, rng):
         check_every_frame(comparison, "TO_LINEAR table", model, rng)
 
 
+def compare_outside(comparison, rng, required):
+    """Objects that others made or wrote, and images that others drew."""
+    found = outside.pydicom_data_sets()
+    if required and not (found and outside.has_pydicom() and outside.has_dcmtk()):
+        raise DifferenceFound("no outside objects: python3-pydicom or dcmtk is not installed")
+    for name, _, data in found:
+        count = reading.read(data, 6 * (len(data) // 8)).answer.rows
+        check_show(comparison, name, data, 1, 6 * count, 100)
+    with tempfile.TemporaryDirectory() as folder:
+        written = sum(compare_rewritten(comparison, rng, folder) for _ in range(25))
+        drawn = compare_windowed(comparison, rng, folder) if outside.has_dcmtk() else 0
+    return f"{len(found)} outside objects, {written} written and {drawn} drawn by others"
+
+
+def compare_rewritten(comparison, rng, folder):
+    """An accepted object as other programs write it: it is accepted, and each frame is drawn as of our own bytes."""
+    model = xa.build(rng, xa.random_shape(rng, frames=3))
+    original = xa.encode_at_random(rng, model)
+    rows, columns = (struct.unpack("<H", model[tag][1])[0] for tag in (xa.ROWS, xa.COLUMNS))
+    written = 0
+    for writer, data in outside.rewritten(folder, original):
+        count = 6 * reading.read(data, 6 * (len(data) // 8)).answer.rows
+        for frame in (1, 2, 3):
+            answer = check_show(comparison, f"written by {writer}", data, frame, count, rows * columns)
+            comparison.must_equal(f"written by {writer}, frame {frame}: code", answer.code, 0)
+            pictures = [drawing.show(encoded, frame, 6 * (len(encoded) // 8), rows * columns).image for encoded in (original, data)]
+            comparison.must_equal(f"written by {writer}, frame {frame}: image", *pictures)
+        written += 1
+    return written
+
+
+def compare_windowed(comparison, rng, folder):
+    """Native frames with a window, drawn by dcmtk as well. It cuts off where step 6 rounds, so a level may be one higher here."""
+    drawn = 0
+    for center, width in (("40", "10"), ("128", "256"), ("2048", "4096"), ("1000", "2500.5"), ("100.25", "30.75"), ("30000", "65535")):
+        for stored in (8, 12, 16):
+            shape = base_shape(rng, bits_allocated=8 if stored == 8 else 16, bits_stored=stored, frames=2, rows=16, columns=16,
+                               photometric=rng.choice(("MONOCHROME1", "MONOCHROME2")), pixel_vr="OW")
+            model = xa.build(rng, shape)
+            values = every_value(stored)
+            model[xa.PIXEL_DATA] = ("OW", values + values[::-1] if stored == 8 else values * 2)
+            model[xa.SHARED][1][0][xa.VOI] = xa.sq({xa.CENTER: xa.text("DS", center), xa.WIDTH: xa.text("DS", width)})
+            data = xa.encode_at_random(rng, model)
+            count = 6 * reading.read(data, 6 * (len(data) // 8)).answer.rows
+            for frame in (1, 2):
+                name = f"window {center}, {width}, {stored} bits, frame {frame}, also drawn by dcmtk"
+                check_show(comparison, name, data, frame, count, 256)
+                ours = drawing.show(data, frame, count, 256).image
+                theirs = outside.windowed_by_dcmtk(folder, data, frame, center, width)
+                comparison.must_equal(f"{name}: size", len(theirs), 256)
+                far = [(place, one, other) for place, (one, other) in enumerate(zip(ours, theirs)) if abs(one - other) > 1]
+                comparison.must_equal(f"{name}: levels that differ by more than one", far, [])
+                drawn += 1
+    return drawn
+
+
 def run(comparison, arguments):
     rng = random.Random(comparison.seed)
     compare_windows(comparison, rng)
@@ -280,9 +338,10 @@ def run(comparison, arguments):
     compare_refused(comparison, rng)
     compare_pixel_intensity(comparison, rng)
     compare_size_limit(comparison)
+    line = compare_outside(comparison, rng, arguments.require_outside)
     comparison.insist([("code", code) for code in range(12)])
     comparison.insist([("masked", 0), ("masked", 1)])
-    return f"{comparison.tally[('masked', 1)]} masked frames"
+    return f"{comparison.tally[('masked', 1)]} masked frames; {line}"
 
 
 if __name__ == "__main__":

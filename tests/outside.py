@@ -1,4 +1,5 @@
-"""Objects made by others: the test files of Debian's python3-pydicom, and files made with dcmtk's tools."""
+"""Objects made by others: the test files of Debian's python3-pydicom, and files made with dcmtk's and pydicom's writers; and
+images drawn by dcmtk."""
 
 import os
 import shutil
@@ -113,3 +114,59 @@ def dcmtk_data_sets(folder):
         if transfer_syntax == EXPLICIT_LITTLE_ENDIAN:
             found.append((f"dcmtk, {name}", data_set))
     return found
+
+
+# ---------------------------------------------------------------------------------------------------------------------
+
+PYTHON = "/usr/bin/python3"  # Debian's own, which finds python3-pydicom
+
+PYDICOM_REWRITES = """
+import sys, pydicom
+data_set = pydicom.dcmread(sys.argv[1], force=True)
+for element in data_set.iterall():
+    element.value
+data_set.is_little_endian = True
+data_set.is_implicit_VR = False
+pydicom.dcmwrite(sys.argv[2], data_set, write_like_original=True)
+"""
+
+
+def has_pydicom():
+    return os.path.exists(PYTHON) and subprocess.run([PYTHON, "-c", "import pydicom"], capture_output=True).returncode == 0
+
+
+def has_dcmtk():
+    return bool(shutil.which("dcmconv") and shutil.which("dcm2pnm"))
+
+
+def rewritten(folder, data_set):
+    """(writer, data set): the same object as other programs write it."""
+    source = os.path.join(folder, "bare.xa")
+    target = os.path.join(folder, "rewritten.xa")
+    with open(source, "wb") as file:
+        file.write(data_set)
+    writers = []
+    if has_dcmtk():
+        writers += [(f"dcmtk, {name}", ["dcmconv", "-f", "-te", "-F", "+te", switch, source, target])
+                    for name, switch in (("defined lengths", "+e"), ("undefined lengths", "-e"))]
+    if has_pydicom():
+        writers.append(("pydicom", [PYTHON, "-W", "ignore", "-c", PYDICOM_REWRITES, source, target]))
+    for name, command in writers:
+        subprocess.run(command, check=True, capture_output=True)
+        with open(target, "rb") as file:
+            yield name, file.read()
+
+
+def windowed_by_dcmtk(folder, data_set, frame, center, width):
+    """The grey levels of a frame as dcm2pnm draws it with a window, row by row."""
+    source = os.path.join(folder, "bare.xa")
+    target = os.path.join(folder, "drawn.pgm")
+    with open(source, "wb") as file:
+        file.write(data_set)
+    subprocess.run(["dcm2pnm", "-f", "-te", "+F", str(frame), "+Ww", center, width, "+opb", source, target], check=True,
+                   capture_output=True)
+    with open(target) as file:
+        words = " ".join(line for line in file if not line.startswith("#")).split()
+    if words[0] != "P2" or words[3] != "255":
+        raise ValueError(f"dcm2pnm wrote {words[:4]}")
+    return [int(word) for word in words[4:]]
