@@ -276,7 +276,7 @@ def compare_outside(comparison, rng, required):
         count = reading.read(data, 6 * (len(data) // 8)).answer.rows
         check_show(comparison, name, data, 1, 6 * count, 100)
     with tempfile.TemporaryDirectory() as folder:
-        written = sum(compare_rewritten(comparison, rng, folder) for _ in range(25))
+        written = sum(compare_rewritten(comparison, rng, folder) for _ in range(max(5, comparison.count // 80)))
         drawn = compare_windowed(comparison, rng, folder) if outside.has_dcmtk() else 0
     return f"{len(found)} outside objects, {written} written and {drawn} drawn by others"
 
