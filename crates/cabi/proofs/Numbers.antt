@@ -1,6 +1,6 @@
--- The numbers of every answer fit 32 bits: those of a judge's answer, since it is a possible verdict and has few rows; those
--- of `show`, since they are the judge's;
--- those of a slip that reads well, since it is a possible verdict; a refusal's code, since it is 11 to 14.
+-- The numbers of every answer fit 32 bits: a reader's, since they are small; a judge's, since its answer is a possible
+-- verdict and has few rows; those of `show`, since they are the judge's; those of a slip that reads well, since it is a
+-- possible verdict; a refusal's code, since it is 11 to 14.
 use mathlib.Core.Path.{_≡_, refl, sym, _∙_, subst}
 use mathlib.Core.Bool.{Bool, true, false, cond, not, _&&_}
 use mathlib.Core.List.{List}
@@ -8,6 +8,10 @@ use Prim.Native.Nat.{ℕ, _≤_, _<_}
 use native.Mathlib.Omega.{arith}
 use lib.Dec.{eqb, leb}
 use lib.ListN.{length, take}
+use Rattle.dataset.specs.declared.ReadAnswer.{ReadAnswer}
+use Rattle.dataset.specs.Reading.{readingOf}
+use Rattle.dataset.specs.Answer.{answerOf}
+use Rattle.dataset.proofs.Laws.{Small as SmallAnswer, answer-small}
 use Rattle.verdict.specs.Verdict.{possible}
 use Rattle.verdict.specs.declared.Verdict.{Verdict}
 use Rattle.verdict.proofs.Bounds.{Small, possible-small}
@@ -26,6 +30,11 @@ use Rattle.slip.specs.declared.WriteAnswer.the-variants as write
 use Rattle.slip.specs.Slip.{mark, version, versionAt, slipSize, number, equal, fieldsOf, readOf, writeOf}
 use Rattle.slip.proofs.Theorems.{read-possible}
 use Rattle.cabi.specs.Host.{writeCode, slipAnswer, Narrow, Fits32}
+
+-- ---- What a match found a reader's answer to be
+
+pub read-small : {a b : ReadAnswer} (s buffer : List ℕ) → a ≡ answerOf (readingOf s) buffer → a ≡ b → SmallAnswer b
+read-small s buffer e f = subst SmallAnswer (sym e ∙ f) (answer-small s buffer)
 
 -- ---- What a match found a judge's answer to be
 

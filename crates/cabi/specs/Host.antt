@@ -15,6 +15,10 @@ use Rattle.slip.specs.declared.WriteAnswer.the-variants as write
 use Rattle.cabi.specs.declared.Answer.{Answer}
 use Rattle.cabi.specs.declared.slips.Slip.{Slip}
 
+-- An answer of which nothing but the code is named.
+abbrev pub codeAlone : ℕ → Answer
+codeAlone code = record { code = code; offset = 0; rows = 0; rule = 0; frame = 0; masked = 0 }
+
 -- ---- Reading, judging and drawing
 
 -- The answer of `xa_read`: code, offset and number of rows. Reading knows no rule, frame or mask.

@@ -1,5 +1,6 @@
 // Judging, for hosts.
 use crate::Answer;
+use crate::code_alone;
 use conformance::JudgeAnswer;
 ghost use mathlib.Core.Path.{_≡_};
 ghost use Rattle.dataset.specs.Reading.{readingOf};
@@ -38,21 +39,7 @@ pub extern "C" fn xa_judge(bytes: &[u8], rows: &mut [u32]) -> Answer
             frame: 0,
             masked: 0,
         },
-        JudgeAnswer::TooLarge => Answer {
-            code: 7,
-            offset: 0,
-            rows: 0,
-            rule: 0,
-            frame: 0,
-            masked: 0,
-        },
-        JudgeAnswer::NoRoom => Answer {
-            code: 8,
-            offset: 0,
-            rows: 0,
-            rule: 0,
-            frame: 0,
-            masked: 0,
-        },
+        JudgeAnswer::TooLarge => code_alone(7),
+        JudgeAnswer::NoRoom => code_alone(8),
     }
 }

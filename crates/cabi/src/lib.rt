@@ -5,6 +5,8 @@ mod read;
 mod show;
 mod slips;
 
+ghost use mathlib.Core.Path.{_≡_};
+ghost use Rattle.cabi.specs.Host.{codeAlone};
 pub use judge::xa_judge;
 pub use read::xa_read;
 pub use show::xa_show;
@@ -21,4 +23,18 @@ pub struct Answer {
     pub rule: u32,
     pub frame: u32,
     pub masked: u32,
+}
+
+// An answer of which nothing but the code is named.
+fn code_alone(code: u32) -> Answer
+    ensures { λ r. ⌜ r ≡ codeAlone code ⌝ }
+{
+    Answer {
+        code,
+        offset: 0,
+        rows: 0,
+        rule: 0,
+        frame: 0,
+        masked: 0,
+    }
 }

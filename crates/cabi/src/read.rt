@@ -1,5 +1,6 @@
 // Reading, for hosts.
 use crate::Answer;
+use crate::code_alone;
 use dataset::ReadAnswer;
 ghost use mathlib.Core.Path.{_≡_};
 ghost use Rattle.dataset.specs.Reading.{readingOf};
@@ -29,21 +30,7 @@ pub extern "C" fn xa_read(bytes: &[u8], rows: &mut [u32]) -> Answer
             frame: 0,
             masked: 0,
         },
-        ReadAnswer::TooLarge => Answer {
-            code: 7,
-            offset: 0,
-            rows: 0,
-            rule: 0,
-            frame: 0,
-            masked: 0,
-        },
-        ReadAnswer::NoRoom => Answer {
-            code: 8,
-            offset: 0,
-            rows: 0,
-            rule: 0,
-            frame: 0,
-            masked: 0,
-        },
+        ReadAnswer::TooLarge => code_alone(7),
+        ReadAnswer::NoRoom => code_alone(8),
     }
 }

@@ -1,5 +1,6 @@
 // Drawing a frame, for hosts.
 use crate::Answer;
+use crate::code_alone;
 use display::ShowAnswer;
 ghost use mathlib.Core.Path.{_≡_};
 ghost use mathlib.Core.Bool.{cond};
@@ -48,37 +49,9 @@ pub extern "C" fn xa_show(bytes: &[u8], frame: u64, rows: &mut [u32], image: &mu
             frame: 0,
             masked: 0,
         },
-        ShowAnswer::TooLarge => Answer {
-            code: 7,
-            offset: 0,
-            rows: 0,
-            rule: 0,
-            frame: 0,
-            masked: 0,
-        },
-        ShowAnswer::NoRoom => Answer {
-            code: 8,
-            offset: 0,
-            rows: 0,
-            rule: 0,
-            frame: 0,
-            masked: 0,
-        },
-        ShowAnswer::NoFrame => Answer {
-            code: 10,
-            offset: 0,
-            rows: 0,
-            rule: 0,
-            frame: 0,
-            masked: 0,
-        },
-        ShowAnswer::NoImageRoom => Answer {
-            code: 11,
-            offset: 0,
-            rows: 0,
-            rule: 0,
-            frame: 0,
-            masked: 0,
-        },
+        ShowAnswer::TooLarge => code_alone(7),
+        ShowAnswer::NoRoom => code_alone(8),
+        ShowAnswer::NoFrame => code_alone(10),
+        ShowAnswer::NoImageRoom => code_alone(11),
     }
 }

@@ -6,6 +6,10 @@ use Rattle.cabi.proofs.Numbers.{judged-small, judged-rows}
 use borrow.Author.Needs.{needs}
 use Rattle.cabi.proofs.judge.xa_judge.Statement.{statement}
 use Rattle.cabi.proofs.judge.xa_judge.Tie as tie
+use Rattle.cabi.proofs.judge.xa_judge.Reads as reads
+use Rattle.cabi.proofs.judge.xa_judge.Lts as lts
+use Rattle.cabi.proofs.code_alone.Reads as code-alone-reads
+use Rattle.conformance.proofs.judge.Reads as judge-reads
 
 judge-requires : tie.Need-judge-requires
 judge-requires c κs = search needs
@@ -46,8 +50,14 @@ cast-t18 c =
 enum-told : tie.Need-enum-told
 enum-told c = search needs
 
+code-alone-requires : tie.Need-code-alone-requires
+code-alone-requires c κs = search needs
+
 enum-told-2 : tie.Need-enum-told-2
 enum-told-2 c = search needs
+
+code-alone-requires-2 : tie.Need-code-alone-requires-2
+code-alone-requires-2 c κs = search needs
 
 same-length : tie.Need-same-length
 same-length c = search needs
@@ -75,14 +85,14 @@ same-length-4 c = search needs
 
 returns-4 : tie.Need-returns-4
 returns-4 c =
-    (ap judgeAnswer (sym (c .enum-told .given .1) ∙ c .before .before .before .before .judge .ensures .0), c .before .before .before .before .judge .ensures .1)
+    (rw (c .code-alone .ensures) (ap judgeAnswer (sym (c .before .enum-told .given .1) ∙ c .before .before .before .before .before .judge .ensures .0)), c .before .before .before .before .before .judge .ensures .1)
 
 same-length-5 : tie.Need-same-length-5
 same-length-5 c = search needs
 
 returns-5 : tie.Need-returns-5
 returns-5 c =
-    (ap judgeAnswer (sym (c .enum-told2 .given .1) ∙ c .before .before .before .before .judge .ensures .0), c .before .before .before .before .judge .ensures .1)
+    (rw (c .code-alone2 .ensures) (ap judgeAnswer (sym (c .before .enum-told2 .given .1) ∙ c .before .before .before .before .before .judge .ensures .0)), c .before .before .before .before .before .judge .ensures .1)
 
 pub xa-judge-spec : {M : Type 1} → statement M
 xa-judge-spec =
@@ -99,7 +109,9 @@ xa-judge-spec =
     cast-t17
     cast-t18
     enum-told
+    code-alone-requires
     enum-told-2
+    code-alone-requires-2
     same-length
     returns
     same-length-2

@@ -1,20 +1,15 @@
 -- The answer is the reader's, case by case; its numbers fit 32 bits since those of every answer are small.
-use mathlib.Core.Path.{_≡_, _∙_, ap, sym, subst}
-use Prim.Native.Nat.{ℕ}
-use mathlib.Core.List.{List}
+use mathlib.Core.Path.{ap, sym, _∙_}
 use native.Mathlib.Omega.{arith}
-use borrow.Author.Needs.{needs}
-use Rattle.dataset.specs.declared.ReadAnswer.{ReadAnswer}
-use Rattle.dataset.specs.Reading.{readingOf}
-use Rattle.dataset.specs.Answer.{answerOf}
-use Rattle.dataset.proofs.Laws.{Small, answer-small}
 use Rattle.cabi.specs.Host.{readAnswer}
+use Rattle.cabi.proofs.Numbers.{read-small}
+use borrow.Author.Needs.{needs}
 use Rattle.cabi.proofs.read.xa_read.Statement.{statement}
 use Rattle.cabi.proofs.read.xa_read.Tie as tie
-
--- What a match found the answer to be has small numbers.
-small : {a b : ReadAnswer} (s buffer : List ℕ) → a ≡ answerOf (readingOf s) buffer → a ≡ b → Small b
-small s buffer e f = subst Small (sym e ∙ f) (answer-small s buffer)
+use Rattle.cabi.proofs.read.xa_read.Reads as reads
+use Rattle.cabi.proofs.read.xa_read.Lts as lts
+use Rattle.cabi.proofs.code_alone.Reads as code-alone-reads
+use Rattle.dataset.proofs.read.Reads as read-reads
 
 read-requires : tie.Need-read-requires
 read-requires c κs = search needs
@@ -24,24 +19,30 @@ enum-known-n c = search needs
 
 cast-t10 : tie.Need-cast-t10
 cast-t10 c =
-    record { fits = omega (arith, small _ _ (c .before .before .before .before .before .read .ensures .0) (c .before .n .given .1)) }
+    record { fits = omega (arith, read-small _ _ (c .before .before .before .before .before .read .ensures .0) (c .before .n .given .1)) }
 
 enum-known-code : tie.Need-enum-known-code
 enum-known-code c = search needs
 
 cast-t11 : tie.Need-cast-t11
 cast-t11 c =
-    record { fits = omega (arith, small _ _ (c .before .before .before .before .before .read .ensures .0) (c .before .code .given .1)) }
+    record { fits = omega (arith, read-small _ _ (c .before .before .before .before .before .read .ensures .0) (c .before .code .given .1)) }
 
 cast-t12 : tie.Need-cast-t12
 cast-t12 c =
-    record { fits = omega (arith, small _ _ (c .before .before .before .before .before .read .ensures .0) (c .before .code .given .1)) }
+    record { fits = omega (arith, read-small _ _ (c .before .before .before .before .before .read .ensures .0) (c .before .code .given .1)) }
 
 enum-told : tie.Need-enum-told
 enum-told c = search needs
 
+code-alone-requires : tie.Need-code-alone-requires
+code-alone-requires c κs = search needs
+
 enum-told-2 : tie.Need-enum-told-2
 enum-told-2 c = search needs
+
+code-alone-requires-2 : tie.Need-code-alone-requires-2
+code-alone-requires-2 c κs = search needs
 
 same-length : tie.Need-same-length
 same-length c = search needs
@@ -62,14 +63,14 @@ same-length-3 c = search needs
 
 returns-3 : tie.Need-returns-3
 returns-3 c =
-    (ap readAnswer (sym (c .enum-told .given .1) ∙ c .before .before .before .before .read .ensures .0), c .before .before .before .before .read .ensures .1)
+    (rw (c .code-alone .ensures) (ap readAnswer (sym (c .before .enum-told .given .1) ∙ c .before .before .before .before .before .read .ensures .0)), c .before .before .before .before .before .read .ensures .1)
 
 same-length-4 : tie.Need-same-length-4
 same-length-4 c = search needs
 
 returns-4 : tie.Need-returns-4
 returns-4 c =
-    (ap readAnswer (sym (c .enum-told2 .given .1) ∙ c .before .before .before .before .read .ensures .0), c .before .before .before .before .read .ensures .1)
+    (rw (c .code-alone2 .ensures) (ap readAnswer (sym (c .before .enum-told2 .given .1) ∙ c .before .before .before .before .before .read .ensures .0)), c .before .before .before .before .before .read .ensures .1)
 
 pub xa-read-spec : {M : Type 1} → statement M
 xa-read-spec =
@@ -82,7 +83,9 @@ xa-read-spec =
     cast-t11
     cast-t12
     enum-told
+    code-alone-requires
     enum-told-2
+    code-alone-requires-2
     same-length
     returns
     same-length-2

@@ -8,6 +8,7 @@ use Rattle.cabi.proofs.show.xa_show.Statement.{statement}
 use Rattle.cabi.proofs.show.xa_show.Tie as tie
 use Rattle.cabi.proofs.show.xa_show.Reads as reads
 use Rattle.cabi.proofs.show.xa_show.Lts as lts
+use Rattle.cabi.proofs.code_alone.Reads as code-alone-reads
 use Rattle.cabi.proofs.show.masked_number.Reads as masked-number-reads
 use Rattle.display.proofs.show.Reads as show-reads
 
@@ -53,14 +54,26 @@ cast-t24 c =
 enum-told : tie.Need-enum-told
 enum-told c = search needs
 
+code-alone-requires : tie.Need-code-alone-requires
+code-alone-requires c κs = search needs
+
 enum-told-2 : tie.Need-enum-told-2
 enum-told-2 c = search needs
+
+code-alone-requires-2 : tie.Need-code-alone-requires-2
+code-alone-requires-2 c κs = search needs
 
 enum-told-3 : tie.Need-enum-told-3
 enum-told-3 c = search needs
 
+code-alone-requires-3 : tie.Need-code-alone-requires-3
+code-alone-requires-3 c κs = search needs
+
 enum-told-4 : tie.Need-enum-told-4
 enum-told-4 c = search needs
+
+code-alone-requires-4 : tie.Need-code-alone-requires-4
+code-alone-requires-4 c κs = search needs
 
 same-length : tie.Need-same-length
 same-length c = search needs
@@ -100,7 +113,7 @@ same-length-8 c = search needs
 
 returns-4 : tie.Need-returns-4
 returns-4 c =
-    (ap showAnswer (sym (c .enum-told .given .1) ∙ c .before .before .before .before .before .before .show .ensures .0), c .before .before .before .before .before .before .show .ensures .1)
+    (rw (c .code-alone .ensures) (ap showAnswer (sym (c .before .enum-told .given .1) ∙ c .before .before .before .before .before .before .before .show .ensures .0)), c .before .before .before .before .before .before .before .show .ensures .1)
 
 same-length-9 : tie.Need-same-length-9
 same-length-9 c = search needs
@@ -110,7 +123,7 @@ same-length-10 c = search needs
 
 returns-5 : tie.Need-returns-5
 returns-5 c =
-    (ap showAnswer (sym (c .enum-told2 .given .1) ∙ c .before .before .before .before .before .before .show .ensures .0), c .before .before .before .before .before .before .show .ensures .1)
+    (rw (c .code-alone2 .ensures) (ap showAnswer (sym (c .before .enum-told2 .given .1) ∙ c .before .before .before .before .before .before .before .show .ensures .0)), c .before .before .before .before .before .before .before .show .ensures .1)
 
 same-length-11 : tie.Need-same-length-11
 same-length-11 c = search needs
@@ -120,7 +133,7 @@ same-length-12 c = search needs
 
 returns-6 : tie.Need-returns-6
 returns-6 c =
-    (ap showAnswer (sym (c .enum-told3 .given .1) ∙ c .before .before .before .before .before .before .show .ensures .0), c .before .before .before .before .before .before .show .ensures .1)
+    (rw (c .code-alone3 .ensures) (ap showAnswer (sym (c .before .enum-told3 .given .1) ∙ c .before .before .before .before .before .before .before .show .ensures .0)), c .before .before .before .before .before .before .before .show .ensures .1)
 
 same-length-13 : tie.Need-same-length-13
 same-length-13 c = search needs
@@ -130,7 +143,7 @@ same-length-14 c = search needs
 
 returns-7 : tie.Need-returns-7
 returns-7 c =
-    (ap showAnswer (sym (c .enum-told4 .given .1) ∙ c .before .before .before .before .before .before .show .ensures .0), c .before .before .before .before .before .before .show .ensures .1)
+    (rw (c .code-alone4 .ensures) (ap showAnswer (sym (c .before .enum-told4 .given .1) ∙ c .before .before .before .before .before .before .before .show .ensures .0)), c .before .before .before .before .before .before .before .show .ensures .1)
 
 pub xa-show-spec : {M : Type 1} → statement M
 xa-show-spec =
@@ -148,9 +161,13 @@ xa-show-spec =
     cast-t23
     cast-t24
     enum-told
+    code-alone-requires
     enum-told-2
+    code-alone-requires-2
     enum-told-3
+    code-alone-requires-3
     enum-told-4
+    code-alone-requires-4
     same-length
     same-length-2
     returns
