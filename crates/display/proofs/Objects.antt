@@ -1,6 +1,6 @@
 -- An accepted object gives the steps what they need, because every rule holds at its frames, and a rule that holds found
 -- each element that it reads.
-use mathlib.Core.Path.{_≡_, refl, sym, subst}
+use mathlib.Core.Path.{_≡_, refl, sym, _∙_, subst}
 use mathlib.Core.Bool.{Bool, true, false, _&&_, _||_}
 use mathlib.Core.List.{List, [], _∷_}
 use mathlib.Core.Option.{some}
@@ -15,7 +15,7 @@ use Rattle.value.specs.declared.Num.{Num}
 use Rattle.value.specs.declared.Num.the-variants.{Is, Lacks}
 use Rattle.value.specs.declared.Signed.{Signed}
 use Rattle.value.specs.declared.Signed.the-variants as signed
-use Rattle.value.specs.Text.{ascii, valuesOf, valueOf, isSingle}
+use Rattle.value.specs.Text.{ascii, equal, valuesOf, valueOf, isSingle, trimStart, trimEnd}
 use Rattle.value.specs.Words.{isWord, wordAt}
 use Rattle.value.specs.Number.{unit, all, allDecimals, allWidths, decimalOf, isNumber, isWidth}
 use Rattle.value.proofs.Laws.{decimalOf-below}
@@ -236,24 +236,33 @@ single : (v word : List ℕ) → isWord v word ≡ true → isSingle v ≡ true
 unfolding isWord
 single v word e = and-both (isSingle v) (wordAt v 0 word) e .0
 
-inverse-is : (ns : List Node) (i : ℕ) → findVr ns Tags.PhotometricInterpretation CS (root ns) ≡ Is i → isSingle (valueAt ns i) ≡ true
-    → inverseOf ns ≡ some (isWord (valueAt ns i) (ascii "MONOCHROME1"))
+-- And it has a letter.
+no-letter : (c : ℕ) (word : List ℕ) → isWord [] (c ∷ word) ≡ false
+unfolding isWord wordAt valuesOf trimEnd trimStart equal
+no-letter c word = refl
+
+lettered : (v word : List ℕ) → isWord [] word ≡ false → isWord v word ≡ true → leb 1 (length v) ≡ true
+lettered [] word n e = absurd (false-is-true (sym n ∙ e))
+lettered (c ∷ v) word n e = le-leb 1 (length (c ∷ v)) (omega arith)
+
+inverse-is : (ns : List Node) (i : ℕ) → findVr ns Tags.PhotometricInterpretation CS (root ns) ≡ Is i → leb 1 (length (valueAt ns i)) ≡ true
+    → isSingle (valueAt ns i) ≡ true → inverseOf ns ≡ some (isWord (valueAt ns i) (ascii "MONOCHROME1"))
 unfolding inverseOf
-inverse-is ns i e h = rw (e, h)
+inverse-is ns i e l h = rw (e, l, h)
 
 photometric-of : (ns : List Node) → rule10 ns ≡ true → (t : Bool) × (inverseOf ns ≡ some t)
 unfolding rule10 photometricIs
 photometric-of ns e = go (or-either (photometricIs ns (ascii "MONOCHROME1")) (photometricIs ns (ascii "MONOCHROME2")) e)
   where
-    word : (w : List ℕ) → holds (findVr ns Tags.PhotometricInterpretation CS (root ns)) (λ i. isWord (valueAt ns i) w) ≡ true
+    word : (w : List ℕ) → isWord [] w ≡ false → holds (findVr ns Tags.PhotometricInterpretation CS (root ns)) (λ i. isWord (valueAt ns i) w) ≡ true
         → (t : Bool) × (inverseOf ns ≡ some t)
-    word w h =
+    word w n h =
         let a = had (findVr ns Tags.PhotometricInterpretation CS (root ns)) (λ i. isWord (valueAt ns i) w) h in
-        (isWord (valueAt ns (a .0)) (ascii "MONOCHROME1"), inverse-is ns (a .0) (a .1 .0) (single (valueAt ns (a .0)) w (a .1 .1)))
+        (isWord (valueAt ns (a .0)) (ascii "MONOCHROME1"), inverse-is ns (a .0) (a .1 .0) (lettered (valueAt ns (a .0)) w n (a .1 .1)) (single (valueAt ns (a .0)) w (a .1 .1)))
 
     go : (photometricIs ns (ascii "MONOCHROME1") ≡ true) ⊎ (photometricIs ns (ascii "MONOCHROME2") ≡ true) → (t : Bool) × (inverseOf ns ≡ some t)
-    go (inl h) = word (ascii "MONOCHROME1") h
-    go (inr h) = word (ascii "MONOCHROME2") h
+    go (inl h) = word (ascii "MONOCHROME1") (no-letter 0x4D (ascii "ONOCHROME1")) h
+    go (inr h) = word (ascii "MONOCHROME2") (no-letter 0x4D (ascii "ONOCHROME2")) h
 
 -- What the rules found of the elements that the steps read.
 record Facts (ns : List Node) : Type 0 where

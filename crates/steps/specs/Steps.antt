@@ -192,12 +192,12 @@ windowOn ns stored (Is g) = need (theItem ns g) (λ j. windowIn ns (inside ns j)
 unfoldable pub windowFor : List Node → ℕ → ℕ → Option Window
 windowFor ns f stored = then (groupFor ns f Tags.FrameVOILUTSequence) (windowOn ns stored)
 
--- ---- Step 7. MONOCHROME1 inverts; the word is single.
+-- ---- Step 7. MONOCHROME1 inverts; the word is single, and there is one.
 
 unfoldable pub inverseOf : List Node → Option Bool
 inverseOf ns =
     need (findVr ns Tags.PhotometricInterpretation CS (root ns)) (λ i.
-    check (isSingle (valueAt ns i)) (some (isWord (valueAt ns i) (ascii "MONOCHROME1"))))
+    check (leb 1 (length (valueAt ns i)) && isSingle (valueAt ns i)) (some (isWord (valueAt ns i) (ascii "MONOCHROME1"))))
 
 -- ---- The cells
 

@@ -519,13 +519,17 @@ pub fn window_for(bytes: &[u8], rows: &[u32], frame: usize, item: Num, stored: u
 // ---- Step 7: whether the image is inverted
 
 fn inverse_by(v: &[u8]) -> Inverse
-    ensures { λ r. ⌜ inverseSaid r ≡ check (isSingle (now (v .entry))) (some (isWord (now (v .entry)) (ascii "MONOCHROME1"))) ⌝ }
+    ensures { λ r. ⌜ inverseSaid r ≡ check (leb 1 (length (now (v .entry))) && isSingle (now (v .entry))) (some (isWord (now (v .entry)) (ascii "MONOCHROME1"))) ⌝ }
 {
-    if value::is_single(v) {
-        if value::is_word(v, b"MONOCHROME1") {
-            Inverse::Yes
+    if 1 <= v.len() {
+        if value::is_single(v) {
+            if value::is_word(v, b"MONOCHROME1") {
+                Inverse::Yes
+            } else {
+                Inverse::No
+            }
         } else {
-            Inverse::No
+            Inverse::Lacks
         }
     } else {
         Inverse::Lacks

@@ -1,4 +1,5 @@
 use borrow.Author.Needs.{needs}
+use borrow.Author.Tests.{le-leb, lt-leb}
 use mathlib.Core.Path.{sym, _∙_}
 use Rattle.steps.proofs.inverse_by.Statement.{statement}
 use Rattle.steps.proofs.inverse_by.Tie as tie
@@ -14,15 +15,20 @@ is-word-requires c κs = search needs
 
 returns : tie.Need-returns
 returns c =
-    rw (sym (c .before .before .before .before .is-single .ensures) ∙ c .before .before .before .if1 .taken, sym (c .before .is-word .ensures) ∙ c .if2 .taken)
+    rw (le-leb _ _ (c .before .before .before .before .before .if1 .taken), sym (c .before .before .before .before .is-single .ensures) ∙ c .before .before .before .if2 .taken, sym (c .before .is-word .ensures) ∙ c .if3 .taken)
 
 returns-2 : tie.Need-returns-2
 returns-2 c =
-    rw (sym (c .before .before .before .before .is-single .ensures) ∙ c .before .before .before .if1 .taken, sym (c .before .is-word .ensures) ∙ c .if2 .left)
+    rw (le-leb _ _ (c .before .before .before .before .before .if1 .taken), sym (c .before .before .before .before .is-single .ensures) ∙ c .before .before .before .if2 .taken, sym (c .before .is-word .ensures) ∙ c .if3 .left)
 
 returns-3 : tie.Need-returns-3
 returns-3 c =
-    rw (sym (c .before .is-single .ensures) ∙ c .if1 .left)
+    rw (le-leb _ _ (c .before .before .if1 .taken), sym (c .before .is-single .ensures) ∙ c .if2 .left)
+
+returns-4 : tie.Need-returns-4
+returns-4 c =
+    rw (lt-leb _ _ (c .if1 .left))
 
 pub inverse-by-spec : {M : Type 1} → statement M
-inverse-by-spec = tie.close (tie.spec is-single-requires slice-aggregate-is-word is-word-requires returns returns-2 returns-3)
+inverse-by-spec =
+    tie.close (tie.spec is-single-requires slice-aggregate-is-word is-word-requires returns returns-2 returns-3 returns-4)
