@@ -266,9 +266,7 @@ def last_applying_item(root, frame):
 
 def item_shift_first(root, item, frame):
     """The frame's own shift loses to the item's."""
-    if item.present(drawing.tags.MASK_SUB_PIXEL_SHIFT):
-        return drawing.item_shift(item)
-    return drawing.frame_shift(root, item, frame) or drawing.NO_SHIFT
+    return item.whole_pair(drawing.tags.MASK_SUB_PIXEL_SHIFT) or original_shift(root, item, frame)
 
 
 def to_linear_used(data, frame, *buffers):
@@ -298,6 +296,7 @@ def frame_1_for_all(data, frame, *buffers):
     return outcome if outcome.answer.code else outcome._replace(image=drawing.show(data, 1, *buffers).image)
 
 
+original_shift = drawing.shift
 original_shifted = drawing.shifted
 original_subtracted = drawing.subtracted
 original_tid_frame = drawing.tid_frame

@@ -319,7 +319,7 @@ class Drawing(unittest.TestCase):
         yes = [
             (nothing, 1), (nothing, 3),
             (put(xa.MODALITY, xa.us(1)), 1), (put(xa.NUMBER_OF_FRAMES, xa.text("IS", "x")), 1), (put(xa.NUMBER_OF_FRAMES, xa.text("IS", "1")), 3),
-            (put(xa.ROWS, xa.us(0)), 1), (put(xa.BITS_STORED, xa.us(0)), 1), (put(xa.BITS_STORED, xa.us(12)), 1),
+            (put(xa.ROWS, xa.us(0)), 1), (put(xa.BITS_STORED, xa.us(12)), 1),
             (put(xa.MASKS, xa.sq()), 1), (mask(xa.RANGE, xa.us(2, 1)), 1), (mask(xa.RANGE, xa.us(0, 9)), 1),
             (mask(xa.OPERATION, xa.text("CS", "NONE")), 1), (mask(xa.SHIFT, xa.fl(500.0, -500.0)), 1),
             (put(xa.PHOTOMETRIC, xa.text("CS", "RGB")), 1), (frame(xa.VOI, window_group("1\\x", "0\\7\\8")), 1),
@@ -327,6 +327,7 @@ class Drawing(unittest.TestCase):
         ]
         no = [
             (nothing, 0), (nothing, 4), (put(xa.ROWS, xa.us(1, 1)), 1), (put(xa.BITS_ALLOCATED, xa.us(12)), 1), (put(xa.BITS_ALLOCATED, xa.us(0)), 1),
+            (put(xa.BITS_STORED, xa.us(0)), 1),
             (put(xa.PIXEL_DATA, ("UN", bytes(6))), 1), (put(xa.PIXEL_DATA, ("OB", bytes(2))), 2), (put(xa.SHARED, xa.sq()), 1),
             (put(xa.SHARED, xa.sq({}, {})), 1), (put(xa.PER_FRAME, xa.sq({})), 2), (put(xa.MASKS, ("UN", b"")), 1),
             (mask(xa.RANGE, xa.us()), 1), (mask(xa.RANGE, xa.us(1)), 1), (mask(xa.RANGE, xa.ss(1, 2)), 1),

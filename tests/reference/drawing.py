@@ -6,11 +6,12 @@ step needs and does not find raises Lacking. A step that is not taken needs noth
 
 from fractions import Fraction
 from math import floor
+from typing import NamedTuple
 
 from . import attributes as tags
 from .answers import BUFFER_TOO_SMALL, DONE, NO_SUCH_FRAME, Answer, Outcome
 from .rules import judge_with_root
-from .values import integer, items_of, thousandths
+from .values import integer, items_of, thousandths, whole_numbers
 
 NO_SHIFT = (0, 0)
 
@@ -29,6 +30,35 @@ def needed(value, what):
 # Frames of samples
 
 
+class Size(NamedTuple):
+    """The size of a frame, the bytes of a sample and the bits stored in it."""
+
+    rows: int
+    columns: int
+    sample_size: int
+    stored: int
+
+
+def size_of(root):
+    """Samples are of whole bytes; of 0 bits stored there is no 2^(stored - 1) among whole numbers (decision D-3)."""
+    rows = needed(root.unsigned_short(tags.ROWS), "Rows")
+    columns = needed(root.unsigned_short(tags.COLUMNS), "Columns")
+    allocated = needed(root.unsigned_short(tags.BITS_ALLOCATED), "Bits Allocated")
+    if allocated == 0 or allocated % 8 != 0:
+        raise Lacking("a sample of whole bytes")
+    stored = needed(root.unsigned_short(tags.BITS_STORED), "Bits Stored")
+    if stored == 0:
+        raise Lacking("a bit that is stored")
+    return Size(rows, columns, allocated // 8, stored)
+
+
+def pixel_element(root):
+    element = needed(root.find(tags.PIXEL_DATA), "Pixel Data")
+    if element.vr not in ("OW", "OB"):
+        raise Lacking("Pixel Data of a VR that is read")
+    return element
+
+
 class Pixels:
     """The pixel bytes, and how they are parted into frames of samples (document 01: cells).
 
@@ -36,16 +66,8 @@ class Pixels:
     """
 
     def __init__(self, root):
-        self.rows = needed(root.unsigned_short(tags.ROWS), "Rows")
-        self.columns = needed(root.unsigned_short(tags.COLUMNS), "Columns")
-        allocated = needed(root.unsigned_short(tags.BITS_ALLOCATED), "Bits Allocated")
-        if allocated == 0 or allocated % 8 != 0:
-            raise Lacking("a sample of whole bytes")
-        self.sample_size = allocated // 8
-        self.stored = needed(root.unsigned_short(tags.BITS_STORED), "Bits Stored")
-        element = needed(root.find(tags.PIXEL_DATA), "Pixel Data")
-        if element.vr not in ("OW", "OB"):
-            raise Lacking("Pixel Data of a VR that is read")
+        self.rows, self.columns, self.sample_size, self.stored = size_of(root)
+        element = pixel_element(root)
         self.data = root.data
         self.offset = element.value_offset
         self.length = element.value_length
@@ -121,9 +143,12 @@ def average(samples):
     return (2 * sum(samples) + len(samples)) // (2 * len(samples))
 
 
+def mask_frame_numbers(item):
+    return needed(item.unsigned_shorts(tags.MASK_FRAME_NUMBERS), "mask frame numbers")
+
+
 def average_mask(item, pixels):
-    numbers = needed(item.unsigned_shorts(tags.MASK_FRAME_NUMBERS), "mask frame numbers")
-    frames = [pixels.frame(number) for number in numbers]
+    frames = [pixels.frame(number) for number in mask_frame_numbers(item)]
     return [[average([frame[row][column] for frame in frames]) for column in range(pixels.columns)]
             for row in range(pixels.rows)]
 
@@ -138,22 +163,26 @@ def tid_frame(root, item, frame):
 
 
 def shift(root, item, frame):
+    """Step 4. The shift, in whole numbers."""
+    _, pair = chosen_shift(root, item, frame)
+    return needed(whole_numbers(pair), "whole numbers")
+
+
+def chosen_shift(root, item, frame):
     """Step 4. The shift is no shift, the item's two numbers, or the frame's own two where its group names the item's ID
-    (an absent group names none); the frame's own win, and where neither are present there is no shift."""
-    own = frame_shift(root, item, frame)
+    (an absent group names none); the frame's own win, and where neither are present there is no shift.
+
+    Says which, and the two numbers as they stand."""
+    own = naming_item(root, item, frame)
     if own is not None:
-        return own
-    return item_shift(item)
+        return "frame", needed(own.float_pair(tags.MASK_SUB_PIXEL_SHIFT), "a frame's shift")
+    if item.present(tags.MASK_SUB_PIXEL_SHIFT):
+        return "item", needed(item.float_pair(tags.MASK_SUB_PIXEL_SHIFT), "an item's shift")
+    return "none", NO_SHIFT
 
 
-def item_shift(item):
-    if not item.present(tags.MASK_SUB_PIXEL_SHIFT):
-        return NO_SHIFT
-    return needed(item.whole_pair(tags.MASK_SUB_PIXEL_SHIFT), "an item's shift")
-
-
-def frame_shift(root, item, frame):
-    """The two numbers of the frame's own group, if that names the item's ID; else None."""
+def naming_item(root, item, frame):
+    """The item of the frame's own group that names the mask item's ID; None if none does."""
     group = frame_group(root, frame, tags.FRAME_PIXEL_SHIFT_SEQUENCE)
     if group is None:
         return None
@@ -163,7 +192,7 @@ def frame_shift(root, item, frame):
     wanted = needed(item.unsigned_short(tags.SUBTRACTION_ITEM_ID), "the mask item's ID")
     for member in members:
         if needed(member.unsigned_short(tags.SUBTRACTION_ITEM_ID), "an ID") == wanted:
-            return needed(member.whole_pair(tags.MASK_SUB_PIXEL_SHIFT), "a frame's shift")
+            return member
     return None
 
 
@@ -237,6 +266,10 @@ def level(x, center, width):
     return limited(y, 0, 255)
 
 
+def photometric_of(root):
+    return needed(root.text(tags.PHOTOMETRIC_INTERPRETATION, "CS"), "Photometric Interpretation")
+
+
 def shown(y, photometric):
     """Step 7. MONOCHROME1: 255 - y."""
     return 255 - y if photometric == b"MONOCHROME1" else y
@@ -251,7 +284,7 @@ def draw(root, frame):
     samples = pixels.frame(frame)
     mask = mask_samples(root, frame, pixels)
     center, width = window(root, frame, pixels.stored)
-    photometric = needed(root.text(tags.PHOTOMETRIC_INTERPRETATION, "CS"), "Photometric Interpretation")
+    photometric = photometric_of(root)
     image = bytearray()
     for row in range(pixels.rows):
         for column in range(pixels.columns):

@@ -67,15 +67,14 @@ class Level:
         value = self.value(tag, "SS")
         return None if value is None or len(value) != 2 else struct.unpack("<h", value)[0]
 
-    def whole_pair(self, tag):
-        """The two values of an FL element if there are just two and both are whole numbers. Minus zero is zero."""
+    def float_pair(self, tag):
+        """The two values of an FL element if there are just two."""
         value = self.value(tag, "FL")
-        if value is None or len(value) != 8:
-            return None
-        pair = struct.unpack("<ff", value)
-        if not all(math.isfinite(number) and number == math.floor(number) for number in pair):
-            return None
-        return int(pair[0]), int(pair[1])
+        return None if value is None or len(value) != 8 else struct.unpack("<ff", value)
+
+    def whole_pair(self, tag):
+        """The two values of an FL element if there are just two and both are whole numbers."""
+        return whole_numbers(self.float_pair(tag))
 
 
 def items_of(data, element):
@@ -86,6 +85,13 @@ def items_of(data, element):
 def only(values):
     """The single one of some values, or None."""
     return values[0] if values is not None and len(values) == 1 else None
+
+
+def whole_numbers(pair):
+    """Two floats as whole numbers, or None if one of them is none. Minus zero is zero."""
+    if pair is None or not all(math.isfinite(number) and number == math.floor(number) for number in pair):
+        return None
+    return int(pair[0]), int(pair[1])
 
 
 def trimmed(part, vr):
