@@ -1,0 +1,175 @@
+// The steps of one frame, each asked by itself, whatever the mask operation is. A step that is not asked is `-`.
+use crate::answers;
+use element::tags;
+use steps::Applies;
+use steps::Sized;
+use value::Num;
+ghost use mathlib.Core.Path.{_≡_};
+ghost use Prim.Native.Nat.{_≤_, _<_};
+ghost use lib.ListN.{length};
+ghost use Rattle.value.specs.Said.{Below};
+ghost use Rattle.node.specs.Nodes.{nodesOf, members};
+ghost use Rattle.node.specs.Table.{Table};
+ghost use Rattle.element.specs.Frames.{frameItem};
+ghost use Rattle.steps.specs.Said.{SizedSmall};
+
+// How many bytes of pixels there are.
+pub fn print_pixels(bytes: &[u8], rows: &[u32], pixels: Num)
+    requires { ⌜ Table (now bytes) (now rows) × Below (length (nodesOf (now bytes))) pixels ⌝ }
+{
+    match pixels {
+        Num::Is(p) => {
+            io::write_all(1, b" pixels");
+            answers::print_number(node::value(bytes, rows, p).len());
+        }
+        Num::Lacks => {
+            io::write_all(1, b" pixels lacks");
+        }
+    }
+    io::write_all(1, b"\n");
+}
+
+// Whether the frame lies whole inside the pixel bytes.
+fn print_whole(bytes: &[u8], rows: &[u32], size: Sized, pixels: Num, frame: usize)
+    requires { ⌜ Table (now bytes) (now rows) × (Below (length (nodesOf (now bytes))) pixels × (SizedSmall size × (frame < 5))) ⌝ }
+{
+    let Sized::Is(g) = size else {
+        io::write_all(1, b" -");
+        return;
+    };
+    let Num::Is(p) = pixels else {
+        io::write_all(1, b" -");
+        return;
+    };
+    if pixel::is_frame(g, node::value(bytes, rows, p), frame) {
+        io::write_all(1, b" whole");
+    } else {
+        io::write_all(1, b" part");
+    }
+}
+
+// How many members stand from `from` up to `to`.
+fn count_members(bytes: &[u8], rows: &[u32], from: usize, to: usize) -> usize
+    requires { ⌜ Table (now bytes) (now rows) × (to ≤ length (nodesOf (now bytes))) ⌝ }
+    ensures { λ r. ⌜ r ≡ length (members (nodesOf (now (bytes .entry))) from to) ⌝ }
+    ensures { λ r. ⌜ r ≤ to ⌝ }
+{
+    let mut at = from;
+    let mut n: usize = 0;
+    while at < to {
+        at = node::next(bytes, rows, at);
+        n += 1;
+    }
+    n
+}
+
+fn print_operation(bytes: &[u8], rows: &[u32], j: usize)
+    requires { ⌜ Table (now bytes) (now rows) × (j < length (nodesOf (now bytes))) ⌝ }
+{
+    if element::cs_item(bytes, rows, j, tags::MASK_OPERATION, b"NONE") {
+        io::write_all(1, b" NONE");
+    } else {
+        if element::cs_item(bytes, rows, j, tags::MASK_OPERATION, b"AVG_SUB") {
+            io::write_all(1, b" AVG_SUB");
+        } else {
+            if element::cs_item(bytes, rows, j, tags::MASK_OPERATION, b"TID") {
+                io::write_all(1, b" TID");
+            } else {
+                io::write_all(1, b" lacks");
+            }
+        }
+    }
+}
+
+fn print_numbers(v: &[u8]) {
+    let n = v.len() / 2;
+    for k in 0..n {
+        answers::print_number(value::us_value(v, k));
+    }
+}
+
+// Step 3, AVG_SUB: the mask frames.
+fn print_masks(bytes: &[u8], rows: &[u32], masks: Num)
+    requires { ⌜ Table (now bytes) (now rows) × Below (length (nodesOf (now bytes))) masks ⌝ }
+{
+    match masks {
+        Num::Is(k) => {
+            io::write_all(1, b" masks");
+            print_numbers(node::value(bytes, rows, k));
+        }
+        Num::Lacks => {
+            io::write_all(1, b" masks lacks");
+        }
+    }
+}
+
+// Step 4. It is not asked for frame 0, which no data set has: `frameItem` counts from 1, and gives the first item for 0 too.
+fn print_shift(bytes: &[u8], rows: &[u32], frame: usize, item: Num, j: usize)
+    requires { ⌜ Table (now bytes) (now rows) × ((j < length (nodesOf (now bytes))) × ((item ≡ frameItem (nodesOf (now bytes)) frame) × Below (length (nodesOf (now bytes))) item)) ⌝ }
+{
+    if frame == 0 {
+        io::write_all(1, b" shift -");
+    } else {
+        answers::print_shift(steps::shift_for(bytes, rows, frame, item, j));
+    }
+}
+
+// Mask item j, which applies to the frame: its place among the mask items, its operation, and what steps 3 and 4 give.
+fn print_item(bytes: &[u8], rows: &[u32], frame: usize, item: Num, j: usize)
+    requires { ⌜ Table (now bytes) (now rows) × ((j < length (nodesOf (now bytes))) × ((item ≡ frameItem (nodesOf (now bytes)) frame) × (Below (length (nodesOf (now bytes))) item × (frame < 5)))) ⌝ }
+{
+    let items = element::mask_items(bytes, rows);
+    io::write_all(1, b" item");
+    answers::print_number(count_members(bytes, rows, items.at, j) + 1);
+    print_operation(bytes, rows, j);
+    print_masks(bytes, rows, steps::average_element(bytes, rows, j));
+    answers::print_tid(steps::tid_frame(bytes, rows, frame, j));
+    print_shift(bytes, rows, frame, item, j);
+}
+
+// Steps 2 to 4.
+fn print_mask(bytes: &[u8], rows: &[u32], frame: usize, item: Num)
+    requires { ⌜ Table (now bytes) (now rows) × ((item ≡ frameItem (nodesOf (now bytes)) frame) × (Below (length (nodesOf (now bytes))) item × (frame < 5))) ⌝ }
+{
+    match steps::applying_to(bytes, rows, frame) {
+        Applies::Item(j) => print_item(bytes, rows, frame, item, j),
+        Applies::Nothing => {
+            io::write_all(1, b" native");
+        }
+        Applies::Lacks => {
+            io::write_all(1, b" lacks");
+        }
+    }
+}
+
+// Step 6, likewise. The library draws with 1 to 16 bits stored.
+fn print_window(bytes: &[u8], rows: &[u32], size: Sized, frame: usize, item: Num)
+    requires { ⌜ Table (now bytes) (now rows) × (SizedSmall size × ((item ≡ frameItem (nodesOf (now bytes)) frame) × Below (length (nodesOf (now bytes))) item)) ⌝ }
+{
+    let Sized::Is(g) = size else {
+        io::write_all(1, b" window -");
+        return;
+    };
+    let stored = g.stored;
+    if frame == 0 {
+        io::write_all(1, b" window -");
+        return;
+    }
+    if 16 < stored {
+        io::write_all(1, b" window -");
+        return;
+    }
+    answers::print_window(steps::window_for(bytes, rows, frame, item, stored));
+}
+
+pub fn print_frame(bytes: &[u8], rows: &[u32], size: Sized, pixels: Num, frame: usize)
+    requires { ⌜ Table (now bytes) (now rows) × (Below (length (nodesOf (now bytes))) pixels × (SizedSmall size × (frame < 5))) ⌝ }
+{
+    io::write_all(1, b"frame");
+    answers::print_number(frame);
+    print_whole(bytes, rows, size, pixels, frame);
+    let item = steps::item_at(bytes, rows, frame);
+    print_mask(bytes, rows, frame, item);
+    print_window(bytes, rows, size, frame, item);
+    io::write_all(1, b"\n");
+}

@@ -1,0 +1,94 @@
+// Prints what the drawing steps answer for each small case on standard input. A case is its size, in two bytes with the
+// lower one first, and then its bytes; tests/make_steps_cases writes the cases, most of which are not accepted, and works
+// out by another program what is to be printed.
+mod answers;
+mod frames;
+
+use dataset::ReadAnswer;
+ghost use mathlib.Core.Path.{_≡_};
+ghost use Prim.Native.Nat.{_+_, _≤_, _<_};
+ghost use lib.ListN.{length};
+ghost use Rattle.node.specs.Table.{Table};
+
+// All cases together.
+fn input() -> [u8; 262_144]
+    ensures { λ r. ⌜ 262144 ≡ length r ⌝ }
+{
+    [0; 262_144]
+}
+
+// Room for the rows of a case of at most 65,535 bytes, since a row has at least 8 bytes.
+fn row_buffer() -> [u32; 49_152]
+    ensures { λ r. ⌜ 49152 ≡ length r ⌝ }
+{
+    [0; 49_152]
+}
+
+fn wide(x: u8) -> usize
+    ensures { λ r. ⌜ r < 256 ⌝ }
+{
+    x as usize
+}
+
+fn size_at(cases: &[u8], at: usize) -> usize
+    requires { ⌜ at + 2 ≤ length (now cases) ⌝ }
+    ensures { λ r. ⌜ r < 65536 ⌝ }
+{
+    wide(cases[at]) + 256 * wide(cases[at + 1])
+}
+
+// A line for the data set, and one for each of the frames 0 to 4, of which some are in no data set.
+fn print_steps(bytes: &[u8], rows: &[u32])
+    requires { ⌜ Table (now bytes) (now rows) ⌝ }
+{
+    let size = steps::geometry_of(bytes, rows);
+    let pixels = steps::pixel_element(bytes, rows);
+    answers::print_size(size);
+    answers::print_inverse(steps::inverse_of(bytes, rows));
+    frames::print_pixels(bytes, rows, pixels);
+    for frame in 0..5 {
+        frames::print_frame(bytes, rows, size, pixels, frame);
+    }
+}
+
+fn print_case(bytes: &[u8]) {
+    let mut rows = row_buffer();
+    match dataset::read(bytes, &mut rows) {
+        ReadAnswer::Done(n) => {
+            let end = dataset::WIDTH * n;
+            print_steps(bytes, &rows[..end]);
+        }
+        ReadAnswer::Refused(_, _) => {
+            io::write_all(1, b"unread\n");
+        }
+        ReadAnswer::TooLarge => {
+            io::write_all(1, b"too large\n");
+        }
+        ReadAnswer::NoRoom => {
+            io::write_all(1, b"no room\n");
+        }
+    }
+}
+
+fn print_cases(cases: &[u8]) {
+    let mut at: usize = 0;
+    while 2 <= cases.len() - at {
+        let start = at + 2;
+        let size = size_at(cases, at);
+        if cases.len() - start < size {
+            break;
+        }
+        let end = start + size;
+        print_case(&cases[start..end]);
+        at = end;
+    }
+    if at < cases.len() {
+        io::write_all(1, b"the last case is cut short\n");
+    }
+}
+
+fn main() {
+    let mut bytes = input();
+    let n = io::read_full(0, &mut bytes);
+    print_cases(&bytes[..n]);
+}
