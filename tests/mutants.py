@@ -155,7 +155,7 @@ MUTATIONS = [
     ("show", "drawing.py", "Fraction(2 ** stored, 2)", "Fraction(2 ** 8, 2)"),
     ("show", "drawing.py", "image_buffer_length < root", "image_buffer_length <= root"),
     ("show", "drawing.py", "((frame - 1) * self.rows + row)", "(row)"),
-    ("show", "drawing.py", "own = frame_shift(root, item, frame)", "own = None"),
+    ("show", "drawing.py", "own = naming_item(root, item, frame)", "own = None"),
 ]
 
 

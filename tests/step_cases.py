@@ -203,6 +203,24 @@ def pair(item_id, *floats):
     return {xa.ITEM_ID: us(item_id), xa.SHIFT: fl(*floats)}
 
 
+def voi(*items):
+    """Frame 1 has a VOI group."""
+    return own({xa.VOI: sq(*items)})
+
+
+def windowed(center, width):
+    return voi(window(center, width))
+
+
+def moved_by(*items):
+    """Frame 1 has a Frame Pixel Shift."""
+    return own({xa.FRAME_SHIFT: sq(*items)})
+
+
+def mask_id(number, more={}):
+    return mask({xa.ITEM_ID: us(number), **more})
+
+
 TID = {xa.OPERATION: text("CS", "TID"), xa.MASK_FRAMES: None}
 SEVERAL = sq({xa.RANGE: us(3, 3), xa.OPERATION: text("CS", "NONE")}, {xa.RANGE: us(9, 9, 2, 2)}, {xa.OPERATION: text("CS", "TID")},
              {xa.RANGE: ss(1, 1)})
@@ -296,7 +314,7 @@ SPECIAL = [
     ("two shared items", (root({xa.SHARED: sq({}, {})}),), 2, "shift lacks window lacks"),
     ("shared groups of VR UN", (root({xa.SHARED: ("UN", b"")}),), 2, "shift lacks window lacks"),
     ("no shared item, groups in the frame", (root({xa.SHARED: sq()}), own({xa.VOI: sq(window("1", "2")), xa.FRAME_SHIFT: sq(pair(1, 5.0, 6.0))}),
-                                             mask({xa.ITEM_ID: us(1)})), 2, "shift frame 5 6 window 1000 2000"),
+                                             mask_id(1)), 2, "shift frame 5 6 window 1000 2000"),
     ("item 2 missing", (root({xa.PER_FRAME: sq({})}),), 3, "shift lacks window lacks"),
     ("per-frame groups absent", (root({xa.PER_FRAME: None}),), 2, "shift lacks window lacks"),
     ("per-frame groups of VR OB", (root({xa.PER_FRAME: ("OB", bytes(8))}),), 2, "shift lacks window lacks"),
@@ -310,46 +328,46 @@ SPECIAL = [
     ("three numbers", (mask({xa.SHIFT: fl(1.0, 2.0, 3.0)}),), 2, "shift lacks"),
     ("an empty shift", (mask({xa.SHIFT: fl()}),), 2, "shift lacks"),
     ("a shift of VR FD", (mask({xa.SHIFT: ("FD", bytes(8))}),), 2, "shift lacks"),
-    ("group empty", (own({xa.FRAME_SHIFT: sq()}),), 2, "shift lacks"),
+    ("group empty", (moved_by(),), 2, "shift lacks"),
     ("group of VR UN", (own({xa.FRAME_SHIFT: ("UN", b"")}),), 2, "shift lacks"),
-    ("group in the frame names the ID", (mask({xa.ITEM_ID: us(7), xa.SHIFT: fl(1.0, 1.0)}), own({xa.FRAME_SHIFT: sq(pair(8, 2.0, 2.0), pair(7, 3.0, -4.0))})), 2,
+    ("group in the frame names the ID", (mask_id(7, {xa.SHIFT: fl(1.0, 1.0)}), moved_by(pair(8, 2.0, 2.0), pair(7, 3.0, -4.0))), 2,
      "shift frame 3 -4"),
-    ("group in the frame names another", (mask({xa.ITEM_ID: us(9), xa.SHIFT: fl(1.0, 1.0)}), own({xa.FRAME_SHIFT: sq(pair(8, 2.0, 2.0), pair(7, 3.0, -4.0))})), 2,
+    ("group in the frame names another", (mask_id(9, {xa.SHIFT: fl(1.0, 1.0)}), moved_by(pair(8, 2.0, 2.0), pair(7, 3.0, -4.0))), 2,
      "shift item 1 1"),
-    ("group names another, no shift of the item", (mask({xa.ITEM_ID: us(9)}), own({xa.FRAME_SHIFT: sq(pair(8, 2.0, 2.0))})), 2, "shift none 0 0"),
-    ("group names another, the item's shift is bad", (mask({xa.ITEM_ID: us(9), xa.SHIFT: fl()}), own({xa.FRAME_SHIFT: sq(pair(8, 2.0, 2.0))})), 2, "shift lacks"),
-    ("group names the ID, the item's shift is bad", (mask({xa.ITEM_ID: us(8), xa.SHIFT: fl()}), own({xa.FRAME_SHIFT: sq(pair(8, 2.0, 2.0))})), 2, "shift frame 2 2"),
-    ("group names the ID twice", (mask({xa.ITEM_ID: us(8)}), own({xa.FRAME_SHIFT: sq(pair(8, 2.0, 2.0), pair(8, 3.0, 3.0))})), 2, "shift frame 2 2"),
-    ("no ID in the mask item", (own({xa.FRAME_SHIFT: sq(pair(8, 2.0, 2.0))}),), 2, "shift lacks"),
-    ("no ID in the mask item, frame without a group", (own({xa.FRAME_SHIFT: sq(pair(8, 2.0, 2.0))}),), 3, "shift none 0 0"),
-    ("no ID before the one that is equal", (mask({xa.ITEM_ID: us(7)}), own({xa.FRAME_SHIFT: sq({}, pair(7, 3.0, 3.0))})), 2, "shift lacks"),
-    ("no ID after the one that is equal", (mask({xa.ITEM_ID: us(7)}), own({xa.FRAME_SHIFT: sq(pair(7, 3.0, 3.0), {})})), 2, "shift frame 3 3"),
-    ("two IDs", (mask({xa.ITEM_ID: us(7)}), own({xa.FRAME_SHIFT: sq({xa.ITEM_ID: us(7, 7), xa.SHIFT: fl(1.0, 1.0)})})), 2, "shift lacks"),
-    ("the named item has no shift", (mask({xa.ITEM_ID: us(7)}), own({xa.FRAME_SHIFT: sq({xa.ITEM_ID: us(7)})})), 2, "shift lacks"),
-    ("the named item has NaN", (mask({xa.ITEM_ID: us(7)}), own({xa.FRAME_SHIFT: sq({xa.ITEM_ID: us(7), xa.SHIFT: NOT_A_NUMBER})})), 2, "shift frame other 0"),
-    ("a shared group", (mask({xa.ITEM_ID: us(7)}), shared({xa.FRAME_SHIFT: sq(pair(7, 5.0, 6.0))})), 4, "shift frame 5 6"),
-    ("a shared group, hidden", (mask({xa.ITEM_ID: us(7)}), shared({xa.FRAME_SHIFT: sq(pair(7, 5.0, 6.0))}), own({xa.FRAME_SHIFT: ("LO", b"")}, 3)), 4, "shift lacks"),
+    ("group names another, no shift of the item", (mask_id(9), moved_by(pair(8, 2.0, 2.0))), 2, "shift none 0 0"),
+    ("group names another, the item's shift is bad", (mask_id(9, {xa.SHIFT: fl()}), moved_by(pair(8, 2.0, 2.0))), 2, "shift lacks"),
+    ("group names the ID, the item's shift is bad", (mask_id(8, {xa.SHIFT: fl()}), moved_by(pair(8, 2.0, 2.0))), 2, "shift frame 2 2"),
+    ("group names the ID twice", (mask_id(8), moved_by(pair(8, 2.0, 2.0), pair(8, 3.0, 3.0))), 2, "shift frame 2 2"),
+    ("no ID in the mask item", (moved_by(pair(8, 2.0, 2.0)),), 2, "shift lacks"),
+    ("no ID in the mask item, frame without a group", (moved_by(pair(8, 2.0, 2.0)),), 3, "shift none 0 0"),
+    ("no ID before the one that is equal", (mask_id(7), moved_by({}, pair(7, 3.0, 3.0))), 2, "shift lacks"),
+    ("no ID after the one that is equal", (mask_id(7), moved_by(pair(7, 3.0, 3.0), {})), 2, "shift frame 3 3"),
+    ("two IDs", (mask_id(7), moved_by({xa.ITEM_ID: us(7, 7), xa.SHIFT: fl(1.0, 1.0)})), 2, "shift lacks"),
+    ("the named item has no shift", (mask_id(7), moved_by({xa.ITEM_ID: us(7)})), 2, "shift lacks"),
+    ("the named item has NaN", (mask_id(7), moved_by({xa.ITEM_ID: us(7), xa.SHIFT: NOT_A_NUMBER})), 2, "shift frame other 0"),
+    ("a shared group", (mask_id(7), shared({xa.FRAME_SHIFT: sq(pair(7, 5.0, 6.0))})), 4, "shift frame 5 6"),
+    ("a shared group, hidden", (mask_id(7), shared({xa.FRAME_SHIFT: sq(pair(7, 5.0, 6.0))}), own({xa.FRAME_SHIFT: ("LO", b"")}, 3)), 4, "shift lacks"),
     # Windows (D-6).
-    ("window", (own({xa.VOI: sq(window("40", "400"))}),), 2, "window 40000 400000"),
+    ("window", (windowed("40", "400"),), 2, "window 40000 400000"),
     ("window of the shared group", (shared({xa.VOI: sq(window("-.5", "+1.25"))}),), 2, "window -500 1250"),
     ("window of the shared group, hidden", (shared({xa.VOI: sq(window("1", "2"))}), own({xa.VOI: ("UN", b"")})), 2, "window lacks"),
-    ("VOI group empty", (own({xa.VOI: sq()}),), 2, "window lacks"),
-    ("VOI group of two items", (own({xa.VOI: sq(window("1", "2"), window("1", "2"))}),), 2, "window lacks"),
-    ("VOI item empty", (own({xa.VOI: sq({})}),), 2, "window lacks"),
-    ("no width", (own({xa.VOI: sq({xa.CENTER: text("DS", "1")})}),), 2, "window lacks"),
-    ("no centre", (own({xa.VOI: sq({xa.WIDTH: text("DS", "1")})}),), 2, "window lacks"),
-    ("width 0", (own({xa.VOI: sq(window("40", "0"))}),), 2, "window 40000 0"),
-    ("width negative", (own({xa.VOI: sq(window("40", "-7.5"))}),), 2, "window 40000 -7500"),
-    ("centre -0", (own({xa.VOI: sq(window("-0", "-0"))}),), 2, "window 0 0"),
-    ("centre empty", (own({xa.VOI: sq(window("", "1"))}),), 2, "window lacks"),
-    ("centre blank", (own({xa.VOI: sq(window("  ", "1"))}),), 2, "window lacks"),
-    ("centre of VR IS", (own({xa.VOI: sq({xa.CENTER: text("IS", "1"), xa.WIDTH: text("DS", "1")})}),), 2, "window lacks"),
-    ("first values good, others not", (own({xa.VOI: sq(window("1\\x", "0.001\\\\8"))}),), 2, "window 1000 1"),
-    ("first centre bad", (own({xa.VOI: sq(window("1E1\\1", "1\\1"))}),), 2, "window lacks"),
-    ("first width bad", (own({xa.VOI: sq(window("1", ".\\1"))}),), 2, "window lacks"),
-    ("seven digits", (own({xa.VOI: sq(window("0000001", "1"))}),), 2, "window lacks"),
-    ("four decimals", (own({xa.VOI: sq(window("1", "1.0000"))}),), 2, "window lacks"),
-    ("largest", (own({xa.VOI: sq(window("-999999.999", "999999.999"))}),), 2, "window -999999999 999999999"),
+    ("VOI group empty", (voi(),), 2, "window lacks"),
+    ("VOI group of two items", (voi(window("1", "2"), window("1", "2")),), 2, "window lacks"),
+    ("VOI item empty", (voi({}),), 2, "window lacks"),
+    ("no width", (voi({xa.CENTER: text("DS", "1")}),), 2, "window lacks"),
+    ("no centre", (voi({xa.WIDTH: text("DS", "1")}),), 2, "window lacks"),
+    ("width 0", (windowed("40", "0"),), 2, "window 40000 0"),
+    ("width negative", (windowed("40", "-7.5"),), 2, "window 40000 -7500"),
+    ("centre -0", (windowed("-0", "-0"),), 2, "window 0 0"),
+    ("centre empty", (windowed("", "1"),), 2, "window lacks"),
+    ("centre blank", (windowed("  ", "1"),), 2, "window lacks"),
+    ("centre of VR IS", (voi({xa.CENTER: text("IS", "1"), xa.WIDTH: text("DS", "1")}),), 2, "window lacks"),
+    ("first values good, others not", (windowed("1\\x", "0.001\\\\8"),), 2, "window 1000 1"),
+    ("first centre bad", (windowed("1E1\\1", "1\\1"),), 2, "window lacks"),
+    ("first width bad", (windowed("1", ".\\1"),), 2, "window lacks"),
+    ("seven digits", (windowed("0000001", "1"),), 2, "window lacks"),
+    ("four decimals", (windowed("1", "1.0000"),), 2, "window lacks"),
+    ("largest", (windowed("-999999.999", "999999.999"),), 2, "window -999999999 999999999"),
     # Photometric Interpretation (D-7).
     ("MONOCHROME1", (root({xa.PHOTOMETRIC: text("CS", " MONOCHROME1 ")}),), 0, "inverse yes"),
     ("RGB", (root({xa.PHOTOMETRIC: text("CS", "RGB")}),), 0, "inverse no"),
@@ -361,17 +379,16 @@ SPECIAL = [
     ("absent", (root({xa.PHOTOMETRIC: None}),), 0, "inverse lacks"),
 ]
 for word in BAD_DECIMALS:
-    SPECIAL.append((f"centre {word!r}", (own({xa.VOI: sq(window(word + "\\1", "1"))}),), 2, "window lacks"))
-    SPECIAL.append((f"width {word!r}", (own({xa.VOI: sq(window("1", word + "\\1"))}),), 2, "window lacks"))
+    SPECIAL.append((f"centre {word!r}", (windowed(word + "\\1", "1"),), 2, "window lacks"))
+    SPECIAL.append((f"width {word!r}", (windowed("1", word + "\\1"),), 2, "window lacks"))
 for name, value in BAD_IDS.items():
-    SPECIAL.append((f"ID of the mask item {name}", (mask({xa.ITEM_ID: value}), own({xa.FRAME_SHIFT: sq(pair(1, 2.0, 2.0))})), 2, "shift lacks"))
-    SPECIAL.append((f"ID of the frame's item {name}", (mask({xa.ITEM_ID: us(1)}), own({xa.FRAME_SHIFT: sq({xa.SHIFT: fl(1.0, 1.0)})}),
-                                                       lambda model, value=value: Edits.change(model[xa.PER_FRAME][1][0][xa.FRAME_SHIFT][1][0], {xa.ITEM_ID: value})),
-                    2, "shift lacks"))
+    SPECIAL.append((f"ID of the mask item {name}", (mask({xa.ITEM_ID: value}), moved_by(pair(1, 2.0, 2.0))), 2, "shift lacks"))
+    its_id = {} if value is None else {xa.ITEM_ID: value}
+    SPECIAL.append((f"ID of the frame's item {name}", (mask_id(1), moved_by({**its_id, xa.SHIFT: fl(1.0, 1.0)})), 2, "shift lacks"))
 for name, value in BAD_SHIFTS.items():
     two = value[0] == "FL" and len(value[1]) == 8
     SPECIAL.append((f"shift of the mask item: {name}", (mask({xa.SHIFT: value}),), 2, "shift item" if two else "shift lacks"))
-    SPECIAL.append((f"shift of the frame: {name}", (mask({xa.ITEM_ID: us(7)}), own({xa.FRAME_SHIFT: sq({xa.ITEM_ID: us(7), xa.SHIFT: value})})), 2,
+    SPECIAL.append((f"shift of the frame: {name}", (mask_id(7), moved_by({xa.ITEM_ID: us(7), xa.SHIFT: value})), 2,
                     "shift frame" if two else "shift lacks"))
 
 
