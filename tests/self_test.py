@@ -288,6 +288,15 @@ class Drawing(unittest.TestCase):
         model[xa.PIXEL_DATA] = ("OW", struct.pack("<HH", 0xFE00, 0xFFFF))
         self.assertEqual(drawing.draw(root_of(model), 1), (False, bytes((0, 255))))
 
+    def test_no_bits_stored(self):
+        """Every cell is 0, and a masked x is 1/2: in the full window, C 500 and W 1000, and in C 0, W 10000."""
+        for masks, full, middle in ((), 0, 142), (("AVG_SUB",), 255, 156):
+            model = small_object((1, 2), 1, 1, 2, masks=masks, ranges=False, shifts=False)
+            model[xa.BITS_STORED] = xa.us(0)
+            self.assertEqual(drawing.draw(root_of(model), 1), (masks != (), bytes((full, full))))
+            model[xa.PER_FRAME][1][0][xa.VOI] = window_group("0", "10")
+            self.assertEqual(drawing.draw(root_of(model), 1), (masks != (), bytes((middle, middle))))
+
     def test_order_of_refusals(self):
         model = small_object((1, 2, 3, 4), 2, 1, 2)
         data = objects.encode(model)
@@ -319,7 +328,7 @@ class Drawing(unittest.TestCase):
         yes = [
             (nothing, 1), (nothing, 3),
             (put(xa.MODALITY, xa.us(1)), 1), (put(xa.NUMBER_OF_FRAMES, xa.text("IS", "x")), 1), (put(xa.NUMBER_OF_FRAMES, xa.text("IS", "1")), 3),
-            (put(xa.ROWS, xa.us(0)), 1), (put(xa.BITS_STORED, xa.us(12)), 1),
+            (put(xa.ROWS, xa.us(0)), 1), (put(xa.BITS_STORED, xa.us(0)), 1), (put(xa.BITS_STORED, xa.us(12)), 1),
             (put(xa.MASKS, xa.sq()), 1), (mask(xa.RANGE, xa.us(2, 1)), 1), (mask(xa.RANGE, xa.us(0, 9)), 1),
             (mask(xa.OPERATION, xa.text("CS", "NONE")), 1), (mask(xa.SHIFT, xa.fl(500.0, -500.0)), 1),
             (put(xa.PHOTOMETRIC, xa.text("CS", "RGB")), 1), (frame(xa.VOI, window_group("1\\x", "0\\7\\8")), 1),
@@ -327,7 +336,6 @@ class Drawing(unittest.TestCase):
         ]
         no = [
             (nothing, 0), (nothing, 4), (put(xa.ROWS, xa.us(1, 1)), 1), (put(xa.BITS_ALLOCATED, xa.us(12)), 1), (put(xa.BITS_ALLOCATED, xa.us(0)), 1),
-            (put(xa.BITS_STORED, xa.us(0)), 1),
             (put(xa.PIXEL_DATA, ("UN", bytes(6))), 1), (put(xa.PIXEL_DATA, ("OB", bytes(2))), 2), (put(xa.SHARED, xa.sq()), 1),
             (put(xa.SHARED, xa.sq({}, {})), 1), (put(xa.PER_FRAME, xa.sq({})), 2), (put(xa.MASKS, ("UN", b"")), 1),
             (mask(xa.RANGE, xa.us()), 1), (mask(xa.RANGE, xa.us(1)), 1), (mask(xa.RANGE, xa.ss(1, 2)), 1),

@@ -40,15 +40,13 @@ class Size(NamedTuple):
 
 
 def size_of(root):
-    """Samples are of whole bytes; of 0 bits stored there is no 2^(stored - 1) among whole numbers (decision D-3)."""
+    """Samples are of whole bytes."""
     rows = needed(root.unsigned_short(tags.ROWS), "Rows")
     columns = needed(root.unsigned_short(tags.COLUMNS), "Columns")
     allocated = needed(root.unsigned_short(tags.BITS_ALLOCATED), "Bits Allocated")
     if allocated == 0 or allocated % 8 != 0:
         raise Lacking("a sample of whole bytes")
     stored = needed(root.unsigned_short(tags.BITS_STORED), "Bits Stored")
-    if stored == 0:
-        raise Lacking("a bit that is stored")
     return Size(rows, columns, allocated // 8, stored)
 
 
@@ -228,9 +226,14 @@ def mask_samples(root, frame, pixels):
     return shifted(mask, shift(root, item, frame))
 
 
+def half_of_range(stored):
+    """2^(stored - 1), which is 1/2 for 0 bits stored."""
+    return Fraction(2 ** stored, 2)
+
+
 def subtracted(sample, mask, stored):
     """Step 5. cell - mask + 2^(stored - 1); it stays signed."""
-    return sample - mask + Fraction(2 ** stored, 2)
+    return sample - mask + half_of_range(stored)
 
 
 # ---------------------------------------------------------------------------------------------------------------------
@@ -242,7 +245,7 @@ def window(root, frame, stored):
     1000 × 2^stored."""
     group = frame_group(root, frame, tags.FRAME_VOI_LUT_SEQUENCE)
     if group is None:
-        return 1000 * Fraction(2 ** stored, 2), 1000 * 2 ** stored
+        return 1000 * half_of_range(stored), 1000 * 2 ** stored
     items = needed(items_of(root.data, group), "Frame VOI LUT of VR SQ")
     if len(items) != 1:
         raise Lacking("the one item of Frame VOI LUT")

@@ -9,7 +9,7 @@ use native.Mathlib.Omega.{arith}
 use lib.ListN.{length, length-append, drop}
 use lib.IntN.{ℤ, pos, _+ℤ_, _-ℤ_}
 use lib.Dec.{eqb, leb, ltb}
-use borrow.Author.Tests.{lt-ltb}
+use borrow.Author.Tests.{lt-ltb, ne-eqb}
 use Rattle.value.specs.declared.Num.{Num}
 use Rattle.value.specs.declared.Num.the-variants.{Is, Lacks}
 use Rattle.shift.specs.declared.Moves.{Moves}
@@ -84,11 +84,15 @@ pub native-cell : (g : Geometry) (v : List ℕ) (f : ℕ) (w : Window) → Drawa
 unfolding nativeCell
 native-cell g v f w d inverse i = level-cell w d inverse (pos (sampleAt g v f i))
 
-pub masked-cell : (g : Geometry) (v : List ℕ) (f : ℕ) (ks : List ℕ) (m : Moves) (w : Window) → Drawable w → (inverse : Bool) (i : ℕ)
+-- With a bit stored x is a whole number.
+pub some-bits : (b : ℕ) → 1 ≤ b → eqb b 0 ≡ false
+some-bits b h = ne-eqb b 0 (λ e. omega arith)
+
+pub masked-cell : (g : Geometry) → 1 ≤ g .stored → (v : List ℕ) (f : ℕ) (ks : List ℕ) (m : Moves) (w : Window) → Drawable w → (inverse : Bool) (i : ℕ)
     → sourceOf g m i < samplesOf g → Cell (maskedCell g v f ks m w inverse i)
 unfolding maskedCell
-masked-cell g v f ks m w d inverse i h =
-    rw (lt-ltb (sourceOf g m i) (samplesOf g) h)
+masked-cell g l v f ks m w d inverse i h =
+    rw (lt-ltb (sourceOf g m i) (samplesOf g) h, some-bits (g .stored) l)
     (level-cell w d inverse (pos (sampleAt g v f i) -ℤ pos (maskAt g v ks (sourceOf g m i)) +ℤ pos (2 ^ (g .stored - 1))))
 
 -- ---- The mask frames are frames
@@ -121,23 +125,22 @@ module _ (ns : List Node) (f : ℕ) (o : Object ns) (low : 1 ≤ f) (high : f �
           let c = collect-all (nativeCell (o .g) (o .v) f (w .w) (o .inverse)) (samplesOf (o .g)) (λ i h. native-cell (o .g) (o .v) f (w .w) (w .drawable) (o .inverse) i) in
           record { p = record { masked = false; samples = c .l }; is = e ∙ rw (c .is); size = c .size; levels = c .levels }
       go (maskBy ks mv) s e =
-          let c = collect-all (maskedCell (o .g) (o .v) f ks mv (w .w) (o .inverse)) (samplesOf (o .g)) (λ i h. masked-cell (o .g) (o .v) f ks mv (w .w) (w .drawable) (o .inverse) i (source-below (o .g) i h mv)) in
+          let c = collect-all (maskedCell (o .g) (o .v) f ks mv (w .w) (o .inverse)) (samplesOf (o .g)) (λ i h. masked-cell (o .g) (o .stored-low) (o .v) f ks mv (w .w) (w .drawable) (o .inverse) i (source-below (o .g) i h mv)) in
           record { p = record { masked = true; samples = c .l }; is = e ∙ rw (are-frames (o .g) (o .v) (o .n) (o .whole) ks (s .1 .1 .0), c .is); size = c .size; levels = c .levels }
 
 -- ---- The size of the picture
 
 -- The size of a frame is Rows × Columns.
-size-checked : (t u : Bool) (x g : Geometry) → check t (check u (some x)) ≡ some g → samplesOf g ≡ samplesOf x
-size-checked true true x g e =
+size-checked : (t : Bool) (x g : Geometry) → check t (some x) ≡ some g → samplesOf g ≡ samplesOf x
+size-checked true x g e =
     let q : x ≡ g = cc in
     ap samplesOf (sym q)
-size-checked true false x g e = absurd (never e)
-size-checked false u x g e = absurd (never e)
+size-checked false x g e = absurd (never e)
 
 size-given : (r c a b : Num) (g : Geometry)
-    → need r (λ r. need c (λ c. need a (λ a. need b (λ b. check (leb 8 a && eqb (a % 8) 0) (check (leb 1 b) (some (record { rows = r; columns = c; width = a / 8; stored = b }))))))) ≡ some g
+    → need r (λ r. need c (λ c. need a (λ a. need b (λ b. check (leb 8 a && eqb (a % 8) 0) (some (record { rows = r; columns = c; width = a / 8; stored = b })))))) ≡ some g
     → samplesOf g ≡ numberOf r * numberOf c
-size-given (Is r) (Is c) (Is a) (Is b) g e = size-checked (leb 8 a && eqb (a % 8) 0) (leb 1 b) (record { rows = r; columns = c; width = a / 8; stored = b }) g e
+size-given (Is r) (Is c) (Is a) (Is b) g e = size-checked (leb 8 a && eqb (a % 8) 0) (record { rows = r; columns = c; width = a / 8; stored = b }) g e
 size-given (Is r) (Is c) (Is a) Lacks g e = absurd (never e)
 size-given (Is r) (Is c) Lacks b g e = absurd (never e)
 size-given (Is r) Lacks a b g e = absurd (never e)

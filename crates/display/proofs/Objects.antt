@@ -5,7 +5,7 @@ use mathlib.Core.Bool.{Bool, true, false, _&&_, _||_}
 use mathlib.Core.List.{List, [], _∷_}
 use mathlib.Core.Option.{some}
 use mathlib.Core.Logic.{_⊎_, inl, inr}
-use Prim.Native.Nat.{ℕ, _-_, _*_, _/_, _%_, _^_, _≤_, _<_}
+use Prim.Native.Nat.{ℕ, _*_, _/_, _%_, _^_, _≤_, _<_}
 use native.Mathlib.Nat.{mul-le-mul-right, mul-assoc, one-le-pow}
 use native.Mathlib.Omega.{arith}
 use lib.Dec.{eqb, leb}
@@ -337,7 +337,7 @@ module _ (ns : List Node) where
 
     shape-is : geometryOf ns ≡ some shape
     unfolding geometryOf
-    shape-is = rw (k .rows, k .columns, k .allocated, k .stored, k .cells .bytes, le-leb 1 (k .b) (k .cells .low))
+    shape-is = rw (k .rows, k .columns, k .allocated, k .stored, k .cells .bytes)
 
     pixels-are : pixelsOf ns ≡ some (valueAt ns (k .p))
     unfolding pixelsOf
@@ -421,10 +421,9 @@ module _ (ns : List Node) (is : List ℕ) where
       )
 
 -- The full window.
-pub full-drawable : (stored : ℕ) → 1 ≤ stored → stored ≤ 16 → Drawable (fullWindow stored)
+pub full-drawable : (stored : ℕ) → stored ≤ 16 → Drawable (fullWindow stored)
 unfolding fullWindow
-full-drawable stored l h =
-    let a : 2 ^ (stored - 1) ≤ 65536 = power-small (stored - 1) 16 (omega arith) in
+full-drawable stored h =
     let b : 2 ^ stored ≤ 65536 = power-small stored 16 h in
     let c : 1 ≤ 2 ^ stored = one-le-pow stored 2 (omega arith) in
     record { number = refl; near = omega arith; wide = le-leb unit (unit * 2 ^ stored) (omega arith); narrow = omega arith }
@@ -432,11 +431,11 @@ full-drawable stored l h =
 item-window : (ns : List Node) (stored g j : ℕ) (w : Window) → theItem ns g ≡ Is j → windowIn ns (inside ns j) ≡ some w → windowOn ns stored (Is g) ≡ some w
 item-window ns stored g j w e h = rw e h
 
-window-on : (ns : List Node) (stored : ℕ) → 1 ≤ stored → stored ≤ 16 → (o : Num) → ifPresent o (isVoi ns) ≡ true
+window-on : (ns : List Node) (stored : ℕ) → stored ≤ 16 → (o : Num) → ifPresent o (isVoi ns) ≡ true
     → (w : Window) × ((windowOn ns stored o ≡ some w) × Drawable w)
 unfolding isVoi
-window-on ns stored l h Lacks e = (fullWindow stored, (refl, full-drawable stored l h))
-window-on ns stored l h (Is g) e =
+window-on ns stored h Lacks e = (fullWindow stored, (refl, full-drawable stored h))
+window-on ns stored h (Is g) e =
     let j = had (theItem ns g) (λ i. hasWindow ns (inside ns i)) e in
     let w = window-in ns (inside ns (j .0)) (j .1 .1) in
     (w .0, (item-window ns stored g (j .0) (w .0) (j .1 .0) (w .1 .0), w .1 .1))
@@ -451,7 +450,7 @@ unfolding rule30 item30
 windowed ns ok o f l h =
     let a = at-items ns f (item30 ns) (r30 ns ok (o .n) f (o .frames) l h) in
     let g = groupOf ns Tags.FrameVOILUTSequence (a .s) (a .i) in
-    let w = window-on ns (o .g .stored) (o .stored-low) (o .stored-high) g (a .holds) in
+    let w = window-on ns (o .g .stored) (o .stored-high) g (a .holds) in
     record {
       w = w .0;
       window = group-window ns f (o .g .stored) g (w .0) (group-is ns f Tags.FrameVOILUTSequence (a .s) (a .i) (a .shared) (a .item)) (w .1 .0);

@@ -27,6 +27,7 @@ use Rattle.window.proofs.Laws.{leveled, shade-is}
 use Rattle.window.proofs.Gaps.{Gap, shift, whole, plus, gap}
 use Rattle.steps.specs.Given.{need, then, collect}
 use Rattle.steps.specs.Steps.{shaded, nativeCell, maskedCell}
+use Rattle.display.proofs.Lacking.{some-bits}
 
 -- ---- Painted cells are collected cells
 
@@ -100,5 +101,5 @@ module _ (g : Geometry) (v : List ℕ) (f : ℕ) (low : 1 ≤ g .stored) (w : Wi
       let k : s + q - a < 2 ^ (g .stored + 1) - 1 = omega (arith, twice (g .stored), pow-pos (g .stored)) in
       let x : pos (s + q - a + p) -ℤ pos q ≡ pos s -ℤ pos a +ℤ pos p =
       same (pos (s + q - a + p) -ℤ pos q) (pos s -ℤ pos a +ℤ pos p) (s + q - a + p) q (gap (s + q - a + p) q) (shift (plus (gap s a) (whole p)) (s + q - a + p) q (omega arith)) in
-      rw (lt-ltb (sourceOf g mv i) (samplesOf g) (source-below g i inside mv))
+      rw (lt-ltb (sourceOf g mv i) (samplesOf g) (source-below g i inside mv), some-bits (g .stored) low)
       (shade-cell w d (g .stored) inverse (s + q - a) (pos s -ℤ pos a +ℤ pos p) x ∙ ap Is (sym (t .value (s + q - a) k)))

@@ -89,7 +89,6 @@ pub record Small (g : Geometry) : Type 0 where
   pub columns : g .columns < 65536
   pub some-bytes : 1 ≤ g .width
   pub width : g .width ≤ 8191
-  pub some-bits : 1 ≤ g .stored
   pub stored : g .stored < 65536
 
 abbrev pub SizedSmall : Sized → Type 0

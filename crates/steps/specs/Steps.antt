@@ -31,7 +31,7 @@ use Rattle.rules.specs.Mask.{operationIs}
 use Rattle.pixel.specs.declared.Geometry.{Geometry}
 use Rattle.pixel.specs.Pixel.{samplesOf, isFrame, sampleAt, maskAt, sourceOf}
 use Rattle.window.specs.declared.Window.{Window}
-use Rattle.window.specs.Window.{fullWindow, levelOf, shadeOf}
+use Rattle.window.specs.Window.{fullWindow, levelOf, levelHalf, shadeOf}
 use Rattle.steps.specs.declared.Applying.{Applying}
 use Rattle.steps.specs.declared.Applying.the-variants.{Item, Nothing}
 use Rattle.steps.specs.Given.{need, check, then, collect}
@@ -43,15 +43,15 @@ pub record Picture : Type 0 where
 
 -- ---- What the steps read
 
--- The size of a frame and of its cells: whole bytes, and at least one bit stored.
+-- The size of a frame and of its cells, of whole bytes. Bits Stored may be any number: of 0 bits each cell is 0.
 unfoldable pub geometryOf : List Node → Option Geometry
 geometryOf ns =
     need (usIn ns Tags.Rows (root ns)) (λ r.
     need (usIn ns Tags.Columns (root ns)) (λ c.
     need (usIn ns Tags.BitsAllocated (root ns)) (λ a.
     need (usIn ns Tags.BitsStored (root ns)) (λ b.
-    check (leb 8 a && eqb (a % 8) 0) (check (leb 1 b)
-    (some (record { rows = r; columns = c; width = a / 8; stored = b })))))))
+    check (leb 8 a && eqb (a % 8) 0)
+    (some (record { rows = r; columns = c; width = a / 8; stored = b }))))))
 
 -- The pixel bytes.
 unfoldable pub pixelsOf : List Node → Option (List ℕ)
@@ -209,11 +209,14 @@ shaded inverse (Is y) = Is (shadeOf inverse y)
 unfoldable pub nativeCell : Geometry → List ℕ → ℕ → Window → Bool → ℕ → Num
 nativeCell g v f w inverse i = shaded inverse (levelOf w (pos (sampleAt g v f i)))
 
--- The mask cell lies inside the picture.
+-- The mask cell lies inside the picture. 2^(stored - 1) is 1/2 for 0 bits stored.
 unfoldable pub maskedCell : Geometry → List ℕ → ℕ → List ℕ → Moves → Window → Bool → ℕ → Num
 maskedCell g v f ks m w inverse i =
     cond (ltb (sourceOf g m i) (samplesOf g))
-    (shaded inverse (levelOf w (pos (sampleAt g v f i) -ℤ pos (maskAt g v ks (sourceOf g m i)) +ℤ pos (2 ^ (g .stored - 1)))))
+    (shaded inverse
+    (cond (eqb (g .stored) 0)
+    (levelHalf w (pos (sampleAt g v f i) -ℤ pos (maskAt g v ks (sourceOf g m i))))
+    (levelOf w (pos (sampleAt g v f i) -ℤ pos (maskAt g v ks (sourceOf g m i)) +ℤ pos (2 ^ (g .stored - 1))))))
     Lacks
 
 -- Every one is a whole frame inside the pixel bytes.

@@ -506,7 +506,7 @@ fn window_at(bytes: &[u8], rows: &[u32], stored: usize, g: usize) -> Windowed
 
 // Step 6: the window of a frame; `item` is the frame's item.
 pub fn window_for(bytes: &[u8], rows: &[u32], frame: usize, item: Num, stored: usize) -> Windowed
-    requires { ⌜ Table (now bytes) (now rows) × ((item ≡ frameItem (nodesOf (now bytes)) frame) × (Below (length (nodesOf (now bytes))) item × ((1 ≤ stored) × (stored ≤ 16)))) ⌝ }
+    requires { ⌜ Table (now bytes) (now rows) × ((item ≡ frameItem (nodesOf (now bytes)) frame) × (Below (length (nodesOf (now bytes))) item × (stored ≤ 16))) ⌝ }
     ensures { λ r. ⌜ windowedOf r ≡ windowFor (nodesOf (now (bytes .entry))) frame stored ⌝ }
 {
     match group_for(bytes, rows, frame, item, tags::FRAME_VOI_LUT_SEQUENCE) {
@@ -549,24 +549,20 @@ pub fn inverse_of(bytes: &[u8], rows: &[u32]) -> Inverse
 
 // ---- The size of a frame, and the pixel bytes
 
-// A geometry of whole bytes, and at least one bit stored.
+// A geometry of whole bytes.
 fn geometry_by(r: usize, c: usize, allocated: usize, stored: usize) -> Sized
     requires { ⌜ (r < 65536) × ((c < 65536) × ((allocated < 65536) × (stored < 65536))) ⌝ }
-    ensures { λ s. ⌜ sizedOf s ≡ check (leb 8 allocated && eqb (allocated % 8) 0) (check (leb 1 stored) (some (record { rows = r; columns = c; width = allocated / 8; stored = stored }))) ⌝ }
+    ensures { λ s. ⌜ sizedOf s ≡ check (leb 8 allocated && eqb (allocated % 8) 0) (some (record { rows = r; columns = c; width = allocated / 8; stored = stored })) ⌝ }
     ensures { λ s. ⌜ SizedSmall s ⌝ }
 {
     if 8 <= allocated {
         if allocated % 8 == 0 {
-            if 1 <= stored {
-                Sized::Is(Geometry {
-                    rows: r,
-                    columns: c,
-                    width: allocated / 8,
-                    stored,
-                })
-            } else {
-                Sized::Lacks
-            }
+            Sized::Is(Geometry {
+                rows: r,
+                columns: c,
+                width: allocated / 8,
+                stored,
+            })
         } else {
             Sized::Lacks
         }

@@ -142,7 +142,7 @@ fn print_mask(bytes: &[u8], rows: &[u32], frame: usize, item: Num)
     }
 }
 
-// Step 6, likewise. The library draws with 1 to 16 bits stored.
+// Step 6, likewise. The library gives windows for at most 16 bits stored.
 fn print_window(bytes: &[u8], rows: &[u32], size: Sized, frame: usize, item: Num)
     requires { ⌜ Table (now bytes) (now rows) × (SizedSmall size × ((item ≡ frameItem (nodesOf (now bytes)) frame) × Below (length (nodesOf (now bytes))) item)) ⌝ }
 {

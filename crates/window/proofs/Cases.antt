@@ -9,7 +9,7 @@ use Rattle.value.specs.declared.Num.the-variants.{Is, Lacks}
 use Rattle.value.specs.declared.Signed.the-variants as signed
 use Rattle.value.specs.Number.{unit}
 use Rattle.window.specs.declared.Window.{Window}
-use Rattle.window.specs.Window.{fullWindow, levelFor, levelOf, shadeOf}
+use Rattle.window.specs.Window.{fullWindow, levelFor, levelOf, levelHalf, shadeOf}
 
 pub record Cell : Type 0 where
   pub window : Window
@@ -49,3 +49,15 @@ shaded inverse Lacks = Lacks
 pub sample-shades : map (λ (c : Cell). shaded (c .inverse) (levelOf (c .window) (pos (c .x)))) samples ≡ map (λ (c : Cell). Is (c .shade)) samples
 unfolding samples narrow wide fullWindow levelOf levelFor shadeOf
 sample-shades = refl
+
+-- 0 bits stored: a native x is 0 and a masked one 1/2, in the full window and in one of centre 0 and width 10.
+pub middle : Window
+middle = record { center = signed.Plus 0; width = signed.Plus (10 * unit) }
+
+pub no-bits : map (λ (w : Window). levelOf w (pos 0)) (fullWindow 0 ∷ middle ∷ []) ≡ (Is 0 ∷ Is 142 ∷ [])
+unfolding middle fullWindow levelOf levelFor
+no-bits = refl
+
+pub no-bits-masked : map (λ (w : Window). levelHalf w (pos 0)) (fullWindow 0 ∷ middle ∷ []) ≡ (Is 255 ∷ Is 156 ∷ [])
+unfolding middle fullWindow levelHalf
+no-bits-masked = refl

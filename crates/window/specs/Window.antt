@@ -17,9 +17,9 @@ integer (signed.Minus zero) = pos 0
 integer (signed.Minus (suc n)) = negsuc n
 integer signed.Lacks = pos 0
 
--- The window of a frame without a VOI group: centre 2^(stored - 1) and width 2^stored, in units.
+-- The window of a frame without a VOI group: centre 2^(stored - 1), which is 1/2 for 0 bits stored, and width 2^stored, in units.
 unfoldable pub fullWindow : ℕ → Window
-fullWindow stored = record { center = signed.Plus (unit * 2 ^ (stored - 1)); width = signed.Plus (unit * 2 ^ stored) }
+fullWindow stored = record { center = signed.Plus (unit * 2 ^ stored / 2); width = signed.Plus (unit * 2 ^ stored) }
 
 -- a / b rounded down, for a b above 0.
 abbrev pub floor : ℤ → ℤ → ℤ
@@ -31,18 +31,25 @@ abbrev pub limited : ℤ → ℕ
 limited (negsuc n) = 0
 limited (pos n) = cond (leZ (pos n) (pos 255)) n 255
 
--- Step 6, for a centre C and a width W, with u the units to one: 0 if 2ux ≤ 2C - W; 255 if 2ux > 2C + W - 2u; else
--- floor((255(2ux - 2C + W) + W - u) / (2(W - u))), whose divisor must be above 0. Then limited.
-unfoldable pub levelFor : ℤ → ℤ → ℤ → ℤ → Num
-levelFor u c w x =
-    cond (leZ (pos 2 *ℤ u *ℤ x) (pos 2 *ℤ c -ℤ w)) (Is 0)
-    (cond (ltZ (pos 2 *ℤ c +ℤ w -ℤ pos 2 *ℤ u) (pos 2 *ℤ u *ℤ x)) (Is 255)
+-- Step 6, for a centre C and a width W, with u the units to one and t = 2ux: 0 if t ≤ 2C - W; 255 if t > 2C + W - 2u; else
+-- floor((255(t - 2C + W) + W - u) / (2(W - u))), whose divisor must be above 0. Then limited.
+abbrev pub levelBy : ℤ → ℤ → ℤ → ℤ → Num
+levelBy u c w t =
+    cond (leZ t (pos 2 *ℤ c -ℤ w)) (Is 0)
+    (cond (ltZ (pos 2 *ℤ c +ℤ w -ℤ pos 2 *ℤ u) t) (Is 255)
     (cond (ltZ (pos 0) (pos 2 *ℤ (w -ℤ u)))
-    (Is (limited (floor (pos 255 *ℤ (pos 2 *ℤ u *ℤ x -ℤ pos 2 *ℤ c +ℤ w) +ℤ w -ℤ u) (pos 2 *ℤ (w -ℤ u)))))
+    (Is (limited (floor (pos 255 *ℤ (t -ℤ pos 2 *ℤ c +ℤ w) +ℤ w -ℤ u) (pos 2 *ℤ (w -ℤ u)))))
     Lacks))
+
+unfoldable pub levelFor : ℤ → ℤ → ℤ → ℤ → Num
+levelFor u c w x = levelBy u c w (pos 2 *ℤ u *ℤ x)
 
 unfoldable pub levelOf : Window → ℤ → Num
 levelOf w x = levelFor (pos unit) (integer (w .center)) (integer (w .width)) x
+
+-- The level of x + 1/2.
+unfoldable pub levelHalf : Window → ℤ → Num
+levelHalf w x = levelBy (pos unit) (integer (w .center)) (integer (w .width)) (pos 2 *ℤ pos unit *ℤ x +ℤ pos unit)
 
 -- Step 7: MONOCHROME1 shows 255 - y.
 unfoldable pub shadeOf : Bool → ℕ → ℕ

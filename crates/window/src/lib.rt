@@ -79,14 +79,13 @@ pub fn power(n: usize) -> usize
 
 // The window of a frame that names none.
 pub fn full_window(stored: usize) -> Window
-    requires { ⌜ (1 ≤ stored) × (stored ≤ 16) ⌝ }
+    requires { ⌜ stored ≤ 16 ⌝ }
     ensures { λ r. ⌜ (r ≡ fullWindow stored) × Drawable r ⌝ }
 {
-    let half = power(stored - 1);
-    let full = power(stored);
+    let full = UNIT * power(stored);
     Window {
-        center: Signed::Plus(UNIT * half),
-        width: Signed::Plus(UNIT * full),
+        center: Signed::Plus(full / 2),
+        width: Signed::Plus(full),
     }
 }
 

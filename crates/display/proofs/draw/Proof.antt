@@ -81,7 +81,7 @@ window-for-requires c κs =
     let eg = steps-laws.said sizedOf (c .before .before .before .before .before .before .g .given .1) (c .before .before .before .before .before .before .before .before .geometry-of .ensures .0) in
     let ev = steps-laws.said (valueIn (nodesOf (c .before .before .before .before .before .before .before .before .before .before .before .before .args .bytes .now))) (c .before .before .p .given .1) (c .before .before .before .before .pixel-element .ensures .0) in
     let b = whole.based (nodesOf (c .before .before .before .before .before .before .before .before .before .before .before .before .args .bytes .now)) (c .before .before .before .before .before .before .before .before .before .before .before .before .args .frame) (c .before .before .before .before .before .before .before .before .before .before .before .before .args .n) (c .before .before .before .before .before .before .g .given .0 .0) (valueAt (nodesOf (c .before .before .before .before .before .before .before .before .before .before .before .before .args .bytes .now)) (c .before .before .p .given .0 .0)) all (p .1 .1 .1 .1 .0) eg ev in
-    (p .0, (c .item-at .ensures .0, (c .item-at .ensures .1, (b .shape .stored-some, b .shape .stored-most))))
+    (p .0, (c .item-at .ensures .0, (c .item-at .ensures .1, b .shape .stored-most)))
 
 -- src/lib.rt:213:22
 enum-known-w : tie.Need-enum-known-w

@@ -5,19 +5,15 @@ use Rattle.steps.proofs.geometry_by.Tie as tie
 
 returns : tie.Need-returns
 returns c =
-    (rw (le-leb _ _ (c .before .before .if1 .taken), eq-eqb _ _ (c .before .if2 .taken), le-leb _ _ (c .if3 .taken)), record { rows = c .before .before .before .pre .0; columns = c .before .before .before .pre .1 .0; some-bytes = omega arith; width = omega arith; some-bits = c .if3 .taken; stored = c .before .before .before .pre .1 .1 .1 })
+    (rw (le-leb _ _ (c .before .if1 .taken), eq-eqb _ _ (c .if2 .taken)), record { rows = c .before .before .pre .0; columns = c .before .before .pre .1 .0; some-bytes = omega arith; width = omega arith; stored = c .before .before .pre .1 .1 .1 })
 
 returns-2 : tie.Need-returns-2
 returns-2 c =
-    (rw (le-leb _ _ (c .before .before .if1 .taken), eq-eqb _ _ (c .before .if2 .taken), lt-leb _ _ (c .if3 .left)), tt)
+    (rw (le-leb _ _ (c .before .if1 .taken), ne-eqb _ _ (c .if2 .left)), tt)
 
 returns-3 : tie.Need-returns-3
 returns-3 c =
-    (rw (le-leb _ _ (c .before .if1 .taken), ne-eqb _ _ (c .if2 .left)), tt)
-
-returns-4 : tie.Need-returns-4
-returns-4 c =
     (rw (lt-leb _ _ (c .if1 .left)), tt)
 
 pub geometry-by-spec : {M : Type 1} → statement M
-geometry-by-spec = tie.close (tie.spec returns returns-2 returns-3 returns-4)
+geometry-by-spec = tie.close (tie.spec returns returns-2 returns-3)

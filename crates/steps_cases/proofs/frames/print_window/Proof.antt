@@ -1,7 +1,4 @@
--- A size that answers has at least one bit stored.
-use mathlib.Core.Path.{subst}
 use native.Mathlib.Omega.{arith}
-use Rattle.steps.specs.Said.{SizedSmall}
 use borrow.Author.Needs.{needs}
 use Rattle.steps_cases.proofs.frames.print_window.Statement.{statement}
 use Rattle.steps_cases.proofs.frames.print_window.Tie as tie
@@ -41,9 +38,8 @@ returns-3 c = search needs
 
 window-for-requires : tie.Need-window-for-requires
 window-for-requires c κs =
-    let s = subst SizedSmall (c .before .before .before .size .given .1) (c .before .before .before .before .before .before .before .pre .1 .0) in
     let p = c .before .before .before .before .before .before .before .pre in
-    (p .0, (p .1 .1 .0, (p .1 .1 .1, (s .some-bits, omega (arith, c .if2 .left)))))
+    (p .0, (p .1 .1 .0, (p .1 .1 .1, omega (arith, c .if2 .left))))
 
 print-window-requires : tie.Need-print-window-requires
 print-window-requires c κs = search needs
