@@ -163,7 +163,7 @@ def compare_window_edges(comparison, rng, rounds):
 
 def compare_shifts(comparison, rng, rounds):
     """Shifts of the item and of the frame, at small images and at one that is larger than the greatest shift."""
-    numbers = (0, 1, -1, 2, -2, 5, -5, 63, -63, 64, -64)
+    numbers = (0, 0.25, -0.25, 0.5, -0.5, 0.75, -0.75, 1, -1, 1.25, -1.75, 2, -2, 5.5, -5.25, 63, -63.75, 63.75, 64, -64)
     for number in range(rounds):
         rows, columns = rng.choice(((1, 1), (1, 9), (9, 1), (3, 5), (4, 4), (7, 6), (1, 2)))
         if number % 40 == 0:
@@ -174,7 +174,7 @@ def compare_shifts(comparison, rng, rounds):
         item[xa.MASK_FRAMES] = xa.us(1)
         item.pop(xa.SHIFT, None)
         pair = [float(rng.choice(numbers)), float(rng.choice(numbers))]
-        other = [float(rng.randrange(-64, 65)), rng.choice((0.0, -0.0))]
+        other = [rng.randrange(-256, 257) / 4, rng.choice((0.0, -0.0, rng.randrange(-256, 257) / 4))]
         kind = number % 5
         if kind in (0, 1, 2):
             item[xa.SHIFT] = xa.fl(*pair)  # 0: the item's alone
@@ -186,6 +186,32 @@ def compare_shifts(comparison, rng, rounds):
             for place in rng.choice((model[xa.SHARED][1], model[xa.PER_FRAME][1])):
                 place[xa.FRAME_SHIFT] = xa.sq(*members)
         check_every_frame(comparison, f"shift {pair}, frame's own {other}, kind {kind}", model, rng)
+
+
+def compare_quarters(comparison, rng):
+    """All pairs of quarters, down and up, right and left, small and larger than the picture, at pictures of one row, of one
+    column and of odd sizes; averages of 1 to 64 frames, and TID; in the mask item and in the frame."""
+    kinds = (("AVG_SUB", 1), ("AVG_SUB", 2), ("AVG_SUB", 3), ("AVG_SUB", 4), ("AVG_SUB", 64), ("TID", 1))
+    number = 0
+    for rows, columns in ((1, 1), (1, 7), (7, 1), (3, 5)):
+        for a in range(4):
+            for b in range(4):
+                for down, right in ((0, 0), (-1, 0), (0, -1), (-2, 1), (63, -64), (-64, 63)):
+                    operation, masks = kinds[number % len(kinds)]
+                    number += 1
+                    shape = base_shape(rng, masks=(operation,), frames=2, rows=rows, columns=columns, ranges=False, shifts=False)
+                    model = xa.build(rng, shape)
+                    item = model[xa.MASKS][1][0]
+                    if operation == "AVG_SUB":
+                        item[xa.MASK_FRAMES] = xa.us(*(rng.choice((1, 2)) for _ in range(masks)))
+                    pair = (down + a / 4, right + b / 4)
+                    if number % 2:
+                        item[xa.SHIFT] = xa.fl(*pair)
+                    else:
+                        item[xa.ITEM_ID] = xa.us(7)
+                        for place in model[xa.PER_FRAME][1]:
+                            place[xa.FRAME_SHIFT] = xa.sq({xa.ITEM_ID: xa.us(7), xa.SHIFT: xa.fl(*pair)})
+                    check_every_frame(comparison, f"quarters {pair}, {rows} x {columns}, {operation} of {masks}", model, rng)
 
 
 def compare_tid(comparison, rng):
@@ -331,6 +357,7 @@ def run(comparison, arguments):
     compare_average_rounding(comparison, rng)
     compare_window_edges(comparison, rng, max(50, comparison.count // 4))
     compare_shifts(comparison, rng, max(40, comparison.count // 4))
+    compare_quarters(comparison, rng)
     compare_tid(comparison, rng)
     compare_first_item(comparison, rng)
     compare_random_objects(comparison, rng, comparison.count)

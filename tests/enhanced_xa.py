@@ -179,7 +179,7 @@ def voi_item(rng, shape):
 
 
 def random_shift(rng):
-    return fl(*(rng.choice((0.0, -0.0, 1.0, -1.0, 2.0, -3.0, 64.0, -64.0, float(rng.randrange(-64, 65))))
+    return fl(*(rng.choice((0.0, -0.0, 1.0, -1.0, 2.0, -3.0, 64.0, -64.0, 0.25, -1.5, float(rng.randrange(-64, 65)), rng.randrange(-256, 257) / 4))
                 for _ in range(2)))
 
 

@@ -266,7 +266,7 @@ def last_applying_item(root, frame):
 
 def item_shift_first(root, item, frame):
     """The frame's own shift loses to the item's."""
-    return item.whole_pair(drawing.tags.MASK_SUB_PIXEL_SHIFT) or original_shift(root, item, frame)
+    return item.quarter_pair(drawing.tags.MASK_SUB_PIXEL_SHIFT) or original_shift(root, item, frame)
 
 
 def to_linear_used(data, frame, *buffers):

@@ -3,6 +3,7 @@
 
 import random
 import struct
+from fractions import Fraction
 import sys
 import unittest
 
@@ -107,14 +108,14 @@ class Values(unittest.TestCase):
         self.assertIsNone(one.signed_short(0x00280013))
         self.assertIsNone(one.unsigned_shorts(0x00280014))
 
-    def test_whole_pairs(self):
+    def test_quarter_pairs(self):
         cases = [((0x42800000, 0xC2800000), (64, -64)), ((0x80000000, 0x3F800000), (0, 1)), ((0x42800001, 0), None),
-                 ((0x7FC00000, 0), None), ((0, 0x7F800000), None), ((0xFF800000, 0), None), ((0x3F000000, 0), None),
+                 ((0x7FC00000, 0), None), ((0, 0x7F800000), None), ((0xFF800000, 0), None), ((0x3F000000, 0), (Fraction(1, 2), 0)), ((0x3E000000, 0), None),
                  ((1, 0), None), ((0, 0x80000001), None), ((0x4B800000, 0), (16777216, 0))]
         for bits, expected in cases:
-            self.assertEqual(level(t00286114=("FL", struct.pack("<II", *bits))).whole_pair(0x00286114), expected, bits)
+            self.assertEqual(level(t00286114=("FL", struct.pack("<II", *bits))).quarter_pair(0x00286114), expected, bits)
         for size in (0, 4, 6, 10, 12):
-            self.assertIsNone(level(t00286114=("FL", bytes(size))).whole_pair(0x00286114), size)
+            self.assertIsNone(level(t00286114=("FL", bytes(size))).quarter_pair(0x00286114), size)
 
 
 class Rules(unittest.TestCase):
@@ -341,7 +342,7 @@ class Drawing(unittest.TestCase):
             (mask(xa.RANGE, xa.us()), 1), (mask(xa.RANGE, xa.us(1)), 1), (mask(xa.RANGE, xa.ss(1, 2)), 1),
             (mask(xa.OPERATION, xa.text("CS", "REV_TID")), 1), (mask(xa.OPERATION, xa.text("CS", "TID\\TID")), 1),
             (mask(xa.MASK_FRAMES, xa.us()), 1), (mask(xa.MASK_FRAMES, xa.us(4)), 1), (mask(xa.MASK_FRAMES, xa.us(1, 0)), 1),
-            (mask(xa.SHIFT, xa.fl(0.5, 0.0)), 1), (mask(xa.SHIFT, xa.fl()), 1), (put(xa.PHOTOMETRIC, xa.text("CS", "A\\B")), 1),
+            (mask(xa.SHIFT, xa.fl(0.3, 0.0)), 1), (mask(xa.SHIFT, xa.fl()), 1), (put(xa.PHOTOMETRIC, xa.text("CS", "A\\B")), 1),
             (frame(xa.VOI, xa.sq()), 1), (frame(xa.VOI, ("UN", b"")), 1), (frame(xa.VOI, window_group("x", "1")), 1),
             (frame(xa.FRAME_SHIFT, xa.sq()), 1), (frame(xa.FRAME_SHIFT, ("UN", b"")), 1),
             (lambda root, mask, own, shared: (mask.pop(xa.ITEM_ID, None), own[0].update({xa.FRAME_SHIFT: good_group})), 1),

@@ -11,7 +11,7 @@ from typing import NamedTuple
 from . import attributes as tags
 from .answers import BUFFER_TOO_SMALL, DONE, NO_SUCH_FRAME, Answer, Outcome
 from .rules import judge_with_root
-from .values import integer, items_of, thousandths, whole_numbers
+from .values import integer, items_of, thousandths, whole_quarters
 
 NO_SHIFT = (0, 0)
 
@@ -161,9 +161,9 @@ def tid_frame(root, item, frame):
 
 
 def shift(root, item, frame):
-    """Step 4. The shift, in whole numbers."""
+    """Step 4. The shift, in whole quarters."""
     _, pair = chosen_shift(root, item, frame)
-    return needed(whole_numbers(pair), "whole numbers")
+    return needed(whole_quarters(pair), "whole quarters")
 
 
 def chosen_shift(root, item, frame):
@@ -198,14 +198,24 @@ def limited(number, low, high):
     return max(low, min(high, number))
 
 
+def blended(mask, row, column):
+    """Step 4. a and b are the quarters of `row` and `column` above the whole row and column. The mask value is the sum
+    over the four neighbouring mask cells, with weights (4-a)(4-b), (4-a)b, a(4-b) and ab, in reading order from that
+    whole row and column, plus 8, divided by 16, rounded down; each neighbour is limited to the edge."""
+    top, left = floor(row), floor(column)
+    a, b = 4 * (row - top), 4 * (column - left)
+    total = Fraction(8)
+    for r, c, weight in ((top, left, (4 - a) * (4 - b)), (top, left + 1, (4 - a) * b),
+                         (top + 1, left, a * (4 - b)), (top + 1, left + 1, a * b)):
+        total += weight * mask[limited(r, 0, len(mask) - 1)][limited(c, 0, len(mask[0]) - 1)]
+    return floor(total / 16)
+
+
 def shifted(mask, pair):
-    """Step 4. Vertical v, horizontal h: cell (r, c) takes mask cell (r - v, c - h), each limited to the picture's
-    edge."""
+    """Step 4. Vertical v, horizontal h: cell (r, c) takes the mask at (r - v, c - h)."""
     vertical, horizontal = pair
-    rows = len(mask)
     columns = len(mask[0]) if mask else 0
-    return [[mask[limited(row - vertical, 0, rows - 1)][limited(column - horizontal, 0, columns - 1)]
-             for column in range(columns)] for row in range(rows)]
+    return [[blended(mask, row - vertical, column - horizontal) for column in range(columns)] for row in range(len(mask))]
 
 
 def mask_samples(root, frame, pixels):

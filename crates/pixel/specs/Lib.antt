@@ -1,3 +1,4 @@
 pub mod Pixel
 pub mod Painted
 pub mod Said
+pub mod Whole

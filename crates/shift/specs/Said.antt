@@ -7,19 +7,19 @@ use Rattle.value.specs.declared.Num.{Num}
 use Rattle.value.specs.declared.Num.the-variants.{Is, Lacks}
 use Rattle.value.specs.Said.{SizeBelow}
 use Rattle.shift.specs.declared.Moves.{Moves}
-use Rattle.shift.specs.Shift.{largestShift}
+use Rattle.shift.specs.Shift.{shiftUnit, largestMove}
 
--- The fraction n / d as a whole number up to 64.
-abbrev pub shortFraction : ℕ → ℕ → Num
-shortFraction n d = cond (leb (n / d) largestShift && eqb (n % d) 0) (Is (n / d)) Lacks
+-- The fraction n / d as a whole number up to l.
+abbrev pub upTo : ℕ → ℕ → ℕ → Num
+upTo l n d = cond (leb (n / d) l && eqb (n % d) 0) (Is (n / d)) Lacks
 
--- The size of a float, where it is a whole number up to 64.
+-- The quarters of a float without its sign, where they are whole and it is up to 64.
 unfoldable pub shortSize : Float → Num
 shortSize nan = Lacks
 shortSize (inf s) = Lacks
-shortSize (fin s m e) = shortFraction (m * up e) (down e)
+shortSize (fin s m e) = upTo largestMove (m * up e * shiftUnit) (down e)
 
--- Moves of at most 64.
+-- Moves of at most 64, in quarters.
 pub record ShortMoves (m : Moves) : Type 0 where
-  pub vertical : SizeBelow 65 (m .vertical)
-  pub horizontal : SizeBelow 65 (m .horizontal)
+  pub vertical : SizeBelow 257 (m .vertical)
+  pub horizontal : SizeBelow 257 (m .horizontal)
