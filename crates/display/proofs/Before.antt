@@ -41,7 +41,8 @@ use Rattle.conformance.proofs.First.{holds-accepted}
 use Rattle.pixel.specs.declared.Geometry.{Geometry}
 use Rattle.pixel.specs.Pixel.{samplesOf, isFrame, sampleAt, maskAt, areInside, blendedAt}
 use Rattle.pixel.specs.Whole.{sourceOf}
-use Rattle.pixel.proofs.Blend.{whole-agrees, source-below, are-inside}
+use Rattle.pixel.proofs.Blend.{source-below, are-inside}
+use Rattle.pixel.proofs.Quarters.{agree}
 use Rattle.window.specs.declared.Window.{Window}
 use Rattle.window.specs.Window.{levelOf, levelHalf}
 use Rattle.steps.specs.declared.Applying.{Applying}
@@ -183,7 +184,7 @@ collect-same f h (suc n) e = rw (collect-same f h n (λ i l. e i (omega arith)),
 -- Cell for cell.
 cell-same : (g : Geometry) (v : List ℕ) (f : ℕ) (ks : List ℕ) (m : Moves) (w : Window) (inverse : Bool) (i : ℕ) → i < samplesOf g → maskedCellBefore g v f ks m w inverse i ≡ maskedCell g v f ks (movesInQuarters m) w inverse i
 unfolding maskedCellBefore maskedCell
-cell-same g v f ks m w inverse i inside = rw (lt-ltb (sourceOf g m i) (samplesOf g) (source-below g m i inside), are-inside g (movesInQuarters m) i inside, whole-agrees g v ks m i inside)
+cell-same g v f ks m w inverse i inside = rw (lt-ltb (sourceOf g m i) (samplesOf g) (source-below g m i inside), are-inside g (movesInQuarters m) i inside, agree g v ks m i inside)
 
 picture-same : (g : Geometry) (v : List ℕ) (f : ℕ) (w : Window) (inverse : Bool) (m : Mask) → pictureBefore g v f w inverse m ≡ pictureBy g v f w inverse (now m)
 unfolding pictureBefore pictureBy

@@ -1,5 +1,5 @@
--- The blend of four mask values: between the least and the greatest of them, the first of them on whole shifts, and what
--- the code's offsets come to.
+-- The blend of four mask values: not above what none of them is above, the first of them where all sixteenths fall to it, and
+-- what the code's offsets come to.
 use mathlib.Core.Path.{_≡_, refl, sym, _∙_, ap, subst}
 use mathlib.Core.List.{List, [], _∷_}
 use Prim.Native.Nat.{ℕ, zero, suc, _+_, _-_, _*_, _/_, _%_, _^_, _≤_, _<_, min, max}
@@ -8,16 +8,17 @@ use native.Mathlib.Omega.{arith}
 use mathlib.Core.Bool.{Bool, true}
 use borrow.Author.Tests.{lt-ltb}
 use lib.ListN.{length, getD}
+use lib.Dec.{ltb}
 use Rattle.value.specs.declared.Signed.{Signed}
 use Rattle.shift.specs.declared.Moves.{Moves}
 use Rattle.shift.specs.Whole.{movesInQuarters}
 use Rattle.pixel.specs.declared.Geometry.{Geometry}
-use Rattle.pixel.specs.Pixel.{samplesOf, sumAt, averageOf, maskAt, placeOf, restOf, neighbourOf, areInside, blockOf, weightsOf, blendOf, blendedAt}
+use Rattle.pixel.specs.Pixel.{samplesOf, sumAt, averageOf, maskAt, placeOf, restOf, rowOf, columnOf, neighbourOf, areInside, blockOf, weightsOf, blendOf, blendedAt}
 use Rattle.pixel.specs.Whole.{movedBy, sourceOf}
 use Rattle.pixel.specs.Painted.{painted, maskedShade}
 use Rattle.pixel.specs.Said.{shifted, OffsetOf, Cells, Weights, Spread, Averaged, Averages, cellAt, blockAt, blendShade, quarterShade, offsetShade, paintedFrom}
 use Rattle.pixel.proofs.Laws.{row-below, column-below, cell-below, sample-cell, mask-most, sum-fits, spread-most, place-row, place-column, painted-at, from-painted}
-use Rattle.pixel.proofs.Quarters.{whole-place, moved-below, place-below, rest-below}
+use Rattle.pixel.proofs.Places.{whole-place, moved-below, place-below, rest-below}
 
 -- ---- Sixteenths
 
@@ -55,7 +56,7 @@ products block w (h, t) =
     few : {a b : ℕ} → a ≤ 65535 → b ≤ 16 → a * b ≤ 1048560
     few {a} {b} h k = mul-le-mul {n₁ = a} {m₁ = b} {n₂ = 65535} {m₂ = 16} h k
 
--- ---- The value lies between the least and the greatest of its neighbours
+-- ---- What none of the four is above or below
 
 -- Not above what none of the four is above, and not below what none is below.
 module _ (block : List (List ℕ)) (w : List ℕ) (t : Weights w) where
@@ -91,17 +92,9 @@ module _ (block : List (List ℕ)) (w : List ℕ) (t : Weights w) where
 
 -- ---- On whole shifts
 
-blend-first : (a b c d : ℕ) → blendOf ((a ∷ b ∷ []) ∷ (c ∷ d ∷ []) ∷ []) (weightsOf 0 0) ≡ a
+pub blend-first : (a b c d : ℕ) → blendOf ((a ∷ b ∷ []) ∷ (c ∷ d ∷ []) ∷ []) (weightsOf 0 0) ≡ a
 unfolding blendOf
 blend-first a b c d = sixteenth (a * 16 + b * 0 + c * 0 + d * 0 + 8) a (omega arith) (omega arith)
-
--- Both rules agree: the blended value is the mask cell that the step of whole pixels takes, for moves of any size.
-pub whole-agrees : (g : Geometry) (v ks : List ℕ) (m : Moves) (i : ℕ) → i < samplesOf g → blendedAt g v ks (movesInQuarters m) i ≡ maskAt g v ks (sourceOf g m i)
-unfolding blendedAt neighbourOf sourceOf
-whole-agrees g v ks m i inside =
-    let r = whole-place (m .vertical) (g .rows) (i / g .columns) (row-below g i inside) in
-    let c = whole-place (m .horizontal) (g .columns) (i % g .columns) (column-below g i inside) in
-    rw (r .1, c .1, blend-first, r .0, c .0)
 
 -- The mask cell of the step of whole pixels lies in the frame.
 pub source-below : (g : Geometry) (m : Moves) (i : ℕ) → i < samplesOf g → sourceOf g m i < samplesOf g
@@ -124,8 +117,13 @@ module _ (g : Geometry) (m : Moves) (i : ℕ) where
 
   pub are-inside : i < samplesOf g → areInside g m i ≡ true
   unfolding areInside
-  are-inside inside =
-      rw (lt-ltb _ _ (neighbour-below inside 0 0), lt-ltb _ _ (neighbour-below inside 0 1), lt-ltb _ _ (neighbour-below inside 1 0), lt-ltb _ _ (neighbour-below inside 1 1))
+  are-inside inside = rw (row 0, row 1, column 0, column 1)
+    where
+      row : (down : ℕ) → ltb (rowOf g m i down) (g .rows) ≡ true
+      row down = lt-ltb _ _ (place-below (m .vertical) (g .rows) (i / g .columns) down (row-below g i inside))
+
+      column : (right : ℕ) → ltb (columnOf g m i right) (g .columns) ≡ true
+      column right = lt-ltb _ _ (place-below (m .horizontal) (g .columns) (i % g .columns) right (column-below g i inside))
 
   module _ (v ks : List ℕ) where
     -- A mask value is not above what the samples hold.
@@ -134,21 +132,6 @@ module _ (g : Geometry) (m : Moves) (i : ℕ) where
     blended-most some few =
         blend-most _ _ (weights-total _ _ (rest-below (m .vertical) (i / g .columns)) (rest-below (m .horizontal) (i % g .columns))) (2 ^ g .stored - 1)
         (record { first = mask-most g v ks _ some few; second = mask-most g v ks _ some few; third = mask-most g v ks _ some few; fourth = mask-most g v ks _ some few })
-
-    abbrev pub neighbour : ℕ → ℕ → ℕ
-    neighbour down right = maskAt g v ks (neighbourOf g m i down right)
-
-    -- The value lies between the least and the greatest of its four neighbours.
-    pub between : (min (min (neighbour 0 0) (neighbour 0 1)) (min (neighbour 1 0) (neighbour 1 1)) ≤ blendedAt g v ks m i)
-        × (blendedAt g v ks m i ≤ max (max (neighbour 0 0) (neighbour 0 1)) (max (neighbour 1 0) (neighbour 1 1)))
-    unfolding blendedAt
-    between =
-        let t = weights-total _ _ (rest-below (m .vertical) (i / g .columns)) (rest-below (m .horizontal) (i % g .columns)) in
-        let a : ℕ = maskAt g v ks (neighbourOf g m i 0 0) in
-        let b : ℕ = maskAt g v ks (neighbourOf g m i 0 1) in
-        let c : ℕ = maskAt g v ks (neighbourOf g m i 1 0) in
-        let d : ℕ = maskAt g v ks (neighbourOf g m i 1 1) in
-        (blend-least _ _ t (min (min a b) (min c d)) (omega arith) (omega arith) (omega arith) (omega arith), blend-most _ _ t (max (max a b) (max c d)) (record { first = omega arith; second = omega arith; third = omega arith; fourth = omega arith }))
 
 -- ---- The code's offsets
 

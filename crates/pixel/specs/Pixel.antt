@@ -63,16 +63,23 @@ placeOf m size r k = limitedTo size (wholeBelow (lessShift m r) +ℤ pos k)
 unfoldable pub restOf : Signed → ℕ → ℕ
 restOf m r = quartersAbove (lessShift m r)
 
--- One of the four neighbouring mask cells that sample i takes, `down` rows and `right` columns from the first.
-unfoldable pub neighbourOf : Geometry → Moves → ℕ → ℕ → ℕ → ℕ
-neighbourOf g m i down right =
-    placeOf (m .vertical) (g .rows) (i / g .columns) down * g .columns + placeOf (m .horizontal) (g .columns) (i % g .columns) right
+-- One of the four neighbouring mask cells that sample i takes, `down` rows and `right` columns from the first: its row, its
+-- column, and its number.
+abbrev pub rowOf : Geometry → Moves → ℕ → ℕ → ℕ
+rowOf g m i down = placeOf (m .vertical) (g .rows) (i / g .columns) down
 
--- Each of the four lies inside the picture.
+abbrev pub columnOf : Geometry → Moves → ℕ → ℕ → ℕ
+columnOf g m i right = placeOf (m .horizontal) (g .columns) (i % g .columns) right
+
+unfoldable pub neighbourOf : Geometry → Moves → ℕ → ℕ → ℕ → ℕ
+neighbourOf g m i down right = rowOf g m i down * g .columns + columnOf g m i right
+
+-- Each of the four lies inside the picture, by its row and by its column.
+abbrev pub isInside : Geometry → Moves → ℕ → ℕ → ℕ → Bool
+isInside g m i down right = ltb (rowOf g m i down) (g .rows) && ltb (columnOf g m i right) (g .columns)
+
 unfoldable pub areInside : Geometry → Moves → ℕ → Bool
-areInside g m i =
-    (ltb (neighbourOf g m i 0 0) (samplesOf g) && ltb (neighbourOf g m i 0 1) (samplesOf g))
-    && (ltb (neighbourOf g m i 1 0) (samplesOf g) && ltb (neighbourOf g m i 1 1) (samplesOf g))
+areInside g m i = (isInside g m i 0 0 && isInside g m i 0 1) && (isInside g m i 1 0 && isInside g m i 1 1)
 
 -- The two by two block of mask values, row by row.
 abbrev pub blockOf : (ℕ → ℕ → ℕ) → List (List ℕ)

@@ -1,4 +1,4 @@
--- Step 4 of whole pixels, as it was before quarters: what the theorem of agreement speaks of (`proofs/Blend`). The moves are
+-- Step 4 of whole pixels, as it was before quarters: what the theorem of agreement speaks of (`specs/Quarters`). The moves are
 -- whole rows and columns here.
 use Prim.Native.Nat.{ℕ, _+_, _-_, _*_, _/_, _%_, min}
 use Rattle.value.specs.declared.Signed.{Signed}

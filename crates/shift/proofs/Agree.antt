@@ -19,6 +19,7 @@ use Rattle.shift.specs.declared.Shift.the-variants as shift
 use Rattle.shift.specs.declared.Moves.{Moves}
 use Rattle.shift.specs.Shift.{shiftUnit, largestShift, signedSize, quartersOf, isShort, movesOf, isShiftOf, itemShift, frameShift, isShift}
 use Rattle.shift.proofs.Laws.{same-of}
+use Rattle.shift.specs.Agree.{SameMoves, StillShift, Agree, AgreeBeyond}
 use Rattle.shift.specs.Whole.{wholeOf, wholeMovesOf, isShortWhole, isWholeShiftOf, isWholeShift, inQuarters, movesInQuarters}
 
 never : true ≡ false → ⊥
@@ -80,13 +81,13 @@ short-quarters Lacks h = h
 -- ---- A shift
 
 -- The step's moves, whatever their size.
-pub whole-moves : (s : Shift) → isNumber (wholeMovesOf s .vertical) ≡ true → isNumber (wholeMovesOf s .horizontal) ≡ true → movesOf s ≡ movesInQuarters (wholeMovesOf s)
+pub whole-moves : AgreeBeyond
 unfolding movesOf wholeMovesOf
 whole-moves shift.None v h = refl
 whole-moves (shift.Item a b) v h = rw (whole-quarters a v, whole-quarters b h)
 whole-moves (shift.Frame a b) v h = rw (whole-quarters a v, whole-quarters b h)
 
-pub whole-shift-of : (s : Shift) → isWholeShiftOf s ≡ true → (isShiftOf s ≡ true) × (movesOf s ≡ movesInQuarters (wholeMovesOf s))
+pub whole-shift-of : (s : Shift) → isWholeShiftOf s ≡ true → (isShiftOf s ≡ true) × SameMoves s
 unfolding isShiftOf isWholeShiftOf
 whole-shift-of s h =
     let p = both (isShortWhole (wholeMovesOf s .vertical)) (isShortWhole (wholeMovesOf s .horizontal)) h in
@@ -110,6 +111,14 @@ whole-item v h = both (eqb (length v) 8) (isWholeShiftOf (itemShift v)) h .1
 pub whole-frame : (v : List ℕ) → isWholeShift v ≡ true → isWholeShiftOf (frameShift v) ≡ true
 unfolding isWholeShiftOf wholeMovesOf
 whole-frame v h = sym (same-of isWholeShiftOf (λ a b. refl) v) ∙ whole-item v h
+
+pub agree : Agree
+agree v h =
+    record {
+      is = whole-shift v h;
+      item = whole-shift-of (itemShift v) (whole-item v h) .1;
+      frame = whole-shift-of (frameShift v) (whole-frame v h) .1;
+    }
 
 -- Both numbers of a whole shift are numbers.
 pub whole-both : (s : Shift) → isWholeShiftOf s ≡ true → isNumber (wholeMovesOf s .vertical) && isNumber (wholeMovesOf s .horizontal) ≡ true

@@ -1,5 +1,5 @@
 -- What contracts say beside the definitions of a shift: the size of a float without its sign, and bounds of the moves.
-use Prim.Native.Nat.{ℕ, _*_, _/_, _%_}
+use Prim.Native.Nat.{ℕ, _+_, _*_, _/_, _%_}
 use mathlib.Core.Bool.{cond, _&&_}
 use lib.Dec.{eqb, leb}
 use lib.Ieee.{Float, nan, inf, fin, up, down}
@@ -19,7 +19,11 @@ shortSize nan = Lacks
 shortSize (inf s) = Lacks
 shortSize (fin s m e) = upTo largestMove (m * up e * shiftUnit) (down e)
 
+-- The first size that no move has, in quarters.
+abbrev pub tooFar : ℕ
+tooFar = largestMove + 1
+
 -- Moves of at most 64, in quarters.
 pub record ShortMoves (m : Moves) : Type 0 where
-  pub vertical : SizeBelow 257 (m .vertical)
-  pub horizontal : SizeBelow 257 (m .horizontal)
+  pub vertical : SizeBelow tooFar (m .vertical)
+  pub horizontal : SizeBelow tooFar (m .horizontal)

@@ -1,4 +1,4 @@
--- Shifts of whole pixels, as they were before quarters: what the theorems of agreement speak of (`proofs/Agree`). No code
+-- Shifts of whole pixels, as they were before quarters: what the theorems of agreement speak of (`specs/Agree`). No code
 -- follows these definitions.
 use Prim.Native.Nat.{ℕ, _*_, _/_, _%_}
 use mathlib.Core.Bool.{Bool, true, false, cond, _&&_}

@@ -8,7 +8,7 @@ ghost use lib.Ieee.{ofBits, binary32, lt};
 ghost use Rattle.value.specs.Said.{Below, SizeBelow};
 ghost use Rattle.value.specs.Number.{isNumber};
 ghost use Rattle.shift.specs.Shift.{floatAt, shortOf, shortMovesOf, isShiftOf, itemShift, frameShift, isShift};
-ghost use Rattle.shift.specs.Said.{shortSize, ShortMoves};
+ghost use Rattle.shift.specs.Said.{shortSize, tooFar, ShortMoves};
 use dataset::u32_at;
 use value::Num;
 use value::Signed;
@@ -58,7 +58,7 @@ pub fn float_at(v: &[u8], p: usize) -> f32
 fn short_size(y: f32) -> Num
     requires { ⌜ lt y (ofBits binary32 0) ≡ false ⌝ }
     ensures { λ r. ⌜ r ≡ shortSize y ⌝ }
-    ensures { λ r. ⌜ Below 257 r ⌝ }
+    ensures { λ r. ⌜ Below tooFar r ⌝ }
 {
     if y <= 64.0 {
         let z = y * 4.0;
@@ -76,7 +76,7 @@ fn short_size(y: f32) -> Num
 
 pub fn short_of(x: f32) -> Signed
     ensures { λ r. ⌜ r ≡ shortOf x ⌝ }
-    ensures { λ r. ⌜ SizeBelow 257 r ⌝ }
+    ensures { λ r. ⌜ SizeBelow tooFar r ⌝ }
 {
     if x < 0.0 {
         match short_size(-x) {

@@ -9,7 +9,7 @@ use Rattle.value.specs.Number.{usValues}
 use Rattle.pixel.specs.Painted.{painted}
 use Rattle.pixel.specs.Said.{shifted, Averaged, quarterShade}
 use Rattle.pixel.proofs.Laws.{full, cells-fit, frame-facts, frame-row, native-run, row-end, painted-none, painted-length}
-use Rattle.pixel.proofs.Quarters.{fourths}
+use Rattle.pixel.proofs.Places.{fourths}
 use Rattle.pixel.proofs.Blend.{weights-total, averages, averaged-copy, row-blended, next-row}
 use Rattle.pixel.proofs.blend_rows.Statement.{statement}
 use Rattle.pixel.proofs.blend_rows.Tie as tie
