@@ -50,7 +50,7 @@ use Rattle.steps.specs.declared.Applying.the-variants.{Item, Nothing}
 use Rattle.steps.specs.Given.{need, check, then, collect}
 use Rattle.steps.specs.Steps.{Picture, Mask, native, masked, geometryOf, pixelsOf, applyingTo, averageFrames, tidFrame, naming, ownIn, itemAt, shiftFrom, shiftFor, movesFor, onTid, maskBy, maskOn, maskFor, windowFor, inverseOf, shaded, nativeCell, maskedCell, areFrames, pictureBy, stepsOf}
 use Rattle.display.specs.Demand3.{Bytes}
-use Rattle.display.specs.Before.{wasShiftAt, shiftFitted, rule35Before, wasShiftItem, wasShiftGroup, item37Before, rule37Before, ruleBefore, AcceptedBefore, movesBefore, onTidBefore, maskByBefore, maskOnBefore, maskForBefore, maskedCellBefore, pictureBefore, stepsBefore}
+use Rattle.display.specs.Before.{wasShiftAt, shiftFitted, rule35Before, wasShiftItem, wasShiftGroup, item37Before, rule37Before, ruleBefore, AcceptedBefore, movesBefore, onTidBefore, maskByBefore, maskOnBefore, maskForBefore, maskedCellBefore, pictureBefore, stepsBefore, DrawnAlike, Kept, KeepsPictures, SamePictures}
 use Rattle.display.proofs.Given.{never, check-some, then-some}
 use Rattle.display.proofs.Small.{us-in-small}
 use Rattle.display.proofs.Objects.{object, windowed}
@@ -206,9 +206,9 @@ module _ (ns : List Node) (f : ℕ) (g : Geometry) (v : List ℕ) (w : Window) (
   same-steps m e = to-before m e ∙ picture-same g v f w inverse m ∙ sym (to-picture (now m) (mask-for-now ns f m e))
 
 -- Where the steps of whole pixels give a picture, for any data set, those of quarters give the same.
-pub same-picture : (ns : List Node) (f : ℕ) (p : Picture) → stepsBefore ns f ≡ some p → stepsOf ns f ≡ some p
+pub same-pictures : SamePictures
 unfolding stepsBefore
-same-picture ns f p e =
+same-pictures ns f p e =
     let g = then-some (geometryOf ns) _ e in
     let v = then-some (pixelsOf ns) _ (g .1 .1) in
     let t = check-some (isFrame (g .0) (v .0) f) _ (v .1 .1) in
@@ -318,12 +318,8 @@ module _ (ns : List Node) (ok : AcceptedBefore ns) (n : ℕ) (count : framesOf n
   mask-had m e = on (applyingTo ns f) (applies ns f n (r31 ns (still-accepted ns ok)) (ranges ns (still-accepted ns ok) n count)) m e
 
 -- An object accepted before is accepted still, and its pictures are the same, cell for cell.
-pub record Kept (s : List ℕ) : Type 0 where
-  pub accepted : findingOf (nodesOf s) ≡ Accepted
-  pub pictures : (f : ℕ) → 1 ≤ f → f ≤ numberOf (framesOf (nodesOf s)) → (p : Picture) × ((stepsBefore (nodesOf s) f ≡ some p) × (stepsOf (nodesOf s) f ≡ some p))
-
-pub kept : (s : List ℕ) → Bytes s → AcceptedBefore (nodesOf s) → Kept s
-kept s b ok =
+pub keeps-pictures : KeepsPictures
+keeps-pictures s b ok =
     let ns = nodesOf s in
     let now-ok = still-accepted ns ok in
     let o = object ns (λ tag k e. us-in-small s b tag k (root ns) e) now-ok in
@@ -335,5 +331,9 @@ kept s b ok =
           let w = windowed ns now-ok o f low h in
           let m = masking ns now-ok (o .n) (o .frames) (o .some-frame) (o .few-frames) f low h in
           let k = mask-had ns ok (o .n) (o .frames) f low h (m .m) (m .mask) in
-          (d .p, (same-steps ns f (o .g) (o .v) (w .w) (o .inverse) (o .geometry) (o .pixels) (o .whole f low h) (w .window) (o .photometric) (k .0) (k .1) ∙ d .is, d .is));
+          record {
+            p = d .p;
+            before = same-steps ns f (o .g) (o .v) (w .w) (o .inverse) (o .geometry) (o .pixels) (o .whole f low h) (w .window) (o .photometric) (k .0) (k .1) ∙ d .is;
+            now = d .is;
+          };
     }

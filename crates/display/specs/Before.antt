@@ -1,5 +1,10 @@
--- Rules 35 and 37 and drawing step 4 as they were before quarters, with shifts of whole pixels: what the claim that an
--- accepted object keeps its pictures speaks of (`proofs/Before`). Everything else is as now. No code follows these definitions.
+-- Objects accepted before quarters keep their verdict and their pictures, as one statement (`KeepsPictures`, at the end). Take
+-- rules 35 and 37 and drawing step 4 as they were, with shifts of whole pixels, and everything else as it is now. Take any
+-- data set in which every rule held so, at every frame at which it is asked. Then it is accepted now; and for every frame of
+-- it the steps as they were give a picture, and the steps of now give that same picture, masked or native, cell for cell.
+-- The second statement asks for no acceptance (`SamePictures`): wherever the steps as they were give a picture, of any data
+-- set at any frame number, the steps of now give it too. The old rules and the old step stand here for these statements
+-- alone; no code follows them. The proofs stand in proofs/Before.
 use Prim.Native.Nat.{ℕ, _+_, _-_, _*_, _^_, _≤_, _<_}
 use mathlib.Core.Path.{_≡_}
 use mathlib.Core.Bool.{Bool, true, false, cond, _&&_}
@@ -16,16 +21,17 @@ use Rattle.value.specs.Number.{isNumber}
 use Rattle.shift.specs.declared.Moves.{Moves}
 use Rattle.shift.specs.Whole.{wholeMovesOf, isWholeShift}
 use Rattle.verdict.specs.Verdict.{lastRule}
-use Rattle.node.specs.Nodes.{Node, nodeAt, inside}
+use Rattle.node.specs.Nodes.{Node, nodesOf, nodeAt, inside}
 use Rattle.node.specs.Find.{holds, ifPresent, find, findVr}
 use Rattle.element.specs.Tags
 use Rattle.element.specs.Tags.{FL}
 use Rattle.element.specs.Elements.{valueAt, every}
-use Rattle.element.specs.Frames.{groupOf, maskItems}
+use Rattle.element.specs.Frames.{framesOf, groupOf, maskItems}
 use Rattle.rules.specs.Frame.{atFrame, hasId, uniqueIds}
 use Rattle.rules.specs.Mask.{operationIs}
 use Rattle.rules.specs.All.{ruleAt}
-use Rattle.conformance.specs.Judging.{firstFrame, frameCount}
+use Rattle.conformance.specs.declared.Finding.the-variants.{Accepted}
+use Rattle.conformance.specs.Judging.{numberOf, firstFrame, frameCount, findingOf}
 use Rattle.pixel.specs.declared.Geometry.{Geometry}
 use Rattle.pixel.specs.Pixel.{samplesOf, isFrame, sampleAt, maskAt}
 use Rattle.pixel.specs.Whole.{sourceOf}
@@ -34,7 +40,8 @@ use Rattle.window.specs.Window.{levelOf, levelHalf}
 use Rattle.steps.specs.declared.Applying.{Applying}
 use Rattle.steps.specs.declared.Applying.the-variants.{Item, Nothing}
 use Rattle.steps.specs.Given.{check, then, collect}
-use Rattle.steps.specs.Steps.{Picture, Mask, native, masked, geometryOf, pixelsOf, applyingTo, averageFrames, tidFrame, shiftFor, windowFor, inverseOf, shaded, nativeCell, areFrames}
+use Rattle.steps.specs.Steps.{Picture, Mask, native, masked, geometryOf, pixelsOf, applyingTo, averageFrames, tidFrame, shiftFor, windowFor, inverseOf, shaded, nativeCell, areFrames, stepsOf}
+use Rattle.display.specs.Demand3.{Bytes}
 
 -- ---- Rule 35: two whole numbers in -64..64
 
@@ -120,3 +127,21 @@ stepsBefore ns f =
     then (windowFor ns f (g .stored)) (λ w.
     then (inverseOf ns) (λ inverse.
     pictureBefore g v f w inverse m))))))
+
+-- ---- The statements
+
+-- The steps as they were and the steps of now give the same picture.
+pub record DrawnAlike (ns : List Node) (f : ℕ) : Type 0 where
+  pub p : Picture
+  pub before : stepsBefore ns f ≡ some p
+  pub now : stepsOf ns f ≡ some p
+
+pub record Kept (s : List ℕ) : Type 0 where
+  pub accepted : findingOf (nodesOf s) ≡ Accepted
+  pub pictures : (f : ℕ) → 1 ≤ f → f ≤ numberOf (framesOf (nodesOf s)) → DrawnAlike (nodesOf s) f
+
+abbrev pub KeepsPictures : Type 0
+KeepsPictures = (s : List ℕ) → Bytes s → AcceptedBefore (nodesOf s) → Kept s
+
+abbrev pub SamePictures : Type 0
+SamePictures = (ns : List Node) (f : ℕ) (p : Picture) → stepsBefore ns f ≡ some p → stepsOf ns f ≡ some p

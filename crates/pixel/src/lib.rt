@@ -4,9 +4,11 @@ ghost use Prim.Native.Nat.{ℕ, _+_, _-_, _*_, _/_, _^_, _≤_, _<_, min};
 ghost use lib.ListN.{length, getD};
 ghost use Rattle.value.specs.Said.{SizeBelow};
 ghost use Rattle.value.specs.Number.{usValues};
+ghost use Rattle.shift.specs.Shift.{largestShift};
+ghost use Rattle.shift.specs.Said.{tooFar};
 ghost use Rattle.pixel.specs.Pixel.{samplesOf, isFrame, averageOf, weightsOf, blendOf};
 ghost use Rattle.pixel.specs.Painted.{painted, nativeShade, maskedShade};
-ghost use Rattle.pixel.specs.Said.{Ready, Masks, MaskedReady, Small, Shaped, cellAt, Lies, Row, OffsetOf, shifted, Summed, Spread, Averaged, Cells, Weights, paintedFrom, rowShade, offsetShade, blendShade, quarterShade, Drawn, RowsReady, Blended, BlendReady};
+ghost use Rattle.pixel.specs.Said.{edges, Ready, Masks, MaskedReady, Small, Shaped, cellAt, Lies, Row, OffsetOf, shifted, Summed, Spread, Averaged, Cells, Weights, paintedFrom, rowShade, offsetShade, blendShade, quarterShade, Drawn, RowsReady, Blended, QuartersReady, BlendReady};
 use dataset::u16_at;
 use dataset::wide;
 use shift::Moves;
@@ -27,13 +29,17 @@ const SCALE: usize = 4294967296;
 // The largest move to either side, and so the room at either edge of a row.
 const MARGIN: usize = 64;
 
-// The same in quarters of a pixel.
+// Moves and offsets count quarters of a pixel.
 const UNIT: usize = 4;
 
-const MOST: usize = 256;
+// The largest move in quarters.
+const MOST: usize = UNIT * MARGIN;
 
 // A row's room beside its columns: the two edges, and one place more for the right neighbour.
-const EDGES: usize = 129;
+const EDGES: usize = 2 * MARGIN + 1;
+
+// The longest row with its edges.
+const LONGEST: usize = 65535 + EDGES;
 
 // ---- Frames
 
@@ -98,9 +104,9 @@ fn at_most(i: usize, most: usize) -> usize
     if i <= most { i } else { most }
 }
 
-// The offset of a move, in quarters: 256 less it, since a move down or to the right takes samples from above or from the left.
+// The offset of a move, in quarters: the largest move less it, since a move down or to the right takes samples from above or from the left.
 fn offset_of(m: Signed) -> usize
-    requires { ⌜ SizeBelow 257 m ⌝ }
+    requires { ⌜ SizeBelow tooFar m ⌝ }
     ensures { λ r. ⌜ OffsetOf m r ⌝ }
 {
     match m {
@@ -112,7 +118,7 @@ fn offset_of(m: Signed) -> usize
 
 // Where place i comes to by an offset, of `size` places.
 fn moved(s: usize, size: usize, i: usize) -> usize
-    requires { ⌜ (i < size) × ((size ≤ 65535) × (s ≤ 129)) ⌝ }
+    requires { ⌜ (i < size) × ((size ≤ 65535) × (s ≤ edges)) ⌝ }
     ensures { λ r. ⌜ (r ≡ shifted s size i) × (r < size) ⌝ }
 {
     at_most(less(i + s, MARGIN), size - 1)
@@ -160,8 +166,8 @@ fn sum_row(pixels: &[u8], g: Geometry, masks: &[u8], row: usize, sums: &mut [u32
 
 // Puts the first sum before the row, and the last one behind it, so that no edge is met in drawing.
 fn spread(columns: usize, sums: &mut [u32])
-    requires { ⌜ (1 ≤ columns) × (columns + 129 ≤ length (now sums)) ⌝ }
-    ensures { λ _. ⌜ ((j : ℕ) → j < columns + 129 → getD (now (sums .exit)) j 0 ≡ getD (now (sums .entry)) (64 + min (j - 64) (columns - 1)) 0) ⌝ }
+    requires { ⌜ (1 ≤ columns) × (columns + edges ≤ length (now sums)) ⌝ }
+    ensures { λ _. ⌜ ((j : ℕ) → j < columns + edges → getD (now (sums .exit)) j 0 ≡ getD (now (sums .entry)) (largestShift + min (j - largestShift) (columns - 1)) 0) ⌝ }
 {
     let first = sums[MARGIN];
     let end = MARGIN + columns;
@@ -172,7 +178,7 @@ fn spread(columns: usize, sums: &mut [u32])
 
 // The sums of the mask frames' samples in a row, with its edges.
 fn mask_row(pixels: &[u8], g: Geometry, masks: &[u8], row: usize, sums: &mut [u32])
-    requires { ⌜ Shaped g × (Masks (now pixels) g (now masks) × ((row < g .rows) × (g .columns + 129 ≤ length (now sums)))) ⌝ }
+    requires { ⌜ Shaped g × (Masks (now pixels) g (now masks) × ((row < g .rows) × (g .columns + edges ≤ length (now sums)))) ⌝ }
     ensures { λ _. ⌜ Spread (now (pixels .entry)) g (usValues (now (masks .entry))) row (now (sums .exit)) ⌝ }
 {
     let margin = MARGIN;
@@ -261,7 +267,7 @@ fn average_all(n: usize, count: usize, sums: &mut [u32])
 
 // The averages of the mask frames' samples in a row, with its edges.
 fn average_row(pixels: &[u8], g: Geometry, masks: &[u8], row: usize, cells: &mut [u32])
-    requires { ⌜ Shaped g × (Masks (now pixels) g (now masks) × ((row < g .rows) × (g .columns + 129 ≤ length (now cells)))) ⌝ }
+    requires { ⌜ Shaped g × (Masks (now pixels) g (now masks) × ((row < g .rows) × (g .columns + edges ≤ length (now cells)))) ⌝ }
     ensures { λ _. ⌜ Averaged (now (pixels .entry)) g (usValues (now (masks .entry))) row (now (cells .exit)) ⌝ }
 {
     let columns = g.columns;
@@ -366,35 +372,8 @@ fn blend_rows(
     }
 }
 
-// Whole shifts: the one mask row that a row takes.
-fn paint_whole(
-    pixels: &[u8],
-    g: Geometry,
-    frame: usize,
-    masks: &[u8],
-    down: usize,
-    right: usize,
-    table: &[u8],
-    image: &mut [u8],
-)
-    requires { ⌜ Ready (now pixels) g frame (now table) (now image) × (Masks (now pixels) g (now masks) × ((down ≤ 128) × (right ≤ 128))) ⌝ }
-    ensures { λ _. ⌜ now (image .exit) ≡ painted (offsetShade (now (table .entry)) g (now (pixels .entry)) frame (usValues (now (masks .entry))) down right) (samplesOf g) (now (image .entry)) ⌝ }
-{
-    let mut sums: [u32; 65664] = [0; 65664];
-    paint_rows(
-        pixels,
-        g,
-        frame,
-        masks,
-        down,
-        right,
-        table,
-        &mut sums,
-        image,
-    );
-}
-
-// Quarters: two mask rows, blended.
+// Paints a frame from two mask rows at a time, blended; `upper` is room for one of them. Two places call it, so that it stays
+// a function of its own: whole shifts then take no stack for the second row.
 fn paint_quarters(
     pixels: &[u8],
     g: Geometry,
@@ -403,13 +382,13 @@ fn paint_quarters(
     down: usize,
     right: usize,
     table: &[u8],
+    upper: &mut [u32],
     image: &mut [u8],
 )
-    requires { ⌜ Ready (now pixels) g frame (now table) (now image) × (Masks (now pixels) g (now masks) × ((down ≤ 512) × (right ≤ 512))) ⌝ }
+    requires { ⌜ QuartersReady (now pixels) g frame (now masks) down right (now table) (now upper) (now image) ⌝ }
     ensures { λ _. ⌜ now (image .exit) ≡ painted (quarterShade (now (table .entry)) g (now (pixels .entry)) frame (usValues (now (masks .entry))) down right) (samplesOf g) (now (image .entry)) ⌝ }
 {
-    let mut upper: [u32; 65664] = [0; 65664];
-    let mut lower: [u32; 65664] = [0; 65664];
+    let mut lower: [u32; LONGEST] = [0; LONGEST];
     blend_rows(
         pixels,
         g,
@@ -418,10 +397,47 @@ fn paint_quarters(
         down,
         right,
         table,
-        &mut upper,
+        upper,
         &mut lower,
         image,
     );
+}
+
+// Paints a frame by two offsets in quarters; `row` is room for a row and its edges. A whole shift takes one mask row for
+// each row, any other two.
+fn paint_by(
+    pixels: &[u8],
+    g: Geometry,
+    frame: usize,
+    masks: &[u8],
+    down: usize,
+    right: usize,
+    table: &[u8],
+    row: &mut [u32],
+    image: &mut [u8],
+)
+    requires { ⌜ QuartersReady (now pixels) g frame (now masks) down right (now table) (now row) (now image) ⌝ }
+    ensures { λ _. ⌜ now (image .exit) ≡ painted (quarterShade (now (table .entry)) g (now (pixels .entry)) frame (usValues (now (masks .entry))) down right) (samplesOf g) (now (image .entry)) ⌝ }
+{
+    if down % UNIT == 0 {
+        if right % UNIT == 0 {
+            paint_rows(
+                pixels,
+                g,
+                frame,
+                masks,
+                down / UNIT,
+                right / UNIT,
+                table,
+                row,
+                image,
+            );
+        } else {
+            paint_quarters(pixels, g, frame, masks, down, right, table, row, image);
+        }
+    } else {
+        paint_quarters(pixels, g, frame, masks, down, right, table, row, image);
+    }
 }
 
 // Paints a frame with the average of mask frames taken from it, moved by quarters.
@@ -441,18 +457,6 @@ pub fn paint_masked(
     let horizontal = moves.horizontal;
     let down = offset_of(vertical);
     let right = offset_of(horizontal);
-    if down % UNIT + right % UNIT == 0 {
-        paint_whole(
-            pixels,
-            g,
-            frame,
-            masks,
-            down / UNIT,
-            right / UNIT,
-            table,
-            image,
-        );
-    } else {
-        paint_quarters(pixels, g, frame, masks, down, right, table, image);
-    }
+    let mut row: [u32; LONGEST] = [0; LONGEST];
+    paint_by(pixels, g, frame, masks, down, right, table, &mut row, image);
 }

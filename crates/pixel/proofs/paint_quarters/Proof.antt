@@ -1,5 +1,4 @@
--- The two rows of averages have room for a row and its edges.
-use native.Mathlib.Omega.{arith}
+-- The second row has room for a row and its edges, as the first one.
 use borrow.Author.Needs.{needs}
 use Rattle.pixel.proofs.paint_quarters.Statement.{statement}
 use Rattle.pixel.proofs.paint_quarters.Tie as tie
@@ -7,22 +6,22 @@ use Rattle.pixel.proofs.paint_quarters.Tie as tie
 slice-aggregate-blend-rows : tie.Need-slice-aggregate-blend-rows
 slice-aggregate-blend-rows c = search needs
 
-slice-aggregate-blend-rows-2 : tie.Need-slice-aggregate-blend-rows-2
-slice-aggregate-blend-rows-2 c = search needs
-
 blend-rows-requires : tie.Need-blend-rows-requires
 blend-rows-requires c κs =
     record {
-      ready = c .before .before .before .before .before .before .before .pre .0;
-      taken = c .before .before .before .before .before .before .before .pre .1 .0;
-      down-most = c .before .before .before .before .before .before .before .pre .1 .1 .0;
-      right-most = c .before .before .before .before .before .before .before .pre .1 .1 .1;
-      above = search needs;
+      ready = c .before .before .before .before .before .before .before .before .pre .ready;
+      taken = c .before .before .before .before .before .before .before .before .pre .taken;
+      down-most = c .before .before .before .before .before .before .before .before .pre .down-most;
+      right-most = c .before .before .before .before .before .before .before .before .pre .right-most;
+      above = c .before .before .before .before .before .before .before .before .pre .long;
       below = search needs;
     }
 
 same-length : tie.Need-same-length
 same-length c = search needs
+
+same-length-2 : tie.Need-same-length-2
+same-length-2 c = search needs
 
 returns : tie.Need-returns
 returns c = search needs
@@ -32,7 +31,7 @@ paint-quarters-spec =
     tie.close
     (tie.spec
     slice-aggregate-blend-rows
-    slice-aggregate-blend-rows-2
     blend-rows-requires
     same-length
+    same-length-2
     returns)
