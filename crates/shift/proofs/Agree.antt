@@ -19,7 +19,7 @@ use Rattle.shift.specs.declared.Shift.the-variants as shift
 use Rattle.shift.specs.declared.Moves.{Moves}
 use Rattle.shift.specs.Shift.{shiftUnit, largestShift, signedSize, quartersOf, isShort, movesOf, isShiftOf, itemShift, frameShift, isShift}
 use Rattle.shift.proofs.Laws.{same-of}
-use Rattle.shift.specs.Agree.{SameMoves, StillShift, Agree, AgreeBeyond}
+use Rattle.shift.specs.Agree.{SameMoves, StillShift, Agree, AgreeRule, AgreeBeyond}
 use Rattle.shift.specs.Whole.{wholeOf, wholeMovesOf, isShortWhole, isWholeShiftOf, isWholeShift, inQuarters, movesInQuarters}
 
 never : true ≡ false → ⊥
@@ -73,10 +73,23 @@ short-number (Plus n) h = refl
 short-number (Minus n) h = refl
 short-number Lacks h = h
 
+-- In quarters the limit is the same.
+same-limit : (n : ℕ) → leb (4 * n) 256 ≡ leb n 64
+same-limit n = go (leb n 64) (leb (4 * n) 256) refl refl
+  where
+    go : (t u : Bool) → leb n 64 ≡ t → leb (4 * n) 256 ≡ u → u ≡ t
+    go true true p q = refl
+    go false false p q = refl
+    go true false p q = absurd (never (sym (le-leb (4 * n) 256 (omega (arith, leb-true n 64 p))) ∙ q))
+    go false true p q = absurd (never (sym (le-leb n 64 (omega (arith, leb-true (4 * n) 256 q))) ∙ p))
+
+short-same : (w : Signed) → isShort (inQuarters w) ≡ isShortWhole w
+short-same (Plus n) = same-limit n
+short-same (Minus n) = same-limit n
+short-same Lacks = refl
+
 short-quarters : (w : Signed) → isShortWhole w ≡ true → isShort (inQuarters w) ≡ true
-short-quarters (Plus n) h = le-leb (4 * n) 256 (omega (arith, leb-true n largestShift h))
-short-quarters (Minus n) h = le-leb (4 * n) 256 (omega (arith, leb-true n largestShift h))
-short-quarters Lacks h = h
+short-quarters w h = short-same w ∙ h
 
 -- ---- A shift
 
@@ -111,6 +124,12 @@ whole-item v h = both (eqb (length v) 8) (isWholeShiftOf (itemShift v)) h .1
 pub whole-frame : (v : List ℕ) → isWholeShift v ≡ true → isWholeShiftOf (frameShift v) ≡ true
 unfolding isWholeShiftOf wholeMovesOf
 whole-frame v h = sym (same-of isWholeShiftOf (λ a b. refl) v) ∙ whole-item v h
+
+pub agree-rule : AgreeRule
+unfolding isShift isWholeShift isShiftOf isWholeShiftOf
+agree-rule v p q =
+    let s : Shift = itemShift v in
+    rw (whole-moves s p q, short-same (wholeMovesOf s .vertical), short-same (wholeMovesOf s .horizontal))
 
 pub agree : Agree
 agree v h =
