@@ -1,4 +1,4 @@
-"""Drawing frame f: document 01, steps 1 to 7, computed with whole numbers and fractions.
+"""Drawing frame f: document 01, steps 1 to 7, with Q-4 of document 02, computed with whole numbers and fractions.
 
 The steps are defined for every data set that reads well, accepted or not, so no rule is taken for granted here: what a
 step needs and does not find raises Lacking. A step that is not taken needs nothing.
@@ -146,7 +146,9 @@ def mask_frame_numbers(item):
 
 
 def average_mask(item, pixels):
-    frames = [pixels.frame(number) for number in mask_frame_numbers(item)]
+    numbers = mask_frame_numbers(item)
+    known = {number: pixels.frame(number) for number in numbers}
+    frames = [known[number] for number in numbers]
     return [[average([frame[row][column] for frame in frames]) for column in range(pixels.columns)]
             for row in range(pixels.rows)]
 
@@ -198,24 +200,31 @@ def limited(number, low, high):
     return max(low, min(high, number))
 
 
+def parted(number):
+    """The whole number below a number of whole quarters, and the quarters above it: 0 to 3, also where it is negative."""
+    whole = floor(number)
+    return whole, int(4 * (number - whole))
+
+
 def blended(mask, row, column):
-    """Step 4. a and b are the quarters of `row` and `column` above the whole row and column. The mask value is the sum
-    over the four neighbouring mask cells, with weights (4-a)(4-b), (4-a)b, a(4-b) and ab, in reading order from that
-    whole row and column, plus 8, divided by 16, rounded down; each neighbour is limited to the edge."""
-    top, left = floor(row), floor(column)
-    a, b = 4 * (row - top), 4 * (column - left)
-    total = Fraction(8)
-    for r, c, weight in ((top, left, (4 - a) * (4 - b)), (top, left + 1, (4 - a) * b),
-                         (top + 1, left, a * (4 - b)), (top + 1, left + 1, a * b)):
-        total += weight * mask[limited(r, 0, len(mask) - 1)][limited(c, 0, len(mask[0]) - 1)]
-    return floor(total / 16)
+    """Step 4, Q-4. "Let a and b be the quarters of row r - v and column c - h above the whole row and column. The mask
+    value is the sum over the four neighbouring mask cells, with weights (4-a)(4-b), (4-a)b, a(4-b) and ab, in reading
+    order from that whole row and column, plus 8, divided by 16, rounded down; each neighbour is limited to the edge."
+
+    `row` and `column` are parted."""
+    (top, a), (left, b) = row, column
+    neighbours = ((top, left, (4 - a) * (4 - b)), (top, left + 1, (4 - a) * b),
+                  (top + 1, left, a * (4 - b)), (top + 1, left + 1, a * b))
+    total = sum(weight * mask[limited(r, 0, len(mask) - 1)][limited(c, 0, len(mask[0]) - 1)] for r, c, weight in neighbours)
+    return (total + 8) // 16
 
 
 def shifted(mask, pair):
-    """Step 4. Vertical v, horizontal h: cell (r, c) takes the mask at (r - v, c - h)."""
+    """Step 4. Vertical v, horizontal h: cell (r, c) takes the mask at row r - v and column c - h."""
     vertical, horizontal = pair
-    columns = len(mask[0]) if mask else 0
-    return [[blended(mask, row - vertical, column - horizontal) for column in range(columns)] for row in range(len(mask))]
+    rows = [parted(row - vertical) for row in range(len(mask))]
+    columns = [parted(column - horizontal) for column in range(len(mask[0]) if mask else 0)]
+    return [[blended(mask, row, column) for column in columns] for row in rows]
 
 
 def mask_samples(root, frame, pixels):
@@ -238,7 +247,7 @@ def mask_samples(root, frame, pixels):
 
 def half_of_range(stored):
     """2^(stored - 1), which is 1/2 for 0 bits stored."""
-    return Fraction(2 ** stored, 2)
+    return 2 ** (stored - 1) if stored else Fraction(1, 2)
 
 
 def subtracted(sample, mask, stored):

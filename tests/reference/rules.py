@@ -60,7 +60,7 @@ def one_item(items):
 
 
 def small_shift(level):
-    """A Mask Sub-pixel Shift as rule 35 asks it: FL, two whole multiples of 1/4 in -64..64."""
+    """A Mask Sub-pixel Shift as rule 35 asks it: FL, two whole multiples of 1/4 from -64 to 64."""
     pair = level.quarter_pair(tags.MASK_SUB_PIXEL_SHIFT)
     return pair is not None and all(-64 <= number <= 64 for number in pair)
 
@@ -324,7 +324,7 @@ def rule_34(root):
 
 
 def rule_35(root):
-    """Mask Sub-pixel Shift (0028,6114) FL in a mask item, if present, two whole numbers in -64..64 (D)."""
+    """Mask Sub-pixel Shift (0028,6114) FL in a mask item, if present, two whole multiples of 1/4 from -64 to 64 (D, Q-4)."""
     return all(small_shift(item) for item in mask_items(root) if item.present(tags.MASK_SUB_PIXEL_SHIFT))
 
 
