@@ -99,8 +99,8 @@ static picture plan(uint32_t frame)
         stop("not an object for this benchmark", "drawing");
     for (unsigned k = 0; k < p.masks; k++)
         p.mask[k] = us(numbers, k);
-    p.vertical = (int32_t)fl(shift, 0);
-    p.horizontal = (int32_t)fl(shift, 1);
+    p.vertical = (int32_t)(4 * fl(shift, 0));
+    p.horizontal = (int32_t)(4 * fl(shift, 1));
     p.centre = thousandths(in_item(voi, 0x00281050));
     p.window = thousandths(in_item(voi, 0x00281051));
     p.inverse = memcmp(value(in_root(0x00280004)), "MONOCHROME1", 11) == 0;
@@ -127,7 +127,7 @@ int main(int argc, char **argv)
     picture p = plan(frame);
     size_t cells = p.height * p.width;
     uint8_t *image = touched(cells, 0xA5);
-    uint32_t *lines = touched(2 * p.width * sizeof *lines, 0);
+    uint32_t *lines = touched(3 * p.width * sizeof *lines, 0);
     draw(&p, image, table, lines);
     FILE *out = fopen(argv[3], "wb");
     if (out == NULL || fwrite(image, 1, cells, out) != cells || fclose(out) != 0)
@@ -159,8 +159,8 @@ int main(int argc, char **argv)
     for (int n = 0; n < REPETITIONS; n++)
         ratios[n] = (times[1][n] - times[2][n]) / times[0][n];
     printf("ratio %.4f\n", median(ratios, REPETITIONS));
-    printf("cells %zu\nstored %u\nmasks %u\nvertical %d\nhorizontal %d\n", cells, p.stored, p.masks, p.vertical,
-           p.horizontal);
+    printf("cells %zu\nstored %u\nmasks %u\nvertical %.2f\nhorizontal %.2f\n", cells, p.stored, p.masks,
+           p.vertical / 4.0, p.horizontal / 4.0);
     printf("draw %.0f\n", median(times[0], REPETITIONS));
 #ifdef HAVE_XA_SHOW
     printf("xa_show %.0f\n", median(times[1], REPETITIONS));

@@ -25,20 +25,26 @@ class Picture(ctypes.Structure):
 
 
 def steps(pixels, p):
-    """Steps 1 and 3 to 7 for AVG_SUB."""
+    """Steps 1 and 3 to 7 for AVG_SUB, shifts in quarters."""
     height, width, stored, n = p.height, p.width, p.stored, p.masks
     samples = struct.unpack("<%dH" % (len(pixels) // 2), pixels)
 
     def cell(frame, row, column):
         return samples[((frame - 1) * height + row) * width + column] % 2 ** stored
 
+    def mean(row, column):
+        """The average of the mask frames, the row and the column limited to the picture's edges."""
+        total = sum(cell(p.mask[k], min(max(row, 0), height - 1), min(max(column, 0), width - 1)) for k in range(n))
+        return (2 * total + n) // (2 * n)
+
     image = []
     for r in range(height):
         for c in range(width):
-            row = min(max(r - p.vertical, 0), height - 1)
-            column = min(max(c - p.horizontal, 0), width - 1)
-            total = sum(cell(p.mask[k], row, column) for k in range(n))
-            x = cell(p.frame, r, c) - (2 * total + n) // (2 * n) + 2 ** (stored - 1)
+            row, a = divmod(4 * r - p.vertical, 4)
+            column, b = divmod(4 * c - p.horizontal, 4)
+            mask = ((4 - a) * (4 - b) * mean(row, column) + (4 - a) * b * mean(row, column + 1)
+                    + a * (4 - b) * mean(row + 1, column) + a * b * mean(row + 1, column + 1) + 8) // 16
+            x = cell(p.frame, r, c) - mask + 2 ** (stored - 1)
             if 2000 * x <= 2 * p.centre - p.window:
                 y = 0
             elif 2000 * x > 2 * p.centre + p.window - 2000:
@@ -56,11 +62,11 @@ def chosen(source):
     n = source.choice((1, 2, 3, 4, 5, 7, 8, 9, 63, 64, source.randrange(1, 65)))
     size = 2 * frames * height * width
     pixels = b"\xFF" * size if source.random() < 0.1 else source.randbytes(size)
-    farthest = source.choice((0, 1, 3, 64))
+    farthest, step = source.choice((0, 1, 3, 64)), source.choice((1, 4))
     return pixels, Picture(
         pixels, height, width, stored, source.randrange(1, frames + 1), n,
         (ctypes.c_uint32 * 64)(*[source.randrange(1, frames + 1) for _ in range(n)]),
-        source.randint(-farthest, farthest), source.randint(-farthest, farthest),
+        *[step * source.randint(-farthest * 4 // step, farthest * 4 // step) for _ in range(2)],
         source.randint(-1000, 1000 * 2 ** stored),
         source.choice((1000, 1001, 2000, source.randint(1000, 1000 * 2 ** stored))),
         source.randrange(2))
@@ -77,7 +83,7 @@ def main():
         for number in range(count):
             pixels, p = chosen(source)
             image = ctypes.create_string_buffer(p.height * p.width)
-            draw(ctypes.byref(p), image, ctypes.create_string_buffer(131072), (ctypes.c_uint32 * (2 * p.width))())
+            draw(ctypes.byref(p), image, ctypes.create_string_buffer(131072), (ctypes.c_uint32 * (3 * p.width))())
             if image.raw != steps(pixels, p):
                 sys.exit("differ at picture %d" % number)
     print("%d pictures agree" % count)

@@ -1,5 +1,5 @@
-/* Steps 1 to 7 of document 01's drawing for AVG_SUB, as fast as plain C makes them: a level for each x in a table, no
-   division in a cell, rows handled whole, clamped edges outside the inner loop. See draw.h. */
+/* Steps 1 to 7 of document 01's drawing for AVG_SUB, with Q-4's quarters, as fast as plain C makes them: a level for each x
+   in a table, no division in a cell but by 16, rows handled whole, clamped edges outside the inner loop. See draw.h. */
 
 #include "draw.h"
 
@@ -72,27 +72,30 @@ static size_t limited(int64_t value, size_t count)
     return value < 0 ? 0 : (size_t)value >= count ? count - 1 : (size_t)value;
 }
 
-void draw(const picture *p, uint8_t *image, uint8_t *table, uint32_t *lines)
+enum { UNIT = 4 };
+
+/* The whole number below a number of quarters. */
+static int64_t whole_below(int64_t quarters)
+{
+    return quarters >= 0 ? quarters / UNIT : -((UNIT - 1 - quarters) / UNIT);
+}
+
+/* Whole shifts, by `down` and `right` cells: one mask cell for each cell. */
+static void draw_whole(const picture *p, int64_t down, int64_t right, uint8_t *image, const uint8_t *levels, uint32_t *lines)
 {
     const uint32_t bits = (1u << p->stored) - 1;
     const size_t width = p->width;
     uint32_t *mean = lines, *sums = lines + width;
 
-    /* The place of x in the table is sample - mask + bits, from 0 to 2 * bits. */
-    for (uint32_t place = 0; place <= 2 * bits; place++)
-        table[place] = level_of(p, (int64_t)place - bits + (INT64_C(1) << (p->stored - 1)));
-    const uint8_t *levels = table + bits;
-
-    /* Columns before `from` take the mask's first cell, those from `to` on its last, those between cell c - h. */
-    const int64_t h = p->horizontal;
-    const size_t from = limited(h, width + 1);
-    size_t to = limited((int64_t)width + h, width + 1);
+    /* Columns before `from` take the mask's first cell, those from `to` on its last, those between cell c - right. */
+    const size_t from = limited(right, width + 1);
+    size_t to = limited((int64_t)width + right, width + 1);
     if (to < from)
         to = from;
 
     size_t averaged = SIZE_MAX;
     for (size_t row = 0; row < p->height; row++) {
-        size_t source = limited((int64_t)row - p->vertical, p->height);
+        size_t source = limited((int64_t)row - down, p->height);
         if (source != averaged)
             average(p, source, mean, sums);
         averaged = source;
@@ -102,8 +105,76 @@ void draw(const picture *p, uint8_t *image, uint8_t *table, uint32_t *lines)
         for (; column < from; column++)
             out[column] = levels[(int32_t)((sample(line, column) & bits) - mean[0])];
         for (; column < to; column++)
-            out[column] = levels[(int32_t)((sample(line, column) & bits) - mean[(int64_t)column - h])];
+            out[column] = levels[(int32_t)((sample(line, column) & bits) - mean[(int64_t)column - right])];
         for (; column < width; column++)
             out[column] = levels[(int32_t)((sample(line, column) & bits) - mean[width - 1])];
     }
+}
+
+/* The blend of four mask cells: columns `left` and `right` of two rows, by weights in sixteenths. */
+static inline uint32_t blend(const uint32_t *upper, const uint32_t *lower, size_t left, size_t right, const uint32_t *weights)
+{
+    return (upper[left] * weights[0] + upper[right] * weights[1] + lower[left] * weights[2] + lower[right] * weights[3] + 8) / 16;
+}
+
+/* Any shift: four mask cells for each cell, from two rows of averages. What was the lower row is the upper row of the
+   next, so each mask row is averaged once. */
+static void draw_quarters(const picture *p, uint8_t *image, const uint8_t *levels, uint32_t *lines)
+{
+    const uint32_t bits = (1u << p->stored) - 1;
+    const size_t width = p->width;
+    uint32_t *upper = lines, *lower = lines + width, *sums = lines + 2 * width;
+    const int64_t dy = whole_below(-(int64_t)p->vertical), dx = whole_below(-(int64_t)p->horizontal);
+    const uint32_t a = (uint32_t)(-p->vertical - UNIT * dy), b = (uint32_t)(-p->horizontal - UNIT * dx);
+    const uint32_t weights[4] = {(UNIT - a) * (UNIT - b), (UNIT - a) * b, a * (UNIT - b), a * b};
+
+    /* Columns before `from` and from `to` on have a neighbour beyond an edge. */
+    const size_t from = limited(-dx, width + 1);
+    size_t to = limited((int64_t)width - 1 - dx, width + 1);
+    if (to < from)
+        to = from;
+
+    size_t averaged = SIZE_MAX;
+    for (size_t row = 0; row < p->height; row++) {
+        size_t first = limited((int64_t)row + dy, p->height), second = limited((int64_t)row + dy + 1, p->height);
+        if (first == averaged) {
+            uint32_t *swapped = upper;
+            upper = lower;
+            lower = swapped;
+        } else {
+            average(p, first, upper, sums);
+        }
+        if (second == first)
+            memcpy(lower, upper, width * sizeof *lower);
+        else
+            average(p, second, lower, sums);
+        averaged = second;
+        const uint8_t *line = line_of(p, p->frame, row);
+        uint8_t *out = image + row * width;
+        size_t column = 0;
+        for (; column < from; column++) {
+            size_t left = limited((int64_t)column + dx, width), right = limited((int64_t)column + dx + 1, width);
+            out[column] = levels[(int32_t)((sample(line, column) & bits) - blend(upper, lower, left, right, weights))];
+        }
+        for (; column < to; column++) {
+            size_t left = (size_t)((int64_t)column + dx);
+            out[column] = levels[(int32_t)((sample(line, column) & bits) - blend(upper, lower, left, left + 1, weights))];
+        }
+        for (; column < width; column++) {
+            size_t left = limited((int64_t)column + dx, width), right = limited((int64_t)column + dx + 1, width);
+            out[column] = levels[(int32_t)((sample(line, column) & bits) - blend(upper, lower, left, right, weights))];
+        }
+    }
+}
+
+void draw(const picture *p, uint8_t *image, uint8_t *table, uint32_t *lines)
+{
+    /* The place of x in the table is sample - mask + bits, from 0 to 2 * bits. */
+    const uint32_t bits = (1u << p->stored) - 1;
+    for (uint32_t place = 0; place <= 2 * bits; place++)
+        table[place] = level_of(p, (int64_t)place - bits + (INT64_C(1) << (p->stored - 1)));
+    if (p->vertical % UNIT == 0 && p->horizontal % UNIT == 0)
+        draw_whole(p, p->vertical / UNIT, p->horizontal / UNIT, image, table + bits, lines);
+    else
+        draw_quarters(p, image, table + bits, lines);
 }

@@ -15,12 +15,12 @@ typedef struct {
     uint32_t frame;
     unsigned masks;                  /* mask frames to be averaged, 1 to MASK_LIMIT */
     uint32_t mask[MASK_LIMIT];
-    int32_t vertical, horizontal;    /* -64 to 64 */
+    int32_t vertical, horizontal;    /* in quarters, -256 to 256 */
     int64_t centre, window;          /* in thousandths */
     int inverse;                     /* MONOCHROME1 */
 } picture;
 
-/* Fills height * width bytes. `table` has room for 131,072 bytes, `lines` for 2 * width numbers. */
+/* Fills height * width bytes. `table` has room for 131,072 bytes, `lines` for 3 * width numbers. */
 void draw(const picture *p, uint8_t *image, uint8_t *table, uint32_t *lines);
 
 #endif

@@ -48,7 +48,7 @@ def plan(data, rows, frame):
     return dict(
         frames=pixels.reshape(-1, height, width), frame=frame,
         stored=us(find(rows, -1, 0x00280101))[0], masks=us(find(rows, mask, 0x00286110)),
-        shift=[int(n) for n in struct.unpack_from("<2f", data, rows[shift][3])],
+        shift=[int(4 * n) for n in struct.unpack_from("<2f", data, rows[shift][3])],
         centre=round(float(text(find(rows, voi, 0x00281050))) * 1000),
         window=round(float(text(find(rows, voi, 0x00281051))) * 1000),
         inverse=text(find(rows, -1, 0x00280004)) == "MONOCHROME1")
@@ -61,9 +61,18 @@ def draw(frames, frame, stored, masks, shift, centre, window, inverse):
         total += frames[k - 1] & bits
     mean = (2 * total + n) // (2 * n)
     height, width = mean.shape
-    across = numpy.clip(numpy.arange(height) - shift[0], 0, height - 1)
-    along = numpy.clip(numpy.arange(width) - shift[1], 0, width - 1)
-    mean = mean[across][:, along]
+    (down, a), (right, b) = divmod(-shift[0], 4), divmod(-shift[1], 4)
+
+    def moved(by_rows, by_columns):
+        across = numpy.clip(numpy.arange(height) + down + by_rows, 0, height - 1)
+        along = numpy.clip(numpy.arange(width) + right + by_columns, 0, width - 1)
+        return mean[across][:, along]
+
+    if a == 0 and b == 0:
+        mean = moved(0, 0)
+    else:
+        mean = ((4 - a) * (4 - b) * moved(0, 0) + (4 - a) * b * moved(0, 1)
+                + a * (4 - b) * moved(1, 0) + a * b * moved(1, 1) + 8) // 16
     x = numpy.arange(2 * bits + 1, dtype=numpy.int64) - bits + (1 << (stored - 1))
     low = 2 * centre - window
     levels = (255 * (2000 * x - low) + window - 1000) // max(2 * (window - 1000), 1)

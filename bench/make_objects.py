@@ -123,7 +123,7 @@ def shared_item(encoder, full):
     return encoder.item(*groups)
 
 
-def frame_item(encoder, frame, full):
+def frame_item(encoder, frame, full, quarters):
     """The functional groups of one frame: 17 rows with the item's own, or 25 with `full`."""
     groups = []
     if full:
@@ -142,12 +142,13 @@ def frame_item(encoder, frame, full):
         element(0x00281050, "DS", "%d" % (2040 + frame % 17)),                # Window Center
         element(0x00281051, "DS", "%d.5" % (900 + frame % 201)))))            # Window Width
     groups.append(encoder.sequence(0x00289415, encoder.item(                  # Frame Pixel Shift
-        element(0x00286114, "FL", (frame % 5 - 2, frame % 7 - 3)),            # Mask Sub-pixel Shift
+        element(0x00286114, "FL", (                                           # Mask Sub-pixel Shift
+            frame % 5 - 2 + quarters[0] / 4, frame % 7 - 3 + quarters[1] / 4)),
         element(0x00289416, "US", 1))))                                       # Subtraction Item ID
     return encoder.item(*groups)
 
 
-def before_pixels(encoder, frames, rows, columns, full, leave_out, masks=4, stored=12):
+def before_pixels(encoder, frames, rows, columns, full, leave_out, masks=4, stored=12, quarters=(0, 0)):
     """All elements before Pixel Data."""
     mask_frames = [1 + k * (frames - 1) // max(masks - 1, 1) for k in range(min(masks, frames))]
     parts = [
@@ -212,7 +213,7 @@ def before_pixels(encoder, frames, rows, columns, full, leave_out, masks=4, stor
         element(0x20500020, "CS", "IDENTITY"),                    # Presentation LUT Shape
         encoder.sequence(0x52009229, shared_item(encoder, full)), # Shared Functional Groups
         encoder.sequence(0x52009230, *[                           # Per-frame Functional Groups
-            frame_item(encoder, f, full) for f in range(1, frames + 1) if f != leave_out]),
+            frame_item(encoder, f, full, quarters) for f in range(1, frames + 1) if f != leave_out]),
     ]
     return b"".join(parts)
 
@@ -228,9 +229,9 @@ def file_head(instance):
     return bytes(128) + b"DICM" + element(0x00020000, "UL", len(group)) + group
 
 
-def write(folder, name, frames, rows, columns, full, leave_out, lengths, masks, stored):
+def write(folder, name, frames, rows, columns, full, leave_out, lengths, masks, stored, quarters):
     instance = UID_ROOT + ".1.%d.%d" % (frames, leave_out)
-    front = before_pixels(Encoder(lengths), frames, rows, columns, full, leave_out, masks, stored)
+    front = before_pixels(Encoder(lengths), frames, rows, columns, full, leave_out, masks, stored, quarters)
     size = rows * columns * 2
     source = random.Random(83)
     # 16 different frames are enough; a long run repeats them. Unused high bits hold junk.
@@ -256,6 +257,8 @@ def main():
     parser.add_argument("--size", type=int, help="other Rows and Columns")
     parser.add_argument("--masks", type=int, default=4, help="how many mask frames, 1 to 64 (4)")
     parser.add_argument("--stored", type=int, default=12, help="Bits Stored, 9 to 16 (12)")
+    parser.add_argument("--quarters", type=int, nargs=2, default=(0, 0), metavar=("V", "H"),
+                        help="how many quarters more each shift has, down and to the right (0 0)")
     parser.add_argument("--lengths", choices=("defined", "undefined", "mixed"), default="defined")
     parser.add_argument("--name", help="name of the files, without ending (one frame count only)")
     chosen = parser.parse_args()
@@ -270,7 +273,7 @@ def main():
         if not chosen.name and chosen.lengths != "defined":
             name += "-" + chosen.lengths
         write(chosen.folder, name, frames, rows, columns, full,
-              chosen.leave_out, chosen.lengths, chosen.masks, chosen.stored)
+              chosen.leave_out, chosen.lengths, chosen.masks, chosen.stored, chosen.quarters)
 
 
 if __name__ == "__main__":

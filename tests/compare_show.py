@@ -163,7 +163,7 @@ def compare_window_edges(comparison, rng, rounds):
 
 def compare_shifts(comparison, rng, rounds):
     """Shifts of the item and of the frame, at small images and at one that is larger than the greatest shift."""
-    numbers = (0, 1, -1, 2, -2, 5, -5, 63, -63, 64, -64)
+    numbers = (0, 0.25, -0.25, 0.5, -0.5, 0.75, -0.75, 1, -1, 1.25, -1.75, 2, -2, 5.5, -5.25, 63, -63.75, 63.75, 64, -64)
     for number in range(rounds):
         rows, columns = rng.choice(((1, 1), (1, 9), (9, 1), (3, 5), (4, 4), (7, 6), (1, 2)))
         if number % 40 == 0:
@@ -174,7 +174,7 @@ def compare_shifts(comparison, rng, rounds):
         item[xa.MASK_FRAMES] = xa.us(1)
         item.pop(xa.SHIFT, None)
         pair = [float(rng.choice(numbers)), float(rng.choice(numbers))]
-        other = [float(rng.randrange(-64, 65)), rng.choice((0.0, -0.0))]
+        other = [rng.randrange(-256, 257) / 4, rng.choice((0.0, -0.0, rng.randrange(-256, 257) / 4))]
         kind = number % 5
         if kind in (0, 1, 2):
             item[xa.SHIFT] = xa.fl(*pair)  # 0: the item's alone
@@ -186,6 +186,85 @@ def compare_shifts(comparison, rng, rounds):
             for place in rng.choice((model[xa.SHARED][1], model[xa.PER_FRAME][1])):
                 place[xa.FRAME_SHIFT] = xa.sq(*members)
         check_every_frame(comparison, f"shift {pair}, frame's own {other}, kind {kind}", model, rng)
+
+
+def each_level_its_own(rng, model):
+    """Samples and a window so that every masked x is drawn as a level of its own: a mask that is off by one shows."""
+    stored = struct.unpack("<H", model[xa.BITS_STORED][1])[0]
+    size = 1 if stored == 8 else 2
+    low = rng.randrange(2 ** stored - 120)
+    length = len(model[xa.PIXEL_DATA][1])
+    samples = b"".join(rng.randrange(low, low + 120).to_bytes(size, "little") for _ in range(length // size))
+    model[xa.PIXEL_DATA] = (model[xa.PIXEL_DATA][0], samples)
+    model[xa.SHARED][1][0][xa.VOI] = xa.sq({xa.CENTER: xa.text("DS", str(2 ** (stored - 1))), xa.WIDTH: xa.text("DS", "256")})
+
+
+def moved(rng, model, pair, own):
+    """The mask is moved by this pair: by the frame's own where `own` says so, else by the mask item's."""
+    item = model[xa.MASKS][1][0]
+    if not own:
+        item[xa.SHIFT] = xa.fl(*pair)
+        return
+    item[xa.SHIFT] = xa.fl(*(rng.randrange(-256, 257) / 4 for _ in range(2)))
+    item[xa.ITEM_ID] = xa.us(7)
+    for place in rng.choice((model[xa.SHARED][1], model[xa.PER_FRAME][1])):
+        place[xa.FRAME_SHIFT] = xa.sq({xa.ITEM_ID: xa.us(8), xa.SHIFT: xa.fl(0.5, 0.5)}, {xa.ITEM_ID: xa.us(7), xa.SHIFT: xa.fl(*pair)})
+
+
+def quartered(rng, operation, count, rows, columns, pair, own, stored):
+    """An object of `count` + 1 frames whose mask is moved by `pair`: the average of the first `count` frames, or TID."""
+    model = xa.build(rng, base_shape(rng, masks=(operation,), frames=count + 1, rows=rows, columns=columns, ranges=False, shifts=False,
+                                     bits_allocated=8 if stored == 8 else 16, bits_stored=stored, pixel_vr="OW"))
+    if operation == "AVG_SUB":
+        model[xa.MASKS][1][0][xa.MASK_FRAMES] = xa.us(*range(1, count + 1))
+    else:
+        model[xa.MASKS][1][0][xa.TID_OFFSET] = xa.ss(1)
+    each_level_its_own(rng, model)
+    moved(rng, model, pair, own)
+    return model
+
+
+QUARTERED_SIZES = ((1, 1), (1, 7), (7, 1), (3, 5), (2, 2), (5, 3))
+WHOLE_PARTS = ((0, 0), (-1, 0), (0, -1), (-1, -1), (-2, 1), (1, -3), (63, -64), (-64, 63), (-64, -64), (63, 63))
+
+
+def compare_quarters(comparison, rng):
+    """All pairs of quarters, down and up, right and left, small and larger than the picture, at pictures of one row, of one
+    column and of odd sizes; of averages and of TID; in the mask item and in the frame."""
+    number = 0
+    for rows, columns in QUARTERED_SIZES:
+        for a in range(4):
+            for b in range(4):
+                for down, right in WHOLE_PARTS:
+                    number += 1
+                    operation, count = (("AVG_SUB", 1), ("AVG_SUB", 2), ("TID", 1), ("AVG_SUB", 5), ("AVG_SUB", 3))[number % 5]
+                    pair = (down + a / 4, right + b / 4)
+                    own = number % 3 == 0
+                    model = quartered(rng, operation, count, rows, columns, pair, own, rng.choice((8, 8, 9, 12, 16)))
+                    name = f"quarters {pair}, {rows} x {columns}, {operation} of {count}, {'frame' if own else 'item'}"
+                    drawn = check_every_frame(comparison, name, model, rng, frames=[count + 1])
+                    comparison.must_equal(f"{name}: masked", drawn, {count + 1: 1})
+                    for part, pixels in ((pair[0], rows), (pair[1], columns)):
+                        comparison.note(("quarters", part % 1, part < 0, abs(part) > pixels, operation, own))
+    comparison.insist([("quarters", part / 4, negative, larger, operation, own) for part in range(4) for negative in (False, True)
+                       for larger in (False, True) for operation in ("AVG_SUB", "TID") for own in (False, True)])
+
+
+def compare_quarter_averages(comparison, rng):
+    """Averages of 1 to 64 frames, moved by quarters: the average comes first."""
+    for count in range(1, 65):
+        for stored in (8, rng.randrange(9, 17)):
+            pair = tuple(rng.randrange(-8, 9) + rng.choice((0.25, 0.5, 0.75)) for _ in range(2))
+            model = quartered(rng, "AVG_SUB", count, 5, 7, pair, rng.random() < 0.5, stored)
+            check_every_frame(comparison, f"average of {count} moved by {pair}", model, rng, frames=[count + 1])
+
+
+def compare_wide(comparison, rng):
+    """As many columns, and as many rows, as there can be, moved by quarters and by whole numbers, as far as it goes."""
+    for rows, columns in ((2, 65_535), (65_535, 2)):
+        for pair in ((63.75, -63.75), (-64.0, 64.0), (-0.25, 63.25), (63.5, -0.75)):
+            model = quartered(rng, "AVG_SUB", 1, rows, columns, pair, False, 8)
+            check_every_frame(comparison, f"{rows} x {columns} moved by {pair}", model, rng, frames=[2])
 
 
 def compare_tid(comparison, rng):
@@ -331,10 +410,14 @@ def run(comparison, arguments):
     compare_average_rounding(comparison, rng)
     compare_window_edges(comparison, rng, max(50, comparison.count // 4))
     compare_shifts(comparison, rng, max(40, comparison.count // 4))
+    compare_quarters(comparison, rng)
+    compare_quarter_averages(comparison, rng)
     compare_tid(comparison, rng)
     compare_first_item(comparison, rng)
     compare_random_objects(comparison, rng, comparison.count)
     compare_larger(comparison, rng)
+    if comparison.count >= 200:
+        compare_wide(comparison, rng)
     compare_refused(comparison, rng)
     compare_pixel_intensity(comparison, rng)
     compare_size_limit(comparison)

@@ -179,8 +179,10 @@ def voi_item(rng, shape):
 
 
 def random_shift(rng):
-    return fl(*(rng.choice((0.0, -0.0, 1.0, -1.0, 2.0, -3.0, 64.0, -64.0, float(rng.randrange(-64, 65))))
-                for _ in range(2)))
+    """Two whole multiples of 1/4 from -64 to 64."""
+    whole = float(rng.randrange(-64, 65))
+    quarters = rng.randrange(-256, 257) / 4
+    return fl(*(rng.choice((0.0, -0.0, 1.0, -1.0, 2.0, -3.0, 64.0, -64.0, 0.25, -1.5, -63.75, whole, quarters, quarters)) for _ in range(2)))
 
 
 def mask_item(rng, shape, operation, item_id):

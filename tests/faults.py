@@ -266,7 +266,7 @@ def last_applying_item(root, frame):
 
 def item_shift_first(root, item, frame):
     """The frame's own shift loses to the item's."""
-    return item.whole_pair(drawing.tags.MASK_SUB_PIXEL_SHIFT) or original_shift(root, item, frame)
+    return item.quarter_pair(drawing.tags.MASK_SUB_PIXEL_SHIFT) or original_shift(root, item, frame)
 
 
 def to_linear_used(data, frame, *buffers):
@@ -296,6 +296,22 @@ def frame_1_for_all(data, frame, *buffers):
     return outcome if outcome.answer.code else outcome._replace(image=drawing.show(data, 1, *buffers).image)
 
 
+def blended_before_average(root, frame, pixels):
+    """Each mask frame is moved before the average is made."""
+    item = drawing.applying_item(root, frame)
+    if item is None or drawing.mask_operation(item) != b"AVG_SUB":
+        return original_mask_samples(root, frame, pixels)
+    pair = drawing.shift(root, item, frame)
+    frames = [drawing.shifted(pixels.frame(number), pair) for number in drawing.mask_frame_numbers(item)]
+    return [[drawing.average([one[row][column] for one in frames]) for column in range(pixels.columns)] for row in range(pixels.rows)]
+
+
+def cut_to_whole(mask, pair):
+    """The quarters of a shift left out."""
+    return original_shifted(mask, (int(pair[0]), int(pair[1])))
+
+
+original_mask_samples = drawing.mask_samples
 original_shift = drawing.shift
 original_shifted = drawing.shifted
 original_subtracted = drawing.subtracted
@@ -322,6 +338,8 @@ SHOW_FAULTS = {
     "-v for v": drawn_with(shifted=lambda mask, pair: original_shifted(mask, (-pair[0], pair[1]))),
     "v and h swapped": drawn_with(shifted=lambda mask, pair: original_shifted(mask, pair[::-1])),
     "the item's shift wins": drawn_with(shift=item_shift_first),
+    "the blend before the average": drawn_with(mask_samples=blended_before_average),
+    "the quarters of a shift left out": drawn_with(shifted=cut_to_whole),
     "no shift": drawn_with(shift=lambda root, item, frame: (0, 0)),
     "average rounded down": drawn_with(average=lambda samples: sum(samples) // len(samples)),
     "x not signed": drawn_with(subtracted=lambda sample, mask, stored: max(0, original_subtracted(sample, mask, stored))),

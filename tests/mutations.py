@@ -439,7 +439,9 @@ def raw_float(bits):
 
 NOT_A_NUMBER = ("FL", raw_float(0x7FC00000) + bytes(4))
 BAD_SHIFTS = {
-    "empty": fl(), "one": fl(1.0), "three": fl(1.0, 2.0, 3.0), "6 bytes": ("FL", bytes(6)), "half": fl(0.5, 0.0), "quarter": fl(0.0, -0.25),
+    "empty": fl(), "one": fl(1.0), "three": fl(1.0, 2.0, 3.0), "6 bytes": ("FL", bytes(6)), "0.125": fl(0.125, 0.0), "-0.125": fl(0.0, -0.125),
+    "0.3": fl(0.3, 0.0), "-0.3": fl(0.0, -0.3), "63.875": fl(63.875, 0.0), "3.0625": fl(3.0625, 0.0), "64.25": fl(64.25, 0.0), "-64.25": fl(0.0, -64.25),
+    "just above 0.25": ("FL", raw_float(0x3E800001) + bytes(4)), "just below 0.75": ("FL", bytes(4) + raw_float(0x3F3FFFFF)),
     "65": fl(65.0, 0.0), "-65": fl(0.0, -65.0), "NaN": NOT_A_NUMBER, "infinity": ("FL", raw_float(0x7F800000) + bytes(4)),
     "-infinity": ("FL", bytes(4) + raw_float(0xFF800000)), "just above 64": ("FL", raw_float(0x42800001) + bytes(4)),
     "just below 64": ("FL", raw_float(0x427FFFFF) + bytes(4)), "smallest": ("FL", bytes(4) + raw_float(1)), "VR FD": fd(1.0),
@@ -448,6 +450,7 @@ BAD_SHIFTS = {
 }
 GOOD_SHIFTS = {
     "minus zeros": ("FL", raw_float(0x80000000) * 2), "64": fl(64.0, -64.0), "-64": fl(-64.0, 64.0), "1": fl(1.0, -1.0), "63": fl(63.0, -63.0),
+    "0.5": fl(0.5, 0.0), "-0.25": fl(0.0, -0.25), "0.75": fl(0.75, 0.25), "63.75": fl(-63.75, 63.75), "31.25": fl(31.25, -31.5),
 }
 for number in range(4):
     for name, value in BAD_SHIFTS.items():

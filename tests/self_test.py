@@ -5,6 +5,7 @@ import random
 import struct
 import sys
 import unittest
+from fractions import Fraction
 
 import enhanced_xa as xa
 import objects
@@ -107,14 +108,15 @@ class Values(unittest.TestCase):
         self.assertIsNone(one.signed_short(0x00280013))
         self.assertIsNone(one.unsigned_shorts(0x00280014))
 
-    def test_whole_pairs(self):
+    def test_quarter_pairs(self):
         cases = [((0x42800000, 0xC2800000), (64, -64)), ((0x80000000, 0x3F800000), (0, 1)), ((0x42800001, 0), None),
-                 ((0x7FC00000, 0), None), ((0, 0x7F800000), None), ((0xFF800000, 0), None), ((0x3F000000, 0), None),
+                 ((0x7FC00000, 0), None), ((0, 0x7F800000), None), ((0xFF800000, 0), None), ((0x3F000000, 0), (Fraction(1, 2), 0)),
+                 ((0xBE800000, 0x427F0000), (Fraction(-1, 4), Fraction(255, 4))), ((0x3E000000, 0), None), ((0x3E800001, 0), None),
                  ((1, 0), None), ((0, 0x80000001), None), ((0x4B800000, 0), (16777216, 0))]
         for bits, expected in cases:
-            self.assertEqual(level(t00286114=("FL", struct.pack("<II", *bits))).whole_pair(0x00286114), expected, bits)
+            self.assertEqual(level(t00286114=("FL", struct.pack("<II", *bits))).quarter_pair(0x00286114), expected, bits)
         for size in (0, 4, 6, 10, 12):
-            self.assertIsNone(level(t00286114=("FL", bytes(size))).whole_pair(0x00286114), size)
+            self.assertIsNone(level(t00286114=("FL", bytes(size))).quarter_pair(0x00286114), size)
 
 
 class Rules(unittest.TestCase):
@@ -257,6 +259,46 @@ class Drawing(unittest.TestCase):
         self.assertEqual(drawing.shifted(mask, (-1, 0)), [[4, 5, 6], [4, 5, 6]])
         self.assertEqual(drawing.shifted(mask, (64, -64)), [[3, 3, 3], [3, 3, 3]])
 
+    def test_quarter_shift(self):
+        quarter = Fraction(1, 4)
+        self.assertEqual([drawing.parted(number) for number in (3 * quarter, Fraction(5), -quarter, -4 * quarter, -5 * quarter)],
+                         [(0, 3), (5, 0), (-1, 3), (-1, 0), (-2, 3)])
+        mask = [[0, 16, 160]]
+        # Down by any quarters a mask of one row stays. A quarter to the right: 1/4 of the left neighbour, 3/4 of the cell.
+        self.assertEqual(drawing.shifted(mask, (7 * quarter, Fraction(0))), mask)
+        self.assertEqual(drawing.shifted(mask, (Fraction(0), quarter)), [[0, 12, 124]])
+        # A quarter to the left: 3/4 of the cell, 1/4 of the right neighbour.
+        self.assertEqual(drawing.shifted(mask, (Fraction(0), -quarter)), [[4, 52, 160]])
+        self.assertEqual(drawing.shifted([[0], [16], [160]], (5 * quarter, Fraction(0))), [[0], [0], [12]])
+        # Half-way is rounded up: (0 + 1) / 2 is 1; 1/4 is 0 and 3/4 is 1.
+        self.assertEqual(drawing.shifted([[0, 1]], (Fraction(0), Fraction(1, 2))), [[0, 1]])
+        self.assertEqual(drawing.shifted([[0, 1]], (Fraction(0), 3 * quarter)), [[0, 0]])
+        self.assertEqual(drawing.shifted([[0, 1]], (Fraction(0), quarter)), [[0, 1]])
+        # r - v = 1/4 and c - h = 1/2 of (100, 20 / 60, 40): (6 100 + 6 20 + 2 60 + 2 40 + 8) / 16 = 58.
+        self.assertEqual(drawing.blended([[100, 20], [60, 40]], (0, 1), (0, 2)), 58)
+        # (4 - a)(4 - b), (4 - a) b, a (4 - b), ab with a = 1, b = 3: 3, 9, 1, 3.
+        for place, weight in (((0, 0), 3), ((0, 1), 9), ((1, 0), 1), ((1, 1), 3)):
+            cells = [[16 * (place == (row, column)) for column in range(2)] for row in range(2)]
+            self.assertEqual(drawing.blended(cells, (0, 1), (0, 3)), weight)
+
+    def test_whole_shifts_as_before(self):
+        """On whole shifts the blended value is the mask cell (r - v, c - h), limited to the edge."""
+        rng = random.Random(7)
+        for _ in range(50):
+            rows, columns = rng.randrange(1, 5), rng.randrange(1, 5)
+            mask = [[rng.randrange(65536) for _ in range(columns)] for _ in range(rows)]
+            v, h = rng.randrange(-6, 7), rng.randrange(-6, 7)
+            old = [[mask[max(0, min(rows - 1, row - v))][max(0, min(columns - 1, column - h))] for column in range(columns)]
+                   for row in range(rows)]
+            self.assertEqual(drawing.shifted(mask, (Fraction(v), Fraction(h))), old)
+
+    def test_between_the_neighbours(self):
+        rng = random.Random(8)
+        for _ in range(200):
+            cells = [[rng.randrange(65536) for _ in range(2)] for _ in range(2)]
+            value = drawing.blended(cells, (0, rng.randrange(4)), (0, rng.randrange(4)))
+            self.assertTrue(min(map(min, cells)) <= value <= max(map(max, cells)))
+
     def test_whose_shift(self):
         model = small_object((1, 2, 3, 4, 5, 6), 1, 2, 3, masks=("AVG_SUB",), ranges=False, shifts=False)
         item = model[xa.MASKS][1][0]
@@ -341,7 +383,7 @@ class Drawing(unittest.TestCase):
             (mask(xa.RANGE, xa.us()), 1), (mask(xa.RANGE, xa.us(1)), 1), (mask(xa.RANGE, xa.ss(1, 2)), 1),
             (mask(xa.OPERATION, xa.text("CS", "REV_TID")), 1), (mask(xa.OPERATION, xa.text("CS", "TID\\TID")), 1),
             (mask(xa.MASK_FRAMES, xa.us()), 1), (mask(xa.MASK_FRAMES, xa.us(4)), 1), (mask(xa.MASK_FRAMES, xa.us(1, 0)), 1),
-            (mask(xa.SHIFT, xa.fl(0.5, 0.0)), 1), (mask(xa.SHIFT, xa.fl()), 1), (put(xa.PHOTOMETRIC, xa.text("CS", "A\\B")), 1),
+            (mask(xa.SHIFT, xa.fl(0.3, 0.0)), 1), (mask(xa.SHIFT, xa.fl()), 1), (put(xa.PHOTOMETRIC, xa.text("CS", "A\\B")), 1),
             (frame(xa.VOI, xa.sq()), 1), (frame(xa.VOI, ("UN", b"")), 1), (frame(xa.VOI, window_group("x", "1")), 1),
             (frame(xa.FRAME_SHIFT, xa.sq()), 1), (frame(xa.FRAME_SHIFT, ("UN", b"")), 1),
             (lambda root, mask, own, shared: (mask.pop(xa.ITEM_ID, None), own[0].update({xa.FRAME_SHIFT: good_group})), 1),

@@ -35,9 +35,9 @@ def numbers(*some):
 
 
 def small(number):
-    """A number of a shift: `other` unless it is whole and from -64 to 64."""
-    whole = math.isfinite(number) and number == math.floor(number)
-    return str(int(number)) if whole and -64 <= number <= 64 else "other"
+    """A number of a shift in quarters: `other` unless they are whole and it is from -64 to 64."""
+    whole = math.isfinite(number) and 4 * number == math.floor(4 * number)
+    return str(int(4 * number)) if whole and -64 <= number <= 64 else "other"
 
 
 def shift_words(chosen):
@@ -317,15 +317,16 @@ SPECIAL = [
     ("two shared items", (root({xa.SHARED: sq({}, {})}),), 2, "shift lacks window lacks"),
     ("shared groups of VR UN", (root({xa.SHARED: ("UN", b"")}),), 2, "shift lacks window lacks"),
     ("no shared item, groups in the frame", (root({xa.SHARED: sq()}), own({xa.VOI: sq(window("1", "2")), xa.FRAME_SHIFT: sq(pair(1, 5.0, 6.0))}),
-                                             mask_id(1)), 2, "shift frame 5 6 window 1000 2000"),
+                                             mask_id(1)), 2, "shift frame 20 24 window 1000 2000"),
     ("item 2 missing", (root({xa.PER_FRAME: sq({})}),), 3, "shift lacks window lacks"),
     ("per-frame groups absent", (root({xa.PER_FRAME: None}),), 2, "shift lacks window lacks"),
     ("per-frame groups of VR OB", (root({xa.PER_FRAME: ("OB", bytes(8))}),), 2, "shift lacks window lacks"),
     # Shifts (D-5).
-    ("the item's shift", (mask({xa.SHIFT: fl(-64.0, 64.0)}),), 2, "shift item -64 64"),
+    ("the item's shift", (mask({xa.SHIFT: fl(-64.0, 64.0)}),), 2, "shift item -256 256"),
     ("minus zeros", (mask({xa.SHIFT: GOOD_SHIFTS["minus zeros"]}),), 2, "shift item 0 0"),
     ("NaN", (mask({xa.SHIFT: NOT_A_NUMBER}),), 2, "shift item other 0"),
-    ("a fraction", (mask({xa.SHIFT: fl(3.0, 0.5)}),), 2, "shift item 3 other"),
+    ("an eighth", (mask({xa.SHIFT: fl(3.0, 0.125)}),), 2, "shift item 12 other"),
+    ("quarters", (mask({xa.SHIFT: fl(-3.25, 0.75)}),), 2, "shift item -13 3"),
     ("65", (mask({xa.SHIFT: fl(65.0, -65.0)}),), 2, "shift item other other"),
     ("one number", (mask({xa.SHIFT: fl(1.0)}),), 2, "shift lacks"),
     ("three numbers", (mask({xa.SHIFT: fl(1.0, 2.0, 3.0)}),), 2, "shift lacks"),
@@ -334,21 +335,21 @@ SPECIAL = [
     ("group empty", (moved_by(),), 2, "shift lacks"),
     ("group of VR UN", (own({xa.FRAME_SHIFT: ("UN", b"")}),), 2, "shift lacks"),
     ("group in the frame names the ID", (mask_id(7, {xa.SHIFT: fl(1.0, 1.0)}), moved_by(pair(8, 2.0, 2.0), pair(7, 3.0, -4.0))), 2,
-     "shift frame 3 -4"),
+     "shift frame 12 -16"),
     ("group in the frame names another", (mask_id(9, {xa.SHIFT: fl(1.0, 1.0)}), moved_by(pair(8, 2.0, 2.0), pair(7, 3.0, -4.0))), 2,
-     "shift item 1 1"),
+     "shift item 4 4"),
     ("group names another, no shift of the item", (mask_id(9), moved_by(pair(8, 2.0, 2.0))), 2, "shift none 0 0"),
     ("group names another, the item's shift is bad", (mask_id(9, {xa.SHIFT: fl()}), moved_by(pair(8, 2.0, 2.0))), 2, "shift lacks"),
-    ("group names the ID, the item's shift is bad", (mask_id(8, {xa.SHIFT: fl()}), moved_by(pair(8, 2.0, 2.0))), 2, "shift frame 2 2"),
-    ("group names the ID twice", (mask_id(8), moved_by(pair(8, 2.0, 2.0), pair(8, 3.0, 3.0))), 2, "shift frame 2 2"),
+    ("group names the ID, the item's shift is bad", (mask_id(8, {xa.SHIFT: fl()}), moved_by(pair(8, 2.0, 2.0))), 2, "shift frame 8 8"),
+    ("group names the ID twice", (mask_id(8), moved_by(pair(8, 2.0, 2.0), pair(8, 3.0, 3.0))), 2, "shift frame 8 8"),
     ("no ID in the mask item", (moved_by(pair(8, 2.0, 2.0)),), 2, "shift lacks"),
     ("no ID in the mask item, frame without a group", (moved_by(pair(8, 2.0, 2.0)),), 3, "shift none 0 0"),
     ("no ID before the one that is equal", (mask_id(7), moved_by({}, pair(7, 3.0, 3.0))), 2, "shift lacks"),
-    ("no ID after the one that is equal", (mask_id(7), moved_by(pair(7, 3.0, 3.0), {})), 2, "shift frame 3 3"),
+    ("no ID after the one that is equal", (mask_id(7), moved_by(pair(7, 3.0, 3.0), {})), 2, "shift frame 12 12"),
     ("two IDs", (mask_id(7), moved_by({xa.ITEM_ID: us(7, 7), xa.SHIFT: fl(1.0, 1.0)})), 2, "shift lacks"),
     ("the named item has no shift", (mask_id(7), moved_by({xa.ITEM_ID: us(7)})), 2, "shift lacks"),
     ("the named item has NaN", (mask_id(7), moved_by({xa.ITEM_ID: us(7), xa.SHIFT: NOT_A_NUMBER})), 2, "shift frame other 0"),
-    ("a shared group", (mask_id(7), shared({xa.FRAME_SHIFT: sq(pair(7, 5.0, 6.0))})), 4, "shift frame 5 6"),
+    ("a shared group", (mask_id(7), shared({xa.FRAME_SHIFT: sq(pair(7, 5.0, 6.0))})), 4, "shift frame 20 24"),
     ("a shared group, hidden", (mask_id(7), shared({xa.FRAME_SHIFT: sq(pair(7, 5.0, 6.0))}), own({xa.FRAME_SHIFT: ("LO", b"")}, 3)), 4, "shift lacks"),
     # Windows (D-6).
     ("window", (windowed("40", "400"),), 2, "window 40000 400000"),

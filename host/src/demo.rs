@@ -1,7 +1,8 @@
 //! `luux demo`: sample runs, made here, and what luux says of them.
 //!
 //! A run is a picture of bones over which a tree of vessels fills with contrast, while the patient moves a little. Its mask
-//! is the average of the first two frames, and each frame has its own window and its own shift of the mask.
+//! is the average of the first two frames, and each frame has its own window and its own shift of the mask, in quarters of a
+//! pixel.
 
 use std::io::{self, Write};
 use std::path::Path;
@@ -69,12 +70,12 @@ fn sequence(tag: u32, items: &[Vec<u8>]) -> Vec<u8> {
 // ---------------------------------------------------------------------------------------------------------------------
 // The run
 
-/// How far the patient has moved in a frame: down and to the right.
-fn moved(frame: usize) -> (i32, i32) {
+/// How far the patient has moved in a frame, down and to the right: whole quarters of a pixel.
+fn moved(frame: usize) -> (f32, f32) {
     match frame {
-        1..=9 => (0, 0),
-        10..=15 => (2, -1),
-        _ => (3, -2),
+        1..=9 => (0.0, 0.0),
+        10..=15 => (2.25, -1.5),
+        _ => (3.5, -2.75),
     }
 }
 
@@ -92,7 +93,7 @@ fn frame_item(frame: usize, with_window: bool) -> Vec<u8> {
     }
     groups.push(sequence(0x0028_9132, &[item(&window)])); // Frame VOI LUT
     let (down, right) = moved(frame);
-    let shift: Vec<u8> = [down, right].iter().flat_map(|&by| (by as f32).to_le_bytes()).collect();
+    let shift: Vec<u8> = [down, right].iter().flat_map(|by| by.to_le_bytes()).collect();
     groups.push(sequence(
         0x0028_9415, // Frame Pixel Shift
         &[item(&[element(0x0028_6114, "FL", &shift), us(0x0028_9416, &[1])])],
@@ -230,6 +231,14 @@ impl Vessels {
         let filled = (since / 3.0).clamp(0.0, 1.0) - ((since - 9.0) / 12.0).clamp(0.0, 0.7);
         self.depth[cell] * filled
     }
+
+    /// The contrast at a point between four cells, each counted the more the nearer it is.
+    fn between(&self, y: f64, x: f64, frame: f64) -> f64 {
+        let inside = |place: f64| place.clamp(0.0, SIDE as f64 - 1.0) as usize;
+        let at = |row: f64, column: f64| self.contrast(inside(row) * SIDE + inside(column), frame);
+        let along = |row: f64| (1.0 - x + x.floor()) * at(row, x.floor()) + (x - x.floor()) * at(row, x.floor() + 1.0);
+        (1.0 - y + y.floor()) * along(y.floor()) + (y - y.floor()) * along(y.floor() + 1.0)
+    }
 }
 
 /// All frames, 16 bits a cell.
@@ -242,10 +251,9 @@ fn pixels() -> Vec<u8> {
         for row in 0..SIDE {
             for column in 0..SIDE {
                 // What is seen here was at (row - down, column - right) before the patient moved.
-                let (y, x) = (row as i32 - down, column as i32 - right);
-                let inside = (y.clamp(0, SIDE as i32 - 1) as usize) * SIDE + x.clamp(0, SIDE as i32 - 1) as usize;
+                let (y, x) = (row as f64 - f64::from(down), column as f64 - f64::from(right));
                 let grain = (noise.next() + noise.next() - 1.0) * 1.5;
-                let cell = bones(f64::from(x), f64::from(y)) - 60.0 * vessels.contrast(inside, frame as f64) + grain;
+                let cell = bones(x, y) - 60.0 * vessels.between(y, x, frame as f64) + grain;
                 bytes.extend((cell.clamp(0.0, 4095.0) as u16).to_le_bytes());
             }
         }
@@ -268,7 +276,7 @@ pub fn run(folder: &Path, jobs: usize, out: &mut dyn Write) -> io::Result<Status
     let good = data_set(&pixels, None, None);
     let samples: [(&str, &[u8], &str); 4] = [
         ("cut-short.xa", &good[..good.len() / 2], "the first half of the good run"),
-        ("good.xa", &good, "24 frames of 256 x 256, a mask of the first two"),
+        ("good.xa", &good, "24 frames of 256 x 256, a mask of the first two, moved by quarters of a pixel"),
         ("item-left-out.xa", &data_set(&pixels, Some(LEFT_OUT), None), "without the per-frame item of frame 13"),
         ("window-lost.xa", &data_set(&pixels, None, Some(WINDOWLESS)), "no Window Width in frame 17"),
     ];

@@ -38,9 +38,9 @@ const RULES: [&str; 38] = [
     "Applicable Frame Range (0028,6102) US in a mask item, if present, must be pairs of a first and a last frame, in order and from 1 to Number of Frames (0028,0008).",
     "A mask item whose Mask Operation (0028,6101) is AVG_SUB must have 1 to 64 Mask Frame Numbers (0028,6110) US from 1 to Number of Frames (0028,0008), and Contrast Frame Averaging (0028,6112) US absent or 1.",
     "In a mask item whose Mask Operation (0028,6101) is TID, TID Offset (0028,6120) SS must be absent or one value.",
-    "Mask Sub-pixel Shift (0028,6114) FL in a mask item, if present, must be two whole numbers from -64 to 64.",
+    "Mask Sub-pixel Shift (0028,6114) FL in a mask item, if present, must be two numbers from -64 to 64, each a whole multiple of 1/4.",
     "Where a frame has Frame Pixel Shift Sequence (0028,9415), every mask item must have a Subtraction Item ID (0028,9416) US, no two the same.",
-    "Frame Pixel Shift Sequence (0028,9415) SQ, where the frame has it, must have items, each with a Subtraction Item ID (0028,9416) US that no other has and a Mask Sub-pixel Shift (0028,6114) FL of two whole numbers from -64 to 64.",
+    "Frame Pixel Shift Sequence (0028,9415) SQ, where the frame has it, must have items, each with a Subtraction Item ID (0028,9416) US that no other has and a Mask Sub-pixel Shift (0028,6114) FL of two numbers from -64 to 64, each a whole multiple of 1/4.",
     "Pixel Data (7FE0,0010) must be OW, or OB at 8 bits, and as long as Number of Frames (0028,0008) x Rows (0028,0010) x Columns (0028,0011) x bytes of a pixel, plus 1 if that is odd.",
 ];
 

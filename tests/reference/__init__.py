@@ -1,11 +1,11 @@
-"""A second, plain implementation of document 01, to compare the library with.
+"""A second, plain implementation of document 01 and of the requests of document 02 that it names, to compare the library with.
 
-Layers, each checkable against its paragraph of document 01:
+Layers, each checkable against its paragraph:
 
     answers.py   what a call hands back, and the buffers afterwards
     reading.py   "Reading": data set -> elements, items, rows; codes 1 to 8
     values.py    the value forms that rules and drawing steps read
     rules.py     "The rule list": rules 1 to 38, first broken rule, lowest frame
-    drawing.py   "Drawing frame f": steps 1 to 7, or something is lacking
+    drawing.py   "Drawing frame f": steps 1 to 7, or something is lacking; Q-4 in rules 35, 37 and in step 4
     slips.py     the 13-byte verdict slips
 """

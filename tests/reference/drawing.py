@@ -1,4 +1,4 @@
-"""Drawing frame f: document 01, steps 1 to 7, computed with whole numbers and fractions.
+"""Drawing frame f: document 01, steps 1 to 7, with Q-4 of document 02, computed with whole numbers and fractions.
 
 The steps are defined for every data set that reads well, accepted or not, so no rule is taken for granted here: what a
 step needs and does not find raises Lacking. A step that is not taken needs nothing.
@@ -11,7 +11,7 @@ from typing import NamedTuple
 from . import attributes as tags
 from .answers import BUFFER_TOO_SMALL, DONE, NO_SUCH_FRAME, Answer, Outcome
 from .rules import judge_with_root
-from .values import integer, items_of, thousandths, whole_numbers
+from .values import integer, items_of, thousandths, whole_quarters
 
 NO_SHIFT = (0, 0)
 
@@ -146,7 +146,9 @@ def mask_frame_numbers(item):
 
 
 def average_mask(item, pixels):
-    frames = [pixels.frame(number) for number in mask_frame_numbers(item)]
+    numbers = mask_frame_numbers(item)
+    known = {number: pixels.frame(number) for number in numbers}
+    frames = [known[number] for number in numbers]
     return [[average([frame[row][column] for frame in frames]) for column in range(pixels.columns)]
             for row in range(pixels.rows)]
 
@@ -161,9 +163,9 @@ def tid_frame(root, item, frame):
 
 
 def shift(root, item, frame):
-    """Step 4. The shift, in whole numbers."""
+    """Step 4. The shift, in whole quarters."""
     _, pair = chosen_shift(root, item, frame)
-    return needed(whole_numbers(pair), "whole numbers")
+    return needed(whole_quarters(pair), "whole quarters")
 
 
 def chosen_shift(root, item, frame):
@@ -198,14 +200,31 @@ def limited(number, low, high):
     return max(low, min(high, number))
 
 
+def parted(number):
+    """The whole number below a number of whole quarters, and the quarters above it: 0 to 3, also where it is negative."""
+    whole = floor(number)
+    return whole, int(4 * (number - whole))
+
+
+def blended(mask, row, column):
+    """Step 4, Q-4. "Let a and b be the quarters of row r - v and column c - h above the whole row and column. The mask
+    value is the sum over the four neighbouring mask cells, with weights (4-a)(4-b), (4-a)b, a(4-b) and ab, in reading
+    order from that whole row and column, plus 8, divided by 16, rounded down; each neighbour is limited to the edge."
+
+    `row` and `column` are parted."""
+    (top, a), (left, b) = row, column
+    neighbours = ((top, left, (4 - a) * (4 - b)), (top, left + 1, (4 - a) * b),
+                  (top + 1, left, a * (4 - b)), (top + 1, left + 1, a * b))
+    total = sum(weight * mask[limited(r, 0, len(mask) - 1)][limited(c, 0, len(mask[0]) - 1)] for r, c, weight in neighbours)
+    return (total + 8) // 16
+
+
 def shifted(mask, pair):
-    """Step 4. Vertical v, horizontal h: cell (r, c) takes mask cell (r - v, c - h), each limited to the picture's
-    edge."""
+    """Step 4. Vertical v, horizontal h: cell (r, c) takes the mask at row r - v and column c - h."""
     vertical, horizontal = pair
-    rows = len(mask)
-    columns = len(mask[0]) if mask else 0
-    return [[mask[limited(row - vertical, 0, rows - 1)][limited(column - horizontal, 0, columns - 1)]
-             for column in range(columns)] for row in range(rows)]
+    rows = [parted(row - vertical) for row in range(len(mask))]
+    columns = [parted(column - horizontal) for column in range(len(mask[0]) if mask else 0)]
+    return [[blended(mask, row, column) for column in columns] for row in rows]
 
 
 def mask_samples(root, frame, pixels):
@@ -228,7 +247,7 @@ def mask_samples(root, frame, pixels):
 
 def half_of_range(stored):
     """2^(stored - 1), which is 1/2 for 0 bits stored."""
-    return Fraction(2 ** stored, 2)
+    return 2 ** (stored - 1) if stored else Fraction(1, 2)
 
 
 def subtracted(sample, mask, stored):

@@ -59,9 +59,9 @@ def one_item(items):
     return items is not None and len(items) == 1
 
 
-def small_whole_shift(level):
-    """A Mask Sub-pixel Shift as rule 35 asks it: FL, two whole numbers in -64..64."""
-    pair = level.whole_pair(tags.MASK_SUB_PIXEL_SHIFT)
+def small_shift(level):
+    """A Mask Sub-pixel Shift as rule 35 asks it: FL, two whole multiples of 1/4 from -64 to 64."""
+    pair = level.quarter_pair(tags.MASK_SUB_PIXEL_SHIFT)
     return pair is not None and all(-64 <= number <= 64 for number in pair)
 
 
@@ -324,8 +324,8 @@ def rule_34(root):
 
 
 def rule_35(root):
-    """Mask Sub-pixel Shift (0028,6114) FL in a mask item, if present, two whole numbers in -64..64 (D)."""
-    return all(small_whole_shift(item) for item in mask_items(root) if item.present(tags.MASK_SUB_PIXEL_SHIFT))
+    """Mask Sub-pixel Shift (0028,6114) FL in a mask item, if present, two whole multiples of 1/4 from -64 to 64 (D, Q-4)."""
+    return all(small_shift(item) for item in mask_items(root) if item.present(tags.MASK_SUB_PIXEL_SHIFT))
 
 
 def all_different_ids(items):
@@ -352,7 +352,7 @@ def rule_37(root, frame):
         return True
     items = items_of(root.data, group)
     return (items is not None and len(items) >= 1 and all_different_ids(items)
-            and all(small_whole_shift(item) for item in items))
+            and all(small_shift(item) for item in items))
 
 
 def rule_38(root):

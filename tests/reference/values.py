@@ -6,6 +6,7 @@ Every read answers None where the value is not there in the form asked for. Rule
 import math
 import re
 import struct
+from fractions import Fraction
 
 
 class Level:
@@ -72,9 +73,9 @@ class Level:
         value = self.value(tag, "FL")
         return None if value is None or len(value) != 8 else struct.unpack("<ff", value)
 
-    def whole_pair(self, tag):
-        """The two values of an FL element if there are just two and both are whole numbers."""
-        return whole_numbers(self.float_pair(tag))
+    def quarter_pair(self, tag):
+        """The two values of an FL element if there are just two and both are whole multiples of 1/4."""
+        return whole_quarters(self.float_pair(tag))
 
 
 def items_of(data, element):
@@ -87,11 +88,11 @@ def only(values):
     return values[0] if values is not None and len(values) == 1 else None
 
 
-def whole_numbers(pair):
-    """Two floats as whole numbers, or None if one of them is none. Minus zero is zero."""
-    if pair is None or not all(math.isfinite(number) and number == math.floor(number) for number in pair):
+def whole_quarters(pair):
+    """Two floats as fractions of whole quarters, or None if one of them is none. Minus zero is zero."""
+    if pair is None or not all(math.isfinite(number) and (4 * Fraction(number)).denominator == 1 for number in pair):
         return None
-    return int(pair[0]), int(pair[1])
+    return Fraction(pair[0]), Fraction(pair[1])
 
 
 def trimmed(part, vr):

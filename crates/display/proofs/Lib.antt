@@ -13,3 +13,4 @@ pub mod Whole
 pub mod Answers
 pub mod Judged
 pub mod Demand3
+pub mod Before

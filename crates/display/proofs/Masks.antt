@@ -20,7 +20,7 @@ use Rattle.value.specs.Said.{SizeBelow}
 use Rattle.shift.specs.declared.Shift.{Shift}
 use Rattle.shift.specs.declared.Shift.the-variants as shift
 use Rattle.shift.specs.declared.Moves.{Moves}
-use Rattle.shift.specs.Shift.{largestShift, isShort, itemShift, frameShift, movesOf, isShiftOf, isShift}
+use Rattle.shift.specs.Shift.{largestMove, isShort, itemShift, frameShift, movesOf, isShiftOf, isShift}
 use Rattle.shift.proofs.Laws.{moves-both, shift-length, item-is, frame-is}
 use Rattle.verdict.specs.Verdict.{perFrame}
 use Rattle.verdict.proofs.Tests.{false-is-true, and-both}
@@ -46,14 +46,14 @@ use Rattle.display.proofs.Accepted.{AllWithin, Sound, Masking}
 
 -- ---- What a test that holds says
 
-had : (o : Num) (p : ℕ → Bool) → holds o p ≡ true → (n : ℕ) × ((o ≡ Is n) × (p n ≡ true))
+pub had : (o : Num) (p : ℕ → Bool) → holds o p ≡ true → (n : ℕ) × ((o ≡ Is n) × (p n ≡ true))
 had Lacks p e = absurd (false-is-true e)
 had (Is n) p e = (n, (refl, e))
 
-held : (o : Num) (p : ℕ → Bool) (n : ℕ) → o ≡ Is n → holds o p ≡ true → p n ≡ true
+pub held : (o : Num) (p : ℕ → Bool) (n : ℕ) → o ≡ Is n → holds o p ≡ true → p n ≡ true
 held o p n q e = subst (λ (x : Num). holds x p ≡ true) q e
 
-both-true : (a b : Bool) → a ≡ true → b ≡ true → (a && b) ≡ true
+pub both-true : (a b : Bool) → a ≡ true → b ≡ true → (a && b) ≡ true
 both-true true true p q = refl
 both-true true false p q = q
 both-true false b p q = p
@@ -70,17 +70,17 @@ where-true : (t a : Bool) → t ≡ true → cond t a true ≡ true → a ≡ tr
 where-true true a p e = e
 where-true false a p e = absurd (false-is-true p)
 
-checked : {A : Type 0} (t : Bool) (x : Option A) → t ≡ true → check t x ≡ x
+pub checked : {A : Type 0} (t : Bool) (x : Option A) → t ≡ true → check t x ≡ x
 checked true x e = refl
 checked false x e = absurd (false-is-true e)
 
 -- ---- Members
 
-data Among (j : ℕ) : List ℕ → Type 0 where
+pub data Among (j : ℕ) : List ℕ → Type 0 where
   here : {l : List ℕ} → Among j (j ∷ l)
   there : {k : ℕ} {l : List ℕ} → Among j l → Among j (k ∷ l)
 
-every-at : (p : ℕ → Bool) {j : ℕ} {l : List ℕ} → Among j l → every p l ≡ true → p j ≡ true
+pub every-at : (p : ℕ → Bool) {j : ℕ} {l : List ℕ} → Among j l → every p l ≡ true → p j ≡ true
 unfolding every
 every-at p {j} (here) e = and-both (p j) _ e .0
 every-at p (there {k} m) e = every-at p m (and-both (p k) _ e .1)
@@ -104,7 +104,7 @@ of-vr ns vr i e = rw e
 
 -- ---- Step 2: a range that fits is read, so that the first item that applies is found
 
-data Applies (l : List ℕ) (a : Option Applying) : Type 0 where
+pub data Applies (l : List ℕ) (a : Option Applying) : Type 0 where
   nothing : a ≡ some Nothing → Applies l a
   item : (j : ℕ) → Among j l → a ≡ some (Item j) → Applies l a
 
@@ -145,7 +145,7 @@ module _ (ns : List Node) (f n : ℕ) where
       let w' : every (rangeFits ns n) (inside ns m) ≡ true = rw q at w in
       rw (q, v) (first-applies (inside ns m) w')
 
-  applies : rule31 ns ≡ true → every (rangeFits ns n) (maskItems ns) ≡ true → Applies (maskItems ns) (applyingTo ns f)
+  pub applies : rule31 ns ≡ true → every (rangeFits ns n) (maskItems ns) ≡ true → Applies (maskItems ns) (applyingTo ns f)
   unfolding rule31 maskItems itemsIn applyingTo
   applies e w = on-mask (find ns Tags.MaskSubtractionSequence (root ns)) e w
 
@@ -169,16 +169,16 @@ Shifted o = (s : Shift) × ((o ≡ some s) × (isShiftOf s ≡ true))
 
 abbrev SoundMoves : Moves → Type 0
 SoundMoves m =
-    (isNumber (m .vertical) ≡ true) × ((isNumber (m .horizontal) ≡ true) × (SizeBelow 65 (m .vertical) × SizeBelow 65 (m .horizontal)))
+    (isNumber (m .vertical) ≡ true) × ((isNumber (m .horizontal) ≡ true) × (SizeBelow 257 (m .vertical) × SizeBelow 257 (m .horizontal)))
 
 short-number : (w : Signed) → isShort w ≡ true → isNumber w ≡ true
 short-number (signed.Plus k) e = refl
 short-number (signed.Minus k) e = refl
 short-number signed.Lacks e = e
 
-short-size : (w : Signed) → isShort w ≡ true → SizeBelow 65 w
-short-size (signed.Plus k) e = omega (arith, leb-true k largestShift e)
-short-size (signed.Minus k) e = omega (arith, leb-true k largestShift e)
+short-size : (w : Signed) → isShort w ≡ true → SizeBelow 257 w
+short-size (signed.Plus k) e = omega (arith, leb-true k largestMove e)
+short-size (signed.Minus k) e = omega (arith, leb-true k largestMove e)
 short-size signed.Lacks e = tt
 
 moves : (ns : List Node) (f j : ℕ) → Shifted (shiftFor ns f j) → (m : Moves) × ((movesFor ns f j ≡ some m) × SoundMoves m)
@@ -189,7 +189,7 @@ moves ns f j (s, (q, e)) =
     let h : isNumber (movesOf s .horizontal) ≡ true = short-number (movesOf s .horizontal) (b .1) in
     (movesOf s, (rw q (checked _ _ (both-true _ _ v h)), (v, (h, (short-size (movesOf s .vertical) (b .0), short-size (movesOf s .horizontal) (b .1))))))
 
-data Named (l : List ℕ) (o : Option Num) : Type 0 where
+pub data Named (l : List ℕ) (o : Option Num) : Type 0 where
   unnamed : o ≡ some Lacks → Named l o
   named : (k : ℕ) → Among k l → o ≡ some (Is k) → Named l o
 
@@ -212,7 +212,7 @@ module _ (ns : List Node) where
   unfolding isShiftItem
   frame-shift k e j = frame-at (findVr ns Tags.MaskSubPixelShift FL (inside ns k)) (and-both (hasId ns k) _ e .1)
 
-  id-had : (j : ℕ) → hasId ns j ≡ true → (x : ℕ) × (idIn ns j ≡ Is x)
+  pub id-had : (j : ℕ) → hasId ns j ≡ true → (x : ℕ) × (idIn ns j ≡ Is x)
   unfolding hasId
   id-had j e =
       let x = had (idIn ns j) _ e in
@@ -224,7 +224,7 @@ module _ (ns : List Node) where
   name-next id k l x q (unnamed e) false t = unnamed (rw (q, t) e)
   name-next id k l x q (named i m e) false t = named i (there m) (rw (q, t) e)
 
-  names : (id : ℕ) (l : List ℕ) → every (isShiftItem ns) l ≡ true → Named l (naming ns id l)
+  pub names : (id : ℕ) (l : List ℕ) → every (isShiftItem ns) l ≡ true → Named l (naming ns id l)
   unfolding every naming isShiftItem
   names id [] e = unnamed refl
   names id (k ∷ l) e =
@@ -273,7 +273,7 @@ module _ (ns : List Node) where
       let a = group-filled g e in
       rw (q, of-vr ns SQ g (a .0)) (a .1)
 
-  shift-ids : rule36 ns ≡ true → (f s i g : ℕ) → sharedItem ns ≡ Is s → frameItem ns f ≡ Is i → groupOf ns Tags.FramePixelShiftSequence s i ≡ Is g
+  pub shift-ids : rule36 ns ≡ true → (f s i g : ℕ) → sharedItem ns ≡ Is s → frameItem ns f ≡ Is i → groupOf ns Tags.FramePixelShiftSequence s i ≡ Is g
       → isShiftGroup ns g ≡ true → every (hasId ns) (maskItems ns) ≡ true
   unfolding rule36 anyShift masksHaveIds
   shift-ids r f s i g p q h e =
@@ -281,7 +281,7 @@ module _ (ns : List Node) where
       let u : cond (anyShift ns s) (masksHaveIds ns) true ≡ true = held (sharedItem ns) _ s p r in
       and-both (every (hasId ns) (maskItems ns)) _ (where-true _ _ t u) .0
 
-  group-for : (f tag s i : ℕ) → sharedItem ns ≡ Is s → frameItem ns f ≡ Is i → groupFor ns f tag ≡ some (groupOf ns tag s i)
+  pub group-for : (f tag s i : ℕ) → sharedItem ns ≡ Is s → frameItem ns f ≡ Is i → groupFor ns f tag ≡ some (groupOf ns tag s i)
   unfolding groupFor
   group-for f tag s i p q = rw q (go (find ns tag (inside ns i)))
     where
@@ -380,7 +380,7 @@ module _ (ns : List Node) (ok : findingOf ns ≡ Accepted) where
   unfolding firstFrame frameCount
   once rule a b e = accepted-holds ns ok rule a b 0 (rw e (omega arith)) (rw e (omega arith))
 
-  r31 : rule31 ns ≡ true
+  pub r31 : rule31 ns ≡ true
   unfolding ruleAt ruleList perFrame
   r31 = once 31 (omega arith) (omega arith) refl
 
@@ -400,7 +400,7 @@ module _ (ns : List Node) (ok : findingOf ns ≡ Accepted) where
   unfolding ruleAt ruleList perFrame
   r35 = once 35 (omega arith) (omega arith) refl
 
-  r36 : rule36 ns ≡ true
+  pub r36 : rule36 ns ≡ true
   unfolding ruleAt ruleList perFrame
   r36 = once 36 (omega arith) (omega arith) refl
 
@@ -409,7 +409,7 @@ module _ (ns : List Node) (ok : findingOf ns ≡ Accepted) where
     unfolding ruleAt ruleList perFrame firstFrame frameCount
     r37 f a b = accepted-holds ns ok 37 (omega arith) (omega arith) f a (rw count (omega arith))
 
-    ranges : every (rangeFits ns n) (maskItems ns) ≡ true
+    pub ranges : every (rangeFits ns n) (maskItems ns) ≡ true
     unfolding rule32
     ranges = held (framesOf ns) _ n count r32
 

@@ -11,15 +11,14 @@ use lib.Seq.{drop-cons, set-at}
 use lib.IntN.{ℤ, pos, negsuc, _+ℤ_, _-ℤ_}
 use native.Mathlib.Nat.{pow-suc}
 use lib.Pow.{pow-pos}
-use lib.Dec.{ltb}
-use borrow.Author.Tests.{lt-ltb}
 use Rattle.value.specs.declared.Num.{Num}
 use Rattle.value.specs.declared.Num.the-variants.{Is, Lacks}
 use Rattle.shift.specs.declared.Moves.{Moves}
 use Rattle.pixel.specs.declared.Geometry.{Geometry}
-use Rattle.pixel.specs.Pixel.{samplesOf, sampleAt, maskAt, sourceOf}
+use Rattle.pixel.specs.Pixel.{samplesOf, sampleAt, blendedAt}
 use Rattle.pixel.specs.Painted.{painted, nativeShade, maskedShade}
-use Rattle.pixel.proofs.Laws.{sample-most, mask-most, half-low, source-below}
+use Rattle.pixel.proofs.Laws.{sample-most, half-low}
+use Rattle.pixel.proofs.Blend.{are-inside, blended-most}
 use Rattle.window.specs.declared.Window.{Window}
 use Rattle.window.specs.Window.{levelOf, shadeOf}
 use Rattle.window.specs.Said.{Drawable, shadeAt, Filled}
@@ -92,14 +91,14 @@ module _ (g : Geometry) (v : List ℕ) (f : ℕ) (low : 1 ≤ g .stored) (w : Wi
   unfolding maskedCell maskedShade
   masked-is ks mv one few i inside =
       let s : ℕ = sampleAt g v f i in
-      let a : ℕ = maskAt g v ks (sourceOf g mv i) in
+      let a : ℕ = blendedAt g v ks mv i in
       let p : ℕ = 2 ^ (g .stored - 1) in
       let q : ℕ = 2 ^ g .stored - 1 in
       let h : p ≤ q = half-low (g .stored) low in
       let m : s ≤ q = sample-most g v f i in
-      let n : a ≤ q = mask-most g v ks (sourceOf g mv i) one few in
+      let n : a ≤ q = blended-most g mv i v ks one few in
       let k : s + q - a < 2 ^ (g .stored + 1) - 1 = omega (arith, twice (g .stored), pow-pos (g .stored)) in
       let x : pos (s + q - a + p) -ℤ pos q ≡ pos s -ℤ pos a +ℤ pos p =
       same (pos (s + q - a + p) -ℤ pos q) (pos s -ℤ pos a +ℤ pos p) (s + q - a + p) q (gap (s + q - a + p) q) (shift (plus (gap s a) (whole p)) (s + q - a + p) q (omega arith)) in
-      rw (lt-ltb (sourceOf g mv i) (samplesOf g) (source-below g i inside mv), some-bits (g .stored) low)
+      rw (are-inside g mv i inside, some-bits (g .stored) low)
       (shade-cell w d (g .stored) inverse (s + q - a) (pos s -ℤ pos a +ℤ pos p) x ∙ ap Is (sym (t .value (s + q - a) k)))

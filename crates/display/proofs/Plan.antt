@@ -23,9 +23,9 @@ use Rattle.steps.specs.Steps.{Mask, shiftFor, movesFor, applyingTo, maskFor, ma
 use Rattle.display.specs.Said.{Short, Sound, Gives, GivesMoves}
 use Rattle.display.proofs.Given.{never}
 
-short-is : (x : Signed) → isNumber x ≡ true → SizeBelow 65 x → isShort x ≡ true
-short-is (signed.Plus n) e h = le-leb n 64 (omega arith)
-short-is (signed.Minus n) e h = le-leb n 64 (omega arith)
+short-is : (x : Signed) → isNumber x ≡ true → SizeBelow 257 x → isShort x ≡ true
+short-is (signed.Plus n) e h = le-leb n 256 (omega arith)
+short-is (signed.Minus n) e h = le-leb n 256 (omega arith)
 short-is signed.Lacks e h = e
 
 is-shift : (s : Shift) → Short (movesOf s) → isShiftOf s ≡ true

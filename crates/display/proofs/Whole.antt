@@ -93,7 +93,7 @@ based ns f n g v a low eg ev =
     let o = a .o in
     let p : o .g ≡ g = same-some (o .geometry) eg in
     let q : o .v ≡ v = same-some (o .pixels) ev in
-    let shape : Shaped (o .g) = record { width = o .width; stored-some = o .stored-low; stored-most = o .stored-high; rows-most = o .rows-high; columns-some = o .columns-low; columns-most = o .columns-high } in
+    let shape : Shaped (o .g) = record { width = o .width; stored-some = o .stored-low; stored-most = o .stored-high; rows-some = o .rows-low; rows-most = o .rows-high; columns-some = o .columns-low; columns-most = o .columns-high } in
     let each : (k : ℕ) → 1 ≤ k → k ≤ n → isFrame g v k ≡ true =
     λ k l h. subst (λ (x : Geometry). isFrame x v k ≡ true) p (subst (λ (y : List ℕ). isFrame (o .g) y k ≡ true) q (o .whole k l (omega (arith, a .n-is)))) in
     record {

@@ -8,7 +8,7 @@ use lib.ListN.{length}
 use Rattle.value.specs.Number.{usValues, isNumber}
 use Rattle.value.specs.Said.{SizeBelow}
 use Rattle.shift.specs.declared.Moves.{Moves}
-use Rattle.shift.specs.Said.{ShortMoves}
+use Rattle.shift.specs.Said.{tooFar, ShortMoves}
 use Rattle.node.specs.Nodes.{Node}
 use Rattle.element.specs.Elements.{valueAt}
 use Rattle.pixel.specs.declared.Geometry.{Geometry}
@@ -29,9 +29,9 @@ abbrev pub AllWithin : ℕ → List ℕ → Type 0
 AllWithin n [] = Unit {0}
 AllWithin n (k ∷ ks) = ((1 ≤ k) × (k ≤ n)) × AllWithin n ks
 
--- Nothing, or 1 to 64 of the n frames, moved by whole numbers of at most 64.
+-- Nothing, or 1 to 64 of the n frames, moved by whole quarters, at most 64.
 abbrev pub Short : Moves → Type 0
-Short m = (isNumber (m .vertical) ≡ true) × ((isNumber (m .horizontal) ≡ true) × (SizeBelow 65 (m .vertical) × SizeBelow 65 (m .horizontal)))
+Short m = (isNumber (m .vertical) ≡ true) × ((isNumber (m .horizontal) ≡ true) × (SizeBelow tooFar (m .vertical) × SizeBelow tooFar (m .horizontal)))
 
 abbrev pub Sound : ℕ → Mask → Type 0
 Sound n noMask = Unit {0}

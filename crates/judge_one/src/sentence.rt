@@ -109,13 +109,13 @@ fn print_masks(rule: usize) {
             b"In a mask item whose Mask Operation (0028,6101) is TID, TID Offset (0028,6120) SS must be absent or one value.",
         ),
         35 => say(
-            b"Mask Sub-pixel Shift (0028,6114) FL in a mask item, if present, must be two whole numbers from -64 to 64.",
+            b"Mask Sub-pixel Shift (0028,6114) FL in a mask item, if present, must be two numbers from -64 to 64, each a whole multiple of 1/4.",
         ),
         36 => say(
             b"Where a frame has Frame Pixel Shift Sequence (0028,9415), every mask item must have a Subtraction Item ID (0028,9416) US, no two the same.",
         ),
         37 => say(
-            b"Frame Pixel Shift Sequence (0028,9415) SQ, where the frame has it, must have items, each with a Subtraction Item ID (0028,9416) US that no other has and a Mask Sub-pixel Shift (0028,6114) FL of two whole numbers from -64 to 64.",
+            b"Frame Pixel Shift Sequence (0028,9415) SQ, where the frame has it, must have items, each with a Subtraction Item ID (0028,9416) US that no other has and a Mask Sub-pixel Shift (0028,6114) FL of two numbers from -64 to 64, each a whole multiple of 1/4.",
         ),
         _ => say(
             b"Pixel Data (7FE0,0010) must be OW, or OB at 8 bits, and as long as Number of Frames (0028,0008) x Rows (0028,0010) x Columns (0028,0011) x bytes of a pixel, plus 1 if that is odd.",

@@ -2,7 +2,7 @@
 -- divided by d, up to 128, where it is multiplied by 2^32 / d + 1 and the product is divided by 2^32.
 use mathlib.Core.Path.{_≡_, sym, _∙_, ap}
 use Prim.Native.Nat.{ℕ, _+_, _*_, _/_, _≤_, _<_}
-use native.Mathlib.Nat.{le-trans, le-of-eq, lt-of-le-of-lt, mul-le-mul, mul-le-mul-left, mul-le-mul-right, mul-assoc, mul-right-comm, mul-add, add-mul, one-mul, lt-of-mul-lt-mul-right, div-mul-le-self, lt-div-mul-add, div-eq-of-lt-le, div-lt-iff-lt-mul}
+use native.Mathlib.Nat.{le-trans, le-of-eq, lt-of-le-of-lt, mul-le-mul, mul-le-mul-left, mul-le-mul-right, mul-assoc, mul-right-comm, mul-comm, mul-add, add-mul, one-mul, lt-of-mul-lt-mul-right, div-mul-le-self, lt-div-mul-add, div-eq-of-lt-le, div-lt-iff-lt-mul}
 use native.Mathlib.Omega.{arith}
 use Rattle.pixel.specs.Pixel.{averageOf}
 
@@ -57,3 +57,8 @@ module _ (sum n : ℕ) (some : 1 ≤ n) (few : n ≤ 64) where
       let a : (low + 1) * (2 * n) ≡ 2 * (n * low) + 2 * n = omega arith in
       let b : (2 * sum + n) / (2 * n) < low + 1 = div-lt-iff-lt-mul {k = 2 * n} {x = 2 * sum + n} {y = low + 1} (omega arith) .1 (omega arith) in
       omega arith
+
+  pub average-fits : sum ≤ 4194240 → averageOf sum n ≤ 4194240
+  average-fits h =
+      let a : 4194240 * 1 ≤ 4194240 * n = mul-le-mul-left 4194240 some in
+      average-most 4194240 (omega (arith, mul-comm n 4194240))

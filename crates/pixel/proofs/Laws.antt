@@ -15,13 +15,10 @@ use lib.ListN.{length, getD, set, take, drop, length-set, length-drop, List·get
 use lib.Seq.{getD-set-same, getD-set-other, drop-cons, drop-length, getD-append-add, length-take-le}
 use Rattle.dataset.specs.Bytes.{le16}
 use Rattle.value.specs.Number.{usValues}
-use Rattle.value.specs.declared.Signed.{Signed}
-use Rattle.value.specs.declared.Signed.the-variants.{Plus, Minus, Lacks}
-use Rattle.shift.specs.declared.Moves.{Moves}
 use Rattle.pixel.specs.declared.Geometry.{Geometry}
-use Rattle.pixel.specs.Pixel.{leBytes, samplesOf, isFrame, sampleAt, sumAt, averageOf, maskAt, movedBy, sourceOf}
-use Rattle.pixel.specs.Painted.{painted, nativeShade, maskedShade}
-use Rattle.pixel.specs.Said.{Masks, cellAt, paintedFrom, Summed, Spread, shifted, OffsetOf, rowShade, offsetShade}
+use Rattle.pixel.specs.Pixel.{leBytes, samplesOf, isFrame, sampleAt, sumAt, averageOf, maskAt}
+use Rattle.pixel.specs.Painted.{painted, nativeShade}
+use Rattle.pixel.specs.Said.{Masks, cellAt, paintedFrom, Summed, Spread, shifted, rowShade, offsetShade}
 use Rattle.pixel.proofs.Division.{average-most}
 
 both : (p q : Bool) → p && q ≡ true → (p ≡ true) × (q ≡ true)
@@ -203,21 +200,6 @@ place-row r columns c h =
 pub place-column : (r columns c : ℕ) → c < columns → (r * columns + c) % columns ≡ c
 place-column r columns c h = mul-add-mod-self-right r columns c ∙ mod-eq-of-lt h
 
-pub offset-plus : (n size i : ℕ) → n < 65 → i < size → shifted (64 - n) size i ≡ i - n
-offset-plus n size i b h = omega arith
-
-pub offset-minus : (n size i : ℕ) → i < size → shifted (64 + n) size i ≡ min (i + n) (size - 1)
-offset-minus n size i h = omega arith
-
-pub offset-none : (size i : ℕ) → i < size → shifted 64 size i ≡ i
-offset-none size i h = omega arith
-
--- A row or a column that is moved is one still.
-pub moved-below : (m : Signed) (size r : ℕ) → r < size → movedBy m size r < size
-moved-below (Plus n) size r h = omega arith
-moved-below (Minus n) size r h = omega arith
-moved-below Lacks size r h = h
-
 module _ (g : Geometry) (i : ℕ) (inside : i < samplesOf g) where
   columns-some : 0 < g .columns
   columns-some = go (g .columns) inside
@@ -232,21 +214,12 @@ module _ (g : Geometry) (i : ℕ) (inside : i < samplesOf g) where
   pub column-below : i % g .columns < g .columns
   column-below = mod-lt i columns-some
 
-  -- The mask sample that a sample takes lies in the frame.
-  pub source-below : (m : Moves) → sourceOf g m i < samplesOf g
-  unfolding sourceOf
-  source-below m = cell-below (movedBy (m .vertical) (g .rows) (i / g .columns)) (movedBy (m .horizontal) (g .columns) (i % g .columns)) (moved-below (m .vertical) (g .rows) (i / g .columns) row-below) (moved-below (m .horizontal) (g .columns) (i % g .columns) column-below)
-    where
-      cell-below : (r c : ℕ) → r < g .rows → c < g .columns → r * g .columns + c < g .rows * g .columns
-      cell-below r c hr hc =
-          let a : (r + 1) * g .columns ≤ g .rows * g .columns = mul-le-mul-right (g .columns) (omega arith) in
-          let b : (r + 1) * g .columns ≡ r * g .columns + g .columns = omega arith in
-          omega arith
-
-  -- The offsets of two moves.
-  pub offset-shade : (table v : List ℕ) (f : ℕ) (ks : List ℕ) (m : Moves) (down right : ℕ) → OffsetOf (m .vertical) down → OffsetOf (m .horizontal) right → offsetShade table g v f ks down right i ≡ maskedShade table g v f ks m i
-  unfolding offsetShade maskedShade sourceOf
-  offset-shade table v f ks m down right d r = rw (d .moves (g .rows) (i / g .columns) row-below, r .moves (g .columns) (i % g .columns) column-below)
+  -- A cell of the picture.
+  pub cell-below : (r c : ℕ) → r < g .rows → c < g .columns → r * g .columns + c < samplesOf g
+  cell-below r c hr hc =
+      let a : (r + 1) * g .columns ≤ g .rows * g .columns = mul-le-mul-right (g .columns) (omega arith) in
+      let b : (r + 1) * g .columns ≡ r * g .columns + g .columns = omega arith in
+      omega arith
 
 -- A row's shades are those of its samples.
 pub row-offset : (table v : List ℕ) (g : Geometry) (f : ℕ) (ks sums : List ℕ) (down right r n : ℕ) → right ≤ 128 → n ≡ length ks → Spread v g ks (shifted down (g .rows) r) sums → (c : ℕ) → c < g .columns → rowShade table g v ((f - 1) * samplesOf g + r * g .columns) sums n right c ≡ offsetShade table g v f ks down right (r * g .columns + c)
@@ -308,6 +281,12 @@ pub added-more : (a : ℕ → ℕ) (i : ℕ) (s : List ℕ) → set (painted (λ
 added-more a i s =
     ap (λ (y : ℕ). set (painted (λ c. getD s c 0 + a c) i s) i (y + a i)) (painted-beyond (λ c. getD s c 0 + a c) i s i (omega arith))
     ∙ painted-more (λ c. getD s c 0 + a c) i s
+
+-- Each place changed by h.
+pub changed-more : (h : ℕ → ℕ) (i : ℕ) (s : List ℕ) → set (painted (λ c. h (getD s c 0)) i s) i (h (getD (painted (λ c. h (getD s c 0)) i s) i 0)) ≡ painted (λ c. h (getD s c 0)) (i + 1) s
+changed-more h i s =
+    ap (λ (y : ℕ). set (painted (λ c. h (getD s c 0)) i s) i (h y)) (painted-beyond (λ c. h (getD s c 0)) i s i (omega arith))
+    ∙ painted-more (λ c. h (getD s c 0)) i s
 
 -- The same from a place on.
 pub from-more : (f : ℕ → ℕ) (at i : ℕ) (s : List ℕ) → set (paintedFrom f at i s) (at + i) (f i) ≡ paintedFrom f at (i + 1) s
@@ -384,36 +363,36 @@ module _ (k r c w : ℕ) (hk : k ≤ 65535) (hr : r ≤ 65535) (hc : c ≤ 65535
 -- ---- The sums of a row
 
 -- A row from place 64 on, its first value put before it, and its last behind it.
-module _ (columns : ℕ) (s : List ℕ) (some : 1 ≤ columns) (fits : columns + 128 ≤ length s) where
+module _ (columns : ℕ) (s : List ℕ) (some : 1 ≤ columns) (fits : columns + 129 ≤ length s) where
   abbrev left : List ℕ
   left = paintedFrom (λ _. getD s 64 0) 0 64 s
 
   abbrev whole : List ℕ
-  whole = paintedFrom (λ _. getD s (64 + columns - 1) 0) (64 + columns) 64 left
+  whole = paintedFrom (λ _. getD s (64 + columns - 1) 0) (64 + columns) 65 left
 
   at-left : (j : ℕ) → j < 64 → getD whole j 0 ≡ getD s (64 + min (j - 64) (columns - 1)) 0
   at-left j l =
       let a : 64 + min (j - 64) (columns - 1) ≡ 64 = omega arith in
       let b : getD left (0 + j) 0 ≡ getD s 64 0 = from-at (λ _. getD s 64 0) 0 64 s j (omega arith) l in
-      from-before (λ _. getD s (64 + columns - 1) 0) (64 + columns) 64 left j (omega arith) ∙ ap (λ (i : ℕ). getD left i 0) (sym (zero-add j)) ∙ b ∙ ap (λ (i : ℕ). getD s i 0) (sym a)
+      from-before (λ _. getD s (64 + columns - 1) 0) (64 + columns) 65 left j (omega arith) ∙ ap (λ (i : ℕ). getD left i 0) (sym (zero-add j)) ∙ b ∙ ap (λ (i : ℕ). getD s i 0) (sym a)
 
   at-middle : (j : ℕ) → 64 ≤ j → j < 64 + columns → getD whole j 0 ≡ getD s (64 + min (j - 64) (columns - 1)) 0
   at-middle j h l =
       let a : 64 + min (j - 64) (columns - 1) ≡ j = omega arith in
-      from-before (λ _. getD s (64 + columns - 1) 0) (64 + columns) 64 left j l ∙ from-after (λ _. getD s 64 0) 0 64 s j (omega arith) ∙ ap (λ (i : ℕ). getD s i 0) (sym a)
+      from-before (λ _. getD s (64 + columns - 1) 0) (64 + columns) 65 left j l ∙ from-after (λ _. getD s 64 0) 0 64 s j (omega arith) ∙ ap (λ (i : ℕ). getD s i 0) (sym a)
 
-  at-right : (j : ℕ) → 64 + columns ≤ j → j < columns + 128 → getD whole j 0 ≡ getD s (64 + min (j - 64) (columns - 1)) 0
+  at-right : (j : ℕ) → 64 + columns ≤ j → j < columns + 129 → getD whole j 0 ≡ getD s (64 + min (j - 64) (columns - 1)) 0
   at-right j h l =
       let a : 64 + min (j - 64) (columns - 1) ≡ 64 + columns - 1 = omega arith in
       let e : 64 + columns + (j - (64 + columns)) ≡ j = omega arith in
       let f : length left ≡ length s = from-length (λ _. getD s 64 0) 0 64 s in
-      ap (λ (i : ℕ). getD whole i 0) (sym e) ∙ from-at (λ _. getD s (64 + columns - 1) 0) (64 + columns) 64 left (j - (64 + columns)) (omega arith) (omega arith) ∙ ap (λ (i : ℕ). getD s i 0) (sym a)
+      ap (λ (i : ℕ). getD whole i 0) (sym e) ∙ from-at (λ _. getD s (64 + columns - 1) 0) (64 + columns) 65 left (j - (64 + columns)) (omega arith) (omega arith) ∙ ap (λ (i : ℕ). getD s i 0) (sym a)
 
-  pub spread-at : (j : ℕ) → j < columns + 128 → getD whole j 0 ≡ getD s (64 + min (j - 64) (columns - 1)) 0
+  pub spread-at : (j : ℕ) → j < columns + 129 → getD whole j 0 ≡ getD s (64 + min (j - 64) (columns - 1)) 0
   spread-at j l = ⊎-elim (at-left j) (λ h. ⊎-elim (at-middle j h) (λ m. at-right j m l) (below-or-not j (64 + columns))) (below-or-not j 64)
 
 -- The sums of a row, put so into a list from place 64 on.
-pub spread-row : (v : List ℕ) (g : Geometry) (ks : List ℕ) (row : ℕ) (sums s rest after : List ℕ) → 1 ≤ g .columns → g .columns ≤ length sums → 64 ≤ length s → Summed v g ks row sums → ((j : ℕ) → j < g .columns + 128 → getD after j 0 ≡ getD (take 64 s ++ (sums ++ rest)) (64 + min (j - 64) (g .columns - 1)) 0) → Spread v g ks row after
+pub spread-row : (v : List ℕ) (g : Geometry) (ks : List ℕ) (row : ℕ) (sums s rest after : List ℕ) → 1 ≤ g .columns → g .columns ≤ length sums → 64 ≤ length s → Summed v g ks row sums → ((j : ℕ) → j < g .columns + 129 → getD after j 0 ≡ getD (take 64 s ++ (sums ++ rest)) (64 + min (j - 64) (g .columns - 1)) 0) → Spread v g ks row after
 spread-row v g ks row sums s rest after some fits room r a = record { at = λ j l. a j l ∙ part (min (j - 64) (g .columns - 1)) (low j) ∙ r .at (min (j - 64) (g .columns - 1)) (low j) }
   where
     low : (j : ℕ) → min (j - 64) (g .columns - 1) < g .columns
@@ -454,7 +433,7 @@ module _ (v : List ℕ) (g : Geometry) (ks : List ℕ) (row : ℕ) where
       let e : getD s c 0 ≡ sumAt g v (drop k ks) (row * g .columns + c) = sums .at c l in
       omega arith
 
-pub spread-most : (v : List ℕ) (g : Geometry) (ks : List ℕ) (row : ℕ) (s : List ℕ) (n : ℕ) → n ≡ length ks → Spread v g ks row s → (j : ℕ) → j < g .columns + 128 → getD s j 0 ≤ n * (2 ^ g .stored - 1)
+pub spread-most : (v : List ℕ) (g : Geometry) (ks : List ℕ) (row : ℕ) (s : List ℕ) (n : ℕ) → n ≡ length ks → Spread v g ks row s → (j : ℕ) → j < g .columns + 129 → getD s j 0 ≤ n * (2 ^ g .stored - 1)
 spread-most v g ks row s n e sums j l = rw (sums .at j l, e) (sum-most g v ks (row * g .columns + min (j - 64) (g .columns - 1)))
 
 -- Number k of the mask frames.

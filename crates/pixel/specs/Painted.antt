@@ -5,7 +5,7 @@ use mathlib.Core.List.{List}
 use lib.ListN.{getD, set}
 use Rattle.shift.specs.declared.Moves.{Moves}
 use Rattle.pixel.specs.declared.Geometry.{Geometry}
-use Rattle.pixel.specs.Pixel.{sampleAt, maskAt, sourceOf}
+use Rattle.pixel.specs.Pixel.{sampleAt, blendedAt}
 
 -- The first n bytes of an image are f 0, f 1, ..; it is untouched beyond them.
 unfoldable pub painted : (ℕ → ℕ) → ℕ → List ℕ → List ℕ
@@ -16,4 +16,4 @@ unfoldable pub nativeShade : List ℕ → Geometry → List ℕ → ℕ → ℕ 
 nativeShade table g v f i = getD table (sampleAt g v f i + (2 ^ g .stored - 1 - 2 ^ (g .stored - 1))) 0
 
 unfoldable pub maskedShade : List ℕ → Geometry → List ℕ → ℕ → List ℕ → Moves → ℕ → ℕ
-maskedShade table g v f ks m i = getD table (sampleAt g v f i + (2 ^ g .stored - 1) - maskAt g v ks (sourceOf g m i)) 0
+maskedShade table g v f ks m i = getD table (sampleAt g v f i + (2 ^ g .stored - 1) - blendedAt g v ks m i) 0

@@ -1,16 +1,34 @@
 -- What contracts say beside the definitions of a picture: what painting needs, and what each part of the code comes to.
 use mathlib.Core.Path.{_≡_}
 use mathlib.Core.Bool.{true}
-use mathlib.Core.List.{List}
+use mathlib.Core.List.{List, [], _∷_}
 use mathlib.Core.Logic.{_⊎_}
 use Prim.Native.Nat.{ℕ, zero, suc, _+_, _-_, _*_, _/_, _%_, _^_, _≤_, _<_, min}
 use lib.ListN.{length, getD, set}
 use Rattle.value.specs.Number.{usValues}
 use Rattle.value.specs.declared.Signed.{Signed}
 use Rattle.shift.specs.declared.Moves.{Moves}
+use Rattle.shift.specs.Shift.{shiftUnit, largestShift, largestMove}
 use Rattle.shift.specs.Said.{ShortMoves}
 use Rattle.pixel.specs.declared.Geometry.{Geometry}
-use Rattle.pixel.specs.Pixel.{leBytes, samplesOf, isFrame, sampleAt, sumAt, averageOf, maskAt, movedBy}
+use Rattle.pixel.specs.Pixel.{leBytes, samplesOf, isFrame, sampleAt, sumAt, averageOf, maskAt, placeOf, restOf, blockOf, weightsOf, blendOf}
+
+-- ---- Room for moves
+
+-- The places of a row beside its columns: the largest move at either edge, and one more for the right neighbour.
+abbrev pub edges : ℕ
+edges = 2 * largestShift + 1
+
+-- The places of the longest row.
+abbrev pub longestRow : ℕ
+longestRow = 65535 + edges
+
+-- The largest offset of a whole move, and of one in quarters (see `shifted`, `OffsetOf`).
+abbrev pub farthest : ℕ
+farthest = 2 * largestShift
+
+abbrev pub farthestMove : ℕ
+farthestMove = 2 * largestMove
 
 -- ---- What painting needs
 
@@ -19,6 +37,7 @@ pub record Shaped (g : Geometry) : Type 0 where
   pub width : (g .width ≡ 1) ⊎ (g .width ≡ 2)
   pub stored-some : 1 ≤ g .stored
   pub stored-most : g .stored ≤ 16
+  pub rows-some : 1 ≤ g .rows
   pub rows-most : g .rows ≤ 65535
   pub columns-some : 1 ≤ g .columns
   pub columns-most : g .columns ≤ 65535
@@ -67,13 +86,15 @@ pub record Row (v : List ℕ) (g : Geometry) (from : ℕ) : Type 0 where
 
 -- ---- Moves
 
--- Where place i comes to by an offset, that is 64 less a move, limited at either edge, where there are `size` places.
+-- Where place i comes to by an offset, that is the largest move less a whole move, limited at either edge, where there are `size` places.
 abbrev pub shifted : ℕ → ℕ → ℕ → ℕ
-shifted s size i = min (i + s - 64) (size - 1)
+shifted s size i = min (i + s - largestShift) (size - 1)
 
-pub record OffsetOf (m : Signed) (s : ℕ) : Type 0 where
-  pub most : s ≤ 128
-  pub moves : (size i : ℕ) → i < size → shifted s size i ≡ movedBy m size i
+-- An offset of quarters, that is the largest move less a move: its whole part is an offset, its rest the quarters above.
+pub record OffsetOf (m : Signed) (d : ℕ) : Type 0 where
+  pub most : d ≤ farthestMove
+  pub places : (size r k : ℕ) → placeOf m size r k ≡ shifted (d / shiftUnit + k) size r
+  pub above : (r : ℕ) → restOf m r ≡ d % shiftUnit
 
 -- ---- Sums of a row
 
@@ -81,9 +102,25 @@ pub record OffsetOf (m : Signed) (s : ℕ) : Type 0 where
 pub record Summed (v : List ℕ) (g : Geometry) (ks : List ℕ) (row : ℕ) (sums : List ℕ) : Type 0 where
   pub at : (c : ℕ) → c < g .columns → getD sums c 0 ≡ sumAt g v ks (row * g .columns + c)
 
--- The same from place 64 on, with the first of them in the 64 places before, and the last in the 64 places after.
+-- The same behind the left edge, with the first of them in the places before, and the last in the places after.
 pub record Spread (v : List ℕ) (g : Geometry) (ks : List ℕ) (row : ℕ) (sums : List ℕ) : Type 0 where
-  pub at : (j : ℕ) → j < g .columns + 128 → getD sums j 0 ≡ sumAt g v ks (row * g .columns + min (j - 64) (g .columns - 1))
+  pub at : (j : ℕ) → j < g .columns + edges → getD sums j 0 ≡ sumAt g v ks (row * g .columns + min (j - largestShift) (g .columns - 1))
+
+-- Averages in place of sums.
+pub record Averaged (v : List ℕ) (g : Geometry) (ks : List ℕ) (row : ℕ) (cells : List ℕ) : Type 0 where
+  pub at : (j : ℕ) → j < g .columns + edges → getD cells j 0 ≡ maskAt g v ks (row * g .columns + min (j - largestShift) (g .columns - 1))
+
+-- ---- Blending
+
+-- Four cells of a mask, none above `most`, and four weights of sixteenths.
+pub record Cells (most : ℕ) (block : List (List ℕ)) : Type 0 where
+  pub first : getD (getD block 0 []) 0 0 ≤ most
+  pub second : getD (getD block 0 []) 1 0 ≤ most
+  pub third : getD (getD block 1 []) 0 0 ≤ most
+  pub fourth : getD (getD block 1 []) 1 0 ≤ most
+
+pub record Weights (w : List ℕ) : Type 0 where
+  pub total : getD w 0 0 + getD w 1 0 + getD w 2 0 + getD w 3 0 ≡ 16
 
 -- ---- Painting
 
@@ -108,15 +145,67 @@ pub record Drawn (v : List ℕ) (g : Geometry) (from at n s : ℕ) (table sums i
   pub row : Row v g from
   pub some : 1 ≤ n
   pub few : n ≤ 64
-  pub most : s ≤ 128
+  pub most : s ≤ farthest
   pub shades : 131072 ≤ length table
-  pub summed : (j : ℕ) → j < g .columns + 128 → (j < length sums) × (getD sums j 0 ≤ n * (2 ^ g .stored - 1))
+  pub summed : (j : ℕ) → j < g .columns + edges → (j < length sums) × (getD sums j 0 ≤ n * (2 ^ g .stored - 1))
   pub room : at + g .columns ≤ length image
 
 -- What the rows of a frame are painted from; `sums` is room for a row and its edges.
 pub record RowsReady (v : List ℕ) (g : Geometry) (f : ℕ) (masks : List ℕ) (down right : ℕ) (table sums image : List ℕ) : Type 0 where
   pub ready : Ready v g f table image
   pub taken : Masks v g masks
-  pub down-most : down ≤ 128
-  pub right-most : right ≤ 128
-  pub row : 65663 ≤ length sums
+  pub down-most : down ≤ farthest
+  pub right-most : right ≤ farthest
+  pub row : longestRow ≤ length sums
+
+-- ---- Painting by quarters
+
+-- The two by two block at place j of two rows.
+abbrev pub blockAt : List ℕ → List ℕ → ℕ → List (List ℕ)
+blockAt upper lower j = (getD upper j 0 ∷ getD upper (j + 1) 0 ∷ []) ∷ (getD lower j 0 ∷ getD lower (j + 1) 0 ∷ []) ∷ []
+
+-- The shade of cell c of a row that begins with sample `from`, blended from two rows of averages.
+unfoldable pub blendShade : List ℕ → Geometry → List ℕ → ℕ → List ℕ → List ℕ → List ℕ → ℕ → ℕ → ℕ
+blendShade table g v from upper lower w s c = getD table (cellAt g v (from + c) + (2 ^ g .stored - 1) - blendOf (blockAt upper lower (c + s)) w) 0
+
+-- The shade of sample i by two offsets of quarters, down and to the right.
+unfoldable pub quarterShade : List ℕ → Geometry → List ℕ → ℕ → List ℕ → ℕ → ℕ → ℕ → ℕ
+quarterShade table g v f ks down right i =
+    getD table
+    (sampleAt g v f i
+    + (2 ^ g .stored - 1)
+    - blendOf
+    (blockOf (λ y x. maskAt g v ks (shifted (down / shiftUnit + y) (g .rows) (i / g .columns) * g .columns + shifted (right / shiftUnit + x) (g .columns) (i % g .columns))))
+    (weightsOf (down % shiftUnit) (right % shiftUnit)))
+    0
+
+-- A row of averages, of which none is above what the samples hold.
+pub record Averages (g : Geometry) (cells : List ℕ) : Type 0 where
+  pub at : (j : ℕ) → j < g .columns + edges → (j < length cells) × (getD cells j 0 ≤ 2 ^ g .stored - 1)
+
+-- What a row is blended from.
+pub record Blended (v : List ℕ) (g : Geometry) (from at s : ℕ) (w table upper lower image : List ℕ) : Type 0 where
+  pub row : Row v g from
+  pub most : s ≤ farthest
+  pub weights : Weights w
+  pub shades : 131072 ≤ length table
+  pub above : Averages g upper
+  pub below : Averages g lower
+  pub room : at + g .columns ≤ length image
+
+-- What a frame is painted from by offsets in quarters; `row` is room for a row and its edges.
+pub record QuartersReady (v : List ℕ) (g : Geometry) (f : ℕ) (masks : List ℕ) (down right : ℕ) (table row image : List ℕ) : Type 0 where
+  pub ready : Ready v g f table image
+  pub taken : Masks v g masks
+  pub down-most : down ≤ farthestMove
+  pub right-most : right ≤ farthestMove
+  pub long : longestRow ≤ length row
+
+-- What the rows of a frame are blended from; `upper` and `lower` are room for a row and its edges.
+pub record BlendReady (v : List ℕ) (g : Geometry) (f : ℕ) (masks : List ℕ) (down right : ℕ) (table upper lower image : List ℕ) : Type 0 where
+  pub ready : Ready v g f table image
+  pub taken : Masks v g masks
+  pub down-most : down ≤ farthestMove
+  pub right-most : right ≤ farthestMove
+  pub above : longestRow ≤ length upper
+  pub below : longestRow ≤ length lower

@@ -85,7 +85,7 @@ offsetFits ns j = cond (operationIs ns (ascii "TID") j) (ifPresent (find ns Tags
 unfoldable pub rule34 : List Node → Bool
 rule34 ns = every (offsetFits ns) (maskItems ns)
 
--- Rule 35. Mask Sub-pixel Shift (0028,6114) FL in a mask item, if present, two whole numbers in -64..64 (local rule).
+-- Rule 35. Mask Sub-pixel Shift (0028,6114) FL in a mask item, if present, two numbers in -64..64, whole multiples of 1/4 (local rule).
 unfoldable pub isShiftAt : List Node → ℕ → Bool
 isShiftAt ns k = eqb (nodeAt ns k .vr) FL && isShift (valueAt ns k)
 

@@ -24,7 +24,7 @@ use Rattle.rules.specs.Pixels.{isPixelVr, isPixelData, rule38}
 use Rattle.rules.specs.All.{ruleList, ruleAt}
 use Rattle.conformance.specs.Judging.{firstFrame, frameCount, lowest, firstBroken, judgeOf}
 use Rattle.window.specs.Window.{fullWindow, levelFor, levelOf, shadeOf}
-use Rattle.pixel.specs.Pixel.{leBytes, isFrame, sampleAt, sumAt, averageOf, maskAt, sourceOf}
+use Rattle.pixel.specs.Pixel.{leBytes, isFrame, sampleAt, sumAt, averageOf, maskAt, placeOf, restOf, neighbourOf, areInside, blendOf, blendedAt}
 use Rattle.steps.specs.Given.{collect}
 use Rattle.steps.specs.Steps.{geometryOf, pixelsOf, groupFor, rangeHolds, firstHolding, applyingTo, averageFrames, offsetOf, tidFrame, shiftFor, movesFor, maskBy, maskFor, windowIn, windowFor, inverseOf, nativeCell, maskedCell, areFrames, pictureBy, stepsOf}
 use Rattle.display.specs.Show.{pictureOf, acceptedAnswer, showOf, imageOf}
@@ -53,7 +53,7 @@ unfolding
     ruleList ruleAt
     firstFrame frameCount lowest firstBroken judgeOf
     fullWindow levelFor levelOf shadeOf
-    leBytes isFrame sampleAt sumAt averageOf maskAt sourceOf
+    leBytes isFrame sampleAt sumAt averageOf maskAt placeOf restOf neighbourOf areInside blendOf blendedAt
     collect
     geometryOf pixelsOf groupFor rangeHolds firstHolding applyingTo averageFrames offsetOf tidFrame shiftFor movesFor maskBy maskFor windowIn windowFor inverseOf nativeCell maskedCell areFrames pictureBy stepsOf
     pictureOf acceptedAnswer showOf imageOf

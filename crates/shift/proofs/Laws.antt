@@ -1,4 +1,4 @@
--- For callers: what a value in rule 35's form has, so that its shift moves the mask by whole numbers from -64 to 64.
+-- For callers: what a value in rule 35's form has, so that its shift moves the mask by quarters from -64 to 64.
 use mathlib.Core.Path.{_≡_, refl, sym, _∙_, subst}
 use mathlib.Core.Bool.{Bool, true, false, _&&_, cond}
 use mathlib.Core.List.{List}
@@ -14,7 +14,7 @@ use Rattle.value.specs.Number.{isNumber}
 use Rattle.value.specs.Said.{SizeBelow}
 use Rattle.shift.specs.declared.Shift.{Shift}
 use Rattle.shift.specs.declared.Shift.the-variants as shift
-use Rattle.shift.specs.Shift.{floatAt, wholeOf, largestShift, isShort, shortOf, movesOf, shortMovesOf, isShiftOf, itemShift, frameShift, isShift}
+use Rattle.shift.specs.Shift.{floatAt, quartersOf, largestMove, isShort, shortOf, movesOf, shortMovesOf, isShiftOf, itemShift, frameShift, isShift}
 use Rattle.shift.specs.Said.{ShortMoves}
 
 both : (p q : Bool) → p && q ≡ true → (p ≡ true) × (q ≡ true)
@@ -24,9 +24,9 @@ both false q h = absurd (subst T (sym h) tt)
 -- ---- One number
 
 -- The code's test of a number: it has one where the number is short.
-pub number-short : (x : Float) → isNumber (shortOf x) ≡ isShort (wholeOf x)
+pub number-short : (x : Float) → isNumber (shortOf x) ≡ isShort (quartersOf x)
 unfolding shortOf
-number-short x = go (wholeOf x)
+number-short x = go (quartersOf x)
   where
     kept : (t : Bool) (w : Signed) → isNumber w ≡ true → isNumber (cond t w Lacks) ≡ t
     kept true w h = h
@@ -37,21 +37,21 @@ number-short x = go (wholeOf x)
     go (Minus n) = kept (isShort (Minus n)) (Minus n) refl
     go Lacks = refl
 
-pub short-is : (x : Float) → isShort (wholeOf x) ≡ true → wholeOf x ≡ shortOf x
+pub short-is : (x : Float) → isShort (quartersOf x) ≡ true → quartersOf x ≡ shortOf x
 unfolding shortOf
 short-is x h = rw h
 
-pub short-below : (x : Float) → SizeBelow 65 (shortOf x)
+pub short-below : (x : Float) → SizeBelow 257 (shortOf x)
 unfolding shortOf
-short-below x = go (wholeOf x)
+short-below x = go (quartersOf x)
   where
-    kept : (n : ℕ) (w : Signed) (t : Bool) → leb n largestShift ≡ t → (n < 65 → SizeBelow 65 w) → SizeBelow 65 (cond t w Lacks)
-    kept n w true h k = k (omega (arith, leb-true n largestShift h))
+    kept : (n : ℕ) (w : Signed) (t : Bool) → leb n largestMove ≡ t → (n < 257 → SizeBelow 257 w) → SizeBelow 257 (cond t w Lacks)
+    kept n w true h k = k (omega (arith, leb-true n largestMove h))
     kept n w false h k = tt
 
-    go : (w : Signed) → SizeBelow 65 (cond (isShort w) w Lacks)
-    go (Plus n) = kept n (Plus n) (leb n largestShift) refl (λ h. h)
-    go (Minus n) = kept n (Minus n) (leb n largestShift) refl (λ h. h)
+    go : (w : Signed) → SizeBelow 257 (cond (isShort w) w Lacks)
+    go (Plus n) = kept n (Plus n) (leb n largestMove) refl (λ h. h)
+    go (Minus n) = kept n (Minus n) (leb n largestMove) refl (λ h. h)
     go Lacks = tt
 
 -- ---- Two numbers
@@ -84,7 +84,7 @@ moves-short (shift.Frame v h) e = rw (short-is v (moves-both (shift.Frame v h) e
 -- ---- A value
 
 -- What says nothing of whose the numbers are is the same of the item's and of the frame's own.
-same-of : {A : Type 0} (f : Shift → A) → ((a b : Float) → f (shift.Item a b) ≡ f (shift.Frame a b)) → (v : List ℕ) → f (itemShift v) ≡ f (frameShift v)
+pub same-of : {A : Type 0} (f : Shift → A) → ((a b : Float) → f (shift.Item a b) ≡ f (shift.Frame a b)) → (v : List ℕ) → f (itemShift v) ≡ f (frameShift v)
 unfolding itemShift frameShift
 same-of f same v = go (eqb (length v) 8)
   where
@@ -124,11 +124,11 @@ module _ (v : List ℕ) (is : isShift v ≡ true) where
   pub frame-is : isShiftOf (frameShift v) ≡ true
   frame-is = sym (same-test v) ∙ item-is
 
-  pub vertical-short : isShort (wholeOf (floatAt v 0)) ≡ true
+  pub vertical-short : isShort (quartersOf (floatAt v 0)) ≡ true
   unfolding movesOf
   vertical-short = moves-both (shift.Item (floatAt v 0) (floatAt v 4)) (rw shift-item at item-is) .0
 
-  pub horizontal-short : isShort (wholeOf (floatAt v 4)) ≡ true
+  pub horizontal-short : isShort (quartersOf (floatAt v 4)) ≡ true
   unfolding movesOf
   horizontal-short = moves-both (shift.Item (floatAt v 0) (floatAt v 4)) (rw shift-item at item-is) .1
 

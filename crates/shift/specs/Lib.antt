@@ -1,2 +1,4 @@
 pub mod Shift
 pub mod Said
+pub mod Whole
+pub mod Agree

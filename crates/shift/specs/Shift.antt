@@ -22,41 +22,49 @@ signedSize false n = Plus n
 signedSize true zero = Plus 0
 signedSize true (suc n) = Minus (suc n)
 
--- The whole number that a float is, of any size; NaN, the infinities and fractions are none. The float `fin s m e` is
--- m × 2^e, that is m × up e / down e, with the sign s.
-unfoldable pub wholeOf : Float → Signed
-wholeOf nan = Lacks
-wholeOf (inf s) = Lacks
-wholeOf (fin s m e) = cond (eqb (m * up e % down e) 0) (signedSize s (m * up e / down e)) Lacks
+-- A shift counts quarters of a pixel.
+abbrev pub shiftUnit : ℕ
+shiftUnit = 4
 
--- The largest whole number that a shift may have, to either side (local rule).
+-- How many quarters a float is, of any size; NaN, the infinities and other fractions are none. The float `fin s m e` is
+-- m × 2^e, that is m × up e / down e, with the sign s.
+unfoldable pub quartersOf : Float → Signed
+quartersOf nan = Lacks
+quartersOf (inf s) = Lacks
+quartersOf (fin s m e) =
+    cond (eqb (m * up e * shiftUnit % down e) 0) (signedSize s (m * up e * shiftUnit / down e)) Lacks
+
+-- The largest number that a shift may have, to either side (local rule); in quarters.
 abbrev pub largestShift : ℕ
 largestShift = 64
 
+abbrev pub largestMove : ℕ
+largestMove = shiftUnit * largestShift
+
 abbrev pub isShort : Signed → Bool
-isShort (Plus n) = leb n largestShift
-isShort (Minus n) = leb n largestShift
+isShort (Plus n) = leb n largestMove
+isShort (Minus n) = leb n largestMove
 isShort Lacks = false
 
--- A whole number from -64 to 64.
+-- Whole quarters from -64 to 64.
 unfoldable pub shortOf : Float → Signed
-shortOf x = cond (isShort (wholeOf x)) (wholeOf x) Lacks
+shortOf x = cond (isShort (quartersOf x)) (quartersOf x) Lacks
 
 -- ---- No shift, the item's two numbers, or the frame's own two
 
--- How far a shift moves the mask, down and to the right.
+-- How far a shift moves the mask, down and to the right, in quarters.
 unfoldable pub movesOf : Shift → Moves
 movesOf shift.None = record { vertical = Plus 0; horizontal = Plus 0 }
-movesOf (shift.Item v h) = record { vertical = wholeOf v; horizontal = wholeOf h }
-movesOf (shift.Frame v h) = record { vertical = wholeOf v; horizontal = wholeOf h }
+movesOf (shift.Item v h) = record { vertical = quartersOf v; horizontal = quartersOf h }
+movesOf (shift.Frame v h) = record { vertical = quartersOf v; horizontal = quartersOf h }
 
--- The same, for whole numbers from -64 to 64 alone.
+-- The same, for quarters from -64 to 64 alone.
 unfoldable pub shortMovesOf : Shift → Moves
 shortMovesOf shift.None = record { vertical = Plus 0; horizontal = Plus 0 }
 shortMovesOf (shift.Item v h) = record { vertical = shortOf v; horizontal = shortOf h }
 shortMovesOf (shift.Frame v h) = record { vertical = shortOf v; horizontal = shortOf h }
 
--- Both numbers of a shift are whole numbers from -64 to 64.
+-- Both numbers of a shift are whole quarters from -64 to 64.
 unfoldable pub isShiftOf : Shift → Bool
 isShiftOf s = isShort (movesOf s .vertical) && isShort (movesOf s .horizontal)
 
@@ -67,6 +75,6 @@ itemShift v = cond (eqb (length v) 8) (shift.Item (floatAt v 0) (floatAt v 4)) s
 unfoldable pub frameShift : List ℕ → Shift
 frameShift v = cond (eqb (length v) 8) (shift.Frame (floatAt v 0) (floatAt v 4)) shift.None
 
--- Rule 35's form of a value: two whole numbers from -64 to 64.
+-- Rule 35's form of a value: two numbers from -64 to 64, each a whole multiple of 1/4.
 unfoldable pub isShift : List ℕ → Bool
 isShift v = eqb (length v) 8 && isShiftOf (itemShift v)

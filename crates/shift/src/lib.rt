@@ -1,5 +1,5 @@
-// Shifts of the mask: two FL numbers, vertical then horizontal. A shift is told from its two floats, so that a number
-// that is not whole can be named; a shift that the rules let pass has whole numbers from -64 to 64 alone.
+// Shifts of the mask: two FL numbers, vertical then horizontal, counted in quarters of a pixel. A shift is told from its
+// two floats, so that a number that is no whole quarter can be named; the rules let pass quarters from -64 to 64 alone.
 ghost use mathlib.Core.Path.{_≡_};
 ghost use mathlib.Core.Bool.{false};
 ghost use Prim.Native.Nat.{_+_, _≤_};
@@ -8,7 +8,7 @@ ghost use lib.Ieee.{ofBits, binary32, lt};
 ghost use Rattle.value.specs.Said.{Below, SizeBelow};
 ghost use Rattle.value.specs.Number.{isNumber};
 ghost use Rattle.shift.specs.Shift.{floatAt, shortOf, shortMovesOf, isShiftOf, itemShift, frameShift, isShift};
-ghost use Rattle.shift.specs.Said.{shortSize, ShortMoves};
+ghost use Rattle.shift.specs.Said.{shortSize, tooFar, ShortMoves};
 use dataset::u32_at;
 use value::Num;
 use value::Signed;
@@ -20,7 +20,7 @@ pub enum Shift {
     Frame(f32, f32),
 }
 
-// How far a shift moves the mask.
+// How far a shift moves the mask, in quarters.
 pub struct Moves {
     pub vertical: Signed,
     pub horizontal: Signed,
@@ -52,18 +52,19 @@ pub fn float_at(v: &[u8], p: usize) -> f32
     float_of(u32_at(v, p) as u32)
 }
 
-// ---- Whole numbers from -64 to 64
+// ---- Quarters from -64 to 64
 
-// The size of a float that is not negative: it is whole where nothing was cut off.
+// The quarters of a float that is not negative: they are whole where nothing was cut off.
 fn short_size(y: f32) -> Num
     requires { ⌜ lt y (ofBits binary32 0) ≡ false ⌝ }
     ensures { λ r. ⌜ r ≡ shortSize y ⌝ }
-    ensures { λ r. ⌜ Below 65 r ⌝ }
+    ensures { λ r. ⌜ Below tooFar r ⌝ }
 {
     if y <= 64.0 {
-        let n = std::num::truncating_f32_to_u64(y);
+        let z = y * 4.0;
+        let n = std::num::truncating_f32_to_u64(z);
         let back = std::num::nearest_u32_to_f32(n as u32);
-        if back == y {
+        if back == z {
             Num::Is(n as usize)
         } else {
             Num::Lacks
@@ -75,7 +76,7 @@ fn short_size(y: f32) -> Num
 
 pub fn short_of(x: f32) -> Signed
     ensures { λ r. ⌜ r ≡ shortOf x ⌝ }
-    ensures { λ r. ⌜ SizeBelow 65 r ⌝ }
+    ensures { λ r. ⌜ SizeBelow tooFar r ⌝ }
 {
     if x < 0.0 {
         match short_size(-x) {
@@ -122,7 +123,7 @@ fn is_number(n: Signed) -> bool
     }
 }
 
-// Both numbers of a shift are whole numbers from -64 to 64.
+// Both numbers of a shift are whole quarters from -64 to 64.
 pub fn is_shift_of(s: Shift) -> bool
     ensures { λ r. ⌜ r ≡ isShiftOf s ⌝ }
 {

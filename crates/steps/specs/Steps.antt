@@ -6,7 +6,7 @@ use mathlib.Core.Bool.{Bool, true, false, cond, _&&_, _||_}
 use mathlib.Core.List.{List, [], _∷_}
 use mathlib.Core.Option.{Option, none, some}
 use lib.ListN.{length}
-use lib.Dec.{eqb, leb, ltb}
+use lib.Dec.{eqb, leb}
 use lib.IntN.{ℤ, pos, _+ℤ_, _-ℤ_}
 use Rattle.dataset.specs.Vr.{SQ}
 use Rattle.value.specs.declared.Num.{Num}
@@ -29,7 +29,7 @@ use Rattle.element.specs.Frames.{framesOf, sharedItem, frameItem}
 use Rattle.rules.specs.Frame.{idIn}
 use Rattle.rules.specs.Mask.{operationIs}
 use Rattle.pixel.specs.declared.Geometry.{Geometry}
-use Rattle.pixel.specs.Pixel.{samplesOf, isFrame, sampleAt, maskAt, sourceOf}
+use Rattle.pixel.specs.Pixel.{samplesOf, isFrame, sampleAt, areInside, blendedAt}
 use Rattle.window.specs.declared.Window.{Window}
 use Rattle.window.specs.Window.{fullWindow, levelOf, levelHalf, shadeOf}
 use Rattle.steps.specs.declared.Applying.{Applying}
@@ -146,7 +146,7 @@ shiftFrom ns j (Is k) =
 unfoldable pub shiftFor : List Node → ℕ → ℕ → Option Shift
 shiftFor ns f j = then (groupFor ns f Tags.FramePixelShiftSequence) (λ g. then (ownIn ns j g) (shiftFrom ns j))
 
--- Both numbers are whole.
+-- Both numbers are whole quarters.
 unfoldable pub movesFor : List Node → ℕ → ℕ → Option Moves
 movesFor ns f j =
     then (shiftFor ns f j) (λ s.
@@ -209,14 +209,14 @@ shaded inverse (Is y) = Is (shadeOf inverse y)
 unfoldable pub nativeCell : Geometry → List ℕ → ℕ → Window → Bool → ℕ → Num
 nativeCell g v f w inverse i = shaded inverse (levelOf w (pos (sampleAt g v f i)))
 
--- The mask cell lies inside the picture. 2^(stored - 1) is 1/2 for 0 bits stored.
+-- The four mask cells lie inside the picture. 2^(stored - 1) is 1/2 for 0 bits stored.
 unfoldable pub maskedCell : Geometry → List ℕ → ℕ → List ℕ → Moves → Window → Bool → ℕ → Num
 maskedCell g v f ks m w inverse i =
-    cond (ltb (sourceOf g m i) (samplesOf g))
+    cond (areInside g m i)
     (shaded inverse
     (cond (eqb (g .stored) 0)
-    (levelHalf w (pos (sampleAt g v f i) -ℤ pos (maskAt g v ks (sourceOf g m i))))
-    (levelOf w (pos (sampleAt g v f i) -ℤ pos (maskAt g v ks (sourceOf g m i)) +ℤ pos (2 ^ (g .stored - 1))))))
+    (levelHalf w (pos (sampleAt g v f i) -ℤ pos (blendedAt g v ks m i)))
+    (levelOf w (pos (sampleAt g v f i) -ℤ pos (blendedAt g v ks m i) +ℤ pos (2 ^ (g .stored - 1))))))
     Lacks
 
 -- Every one is a whole frame inside the pixel bytes.

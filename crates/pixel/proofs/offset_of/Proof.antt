@@ -1,7 +1,10 @@
--- 64 less a number from -64 to 64 is from 0 to 128 (`Laws`).
+-- 256 less a number from -256 to 256 is from 0 to 512 (`Places`).
+use mathlib.Core.Path.{sym, subst}
 use native.Mathlib.Omega.{arith}
+use Rattle.value.specs.declared.Signed.{Signed}
 use Rattle.value.proofs.Laws.{below-plus, below-minus}
-use Rattle.pixel.proofs.Laws.{offset-plus, offset-minus, offset-none}
+use Rattle.pixel.specs.Said.{OffsetOf}
+use Rattle.pixel.proofs.Places.{offset-plus, offset-minus, offset-none}
 use borrow.Author.Needs.{needs}
 use Rattle.pixel.proofs.offset_of.Statement.{statement}
 use Rattle.pixel.proofs.offset_of.Tie as tie
@@ -11,38 +14,29 @@ enum-known-m c = search needs
 
 sub-result : tie.Need-sub-result
 sub-result c =
-    omega (arith, below-plus 65 _ _ (c .before .m .given .1) (c .before .before .before .pre))
+    omega (arith, below-plus 257 _ _ (c .before .m .given .1) (c .before .before .before .pre))
 
 enum-known-m-2 : tie.Need-enum-known-m-2
 enum-known-m-2 c = search needs
 
 add-result : tie.Need-add-result
 add-result c =
-    omega (arith, below-minus 65 _ _ (c .before .m2 .given .1) (c .before .before .before .pre))
+    omega (arith, below-minus 257 _ _ (c .before .m2 .given .1) (c .before .before .before .pre))
 
 enum-told : tie.Need-enum-told
 enum-told c = search needs
 
 returns : tie.Need-returns
 returns c =
-    record {
-      most = omega arith;
-      moves = λ size i h. rw (c .before .m .given .1) (offset-plus _ size i (below-plus 65 _ _ (c .before .m .given .1) (c .before .before .before .pre)) h);
-    }
+    rw (c .before .m .given .1) (offset-plus _ (below-plus 257 _ _ (c .before .m .given .1) (c .before .before .before .pre)))
 
 returns-2 : tie.Need-returns-2
 returns-2 c =
-    record {
-      most = omega (arith, below-minus 65 _ _ (c .before .m2 .given .1) (c .before .before .before .pre));
-      moves = λ size i h. rw (c .before .m2 .given .1) (offset-minus _ size i h);
-    }
+    rw (c .before .m2 .given .1) (offset-minus _ (below-minus 257 _ _ (c .before .m2 .given .1) (c .before .before .before .pre)))
 
 returns-3 : tie.Need-returns-3
 returns-3 c =
-    record {
-      most = omega arith;
-      moves = λ size i h. rw (c .enum-told .given .1) (offset-none size i h);
-    }
+    rw (c .enum-told .given .1) offset-none
 
 pub offset-of-spec : {M : Type 1} → statement M
 offset-of-spec =

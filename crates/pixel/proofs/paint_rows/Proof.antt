@@ -42,7 +42,7 @@ mul-at c =
 
 moved-requires : tie.Need-moved-requires Inv-loop μ-loop
 moved-requires c κs =
-    (c .loop-test .taken, (c .before .before .before .before .before .before .before .pre .ready .shape .rows-most, c .before .before .before .before .before .before .before .pre .down-most))
+    (c .loop-test .taken, (c .before .before .before .before .before .before .before .pre .ready .shape .rows-most, omega (arith, c .before .before .before .before .before .before .before .pre .down-most)))
 
 mask-row-requires : tie.Need-mask-row-requires Inv-loop μ-loop
 mask-row-requires c κs =

@@ -22,6 +22,9 @@ slice-read-last c = search needs
 fill-requires : tie.Need-fill-requires
 fill-requires c κs = search needs
 
+add-fill : tie.Need-add-fill
+add-fill c = search needs
+
 fill-requires-2 : tie.Need-fill-requires-2
 fill-requires-2 c κs = search needs
 
@@ -42,6 +45,7 @@ spread-spec =
     mul-last
     slice-read-last
     fill-requires
+    add-fill
     fill-requires-2
     same-length
     returns)

@@ -28,7 +28,7 @@ enum-told-2 c = search needs
 
 returns : tie.Need-returns
 returns c =
-    (sym (short-minus _ (c .before .before .before .before .if1 .taken) ∙ ap minus (sym (c .before .before .before .short-size .ensures .0) ∙ c .before .n .given .1)), below-is 65 _ _ (c .before .n .given .1) (c .before .before .before .short-size .ensures .1))
+    (sym (short-minus _ (c .before .before .before .before .if1 .taken) ∙ ap minus (sym (c .before .before .before .short-size .ensures .0) ∙ c .before .n .given .1)), below-is 257 _ _ (c .before .n .given .1) (c .before .before .before .short-size .ensures .1))
 
 returns-2 : tie.Need-returns-2
 returns-2 c =
@@ -36,7 +36,7 @@ returns-2 c =
 
 returns-3 : tie.Need-returns-3
 returns-3 c =
-    (sym (short-plus _ (c .before .before .before .before .if1 .left) ∙ ap plus (sym (c .before .before .before .short-size2 .ensures .0) ∙ c .before .n2 .given .1)), below-is 65 _ _ (c .before .n2 .given .1) (c .before .before .before .short-size2 .ensures .1))
+    (sym (short-plus _ (c .before .before .before .before .if1 .left) ∙ ap plus (sym (c .before .before .before .short-size2 .ensures .0) ∙ c .before .n2 .given .1)), below-is 257 _ _ (c .before .n2 .given .1) (c .before .before .before .short-size2 .ensures .1))
 
 returns-4 : tie.Need-returns-4
 returns-4 c =

@@ -1,32 +1,32 @@
--- A float from 0 to 64 that comes back from a whole number was one, and above 64 there is none to answer (`Floats`).
+-- Four times a float from 0 to 64 that comes back from a whole number was one, and above 64 there is none to answer (`Floats`).
 use mathlib.Core.Path.{sym}
 use mathlib.Core.Bool.{true, false}
 use native.Mathlib.Omega.{arith}
-use Rattle.shift.proofs.Floats.{low, high, castable, cut-low, size-by}
+use Rattle.shift.proofs.Floats.{low, high, castable, cut-low, fourTimes, four-times, size-by}
 use borrow.Author.Needs.{needs}
 use Rattle.shift.proofs.short_size.Statement.{statement}
 use Rattle.shift.proofs.short_size.Tie as tie
 
 truncating-f32-to-u64-requires : tie.Need-truncating-f32-to-u64-requires
 truncating-f32-to-u64-requires c κs =
-    castable _ (low _ (c .before .pre) (c .if1 .taken))
+    castable _ (four-times _ (c .before .good .0 .1) (low _ (c .before .pre) (c .if1 .taken)) .0)
 
 cast-nearest-u32-to-f32 : tie.Need-cast-nearest-u32-to-f32
 cast-nearest-u32-to-f32 c =
-    omega (arith, c .truncating-f32-to-u64 .ensures, cut-low (c .before .before .args .y) (low _ (c .before .before .pre) (c .before .if1 .taken)))
+    omega (arith, c .truncating-f32-to-u64 .ensures, cut-low (fourTimes (c .before .before .args .y)) (four-times _ (c .before .before .good .0 .1) (low _ (c .before .before .pre) (c .before .if1 .taken)) .0))
 
 nearest-u32-to-f32-requires : tie.Need-nearest-u32-to-f32-requires
 nearest-u32-to-f32-requires c κs = search needs
 
 returns : tie.Need-returns
 returns c = (
-  size-by (c .before .before .before .before .args .y) (low _ (c .before .before .before .before .pre) (c .before .before .before .if1 .taken)) _ _ true (c .before .before .truncating-f32-to-u64 .ensures) (c .before .nearest-u32-to-f32 .ensures) (c .if2 .taken),
-  omega (arith, c .before .before .truncating-f32-to-u64 .ensures, cut-low (c .before .before .before .before .args .y) (low _ (c .before .before .before .before .pre) (c .before .before .before .if1 .taken))),
+  size-by (c .before .before .before .before .args .y) (c .before .before .before .before .good .0 .1) (low _ (c .before .before .before .before .pre) (c .before .before .before .if1 .taken)) _ _ true (c .before .before .truncating-f32-to-u64 .ensures) (c .before .nearest-u32-to-f32 .ensures) (c .if2 .taken),
+  omega (arith, c .before .before .truncating-f32-to-u64 .ensures, cut-low (fourTimes (c .before .before .before .before .args .y)) (four-times _ (c .before .before .before .before .good .0 .1) (low _ (c .before .before .before .before .pre) (c .before .before .before .if1 .taken)) .0)),
 )
 
 returns-2 : tie.Need-returns-2
 returns-2 c =
-    (size-by (c .before .before .before .before .args .y) (low _ (c .before .before .before .before .pre) (c .before .before .before .if1 .taken)) _ _ false (c .before .before .truncating-f32-to-u64 .ensures) (c .before .nearest-u32-to-f32 .ensures) (c .if2 .left), tt)
+    (size-by (c .before .before .before .before .args .y) (c .before .before .before .before .good .0 .1) (low _ (c .before .before .before .before .pre) (c .before .before .before .if1 .taken)) _ _ false (c .before .before .truncating-f32-to-u64 .ensures) (c .before .nearest-u32-to-f32 .ensures) (c .if2 .left), tt)
 
 returns-3 : tie.Need-returns-3
 returns-3 c =

@@ -1,0 +1,17 @@
+-- Step 4 of whole pixels, as it was before quarters: what the theorem of agreement speaks of (`specs/Quarters`). The moves are
+-- whole rows and columns here.
+use Prim.Native.Nat.{ℕ, _+_, _-_, _*_, _/_, _%_, min}
+use Rattle.value.specs.declared.Signed.{Signed}
+use Rattle.value.specs.declared.Signed.the-variants.{Plus, Minus, Lacks}
+use Rattle.shift.specs.declared.Moves.{Moves}
+use Rattle.pixel.specs.declared.Geometry.{Geometry}
+
+-- A row or column r less the shift, limited to the picture's edges, where there are `size` of them.
+abbrev pub movedBy : Signed → ℕ → ℕ → ℕ
+movedBy (Plus n) size r = r - n
+movedBy (Minus n) size r = min (r + n) (size - 1)
+movedBy Lacks size r = r
+
+-- The mask sample that sample i takes, that is cell (r - v, c - h) for cell (r, c).
+unfoldable pub sourceOf : Geometry → Moves → ℕ → ℕ
+sourceOf g m i = movedBy (m .vertical) (g .rows) (i / g .columns) * g .columns + movedBy (m .horizontal) (g .columns) (i % g .columns)

@@ -1,0 +1,47 @@
+-- Shifts of whole pixels, as they were before quarters: what the theorems of agreement speak of (`specs/Agree`). No code
+-- follows these definitions.
+use Prim.Native.Nat.{ℕ, _*_, _/_, _%_}
+use mathlib.Core.Bool.{Bool, true, false, cond, _&&_}
+use mathlib.Core.List.{List}
+use lib.ListN.{length}
+use lib.Dec.{eqb, leb}
+use lib.Ieee.{Float, nan, inf, fin, up, down}
+use Rattle.value.specs.declared.Signed.{Signed}
+use Rattle.value.specs.declared.Signed.the-variants.{Plus, Minus, Lacks}
+use Rattle.shift.specs.declared.Shift.{Shift}
+use Rattle.shift.specs.declared.Shift.the-variants as shift
+use Rattle.shift.specs.declared.Moves.{Moves}
+use Rattle.shift.specs.Shift.{shiftUnit, largestShift, signedSize, itemShift}
+
+-- The whole number that a float is, of any size; NaN, the infinities and fractions are none.
+unfoldable pub wholeOf : Float → Signed
+wholeOf nan = Lacks
+wholeOf (inf s) = Lacks
+wholeOf (fin s m e) = cond (eqb (m * up e % down e) 0) (signedSize s (m * up e / down e)) Lacks
+
+unfoldable pub wholeMovesOf : Shift → Moves
+wholeMovesOf shift.None = record { vertical = Plus 0; horizontal = Plus 0 }
+wholeMovesOf (shift.Item v h) = record { vertical = wholeOf v; horizontal = wholeOf h }
+wholeMovesOf (shift.Frame v h) = record { vertical = wholeOf v; horizontal = wholeOf h }
+
+-- A whole number from -64 to 64.
+abbrev pub isShortWhole : Signed → Bool
+isShortWhole (Plus n) = leb n largestShift
+isShortWhole (Minus n) = leb n largestShift
+isShortWhole Lacks = false
+
+unfoldable pub isWholeShiftOf : Shift → Bool
+isWholeShiftOf s = isShortWhole (wholeMovesOf s .vertical) && isShortWhole (wholeMovesOf s .horizontal)
+
+-- Rule 35's form of a value, before quarters: two whole numbers from -64 to 64.
+unfoldable pub isWholeShift : List ℕ → Bool
+isWholeShift v = eqb (length v) 8 && isWholeShiftOf (itemShift v)
+
+-- The same number, in quarters.
+abbrev pub inQuarters : Signed → Signed
+inQuarters (Plus n) = Plus (shiftUnit * n)
+inQuarters (Minus n) = Minus (shiftUnit * n)
+inQuarters Lacks = Lacks
+
+abbrev pub movesInQuarters : Moves → Moves
+movesInQuarters m = record { vertical = inQuarters (m .vertical); horizontal = inQuarters (m .horizontal) }
