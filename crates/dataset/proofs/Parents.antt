@@ -13,7 +13,7 @@ use lib.ListN.{length}
 use Rattle.dataset.specs.Vr.{SQ}
 use Rattle.dataset.specs.Reading.{Row}
 use Rattle.dataset.specs.Tree.{rowsOf, rowAt, nextRow, Kind, elements, items, Member, insideOf, depthInside, Members}
-use Rattle.dataset.specs.Parents.{climb, Counts, Meets, Parented, Parents}
+use Rattle.dataset.specs.Parents.{parentOf, climb, Counts, Meets, Parented, Parents}
 use Rattle.dataset.proofs.Tree.{rows-members}
 use Rattle.dataset.proofs.Laws.{IsElement, item-formless, row-found, row-nested, row-deep}
 
@@ -126,6 +126,12 @@ climb-on : (rows : List Row) (steps i n : ℕ) → rowAt rows i .parent ≡ n �
 unfolding climb
 climb-on rows steps i n e = ap (climb rows steps) e
 
+-- The last step is from where the others led.
+climb-last : (rows : List Row) (steps n : ℕ) → climb rows (suc steps) n ≡ parentOf rows (climb rows steps n)
+unfolding climb
+climb-last rows zero n = refl
+climb-last rows (suc steps) n = climb-last rows steps (parentOf rows n)
+
 -- So many steps are enough from a row.
 abbrev Near : ℕ → Row → Type 0
 Near steps r = ((r .vr ≡ 0) × (2 * r .depth ≤ steps)) ⊎ ((r .vr ≡ 0 → ⊥) × (2 * r .depth < steps))
@@ -212,6 +218,23 @@ module _ (s : List ℕ) where
       by-place k (inl o) = absurd (omega (arith, o .least j (omega arith) (c .0), c .1))
       by-place k (inr (p, (l, x))) = compare k p x (ltb j p) refl (ltb p j) refl
 
+  parent-before : (i : ℕ) → i < length (rowsOf s) → rowAt (rowsOf s) i .parent ≤ i
+  parent-before i h = by-place (place i h)
+    where
+      by-place : Placed (rowsOf s) elements 0 0 0 i → rowAt (rowsOf s) i .parent ≤ i
+      by-place (inl o) = omega (arith, o .is)
+      by-place (inr (p, (l, x))) = omega (arith, x .is, x .low)
+
+  met-within : (steps i j : ℕ) → i < length (rowsOf s) → climb (rowsOf s) steps (suc i) ≡ suc j → j < length (rowsOf s)
+  unfolding climb
+  met-within zero i j h e = omega (arith, e)
+  met-within (suc more) i j h e = omega (arith, met-counts more i j h e .0)
+
+  next-before : (steps i j : ℕ) → i < length (rowsOf s) → climb (rowsOf s) steps (suc i) ≡ suc j → climb (rowsOf s) (suc steps) (suc i) ≤ j
+  next-before steps i j h e =
+      let q : climb (rowsOf s) (suc steps) (suc i) ≡ rowAt (rowsOf s) j .parent = climb-last (rowsOf s) steps (suc i) ∙ ap (parentOf (rowsOf s)) e in
+      omega (arith, q, parent-before j (met-within steps i j h e))
+
 -- ---- The theorem
 
 pub parents : (s : List ℕ) → Parents s
@@ -219,6 +242,7 @@ parents s i h =
     record {
       counts = λ j m. met-counts s (m .0) i j h (m .1);
       meets = λ j c. counts-met s (suc i) i j (omega arith) h c;
+      descends = λ steps j e. next-before s steps i j h e;
       ends = (17, (omega arith, reaches s 17 i h (near s i h)));
       item = λ j e v. item j e v (place s i h);
       element = λ j e n. element j e n (place s i h);

@@ -1,4 +1,11 @@
--- What the seventh number of a row says (document 02, Q-6). It counts rows from 1, so that the row of number suc i is row i; 0 is the root.
+-- What the seventh number of a row says (document 02, Q-6), of every row of every data set that reads well.
+--
+-- A row's seventh number, its parent, is the number of the item or sequence that the row stands directly in, and 0 at the root. Follow
+-- it: from the row to its parent, from there to that row's parent, and so on. The rows that are met are exactly those that count the row
+-- among their rows below, from the innermost to the outermost. 0 is reached within 17 steps, the step to 0 counted. An item stands in a
+-- sequence and is one deeper than it; an element stands in an item and has the item's depth, or it stands at the root, at depth 0.
+--
+-- The number counts rows from 1. The definitions count them from 0, so that the row of number suc i is row i.
 use mathlib.Core.Path.{_≡_}
 use Prim.Native.Nat.{ℕ, zero, suc, _+_, _≤_, _<_}
 use mathlib.Core.List.{List}
@@ -25,11 +32,13 @@ Counts rows j i = (j < i) × (i < nextRow rows j)
 abbrev pub Meets : List Row → ℕ → ℕ → Type 0
 Meets rows i j = (more : ℕ) × (climb rows (suc more) (suc i) ≡ suc j)
 
--- Following it from row i meets exactly the rows that count row i among their rows below, and reaches 0 within 17 steps. An item
--- stands in a sequence, and its depth is one above the sequence's; an element stands in an item and has its depth, or at the root, at depth 0.
+-- What holds of row i. `counts` and `meets`: following the number meets a row exactly if that row counts row i among its rows below.
+-- `descends`: from row j it leads to a row before row j, or to the root; so each row that is met stands inside the next. `ends`: 0 within 17
+-- steps. `item`, `element`, `root`: what a row stands in, and at which depth.
 pub record Parented (rows : List Row) (i : ℕ) : Type 0 where
   pub counts : (j : ℕ) → Meets rows i j → Counts rows j i
   pub meets : (j : ℕ) → Counts rows j i → Meets rows i j
+  pub descends : (steps j : ℕ) → climb rows steps (suc i) ≡ suc j → climb rows (suc steps) (suc i) ≤ j
   pub ends : (steps : ℕ) × ((steps ≤ 17) × (climb rows steps (suc i) ≡ 0))
   pub item : (j : ℕ) → rowAt rows i .parent ≡ suc j → rowAt rows i .vr ≡ 0 → (rowAt rows j .vr ≡ SQ) × (rowAt rows i .depth ≡ rowAt rows j .depth + 1)
   pub element : (j : ℕ) → rowAt rows i .parent ≡ suc j → (rowAt rows i .vr ≡ 0 → ⊥) → (rowAt rows j .vr ≡ 0) × (rowAt rows i .depth ≡ rowAt rows j .depth)
