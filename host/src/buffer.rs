@@ -39,7 +39,7 @@ impl RowBuffer {
     }
 
     /// The first `rows` rows.
-    pub fn table(&self, rows: u32) -> Table {
+    pub fn table(&self, rows: u32) -> Table<'_> {
         let end = (rows as usize).saturating_mul(ROW_WIDTH).min(self.numbers.len());
         Table(&self.numbers[..end])
     }
