@@ -76,7 +76,7 @@ static int repetitions(double nanoseconds)
 
 static int once(const char *which, const uint8_t *data, size_t size)
 {
-    size_t rows_len = size / 8 * 6;
+    size_t rows_len = size / 8 * ROW_NUMBERS;
     uint32_t *rows = malloc(rows_len * sizeof *rows + 1);
     if (rows == NULL)
         stop("out of memory", "benchmark");
@@ -100,14 +100,14 @@ int main(int argc, char **argv)
         return once(strcmp(argv[2], "judge") == 0 ? "xa_judge" : "xa_read", data, size);
 
     /* Room for the most rows that so many bytes can have; what isn't written is never touched. */
-    size_t rows_len = size / 8 * 6;
+    size_t rows_len = size / 8 * ROW_NUMBERS;
     uint32_t *all = malloc(rows_len * sizeof *all + 1);
     if (all == NULL)
         stop("out of memory", argv[1]);
     walk_answer first = walk(data, size, all, rows_len);
     if (first.code != 0)
         stop("the walker refuses it", argv[1]);
-    rows_len = 6 * (size_t)first.rows;
+    rows_len = ROW_NUMBERS * (size_t)first.rows;
     uint32_t *rows = touched(rows_len * sizeof *rows, 0);
 
     for (int k = 0; k < CALLS; k++) {

@@ -19,8 +19,8 @@ enum { NONE = 0xFFFFFFFF };
 /* The row of a tag among the elements that start at row `at` and end before row `end`; NONE where it isn't. */
 static uint32_t among(uint32_t at, uint32_t end, uint32_t tag)
 {
-    for (; at < end; at += 1 + rows[6 * at + 5])
-        if (rows[6 * at] == tag)
+    for (; at < end; at += 1 + rows[ROW_NUMBERS * at + 5])
+        if (rows[ROW_NUMBERS * at] == tag)
             return at;
     return NONE;
 }
@@ -36,9 +36,9 @@ static uint32_t in_root(uint32_t tag)
 /* Item `number`, from 1 on, of the sequence at row `sequence`. */
 static uint32_t item(uint32_t sequence, uint32_t number)
 {
-    uint32_t at = sequence + 1, end = at + rows[6 * sequence + 5];
+    uint32_t at = sequence + 1, end = at + rows[ROW_NUMBERS * sequence + 5];
     for (; number > 1 && at < end; number--)
-        at += 1 + rows[6 * at + 5];
+        at += 1 + rows[ROW_NUMBERS * at + 5];
     if (at >= end)
         stop("an item is missing", "drawing");
     return at;
@@ -46,7 +46,7 @@ static uint32_t item(uint32_t sequence, uint32_t number)
 
 static uint32_t in_item(uint32_t at, uint32_t tag)
 {
-    uint32_t found = among(at + 1, at + 1 + rows[6 * at + 5], tag);
+    uint32_t found = among(at + 1, at + 1 + rows[ROW_NUMBERS * at + 5], tag);
     if (found == NONE)
         stop("an element is missing", "drawing");
     return found;
@@ -54,7 +54,7 @@ static uint32_t in_item(uint32_t at, uint32_t tag)
 
 static const uint8_t *value(uint32_t row)
 {
-    return data + rows[6 * row + 3];
+    return data + rows[ROW_NUMBERS * row + 3];
 }
 
 static uint16_t us(uint32_t row, uint32_t index)
@@ -75,7 +75,7 @@ static float fl(uint32_t row, uint32_t index)
 static int64_t thousandths(uint32_t row)
 {
     char text[32] = {0};
-    uint32_t length = rows[6 * row + 4];
+    uint32_t length = rows[ROW_NUMBERS * row + 4];
     memcpy(text, value(row), length < 31 ? length : 31);
     double number = strtod(text, NULL) * 1000;
     return (int64_t)(number < 0 ? number - 0.5 : number + 0.5);
@@ -94,7 +94,7 @@ static picture plan(uint32_t frame)
     p.width = us(in_root(0x00280011), 0);
     p.stored = us(in_root(0x00280101), 0);
     p.frame = frame;
-    p.masks = rows[6 * numbers + 4] / 2;
+    p.masks = rows[ROW_NUMBERS * numbers + 4] / 2;
     if (p.masks > MASK_LIMIT || us(in_root(0x00280100), 0) != 16)
         stop("not an object for this benchmark", "drawing");
     for (unsigned k = 0; k < p.masks; k++)
@@ -118,7 +118,7 @@ int main(int argc, char **argv)
     size_t size;
     data = map_file(argv[1], &size);
     uint32_t frame = (uint32_t)strtoul(argv[2], NULL, 10);
-    size_t rows_len = 6 * 65536;
+    size_t rows_len = ROW_NUMBERS * 65536;
     rows = touched(rows_len * sizeof *rows, 0);
     walk_answer read = walk(data, size, rows, rows_len);
     if (read.code != 0)

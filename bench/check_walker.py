@@ -29,8 +29,8 @@ class Refusal(Exception):
     pass
 
 
-def read_elements(data, at, end, is_open, depth, rows):
-    """Elements from `at` on; answers where they end and where reading goes on."""
+def read_elements(data, at, end, is_open, depth, holder, rows):
+    """Elements from `at` on, in the item of row `holder`; answers where they end and where reading goes on."""
     before = -1
     while True:
         if at == end:
@@ -69,17 +69,17 @@ def read_elements(data, at, end, is_open, depth, rows):
                 raise Refusal(1, at)
         if vr == "SQ" and depth == 8:
             raise Refusal(6, at)
-        row = [tag, ord(vr[0]) * 256 + ord(vr[1]), depth, start, length, 0]
+        row = [tag, ord(vr[0]) * 256 + ord(vr[1]), depth, start, length, 0, holder]
         rows.append(row)
         if vr != "SQ":
             at = start + length
             continue
         above = len(rows)
-        stop, at = read_items(data, start, end if undefined else start + length, undefined, depth + 1, rows)
+        stop, at = read_items(data, start, end if undefined else start + length, undefined, depth + 1, above, rows)
         row[4], row[5] = stop - start, len(rows) - above
 
 
-def read_items(data, at, end, is_open, depth, rows):
+def read_items(data, at, end, is_open, depth, holder, rows):
     while True:
         if at == end:
             if is_open:
@@ -98,17 +98,17 @@ def read_items(data, at, end, is_open, depth, rows):
                 raise Refusal(4, at)
             if start + length > end:
                 raise Refusal(1, at)
-        row = [0xFFFEE000, 0, depth, start, length, 0]
+        row = [0xFFFEE000, 0, depth, start, length, 0, holder]
         rows.append(row)
         above = len(rows)
-        stop, at = read_elements(data, start, end if undefined else start + length, undefined, depth, rows)
+        stop, at = read_elements(data, start, end if undefined else start + length, undefined, depth, above, rows)
         row[4], row[5] = stop - start, len(rows) - above
 
 
 def read(data):
     rows = []
     try:
-        read_elements(data, 0, len(data), False, 0, rows)
+        read_elements(data, 0, len(data), False, 0, 0, rows)
     except Refusal as refusal:
         return refusal.args + ([],)
     return 0, 0, rows

@@ -1,5 +1,5 @@
 /* A careful plain C reader of one data set in Explicit VR Little Endian: the header checks of document 01
-   in their order, one row of six numbers for each element and item. See walker.h. */
+   in their order, one row of numbers for each element and item. See walker.h. */
 
 #include "walker.h"
 
@@ -43,6 +43,7 @@ static const uint8_t vr_form[65536] = {
 typedef struct {
     const uint8_t *end;  /* its innermost known end */
     uint32_t *row;       /* its row, for the rows below it; unused while counting */
+    uint32_t number;     /* the number of that row, counted from 1; 0 for the root */
     uint64_t least;      /* the lowest tag that may follow; unused among items */
     int open;            /* its length is undefined */
 } level;
@@ -61,25 +62,28 @@ ALWAYS_INLINE uint32_t load32(const uint8_t *p)
     return w;
 }
 
-/* Six numbers, two to a store. */
-ALWAYS_INLINE void store(uint32_t *row, uint32_t tag, uint32_t vr, uint32_t depth, uint32_t start, uint32_t length)
+/* A row with nothing below it so far, two numbers to a store. */
+ALWAYS_INLINE void store(uint32_t *row, uint32_t tag, uint32_t vr, uint32_t depth, uint32_t start, uint32_t length,
+                         uint32_t parent)
 {
     uint64_t first = tag | (uint64_t)vr << 32, second = depth | (uint64_t)start << 32, third = length;
     memcpy(row, &first, 8);
     memcpy(row + 2, &second, 8);
     memcpy(row + 4, &third, 8);
+    row[6] = parent;
 }
 
 /* One walk over all headers. `fill` and `check` are constants at each call, so that each pass is compiled apart.
    Two loops, one among elements and one among items, hand over to each other. Kept in registers are the place `at`,
-   the container's `end`, `open` and `row`, the lowest tag that may follow, and the place of the next row. */
+   the container's `end`, `open`, `row` and `number`, the lowest tag that may follow, the place of the next row, and how
+   many rows there are so far. */
 ALWAYS_INLINE walk_answer pass(const uint8_t *data, uint32_t size, uint32_t *rows, int fill, int check)
 {
     level outer[2 * DEPTH_LIMIT + 1];
     level *top = outer;                      /* the first free one; depth is half of how many are put aside */
     const uint8_t *at = data, *end = data + size;
     uint32_t *row = rows, *next = rows;
-    uint32_t count = 0, code;
+    uint32_t count = 0, number = 0, code;
     uint64_t least = 0;
     int open = 0;
 
@@ -92,7 +96,7 @@ elements:
                 goto refuse;
             }
             if (top == outer)
-                return (walk_answer){0, 0, fill ? (uint32_t)((size_t)(next - rows) / 6) : count};
+                return (walk_answer){0, 0, count};
             goto close_item;
         }
         uint64_t head = load64(at);
@@ -128,11 +132,11 @@ elements:
             }
             at += 8;
             if (fill) {
-                store(next, tag, __builtin_bswap16(letters), (uint32_t)(top - outer) / 2, (uint32_t)(at - data), length);
-                next += 6;
-            } else {
-                count++;
+                store(next, tag, __builtin_bswap16(letters), (uint32_t)(top - outer) / 2, (uint32_t)(at - data), length,
+                      number);
+                next += ROW_NUMBERS;
             }
+            count++;
             at += length;
             continue;
         }
@@ -174,22 +178,23 @@ elements:
         }
         at += 12;
         if (fill)
-            store(next, tag, __builtin_bswap16(letters), (uint32_t)(top - outer) / 2, (uint32_t)(at - data), length);
+            store(next, tag, __builtin_bswap16(letters), (uint32_t)(top - outer) / 2, (uint32_t)(at - data), length,
+                  number);
         if (form != SEQUENCE) {
             count++;
             if (fill)
-                next += 6;
+                next += ROW_NUMBERS;
             at += length;
             continue;
         }
-        *top++ = (level){end, row, least, open};
+        *top++ = (level){end, row, number, least, open};
         open = length == UNDEFINED;
         if (!open)
             end = at + length;
         row = next;
-        count++;
+        number = ++count;
         if (fill)
-            next += 6;
+            next += ROW_NUMBERS;
         goto items;
     }
 
@@ -227,35 +232,37 @@ items:
         }
         at += 8;
         if (fill)
-            store(next, ITEM, 0, (uint32_t)(top - outer + 1) / 2, (uint32_t)(at - data), length);
-        *top++ = (level){end, row, 0, open};
+            store(next, ITEM, 0, (uint32_t)(top - outer + 1) / 2, (uint32_t)(at - data), length, number);
+        *top++ = (level){end, row, number, 0, open};
         open = length == UNDEFINED;
         if (!open)
             end = at + length;
         least = 0;
         row = next;
-        count++;
+        number = ++count;
         if (fill)
-            next += 6;
+            next += ROW_NUMBERS;
         goto elements;
     }
 
     /* The sequence closes: back among the elements around it. */
     if (fill)
-        row[5] = (uint32_t)((size_t)(next - row) / 6) - 1;
+        row[5] = count - number;
     top--;
     end = top->end;
     row = top->row;
+    number = top->number;
     least = top->least;
     open = top->open;
     goto elements;
 
 close_item:
     if (fill)
-        row[5] = (uint32_t)((size_t)(next - row) / 6) - 1;
+        row[5] = count - number;
     top--;
     end = top->end;
     row = top->row;
+    number = top->number;
     open = top->open;
     goto items;
 
@@ -285,7 +292,7 @@ walk_answer walk(const uint8_t *data, size_t size, uint32_t *rows, size_t rows_l
     walk_answer counted = count_pass(data, (uint32_t)size);
     if (counted.code != 0)
         return counted;
-    if (rows_len / 6 < counted.rows)
+    if (rows_len / ROW_NUMBERS < counted.rows)
         return (walk_answer){8, 0, 0};
     return fill_pass(data, (uint32_t)size, rows);
 }
@@ -297,7 +304,7 @@ walk_answer walk_trusting(const uint8_t *data, size_t size, uint32_t *rows, size
     walk_answer counted = count_pass(data, (uint32_t)size);
     if (counted.code != 0)
         return counted;
-    if (rows_len / 6 < counted.rows)
+    if (rows_len / ROW_NUMBERS < counted.rows)
         return (walk_answer){8, 0, 0};
     return trusting_pass(data, (uint32_t)size, rows);
 }

@@ -15,6 +15,13 @@
 extern "C" {
 #endif
 
+/* The most bytes that a data set may have. */
+#define XA_LARGEST 1073741824
+
+/* The numbers in a row. A row has at least 8 bytes in the data set, so a row buffer never needs more than
+ * XA_ROW_NUMBERS x (size / 8) numbers. */
+#define XA_ROW_NUMBERS 7
+
 /* What a call answers. Fields that the code does not name are 0.
  *
  *   code  meaning                                                              fields named
@@ -29,8 +36,9 @@ extern "C" {
  *         a long header whose two reserved bytes are not zero, or an
  *         undefined length where only a defined one may be
  *      6  a sequence nested too deep: eight levels are read                    offset
- *      7  a data set of more than 1,073,741,824 bytes                          none
- *      8  it reads well, but the row buffer holds fewer than 6 numbers a row   none
+ *      7  a data set of more than XA_LARGEST bytes                             none
+ *      8  it reads well, but the row buffer holds fewer than XA_ROW_NUMBERS    none
+ *         numbers a row
  *      9  a rule is broken: the first that is, and at it the lowest frame      rows, rule, frame
  *     10  no such frame: the number is not in 1 to Number of Frames            none
  *     11  the image buffer holds fewer than Rows x Columns bytes               none
@@ -51,11 +59,19 @@ typedef struct {
 
 /* Reads the `size` bytes at `data` into rows, one for each element and item, in the order of the bytes.
  *
- * `rows` has room for `rows_len` numbers. A row is six of them: the tag (group x 65,536 + element), the VR (first
- * letter x 256 + second; 0 for an item), the depth (0 at the root), the offset of the value, its length (of an
- * undefined one, up to its delimiter), and how many rows stand below it, which are the rows that follow it.
+ * `rows` has room for `rows_len` numbers. A row is XA_ROW_NUMBERS of them:
  *
- * With code 0 the first 6 x `rows` numbers are written, and nothing beyond them; with any other code nothing is.
+ *   0  the tag, group x 65,536 + element
+ *   1  the VR, first letter x 256 + second; 0 for an item
+ *   2  the depth, 0 at the root
+ *   3  the offset of the value
+ *   4  the length of the value; of an undefined one, up to its delimiter
+ *   5  how many rows stand below it; they are the rows that follow it
+ *   6  its parent: the number, counted from 1, of the row of the item or sequence that it stands directly in; 0 at the
+ *      root. Followed from row to row it meets every row that has this one below it, and reaches 0 within 17 steps.
+ *
+ * With code 0 the first XA_ROW_NUMBERS x `rows` numbers are written, and nothing beyond them; with any other code
+ * nothing is.
  */
 xa_answer xa_read(const uint8_t *data, size_t size, uint32_t *rows, size_t rows_len);
 

@@ -9,7 +9,7 @@ import enhanced_xa as xa
 import objects
 import outside
 import reading_cases
-from comparison import DifferenceFound, run_as_program
+from comparison import DifferenceFound, exact_numbers, run_as_program
 from compare_read import cut_and_joined, flipped
 from mutations import CHANGES
 from reference import reading, rules
@@ -36,10 +36,10 @@ def check_judge(comparison, name, data, row_buffer_length):
 def check_model(comparison, name, model, rng):
     """The bytes of a model, with a row buffer that is exact or larger, and now and then one that is one number short."""
     data = xa.encode_at_random(rng, model)
-    count = reading.read(data, 6 * (len(data) // 8)).answer.rows
-    if rng.random() < 0.1 and count:
-        check_judge(comparison, f"{name}, row buffer one number short", data, 6 * count - 1)
-    return check_judge(comparison, name, data, 6 * count + rng.choice((0, 0, 1, 7)))
+    exact = exact_numbers(data)
+    if rng.random() < 0.1 and exact:
+        check_judge(comparison, f"{name}, row buffer one number short", data, exact - 1)
+    return check_judge(comparison, name, data, exact + rng.choice((0, 0, 1, 7)))
 
 
 def meant(name, answer, rule, frame):
@@ -248,9 +248,9 @@ def compare_size_limit(comparison):
         memory = mmap.mmap(-1, size, flags=mmap.MAP_PRIVATE | mmap.MAP_ANONYMOUS)
         head = objects.element_header(0x00080008, "OB", reading.MAXIMUM_SIZE - 12)
         memory[:len(head)] = head
-        outcome = rules.judge(memory, 6)
+        outcome = rules.judge(memory, reading.NUMBERS_IN_A_ROW)
         comparison.must_equal("size limit: the reference", outcome.answer.code, code)
-        observed = comparison.library.call_on_mapping("xa_judge", memory, 6)
+        observed = comparison.library.call_on_mapping("xa_judge", memory, reading.NUMBERS_IN_A_ROW)
         comparison.must_be_right(f"judge {size} bytes", observed.difference(outcome))
         comparison.note(("code", code))
 
@@ -260,8 +260,7 @@ def compare_outside(comparison, required):
     if not found and required:
         raise DifferenceFound("no outside objects: python3-pydicom's test files are not installed")
     for name, _, data in found:
-        count = reading.read(data, 6 * (len(data) // 8)).answer.rows
-        check_judge(comparison, name, data, 6 * count)
+        check_judge(comparison, name, data, exact_numbers(data))
     return f"{len(found)} outside objects" if found else "outside objects SKIPPED: python3-pydicom is not installed"
 
 

@@ -5,11 +5,13 @@ import random
 
 import objects
 import outside
+import parents
 import reading_cases
 import sample_cases
-from comparison import DifferenceFound, run_as_program
+from comparison import DifferenceFound, enough_numbers, run_as_program
 from reference import reading
 from reference.answers import Answer
+from reference.reading import NUMBERS_IN_A_ROW
 
 
 def check_read(comparison, name, data, row_buffer_length):
@@ -20,15 +22,25 @@ def check_read(comparison, name, data, row_buffer_length):
         return comparison.library.call_with_rows("xa_read", candidate, row_buffer_length).difference(expected)
 
     comparison.check(name, data, difference)
-    return reading.read(data, row_buffer_length).answer
+    outcome = reading.read(data, row_buffer_length)
+    if outcome.answer.code == 0:
+        check_parents(comparison, name, outcome.rows)
+    return outcome.answer
+
+
+def check_parents(comparison, name, numbers):
+    """What Q-6 says of the last number, of rows that the library wrote as well."""
+    table = parents.table_of(numbers)
+    comparison.must_be_right(f"{name}: parents", parents.fault(table))
+    comparison.note(("steps", parents.steps(table)))
 
 
 def check_read_with_buffers(comparison, name, data, rng):
     """A data set with row buffers one number short, exact and larger; a refused one with any length."""
-    answer = reading.read(data, 6 * (len(data) // 8)).answer
+    answer = reading.read(data, enough_numbers(data)).answer
     if answer.code == 0:
-        exact = 6 * answer.rows
-        lengths = {exact, exact + rng.choice((1, 5, 6, 50)), max(0, exact - 1), rng.randrange(exact + 1)}
+        exact = NUMBERS_IN_A_ROW * answer.rows
+        lengths = {exact, exact + rng.choice((1, 5, 6, 7, 50)), max(0, exact - 1), max(0, exact - answer.rows), rng.randrange(exact + 1)}
     else:
         lengths = {0, rng.randrange(100)}
     for length in sorted(lengths):
@@ -175,8 +187,8 @@ def compare_many_rows(comparison, rng):
     many_items = objects.sequence(0x52009230, objects.item() * 50_000, True)
     many_elements = b"".join(objects.element(0x00100000 + number, "CS", b"") for number in range(50_000))
     for name, data in (("many items", many_items), ("many elements", objects.nest(rng, many_elements, 1))):
-        answer = reading.read(data, 6 * len(data)).answer
-        for length in (6 * answer.rows - 1, 6 * answer.rows, 6 * answer.rows + 7):
+        exact = NUMBERS_IN_A_ROW * reading.read(data, enough_numbers(data)).answer.rows
+        for length in (exact - 1, exact, exact + 7):
             check_read(comparison, name, data, length)
 
 
@@ -191,9 +203,9 @@ def compare_size_limit(comparison):
     for name, size, head, expected in cases:
         memory = mmap.mmap(-1, size, flags=mmap.MAP_PRIVATE | mmap.MAP_ANONYMOUS)
         memory[:len(head)] = head
-        for length in (0, 6, 9):
+        for length in (0, NUMBERS_IN_A_ROW - 1, NUMBERS_IN_A_ROW, NUMBERS_IN_A_ROW + 3):
             outcome = reading.read(memory, length)
-            if expected.code == 7 or length >= 6:
+            if expected.code == 7 or length >= NUMBERS_IN_A_ROW:
                 comparison.must_equal(f"{name}: the reference", outcome.answer, expected)
             observed = comparison.library.call_on_mapping("xa_read", memory, length)
             comparison.must_be_right(f"{name}, row buffer of {length}", observed.difference(outcome))
@@ -218,7 +230,7 @@ def compare_outside(comparison, rng, required):
     for name, data in found + made:
         good += check_read_with_buffers(comparison, name, data, rng).code == 0
     for name, data in made:
-        comparison.must_equal(f"{name} reads well", reading.read(data, 6 * len(data)).answer.code, 0)
+        comparison.must_equal(f"{name} reads well", reading.read(data, enough_numbers(data)).answer.code, 0)
     return f"{len(found)} outside objects of pydicom, {len(made)} of dcmtk, {good} of them read well"
 
 
@@ -234,6 +246,7 @@ def run(comparison, arguments):
     line = compare_outside(comparison, rng, arguments.require_outside)
     comparison.insist([("code", code) for code in range(9)])
     comparison.insist([("code at depth", code, depth) for code in range(6) for depth in range(9)])
+    comparison.insist([("steps", steps) for steps in (0, 2, *range(1, parents.MOST_STEPS + 1, 2))])
     return line
 
 

@@ -8,7 +8,7 @@ import tempfile
 import enhanced_xa as xa
 import outside
 import reading_cases
-from comparison import DifferenceFound, run_as_program
+from comparison import DifferenceFound, enough_numbers, exact_numbers, run_as_program
 from mutations import CHANGES
 from reference import drawing, reading
 
@@ -32,7 +32,7 @@ def check_show(comparison, name, data, frame, row_buffer_length, image_buffer_le
 def check_every_frame(comparison, name, model, rng, frames=None):
     """An accepted object: each of its frames must be drawn. Answers (frame, masked or native) of each."""
     data = xa.encode_at_random(rng, model)
-    count = 6 * reading.read(data, 6 * (len(data) // 8)).answer.rows
+    count = exact_numbers(data)
     rows, columns = (struct.unpack("<H", model[tag][1])[0] for tag in (xa.ROWS, xa.COLUMNS))
     drawn = {}
     for frame in frames or range(1, len(model[xa.PER_FRAME][1]) + 1):
@@ -46,7 +46,7 @@ def check_every_frame(comparison, name, model, rng, frames=None):
 def check_refusals(comparison, name, model, rng):
     """An accepted object with frame numbers and buffers that are refused, one thing and several at once."""
     data = xa.encode_at_random(rng, model)
-    count = 6 * reading.read(data, 6 * (len(data) // 8)).answer.rows
+    count = exact_numbers(data)
     rows, columns = (struct.unpack("<H", model[tag][1])[0] for tag in (xa.ROWS, xa.COLUMNS))
     frames = len(model[xa.PER_FRAME][1])
     size = rows * columns
@@ -319,7 +319,7 @@ def compare_refused(comparison, rng):
         model = xa.build(rng, xa.random_shape(rng, **change.shape))
         change.edit(model, frame)
         data = xa.encode_at_random(rng, model)
-        count = 6 * reading.read(data, 6 * (len(data) // 8)).answer.rows
+        count = exact_numbers(data)
         answer = check_show(comparison, f"rule {change.rule}, {change.name}", data, rng.choice((1, 2, 0)), count, rng.choice((0, 100, 2000)))
         comparison.must_equal("rule named", answer.rule, change.rule)
     for name, data, _ in reading_cases.CASES:
@@ -328,9 +328,9 @@ def compare_refused(comparison, rng):
 
 def compare_size_limit(comparison):
     memory = mmap.mmap(-1, reading.MAXIMUM_SIZE + 1, flags=mmap.MAP_PRIVATE | mmap.MAP_ANONYMOUS)
-    outcome = drawing.show(memory, 1, 6, 16)
+    outcome = drawing.show(memory, 1, reading.NUMBERS_IN_A_ROW, 16)
     comparison.must_equal("size limit: the reference", outcome.answer.code, 7)
-    observed = comparison.library.call_on_mapping("xa_show", memory, 6)
+    observed = comparison.library.call_on_mapping("xa_show", memory, reading.NUMBERS_IN_A_ROW)
     comparison.must_be_right("show too many bytes", observed.difference(outcome))
     comparison.note(("code", 7))
 
@@ -352,8 +352,7 @@ def compare_outside(comparison, rng, required):
     if required and not (found and outside.has_pydicom() and outside.has_dcmtk()):
         raise DifferenceFound("no outside objects: python3-pydicom or dcmtk is not installed")
     for name, _, data in found:
-        count = reading.read(data, 6 * (len(data) // 8)).answer.rows
-        check_show(comparison, name, data, 1, 6 * count, 100)
+        check_show(comparison, name, data, 1, exact_numbers(data), 100)
     with tempfile.TemporaryDirectory() as folder:
         written = sum(compare_rewritten(comparison, rng, folder) for _ in range(max(5, comparison.count // 80)))
         drawn = compare_windowed(comparison, rng, folder) if outside.has_dcmtk() else 0
@@ -367,11 +366,11 @@ def compare_rewritten(comparison, rng, folder):
     rows, columns = (struct.unpack("<H", model[tag][1])[0] for tag in (xa.ROWS, xa.COLUMNS))
     written = 0
     for writer, data in outside.rewritten(folder, original):
-        count = 6 * reading.read(data, 6 * (len(data) // 8)).answer.rows
+        count = exact_numbers(data)
         for frame in (1, 2, 3):
             answer = check_show(comparison, f"written by {writer}", data, frame, count, rows * columns)
             comparison.must_equal(f"written by {writer}, frame {frame}: code", answer.code, 0)
-            pictures = [drawing.show(encoded, frame, 6 * (len(encoded) // 8), rows * columns).image for encoded in (original, data)]
+            pictures = [drawing.show(encoded, frame, enough_numbers(encoded), rows * columns).image for encoded in (original, data)]
             comparison.must_equal(f"written by {writer}, frame {frame}: image", *pictures)
         written += 1
     return written
@@ -389,7 +388,7 @@ def compare_windowed(comparison, rng, folder):
             model[xa.PIXEL_DATA] = ("OW", values + values[::-1] if stored == 8 else values * 2)
             model[xa.SHARED][1][0][xa.VOI] = xa.sq({xa.CENTER: xa.text("DS", center), xa.WIDTH: xa.text("DS", width)})
             data = xa.encode_at_random(rng, model)
-            count = 6 * reading.read(data, 6 * (len(data) // 8)).answer.rows
+            count = exact_numbers(data)
             for frame in (1, 2):
                 name = f"window {center}, {width}, {stored} bits, frame {frame}, also drawn by dcmtk"
                 check_show(comparison, name, data, frame, count, 256)

@@ -8,9 +8,20 @@ import tempfile
 import time
 
 from library import Library
+from reference import reading
 
 DEFAULT_SEED = 20240501
 NOT_IN_LIBRARY = 3  # exit status
+
+
+def enough_numbers(data):
+    """Numbers in a row buffer that hold the rows of any data set of this size: a row has a header of at least 8 bytes."""
+    return reading.NUMBERS_IN_A_ROW * (len(data) // 8)
+
+
+def exact_numbers(data):
+    """As many numbers as the rows of a data set take; 0 where it does not read."""
+    return reading.NUMBERS_IN_A_ROW * reading.read(data, enough_numbers(data)).answer.rows
 
 
 class DifferenceFound(Exception):

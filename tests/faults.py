@@ -2,8 +2,10 @@
 
 import ctypes
 
-from reference import drawing, rules, slips
+from parents import table_of
+from reference import drawing, reading, rules, slips
 from reference.answers import Answer
+from reference.reading import ITEM, NUMBERS_IN_A_ROW
 from stand_in import StandIn, write
 
 
@@ -20,11 +22,28 @@ def answer_changed(**changes):
 def row_number_changed(which, function):
     def change(outcome, data):
         numbers = list(outcome.rows)
-        for position in range(which, len(numbers), 6):
+        for position in range(which, len(numbers), NUMBERS_IN_A_ROW):
             numbers[position] = function(numbers[position])
         return outcome._replace(rows=tuple(numbers))
 
     return change
+
+
+def parents_changed(function):
+    """Another parent in each row: `function(table, number)` answers it for row `number`, counted from 1."""
+
+    def change(outcome, data):
+        table = table_of(outcome.rows)
+        changed = [row[:-1] + (function(table, number),) for number, row in enumerate(table, start=1)]
+        return outcome._replace(rows=tuple(value for row in changed for value in row))
+
+    return change
+
+
+def sequence_for_item(table, number):
+    """The sequence's number in place of the item's."""
+    parent = table[number - 1][-1]
+    return table[parent - 1][-1] if parent and table[parent - 1][0] == ITEM else parent
 
 
 def touched(place):
@@ -36,6 +55,17 @@ def touched(place):
             write(address, bytes([ctypes.string_at(address, 1)[0] ^ 0x55]))
 
     return after
+
+
+def six_suffice(data, row_buffer_length):
+    """Code 8 under 6 numbers a row."""
+    outcome = reading.read(data, row_buffer_length)
+    if outcome.answer.code != 8:
+        return outcome
+    whole = reading.read(data, len(data))
+    if row_buffer_length < 6 * whole.answer.rows:
+        return outcome
+    return whole._replace(rows=whole.rows[:row_buffer_length])
 
 
 def last_number_of(rows, rows_length):
@@ -51,8 +81,16 @@ READ_FAULTS = {
     "depth one more": StandIn(row_number_changed(2, lambda value: value + 1)),
     "length of an undefined sequence with its delimiter": StandIn(row_number_changed(4, lambda v: v + 8 if v == 34 else v)),
     "rows below not told": StandIn(row_number_changed(5, lambda value: 0)),
+    "parents counted from 0": StandIn(row_number_changed(6, lambda value: max(0, value - 1))),
+    "parents one more": StandIn(row_number_changed(6, lambda value: value + 1 if value else 0)),
+    "the sequence in place of the item": StandIn(parents_changed(sequence_for_item)),
+    "the root's rows with a parent": StandIn(parents_changed(lambda table, number: table[number - 1][-1] or number - 1)),
+    "the row before as parent": StandIn(parents_changed(lambda table, number: number - 1)),
+    "its own number as parent": StandIn(parents_changed(lambda table, number: number)),
+    "parents of depth 8 lost": StandIn(parents_changed(lambda table, number: table[number - 1][-1] if table[number - 1][2] < 8 else 0)),
+    "six numbers suffice": StandIn(read=six_suffice),
     "rows not written": StandIn(lambda outcome, data: outcome._replace(rows=())),
-    "last row not written": StandIn(lambda outcome, data: outcome._replace(rows=outcome.rows[:-6])),
+    "last row not written": StandIn(lambda outcome, data: outcome._replace(rows=outcome.rows[:-NUMBERS_IN_A_ROW])),
     "row buffer touched at a refusal": StandIn(after=touched(
         lambda o, data, rows, length: rows if o.answer.code in range(1, 7) and length else None)),
     "row buffer touched at code 8": StandIn(after=touched(

@@ -121,13 +121,13 @@ CASES = [
 def rowlist(data):
     """The lines that the program `rowlist` prints for a data set."""
     try:
-        table = reading.rows_of_elements(reading.read_data_set(data), 0)
+        table = reading.rows_of(reading.read_data_set(data))
     except reading.Refusal as refusal:
         return [f"code {refusal.code} place {refusal.offset}"]
     lines = [f"rows {len(table)}"]
-    for tag, vr, depth, offset, length, below in table:
+    for tag, vr, *others in table:
         letters = chr(vr >> 8) + chr(vr & 0xFF) if vr else "--"
-        lines.append(f"{tag:08X} {letters} {depth} {offset} {length} {below}")
+        lines.append(" ".join((f"{tag:08X}", letters, *map(str, others))))
     return lines
 
 

@@ -9,6 +9,7 @@ from fractions import Fraction
 
 import enhanced_xa as xa
 import objects
+import parents
 import reading_cases
 import sample_cases
 from mutations import CHANGES
@@ -43,17 +44,41 @@ class Reading(unittest.TestCase):
             "FE FF 00 E0 00 00 00 00"  # 38
             "FE FF DD E0 00 00 00 00"  # 46
             "28 00 11 00 55 53 02 00 02 00")  # 54
-        self.assertEqual(reading.read(data, 30), Outcome(Answer(0, rows=5), rows=(
-            0x00081140, 0x5351, 0, 12, 34, 3,
-            0xFFFEE000, 0, 1, 20, 10, 1,
-            0x00280010, 0x5553, 1, 28, 2, 0,
-            0xFFFEE000, 0, 1, 46, 0, 0,
-            0x00280011, 0x5553, 0, 62, 2, 0)))
-        self.assertEqual(reading.read(data, 29), Outcome(Answer(8)))
+        self.assertEqual(reading.read(data, 35), Outcome(Answer(0, rows=5), rows=(
+            0x00081140, 0x5351, 0, 12, 34, 3, 0,
+            0xFFFEE000, 0, 1, 20, 10, 1, 1,
+            0x00280010, 0x5553, 1, 28, 2, 0, 2,
+            0xFFFEE000, 0, 1, 46, 0, 0, 1,
+            0x00280011, 0x5553, 0, 62, 2, 0, 0)))
+        for length in (0, 30, 34):
+            self.assertEqual(reading.read(data, length), Outcome(Answer(8)))
+
+    def test_parents(self):
+        """Two sequences, the first with two items, the second item with a sequence of its own; then an element of the root."""
+        inner = objects.sequence(0x00081140, objects.item(reading_cases.ROWS), True)
+        data = (objects.sequence(0x00080001, objects.item(reading_cases.ROWS + reading_cases.COLUMNS) + objects.item(inner + reading_cases.ROWS))
+                + objects.sequence(0x00080002, objects.item(undefined=True)) + reading_cases.ROWS)
+        # 1 SQ, 2 item, 3 and 4 elements, 5 item, 6 SQ, 7 item, 8 element, 9 element, 10 SQ, 11 item, 12 element.
+        table = reading.rows_of(reading.read_data_set(data))
+        self.assertEqual([row[-1] for row in table], [0, 1, 2, 2, 1, 5, 6, 7, 5, 0, 10, 0])
+        self.assertIsNone(parents.fault(table))
+
+    def test_wrong_parents_are_seen(self):
+        data = reading_cases.nested(8, reading_cases.ROWS, True)
+        table = reading.rows_of(reading.read_data_set(data))
+        self.assertEqual(parents.steps(table), 17)
+        self.assertIsNone(parents.fault(table))
+        for at in range(len(table)):
+            for wrong in range(len(table) + 2):
+                if wrong != table[at][-1]:
+                    changed = [row[:-1] + (wrong,) if number == at else row for number, row in enumerate(table)]
+                    self.assertIsNotNone(parents.fault(changed), (at, wrong))
+        deeper = [row[:2] + (row[2] + 1,) + row[3:] for row in table]
+        self.assertIsNotNone(parents.fault(deeper))
 
     def test_rowlist_lines(self):
         self.assertEqual(reading_cases.rowlist(bytes.fromhex("28 00 10 00 55 53 02 00 02 00")),
-                         ["rows 1", "00280010 US 0 8 2 0"])
+                         ["rows 1", "00280010 US 0 8 2 0 0"])
         self.assertEqual(reading_cases.rowlist(bytes.fromhex("28 00 10 00 55 53 02 00 02 00" * 2)),
                          ["code 2 place 10"])
 
@@ -344,12 +369,13 @@ class Drawing(unittest.TestCase):
         data = objects.encode(model)
         count = reading.read(data, 10_000).answer.rows
         table = reading.read(data, 10_000).rows
-        self.assertEqual(drawing.show(data, 1, 6 * count, 2), Outcome(Answer(0, rows=count), table, bytes((1, 2))))
-        self.assertEqual(drawing.show(data, 2, 6 * count, 2).image, bytes((3, 4)))
+        room = reading.NUMBERS_IN_A_ROW * count
+        self.assertEqual(drawing.show(data, 1, room, 2), Outcome(Answer(0, rows=count), table, bytes((1, 2))))
+        self.assertEqual(drawing.show(data, 2, room, 2).image, bytes((3, 4)))
         for frame in (0, 3, 65537, 2 ** 32 + 1):
-            self.assertEqual(drawing.show(data, frame, 6 * count, 0), Outcome(Answer(10), table))
-        self.assertEqual(drawing.show(data, 1, 6 * count, 1), Outcome(Answer(11), table))
-        self.assertEqual(drawing.show(data, 0, 6 * count - 1, 0), Outcome(Answer(8)))
+            self.assertEqual(drawing.show(data, frame, room, 0), Outcome(Answer(10), table))
+        self.assertEqual(drawing.show(data, 1, room, 1), Outcome(Answer(11), table))
+        self.assertEqual(drawing.show(data, 0, room - 1, 0), Outcome(Answer(8)))
 
     def test_lacking(self):
         """The steps on objects that are not accepted: what lacks, and what does not."""

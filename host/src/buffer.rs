@@ -5,11 +5,12 @@
 //! the library answers that it is too small.
 
 use crate::library::{self, Answer, ROW_WIDTH};
+use crate::table::Table;
 
-/// Rows of the first buffer: 96 KiB.
+/// Rows of the first buffer: 112 KiB.
 const FIRST: usize = 4096;
 
-/// Rows that are kept from one file to the next: 24 MiB.
+/// Rows that are kept from one file to the next: 28 MiB.
 const KEPT: usize = 1 << 20;
 
 /// The code of a buffer that is too small.
@@ -37,10 +38,10 @@ impl RowBuffer {
         self.lend(data, |data, rows| library::show(data, frame, rows, image))
     }
 
-    /// The numbers of the first `rows` rows.
-    pub fn rows(&self, rows: u32) -> &[u32] {
+    /// The first `rows` rows.
+    pub fn table(&self, rows: u32) -> Table<'_> {
         let end = (rows as usize).saturating_mul(ROW_WIDTH).min(self.numbers.len());
-        &self.numbers[..end]
+        Table(&self.numbers[..end])
     }
 
     /// Gives back what one large file needed.

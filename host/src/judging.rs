@@ -58,12 +58,12 @@ impl Report {
     fn json(&self, path: &Path) -> String {
         let mut fields = path_fields("path", path);
         match &self.verdict {
-            Ok(Judged { answer, has_head }) => {
+            Ok(Judged { answer, item_row, has_head }) => {
                 let verdict = if answer.code == 0 { "accepted" } else { "refused" };
                 let sentence =
                     if answer.code == 9 { sentences::rule(answer.rule) } else { sentences::code(answer.code) };
                 fields.push_str(&format!(
-                    ",\"verdict\":\"{verdict}\",\"code\":{},\"offset\":{},\"rows\":{},\"rule\":{},\"frame\":{},\"sentence\":{}",
+                    ",\"verdict\":\"{verdict}\",\"code\":{},\"offset\":{},\"rows\":{},\"rule\":{},\"frame\":{},\"item_row\":{item_row},\"sentence\":{}",
                     answer.code,
                     answer.offset,
                     answer.rows,
@@ -99,7 +99,7 @@ fn path_fields(name: &str, path: &Path) -> String {
 fn judge_file(path: &Path, buffer: &mut RowBuffer) -> Result<Judged, String> {
     let opened = Opened::open(path)?;
     let answer = buffer.judge(opened.bytes())?;
-    let judged = Judged::of(opened.bytes(), answer);
+    let judged = Judged::of(opened.bytes(), answer, buffer.table(answer.rows));
     opened.unchanged().map(|()| judged)
 }
 

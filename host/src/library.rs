@@ -32,8 +32,8 @@ pub struct Slip {
 /// The bytes of a slip.
 pub const SLIP_SIZE: usize = 13;
 
-/// The numbers of a row.
-pub const ROW_WIDTH: usize = 6;
+/// `XA_ROW_NUMBERS` of the header.
+pub const ROW_WIDTH: usize = 7;
 
 extern "C" {
     fn xa_read(data: *const u8, size: usize, rows: *mut u32, rows_len: usize) -> Answer;

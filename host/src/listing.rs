@@ -6,19 +6,29 @@ use std::path::{Path, PathBuf};
 use crate::buffer::RowBuffer;
 use crate::files::Opened;
 use crate::head::Judged;
-use crate::library::{self, ROW_WIDTH};
+use crate::library;
 use crate::output::{line, note_of, Status};
 use crate::sentences;
+use crate::table::{Row, Table};
 
-/// Lists the rows of a data set, as the program `rowlist` does.
-pub fn rows(path: &Path, out: &mut dyn Write) -> io::Result<Status> {
+/// How the rows are listed.
+#[derive(Clone, Copy)]
+pub enum Form {
+    /// The numbers of each row, as the program `rowlist` prints them.
+    Numbers,
+    /// What stands in what.
+    Tree,
+}
+
+/// Lists the rows of a data set.
+pub fn rows(path: &Path, form: Form, out: &mut dyn Write) -> io::Result<Status> {
     let mut buffer = RowBuffer::default();
     let read = Opened::open(path).and_then(|opened| {
         let answer = buffer.read(opened.bytes())?;
-        opened.unchanged().map(|()| Judged::of(opened.bytes(), answer))
+        opened.unchanged().map(|()| Judged::of(opened.bytes(), answer, buffer.table(0)))
     });
-    let rows = match read {
-        Ok(Judged { answer, .. }) if answer.code == 0 => buffer.rows(answer.rows),
+    let table = match read {
+        Ok(Judged { answer, .. }) if answer.code == 0 => buffer.table(answer.rows),
         Ok(refused) => {
             line(out, path, &refused.line())?;
             return Ok(Status::Refused);
@@ -29,16 +39,59 @@ pub fn rows(path: &Path, out: &mut dyn Write) -> io::Result<Status> {
         }
     };
     let mut out = BufWriter::new(out);
-    writeln!(out, "rows {}", rows.len() / ROW_WIDTH)?;
-    for row in rows.chunks_exact(ROW_WIDTH) {
-        let vr = match row[1] {
-            0 => String::from("--"),
-            letters => [letters >> 8, letters & 255].iter().map(|&letter| letter as u8 as char).collect(),
-        };
-        writeln!(out, "{:08X} {vr} {} {} {} {}", row[0], row[2], row[3], row[4], row[5])?;
+    writeln!(out, "rows {}", table.count())?;
+    match form {
+        Form::Numbers => numbers(table, &mut out)?,
+        Form::Tree => tree(table, &mut out)?,
     }
     out.flush()?;
     Ok(Status::Fine)
+}
+
+fn numbers(table: Table, out: &mut dyn Write) -> io::Result<()> {
+    for row in table.rows() {
+        let Row { tag, depth, offset, length, below, parent, .. } = row;
+        writeln!(out, "{tag:08X} {} {depth} {offset} {length} {below} {parent}", row.vr_text())?;
+    }
+    Ok(())
+}
+
+/// A row in which the next ones stand.
+struct Holder {
+    row: Row,
+    /// How many members of it were listed.
+    members: u32,
+    /// Whether more of its own siblings follow.
+    more: bool,
+}
+
+/// Each row behind its number, under the row that it stands in.
+fn tree(table: Table, out: &mut dyn Write) -> io::Result<()> {
+    let wide = table.count().to_string().len();
+    let mut holders: Vec<Holder> = Vec::new();
+    for row in table.rows() {
+        while holders.last().is_some_and(|holder| holder.row.number != row.parent) {
+            holders.pop();
+        }
+        let end = holders.last().map_or(table.count(), |holder| holder.row.last());
+        let more = row.last() < end;
+        let nth = holders.last_mut().map_or(0, |holder| {
+            holder.members += 1;
+            holder.members
+        });
+        // Nothing is drawn before what stands at the root.
+        let mut branch: String = holders.iter().skip(1).map(|holder| if holder.more { "|   " } else { "    " }).collect();
+        if !holders.is_empty() {
+            branch.push_str(if more { "|-- " } else { "`-- " });
+        }
+        let what = match row.is_item() {
+            true => format!("item {nth}"),
+            false => format!("{} {}", row.tag_text(), row.vr_text()),
+        };
+        writeln!(out, "{:wide$} {branch}{what}, {} bytes at {}", row.number, row.length, row.offset)?;
+        holders.push(Holder { row, members: 0, more });
+    }
+    Ok(())
 }
 
 /// Prints the verdicts that slips record.
@@ -53,8 +106,8 @@ pub fn read_slips(paths: &[PathBuf], out: &mut dyn Write) -> io::Result<Status> 
             Ok(slip) if slip.code != 0 => {
                 (format!("code {}: {}", slip.code, sentences::code(slip.code)), Status::Refused)
             }
-            Ok(slip) if slip.verdict.code != 0 => (sentences::answer(&slip.verdict), Status::Refused),
-            Ok(slip) => (sentences::answer(&slip.verdict), Status::Fine),
+            Ok(slip) if slip.verdict.code != 0 => (sentences::answer(&slip.verdict, 0), Status::Refused),
+            Ok(slip) => (sentences::answer(&slip.verdict, 0), Status::Fine),
             Err(trouble) => (trouble, Status::Failed),
         };
         line(out, path, &text)?;

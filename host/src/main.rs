@@ -14,6 +14,7 @@ mod listing;
 mod output;
 mod picture;
 mod sentences;
+mod table;
 
 use std::io::{self, Write};
 use std::path::{Path, PathBuf};
@@ -52,16 +53,20 @@ enum Command {
     /// List the elements and items of a data set
     ///
     /// The first line is `rows N`. A line for each row follows: tag, VR (-- for an item), depth, offset of the value,
-    /// length of the value, number of rows below.
+    /// length of the value, number of rows below, and the parent: the row, counted from 1, of the item or sequence that it
+    /// stands directly in, 0 at the root.
     Rows {
         /// A data set
         file: PathBuf,
+        /// Draw what stands in what: the row's number, its tag and VR or which item it is, length and offset of the value
+        #[arg(long)]
+        tree: bool,
     },
     /// Judge files by the 38 rules, one line for each
     ///
-    /// A line says: accepted; or the first broken rule, the lowest frame that breaks it (0: not a matter of one frame) and
-    /// what the rule asks; or the code and the byte at which reading stopped. A summary is the last line. Folders are gone
-    /// through in the order of names. Links to folders are not followed.
+    /// A line says: accepted; or the first broken rule, the lowest frame that breaks it (0: not a matter of one frame), which
+    /// item and row are that frame's, and what the rule asks; or the code and the byte at which reading stopped. A summary is
+    /// the last line. Folders are gone through in the order of names. Links to folders are not followed.
     Judge {
         /// Files, or folders whose files are judged
         #[arg(required = true, value_name = "FILE|DIR")]
@@ -142,7 +147,10 @@ fn processors() -> usize {
 
 fn run(command: Command, out: &mut dyn Write) -> io::Result<Status> {
     match command {
-        Command::Rows { file } => listing::rows(&file, out),
+        Command::Rows { file, tree } => {
+            let form = if tree { listing::Form::Tree } else { listing::Form::Numbers };
+            listing::rows(&file, form, out)
+        }
         Command::Judge { paths, slips, json, jobs } => {
             let jobs = jobs.map_or_else(processors, usize::from);
             judging::run(&judging::Wanted { named: paths, slips, json, jobs }, out)

@@ -8,13 +8,12 @@ use std::path::{Path, PathBuf};
 use crate::buffer::RowBuffer;
 use crate::files::{self, Opened};
 use crate::head::Judged;
-use crate::library::ROW_WIDTH;
 use crate::output::{line, note_of, Status};
 use crate::sentences;
+use crate::table::Table;
 
 const ROWS: u32 = 0x0028_0010;
 const COLUMNS: u32 = 0x0028_0011;
-const PER_FRAME_GROUPS: u32 = 0x5200_9230;
 
 /// The code of a frame that is none of the run.
 const NO_SUCH_FRAME: u32 = 10;
@@ -112,13 +111,14 @@ impl Run {
         let mut buffer = RowBuffer::default();
         let data = opened.bytes();
         let answer = buffer.judge(data)?;
+        let table = buffer.table(answer.rows);
         if answer.code != 0 {
-            return Err(Failure::Refused(Judged::of(data, answer).line()));
+            return Err(Failure::Refused(Judged::of(data, answer, table).line()));
         }
-        let table = buffer.rows(answer.rows);
-        let found = (number_of(data, table, ROWS), number_of(data, table, COLUMNS), items_of(table, PER_FRAME_GROUPS));
-        match found {
-            (Some(height), Some(width), Some(frames)) => Ok(Run { opened, buffer, width, height, frames }),
+        // Of an accepted run the per-frame groups have one item for each frame.
+        let frames = table.frame_items().count() as u64;
+        match (number_of(data, table, ROWS), number_of(data, table, COLUMNS)) {
+            (Some(height), Some(width)) => Ok(Run { opened, buffer, width, height, frames }),
             _ => Err(Failure::Trouble(String::from("its rows do not say how large a frame is"))),
         }
     }
@@ -131,47 +131,21 @@ impl Run {
         match answer.code {
             0 => Ok((image, answer.masked == 1)),
             NO_SUCH_FRAME => {
-                let text = format!("{}; it has frames 1 to {}", sentences::answer(&answer), self.frames);
+                let text = format!("{}; it has frames 1 to {}", sentences::answer(&answer, 0), self.frames);
                 Err(Failure::Refused(text))
             }
-            _ => Err(Failure::Refused(sentences::answer(&answer))),
+            _ => Err(Failure::Refused(sentences::answer(&answer, 0))),
         }
     }
-}
-
-/// Where the root row of a tag starts among the numbers. What stands below a row is stepped over.
-fn root_row(table: &[u32], tag: u32) -> Option<usize> {
-    let mut at = 0;
-    while let Some(row) = table.get(at..at + ROW_WIDTH) {
-        if row[0] == tag {
-            return Some(at);
-        }
-        at += (row[5] as usize + 1) * ROW_WIDTH;
-    }
-    None
 }
 
 /// The two bytes of a root element as a number.
-fn number_of(data: &[u8], table: &[u32], tag: u32) -> Option<usize> {
-    let row = root_row(table, tag)?;
-    let offset = table[row + 3] as usize;
+fn number_of(data: &[u8], table: Table, tag: u32) -> Option<usize> {
+    let offset = table.root(tag)?.offset as usize;
     match data.get(offset..offset + 2) {
         Some(&[low, high]) => Some(usize::from(u16::from_le_bytes([low, high]))),
         _ => None,
     }
-}
-
-/// How many items a root sequence has. Of an accepted run, the per-frame groups have one for each frame.
-fn items_of(table: &[u32], tag: u32) -> Option<u64> {
-    let row = root_row(table, tag)?;
-    let mut at = row + ROW_WIDTH;
-    let end = at + table[row + 5] as usize * ROW_WIDTH;
-    let mut items = 0;
-    while at < end {
-        at += (*table.get(at + 5)? as usize + 1) * ROW_WIDTH;
-        items += 1;
-    }
-    Some(items)
 }
 
 /// Frames that are spread evenly over the run, the first and the last among them.

@@ -72,12 +72,21 @@ pub fn code(number: u32) -> &'static str {
     }
 }
 
-/// An answer in a line: accepted, or the rule, frame and sentence, or the code and place and what it means.
-pub fn answer(given: &Answer) -> String {
+/// An answer in a line: accepted, or the rule, frame and sentence, or the code and place and what it means. Where the row of the
+/// frame's item is known, and not 0, it is told too.
+pub fn answer(given: &Answer, item_row: u32) -> String {
     match given.code {
         0 => String::from("accepted"),
         1..=6 => format!("code {} at byte {}: {}", given.code, given.offset, code(given.code)),
-        9 => format!("rule {}, frame {}: {}", given.rule, given.frame, rule(given.rule)),
+        9 => format!("rule {}, frame {}{}: {}", given.rule, given.frame, item(given.frame, item_row), rule(given.rule)),
         _ => format!("code {}: {}", given.code, code(given.code)),
+    }
+}
+
+/// Which item of the data set is a frame's.
+fn item(frame: u32, row: u32) -> String {
+    match row {
+        0 => String::new(),
+        _ => format!(", item {frame} of (5200,9230), row {row}"),
     }
 }

@@ -1,4 +1,4 @@
-"""Reading one data set: document 01, "Reading", with the answers 0 to 8.
+"""Reading one data set: document 01, "Reading", with the answers 0 to 8, and Q-6 of document 02.
 
 The data set is read into a tree of elements and items. The row table is that tree written down in byte order. Every
 step answers the offset that it reached, or raises Refusal with the code and the offset of the header at fault.
@@ -10,6 +10,7 @@ from .answers import (BAD_STRUCTURE, CUT_SHORT, DATA_SET_TOO_LARGE, DONE, ODD_LE
 MAXIMUM_SIZE = 1_073_741_824
 MAXIMUM_SEQUENCE_DEPTH = 7  # a sequence of depth 8 is refused
 UNDEFINED = 0xFFFFFFFF
+NUMBERS_IN_A_ROW = 7
 
 # VRs whose header is tag, VR, two zero bytes, 32-bit length: 12 bytes.
 LONG_VRS = frozenset("OB OD OF OL OV OW SQ SV UC UN UR UT UV".split())
@@ -170,28 +171,38 @@ def read_data_set(data):
     return elements
 
 
-def rows_of_elements(elements, depth):
+def rows_of_elements(elements, depth, parent, before):
     """The rows of some elements of one data set, in byte order.
 
-    A row is: tag, VR number, depth, value offset, value length, descendants (rows below it, at every level).
+    A row is: tag, VR number, depth, value offset, value length, descendants (rows below it, at every level), parent. The
+    parent is "the row number, counted from 1, of the item or sequence it stands directly in, 0 at the root" (Q-6). Here
+    it is that of the item that holds these elements; `before` rows stand before theirs.
     """
     rows = []
     for element in elements:
-        below = [] if element.items is None else rows_of_items(element.items, depth + 1)
+        number = before + len(rows) + 1
+        below = [] if element.items is None else rows_of_items(element.items, depth + 1, number, number)
         vr_number = ord(element.vr[0]) * 256 + ord(element.vr[1])
-        rows.append((element.tag, vr_number, depth, element.value_offset, element.value_length, len(below)))
+        rows.append((element.tag, vr_number, depth, element.value_offset, element.value_length, len(below), parent))
         rows.extend(below)
     return rows
 
 
-def rows_of_items(items, depth):
-    """The rows of the items of one sequence. An item's VR number is 0; its elements have its own depth."""
+def rows_of_items(items, depth, parent, before):
+    """The rows of the items of one sequence, whose row number is `parent`. An item's VR number is 0; its elements have its
+    own depth, and its row number as their parent."""
     rows = []
     for item in items:
-        below = rows_of_elements(item.elements, depth)
-        rows.append((ITEM, 0, depth, item.value_offset, item.value_length, len(below)))
+        number = before + len(rows) + 1
+        below = rows_of_elements(item.elements, depth, number, number)
+        rows.append((ITEM, 0, depth, item.value_offset, item.value_length, len(below), parent))
         rows.extend(below)
     return rows
+
+
+def rows_of(elements):
+    """The rows of a whole data set."""
+    return rows_of_elements(elements, 0, 0, 0)
 
 
 def read_with_elements(data, row_buffer_length):
@@ -202,8 +213,8 @@ def read_with_elements(data, row_buffer_length):
         elements = read_data_set(data)
     except Refusal as refusal:
         return Outcome(Answer(refusal.code, offset=refusal.offset)), None
-    rows = rows_of_elements(elements, 0)
-    if row_buffer_length < 6 * len(rows):
+    rows = rows_of(elements)
+    if row_buffer_length < NUMBERS_IN_A_ROW * len(rows):
         return Outcome(Answer(ROW_BUFFER_TOO_SMALL)), None
     numbers = tuple(value for row in rows for value in row)
     return Outcome(Answer(DONE, rows=len(rows)), rows=numbers), elements

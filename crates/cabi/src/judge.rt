@@ -8,7 +8,7 @@ ghost use Rattle.dataset.specs.Answer.{bufferOf};
 ghost use Rattle.conformance.specs.Judging.{judgeOf};
 ghost use Rattle.cabi.specs.Host.{judgeAnswer};
 
-// Reads a data set into rows of six numbers and judges it. With codes 1 to 8 the buffer stays as it was.
+// Reads a data set into rows of seven numbers and judges it. With codes 1 to 8 the buffer stays as it was.
 #[no_mangle]
 pub extern "C" fn xa_judge(bytes: &[u8], rows: &mut [u32]) -> Answer
     ensures { λ r. ⌜ r ≡ judgeAnswer (judgeOf (now (bytes .entry)) (now (rows .entry))) ⌝ }

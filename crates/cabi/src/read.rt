@@ -7,7 +7,7 @@ ghost use Rattle.dataset.specs.Reading.{readingOf};
 ghost use Rattle.dataset.specs.Answer.{answerOf, bufferOf};
 ghost use Rattle.cabi.specs.Host.{readAnswer};
 
-// Reads a data set into rows of six numbers. With codes 1 to 8 the buffer stays as it was.
+// Reads a data set into rows of seven numbers. With codes 1 to 8 the buffer stays as it was.
 #[no_mangle]
 pub extern "C" fn xa_read(bytes: &[u8], rows: &mut [u32]) -> Answer
     ensures { λ r. ⌜ r ≡ readAnswer (answerOf (readingOf (now (bytes .entry))) (now (rows .entry))) ⌝ }

@@ -16,7 +16,7 @@ fn masked_number(masked: bool) -> u32
     if masked { 1 } else { 0 }
 }
 
-// Reads a data set into rows of six numbers, judges it and draws a frame of it, a byte for each sample. With codes 1 to 8
+// Reads a data set into rows of seven numbers, judges it and draws a frame of it, a byte for each sample. With codes 1 to 8
 // the row buffer stays as it was, with every code but 0 the image buffer.
 #[no_mangle]
 pub extern "C" fn xa_show(bytes: &[u8], frame: u64, rows: &mut [u32], image: &mut [u8]) -> Answer

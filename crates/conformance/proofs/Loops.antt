@@ -128,22 +128,22 @@ module _ (ns : List Node) where
 -- ---- The row table that a reading left
 
 left-table : (r : Reading) (before buffer : List ℕ) (n : ℕ) → answer.Done n ≡ answerOf r before → buffer ≡ bufferOf r before
-    → (6 * n ≤ length buffer) × (take (6 * n) buffer ≡ flat (rowsIn r))
+    → (7 * n ≤ length buffer) × (take (7 * n) buffer ≡ flat (rowsIn r))
 left-table tooLarge before buffer n e f = let z : _≡_ {A = ℕ} 0 1 = cc in absurd (omega arith)
 left-table (refusedAt code offset) before buffer n e f = let z : _≡_ {A = ℕ} 0 1 = cc in absurd (omega arith)
 left-table (read rows) before buffer n e f = go (fits rows before) e f
   where
     go : (t : Bool) → answer.Done n ≡ cond t (answer.Done (length rows)) answer.NoRoom
-        → buffer ≡ cond t (flat rows ++ drop (6 * length rows) before) before → (6 * n ≤ length buffer) × (take (6 * n) buffer ≡ flat rows)
+        → buffer ≡ cond t (flat rows ++ drop (7 * length rows) before) before → (7 * n ≤ length buffer) × (take (7 * n) buffer ≡ flat rows)
     go true e f =
         let m : n ≡ length rows = cc in
-        let l : length (flat rows) ≡ 6 * n = omega (arith, length-flat rows) in
-        (rw (f, length-append (flat rows) (drop (6 * length rows) before)) (omega arith), rw f (take-at (flat rows) (drop (6 * length rows) before) (6 * n) l))
+        let l : length (flat rows) ≡ 7 * n = omega (arith, length-flat rows) in
+        (rw (f, length-append (flat rows) (drop (7 * length rows) before)) (omega arith), rw f (take-at (flat rows) (drop (7 * length rows) before) (7 * n) l))
     go false e f = let z : _≡_ {A = ℕ} 0 1 = cc in absurd (omega arith)
 
 pub after-reading : (s before buffer : List ℕ) (n : ℕ) → answer.Done n ≡ answerOf (readingOf s) before → buffer ≡ bufferOf (readingOf s) before
-    → (6 * n ≤ length buffer) × Table s (take (6 * n) buffer)
+    → (7 * n ≤ length buffer) × Table s (take (7 * n) buffer)
 unfolding rowsOf
 after-reading s before buffer n e f =
     let t = left-table (readingOf s) before buffer n e f in
-    (t .0, table s (take (6 * n) buffer) (t .1))
+    (t .0, table s (take (7 * n) buffer) (t .1))

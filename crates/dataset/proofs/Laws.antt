@@ -38,34 +38,34 @@ answer-small s buffer = by-reading (readingOf s) (reading-reads s)
     by-reading (refusedAt code offset) r = r
     by-reading (read rows) r = by-room (fits rows buffer) (length rows) (r .small)
 
--- The six numbers of row i stand at 6 i, whatever follows the rows.
-pub number-at : (rows : List Row) (rest : List ℕ) (i k : ℕ) → i < length rows → k < 6
-    → getD (flat rows ++ rest) (6 * i + k) 0 ≡ getD (flat (rowAt rows i ∷ [])) k 0
+-- The seven numbers of row i stand at 7 i, whatever follows the rows.
+pub number-at : (rows : List Row) (rest : List ℕ) (i k : ℕ) → i < length rows → k < 7
+    → getD (flat rows ++ rest) (7 * i + k) 0 ≡ getD (flat (rowAt rows i ∷ [])) k 0
 number-at [] rest i k h l = absurd (omega arith)
 number-at (r ∷ rs) rest zero k h l = rw (zero-add k) (List·getD-append (flat (r ∷ [])) (flat rs ++ rest) 0 k l)
 number-at (r ∷ rs) rest (suc i) k h l =
-    let e : 6 * suc i + k ≡ suc (suc (suc (suc (suc (suc (6 * i + k)))))) = omega arith in
+    let e : 7 * suc i + k ≡ suc (suc (suc (suc (suc (suc (suc (7 * i + k))))))) = omega arith in
     rw e (number-at rs rest i k (omega arith) l)
 
 -- ---- The members of one container, step by step
 
-pub members-low : {rows : List Row} {size : ℕ} {kind : Kind} {depth least i to : ℕ} → Members rows size kind depth least i to → i ≤ to
+pub members-low : {rows : List Row} {size : ℕ} {kind : Kind} {depth holder least i to : ℕ} → Members rows size kind depth holder least i to → i ≤ to
 members-low (Members.end e) = omega arith
 members-low (Members.member h m b r) = omega arith
 
 -- The first member, and what is after it.
-pub record First (rows : List Row) (size : ℕ) (kind : Kind) (depth least i to : ℕ) : Type 0 where
-  pub here : Member size kind depth least (rowAt rows i)
+pub record First (rows : List Row) (size : ℕ) (kind : Kind) (depth holder least i to : ℕ) : Type 0 where
+  pub here : Member size kind depth holder least (rowAt rows i)
   pub fit : nextRow rows i ≤ to
-  pub below : Members rows size (insideOf kind) (depthInside kind depth) 0 (i + 1) (nextRow rows i)
-  pub after : Members rows size kind depth (rowAt rows i .tag + 1) (nextRow rows i) to
+  pub below : Members rows size (insideOf kind) (depthInside kind depth) (i + 1) 0 (i + 1) (nextRow rows i)
+  pub after : Members rows size kind depth holder (rowAt rows i .tag + 1) (nextRow rows i) to
 
-pub members-first : {rows : List Row} {size : ℕ} {kind : Kind} {depth least i to : ℕ} → Members rows size kind depth least i to → i < to
-    → First rows size kind depth least i to
+pub members-first : {rows : List Row} {size : ℕ} {kind : Kind} {depth holder least i to : ℕ} → Members rows size kind depth holder least i to → i < to
+    → First rows size kind depth holder least i to
 members-first (Members.end e) h = absurd (omega arith)
 members-first (Members.member f m b r) h = record { here = m; fit = f; below = b; after = r }
 
-pub members-ascend : {rows : List Row} {size depth least i to : ℕ} → Members rows size elements depth least i to → i < to → nextRow rows i < to
+pub members-ascend : {rows : List Row} {size depth holder least i to : ℕ} → Members rows size elements depth holder least i to → i < to → nextRow rows i < to
     → rowAt rows i .tag < rowAt rows (nextRow rows i) .tag
 members-ascend m h k = omega (arith, members-first (members-first m h .after) k .here .is .0)
 
@@ -75,20 +75,21 @@ members-ascend m h k = omega (arith, members-first (members-first m h .after) k 
 pub record Found (rows : List Row) (size depth i to : ℕ) : Type 0 where
   pub kind : Kind
   pub depthHere : ℕ
+  pub holder : ℕ
   pub least : ℕ
   pub last : ℕ
   pub deeper : depth ≤ depthHere
-  pub first : First rows size kind depthHere least i last
+  pub first : First rows size kind depthHere holder least i last
   pub within : last ≤ to
 
 inside-deeper : (kind : Kind) (depth : ℕ) → depth ≤ depthInside kind depth
 inside-deeper elements depth = omega arith
 inside-deeper items depth = omega arith
 
-pub row-found : {rows : List Row} {size : ℕ} {kind : Kind} {depth least from to : ℕ} → Members rows size kind depth least from to
+pub row-found : {rows : List Row} {size : ℕ} {kind : Kind} {depth holder least from to : ℕ} → Members rows size kind depth holder least from to
     → (i : ℕ) → from ≤ i → i < to → Found rows size depth i to
 row-found (Members.end e) i p q = absurd (omega arith)
-row-found {rows} {size} (Members.member {kind} {depth} {least} {i = from} {to} f m b r) i p q =
+row-found {rows} {size} (Members.member {kind} {depth} {holder} {least} {i = from} {to} f m b r) i p q =
     go (row-found b i) (row-found r i) (ltb from i) refl (ltb i (nextRow rows from)) refl
   where
     go : (from + 1 ≤ i → i < nextRow rows from → Found rows size (depthInside kind depth) i (nextRow rows from))
@@ -100,6 +101,7 @@ row-found {rows} {size} (Members.member {kind} {depth} {least} {i = from} {to} f
         (record {
           kind = kind;
           depthHere = depth;
+          holder = holder;
           least = least;
           last = to;
           deeper = omega arith;
@@ -111,6 +113,7 @@ row-found {rows} {size} (Members.member {kind} {depth} {least} {i = from} {to} f
         record {
           kind = g .kind;
           depthHere = g .depthHere;
+          holder = g .holder;
           least = g .least;
           last = g .last;
           deeper = omega (arith, g .deeper, inside-deeper kind depth);
@@ -120,7 +123,7 @@ row-found {rows} {size} (Members.member {kind} {depth} {least} {i = from} {to} f
     go x y true d false e = y (ltb-false i (nextRow rows from) e) q
 
 -- An item has no form: its VR is 0.
-item-formless : (vr : ℕ) → vr ≡ 0 → formOf vr ≡ 0
+pub item-formless : (vr : ℕ) → vr ≡ 0 → formOf vr ≡ 0
 unfolding formOf listed
 item-formless vr e = rw e
 
@@ -130,20 +133,20 @@ abbrev pub IsElement : Row → Type 0
 IsElement r = formOf (r .vr) ≡ 0 → ⊥
 
 -- Of two members of one container in a row, the second has the higher tag, where the first is an element.
-member-ascends : (size : ℕ) (kind : Kind) (depth least : ℕ) (r q : Row) → Member size kind depth least r → Member size kind depth (r .tag + 1) q → IsElement r → r .tag < q .tag
-member-ascends size elements depth least r q m n x = omega (arith, n .is .0)
-member-ascends size items depth least r q m n x = absurd (x (item-formless (r .vr) (m .is .1)))
+member-ascends : (size : ℕ) (kind : Kind) (depth holder least : ℕ) (r q : Row) → Member size kind depth holder least r → Member size kind depth holder (r .tag + 1) q → IsElement r → r .tag < q .tag
+member-ascends size elements depth holder least r q m n x = omega (arith, n .is .0)
+member-ascends size items depth holder least r q m n x = absurd (x (item-formless (r .vr) (m .is .1)))
 
 -- What follows the last row below a member is an item, or less deep.
-member-less-deep : (size : ℕ) (kind : Kind) (depth least : ℕ) (q : Row) → Member size kind depth least q → IsElement q → q .depth < depthInside kind depth
-member-less-deep size elements depth least q m y = omega (arith, m .level)
-member-less-deep size items depth least q m y = absurd (y (item-formless (q .vr) (m .is .1)))
+member-less-deep : (size : ℕ) (kind : Kind) (depth holder least : ℕ) (q : Row) → Member size kind depth holder least q → IsElement q → q .depth < depthInside kind depth
+member-less-deep size elements depth holder least q m y = omega (arith, m .level)
+member-less-deep size items depth holder least q m y = absurd (y (item-formless (q .vr) (m .is .1)))
 
-next-ascends : {rows : List Row} {size : ℕ} {kind : Kind} {depth least from to : ℕ} → Members rows size kind depth least from to
+next-ascends : {rows : List Row} {size : ℕ} {kind : Kind} {depth holder least from to : ℕ} → Members rows size kind depth holder least from to
     → (i : ℕ) → from ≤ i → i < to → nextRow rows i < to → IsElement (rowAt rows i) → IsElement (rowAt rows (nextRow rows i))
     → rowAt rows i .depth ≡ rowAt rows (nextRow rows i) .depth → rowAt rows i .tag < rowAt rows (nextRow rows i) .tag
 next-ascends (Members.end e) i p q l x y d = absurd (omega arith)
-next-ascends {rows} {size} (Members.member {kind} {depth} {least} {i = from} {to} f m b r) i p q l x y d =
+next-ascends {rows} {size} (Members.member {kind} {depth} {holder} {least} {i = from} {to} f m b r) i p q l x y d =
     go (λ u v w. next-ascends b i u v w x y d) (λ u. next-ascends r i u q l x y d) (ltb from i) refl (ltb i (nextRow rows from)) refl
   where
     Claim : ℕ → Type 0
@@ -152,9 +155,9 @@ next-ascends {rows} {size} (Members.member {kind} {depth} {least} {i = from} {to
     same : from ≡ i → Claim (nextRow rows i)
     same z =
         let a = members-first r (omega (arith, ap (nextRow rows) z)) in
-        member-ascends size kind depth least (rowAt rows i) (rowAt rows (nextRow rows i))
-        (subst (λ (j : ℕ). Member size kind depth least (rowAt rows j)) z m)
-        (subst (λ (j : ℕ). Member size kind depth (rowAt rows j .tag + 1) (rowAt rows (nextRow rows j))) z (a .here)) x
+        member-ascends size kind depth holder least (rowAt rows i) (rowAt rows (nextRow rows i))
+        (subst (λ (j : ℕ). Member size kind depth holder least (rowAt rows j)) z m)
+        (subst (λ (j : ℕ). Member size kind depth holder (rowAt rows j .tag + 1) (rowAt rows (nextRow rows j))) z (a .here)) x
 
     last : from < i → i < nextRow rows from → (nextRow rows i < nextRow rows from → Claim (nextRow rows i))
         → (t : Bool) → ltb (nextRow rows i) (nextRow rows from) ≡ t → Claim (nextRow rows i)
@@ -165,7 +168,7 @@ next-ascends {rows} {size} (Members.member {kind} {depth} {least} {i = from} {to
         let a = members-first r (omega arith) in
         let y′ : IsElement (rowAt rows (nextRow rows from)) = subst (λ (j : ℕ). IsElement (rowAt rows j)) z y in
         let d′ : rowAt rows i .depth ≡ rowAt rows (nextRow rows from) .depth = d ∙ ap (λ (j : ℕ). rowAt rows j .depth) z in
-        absurd (omega (arith, member-less-deep size kind depth _ _ (a .here) y′, g .deeper, g .first .here .level, d′))
+        absurd (omega (arith, member-less-deep size kind depth holder _ _ (a .here) y′, g .deeper, g .first .here .level, d′))
 
     go : (from + 1 ≤ i → i < nextRow rows from → nextRow rows i < nextRow rows from → Claim (nextRow rows i))
         → (nextRow rows from ≤ i → Claim (nextRow rows i))
@@ -202,26 +205,26 @@ module _ (s : List ℕ) (i : ℕ) (h : i < length (rowsOf s)) where
   row-nested j p q = let g = row-found (found .first .below) j (omega arith) q in omega (arith, g .first .fit, g .within)
 
   -- Below an item are its elements, of its own depth; below any other row are items, one deeper.
-  pub item-members : rowAt (rowsOf s) i .vr ≡ 0 → Members (rowsOf s) (length s) elements (rowAt (rowsOf s) i .depth) 0 (i + 1) (nextRow (rowsOf s) i)
+  pub item-members : rowAt (rowsOf s) i .vr ≡ 0 → Members (rowsOf s) (length s) elements (rowAt (rowsOf s) i .depth) (i + 1) 0 (i + 1) (nextRow (rowsOf s) i)
   item-members e = by-kind (found .kind) (found .first)
     where
-      by-kind : (kind : Kind) {depth least last : ℕ} → First (rowsOf s) (length s) kind depth least i last
-          → Members (rowsOf s) (length s) elements (rowAt (rowsOf s) i .depth) 0 (i + 1) (nextRow (rowsOf s) i)
+      by-kind : (kind : Kind) {depth holder least last : ℕ} → First (rowsOf s) (length s) kind depth holder least i last
+          → Members (rowsOf s) (length s) elements (rowAt (rowsOf s) i .depth) (i + 1) 0 (i + 1) (nextRow (rowsOf s) i)
       by-kind elements f = absurd (f .here .is .1 .0 (item-formless _ e))
       by-kind items f = rw (f .here .level) (f .below)
 
-  pub element-members : (rowAt (rowsOf s) i .vr ≡ 0 → ⊥) → Members (rowsOf s) (length s) items (rowAt (rowsOf s) i .depth + 1) 0 (i + 1) (nextRow (rowsOf s) i)
+  pub element-members : (rowAt (rowsOf s) i .vr ≡ 0 → ⊥) → Members (rowsOf s) (length s) items (rowAt (rowsOf s) i .depth + 1) (i + 1) 0 (i + 1) (nextRow (rowsOf s) i)
   element-members n = by-kind (found .kind) (found .first)
     where
-      by-kind : (kind : Kind) {depth least last : ℕ} → First (rowsOf s) (length s) kind depth least i last
-          → Members (rowsOf s) (length s) items (rowAt (rowsOf s) i .depth + 1) 0 (i + 1) (nextRow (rowsOf s) i)
+      by-kind : (kind : Kind) {depth holder least last : ℕ} → First (rowsOf s) (length s) kind depth holder least i last
+          → Members (rowsOf s) (length s) items (rowAt (rowsOf s) i .depth + 1) (i + 1) 0 (i + 1) (nextRow (rowsOf s) i)
       by-kind elements f = rw (f .here .level) (f .below)
       by-kind items f = absurd (n (f .here .is .1))
 
   pub row-childless : (rowAt (rowsOf s) i .vr ≡ 0 → ⊥) → (rowAt (rowsOf s) i .vr ≡ SQ → ⊥) → rowAt (rowsOf s) i .descendants ≡ 0
   row-childless n q = by-kind (found .kind) (found .first)
     where
-      by-kind : (kind : Kind) {depth least last : ℕ} → First (rowsOf s) (length s) kind depth least i last → rowAt (rowsOf s) i .descendants ≡ 0
+      by-kind : (kind : Kind) {depth holder least last : ℕ} → First (rowsOf s) (length s) kind depth holder least i last → rowAt (rowsOf s) i .descendants ≡ 0
       by-kind elements f = f .here .is .1 .1 q
       by-kind items f = absurd (n (f .here .is .1))
 

@@ -43,7 +43,7 @@ pub record Below (o : Run) (v : Cursor) (first : ℕ) (buffer after : List ℕ) 
   pub is : o ≡ done stop next rows
   pub count : m ≡ first + length rows
   pub within : RunWithin v (done stop next rows)
-  pub wrote : 6 * m ≤ length buffer → after ≡ sets buffer (6 * first) (flat rows)
+  pub wrote : 7 * m ≤ length buffer → after ≡ sets buffer (7 * first) (flat rows)
 
 pub below : (o : Run) {v : Cursor} {first : ℕ} {buffer after : List ℕ} {stop next m : ℕ} → Walked o v first buffer after (walk.Done stop next m)
     → Below o v first buffer after stop next m
@@ -79,53 +79,53 @@ stopped (refused code′ offset′) {v} {first} {buffer} {after} {code} {offset}
 
 -- ---- One turn
 
-module _ (head : ℕ → ℕ → Head) (inside : ℕ → Cursor → Run) (depth turns at least : ℕ) (rows : List Row) where
-  pub level-refused : (code : ℕ) → head at least ≡ heads.Refused code → level head inside depth (suc turns) at least rows ≡ refused code at
+module _ (head : ℕ → ℕ → Head) (inside : ℕ → ℕ → Cursor → Run) (depth first turns at least : ℕ) (rows : List Row) where
+  pub level-refused : (code : ℕ) → head at least ≡ heads.Refused code → level head inside depth first (suc turns) at least rows ≡ refused code at
   unfolding level
   level-refused code e = rw e
 
-  pub level-end : (next : ℕ) → head at least ≡ heads.End next → level head inside depth (suc turns) at least rows ≡ done at next rows
+  pub level-end : (next : ℕ) → head at least ≡ heads.End next → level head inside depth first (suc turns) at least rows ≡ done at next rows
   unfolding level
   level-end next e = rw e
 
-  pub level-stop : (tag vr code offset : ℕ) (v : Cursor) → head at least ≡ heads.Header tag vr v → inside vr v ≡ refused code offset
-      → level head inside depth (suc turns) at least rows ≡ refused code offset
+  pub level-stop : (tag vr code offset : ℕ) (v : Cursor) → head at least ≡ heads.Header tag vr v → inside (first + length rows + 1) vr v ≡ refused code offset
+      → level head inside depth first (suc turns) at least rows ≡ refused code offset
   unfolding level
   level-stop tag vr code offset v e f = rw (e, f)
 
-  pub level-on : (tag vr stop next : ℕ) (v : Cursor) (below : List Row) → head at least ≡ heads.Header tag vr v → inside vr v ≡ done stop next below
-      → level head inside depth (suc turns) at least rows
-      ≡ level head inside depth turns next (tag + 1) (rows ++ (row tag vr depth (v .at) (stop - v .at) (length below) ∷ below))
+  pub level-on : (tag vr stop next : ℕ) (v : Cursor) (below : List Row) → head at least ≡ heads.Header tag vr v → inside (first + length rows + 1) vr v ≡ done stop next below
+      → level head inside depth first (suc turns) at least rows
+      ≡ level head inside depth first turns next (tag + 1) (rows ++ (row tag vr depth (v .at) (stop - v .at) (length below) first ∷ below))
   unfolding level
   level-on tag vr stop next v below e f = rw (e, f)
 
 -- A level that is done has the rows so far among its rows.
-pub level-grows : (head : ℕ → ℕ → Head) (inside : ℕ → Cursor → Run) (depth turns at least : ℕ) (rows : List Row) (stop next : ℕ) (all : List Row)
-    → level head inside depth turns at least rows ≡ done stop next all → length rows ≤ length all
+pub level-grows : (head : ℕ → ℕ → Head) (inside : ℕ → ℕ → Cursor → Run) (depth first turns at least : ℕ) (rows : List Row) (stop next : ℕ) (all : List Row)
+    → level head inside depth first turns at least rows ≡ done stop next all → length rows ≤ length all
 unfolding level
-level-grows head inside depth zero at least rows stop next all e =
+level-grows head inside depth first zero at least rows stop next all e =
     let z : _≡_ {A = ℕ} 0 1 = cc in
     absurd (omega arith)
-level-grows head inside depth (suc turns) at least rows stop next all e =
-    by-head (head at least) (λ next′ tag below. level-grows head inside depth turns next′ (tag + 1) (rows ++ below) stop next all) e
+level-grows head inside depth first (suc turns) at least rows stop next all e =
+    by-head (head at least) (λ next′ tag below. level-grows head inside depth first turns next′ (tag + 1) (rows ++ below) stop next all) e
   where
     Go : Type 0
     Go = (next′ tag : ℕ) (below : List Row)
-        → level head inside depth turns next′ (tag + 1) (rows ++ below) ≡ done stop next all → length (rows ++ below) ≤ length all
+        → level head inside depth first turns next′ (tag + 1) (rows ++ below) ≡ done stop next all → length (rows ++ below) ≤ length all
 
     by-run : (r : Run) (tag vr : ℕ) (v : Cursor) → Go
-        → onRun r (λ stop next below. level head inside depth turns next (tag + 1) (rows ++ (row tag vr depth (v .at) (stop - v .at) (length below) ∷ below))) ≡ done stop next all
+        → onRun r (λ stop next below. level head inside depth first turns next (tag + 1) (rows ++ (row tag vr depth (v .at) (stop - v .at) (length below) first ∷ below))) ≡ done stop next all
         → length rows ≤ length all
     by-run (refused code offset) tag vr v go q =
         let z : _≡_ {A = ℕ} 0 1 = cc in
         absurd (omega arith)
     by-run (done stop′ next′ below) tag vr v go q =
-        let new : List Row = row tag vr depth (v .at) (stop′ - v .at) (length below) ∷ below in
+        let new : List Row = row tag vr depth (v .at) (stop′ - v .at) (length below) first ∷ below in
         omega (arith, go next′ tag new q, length-append rows new)
 
     by-head : (h : Head) → Go
         → onHead h (λ code. refused code at) (λ next. done at next rows)
-        (λ tag vr value. onRun (inside vr value) (λ stop next below. level head inside depth turns next (tag + 1) (rows ++ (row tag vr depth (value .at) (stop - value .at) (length below) ∷ below))))
+        (λ tag vr value. onRun (inside (first + length rows + 1) vr value) (λ stop next below. level head inside depth first turns next (tag + 1) (rows ++ (row tag vr depth (value .at) (stop - value .at) (length below) first ∷ below))))
         ≡ done stop next all
         → length rows ≤ length all
     by-head (heads.Refused code) go q =
@@ -134,33 +134,33 @@ level-grows head inside depth (suc turns) at least rows stop next all e =
     by-head (heads.End next′) go q =
         let f : rows ≡ all = cc in
         omega (arith, ap (λ (l : List Row). length l) f)
-    by-head (heads.Header tag vr v) go q = by-run (inside vr v) tag vr v go q
+    by-head (heads.Header tag vr v) go q = by-run (inside (first + length rows + 1) vr v) tag vr v go q
 
 -- ---- The loop: at `at`, with the rows so far, what is left to read comes to what the whole level does
 
-pub record Inv (head : ℕ → ℕ → Head) (inside : ℕ → Cursor → Run) (depth : ℕ) (o : Run) (start end first : ℕ) (buffer₀ buffer : List ℕ) (at n least : ℕ) : Type 0 where
+pub record Inv (head : ℕ → ℕ → Head) (inside : ℕ → ℕ → Cursor → Run) (depth : ℕ) (o : Run) (start end first : ℕ) (buffer₀ buffer : List ℕ) (at n least : ℕ) : Type 0 where
   pub rows : List Row
   pub turns : ℕ
-  pub rest : level head inside depth turns at least rows ≡ o
+  pub rest : level head inside depth first turns at least rows ≡ o
   pub enough : end < at + turns
   pub low : start ≤ at
   pub high : at ≤ end
   pub count : n ≡ first + length rows
   pub few : start + 8 * length rows ≤ at
   pub kept : length buffer ≡ length buffer₀
-  pub wrote : 6 * n ≤ length buffer₀ → buffer ≡ sets buffer₀ (6 * first) (flat rows)
+  pub wrote : 7 * n ≤ length buffer₀ → buffer ≡ sets buffer₀ (7 * first) (flat rows)
 
-module _ (head : ℕ → ℕ → Head) (inside : ℕ → Cursor → Run) (depth : ℕ) (o : Run) (c : Cursor) (first : ℕ) (buffer₀ : List ℕ) where
+module _ (head : ℕ → ℕ → Head) (inside : ℕ → ℕ → Cursor → Run) (depth : ℕ) (o : Run) (c : Cursor) (first : ℕ) (buffer₀ : List ℕ) where
   abbrev pub Here : List ℕ → ℕ → ℕ → ℕ → Type 0
   Here buffer at n least = Inv head inside depth o (c .at) (c .end) first buffer₀ buffer at n least
 
   -- There is a turn left.
-  turn : (at least : ℕ) (rows : List Row) (turns : ℕ) → at ≤ c .end → level head inside depth turns at least rows ≡ o → c .end < at + turns
-      → (t : ℕ) × ((level head inside depth (suc t) at least rows ≡ o) × (c .end < at + suc t))
+  turn : (at least : ℕ) (rows : List Row) (turns : ℕ) → at ≤ c .end → level head inside depth first turns at least rows ≡ o → c .end < at + turns
+      → (t : ℕ) × ((level head inside depth first (suc t) at least rows ≡ o) × (c .end < at + suc t))
   turn at least rows zero h e lt = absurd (omega arith)
   turn at least rows (suc t) h e lt = (t, (e, lt))
 
-  pub started : (s : List ℕ) → c .at ≤ c .end → c .end ≤ length s → level head inside depth (length s + 1) (c .at) 0 [] ≡ o
+  pub started : (s : List ℕ) → c .at ≤ c .end → c .end ≤ length s → level head inside depth first (length s + 1) (c .at) 0 [] ≡ o
       → Here buffer₀ (c .at) first 0
   started s h k e =
       record {
@@ -180,49 +180,49 @@ module _ (head : ℕ → ℕ → Head) (inside : ℕ → Cursor → Run) (depth 
     pub ended : {next : ℕ} → head at least ≡ heads.End next → at ≤ next → next ≤ c .end → Walked o c first buffer₀ buffer (walk.Done at next n)
     ended {next} e p q =
         let m = turn at least (i .rows) (i .turns) (i .high) (i .rest) (i .enough) in
-        let d : done at next (i .rows) ≡ o = sym (level-end head inside depth (m .0) at least (i .rows) next e) ∙ m .1 .0 in
+        let d : done at next (i .rows) ≡ o = sym (level-end head inside depth first (m .0) at least (i .rows) next e) ∙ m .1 .0 in
         subst (λ (x : Run). Walked x c first buffer₀ buffer (walk.Done at next n)) d
         (record { is = ap (λ (k : ℕ). walk.Done at next k) (i .count); within = omega (arith, i .low, i .few); wrote = λ h. i .wrote (omega (arith, i .count)) })
 
     pub refuses : {code : ℕ} → head at least ≡ heads.Refused code → (1 ≤ code) × (code ≤ 6) → Walked o c first buffer₀ buffer (walk.Refused code at)
     refuses {code} e p =
         let m = turn at least (i .rows) (i .turns) (i .high) (i .rest) (i .enough) in
-        let d : refused code at ≡ o = sym (level-refused head inside depth (m .0) at least (i .rows) code e) ∙ m .1 .0 in
+        let d : refused code at ≡ o = sym (level-refused head inside depth first (m .0) at least (i .rows) code e) ∙ m .1 .0 in
         subst (λ (x : Run). Walked x c first buffer₀ buffer (walk.Refused code at)) d (record { is = refl; within = (p .0, (p .1, (i .low, i .high))); wrote = tt })
 
     -- The walk is given up here.
     pub given-up : Replaced first o buffer₀ buffer
     given-up = by-run o (i .rest)
       where
-        by-run : (x : Run) → level head inside depth (i .turns) at least (i .rows) ≡ x → Replaced first x buffer₀ buffer
+        by-run : (x : Run) → level head inside depth first (i .turns) at least (i .rows) ≡ x → Replaced first x buffer₀ buffer
         by-run (refused code offset) e = tt
         by-run (done stop next all) e = λ h.
-            let g : length (i .rows) ≤ length all = level-grows head inside depth (i .turns) at least (i .rows) stop next all e in
-            ap (λ (b : List ℕ). sets b (6 * first) (flat all)) (i .wrote (omega (arith, i .count)))
-            ∙ sets-over (flat (i .rows)) (flat all) buffer₀ (6 * first) (omega (arith, length-flat (i .rows), length-flat all))
+            let g : length (i .rows) ≤ length all = level-grows head inside depth first (i .turns) at least (i .rows) stop next all e in
+            ap (λ (b : List ℕ). sets b (7 * first) (flat all)) (i .wrote (omega (arith, i .count)))
+            ∙ sets-over (flat (i .rows)) (flat all) buffer₀ (7 * first) (omega (arith, length-flat (i .rows), length-flat all))
 
     module _ {tag vr : ℕ} {v : Cursor} (e : head at least ≡ heads.Header tag vr v) (w : Within (record { at = at; end = c .end; delimited = c .delimited }) (heads.Header tag vr v)) {buffer₁ : List ℕ} where
-      pub fails : {code offset : ℕ} → Walked (inside vr v) v (n + 1) buffer buffer₁ (walk.Refused code offset)
+      pub fails : {code offset : ℕ} → Walked (inside (n + 1) vr v) v (n + 1) buffer buffer₁ (walk.Refused code offset)
           → Walked o c first buffer₀ buffer₁ (walk.Refused code offset)
       fails {code} {offset} u =
-          let k = stopped (inside vr v) u in
+          let k = stopped (inside (n + 1) vr v) u in
           let m = turn at least (i .rows) (i .turns) (i .high) (i .rest) (i .enough) in
-          let d : refused code offset ≡ o = sym (level-stop head inside depth (m .0) at least (i .rows) tag vr code offset v e (k .0)) ∙ m .1 .0 in
+          let d : refused code offset ≡ o = sym (level-stop head inside depth first (m .0) at least (i .rows) tag vr code offset v e (ap (λ (x : ℕ). inside x vr v) (omega (arith, i .count)) ∙ k .0)) ∙ m .1 .0 in
           subst (λ (x : Run). Walked x c first buffer₀ buffer₁ (walk.Refused code offset)) d (record { is = refl; within = omega (arith, k .1, i .low, w); wrote = tt })
 
       pub again : {stop next m : ℕ} {buffer₂ : List ℕ} → length buffer₁ ≡ length buffer → length buffer₂ ≡ length buffer₁
-          → Walked (inside vr v) v (n + 1) buffer buffer₁ (walk.Done stop next m)
-          → (6 * n + 6 ≤ length buffer₁ → buffer₂ ≡ sets buffer₁ (6 * n) (flat (row tag vr depth (v .at) (stop - v .at) (m - n - 1) ∷ [])))
+          → Walked (inside (n + 1) vr v) v (n + 1) buffer buffer₁ (walk.Done stop next m)
+          → (7 * n + 7 ≤ length buffer₁ → buffer₂ ≡ sets buffer₁ (7 * n) (flat (row tag vr depth (v .at) (stop - v .at) (m - n - 1) first ∷ [])))
           → Here buffer₂ next m (tag + 1)
       again {stop} {next} {m} {buffer₂} l₁ l₂ u put =
-          let b = below (inside vr v) u in
+          let b = below (inside (n + 1) vr v) u in
           let k = turn at least (i .rows) (i .turns) (i .high) (i .rest) (i .enough) in
-          let r : Row = row tag vr depth (v .at) (stop - v .at) (length (b .rows)) in
+          let r : Row = row tag vr depth (v .at) (stop - v .at) (length (b .rows)) first in
           let size : length (b .rows) ≡ m - n - 1 = omega (arith, b .count) in
           record {
             rows = i .rows ++ (r ∷ b .rows);
             turns = k .0;
-            rest = sym (level-on head inside depth (k .0) at least (i .rows) tag vr stop next v (b .rows) e (b .is)) ∙ k .1 .0;
+            rest = sym (level-on head inside depth first (k .0) at least (i .rows) tag vr stop next v (b .rows) e (ap (λ (x : ℕ). inside x vr v) (omega (arith, i .count)) ∙ b .is)) ∙ k .1 .0;
             enough = omega (arith, k .1 .1, b .within, w);
             low = omega (arith, i .low, b .within, w);
             high = omega (arith, b .within, w);
@@ -230,35 +230,35 @@ module _ (head : ℕ → ℕ → Head) (inside : ℕ → Cursor → Run) (depth 
             few = simp length-append (omega (arith, i .few, b .within, w));
             kept = l₂ ∙ l₁ ∙ i .kept;
             wrote = λ h.
-                let e₀ : buffer ≡ sets buffer₀ (6 * first) (flat (i .rows)) = i .wrote (omega (arith, b .count)) in
-                let e₁ : buffer₁ ≡ sets buffer (6 * (n + 1)) (flat (b .rows)) = b .wrote (omega (arith, i .kept)) in
-                let e₂ : buffer₂ ≡ sets buffer₁ (6 * n) (flat (row tag vr depth (v .at) (stop - v .at) (m - n - 1) ∷ [])) = put (omega (arith, i .kept, b .count)) in
-                let f : 6 * n ≡ 6 * first + length (flat (i .rows)) = omega (arith, length-flat (i .rows), i .count) in
+                let e₀ : buffer ≡ sets buffer₀ (7 * first) (flat (i .rows)) = i .wrote (omega (arith, b .count)) in
+                let e₁ : buffer₁ ≡ sets buffer (7 * (n + 1)) (flat (b .rows)) = b .wrote (omega (arith, i .kept)) in
+                let e₂ : buffer₂ ≡ sets buffer₁ (7 * n) (flat (row tag vr depth (v .at) (stop - v .at) (m - n - 1) first ∷ [])) = put (omega (arith, i .kept, b .count)) in
+                let f : 7 * n ≡ 7 * first + length (flat (i .rows)) = omega (arith, length-flat (i .rows), i .count) in
                 e₂
-                ∙ ap (λ (x : ℕ). sets buffer₁ (6 * n) (flat (row tag vr depth (v .at) (stop - v .at) x ∷ []))) (sym size)
-                ∙ ap (λ (x : List ℕ). sets x (6 * n) (flat (r ∷ []))) e₁
+                ∙ ap (λ (x : ℕ). sets buffer₁ (7 * n) (flat (row tag vr depth (v .at) (stop - v .at) x first ∷ []))) (sym size)
+                ∙ ap (λ (x : List ℕ). sets x (7 * n) (flat (r ∷ []))) e₁
                 ∙ row-over buffer n r (b .rows)
-                ∙ ap (λ (x : List ℕ). sets x (6 * n) (flat (r ∷ b .rows))) e₀
-                ∙ ap (λ (x : ℕ). sets (sets buffer₀ (6 * first) (flat (i .rows))) x (flat (r ∷ b .rows))) f
-                ∙ sym (sets-append (flat (i .rows)) buffer₀ (6 * first) (flat (r ∷ b .rows)))
-                ∙ ap (λ (x : List ℕ). sets buffer₀ (6 * first) x) (sym (flat-append (i .rows) (r ∷ b .rows)));
+                ∙ ap (λ (x : List ℕ). sets x (7 * n) (flat (r ∷ b .rows))) e₀
+                ∙ ap (λ (x : ℕ). sets (sets buffer₀ (7 * first) (flat (i .rows))) x (flat (r ∷ b .rows))) f
+                ∙ sym (sets-append (flat (i .rows)) buffer₀ (7 * first) (flat (r ∷ b .rows)))
+                ∙ ap (λ (x : List ℕ). sets buffer₀ (7 * first) x) (sym (flat-append (i .rows) (r ∷ b .rows)));
           }
 
 -- ---- The value of an element
 
-pub value-no-level : (levels : ℕ) (s : List ℕ) (vr : ℕ) (v : Cursor) → levels ≡ 0 → valueAt levels s vr v ≡ done (v .end) (v .end) []
+pub value-no-level : (levels : ℕ) (s : List ℕ) (first vr : ℕ) (v : Cursor) → levels ≡ 0 → valueAt levels s first vr v ≡ done (v .end) (v .end) []
 unfolding valueAt
-value-no-level levels s vr v e = rw e
+value-no-level levels s first vr v e = rw e
 
-pub value-plain : (levels : ℕ) (s : List ℕ) (vr : ℕ) (v : Cursor) → (vr ≡ 0x5351 → ⊥) → valueAt levels s vr v ≡ done (v .end) (v .end) []
+pub value-plain : (levels : ℕ) (s : List ℕ) (first vr : ℕ) (v : Cursor) → (vr ≡ 0x5351 → ⊥) → valueAt levels s first vr v ≡ done (v .end) (v .end) []
 unfolding valueAt
-value-plain zero s vr v e = refl
-value-plain (suc levels) s vr v e = rw (ne-eqb vr 0x5351 e)
+value-plain zero s first vr v e = refl
+value-plain (suc levels) s first vr v e = rw (ne-eqb vr 0x5351 e)
 
-pub value-items : (levels : ℕ) (s : List ℕ) (vr : ℕ) (v : Cursor) → (levels ≡ 0 → ⊥) → vr ≡ 0x5351 → valueAt levels s vr v ≡ itemsAt (levels - 1) s v
+pub value-items : (levels : ℕ) (s : List ℕ) (first vr : ℕ) (v : Cursor) → (levels ≡ 0 → ⊥) → vr ≡ 0x5351 → valueAt levels s first vr v ≡ itemsAt (levels - 1) s first v
 unfolding valueAt
-value-items zero s vr v n e = absurd (n refl)
-value-items (suc levels) s vr v n e = rw (eq-eqb vr 0x5351 e, sub-one (suc levels))
+value-items zero s first vr v n e = absurd (n refl)
+value-items (suc levels) s first vr v n e = rw (eq-eqb vr 0x5351 e, sub-one (suc levels))
 
 -- A value without rows.
 pub leaf : (o : Run) (v : Cursor) (first : ℕ) (buffer : List ℕ) → v .at ≤ v .end → o ≡ done (v .end) (v .end) []

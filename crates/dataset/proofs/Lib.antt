@@ -6,3 +6,4 @@ pub mod Level
 pub mod Whole
 pub mod Tree
 pub mod Laws
+pub mod Parents

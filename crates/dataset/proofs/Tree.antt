@@ -4,7 +4,7 @@ use mathlib.Core.Path.{_≡_, refl, sym, ap, _∙_, subst}
 use mathlib.Core.Bool.{Bool, true, false, cond}
 use Prim.Native.Nat.{ℕ, zero, suc, _+_, _-_, _*_, _≤_, _<_}
 use native.Mathlib.Omega.{arith}
-use native.Mathlib.Nat.{zero-add}
+use native.Mathlib.Nat.{zero-add, add-zero}
 use borrow.Author.Tests.{ltb-false, eqb-true, eqb-false}
 use lib.Dec.{eqb, ltb}
 use mathlib.Core.List.{List, [], _∷_, _++_, append-assoc, append-nil}
@@ -20,13 +20,14 @@ use Rattle.dataset.specs.Reading.{Row, row, Run, done, refused, onHead, 
 use Rattle.dataset.specs.Tree.{rowsIn, rowsOf, noRow, rowAt, nextRow, Kind, elements, items, Member, insideOf, depthInside, Members}
 
 -- The members of one container with all that is below them, as a list.
-pub data Forest (size : ℕ) : Kind → ℕ → ℕ → List Row → Type 0 where
-  empty : {kind : Kind} {depth least : ℕ} → Forest size kind depth least []
-  grow : {kind : Kind} {depth least : ℕ} {r : Row} {below rest : List Row}
-      → Member size kind depth least r → r .descendants ≡ length below
-      → Forest size (insideOf kind) (depthInside kind depth) 0 below
-      → Forest size kind depth (r .tag + 1) rest
-      → Forest size kind depth least (r ∷ (below ++ rest))
+-- Its first row is row `from`.
+pub data Forest (size : ℕ) : Kind → ℕ → ℕ → ℕ → ℕ → List Row → Type 0 where
+  empty : {kind : Kind} {depth holder from least : ℕ} → Forest size kind depth holder from least []
+  grow : {kind : Kind} {depth holder from least : ℕ} {r : Row} {below rest : List Row}
+      → Member size kind depth holder least r → r .descendants ≡ length below
+      → Forest size (insideOf kind) (depthInside kind depth) (from + 1) (from + 1) 0 below
+      → Forest size kind depth holder (from + 1 + length below) (r .tag + 1) rest
+      → Forest size kind depth holder from least (r ∷ (below ++ rest))
 
 -- ---- A header says a member's tag and VR, and moves on within the known end
 
@@ -112,18 +113,18 @@ module _ (s : List ℕ) (c : Cursor) (k : c .at + 8 ≤ c .end) where
 
 -- ---- A run that is done has added a forest; one that is refused has a code and an offset within the known end
 
-record Added (size : ℕ) (kind : Kind) (depth least at end : ℕ) (before : List Row) (stop next : ℕ) (rows : List Row) : Type 0 where
+record Added (size : ℕ) (kind : Kind) (depth holder from least at end : ℕ) (before : List Row) (stop next : ℕ) (rows : List Row) : Type 0 where
   rest : List Row
   is : rows ≡ before ++ rest
   start : at ≤ stop
   close : stop ≤ next
   high : next ≤ end
   few : at + 8 * length rest ≤ next
-  forest : Forest size kind depth least rest
+  forest : Forest size kind depth holder from least rest
 
-abbrev Adds : ℕ → Kind → ℕ → ℕ → ℕ → ℕ → List Row → Run → Type 0
-Adds size kind depth least at end before (done stop next rows) = Added size kind depth least at end before stop next rows
-Adds size kind depth least at end before (refused code offset) = (1 ≤ code) × ((code ≤ 6) × ((at ≤ offset) × (offset ≤ end)))
+abbrev Adds : ℕ → Kind → ℕ → ℕ → ℕ → ℕ → ℕ → ℕ → List Row → Run → Type 0
+Adds size kind depth holder from least at end before (done stop next rows) = Added size kind depth holder from least at end before stop next rows
+Adds size kind depth holder from least at end before (refused code offset) = (1 ≤ code) × ((code ≤ 6) × ((at ≤ offset) × (offset ≤ end)))
 
 -- Only a sequence and an item have rows below them.
 abbrev Childless : Kind → ℕ → Run → Type 0
@@ -131,23 +132,25 @@ Childless elements vr (done stop next below) = (vr ≡ SQ → ⊥) → length be
 Childless elements vr (refused code offset) = Unit {0}
 Childless items vr o = Unit {0}
 
-abbrev Inside : ℕ → Kind → ℕ → ℕ → Cursor → Run → Type 0
-Inside size kind depth vr v o = Adds size (insideOf kind) (depthInside kind depth) 0 (v .at) (v .end) [] o × Childless kind vr o
+-- A value whose rows start at row `first`.
+abbrev Inside : ℕ → Kind → ℕ → ℕ → ℕ → Cursor → Run → Type 0
+Inside size kind depth first vr v o = Adds size (insideOf kind) (depthInside kind depth) first first 0 (v .at) (v .end) [] o × Childless kind vr o
 
-named-member : (size : ℕ) (kind : Kind) (depth least tag vr at stop next : ℕ) (below : List Row) → Named kind least tag vr
+named-member : (size : ℕ) (kind : Kind) (depth holder least tag vr at stop next : ℕ) (below : List Row) → Named kind least tag vr
     → Childless kind vr (done stop next below) → depth ≤ 8 → at ≤ stop → stop ≤ size
-    → Member size kind depth least (row tag vr depth at (stop - at) (length below))
-named-member size elements depth least tag vr at stop next below n b d p q = record { is = (n .0, (n .1, b)); level = refl; deep = d; within = omega arith }
-named-member size items depth least tag vr at stop next below n b d p q = record { is = n; level = refl; deep = d; within = omega arith }
+    → Member size kind depth holder least (row tag vr depth at (stop - at) (length below) holder)
+named-member size elements depth holder least tag vr at stop next below n b d p q = record { is = (n .0, (n .1, b)); level = refl; deep = d; within = omega arith; held = refl }
+named-member size items depth holder least tag vr at stop next below n b d p q = record { is = n; level = refl; deep = d; within = omega arith; held = refl }
 
 -- A member in front of what the turns after it add.
-member-first : (size : ℕ) (kind : Kind) (depth least at next end : ℕ) (before : List Row) (r : Row) (below : List Row)
-    → Member size kind depth least r → r .descendants ≡ length below
-    → Forest size (insideOf kind) (depthInside kind depth) 0 below
+member-first : (size : ℕ) (kind : Kind) (depth holder from least at next end : ℕ) (before : List Row) (r : Row) (below : List Row)
+    → Member size kind depth holder least r → r .descendants ≡ length below
+    → Forest size (insideOf kind) (depthInside kind depth) (from + 1) (from + 1) 0 below
     → at + 8 + 8 * length below ≤ next
-    → (o : Run) → Adds size kind depth (r .tag + 1) next end (before ++ (r ∷ below)) o → Adds size kind depth least at end before o
-member-first size kind depth least at next end before r below m d f p (refused code offset) a = omega (arith, a)
-member-first size kind depth least at next end before r below m d f p (done stop after rows) a =
+    → (o : Run) → Adds size kind depth holder (from + 1 + length below) (r .tag + 1) next end (before ++ (r ∷ below)) o
+    → Adds size kind depth holder from least at end before o
+member-first size kind depth holder from least at next end before r below m d f p (refused code offset) a = omega (arith, a)
+member-first size kind depth holder from least at next end before r below m d f p (done stop after rows) a =
     record {
       rest = r ∷ (below ++ a .rest);
       is = a .is ∙ append-assoc before (r ∷ below) (a .rest);
@@ -158,88 +161,95 @@ member-first size kind depth least at next end before r below m d f p (done stop
       forest = grow m d f (a .forest);
     }
 
-module _ (size : ℕ) (kind : Kind) (depth : ℕ) (header : ℕ → ℕ → Head) (inside : ℕ → Cursor → Run) (c : Cursor) (high : c .end ≤ size) (deep : depth ≤ 8)
+module _ (size : ℕ) (kind : Kind) (depth first : ℕ) (header : ℕ → ℕ → Head) (inside : ℕ → ℕ → Cursor → Run) (c : Cursor) (high : c .end ≤ size) (deep : depth ≤ 8)
     (moves : (at least : ℕ) → at ≤ c .end → Moves kind least (moved c at) (header at least))
-    (value : (vr : ℕ) (v : Cursor) → v .at ≤ v .end → v .end ≤ size → Inside size kind depth vr v (inside vr v)) where
-  level-adds : (turns at least : ℕ) (before : List Row) → at ≤ c .end → c .end < at + turns
-      → Adds size kind depth least at (c .end) before (level header inside depth turns at least before)
+    (value : (n vr : ℕ) (v : Cursor) → v .at ≤ v .end → v .end ≤ size → Inside size kind depth n vr v (inside n vr v)) where
+  level-adds : (turns from at least : ℕ) (before : List Row) → from ≡ first + length before → at ≤ c .end → c .end < at + turns
+      → Adds size kind depth first from least at (c .end) before (level header inside depth first turns at least before)
   unfolding level
-  level-adds zero at least before h t = absurd (omega arith)
-  level-adds (suc turns) at least before h t =
-      on-head (λ next tag r below p q. level-adds turns next (tag + 1) (before ++ (r ∷ below)) p q) (header at least) (moves at least h)
+  level-adds zero from at least before g h t = absurd (omega arith)
+  level-adds (suc turns) from at least before g h t =
+      on-head (λ next tag r below p q.
+      level-adds turns (from + 1 + length below) next (tag + 1) (before ++ (r ∷ below)) (omega (arith, length-append before (r ∷ below))) p q)
+      (header at least) (moves at least h)
     where
       Next : Type 0
       Next = (next tag : ℕ) (r : Row) (below : List Row) → next ≤ c .end → c .end < next + turns
-          → Adds size kind depth (tag + 1) next (c .end) (before ++ (r ∷ below)) (level header inside depth turns next (tag + 1) (before ++ (r ∷ below)))
+          → Adds size kind depth first (from + 1 + length below) (tag + 1) next (c .end) (before ++ (r ∷ below))
+          (level header inside depth first turns next (tag + 1) (before ++ (r ∷ below)))
 
-      on-run : Next → (tag vr : ℕ) (v : Cursor) → at + 8 ≤ v .at → v .end ≤ c .end → Named kind least tag vr → (o : Run) → Inside size kind depth vr v o
-          → Adds size kind depth least at (c .end) before (onRun o (λ stop next below.
-          level header inside depth turns next (tag + 1) (before ++ (row tag vr depth (v .at) (stop - v .at) (length below) ∷ below))))
+      on-run : Next → (tag vr : ℕ) (v : Cursor) → at + 8 ≤ v .at → v .end ≤ c .end → Named kind least tag vr → (o : Run) → Inside size kind depth (from + 1) vr v o
+          → Adds size kind depth first from least at (c .end) before (onRun o (λ stop next below.
+          level header inside depth first turns next (tag + 1) (before ++ (row tag vr depth (v .at) (stop - v .at) (length below) first ∷ below))))
       on-run k tag vr v m n w (refused code offset) g = omega (arith, g .0)
       on-run k tag vr v m n w (done stop next below) g =
-          let r : Row = row tag vr depth (v .at) (stop - v .at) (length below) in
+          let r : Row = row tag vr depth (v .at) (stop - v .at) (length below) first in
           let e : below ≡ g .0 .rest = g .0 .is in
-          let f : Forest size (insideOf kind) (depthInside kind depth) 0 below =
-          subst (λ (l : List Row). Forest size (insideOf kind) (depthInside kind depth) 0 l) (sym e) (g .0 .forest) in
+          let f : Forest size (insideOf kind) (depthInside kind depth) (from + 1) (from + 1) 0 below =
+          subst (λ (l : List Row). Forest size (insideOf kind) (depthInside kind depth) (from + 1) (from + 1) 0 l) (sym e) (g .0 .forest) in
           let l : length below ≡ length (g .0 .rest) = ap length e in
-          member-first size kind depth least at next (c .end) before r below
-          (named-member size kind depth least tag vr (v .at) stop next below w (g .1) deep (g .0 .start) (omega (arith, g .0 .close, g .0 .high)))
-          refl f (omega (arith, g .0 .few)) (level header inside depth turns next (tag + 1) (before ++ (r ∷ below)))
+          member-first size kind depth first from least at next (c .end) before r below
+          (named-member size kind depth first least tag vr (v .at) stop next below w (g .1) deep (g .0 .start) (omega (arith, g .0 .close, g .0 .high)))
+          refl f (omega (arith, g .0 .few)) (level header inside depth first turns next (tag + 1) (before ++ (r ∷ below)))
           (k next tag r below (omega (arith, g .0 .high)) (omega (arith, g .0 .start, g .0 .close)))
 
-      on-head : Next → (h : Head) → Moves kind least (moved c at) h → Adds size kind depth least at (c .end) before (onHead h
+      on-head : Next → (h : Head) → Moves kind least (moved c at) h → Adds size kind depth first from least at (c .end) before (onHead h
           (λ code. refused code at)
           (λ next. done at next before)
-          (λ tag vr v. onRun (inside vr v) (λ stop next below.
-          level header inside depth turns next (tag + 1) (before ++ (row tag vr depth (v .at) (stop - v .at) (length below) ∷ below)))))
+          (λ tag vr v. onRun (inside (first + length before + 1) vr v) (λ stop next below.
+          level header inside depth first turns next (tag + 1) (before ++ (row tag vr depth (v .at) (stop - v .at) (length below) first ∷ below)))))
       on-head k (head.Refused code) m = (m .0, (m .1, (omega arith, h)))
       on-head k (head.End next) m =
           record { rest = []; is = sym (append-nil before); start = omega arith; close = m .0; high = m .1; few = omega (arith, m .0); forest = empty }
       on-head k (head.Header tag vr v) m =
-          on-run k tag vr v (m .0) (m .1 .1 .0) (m .1 .1 .1) (inside vr v) (value vr v (m .1 .0) (omega (arith, m .1 .1 .0)))
+          on-run k tag vr v (m .0) (m .1 .1 .0) (m .1 .1 .1) (inside (first + length before + 1) vr v)
+          (subst (λ (n : ℕ). Inside size kind depth n vr v (inside (first + length before + 1) vr v)) (omega arith)
+          (value (first + length before + 1) vr v (m .1 .0) (omega (arith, m .1 .1 .0))))
 
 -- ---- The whole
 
-by-cond : (t : Bool) (size : ℕ) (depth vr : ℕ) (v : Cursor) (a b : Run) → (t ≡ true → Inside size elements depth vr v a) → (t ≡ false → Inside size elements depth vr v b)
-    → Inside size elements depth vr v (cond t a b)
-by-cond true size depth vr v a b p q = p refl
-by-cond false size depth vr v a b p q = q refl
+by-cond : (t : Bool) (size : ℕ) (depth first vr : ℕ) (v : Cursor) (a b : Run) → (t ≡ true → Inside size elements depth first vr v a) → (t ≡ false → Inside size elements depth first vr v b)
+    → Inside size elements depth first vr v (cond t a b)
+by-cond true size depth first vr v a b p q = p refl
+by-cond false size depth first vr v a b p q = q refl
 
-leaf-inside : (size depth vr : ℕ) (v : Cursor) → v .at ≤ v .end → Inside size elements depth vr v (done (v .end) (v .end) [])
-leaf-inside size depth vr v p =
+leaf-inside : (size depth first vr : ℕ) (v : Cursor) → v .at ≤ v .end → Inside size elements depth first vr v (done (v .end) (v .end) [])
+leaf-inside size depth first vr v p =
     (record { rest = []; is = refl; start = p; close = omega arith; high = omega arith; few = omega arith; forest = empty }, λ _. refl)
 
 -- A run over items is no leaf's.
-items-inside : (size depth vr : ℕ) (v : Cursor) (o : Run) → vr ≡ SQ → Adds size items (depth + 1) 0 (v .at) (v .end) [] o → Inside size elements depth vr v o
-items-inside size depth vr v (refused code offset) e a = (a, tt)
-items-inside size depth vr v (done stop next below) e a = (a, λ n. absurd (n e))
+items-inside : (size depth first vr : ℕ) (v : Cursor) (o : Run) → vr ≡ SQ → Adds size items (depth + 1) first first 0 (v .at) (v .end) [] o
+    → Inside size elements depth first vr v o
+items-inside size depth first vr v (refused code offset) e a = (a, tt)
+items-inside size depth first vr v (done stop next below) e a = (a, λ n. absurd (n e))
 
 elements-adds : (levels : ℕ) (s : List ℕ) → levels ≤ 8
-    → ((vr : ℕ) (v : Cursor) → v .at ≤ v .end → v .end ≤ length s → Inside (length s) elements (8 - levels) vr v (valueAt levels s vr v))
-    → (c : Cursor) → c .at ≤ c .end → c .end ≤ length s → Adds (length s) elements (8 - levels) 0 (c .at) (c .end) [] (elementsAt levels s c)
-elements-adds levels s d inside c p q =
-    level-adds (length s) elements (8 - levels) (λ at least. elementAt s (moved c at) least levels) (valueAt levels s) c q (omega arith)
+    → ((n vr : ℕ) (v : Cursor) → v .at ≤ v .end → v .end ≤ length s → Inside (length s) elements (8 - levels) n vr v (valueAt levels s n vr v))
+    → (first : ℕ) (c : Cursor) → c .at ≤ c .end → c .end ≤ length s
+    → Adds (length s) elements (8 - levels) first first 0 (c .at) (c .end) [] (elementsAt levels s first c)
+elements-adds levels s d inside first c p q =
+    level-adds (length s) elements (8 - levels) first (λ at least. elementAt s (moved c at) least levels) (valueAt levels s) c q (omega arith)
     (λ at least r. header-moves elements least (moved c at) _ r (λ k. tagged-moves s (moved c at) k _ least levels)) inside
-    (length s + 1) (c .at) 0 [] p (omega arith)
+    (length s + 1) first (c .at) 0 [] (sym (add-zero first)) p (omega arith)
 
-value-inside : (levels : ℕ) (s : List ℕ) → levels ≤ 8 → (vr : ℕ) (v : Cursor) → v .at ≤ v .end → v .end ≤ length s
-    → Inside (length s) elements (8 - levels) vr v (valueAt levels s vr v)
+value-inside : (levels : ℕ) (s : List ℕ) → levels ≤ 8 → (first vr : ℕ) (v : Cursor) → v .at ≤ v .end → v .end ≤ length s
+    → Inside (length s) elements (8 - levels) first vr v (valueAt levels s first vr v)
 unfolding valueAt
-value-inside zero s d vr v p q = leaf-inside (length s) 8 vr v p
-value-inside (suc levels) s d vr v p q =
+value-inside zero s d first vr v p q = leaf-inside (length s) 8 first vr v p
+value-inside (suc levels) s d first vr v p q =
     let e : 8 - levels ≡ (8 - suc levels) + 1 = omega arith in
-    by-cond (eqb vr SQ) (length s) (8 - suc levels) vr v (itemsAt levels s v) (done (v .end) (v .end) [])
-    (λ t. items-inside (length s) (8 - suc levels) vr v (itemsAt levels s v) (eqb-true vr SQ t)
-    (subst (λ (n : ℕ). Adds (length s) items n 0 (v .at) (v .end) [] (itemsAt levels s v)) e
-    (level-adds (length s) items (8 - levels) (λ at least. itemAt s (moved v at)) (λ _ c. elementsAt levels s c) v q (omega arith)
+    by-cond (eqb vr SQ) (length s) (8 - suc levels) first vr v (itemsAt levels s first v) (done (v .end) (v .end) [])
+    (λ t. items-inside (length s) (8 - suc levels) first vr v (itemsAt levels s first v) (eqb-true vr SQ t)
+    (subst (λ (n : ℕ). Adds (length s) items n first first 0 (v .at) (v .end) [] (itemsAt levels s first v)) e
+    (level-adds (length s) items (8 - levels) first (λ at least. itemAt s (moved v at)) (λ n _ c. elementsAt levels s n c) v q (omega arith)
     (λ at least r. header-moves items least (moved v at) _ r (λ k. member-moves s (moved v at) k _ least))
-    (λ _ c k l. (elements-adds levels s (omega arith) (value-inside levels s (omega arith)) c k l, tt))
-    (length s + 1) (v .at) 0 [] p (omega arith))))
-    (λ _. leaf-inside (length s) (8 - suc levels) vr v p)
+    (λ n _ c k l. (elements-adds levels s (omega arith) (value-inside levels s (omega arith)) n c k l, tt))
+    (length s + 1) first (v .at) 0 [] (sym (add-zero first)) p (omega arith))))
+    (λ _. leaf-inside (length s) (8 - suc levels) first vr v p)
 
 -- What a reading says: rows that are a forest, and no more than one to 8 bytes; or a code 1 to 6 within the data set.
 pub record Rows (s : List ℕ) (rows : List Row) : Type 0 where
-  pub forest : Forest (length s) elements 0 0 rows
+  pub forest : Forest (length s) elements 0 0 0 0 rows
   pub sparse : 8 * length rows ≤ length s
   pub small : length rows ≤ 134217728
 
@@ -255,19 +265,19 @@ reading-reads s = by-size (ltb largest (length s)) refl
     all : Cursor
     all = cursor 0 (length s) false
 
-    by-run : length s ≤ largest → (o : Run) → Adds (length s) elements 0 0 0 (length s) [] o → Reads s (whole o)
+    by-run : length s ≤ largest → (o : Run) → Adds (length s) elements 0 0 0 0 0 (length s) [] o → Reads s (whole o)
     by-run h (refused code offset) a = omega (arith, a)
     by-run h (done stop next rows) a =
         let e : rows ≡ a .rest = a .is in
-        let f : Forest (length s) elements 0 0 rows = subst (λ (l : List Row). Forest (length s) elements 0 0 l) (sym e) (a .forest) in
+        let f : Forest (length s) elements 0 0 0 0 rows = subst (λ (l : List Row). Forest (length s) elements 0 0 0 0 l) (sym e) (a .forest) in
         let l : length rows ≡ length (a .rest) = ap length e in
         record { forest = f; sparse = omega (arith, a .few, a .high); small = omega (arith, a .few, a .high) }
 
-    by-size : (t : Bool) → ltb largest (length s) ≡ t → Reads s (cond t tooLarge (whole (elementsAt 8 s all)))
+    by-size : (t : Bool) → ltb largest (length s) ≡ t → Reads s (cond t tooLarge (whole (elementsAt 8 s 0 all)))
     by-size true e = tt
     by-size false e =
-        by-run (ltb-false largest (length s) e) (elementsAt 8 s all)
-        (elements-adds 8 s (omega arith) (value-inside 8 s (omega arith)) all (omega arith) (omega arith))
+        by-run (ltb-false largest (length s) e) (elementsAt 8 s 0 all)
+        (elements-adds 8 s (omega arith) (value-inside 8 s (omega arith)) 0 all (omega arith) (omega arith))
 
 pub rows-read : (s : List ℕ) → Rows s (rowsOf s)
 unfolding rowsOf
@@ -288,24 +298,25 @@ module _ (all : List Row) (size : ℕ) where
   abbrev Stand : List Row → ℕ → Type 0
   Stand rows i = (k : ℕ) → k < length rows → rowAt all (i + k) ≡ rowAt rows k
 
-  forest-members : {kind : Kind} {depth least : ℕ} {rows : List Row} → Forest size kind depth least rows → (i to : ℕ) → Stand rows i → i + length rows ≡ to
-      → Members all size kind depth least i to
-  forest-members empty i to s e = let z : i ≡ to = omega arith in Members.end z
-  forest-members (grow {kind} {depth} {least} {r} {below} {rest} m d f g) i to s e =
+  forest-members : {kind : Kind} {depth holder i least : ℕ} {rows : List Row} → Forest size kind depth holder i least rows → (to : ℕ) → Stand rows i → i + length rows ≡ to
+      → Members all size kind depth holder least i to
+  forest-members (empty {from = i}) to s e = let z : i ≡ to = omega arith in Members.end z
+  forest-members (grow {kind} {depth} {holder} {from = i} {least} {r} {below} {rest} m d f g) to s e =
       let l : length (below ++ rest) ≡ length below + length rest = length-append below rest in
       let a : rowAt all i ≡ r = at i 0 (omega arith) (omega arith) in
       let n : nextRow all i ≡ i + 1 + length below = ap (λ (x : Row). i + 1 + x .descendants) a ∙ ap (λ (x : ℕ). i + 1 + x) d in
       let b : nextRow all i ≤ to = omega arith in
-      Members.member b (subst (λ (x : Row). Member size kind depth least x) (sym a) m)
-      (forest-members f (i + 1) (nextRow all i)
+      Members.member b (subst (λ (x : Row). Member size kind depth holder least x) (sym a) m)
+      (forest-members f (nextRow all i)
       (λ k h. at (i + 1 + k) (suc k) (omega arith) (omega arith) ∙ List·getD-append below rest noRow k h) (omega arith))
-      (subst (λ (x : Row). Members all size kind depth (x .tag + 1) (nextRow all i) to) (sym a)
-      (forest-members g (nextRow all i) to
-      (λ k h. at (nextRow all i + k) (suc (length below + k)) (omega arith) (omega arith) ∙ getD-append-add below rest k noRow) (omega arith)))
+      (subst (λ (x : Row). Members all size kind depth holder (x .tag + 1) (nextRow all i) to) (sym a)
+      (subst (λ (k : ℕ). Members all size kind depth holder (r .tag + 1) k to) (sym n)
+      (forest-members g to
+      (λ k h. at (i + 1 + length below + k) (suc (length below + k)) (omega arith) (omega arith) ∙ getD-append-add below rest k noRow) (omega arith))))
     where
       at : (j k : ℕ) → j ≡ i + k → k < length (r ∷ (below ++ rest)) → rowAt all j ≡ rowAt (r ∷ (below ++ rest)) k
       at j k p h = ap (rowAt all) p ∙ s k h
 
-pub rows-members : (s : List ℕ) → Members (rowsOf s) (length s) elements 0 0 0 (length (rowsOf s))
+pub rows-members : (s : List ℕ) → Members (rowsOf s) (length s) elements 0 0 0 0 (length (rowsOf s))
 rows-members s =
-    forest-members (rowsOf s) (length s) (rows-read s .forest) 0 (length (rowsOf s)) (λ k _. ap (rowAt (rowsOf s)) (zero-add k)) (zero-add (length (rowsOf s)))
+    forest-members (rowsOf s) (length s) (rows-read s .forest) (length (rowsOf s)) (λ k _. ap (rowAt (rowsOf s)) (zero-add k)) (zero-add (length (rowsOf s)))

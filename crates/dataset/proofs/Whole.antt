@@ -30,7 +30,7 @@ all s = cursor 0 (length s) false
 abbrev pub Read : List ℕ → List ℕ → ReadAnswer → List ℕ → Type 0
 Read s buffer r after = (r ≡ answerOf (readingOf s) buffer) × (after ≡ bufferOf (readingOf s) buffer)
 
-pub reading-small : (s : List ℕ) → length s ≤ largest → readingOf s ≡ whole (elementsAt 8 s (all s))
+pub reading-small : (s : List ℕ) → length s ≤ largest → readingOf s ≡ whole (elementsAt 8 s 0 (all s))
 unfolding readingOf
 reading-small s h = rw (le-ltb largest (length s) h)
 
@@ -39,19 +39,19 @@ unfolding readingOf
 too-large s buffer h = rw (lt-ltb largest (length s) h) (refl, refl)
 
 module _ (s buffer : List ℕ) (h : length s ≤ largest) {part after : List ℕ} where
-  pub refusal : {code offset : ℕ} → Walked (elementsAt 8 s (all s)) (all s) 0 part after (walk.Refused code offset) → Read s buffer (answer.Refused code offset) buffer
-  refusal w = rw (reading-small s h ∙ ap whole (stopped (elementsAt 8 s (all s)) w .0)) (refl, refl)
+  pub refusal : {code offset : ℕ} → Walked (elementsAt 8 s 0 (all s)) (all s) 0 part after (walk.Refused code offset) → Read s buffer (answer.Refused code offset) buffer
+  refusal w = rw (reading-small s h ∙ ap whole (stopped (elementsAt 8 s 0 (all s)) w .0)) (refl, refl)
 
-  module _ {stop next n : ℕ} (w : Walked (elementsAt 8 s (all s)) (all s) 0 part after (walk.Done stop next n)) where
-    pub no-room : length buffer / 6 < n → Read s buffer answer.NoRoom buffer
+  module _ {stop next n : ℕ} (w : Walked (elementsAt 8 s 0 (all s)) (all s) 0 part after (walk.Done stop next n)) where
+    pub no-room : length buffer / 7 < n → Read s buffer answer.NoRoom buffer
     no-room k =
-        let b = below (elementsAt 8 s (all s)) w in
-        rw (reading-small s h ∙ ap whole (b .is), lt-leb (6 * length (b .rows)) (length buffer) (omega (arith, b .count))) (refl, refl)
+        let b = below (elementsAt 8 s 0 (all s)) w in
+        rw (reading-small s h ∙ ap whole (b .is), lt-leb (7 * length (b .rows)) (length buffer) (omega (arith, b .count))) (refl, refl)
 
-    pub filled : {last : List ℕ} {r : Walk} → n ≤ length buffer / 6 → Walked (elementsAt 8 s (all s)) (all s) 0 buffer last r → Read s buffer (answer.Done n) last
+    pub filled : {last : List ℕ} {r : Walk} → n ≤ length buffer / 7 → Walked (elementsAt 8 s 0 (all s)) (all s) 0 buffer last r → Read s buffer (answer.Done n) last
     filled {last} k v =
-        let b = below (elementsAt 8 s (all s)) w in
-        let room : 6 * length (b .rows) ≤ length buffer = omega (arith, b .count) in
+        let b = below (elementsAt 8 s 0 (all s)) w in
+        let room : 7 * length (b .rows) ≤ length buffer = omega (arith, b .count) in
         let wrote : Wrote 0 (done stop next (b .rows)) buffer last = subst (λ (o : Run). Wrote 0 o buffer last) (b .is) (v .wrote) in
-        rw (reading-small s h ∙ ap whole (b .is), le-leb (6 * length (b .rows)) (length buffer) room)
+        rw (reading-small s h ∙ ap whole (b .is), le-leb (7 * length (b .rows)) (length buffer) room)
         (ap (λ (m : ℕ). answer.Done m) (omega (arith, b .count)), wrote (omega arith) ∙ rows-first buffer (b .rows) room)

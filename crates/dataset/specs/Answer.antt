@@ -11,12 +11,12 @@ use Rattle.dataset.specs.Reading.{Row, Reading, tooLarge, refusedAt, rea
 
 -- How many numbers a row has.
 abbrev pub width : ℕ
-width = 6
+width = 7
 
 -- The rows as numbers, in byte order.
 abbrev pub flat : List Row → List ℕ
 flat [] = []
-flat (r ∷ rs) = r .tag ∷ r .vr ∷ r .depth ∷ r .offset ∷ r .size ∷ r .descendants ∷ flat rs
+flat (r ∷ rs) = r .tag ∷ r .vr ∷ r .depth ∷ r .offset ∷ r .size ∷ r .descendants ∷ r .parent ∷ flat rs
 
 -- Whether the buffer has room for the rows.
 abbrev pub fits : List Row → List ℕ → Bool

@@ -5,3 +5,4 @@ pub mod Reading
 pub mod Answer
 pub mod Walk
 pub mod Tree
+pub mod Parents

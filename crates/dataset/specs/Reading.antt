@@ -11,7 +11,8 @@ use Rattle.dataset.specs.declared.Head.the-variants.{Header, End, Refuse
 use Rattle.dataset.specs.Vr.{SQ}
 use Rattle.dataset.specs.Header.{cursor, elementAt, itemAt}
 
--- The six numbers of an element or item; `descendants` is the paper's number of rows below it.
+-- The seven numbers of an element or item; `descendants` is the paper's number of rows below it, and `parent` the row number,
+-- counted from 1, of the item or sequence it stands directly in, 0 at the root.
 pub record Row : Type 0 where
   pub tag : ℕ
   pub vr : ℕ
@@ -19,10 +20,11 @@ pub record Row : Type 0 where
   pub offset : ℕ
   pub size : ℕ
   pub descendants : ℕ
+  pub parent : ℕ
 
-abbrev pub row : ℕ → ℕ → ℕ → ℕ → ℕ → ℕ → Row
-row tag vr depth offset size descendants =
-    record { tag = tag; vr = vr; depth = depth; offset = offset; size = size; descendants = descendants }
+abbrev pub row : ℕ → ℕ → ℕ → ℕ → ℕ → ℕ → ℕ → Row
+row tag vr depth offset size descendants parent =
+    record { tag = tag; vr = vr; depth = depth; offset = offset; size = size; descendants = descendants; parent = parent }
 
 -- What a run of headers comes to: where its value stops (before a delimiter), the offset reached (after it), and its
 -- rows; or a refusal's code and offset.
@@ -39,18 +41,20 @@ abbrev pub onRun : Run → (ℕ → ℕ → List Row → Run) → Run
 onRun (refused code offset) go = refused code offset
 onRun (done stop next rows) go = go stop next rows
 
--- One level, header by header: `head` says what stands at an offset, `inside` what a value comes to. A row's length is
--- where its value stops less where it starts, and its descendants are the rows of its value.
+-- One level, header by header: `head` says what stands at an offset, `inside` what a value comes to whose rows are numbered
+-- from a number on. A row's length is where its value stops less where it starts, and its descendants are the rows of its value.
+-- Rows are numbered from 0 in byte order, and `first` is the number of the level's first row. It follows the row that holds the
+-- level, so that `first` is that row's number counted from 1, and 0 at the root.
 -- Each turn moves on by a header, so that a level has fewer turns than bytes; to run out of turns would be code 0, which no reading says.
-unfoldable pub level : (ℕ → ℕ → Head) → (ℕ → Cursor → Run) → ℕ → ℕ → ℕ → ℕ → List Row → Run
-level head inside depth zero at least rows = refused 0 at
-level head inside depth (suc turns) at least rows =
+unfoldable pub level : (ℕ → ℕ → Head) → (ℕ → ℕ → Cursor → Run) → ℕ → ℕ → ℕ → ℕ → ℕ → List Row → Run
+level head inside depth first zero at least rows = refused 0 at
+level head inside depth first (suc turns) at least rows =
     onHead (head at least)
     (λ code. refused code at)
     (λ next. done at next rows)
-    (λ tag vr value. onRun (inside vr value) (λ stop next below.
-    level head inside depth turns next (tag + 1)
-    (rows ++ (row tag vr depth (value .at) (stop - value .at) (length below) ∷ below))))
+    (λ tag vr value. onRun (inside (first + length rows + 1) vr value) (λ stop next below.
+    level head inside depth first turns next (tag + 1)
+    (rows ++ (row tag vr depth (value .at) (stop - value .at) (length below) first ∷ below))))
 
 abbrev pub moved : Cursor → ℕ → Cursor
 moved c at = cursor at (c .end) (c .delimited)
@@ -60,28 +64,28 @@ abbrev pub depths : ℕ
 depths = 8
 
 -- An item, element by element.
-abbrev pub elementsBy : (ℕ → Cursor → Run) → ℕ → List ℕ → Cursor → Run
-elementsBy inside levels s c =
-    level (λ at least. elementAt s (moved c at) least levels) inside (depths - levels) (length s + 1) (c .at) 0 []
+abbrev pub elementsBy : (ℕ → ℕ → Cursor → Run) → ℕ → List ℕ → ℕ → Cursor → Run
+elementsBy inside levels s first c =
+    level (λ at least. elementAt s (moved c at) least levels) inside (depths - levels) first (length s + 1) (c .at) 0 []
 
 -- A sequence, item by item.
-abbrev pub itemsBy : (Cursor → Run) → ℕ → List ℕ → Cursor → Run
-itemsBy elements levels s c =
-    level (λ at least. itemAt s (moved c at)) (λ vr value. elements value) (depths - levels) (length s + 1) (c .at) 0 []
+abbrev pub itemsBy : (ℕ → Cursor → Run) → ℕ → List ℕ → ℕ → Cursor → Run
+itemsBy elements levels s first c =
+    level (λ at least. itemAt s (moved c at)) (λ n vr value. elements n value) (depths - levels) first (length s + 1) (c .at) 0 []
 
 -- An element's value: the items of a sequence, one level deeper; any other value has no rows, and ends at its end.
-unfoldable pub valueAt : ℕ → List ℕ → ℕ → Cursor → Run
-valueAt zero s vr value = done (value .end) (value .end) []
-valueAt (suc levels) s vr value =
+unfoldable pub valueAt : ℕ → List ℕ → ℕ → ℕ → Cursor → Run
+valueAt zero s first vr value = done (value .end) (value .end) []
+valueAt (suc levels) s first vr value =
     cond (eqb vr SQ)
-    (itemsBy (λ c. elementsBy (valueAt levels s) levels s c) levels s value)
+    (itemsBy (λ n c. elementsBy (valueAt levels s) levels s n c) levels s first value)
     (done (value .end) (value .end) [])
 
-abbrev pub elementsAt : ℕ → List ℕ → Cursor → Run
-elementsAt levels s c = elementsBy (valueAt levels s) levels s c
+abbrev pub elementsAt : ℕ → List ℕ → ℕ → Cursor → Run
+elementsAt levels s first c = elementsBy (valueAt levels s) levels s first c
 
-abbrev pub itemsAt : ℕ → List ℕ → Cursor → Run
-itemsAt levels s c = itemsBy (elementsAt levels s) levels s c
+abbrev pub itemsAt : ℕ → List ℕ → ℕ → Cursor → Run
+itemsAt levels s first c = itemsBy (elementsAt levels s) levels s first c
 
 -- ---- The whole data set
 
@@ -100,4 +104,4 @@ whole (refused code offset) = refusedAt code offset
 whole (done stop next rows) = read rows
 
 unfoldable pub readingOf : List ℕ → Reading
-readingOf s = cond (ltb largest (length s)) tooLarge (whole (elementsAt depths s (cursor 0 (length s) false)))
+readingOf s = cond (ltb largest (length s)) tooLarge (whole (elementsAt depths s 0 (cursor 0 (length s) false)))

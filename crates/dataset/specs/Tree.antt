@@ -18,7 +18,7 @@ unfoldable pub rowsOf : List ℕ → List Row
 rowsOf s = rowsIn (readingOf s)
 
 abbrev pub noRow : Row
-noRow = row 0 0 0 0 0 0
+noRow = row 0 0 0 0 0 0 0
 
 -- Row i.
 abbrev pub rowAt : List Row → ℕ → Row
@@ -34,16 +34,18 @@ pub data Kind : Type 0 where
   items : Kind
 
 -- What a member of a container is: an element of a listed VR and a tag of at least `least`, or an item. Its depth is the container's
--- depth for its members, its value lies within the data set of `size` bytes, and only a sequence or an item has descendants.
+-- depth for its members, its value lies within the data set of `size` bytes, only a sequence or an item has descendants, and its
+-- parent is the container, by its row number counted from 1.
 abbrev pub IsMember : Kind → ℕ → Row → Type 0
 IsMember elements least r = (least ≤ r .tag) × ((formOf (r .vr) ≡ 0 → ⊥) × ((r .vr ≡ SQ → ⊥) → r .descendants ≡ 0))
 IsMember items least r = (r .tag ≡ itemTag) × (r .vr ≡ 0)
 
-pub record Member (size : ℕ) (kind : Kind) (depth least : ℕ) (r : Row) : Type 0 where
+pub record Member (size : ℕ) (kind : Kind) (depth holder least : ℕ) (r : Row) : Type 0 where
   pub is : IsMember kind least r
   pub level : r .depth ≡ depth
   pub deep : r .depth ≤ depths
   pub within : r .offset + r .size ≤ size
+  pub held : r .parent ≡ holder
 
 -- What the members of a member are: items hold elements of their own depth, and sequences items one deeper.
 abbrev pub insideOf : Kind → Kind
@@ -56,9 +58,9 @@ depthInside items depth = depth
 
 -- The rows from i up to `to` are the members of one container, with all that is below them. Tags ascend among elements: each is at
 -- least `least`, which the next has one above this one's tag.
-pub data Members (rows : List Row) (size : ℕ) : Kind → ℕ → ℕ → ℕ → ℕ → Type 0 where
-  end : {kind : Kind} {depth least i to : ℕ} → i ≡ to → Members rows size kind depth least i to
-  member : {kind : Kind} {depth least i to : ℕ} → nextRow rows i ≤ to → Member size kind depth least (rowAt rows i)
-      → Members rows size (insideOf kind) (depthInside kind depth) 0 (i + 1) (nextRow rows i)
-      → Members rows size kind depth (rowAt rows i .tag + 1) (nextRow rows i) to
-      → Members rows size kind depth least i to
+pub data Members (rows : List Row) (size : ℕ) : Kind → ℕ → ℕ → ℕ → ℕ → ℕ → Type 0 where
+  end : {kind : Kind} {depth holder least i to : ℕ} → i ≡ to → Members rows size kind depth holder least i to
+  member : {kind : Kind} {depth holder least i to : ℕ} → nextRow rows i ≤ to → Member size kind depth holder least (rowAt rows i)
+      → Members rows size (insideOf kind) (depthInside kind depth) (i + 1) 0 (i + 1) (nextRow rows i)
+      → Members rows size kind depth holder (rowAt rows i .tag + 1) (nextRow rows i) to
+      → Members rows size kind depth holder least i to

@@ -15,8 +15,8 @@ ghost use Rattle.dataset.specs.Walk.{FormsAfter, Within, Walked, LeafWal
 // The most bytes that a data set may have.
 pub const LARGEST: usize = 1_073_741_824;
 
-// How many numbers a row has: tag, VR, depth, offset, length, descendants.
-pub const WIDTH: usize = 6;
+// How many numbers a row has: tag, VR, depth, offset, length, descendants, parent.
+pub const WIDTH: usize = 7;
 
 // How deep sequences may stand.
 const DEPTHS: usize = 8;
@@ -333,7 +333,8 @@ impl Cursor {
     }
 }
 
-// Writes row n, of a value from `start` to `stop` whose rows end before row m, where the buffer has room for it.
+// Writes row n, of a value from `start` to `stop` whose rows end before row m, where the buffer has room for it. `first` is the
+// number of the first row beside it, which is the number from 1 of the row that holds them.
 fn put_row(
     rows: &mut [u32],
     n: usize,
@@ -343,9 +344,10 @@ fn put_row(
     start: usize,
     stop: usize,
     m: usize,
+    first: usize,
 )
-    requires { ⌜ (levels ≤ 8) × ((start ≤ stop) × ((stop ≤ 1073741824) × ((n < m) × ((m ≤ 1073741824) × ((tag < 4294967296) × (vr < 65536)))))) ⌝ }
-    ensures { λ _. ⌜ (6 * n + 6 ≤ length (now (rows .entry)) → now (rows .exit) ≡ sets (now (rows .entry)) (6 * n) (flat (row tag vr (8 - levels) start (stop - start) (m - n - 1) ∷ []))) ⌝ }
+    requires { ⌜ (levels ≤ 8) × ((start ≤ stop) × ((stop ≤ 1073741824) × ((n < m) × ((first ≤ n) × ((m ≤ 1073741824) × ((tag < 4294967296) × (vr < 65536))))))) ⌝ }
+    ensures { λ _. ⌜ (7 * n + 7 ≤ length (now (rows .entry)) → now (rows .exit) ≡ sets (now (rows .entry)) (7 * n) (flat (row tag vr (8 - levels) start (stop - start) (m - n - 1) first ∷ []))) ⌝ }
 {
     let i = WIDTH * n;
     if i + WIDTH <= rows.len() {
@@ -355,6 +357,7 @@ fn put_row(
         rows[i + 3] = start as u32;
         rows[i + 4] = (stop - start) as u32;
         rows[i + 5] = (m - n - 1) as u32;
+        rows[i + 6] = first as u32;
     }
 }
 
@@ -362,7 +365,7 @@ fn put_row(
 // a sequence stands it is given up, and what was written so far is written again.
 fn read_leaf(s: &[u8], c: Cursor, levels: usize, rows: &mut [u32], first: usize) -> Leaf
     requires { ⌜ Ready (now s) c levels first ⌝ }
-    ensures { λ r. ⌜ LeafWalked (elementsAt levels (now (s .entry)) c) c first (now (rows .entry)) (now (rows .exit)) r ⌝ }
+    ensures { λ r. ⌜ LeafWalked (elementsAt levels (now (s .entry)) first c) c first (now (rows .entry)) (now (rows .exit)) r ⌝ }
 {
     let end = c.end;
     let delimited = c.delimited;
@@ -384,7 +387,7 @@ fn read_leaf(s: &[u8], c: Cursor, levels: usize, rows: &mut [u32], first: usize)
                 }
                 let start = value.at;
                 let stop = value.end;
-                put_row(rows, n, tag, vr, levels, start, stop, n + 1);
+                put_row(rows, n, tag, vr, levels, start, stop, n + 1, first);
                 at = stop;
                 n = n + 1;
                 least = tag + 1;
@@ -396,7 +399,7 @@ fn read_leaf(s: &[u8], c: Cursor, levels: usize, rows: &mut [u32], first: usize)
 // An item of a sequence.
 fn read_member(s: &[u8], c: Cursor, levels: usize, rows: &mut [u32], first: usize) -> Walk
     requires { ⌜ Ready (now s) c levels first ⌝ }
-    ensures { λ r. ⌜ Walked (elementsAt levels (now (s .entry)) c) c first (now (rows .entry)) (now (rows .exit)) r ⌝ }
+    ensures { λ r. ⌜ Walked (elementsAt levels (now (s .entry)) first c) c first (now (rows .entry)) (now (rows .exit)) r ⌝ }
 {
     match read_leaf(s, c, levels, rows, first) {
         Leaf::Refused(code, offset) => Walk::Refused(code, offset),
@@ -408,7 +411,7 @@ fn read_member(s: &[u8], c: Cursor, levels: usize, rows: &mut [u32], first: usiz
 // An item, or the whole data set, element by element.
 fn read_item(s: &[u8], c: Cursor, levels: usize, rows: &mut [u32], first: usize) -> Walk
     requires { ⌜ Ready (now s) c levels first ⌝ }
-    ensures { λ r. ⌜ Walked (elementsAt levels (now (s .entry)) c) c first (now (rows .entry)) (now (rows .exit)) r ⌝ }
+    ensures { λ r. ⌜ Walked (elementsAt levels (now (s .entry)) first c) c first (now (rows .entry)) (now (rows .exit)) r ⌝ }
 {
     let end = c.end;
     let delimited = c.delimited;
@@ -428,7 +431,7 @@ fn read_item(s: &[u8], c: Cursor, levels: usize, rows: &mut [u32], first: usize)
                 let start = value.at;
                 if vr != SQ {
                     let stop = value.end;
-                    put_row(rows, n, tag, vr, levels, start, stop, n + 1);
+                    put_row(rows, n, tag, vr, levels, start, stop, n + 1, first);
                     at = stop;
                     n = n + 1;
                     least = tag + 1;
@@ -439,7 +442,7 @@ fn read_item(s: &[u8], c: Cursor, levels: usize, rows: &mut [u32], first: usize)
                         return Walk::Refused(code, offset);
                     }
                     Walk::Done(stop, next, m) => {
-                        put_row(rows, n, tag, vr, levels, start, stop, m);
+                        put_row(rows, n, tag, vr, levels, start, stop, m, first);
                         at = next;
                         n = m;
                         least = tag + 1;
@@ -460,7 +463,7 @@ fn read_sequence(
     first: usize,
 ) -> Walk
     requires { ⌜ Ready (now s) value levels first ⌝ }
-    ensures { λ r. ⌜ Walked (valueAt levels (now (s .entry)) vr value) value first (now (rows .entry)) (now (rows .exit)) r ⌝ }
+    ensures { λ r. ⌜ Walked (valueAt levels (now (s .entry)) first vr value) value first (now (rows .entry)) (now (rows .exit)) r ⌝ }
 {
     let end = value.end;
     let delimited = value.delimited;
@@ -489,7 +492,7 @@ fn read_sequence(
                         return Walk::Refused(code, offset);
                     }
                     Walk::Done(stop, next, m) => {
-                        put_row(rows, n, tag, kind, inner, start, stop, m);
+                        put_row(rows, n, tag, kind, inner, start, stop, m, first);
                         at = next;
                         n = m;
                     }
@@ -499,7 +502,7 @@ fn read_sequence(
     }
 }
 
-// Reads a data set into rows of six numbers. A refusal leaves the buffer as it was: the first walk only counts, since
+// Reads a data set into rows of seven numbers. A refusal leaves the buffer as it was: the first walk only counts, since
 // it is lent no buffer, and the second writes the rows once they are known to fit.
 pub fn read(bytes: &[u8], rows: &mut [u32]) -> ReadAnswer
     ensures { λ r. ⌜ r ≡ answerOf (readingOf (now (bytes .entry))) (now (rows .entry)) ⌝ }

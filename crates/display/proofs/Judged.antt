@@ -28,7 +28,7 @@ accepted-parts f read.TooLarge n e = let z : _≡_ {A = ℕ} 0 1 = cc in absurd 
 accepted-parts f read.NoRoom n e = let z : _≡_ {A = ℕ} 0 1 = cc in absurd (omega arith)
 
 pub after-judging : (s before buffer : List ℕ) (n : ℕ) → judged.Accepted n ≡ judgeOf s before → buffer ≡ bufferOf (readingOf s) before
-    → ((6 * n ≤ length buffer) × Table s (take (6 * n) buffer)) × (findingOf (nodesOf s) ≡ finding.Accepted)
+    → ((7 * n ≤ length buffer) × Table s (take (7 * n) buffer)) × (findingOf (nodesOf s) ≡ finding.Accepted)
 unfolding judgeOf
 after-judging s before buffer n e f =
     let p = accepted-parts (findingOf (nodesOf s)) (answerOf (readingOf s) before) n e in

@@ -39,7 +39,7 @@ pub record IsFrame (s : List ℕ) (f : ℕ) : Type 0 where
   pub low : 1 ≤ f
   pub high : f ≤ numberOf (framesOf (nodesOf s))
 
--- Room as codes 8 and 11 count it: six numbers for each row, and a byte for each cell.
+-- Room as codes 8 and 11 count it: seven numbers for each row, and a byte for each cell.
 pub record HasRoom (s buffer image : List ℕ) : Type 0 where
   pub rows : width * length (rowsOf s) ≤ length buffer
   pub cells : imageSize (nodesOf s) ≤ length image

@@ -1,8 +1,9 @@
-// Judges the data set on standard input: whether it is accepted, the numbers of the answer, and for a broken rule what
-// the rule asks.
+// Judges the data set on standard input: whether it is accepted, the numbers of the answer, and for a broken rule which item
+// and row are the frame's, and what the rule asks.
 mod sentence;
 
 use conformance::JudgeAnswer;
+use judge_small::Located;
 ghost use mathlib.Core.Path.{_≡_};
 ghost use lib.ListN.{length};
 
@@ -25,10 +26,20 @@ fn print_accepted(rows: usize) {
     io::write_all(1, b"\n");
 }
 
-fn print_broken(rows: usize, rule: usize, frame: usize) {
+// Which item of the data set is the frame's, and its row; nothing where the rule is no matter of one frame.
+fn print_item(frame: usize, row: usize) {
+    if row == 0 {
+        return;
+    }
+    print_field(b", item", frame);
+    print_field(b" of (5200,9230), row", row);
+}
+
+fn print_broken(rows: usize, rule: usize, frame: usize, row: usize) {
     print_field(b"refused\ncode 9 rule", rule);
     print_field(b" frame", frame);
     print_field(b" rows", rows);
+    print_item(frame, row);
     io::write_all(1, b"\n");
     sentence::print_sentence(rule);
 }
@@ -39,10 +50,11 @@ fn print_unread(code: usize, offset: usize) {
     io::write_all(1, b"\n");
 }
 
-fn print_answer(answer: JudgeAnswer) {
+fn print_answer(located: Located) {
+    let answer = located.answer;
     match answer {
         JudgeAnswer::Accepted(rows) => print_accepted(rows),
-        JudgeAnswer::Broken(rows, rule, frame) => print_broken(rows, rule, frame),
+        JudgeAnswer::Broken(rows, rule, frame) => print_broken(rows, rule, frame, located.row),
         JudgeAnswer::Refused(code, offset) => print_unread(code, offset),
         JudgeAnswer::TooLarge => {
             io::write_all(1, b"refused\ncode 7\n");
@@ -60,5 +72,5 @@ fn main() {
         io::write_all(1, b"too long: at most 65536 bytes\n");
         return;
     }
-    print_answer(judge_small::judge_small(&bytes[..n]));
+    print_answer(judge_small::judge_located(&bytes[..n]));
 }

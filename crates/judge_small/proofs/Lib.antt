@@ -1,2 +1,3 @@
 -- What the proofs use.
 pub mod Room
+pub mod Places

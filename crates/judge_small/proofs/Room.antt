@@ -1,4 +1,4 @@
--- The rows of a data set fit a buffer of six numbers for each 8 bytes, since a row has at least 8 bytes; and an answer
+-- The rows of a data set fit a buffer of seven numbers for each 8 bytes, since a row has at least 8 bytes; and an answer
 -- depends on the buffer only in whether the rows fit.
 use mathlib.Core.Path.{_≡_, refl, ap}
 use mathlib.Core.Bool.{Bool, true, false, cond}
@@ -17,7 +17,7 @@ use Rattle.node.specs.Nodes.{nodesOf}
 use Rattle.conformance.specs.Judging.{findingOf, answerFor, judgeOf}
 use Rattle.judge_small.specs.Roomy.{roomyOf}
 
-same-answer : (s buffer : List ℕ) → 6 * length s ≤ 8 * length buffer → answerOf (readingOf s) buffer ≡ answerOf (readingOf s) (flat (rowsOf s))
+same-answer : (s buffer : List ℕ) → 7 * length s ≤ 8 * length buffer → answerOf (readingOf s) buffer ≡ answerOf (readingOf s) (flat (rowsOf s))
 unfolding rowsOf
 same-answer s buffer h = by-reading (readingOf s) (row-count s)
   where
@@ -30,6 +30,6 @@ same-answer s buffer h = by-reading (readingOf s) (row-count s)
           le-leb (width * length rows) (length (flat rows)) (omega (arith, length-flat rows)),
         )
 
-pub roomy : (s buffer : List ℕ) → 6 * length s ≤ 8 * length buffer → judgeOf s buffer ≡ roomyOf s
+pub roomy : (s buffer : List ℕ) → 7 * length s ≤ 8 * length buffer → judgeOf s buffer ≡ roomyOf s
 unfolding judgeOf
 roomy s buffer h = ap (λ (a : ReadAnswer). answerFor (findingOf (nodesOf s)) a) (same-answer s buffer h)

@@ -1,1 +1,2 @@
 pub mod Roomy
+pub mod Located

@@ -1,19 +1,30 @@
 // Judging a data set of at most 65,536 bytes with a row buffer of its own, for the programs that judge.
 use conformance::JudgeAnswer;
+use value::Num;
 ghost use mathlib.Core.Path.{_≡_};
 ghost use Prim.Native.Nat.{_≤_};
 ghost use lib.ListN.{length};
+ghost use Rattle.node.specs.Nodes.{nodesOf};
+ghost use Rattle.node.specs.Table.{Table};
 ghost use Rattle.judge_small.specs.Roomy.{roomyOf};
+ghost use Rattle.judge_small.specs.Located.{itemRow, brokenAt, locatedOf};
+
+// The judge's answer and, where a broken rule names a frame, the number of the row of that frame's item, counted from 1;
+// else 0.
+pub struct Located {
+    pub answer: JudgeAnswer,
+    pub row: usize,
+}
 
 // The most bytes that a data set to be judged may have.
 pub const MOST: usize = 65_536;
 
 // Room for the rows of a data set of that size, since a row has at least 8 bytes. A function of its own gives the
 // length, so that no proof computes it from the array.
-fn row_buffer() -> [u32; 49_152]
-    ensures { λ r. ⌜ 49152 ≡ length r ⌝ }
+fn row_buffer() -> [u32; 57_344]
+    ensures { λ r. ⌜ 57344 ≡ length r ⌝ }
 {
-    [0; 49_152]
+    [0; 57_344]
 }
 
 // What the judge answers; never code 8.
@@ -23,4 +34,44 @@ pub fn judge_small(bytes: &[u8]) -> JudgeAnswer
 {
     let mut rows = row_buffer();
     conformance::judge(bytes, &mut rows)
+}
+
+// The row of the item of a frame that a broken rule names: 0 is no frame.
+fn item_row(bytes: &[u8], rows: &[u32], frame: usize) -> usize
+    requires { ⌜ Table (now bytes) (now rows) ⌝ }
+    ensures { λ r. ⌜ r ≡ itemRow (nodesOf (now (bytes .entry))) frame ⌝ }
+{
+    if frame == 0 {
+        return 0;
+    }
+    match steps::item_at(bytes, rows, frame) {
+        Num::Is(i) => i + 1,
+        Num::Lacks => 0,
+    }
+}
+
+// The answer that a rule is broken, with the row of the frame's item.
+fn broken_at(bytes: &[u8], rows: &[u32], count: usize, rule: usize, frame: usize) -> Located
+    requires { ⌜ Table (now bytes) (now rows) ⌝ }
+    ensures { λ r. ⌜ r ≡ brokenAt (nodesOf (now (bytes .entry))) count rule frame ⌝ }
+{
+    let row = item_row(bytes, rows, frame);
+    Located {
+        answer: JudgeAnswer::Broken(count, rule, frame),
+        row,
+    }
+}
+
+// What the judge answers, and the row that it is about.
+pub fn judge_located(bytes: &[u8]) -> Located
+    requires { ⌜ length (now bytes) ≤ 65536 ⌝ }
+    ensures { λ r. ⌜ r ≡ locatedOf (now (bytes .entry)) ⌝ }
+{
+    let mut rows = row_buffer();
+    let answer = conformance::judge(bytes, &mut rows);
+    let JudgeAnswer::Broken(count, rule, frame) = answer else {
+        return Located { answer, row: 0 };
+    };
+    let end = dataset::WIDTH * count;
+    broken_at(bytes, &rows[..end], count, rule, frame)
 }

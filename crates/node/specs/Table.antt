@@ -10,5 +10,5 @@ use Rattle.node.specs.Nodes.{nodesOf}
 -- The row table of a data set that was read.
 pub record Table (s rows : List ℕ) : Type 0 where
   pub is : rows ≡ flat (rowsOf s)
-  pub size : length rows ≡ 6 * length (nodesOf s)
+  pub size : length rows ≡ 7 * length (nodesOf s)
   pub few : length (nodesOf s) ≤ 134217728

@@ -28,14 +28,14 @@ pub fn tag(bytes: &[u8], rows: &[u32], i: usize) -> usize
     requires { ⌜ Table (now bytes) (now rows) × (i < length (nodesOf (now bytes))) ⌝ }
     ensures { λ r. ⌜ r ≡ nodeAt (nodesOf (now (bytes .entry))) i .tag ⌝ }
 {
-    wide(rows[6 * i])
+    wide(rows[7 * i])
 }
 
 pub fn vr(bytes: &[u8], rows: &[u32], i: usize) -> usize
     requires { ⌜ Table (now bytes) (now rows) × (i < length (nodesOf (now bytes))) ⌝ }
     ensures { λ r. ⌜ r ≡ nodeAt (nodesOf (now (bytes .entry))) i .vr ⌝ }
 {
-    wide(rows[6 * i + 1])
+    wide(rows[7 * i + 1])
 }
 
 // The node after node i and all below it.
@@ -43,7 +43,7 @@ pub fn next(bytes: &[u8], rows: &[u32], i: usize) -> usize
     requires { ⌜ Table (now bytes) (now rows) × (i < length (nodesOf (now bytes))) ⌝ }
     ensures { λ r. ⌜ (r ≡ nextNode (nodesOf (now (bytes .entry))) i) × (r ≤ length (nodesOf (now (bytes .entry)))) ⌝ }
 {
-    i + 1 + wide(rows[6 * i + 5])
+    i + 1 + wide(rows[7 * i + 5])
 }
 
 // The value of node i, a part of the data set.
@@ -51,15 +51,15 @@ pub fn value<'a, 'b>(bytes: &'a [u8], rows: &'b [u32], i: usize) -> &'a [u8]
     requires { ⌜ Table (now bytes) (now rows) × (i < length (nodesOf (now bytes))) ⌝ }
     ensures { λ r. ⌜ now r ≡ nodeAt (nodesOf (now (bytes .entry))) i .value ⌝ }
 {
-    let kind = wide(rows[6 * i + 1]);
+    let kind = wide(rows[7 * i + 1]);
     if kind == SQ {
         return &bytes[..0];
     }
     if kind == 0 {
         return &bytes[..0];
     }
-    let start = wide(rows[6 * i + 3]);
-    let end = start + wide(rows[6 * i + 4]);
+    let start = wide(rows[7 * i + 3]);
+    let end = start + wide(rows[7 * i + 4]);
     &bytes[start..end]
 }
 

@@ -1,5 +1,5 @@
 -- The rows that an answer counts are in the buffer, since the answer is code 8 where they do not fit; and they fit a
--- buffer of six numbers for each 8 bytes, since a row has at least 8 bytes.
+-- buffer of seven numbers for each 8 bytes, since a row has at least 8 bytes.
 use mathlib.Core.Path.{_≡_, refl}
 use mathlib.Core.Bool.{Bool, true, false, cond}
 use Prim.Native.Nat.{ℕ, _*_, _≤_}
@@ -21,16 +21,16 @@ held (refusedAt code offset) buffer after e = tt
 held (read rows) buffer after e = by-room (fits rows buffer) refl
   where
     by-room : (t : Bool) → fits rows buffer ≡ t → Held (cond t (answer.Done (length rows)) answer.NoRoom) after
-    by-room true f = omega (arith, leb-true (6 * length rows) (length buffer) f)
+    by-room true f = omega (arith, leb-true (7 * length rows) (length buffer) f)
     by-room false f = tt
 
-pub roomy : (s buffer : List ℕ) → 6 * length s ≤ 8 * length buffer → Roomy (answerOf (readingOf s) buffer)
+pub roomy : (s buffer : List ℕ) → 7 * length s ≤ 8 * length buffer → Roomy (answerOf (readingOf s) buffer)
 unfolding rowsOf
 roomy s buffer h = by-reading (readingOf s) (row-count s)
   where
-    by-room : (n : ℕ) → 8 * n ≤ length s → (t : Bool) → leb (6 * n) (length buffer) ≡ t → Roomy (cond t (answer.Done n) answer.NoRoom)
+    by-room : (n : ℕ) → 8 * n ≤ length s → (t : Bool) → leb (7 * n) (length buffer) ≡ t → Roomy (cond t (answer.Done n) answer.NoRoom)
     by-room n l true f = tt
-    by-room n l false f = omega (arith, leb-false (6 * n) (length buffer) f)
+    by-room n l false f = omega (arith, leb-false (7 * n) (length buffer) f)
 
     by-reading : (o : Reading) → 8 * length (rowsIn o) ≤ length s → Roomy (answerOf o buffer)
     by-reading tooLarge r = tt

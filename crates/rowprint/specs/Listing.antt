@@ -7,7 +7,7 @@ use Rattle.dataset.specs.declared.ReadAnswer.the-variants.{Done, Refused, TooLa
 
 -- The rows that the answer counts are in the buffer.
 abbrev pub Held : ReadAnswer → List ℕ → Type 0
-Held (Done n) rows = 6 * n ≤ length rows
+Held (Done n) rows = 7 * n ≤ length rows
 Held (Refused code offset) rows = Unit {0}
 Held TooLarge rows = Unit {0}
 Held NoRoom rows = Unit {0}

@@ -39,22 +39,22 @@ starts-low : (kind : Kind) → Starts kind 0 0
 starts-low elements = omega arith
 starts-low items = omega arith
 
-member-from : (size : ℕ) (kind : Kind) (depth least x : ℕ) (r : Row) → Member size kind depth least r → Starts kind least x → x ≤ r .tag
-member-from size elements depth least x r m h = omega (arith, m .is .0)
-member-from size items depth least x r m h = omega (arith, m .is .0)
+member-from : (size : ℕ) (kind : Kind) (depth holder least x : ℕ) (r : Row) → Member size kind depth holder least r → Starts kind least x → x ≤ r .tag
+member-from size elements depth holder least x r m h = omega (arith, m .is .0)
+member-from size items depth holder least x r m h = omega (arith, m .is .0)
 
-member-on : (size : ℕ) (kind : Kind) (depth least : ℕ) (r : Row) → Member size kind depth least r → Starts kind (r .tag + 1) (r .tag)
-member-on size elements depth least r m = omega arith
-member-on size items depth least r m = omega (arith, m .is .0)
+member-on : (size : ℕ) (kind : Kind) (depth holder least : ℕ) (r : Row) → Member size kind depth holder least r → Starts kind (r .tag + 1) (r .tag)
+member-on size elements depth holder least r m = omega arith
+member-on size items depth holder least r m = omega (arith, m .is .0)
 
 module _ (s rows : List ℕ) (t : Table s rows) where
-  members-rising : {kind : Kind} {depth least i to : ℕ} → Members (rowsOf s) (length s) kind depth least i to → to ≤ length (nodesOf s)
+  members-rising : {kind : Kind} {depth holder least i to : ℕ} → Members (rowsOf s) (length s) kind depth holder least i to → to ≤ length (nodesOf s)
       → (x : ℕ) → Starts kind least x → Rising (nodesOf s) x (members (nodesOf s) i to)
-  members-rising (Members.end {kind} {depth} {least} {i} {to} e) h x q = rw (members-end (nodesOf s) i to (omega arith)) tt
-  members-rising (Members.member {kind} {depth} {least} {i} {to} f m b r) h x q =
+  members-rising (Members.end {kind} {depth} {holder} {least} {i} {to} e) h x q = rw (members-end (nodesOf s) i to (omega arith)) tt
+  members-rising (Members.member {kind} {depth} {holder} {least} {i} {to} f m b r) h x q =
       rw (members-next (nodesOf s) i to (omega arith), node-is s rows t i (omega arith)) (
-        member-from (length s) kind depth least x (rowAt (rowsOf s) i) m q,
-        members-rising r h (rowAt (rowsOf s) i .tag) (member-on (length s) kind depth least (rowAt (rowsOf s) i) m),
+        member-from (length s) kind depth holder least x (rowAt (rowsOf s) i) m q,
+        members-rising r h (rowAt (rowsOf s) i .tag) (member-on (length s) kind depth holder least (rowAt (rowsOf s) i) m),
       )
 
   pub inside-rising : (i : ℕ) → i < length (nodesOf s) → Rising (nodesOf s) 0 (inside (nodesOf s) i)

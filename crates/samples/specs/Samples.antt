@@ -85,9 +85,9 @@ pub record Sample : Type 0 where
 
 -- ---- What is put in
 
--- A buffer of seven numbers: room for one row, or a small picture, and more.
+-- A buffer of eight numbers: room for one row, or a small picture, and more.
 abbrev pub lent : List ℕ
-lent = 9 ∷ 9 ∷ 9 ∷ 9 ∷ 9 ∷ 9 ∷ 9 ∷ []
+lent = 9 ∷ 9 ∷ 9 ∷ 9 ∷ 9 ∷ 9 ∷ 9 ∷ 9 ∷ []
 
 -- A row buffer for the data sets that are shown.
 abbrev pub manyRows : List ℕ
@@ -200,13 +200,13 @@ samples =
     ∷ reads (0 ∷ 0 ∷ 0 ∷ 0 ∷ 0 ∷ 0 ∷ 0 ∷ []) lent (refused 1 0) lent
     ∷ reads (take 7 rowsElement) lent (refused 1 0) lent
     -- "28 00 10 00 55 53 02 00 02 00: one row. The same twice: 2, place 10."
-    ∷ reads rowsElement lent (done 1) (0x00280010 ∷ 0x5553 ∷ 0 ∷ 8 ∷ 2 ∷ 0 ∷ 9 ∷ [])
+    ∷ reads rowsElement lent (done 1) (0x00280010 ∷ 0x5553 ∷ 0 ∷ 8 ∷ 2 ∷ 0 ∷ 0 ∷ 9 ∷ [])
     ∷ reads (rowsElement ++ rowsElement) lent (refused 2 10) lent
     -- "Length 03 00 instead: 4. FE FF 00 E0 00 00 00 00 at root: 5."
     ∷ reads oddElement lent (refused 4 0) lent
     ∷ reads (0xFE ∷ 0xFF ∷ 0x00 ∷ 0xE0 ∷ 0x00 ∷ 0x00 ∷ 0x00 ∷ 0x00 ∷ []) lent (refused 5 0) lent
     -- "00 52 29 92 53 51 00 00, FF FF FF FF, FE FF DD E0 00 00 00 00: one row, length 0."
-    ∷ reads emptySequence lent (done 1) (0x52009229 ∷ 0x5351 ∷ 0 ∷ 12 ∷ 0 ∷ 0 ∷ 9 ∷ [])
+    ∷ reads emptySequence lent (done 1) (0x52009229 ∷ 0x5351 ∷ 0 ∷ 12 ∷ 0 ∷ 0 ∷ 0 ∷ 9 ∷ [])
     -- "Width 1, centre 50: 49 gives 0, 50 gives 255."
     ∷ levels monochrome2 (window 50 1) 49 0
     ∷ levels monochrome2 (window 50 1) 50 255
@@ -217,27 +217,27 @@ samples =
     ∷ levels monochrome2 (window 40 10) 44 255
     ∷ levels monochrome2 (window 40 10) 45 255
     ∷ levels monochrome1 (window 40 10) 40 113
-    ∷ shows (oneFrame "MONOCHROME2 " "IDENTITY" (voi "40" "10") widthTen) 1 lent (shownNative 29) (0 ∷ 28 ∷ 142 ∷ 255 ∷ 255 ∷ 9 ∷ 9 ∷ [])
-    ∷ shows (oneFrame "MONOCHROME1 " "INVERSE " (voi "40" "10") widthTen) 1 lent (shownNative 29) (255 ∷ 227 ∷ 113 ∷ 0 ∷ 0 ∷ 9 ∷ 9 ∷ [])
+    ∷ shows (oneFrame "MONOCHROME2 " "IDENTITY" (voi "40" "10") widthTen) 1 lent (shownNative 29) (0 ∷ 28 ∷ 142 ∷ 255 ∷ 255 ∷ 9 ∷ 9 ∷ 9 ∷ [])
+    ∷ shows (oneFrame "MONOCHROME1 " "INVERSE " (voi "40" "10") widthTen) 1 lent (shownNative 29) (255 ∷ 227 ∷ 113 ∷ 0 ∷ 0 ∷ 9 ∷ 9 ∷ 9 ∷ [])
     -- "8 bits, no VOI: 0, 128, 255 stay."
     ∷ levels monochrome2 (fullWindow 8) 0 0
     ∷ levels monochrome2 (fullWindow 8) 128 128
     ∷ levels monochrome2 (fullWindow 8) 255 255
-    ∷ shows (oneFrame "MONOCHROME2 " "IDENTITY" noWindow (0 ∷ 128 ∷ 255 ∷ [])) 1 lent (shownNative 25) (0 ∷ 128 ∷ 255 ∷ 9 ∷ 9 ∷ 9 ∷ 9 ∷ [])
+    ∷ shows (oneFrame "MONOCHROME2 " "IDENTITY" noWindow (0 ∷ 128 ∷ 255 ∷ [])) 1 lent (shownNative 25) (0 ∷ 128 ∷ 255 ∷ 9 ∷ 9 ∷ 9 ∷ 9 ∷ 9 ∷ [])
     -- "Masks 90 and 91: 91; contrast 100, 8 bits: x = 137."
     ∷ averages (90 ∷ 91 ∷ 100 ∷ []) (1 ∷ 2 ∷ []) 91
     ∷ subtracts (90 ∷ 91 ∷ 100 ∷ []) (1 ∷ 2 ∷ []) 3 137
     ∷ takes (threeFrames averageOfTwo 90 91 100) 3 (masked (1 ∷ 2 ∷ []) unmoved)
-    ∷ shows (threeFrames averageOfTwo 90 91 100) 3 lent (shownMasked 35) (137 ∷ 9 ∷ 9 ∷ 9 ∷ 9 ∷ 9 ∷ 9 ∷ [])
+    ∷ shows (threeFrames averageOfTwo 90 91 100) 3 lent (shownMasked 35) (137 ∷ 9 ∷ 9 ∷ 9 ∷ 9 ∷ 9 ∷ 9 ∷ 9 ∷ [])
     -- "TID 1: frame 1 native, frame 2 takes 1."
     ∷ takes (threeFrames (tid (two 1)) 10 30 60) 1 native
     ∷ takes (threeFrames (tid (two 1)) 10 30 60) 2 (masked (1 ∷ []) unmoved)
-    ∷ shows (threeFrames (tid (two 1)) 10 30 60) 1 lent (shownNative 35) (10 ∷ 9 ∷ 9 ∷ 9 ∷ 9 ∷ 9 ∷ 9 ∷ [])
-    ∷ shows (threeFrames (tid (two 1)) 10 30 60) 2 lent (shownMasked 35) (148 ∷ 9 ∷ 9 ∷ 9 ∷ 9 ∷ 9 ∷ 9 ∷ [])
+    ∷ shows (threeFrames (tid (two 1)) 10 30 60) 1 lent (shownNative 35) (10 ∷ 9 ∷ 9 ∷ 9 ∷ 9 ∷ 9 ∷ 9 ∷ 9 ∷ [])
+    ∷ shows (threeFrames (tid (two 1)) 10 30 60) 2 lent (shownMasked 35) (148 ∷ 9 ∷ 9 ∷ 9 ∷ 9 ∷ 9 ∷ 9 ∷ 9 ∷ [])
     ∷ takes (threeFrames tidAbsent 10 30 60) 1 native
     ∷ takes (threeFrames tidAbsent 10 30 60) 2 (masked (1 ∷ []) unmoved)
     -- "TID -1, N 3: frame 3 native."
     ∷ takes (threeFrames (tid minusOne) 10 30 60) 3 native
     ∷ takes (threeFrames (tid minusOne) 10 30 60) 2 (masked (3 ∷ []) unmoved)
-    ∷ shows (threeFrames (tid minusOne) 10 30 60) 3 lent (shownNative 35) (60 ∷ 9 ∷ 9 ∷ 9 ∷ 9 ∷ 9 ∷ 9 ∷ [])
+    ∷ shows (threeFrames (tid minusOne) 10 30 60) 3 lent (shownNative 35) (60 ∷ 9 ∷ 9 ∷ 9 ∷ 9 ∷ 9 ∷ 9 ∷ 9 ∷ [])
     ∷ []

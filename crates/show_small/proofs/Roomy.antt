@@ -29,7 +29,7 @@ use Rattle.show_small.specs.Shown.{refused, sized, shownOf, imageAfter}
 
 -- ---- The row buffer
 
-module _ (s : List ℕ) (f : ℕ) (buffer image : List ℕ) (h : 6 * length s ≤ 8 * length buffer) where
+module _ (s : List ℕ) (f : ℕ) (buffer image : List ℕ) (h : 7 * length s ≤ 8 * length buffer) where
   same-answer : showOf s f buffer image ≡ showOf s f (flat (rowsOf s)) image
   unfolding showOf
   same-answer = ap (answerFor (nodesOf s) f image) (roomy s buffer h)
@@ -60,7 +60,7 @@ drawn-accepted ns f image judged.NoRoom n m e = absurd (omega (arith, ap codeOf 
 
 -- The rows stand in the buffer.
 pub after-showing : (s : List ℕ) (f : ℕ) (before image buffer : List ℕ) (n : ℕ) (m : Bool) → shown.Drawn n m ≡ showOf s f before image
-    → buffer ≡ bufferOf (readingOf s) before → (6 * n ≤ length buffer) × Table s (take (6 * n) buffer)
+    → buffer ≡ bufferOf (readingOf s) before → (7 * n ≤ length buffer) × Table s (take (7 * n) buffer)
 unfolding showOf
 after-showing s f before image buffer n m e b =
     after-judging s before buffer n (drawn-accepted (nodesOf s) f image (judgeOf s before) n m e) b .0

@@ -19,10 +19,10 @@ pub struct Shown {
 
 // Room for the rows of a data set of that size, since a row has at least 8 bytes. A function of its own gives the
 // length, so that no proof computes it from the array.
-fn row_buffer() -> [u32; 49_152]
-    ensures { λ r. ⌜ 49152 ≡ length r ⌝ }
+fn row_buffer() -> [u32; 57_344]
+    ensures { λ r. ⌜ 57344 ≡ length r ⌝ }
 {
-    [0; 49_152]
+    [0; 57_344]
 }
 
 // A number, or 0 where it is lacking.

@@ -18,10 +18,10 @@ fn input() -> [u8; 262_144]
 }
 
 // Room for the rows of a case of at most 65,535 bytes, since a row has at least 8 bytes.
-fn row_buffer() -> [u32; 49_152]
-    ensures { λ r. ⌜ 49152 ≡ length r ⌝ }
+fn row_buffer() -> [u32; 57_344]
+    ensures { λ r. ⌜ 57344 ≡ length r ⌝ }
 {
-    [0; 49_152]
+    [0; 57_344]
 }
 
 fn wide(x: u8) -> usize

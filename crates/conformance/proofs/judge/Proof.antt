@@ -36,7 +36,7 @@ enum-known-n c = search needs
 mul-end : tie.Need-mul-end
 mul-end c =
     let t = loops.after-reading (c .before .before .before .before .before .before .before .before .before .args .bytes .now) (c .before .before .before .before .before .before .before .before .before .args .rows .now) (c .before .before .before .before .before .read .last .1 .0) (c .before .n .given .0 .0) (sym (c .before .n .given .1) ∙ c .before .before .before .before .before .read .ensures .0) (c .before .before .before .before .before .read .ensures .1) in
-    omega (arith, t .1 .size, t .1 .few, length-take-le (6 * c .before .n .given .0 .0) (c .before .before .before .before .before .read .last .1 .0) (t .0))
+    omega (arith, t .1 .size, t .1 .few, length-take-le (7 * c .before .n .given .0 .0) (c .before .before .before .before .before .read .last .1 .0) (t .0))
 
 -- src/lib.rt:183:39
 slice-reshare-prefix-first-broken : tie.Need-slice-reshare-prefix-first-broken

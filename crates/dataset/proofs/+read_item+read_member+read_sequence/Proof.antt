@@ -59,7 +59,7 @@ sequence-below t = and 2 read-sequence-kinds.ps (falls 2 read-sequence-kinds.ps 
 abbrev item-inv : item-lts.InvT-loop
 item-inv s levels rows₀ first end delimited at₀ n₀ least₀ rows at n least =
     let c : Cursor = cursor at₀ end delimited in
-    level.Here (λ a l. elementAt s (moved c a) l levels) (valueAt levels s) (8 - levels) (elementsAt levels s c) c first rows₀ rows at n least
+    level.Here (λ a l. elementAt s (moved c a) l levels) (valueAt levels s) (8 - levels) (elementsAt levels s first c) c first rows₀ rows at n least
 
 abbrev item-μ : item-lts.MeasureT-loop
 item-μ s levels rows₀ first end delimited at₀ n₀ least₀ rows at n least = end - at
@@ -67,7 +67,7 @@ item-μ s levels rows₀ first end delimited at₀ n₀ least₀ rows at n least
 abbrev sequence-inv : sequence-lts.InvT-loop
 sequence-inv s vr levels rows₀ first end delimited inner at₀ n₀ rows at n =
     let c : Cursor = cursor at₀ end delimited in
-    (least : ℕ) × level.Here (λ a l. itemAt s (moved c a)) (λ _ v. elementsAt inner s v) (8 - inner) (valueAt levels s vr c) c first rows₀ rows at n least
+    (least : ℕ) × level.Here (λ a l. itemAt s (moved c a)) (λ n _ v. elementsAt inner s n v) (8 - inner) (valueAt levels s first vr c) c first rows₀ rows at n least
 
 abbrev sequence-μ : sequence-lts.MeasureT-loop
 sequence-μ s vr levels rows₀ first end delimited inner at₀ n₀ rows at n = end - at
@@ -192,7 +192,7 @@ item-loop-again t c =
     let w = level.within (moved v (turn .loop .at)) q (found .1) in
     let put = c .before .before .put-row in
     level.again _ _ _ _ v _ _ i (sym (found .0) ∙ q) w refl (put .kept .0)
-    (level.leaf _ _ _ _ (w .1 .0) (level.value-plain _ _ _ _ (c .before .before .before .before .if1 .taken))) (put .ensures)
+    (level.leaf _ _ _ _ (w .1 .0) (level.value-plain _ _ _ _ _ (c .before .before .before .before .if1 .taken))) (put .ensures)
 
 item-add-read-sequence : (t : ℕ) → Item item-lts.Need-add-read-sequence t
 item-add-read-sequence t c =
@@ -320,13 +320,13 @@ sequence-returns : (t : ℕ) → Sequence sequence-lts.Need-returns t
 sequence-returns t c =
     let start = c .before .before .before in
     let a = start .args in
-    level.leaf _ (a .value) _ _ (start .pre .1 .start) (level.value-plain (a .levels) (a .s .now) (a .vr) (a .value) (c .if1 .taken))
+    level.leaf _ (a .value) _ _ (start .pre .1 .start) (level.value-plain (a .levels) (a .s .now) (a .first) (a .vr) (a .value) (c .if1 .taken))
 
 sequence-returns-2 : (t : ℕ) → Sequence sequence-lts.Need-returns-2 t
 sequence-returns-2 t c =
     let start = c .before .before .before .before in
     let a = start .args in
-    level.leaf _ (a .value) _ _ (start .pre .1 .start) (level.value-no-level (a .levels) (a .s .now) (a .vr) (a .value) (c .if2 .taken))
+    level.leaf _ (a .value) _ _ (start .pre .1 .start) (level.value-no-level (a .levels) (a .s .now) (a .first) (a .vr) (a .value) (c .if2 .taken))
 
 sequence-sub-inner : (t : ℕ) → Sequence sequence-lts.Need-sub-inner t
 sequence-sub-inner t c = omega (arith, c .if2 .left)
@@ -335,7 +335,7 @@ sequence-loop-holds : (t : ℕ) → Sequence sequence-lts.Need-loop-holds t
 sequence-loop-holds t c =
     let start = c .before .before .before .before in
     let a = start .args in
-    let e = level.value-items (a .levels) (a .s .now) (a .vr) (a .value) (c .if2 .left) (c .before .if1 .left) in
+    let e = level.value-items (a .levels) (a .s .now) (a .first) (a .vr) (a .value) (c .if2 .left) (c .before .if1 .left) in
     (0, level.started _ _ _ _ (a .value) _ _ (a .s .now) (start .pre .1 .start) (start .pre .1 .stop) (sym e))
 
 sequence-item-requires : (t : ℕ) → Sequence sequence-lts.Need-item-requires t

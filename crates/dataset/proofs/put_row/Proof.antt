@@ -1,5 +1,5 @@
 use native.Mathlib.Omega.{arith}
-use native.Mathlib.Numerals.{add-one, add-two, add-three, add-four, add-five}
+use native.Mathlib.Numerals.{add-one, add-two, add-three, add-four, add-five, add-six}
 use lib.ListN.{length-set}
 use borrow.Author.Needs.{needs}
 use Rattle.dataset.proofs.put_row.Statement.{statement}
@@ -123,13 +123,25 @@ mul-rows-6 c = search needs
 slice-write-rows-6 : tie.Need-slice-write-rows-6
 slice-write-rows-6 c = simp length-set (omega arith)
 
+cast-rows-7 : tie.Need-cast-rows-7
+cast-rows-7 c = search needs
+
+add-rows-6 : tie.Need-add-rows-6
+add-rows-6 c = search needs
+
+mul-rows-7 : tie.Need-mul-rows-7
+mul-rows-7 c = search needs
+
+slice-write-rows-7 : tie.Need-slice-write-rows-7
+slice-write-rows-7 c = simp length-set (omega arith)
+
 -- src/lib.rt:328:1
 same-length : tie.Need-same-length
-same-length c = search needs
+same-length c = simp length-set
 
 -- src/lib.rt:328:1
 returns : tie.Need-returns
-returns c = λ _. simp (add-one, add-two, add-three, add-four, add-five)
+returns c = λ _. simp (add-one, add-two, add-three, add-four, add-five, add-six)
 
 -- src/lib.rt:328:1
 returns-2 : tie.Need-returns-2
@@ -168,6 +180,10 @@ put-row-spec =
     add-rows-5
     mul-rows-6
     slice-write-rows-6
+    cast-rows-7
+    add-rows-6
+    mul-rows-7
+    slice-write-rows-7
     same-length
     returns
     returns-2)

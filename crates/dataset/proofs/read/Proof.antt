@@ -89,7 +89,7 @@ returns-4 c =
     let e = whole.nothing (call .last .1 .1 .1 .0) (a .rows .now) (call .kept .1 .1 .1 .0) in
     let again = c .before .before .read-item2 in
     whole.filled (a .bytes .now) (a .rows .now) (c .before .before .before .before .before .before .before .before .before .before .before .before .if1 .left) (level.walked (c .before .before .before .before .before .before .n .given .1) (call .ensures)) (omega (arith, c .before .before .before .before .if2 .left, ap (λ (l : List ℕ). length l) e))
-    (subst (λ (l : List ℕ). Walked (elementsAt 8 (a .bytes .now) (whole.all (a .bytes .now))) (whole.all (a .bytes .now)) 0 l (again .last .1 .1 .1 .0) (again .result)) e (again .ensures))
+    (subst (λ (l : List ℕ). Walked (elementsAt 8 (a .bytes .now) 0 (whole.all (a .bytes .now))) (whole.all (a .bytes .now)) 0 l (again .last .1 .1 .1 .0) (again .result)) e (again .ensures))
 
 pub read-spec : {M : Type 1} → statement M
 read-spec =

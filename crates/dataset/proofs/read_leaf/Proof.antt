@@ -13,7 +13,7 @@ use Rattle.dataset.proofs.read_leaf.Tie as tie
 abbrev Inv-loop : tie.InvT-loop
 Inv-loop s levels rows₀ first end delimited at₀ n₀ least₀ rows at n least =
     let c : Cursor = cursor at₀ end delimited in
-    level.Here (λ a l. elementAt s (moved c a) l levels) (valueAt levels s) (8 - levels) (elementsAt levels s c) c first rows₀ rows at n least
+    level.Here (λ a l. elementAt s (moved c a) l levels) (valueAt levels s) (8 - levels) (elementsAt levels s first c) c first rows₀ rows at n least
 
 abbrev μ-loop : tie.MeasureT-loop
 μ-loop s levels rows₀ first end delimited at₀ n₀ least₀ rows at n least = end - at
@@ -113,7 +113,7 @@ loop-again c =
     let w = level.within (moved v (turn .loop .at)) q (found .1) in
     let put = c .before .before .put-row in
     level.again _ _ _ _ v _ _ (turn .loop .inv) (sym (found .0) ∙ q) w refl (put .kept .0)
-    (level.leaf _ _ _ _ (w .1 .0) (level.value-plain _ _ _ _ (c .before .before .before .before .if1 .left))) (put .ensures)
+    (level.leaf _ _ _ _ (w .1 .0) (level.value-plain _ _ _ _ _ (c .before .before .before .before .if1 .left))) (put .ensures)
 
 pub read-leaf-spec : {M : Type 1} → statement M
 read-leaf-spec =

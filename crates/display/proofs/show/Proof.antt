@@ -35,7 +35,7 @@ enum-known-count-2 c = search needs
 mul-end : tie.Need-mul-end
 mul-end c =
     let t = laws.after-judging (c .before .before .before .before .before .before .before .before .before .before .args .bytes .now) (c .before .before .before .before .before .before .before .before .before .before .args .rows .now) (c .before .before .before .before .before .judge .last .1 .0) (c .before .count2 .given .0 .0) (sym (c .before .count2 .given .1) ∙ c .before .before .before .before .before .judge .ensures .0) (c .before .before .before .before .before .judge .ensures .1) .0 in
-    omega (arith, t .1 .size, t .1 .few, length-take-le (6 * c .before .count2 .given .0 .0) (c .before .before .before .before .before .judge .last .1 .0) (t .0))
+    omega (arith, t .1 .size, t .1 .few, length-take-le (7 * c .before .count2 .given .0 .0) (c .before .before .before .before .before .judge .last .1 .0) (t .0))
 
 slice-reshare-prefix-show-table : tie.Need-slice-reshare-prefix-show-table
 slice-reshare-prefix-show-table c =

@@ -1,4 +1,4 @@
--- The buffer has six numbers for each 8 bytes that there may be, so the rows fit.
+-- The buffer has seven numbers for each 8 bytes that there may be, so the rows fit.
 use mathlib.Core.Path.{_∙_}
 use native.Mathlib.Omega.{arith}
 use borrow.Author.Needs.{needs}

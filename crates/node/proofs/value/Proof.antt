@@ -116,7 +116,7 @@ returns-3 c =
     let s = c .before .before .before .before .before .before .before .before .before .before .before .args .bytes .now in
     let rows = c .before .before .before .before .before .before .before .before .before .before .before .args .rows .now in
     let v = laws.vr-is s rows (c .before .before .before .before .before .before .before .before .before .before .before .pre .0) (c .before .before .before .before .before .before .before .before .before .before .before .args .i) (c .before .before .before .before .before .before .before .before .before .before .before .pre .1) in
-    let e : getD rows (6 * c .before .before .before .before .before .before .before .before .before .before .before .args .i + 3) 0 + getD rows (6 * c .before .before .before .before .before .before .before .before .before .before .before .args .i + 4) 0 - getD rows (6 * c .before .before .before .before .before .before .before .before .before .before .before .args .i + 3) 0 ≡ getD rows (6 * c .before .before .before .before .before .before .before .before .before .before .before .args .i + 4) 0 = omega arith in
+    let e : getD rows (7 * c .before .before .before .before .before .before .before .before .before .before .before .args .i + 3) 0 + getD rows (7 * c .before .before .before .before .before .before .before .before .before .before .before .args .i + 4) 0 - getD rows (7 * c .before .before .before .before .before .before .before .before .before .before .before .args .i + 3) 0 ≡ getD rows (7 * c .before .before .before .before .before .before .before .before .before .before .before .args .i + 4) 0 = omega arith in
     rw (c .before .before .before .wide2 .ensures, c .before .wide3 .ensures, e)
     (laws.value-part s rows (c .before .before .before .before .before .before .before .before .before .before .before .pre .0) (c .before .before .before .before .before .before .before .before .before .before .before .args .i) (c .before .before .before .before .before .before .before .before .before .before .before .pre .1) (λ q. c .before .before .before .before .before .before .if1 .left (c .before .before .before .before .before .before .before .wide .ensures ∙ v ∙ q)) (λ q. c .before .before .before .before .before .if2 .left (c .before .before .before .before .before .before .before .wide .ensures ∙ v ∙ q)))
 

@@ -1,5 +1,5 @@
 -- A frame is drawn only where the object was accepted; then its rows stand in the buffer, and its size is read from them.
--- The buffer has six numbers for each 8 bytes that there may be, so the rows fit.
+-- The buffer has seven numbers for each 8 bytes that there may be, so the rows fit.
 use mathlib.Core.Path.{sym, _∙_}
 use Prim.Native.Nat.{_*_}
 use native.Mathlib.Omega.{arith}
@@ -34,7 +34,7 @@ returns c =
 mul-end : tie.Need-mul-end
 mul-end c =
     let t = laws.after-showing _ _ _ _ _ _ _ (sym (c .before .answer .given .1) ∙ c .before .before .before .before .before .before .show .ensures .0) (c .before .before .before .before .before .before .show .ensures .1 .0) in
-    omega (arith, t .1 .size, t .1 .few, length-take-le (6 * c .before .answer .given .0 .0) (c .before .before .before .before .before .before .show .last .1 .1 .0) (t .0))
+    omega (arith, t .1 .size, t .1 .few, length-take-le (7 * c .before .answer .given .0 .0) (c .before .before .before .before .before .before .show .last .1 .1 .0) (t .0))
 
 array-share-prefix-rows : tie.Need-array-share-prefix-rows
 array-share-prefix-rows c =

@@ -23,7 +23,7 @@ enum-known-n c = search needs
 mul-end : tie.Need-mul-end
 mul-end c =
     let t = after-reading _ _ _ _ (sym (c .before .n .given .1) ∙ c .before .before .before .before .read .ensures .0) (c .before .before .before .before .read .ensures .1) in
-    omega (arith, t .1 .size, t .1 .few, length-take-le (6 * c .before .n .given .0 .0) (c .before .before .before .before .read .last .1 .0) (t .0))
+    omega (arith, t .1 .size, t .1 .few, length-take-le (7 * c .before .n .given .0 .0) (c .before .before .before .before .read .last .1 .0) (t .0))
 
 array-share-prefix-rows : tie.Need-array-share-prefix-rows
 array-share-prefix-rows c =

@@ -1,0 +1,39 @@
+-- The judge's answer, and the row that it is about: where a broken rule names a frame, that of the frame's item.
+use Prim.Native.Nat.{ℕ, _+_}
+use mathlib.Core.List.{List}
+use mathlib.Core.Bool.{cond}
+use lib.Dec.{eqb}
+use Rattle.value.specs.declared.Num.{Num}
+use Rattle.value.specs.declared.Num.the-variants.{Is, Lacks}
+use Rattle.node.specs.Nodes.{Node, nodesOf}
+use Rattle.element.specs.Frames.{frameItem}
+use Rattle.conformance.specs.declared.JudgeAnswer.{JudgeAnswer}
+use Rattle.conformance.specs.declared.JudgeAnswer.the-variants as judged
+use Rattle.judge_small.specs.declared.Located.{Located}
+use Rattle.judge_small.specs.Roomy.{roomyOf}
+
+-- The number of a node's row, counted from 1; 0 where there is none.
+abbrev pub rowNumber : Num → ℕ
+rowNumber (Is i) = i + 1
+rowNumber Lacks = 0
+
+-- The row of item f of the per-frame functional groups; frame 0 is no frame.
+abbrev pub itemRow : List Node → ℕ → ℕ
+itemRow ns frame = cond (eqb frame 0) 0 (rowNumber (frameItem ns frame))
+
+abbrev pub rowFor : List Node → JudgeAnswer → ℕ
+rowFor ns (judged.Accepted n) = 0
+rowFor ns (judged.Broken n rule frame) = itemRow ns frame
+rowFor ns (judged.Refused code offset) = 0
+rowFor ns judged.TooLarge = 0
+rowFor ns judged.NoRoom = 0
+
+abbrev pub located : List Node → JudgeAnswer → Located
+located ns a = record { answer = a; row = rowFor ns a }
+
+abbrev pub brokenAt : List Node → ℕ → ℕ → ℕ → Located
+brokenAt ns n rule frame = located ns (judged.Broken n rule frame)
+
+-- With a row buffer that the rows just fill; any larger one gives the same.
+abbrev pub locatedOf : List ℕ → Located
+locatedOf s = located (nodesOf s) (roomyOf s)

@@ -1,0 +1,88 @@
+//! A row table, and where things stand in it.
+
+use crate::library::ROW_WIDTH;
+
+const PER_FRAME_GROUPS: u32 = 0x5200_9230;
+
+/// A row, in the words of the header. Rows are numbered from 1; 0 as a parent is the root.
+pub struct Row {
+    pub number: u32,
+    pub tag: u32,
+    pub vr: u32,
+    pub depth: u32,
+    pub offset: u32,
+    pub length: u32,
+    pub below: u32,
+    pub parent: u32,
+}
+
+impl Row {
+    pub fn is_item(&self) -> bool {
+        self.vr == 0
+    }
+
+    /// The two letters, or `--` for an item.
+    pub fn vr_text(&self) -> String {
+        match self.vr {
+            0 => String::from("--"),
+            letters => [letters >> 8, letters & 255].iter().map(|&letter| letter as u8 as char).collect(),
+        }
+    }
+
+    /// The tag as the standard writes it.
+    pub fn tag_text(&self) -> String {
+        format!("({:04X},{:04X})", self.tag >> 16, self.tag & 0xFFFF)
+    }
+
+    /// The number of the last row below it, or its own.
+    pub fn last(&self) -> u32 {
+        self.number.saturating_add(self.below)
+    }
+}
+
+/// The numbers of the rows of a data set that was read.
+#[derive(Clone, Copy)]
+pub struct Table<'a>(pub &'a [u32]);
+
+impl<'a> Table<'a> {
+    pub fn count(self) -> u32 {
+        (self.0.len() / ROW_WIDTH) as u32
+    }
+
+    /// The row of a number.
+    pub fn row(self, number: u32) -> Option<Row> {
+        let at = (number as usize).checked_sub(1)?.checked_mul(ROW_WIDTH)?;
+        match *self.0.get(at..at + ROW_WIDTH)? {
+            [tag, vr, depth, offset, length, below, parent] => {
+                Some(Row { number, tag, vr, depth, offset, length, below, parent })
+            }
+            _ => None,
+        }
+    }
+
+    /// All rows, in the order of the bytes.
+    pub fn rows(self) -> impl Iterator<Item = Row> + 'a {
+        (1..=self.count()).filter_map(move |number| self.row(number))
+    }
+
+    /// The rows that stand directly in the row of a number, or at the root: what is below each is stepped over.
+    fn members(self, holder: u32) -> impl Iterator<Item = Row> + 'a {
+        let first = self.row(holder + 1).filter(|row| row.parent == holder);
+        std::iter::successors(first, move |row| self.row(row.last() + 1).filter(|row| row.parent == holder))
+    }
+
+    /// The element of a tag at the root.
+    pub fn root(self, tag: u32) -> Option<Row> {
+        self.members(0).find(|row| row.tag == tag)
+    }
+
+    /// The items of the per-frame functional groups.
+    pub fn frame_items(self) -> impl Iterator<Item = Row> + 'a {
+        self.root(PER_FRAME_GROUPS).into_iter().flat_map(move |sequence| self.members(sequence.number))
+    }
+
+    /// The row of a frame's item; frames count from 1.
+    pub fn frame_item(self, frame: u32) -> Option<Row> {
+        self.frame_items().nth((frame as usize).checked_sub(1)?)
+    }
+}
