@@ -231,14 +231,12 @@ impl Vessels {
         let filled = (since / 3.0).clamp(0.0, 1.0) - ((since - 9.0) / 12.0).clamp(0.0, 0.7);
         self.depth[cell] * filled
     }
+}
 
-    /// The contrast at a point between four cells, each counted the more the nearer it is.
-    fn between(&self, y: f64, x: f64, frame: f64) -> f64 {
-        let inside = |place: f64| place.clamp(0.0, SIDE as f64 - 1.0) as usize;
-        let at = |row: f64, column: f64| self.contrast(inside(row) * SIDE + inside(column), frame);
-        let along = |row: f64| (1.0 - x + x.floor()) * at(row, x.floor()) + (x - x.floor()) * at(row, x.floor() + 1.0);
-        (1.0 - y + y.floor()) * along(y.floor()) + (y - y.floor()) * along(y.floor() + 1.0)
-    }
+/// What is seen at a point between four cells, each counted the more the nearer it is.
+fn between(seen: impl Fn(f64, f64) -> f64, y: f64, x: f64) -> f64 {
+    let along = |row: f64| (1.0 - x + x.floor()) * seen(row, x.floor()) + (x - x.floor()) * seen(row, x.floor() + 1.0);
+    (1.0 - y + y.floor()) * along(y.floor()) + (y - y.floor()) * along(y.floor() + 1.0)
 }
 
 /// All frames, 16 bits a cell.
@@ -248,12 +246,16 @@ fn pixels() -> Vec<u8> {
     let mut bytes = Vec::with_capacity(FRAMES * SIDE * SIDE * 2);
     for frame in 1..=FRAMES {
         let (down, right) = moved(frame);
+        let inside = |place: f64| place.clamp(0.0, SIDE as f64 - 1.0) as usize;
+        let seen = |row: f64, column: f64| {
+            bones(column, row) - 60.0 * vessels.contrast(inside(row) * SIDE + inside(column), frame as f64)
+        };
         for row in 0..SIDE {
             for column in 0..SIDE {
                 // What is seen here was at (row - down, column - right) before the patient moved.
                 let (y, x) = (row as f64 - f64::from(down), column as f64 - f64::from(right));
                 let grain = (noise.next() + noise.next() - 1.0) * 1.5;
-                let cell = bones(x, y) - 60.0 * vessels.between(y, x, frame as f64) + grain;
+                let cell = between(seen, y, x) + grain;
                 bytes.extend((cell.clamp(0.0, 4095.0) as u16).to_le_bytes());
             }
         }
