@@ -86,6 +86,8 @@ xa_answer xa_judge(const uint8_t *data, size_t size, uint32_t *rows, size_t rows
  * `image` has room for `image_len` bytes. With code 0 the first Rows x Columns of them are written, row by row, each a grey
  * level from 0 (black) to 255 (white), and nothing beyond them; with any other code no byte of `image` is. The rows are
  * written with codes 0, 9, 10 and 11. Every frame of a data set that `xa_judge` accepts is drawn where there is room.
+ *
+ * A masked frame takes 526 KB of stack where its shift is whole, and 789 KB where it has quarters.
  */
 xa_answer xa_show(const uint8_t *data, size_t size, uint64_t frame, uint32_t *rows, size_t rows_len, uint8_t *image,
                   size_t image_len);
