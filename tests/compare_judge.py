@@ -222,6 +222,71 @@ def compare_random_edits(comparison, rng, count):
 
 
 # ---------------------------------------------------------------------------------------------------------------------
+# Wide items
+
+
+def filler(rng):
+    """An element that no rule speaks of: a value, or a sequence with up to some thousand rows below it."""
+    kind = rng.randrange(8)
+    if kind < 5:
+        return ("LO", rng.choice((b"", b"ab", b"abcd")))
+    if kind == 5:
+        return xa.sq(*({} for _ in range(rng.choice((0, 1, 3, rng.randrange(40))))))
+    nested = xa.sq({xa.ROWS: xa.us(0), xa.VOI: xa.sq({})})
+    for _ in range(rng.randrange(4)):
+        nested = xa.sq({xa.VOI: nested, xa.PIXEL_DATA: ("OW", b"")}, *({} for _ in range(rng.randrange(3))))
+    return nested
+
+
+def widen(rng, level, count, parity, taken):
+    """So many more elements in a data set, of tags with this lowest bit that nothing in the object has: near to those that it has,
+    and anywhere, but in turn only below the last of them, only above the first."""
+    near = sorted(level) or [xa.VOI]
+    lowest, highest = rng.choice(((0, near[-1]), (near[0], 0xFFFFFFFF), (0, 0xFFFFFFFF), (0, 0xFFFFFFFF)))
+    made = 0
+    while made < count:
+        tag = rng.choice((rng.choice(near) + rng.randrange(-4000, 4001), rng.randrange(lowest, highest + 1))) & 0xFFFFFFFF
+        tag = tag & ~1 | parity
+        if lowest <= tag <= highest and tag not in taken and tag not in level and tag >> 16 != 0xFFFE:
+            level[tag] = filler(rng)
+            made += 1
+
+
+def levels_of(model):
+    """The data sets that rules look into, each with the lowest bit that its own fillers get: the shared item's is another than the
+    frames', so that rule 27 stays as it is."""
+    yield model, 0
+    for item in model[xa.SHARED][1]:
+        yield item, 0
+    for item in model[xa.PER_FRAME][1]:
+        yield item, 1
+    for level in (*model[xa.SHARED][1], *model[xa.PER_FRAME][1]):
+        for tag in (xa.VOI, xa.FRAME_SHIFT):
+            for item in level[tag][1] if tag in level and isinstance(level[tag][1], list) else ():
+                yield item, 0
+    for item in model[xa.MASKS][1] if xa.MASKS in model and isinstance(model[xa.MASKS][1], list) else ():
+        yield item, 0
+
+
+def compare_wide_items(comparison, rng, rounds):
+    """Changes in objects whose data sets have up to thousands of elements: what is looked for is first, last, between or absent."""
+    usable = [change for change in CHANGES if change.rule >= 27 or (change.rule == 0 and change.per_frame)]
+    for number in range(rounds):
+        change = rng.choice(usable)
+        frame = rng.choice(frames_of(change))
+        model = xa.build(rng, xa.random_shape(rng, **change.shape))
+        change.edit(model, frame)
+        taken = {tag for _, tag in places(model)} | {value for name, value in vars(xa).items() if name.isupper() and isinstance(value, int)}
+        levels = list(levels_of(model))
+        wide = rng.choice((1, 10, 100, 100, 300, 1000))
+        for level, parity in rng.sample(levels, min(len(levels), rng.choice((1, 2, 3)))):
+            widen(rng, level, wide, parity, taken)
+        name = f"wide items {number}, rule {change.rule}, {change.name}, frame {frame}"
+        answer = check_model(comparison, name, model, rng)
+        meant(name, answer, change.rule, frame if change.per_frame and change.rule else change.frame)
+
+
+# ---------------------------------------------------------------------------------------------------------------------
 # Large runs, the size limit, objects made by others
 
 
@@ -274,6 +339,7 @@ def run(comparison, arguments):
     compare_two_changes(comparison, rng, count)
     compare_variants(comparison, rng, 2 * count)
     compare_random_edits(comparison, rng, 2 * count)
+    compare_wide_items(comparison, rng, count // 10)
     if count >= 200:
         compare_large(comparison, rng)
     compare_size_limit(comparison)

@@ -67,6 +67,9 @@ MUTATIONS = [
     # Values.
     ("judge", "values.py", "and element.value_length != 0", ""),
     ("judge", "values.py", "element.vr == vr and", ""),
+    ("judge", "values.py", "in self.elements:", "in self.elements[:-1 if len(self.elements) > 60 else None]:"),
+    ("judge", "values.py", "in self.elements:", "in self.elements[1 if len(self.elements) > 60 else 0:]:"),
+    ("judge", "values.py", "in self.elements:", "in self.elements[:200]:"),
     ("judge", "values.py", "and len(values) == 1", "and len(values) >= 1"),
     ("judge", "values.py", "part.rstrip(b\"\\0\") if", "part.rstrip(b\"\\0 \") if"),
     ("judge", "values.py", "part.rstrip(b\"\\0\") if", "part.strip(b\"\\0\") if"),

@@ -113,12 +113,19 @@ pub fn ui_root(bytes: &[u8], rows: &[u32], tag: usize, uid: &[u8]) -> bool
 
 // ---- In an item, or directly in another node
 
+// Up to so many nodes one step after another finds an element sooner than halves do.
+const FEW: usize = 32;
+
 pub fn find_item(bytes: &[u8], rows: &[u32], item: usize, tag: usize) -> Num
     requires { ⌜ Table (now bytes) (now rows) × (item < length (nodesOf (now bytes))) ⌝ }
     ensures { λ r. ⌜ r ≡ find (nodesOf (now (bytes .entry))) tag (inside (nodesOf (now (bytes .entry))) item) ⌝ }
     ensures { λ r. ⌜ Below (length (nodesOf (now (bytes .entry)))) r ⌝ }
 {
-    node::find_tag(bytes, rows, item + 1, node::next(bytes, rows, item), tag)
+    let to = node::next(bytes, rows, item);
+    if to - item <= FEW {
+        return node::find_tag(bytes, rows, item + 1, to, tag);
+    }
+    node::find_wide(bytes, rows, item, tag)
 }
 
 pub fn find_vr_item(bytes: &[u8], rows: &[u32], item: usize, tag: usize, vr: usize) -> Num
@@ -126,14 +133,16 @@ pub fn find_vr_item(bytes: &[u8], rows: &[u32], item: usize, tag: usize, vr: usi
     ensures { λ r. ⌜ r ≡ findVr (nodesOf (now (bytes .entry))) tag vr (inside (nodesOf (now (bytes .entry))) item) ⌝ }
     ensures { λ r. ⌜ Below (length (nodesOf (now (bytes .entry)))) r ⌝ }
 {
-    node::find_vr(
-        bytes,
-        rows,
-        item + 1,
-        node::next(bytes, rows, item),
-        tag,
-        vr,
-    )
+    match find_item(bytes, rows, item, tag) {
+        Num::Lacks => Num::Lacks,
+        Num::Is(i) => {
+            if node::vr(bytes, rows, i) == vr {
+                Num::Is(i)
+            } else {
+                Num::Lacks
+            }
+        }
+    }
 }
 
 pub fn us_item(bytes: &[u8], rows: &[u32], item: usize, tag: usize) -> Num

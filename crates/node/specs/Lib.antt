@@ -1,3 +1,4 @@
 pub mod Nodes
 pub mod Find
 pub mod Table
+pub mod Halves

@@ -2,9 +2,11 @@
 ghost use mathlib.Core.Path.{_≡_};
 ghost use Prim.Native.Nat.{ℕ, _+_, _-_, _*_, _≤_, _<_};
 ghost use lib.ListN.{length};
-ghost use Rattle.node.specs.Nodes.{Node, nodesOf, nodeAt, nextNode, members};
+ghost use Rattle.node.specs.Nodes.{Node, nodesOf, nodeAt, nextNode, members, inside};
 ghost use Rattle.node.specs.Find.{find, findVr, filled, has};
 ghost use Rattle.node.specs.Table.{Table};
+ghost use Rattle.node.specs.Halves.{lower, MemberAbove};
+ghost use Rattle.dataset.specs.Tree.{rowsOf, rowAt};
 ghost use Rattle.value.specs.Said.{Below};
 use value::Num;
 
@@ -132,4 +134,64 @@ pub fn has_vr(
         Num::Lacks => false,
         Num::Is(i) => is_filled(bytes, rows, i),
     }
+}
+
+// ---- Among many members, by halves
+
+// The number, counted from 1, of the node that node i stands directly in; 0 at the root.
+pub fn parent(bytes: &[u8], rows: &[u32], i: usize) -> usize
+    requires { ⌜ Table (now bytes) (now rows) × (i < length (nodesOf (now bytes))) ⌝ }
+    ensures { λ r. ⌜ r ≡ rowAt (rowsOf (now (bytes .entry))) i .parent ⌝ }
+{
+    wide(rows[7 * i + 6])
+}
+
+// The member of the node `holder` that node i is, or is below. There are at most 16 steps.
+fn member_above(bytes: &[u8], rows: &[u32], holder: usize, i: usize) -> usize
+    requires { ⌜ Table (now bytes) (now rows) × ((holder < i) × ((i < nextNode (nodesOf (now bytes)) holder) × (holder < length (nodesOf (now bytes))))) ⌝ }
+    ensures { λ r. ⌜ MemberAbove (now (bytes .entry)) holder i r ⌝ }
+{
+    let mut m = i;
+    loop {
+        let up = parent(bytes, rows, m);
+        if up == holder + 1 {
+            return m;
+        }
+        m = up - 1;
+    }
+}
+
+// The first member of the node `holder` whose tag is not below the tag, or what follows them. Tags never descend among members,
+// so that each step leaves at most half of the nodes.
+pub fn first_from(bytes: &[u8], rows: &[u32], holder: usize, wanted: usize) -> usize
+    requires { ⌜ Table (now bytes) (now rows) × (holder < length (nodesOf (now bytes))) ⌝ }
+    ensures { λ r. ⌜ r ≡ lower (nodesOf (now (bytes .entry))) wanted (inside (nodesOf (now (bytes .entry))) holder) (nextNode (nodesOf (now (bytes .entry))) holder) ⌝ }
+{
+    let mut low = holder + 1;
+    let mut high = next(bytes, rows, holder);
+    while low < high {
+        let m = member_above(bytes, rows, holder, low + (high - low) / 2);
+        if tag(bytes, rows, m) < wanted {
+            low = next(bytes, rows, m);
+        } else {
+            high = m;
+        }
+    }
+    low
+}
+
+// The element of the tag in the node `holder`, as `find_tag` finds it.
+pub fn find_wide(bytes: &[u8], rows: &[u32], holder: usize, wanted: usize) -> Num
+    requires { ⌜ Table (now bytes) (now rows) × (holder < length (nodesOf (now bytes))) ⌝ }
+    ensures { λ r. ⌜ r ≡ find (nodesOf (now (bytes .entry))) wanted (inside (nodesOf (now (bytes .entry))) holder) ⌝ }
+    ensures { λ r. ⌜ Below (length (nodesOf (now (bytes .entry)))) r ⌝ }
+{
+    let i = first_from(bytes, rows, holder, wanted);
+    if i < next(bytes, rows, holder) {
+        if tag(bytes, rows, i) == wanted {
+            return Num::Is(i);
+        }
+        return Num::Lacks;
+    }
+    Num::Lacks
 }

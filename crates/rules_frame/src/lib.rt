@@ -7,8 +7,7 @@ ghost use Rattle.node.specs.Nodes.{Node, nodesOf, nodeAt, members, inside};
 ghost use Rattle.node.specs.Find.{absent, ifPresent, find};
 ghost use Rattle.node.specs.Table.{Table};
 ghost use Rattle.element.specs.Elements.{every};
-ghost use Rattle.rules.specs.Frame.{repeatsShared, item27, item28, isWindow, hasWindow, isVoi, isShiftItem, isShiftGroup};
-ghost use Rattle.rules_frame.specs.Merge.{fromTag, startsWith, isRepeated};
+ghost use Rattle.rules.specs.Frame.{isShared, repeatsShared, item27, item28, isWindow, hasWindow, isVoi, isShiftItem, isShiftGroup};
 ghost use Rattle.rules_frame.specs.Parts.{groupTag, groupFits, groupIn, sharedPart, itemRule};
 use value::Num;
 
@@ -16,62 +15,30 @@ const SQ: usize = 0x5351;
 
 // ---- Rule 27: no sequence stands both in the shared item and in the frame's item
 
-// The first member from `from` up to `to` whose tag is not below the tag; where there is none, what is not below `to`.
-fn skip_below(bytes: &[u8], rows: &[u32], from: usize, to: usize, tag: usize) -> usize
-    requires { ⌜ Table (now bytes) (now rows) × (to ≤ length (nodesOf (now bytes))) ⌝ }
-    ensures { λ r. ⌜ members (nodesOf (now (bytes .entry))) r to ≡ fromTag (nodesOf (now (bytes .entry))) tag (members (nodesOf (now (bytes .entry))) from to) ⌝ }
-{
-    let mut k = from;
-    while k < to {
-        if node::tag(bytes, rows, k) < tag {
-            k = node::next(bytes, rows, k);
-        } else {
-            return k;
-        }
-    }
-    k
-}
-
-// Whether the first member from `k` up to `to` is a sequence of the tag.
-fn starts_with(bytes: &[u8], rows: &[u32], k: usize, to: usize, tag: usize) -> bool
-    requires { ⌜ Table (now bytes) (now rows) × (to ≤ length (nodesOf (now bytes))) ⌝ }
-    ensures { λ r. ⌜ r ≡ startsWith (nodesOf (now (bytes .entry))) tag (members (nodesOf (now (bytes .entry))) k to) ⌝ }
-{
-    if k < to {
-        if node::tag(bytes, rows, k) == tag {
-            node::vr(bytes, rows, k) == SQ
-        } else {
-            false
-        }
-    } else {
-        false
-    }
-}
-
-// Whether node j is a sequence, and the first member from `k` up to `to` one of its tag.
-fn is_repeated(bytes: &[u8], rows: &[u32], j: usize, k: usize, to: usize) -> bool
-    requires { ⌜ Table (now bytes) (now rows) × ((j < length (nodesOf (now bytes))) × (to ≤ length (nodesOf (now bytes)))) ⌝ }
-    ensures { λ r. ⌜ r ≡ isRepeated (nodesOf (now (bytes .entry))) j (members (nodesOf (now (bytes .entry))) k to) ⌝ }
+// Whether node j is a sequence, and one of its tag stands in the shared node.
+fn is_shared(bytes: &[u8], rows: &[u32], shared: usize, j: usize) -> bool
+    requires { ⌜ Table (now bytes) (now rows) × ((shared < length (nodesOf (now bytes))) × (j < length (nodesOf (now bytes)))) ⌝ }
+    ensures { λ r. ⌜ r ≡ isShared (nodesOf (now (bytes .entry))) shared j ⌝ }
 {
     if node::vr(bytes, rows, j) == SQ {
-        starts_with(bytes, rows, k, to, node::tag(bytes, rows, j))
+        match element::find_vr_item(bytes, rows, shared, node::tag(bytes, rows, j), SQ) {
+            Num::Lacks => false,
+            Num::Is(_) => true,
+        }
     } else {
         false
     }
 }
 
-// Tags ascend in an item, so one walk goes along both items; neither j nor k goes back.
+// Goes along the frame's item, and looks for each of its sequences in the shared one.
 fn repeats_shared(bytes: &[u8], rows: &[u32], shared: usize, item: usize) -> bool
     requires { ⌜ Table (now bytes) (now rows) × ((shared < length (nodesOf (now bytes))) × (item < length (nodesOf (now bytes)))) ⌝ }
     ensures { λ r. ⌜ r ≡ repeatsShared (nodesOf (now (bytes .entry))) shared item ⌝ }
 {
     let end = node::next(bytes, rows, item);
-    let to = node::next(bytes, rows, shared);
     let mut j = item + 1;
-    let mut k = shared + 1;
     while j < end {
-        k = skip_below(bytes, rows, k, to, node::tag(bytes, rows, j));
-        if is_repeated(bytes, rows, j, k, to) {
+        if is_shared(bytes, rows, shared, j) {
             return true;
         }
         j = node::next(bytes, rows, j);

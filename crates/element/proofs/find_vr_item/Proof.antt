@@ -1,31 +1,53 @@
-use Rattle.node.specs.Nodes.{nodesOf}
-use lib.ListN.{length}
-use mathlib.Core.Path.{_≡_, refl, sym, ap, _∙_}
-use Rattle.node.proofs.Laws as node-laws
+use borrow.Author.Tests.{eq-eqb, ne-eqb}
+use Rattle.node.specs.Find.{ofVr}
+use Rattle.node.proofs.Laws as laws
 use borrow.Author.Needs.{needs}
 use Rattle.element.proofs.find_vr_item.Statement.{statement}
 use Rattle.element.proofs.find_vr_item.Tie as tie
 use Rattle.element.proofs.find_vr_item.Reads as reads
 use Rattle.element.proofs.find_vr_item.Lts as lts
-use Rattle.node.proofs.find_vr.Reads as find-vr-reads
-use Rattle.node.proofs.next.Reads as next-reads
+use Rattle.element.proofs.find_item.Reads as find-item-reads
+use Rattle.node.proofs.vr.Reads as vr-reads
 
--- src/lib.rt:108:32
-add-find-vr : tie.Need-add-find-vr
-add-find-vr c = search needs
+-- src/lib.rt:136:11
+find-item-requires : tie.Need-find-item-requires
+find-item-requires c κs = search needs
 
--- src/lib.rt:108:42
-next-requires : tie.Need-next-requires
-next-requires c κs = search needs
+-- src/lib.rt:137:23
+enum-told : tie.Need-enum-told
+enum-told c = search needs
 
--- src/lib.rt:108:5
-find-vr-requires : tie.Need-find-vr-requires
-find-vr-requires c κs = search needs
+-- src/lib.rt:138:17
+enum-known-i : tie.Need-enum-known-i
+enum-known-i c = search needs
 
--- src/lib.rt:103:1
+-- src/lib.rt:139:16
+vr-requires : tie.Need-vr-requires
+vr-requires c κs =
+    let start = c .before .before .before .before .before .before in
+    (start .pre .0, laws.within _ (c .before .i .given .1) (c .before .before .before .find-item .ensures .1))
+
+-- src/lib.rt:131:1
 returns : tie.Need-returns
-returns c =
-    (rw (← c .before .next .ensures .0) (c .find-vr .ensures .0), node-laws.below-more (c .before .next .result) (length (nodesOf (c .before .before .before .before .args .bytes .now))) (c .find-vr .result) (c .before .next .ensures .1) (c .find-vr .ensures .1))
+returns c = (rw (laws.lacked (c .enum-told .given .1) (c .before .before .find-item .ensures .0)), tt)
+
+-- src/lib.rt:131:1
+returns-2 : tie.Need-returns-2
+unfolding ofVr
+returns-2 c =
+    let call = c .before .before .before .before .before .find-item in
+    let found = c .before .before .before .i .given .1 in
+    (rw (laws.had found (call .ensures .0), ← c .before .vr .ensures, eq-eqb _ _ (c .if1 .taken)), laws.within _ found (call .ensures .1))
+
+-- src/lib.rt:131:1
+returns-3 : tie.Need-returns-3
+unfolding ofVr
+returns-3 c =
+    let call = c .before .before .before .before .before .find-item in
+    let found = c .before .before .before .i .given .1 in
+    (rw (laws.had found (call .ensures .0), ← c .before .vr .ensures, ne-eqb _ _ (c .if1 .left)), tt)
 
 pub find-vr-item-spec : {M : Type 1} → statement M
-find-vr-item-spec = tie.close (tie.spec add-find-vr next-requires find-vr-requires returns)
+find-vr-item-spec =
+    tie.close
+    (tie.spec find-item-requires enum-told enum-known-i vr-requires returns returns-2 returns-3)

@@ -1,0 +1,251 @@
+-- Finding an element by halves. A node's parents lead to the member of a container that it is below; and tags never descend among
+-- members: they ascend among elements, and items all have one tag. So a member's tag says on which side of it the first member stands
+-- whose tag is not below the one that is sought.
+use mathlib.Core.Path.{_≡_, refl, sym, ap, _∙_, subst}
+use Prim.Native.Nat.{ℕ, suc, _+_, _≤_, _<_}
+use native.Mathlib.Omega.{arith}
+use mathlib.Core.List.{List, [], _∷_}
+use mathlib.Core.Logic.{inl, inr}
+use mathlib.Core.Bool.{Bool, true, false, cond}
+use lib.ListN.{length}
+use lib.Dec.{eqb, ltb}
+use borrow.Author.Tests.{lt-ltb, le-ltb, ne-eqb, ltb-true, ltb-false}
+use Rattle.dataset.specs.Header.{itemTag}
+use Rattle.dataset.specs.Reading.{Row}
+use Rattle.dataset.specs.Tree.{rowsOf, rowAt, nextRow, Kind, elements, items, insideOf, depthInside, Member, Members}
+use Rattle.dataset.proofs.Tree.{rows-members}
+use Rattle.dataset.proofs.Laws.{Found, row-found, row-next, row-nested}
+use Rattle.dataset.proofs.Parents.{Placed, placed}
+use Rattle.value.specs.declared.Num.the-variants.{Is, Lacks}
+use Rattle.node.specs.Nodes.{Node, nodesOf, nodeAt, nextNode, members, inside}
+use Rattle.node.specs.Find.{find}
+use Rattle.node.specs.Table.{Table}
+use Rattle.node.specs.Halves.{lower, MemberAbove}
+use Rattle.node.proofs.Laws.{nodes-count, node-is}
+use Rattle.node.proofs.Walks.{members-end, members-next, find-end, find-here, find-later}
+
+-- ---- Tags that never descend
+
+-- The members of a container all have at least the tag x.
+abbrev Starts : Kind → ℕ → ℕ → Type 0
+Starts elements least x = x ≤ least
+Starts items least x = x ≤ itemTag
+
+starts-low : (kind : Kind) → Starts kind 0 0
+starts-low elements = omega arith
+starts-low items = omega arith
+
+member-from : (size : ℕ) (kind : Kind) (depth holder least x : ℕ) (r : Row) → Member size kind depth holder least r → Starts kind least x → x ≤ r .tag
+member-from size elements depth holder least x r m h = omega (arith, m .is .0)
+member-from size items depth holder least x r m h = omega (arith, m .is .0)
+
+member-on : (size : ℕ) (kind : Kind) (depth holder least : ℕ) (r : Row) → Member size kind depth holder least r → Starts kind (r .tag + 1) (r .tag)
+member-on size elements depth holder least r m = omega arith
+member-on size items depth holder least r m = omega (arith, m .is .0)
+
+-- ---- One member
+
+module _ (ns : List Node) (tag i to : ℕ) where
+  lower-end : to ≤ i → lower ns tag (members ns i to) to ≡ to
+  unfolding lower
+  lower-end h = rw (members-end ns i to h)
+
+  lower-here : i < to → tag ≤ nodeAt ns i .tag → lower ns tag (members ns i to) to ≡ i
+  unfolding lower
+  lower-here h l = rw (members-next ns i to h, le-ltb (nodeAt ns i .tag) tag l)
+
+  lower-later : i < to → nodeAt ns i .tag < tag → lower ns tag (members ns i to) to ≡ lower ns tag (members ns (nextNode ns i) to) to
+  unfolding lower
+  lower-later h l = rw (members-next ns i to h, lt-ltb (nodeAt ns i .tag) tag l)
+
+-- ---- The side of a member on which the first one stands whose tag is not below the tag
+
+-- `first` is on its side of member m, of the tag `here`, which `next` follows.
+pub record Sides (tag x here m next first : ℕ) : Type 0 where
+  pub from : x ≤ here
+  pub right : here < tag → next ≤ first
+  pub left : tag ≤ here → first ≤ m
+
+module _ (s rows : List ℕ) (t : Table s rows) where
+  module _ (i : ℕ) (h : i < length (nodesOf s)) where
+    tag-row : nodeAt (nodesOf s) i .tag ≡ rowAt (rowsOf s) i .tag
+    tag-row = ap (λ (n : Node). n .tag) (node-is s rows t i h)
+
+    pub next-row : nextNode (nodesOf s) i ≡ nextRow (rowsOf s) i
+    next-row = ap (λ (n : Node). i + 1 + n .descendants) (node-is s rows t i h)
+
+  -- The first member whose tag is not below the tag stands among the members, or after them.
+  lower-within : {kind : Kind} {depth holder least i to : ℕ} → Members (rowsOf s) (length s) kind depth holder least i to → to ≤ length (nodesOf s)
+      → (tag : ℕ) → (i ≤ lower (nodesOf s) tag (members (nodesOf s) i to) to) × (lower (nodesOf s) tag (members (nodesOf s) i to) to ≤ to)
+  lower-within (Members.end {i} {to} e) h tag = omega (arith, lower-end (nodesOf s) tag i to (omega arith))
+  lower-within (Members.member {i} {to} f m b r) h tag = go (lower-within r h tag) (ltb (nodeAt (nodesOf s) i .tag) tag) refl
+    where
+      Claim : ℕ → Type 0
+      Claim j = (j ≤ lower (nodesOf s) tag (members (nodesOf s) j to) to) × (lower (nodesOf s) tag (members (nodesOf s) j to) to ≤ to)
+
+      go : Claim (nextRow (rowsOf s) i) → (u : Bool) → ltb (nodeAt (nodesOf s) i .tag) tag ≡ u → Claim i
+      go x true d =
+          rw (lower-later (nodesOf s) tag i to (omega arith) (ltb-true (nodeAt (nodesOf s) i .tag) tag d), next-row i (omega arith)) (omega (arith, x .0), x .1)
+      go x false d = omega (arith, lower-here (nodesOf s) tag i to (omega arith) (ltb-false (nodeAt (nodesOf s) i .tag) tag d))
+
+  sides : {kind : Kind} {depth holder least i to : ℕ} → Members (rowsOf s) (length s) kind depth holder least i to → to ≤ length (nodesOf s) → holder ≤ i
+      → (tag m : ℕ) → i ≤ m → m < to → rowAt (rowsOf s) m .parent ≡ holder → (x : ℕ) → Starts kind least x
+      → Sides tag x (rowAt (rowsOf s) m .tag) m (nextRow (rowsOf s) m) (lower (nodesOf s) tag (members (nodesOf s) i to) to)
+  sides (Members.end e) h l tag m p q d x y = absurd (omega arith)
+  sides (Members.member {kind} {depth} {holder} {least} {i} {to} f k b r) h l tag m p q d x y =
+      go (λ u. sides r h (omega arith) tag m u q d (rowAt (rowsOf s) i .tag) (member-on (length s) kind depth holder least (rowAt (rowsOf s) i) k))
+      (ltb i m) refl (ltb m (nextRow (rowsOf s) i)) refl (ltb (nodeAt (nodesOf s) i .tag) tag) refl
+    where
+      At : ℕ → ℕ → ℕ → Type 0
+      At a j n = Sides tag a (rowAt (rowsOf s) j .tag) j (nextRow (rowsOf s) j) (lower (nodesOf s) tag (members (nodesOf s) n to) to)
+
+      from : x ≤ rowAt (rowsOf s) i .tag
+      from = member-from (length s) kind depth holder least x (rowAt (rowsOf s) i) k y
+
+      same : nodeAt (nodesOf s) i .tag ≡ rowAt (rowsOf s) i .tag
+      same = tag-row i (omega arith)
+
+      later : nodeAt (nodesOf s) i .tag < tag
+          → lower (nodesOf s) tag (members (nodesOf s) i to) to ≡ lower (nodesOf s) tag (members (nodesOf s) (nextRow (rowsOf s) i) to) to
+      later a = rw (← next-row i (omega arith)) (lower-later (nodesOf s) tag i to (omega arith) a)
+
+      here : (v : Bool) → ltb (nodeAt (nodesOf s) i .tag) tag ≡ v → At x i i
+      here true e =
+          let a = ltb-true (nodeAt (nodesOf s) i .tag) tag e in
+          record {
+            from = from;
+            right = λ _. omega (arith, later a, lower-within r h tag);
+            left = λ b. absurd (omega (arith, same));
+          }
+      here false e =
+          let a = ltb-false (nodeAt (nodesOf s) i .tag) tag e in
+          record {
+            from = from;
+            right = λ b. absurd (omega (arith, same));
+            left = λ _. omega (arith, lower-here (nodesOf s) tag i to (omega arith) a);
+          }
+
+      -- What is below member i has no parent before it.
+      below : i < m → m < nextRow (rowsOf s) i → At x m i
+      below u v = by-place (placed b m (omega arith) v)
+        where
+          by-place : Placed (rowsOf s) (insideOf kind) (depthInside kind depth) (i + 1) (i + 1) m → At x m i
+          by-place (inl o) = absurd (omega (arith, o .is, d))
+          by-place (inr (p, (w, n))) = absurd (omega (arith, n .is, d))
+
+      on : At (rowAt (rowsOf s) i .tag) m (nextRow (rowsOf s) i) → (v : Bool) → ltb (nodeAt (nodesOf s) i .tag) tag ≡ v → At x m i
+      on z true e =
+          let a = later (ltb-true (nodeAt (nodesOf s) i .tag) tag e) in
+          record { from = omega (arith, from, z .from); right = λ u. omega (arith, a, z .right u); left = λ u. omega (arith, a, z .left u) }
+      on z false e =
+          let a = ltb-false (nodeAt (nodesOf s) i .tag) tag e in
+          record {
+            from = omega (arith, from, z .from);
+            right = λ u. absurd (omega (arith, same, z .from));
+            left = λ _. omega (arith, lower-here (nodesOf s) tag i to (omega arith) a);
+          }
+
+      go : (nextRow (rowsOf s) i ≤ m → At (rowAt (rowsOf s) i .tag) m (nextRow (rowsOf s) i))
+          → (t : Bool) → ltb i m ≡ t → (u : Bool) → ltb m (nextRow (rowsOf s) i) ≡ u → (v : Bool) → ltb (nodeAt (nodesOf s) i .tag) tag ≡ v → At x m i
+      go z false a u c v e = subst (λ (j : ℕ). At x j i) (omega (arith, ltb-false i m a)) (here v e)
+      go z true a true c v e = below (ltb-true i m a) (ltb-true m (nextRow (rowsOf s) i) c)
+      go z true a false c v e = on (z (ltb-false m (nextRow (rowsOf s) i) c)) v e
+
+  -- ---- That member is the one that is found, or there is none
+
+  find-low : {kind : Kind} {depth holder least i to : ℕ} → Members (rowsOf s) (length s) kind depth holder least i to → to ≤ length (nodesOf s)
+      → (tag x : ℕ) → Starts kind least x → tag < x → find (nodesOf s) tag (members (nodesOf s) i to) ≡ Lacks
+  find-low (Members.end {i} {to} e) h tag x y l = find-end (nodesOf s) tag i to (omega arith)
+  find-low (Members.member {kind} {depth} {holder} {least} {i} {to} f k b r) h tag x y l =
+      let a : x ≤ rowAt (rowsOf s) i .tag = member-from (length s) kind depth holder least x (rowAt (rowsOf s) i) k y in
+      find-later (nodesOf s) tag i to (omega arith) (λ e. omega (arith, tag-row i (omega arith)))
+      ∙ rw (next-row i (omega arith))
+      (find-low r h tag (rowAt (rowsOf s) i .tag) (member-on (length s) kind depth holder least (rowAt (rowsOf s) i) k) (omega arith))
+
+  pub record Finds (tag : ℕ) (is : List ℕ) (to first : ℕ) : Type 0 where
+    pub none : to ≤ first → find (nodesOf s) tag is ≡ Lacks
+    pub here : first < to → nodeAt (nodesOf s) first .tag ≡ tag → find (nodesOf s) tag is ≡ Is first
+    pub other : first < to → (nodeAt (nodesOf s) first .tag ≡ tag → ⊥) → find (nodesOf s) tag is ≡ Lacks
+
+  finds : {kind : Kind} {depth holder least i to : ℕ} → Members (rowsOf s) (length s) kind depth holder least i to → to ≤ length (nodesOf s)
+      → (tag : ℕ) → Finds tag (members (nodesOf s) i to) to (lower (nodesOf s) tag (members (nodesOf s) i to) to)
+  finds (Members.end {i} {to} e) h tag =
+      let a = find-end (nodesOf s) tag i to (omega arith) in
+      let z = lower-end (nodesOf s) tag i to (omega arith) in
+      record { none = λ _. a; here = λ u v. absurd (omega arith); other = λ u v. a }
+  finds (Members.member {kind} {depth} {holder} {least} {i} {to} f k b r) h tag = go (finds r h tag) (ltb (nodeAt (nodesOf s) i .tag) tag) refl
+    where
+      At : ℕ → ℕ → Type 0
+      At n first = Finds tag (members (nodesOf s) n to) to first
+
+      go : At (nextRow (rowsOf s) i) (lower (nodesOf s) tag (members (nodesOf s) (nextRow (rowsOf s) i) to) to)
+          → (u : Bool) → ltb (nodeAt (nodesOf s) i .tag) tag ≡ u → At i (lower (nodesOf s) tag (members (nodesOf s) i to) to)
+      go z true e =
+          let l = ltb-true (nodeAt (nodesOf s) i .tag) tag e in
+          let a : lower (nodesOf s) tag (members (nodesOf s) i to) to ≡ lower (nodesOf s) tag (members (nodesOf s) (nextRow (rowsOf s) i) to) to =
+          rw (← next-row i (omega arith)) (lower-later (nodesOf s) tag i to (omega arith) l) in
+          let c : find (nodesOf s) tag (members (nodesOf s) i to) ≡ find (nodesOf s) tag (members (nodesOf s) (nextRow (rowsOf s) i) to) =
+          rw (← next-row i (omega arith)) (find-later (nodesOf s) tag i to (omega arith) (λ q. omega arith)) in
+          subst (λ (n : ℕ). At i n) (sym a) (record { none = λ u. c ∙ z .none u; here = λ u v. c ∙ z .here u v; other = λ u v. c ∙ z .other u v })
+      go z false e =
+          let l = ltb-false (nodeAt (nodesOf s) i .tag) tag e in
+          subst (λ (n : ℕ). At i n) (sym (lower-here (nodesOf s) tag i to (omega arith) l))
+          (record {
+            none = λ u. absurd (omega arith);
+            here = λ u v. find-here (nodesOf s) tag i to u v;
+            other = λ u v.
+                find-later (nodesOf s) tag i to u v
+                ∙ rw (next-row i (omega arith))
+                (find-low r h tag (rowAt (rowsOf s) i .tag) (member-on (length s) kind depth holder least (rowAt (rowsOf s) i) k)
+                (omega (arith, tag-row i (omega arith), different (nodeAt (nodesOf s) i .tag) tag l v)));
+          })
+        where
+          different : (a c : ℕ) → c ≤ a → (a ≡ c → ⊥) → c < a
+          different a c p q = omega arith
+
+  -- ---- In one container
+
+  module _ (holder : ℕ) (h : holder < length (nodesOf s)) where
+    row-known : holder < length (rowsOf s)
+    row-known = omega (arith, nodes-count s)
+
+    ends : nextRow (rowsOf s) holder ≤ length (nodesOf s)
+    ends = omega (arith, nodes-count s, row-next s holder row-known)
+
+    around : Found (rowsOf s) (length s) 0 holder (length (rowsOf s))
+    around = row-found (rows-members s) holder (omega arith) row-known
+
+    -- The first member whose tag is not below the tag, by its number.
+    abbrev pub First : ℕ → ℕ
+    First tag = lower (nodesOf s) tag (inside (nodesOf s) holder) (nextNode (nodesOf s) holder)
+
+    pub first-within : (tag : ℕ) → (holder + 1 ≤ First tag) × (First tag ≤ nextNode (nodesOf s) holder)
+    first-within tag = rw (next-row holder h) (lower-within (around .first .below) ends tag)
+
+    pub first-finds : (tag n : ℕ) → n ≡ First tag → Finds tag (inside (nodesOf s) holder) (nextNode (nodesOf s) holder) n
+    first-finds tag n e = rw (e, next-row holder h) (finds (around .first .below) ends tag)
+
+    module _ (i m : ℕ) (a : MemberAbove s holder i m) (l : i < nextNode (nodesOf s) holder) where
+      pub member-known : m < length (nodesOf s)
+      member-known = omega (arith, a .low, ends, next-row holder h)
+
+      pub first-side : (tag : ℕ) → Sides tag 0 (nodeAt (nodesOf s) m .tag) m (nextNode (nodesOf s) m) (First tag)
+      first-side tag =
+          rw (next-row holder h, next-row m member-known, tag-row m member-known)
+          (sides (around .first .below) ends (omega arith) tag m (omega (arith, a .after)) (omega (arith, a .low, next-row holder h)) (a .held) 0
+          (starts-low (insideOf (around .kind))))
+
+    -- A node below the container is a member of it, or its parent is below the container too.
+    pub step-up : (i m : ℕ) → holder < m → m ≤ i → i < nextNode (nodesOf s) m → i < nextNode (nodesOf s) holder
+        → (rowAt (rowsOf s) m .parent ≡ holder + 1 → ⊥)
+        → (p : ℕ) × ((rowAt (rowsOf s) m .parent ≡ p + 1) × ((holder < p) × ((p < m) × (i < nextNode (nodesOf s) p))))
+    step-up i m u v w l n = by-place (placed (around .first .below) m (omega arith) (omega (arith, next-row holder h)))
+      where
+        by-place : Placed (rowsOf s) (insideOf (around .kind)) (depthInside (around .kind) (around .depthHere)) (holder + 1) (holder + 1) m
+            → (p : ℕ) × ((rowAt (rowsOf s) m .parent ≡ p + 1) × ((holder < p) × ((p < m) × (i < nextNode (nodesOf s) p))))
+        by-place (inl o) = absurd (n (o .is))
+        by-place (inr (p, (q, x))) =
+            let k : m < length (nodesOf s) = omega (arith, ends, next-row holder h) in
+            let j : p < length (nodesOf s) = omega (arith, x .low) in
+            let e : nextRow (rowsOf s) m ≤ nextRow (rowsOf s) p = row-nested s p (omega (arith, nodes-count s)) m (x .low) (x .high) in
+            (p, (omega (arith, x .is), (omega arith, (x .low, omega (arith, next-row m k, next-row p j)))))
