@@ -10,7 +10,7 @@ use Rattle.dataset.specs.Reading.{level, valueAt, readingOf}
 use Rattle.dataset.specs.Tree.{rowsOf}
 use Rattle.value.specs.Text.{equal, valuesOf, trimStart, trimEnd}
 use Rattle.value.specs.Words.{wordAt, isWord, isUid}
-use Rattle.value.specs.Number.{usOf, usValues, ssOf, digitsOf, signedBy, wholeOf, isOf, sizeOf, decimalOf, all, allDecimals, allWidths}
+use Rattle.value.specs.Number.{usOf, usValues, ssOf, digitsOf, signedBy, wholeOf, isOf, exactOf, exponentOf, endOf, sizeOf, decimalOf, all, allDecimals, allWidths}
 use Rattle.node.specs.Nodes.{nodesOf, members, membersBy}
 use Rattle.node.specs.Find.{find, ofVr, filled, has}
 use Rattle.element.specs.Elements.{oneItem, theItem, itemsIn, every, some}
@@ -39,7 +39,7 @@ unfolding
     rowsOf
     equal valuesOf trimStart trimEnd
     wordAt isWord isUid
-    usOf usValues ssOf digitsOf signedBy wholeOf isOf sizeOf decimalOf all allDecimals allWidths
+    usOf usValues ssOf digitsOf signedBy wholeOf isOf exactOf exponentOf endOf sizeOf decimalOf all allDecimals allWidths
     nodesOf members membersBy
     find ofVr filled has
     oneItem theItem itemsIn every some
