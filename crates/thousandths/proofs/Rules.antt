@@ -29,7 +29,7 @@ use Rattle.conformance.specs.Judging.{findingOf}
 use Rattle.conformance.proofs.First.{holds-accepted}
 use Rattle.thousandths.specs.Number.{decimalOf, isWidth, allDecimals, allWidths, scaled}
 use Rattle.thousandths.specs.Rule30.{isWindow, hasWindow, isVoi, item30, rule30, ruleAt}
-use Rattle.thousandths.specs.Kept.{AcceptedBefore}
+use Rattle.thousandths.specs.Kept.{RulesHeld}
 use Rattle.thousandths.proofs.Numbers.{numbers}
 
 -- ---- A test that asks more
@@ -121,5 +121,5 @@ module _ (ns : List Node) where
       go true q e = rw (eqb-true rule 30 q) (thirty f ∙ rule-now f e)
       go false q e = e
 
-  pub accepted : AcceptedBefore ns → findingOf ns ≡ Accepted
+  pub accepted : RulesHeld ns → findingOf ns ≡ Accepted
   accepted a = holds-accepted ns (λ rule l h f from below. at-now rule f (a rule l (omega arith) f from below))

@@ -42,6 +42,9 @@ const POINT: u8 = 0x2E;
 // The unit of a DS number: a millionth. One is so many units.
 pub const UNIT: usize = 1000000;
 
+// Its decimals.
+const DECIMALS: usize = 6;
+
 // A DS number is below one million.
 const SIZE_LIMIT: usize = 1000000 * UNIT;
 
@@ -412,8 +415,8 @@ fn scaled(m: usize, after: usize, exponent: Signed) -> Num
     ensures { λ r. ⌜ r ≡ scaledBy m after exponent ⌝ }
 {
     match exponent {
-        Signed::Plus(e) => exact(m, 6 + e, after),
-        Signed::Minus(e) => exact(m, 6, after + e),
+        Signed::Plus(e) => exact(m, DECIMALS + e, after),
+        Signed::Minus(e) => exact(m, DECIMALS, after + e),
         Signed::Lacks => Num::Lacks,
     }
 }
@@ -441,7 +444,7 @@ fn end_of(s: &[u8], count: usize, m: usize, after: usize) -> Num
         return Num::Lacks;
     }
     if s.len() == 0 {
-        return exact(m, 6, after);
+        return exact(m, DECIMALS, after);
     }
     if is_mark(s[0]) {
         scaled(m, after, exponent_of(&s[1..]))
