@@ -91,8 +91,10 @@ def telling_centers(rng, center):
 def telling_widths(rng, width):
     """Windows that tell a width from its neighbours: (sample, centre) twice, or nothing where none was found."""
     found = []
+    start = rng.randrange(127)
     for difference in (width - UNIT, width - UNIT - 1):  # at least k at this D, and no more at the next
-        for half_slope in rng.sample(range(1, 128), 127):
+        for more in range(127):
+            half_slope = (start + more) % 127 + 1
             half = -(-half_slope * difference // 255)
             if difference >= 1 and 255 * half < half_slope * (difference + 1):
                 sample = rng.randrange(65_536)

@@ -2,6 +2,7 @@
 """Checks the reference by itself: the sample cases of document 01 and cases worked out by hand. No library is needed."""
 
 import random
+import re
 import struct
 import sys
 import unittest
@@ -121,6 +122,25 @@ class Values(unittest.TestCase):
                         old = int(whole or "0") * 1000 + int((fraction or "").ljust(3, "0"))
                         word = sign + whole + ("" if fraction is None else "." + fraction)
                         self.assertEqual(values.millionths(word.encode()), (-1000 if sign == "-" else 1000) * old, word)
+
+    def test_decimals_as_python_reads_them(self):
+        """Strings over the characters of a DS, against the fractions of Python's own reader."""
+        rng = random.Random(11)
+        good = 0
+        for _ in range(20_000):
+            word = "".join(rng.choice("0123456789+-.Ee") for _ in range(rng.randrange(1, 9)))
+            if rng.random() < 0.5:
+                word = f"{rng.choice(('', '-', '+'))}{rng.randrange(10 ** rng.randrange(1, 8))}.{rng.randrange(1000)}E{rng.randrange(-9, 9)}"
+            if re.search("[Ee][+-]?[0-9]{3}", word):
+                continue  # Python works the power out
+            try:
+                exact = Fraction(word) if len(word) <= 16 else None
+            except ValueError:
+                exact = None
+            count = None if exact is None or abs(exact) >= 10 ** 6 or (exact * 10 ** 6).denominator != 1 else int(exact * 10 ** 6)
+            self.assertEqual(values.millionths(word.encode()), count, word)
+            good += count is not None
+        self.assertGreater(good, 4000)
 
     def test_written_decimals(self):
         """The generator's ways to write a number are read as that number."""
