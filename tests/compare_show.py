@@ -11,6 +11,7 @@ import reading_cases
 from comparison import DifferenceFound, enough_numbers, exact_numbers, run_as_program
 from mutations import CHANGES
 from reference import drawing, reading
+from reference.values import UNIT
 
 
 def check_show(comparison, name, data, frame, row_buffer_length, image_buffer_length):
@@ -78,7 +79,8 @@ def every_value(stored):
 
 WINDOWS = (("50", "1"), ("40", "10"), ("128", "256"), ("0", "1"), ("-10", "50"), ("-10.5", "40.25"), ("127.5", "255"), ("128", "1.001"),
            ("128", "1.5"), ("128.001", "1.999"), ("300", "100"), ("999999.999", "999999.999"), ("-999999.999", "999999.999"), ("0.5", "2"),
-           ("200", "999999.999"), (".5", "+1.000"), ("100.25", "3.75"), ("2048", "4096"), ("1000", "2500.5"))
+           ("200", "999999.999"), (".5", "+1.000"), ("100.25", "3.75"), ("2048", "4096"), ("1000", "2500.5"), ("2.048E3", "4.096e+3"),
+           ("128.500001", "1.000001"), ("100.5", "1.000255"), ("-.5E-5", "100E-2"), ("999999.999999", "999999.999999"), ("1E2", "1E1"))
 
 
 def compare_windows(comparison, rng):
@@ -147,18 +149,19 @@ def compare_window_edges(comparison, rng, rounds):
     """Random windows, with the samples about both of their edges."""
     for number in range(rounds):
         stored = rng.randrange(9, 17)
-        width = rng.choice((1000, 1001, 1999, 2000, rng.randrange(1000, 20_000), rng.randrange(1000, 1000 * 2 ** stored)))
-        center = rng.randrange(-20_000, 1000 * 2 ** stored)
-        low, high = (2 * center - width) // 2000, (2 * center + width - 2000) // 2000
-        values = [edge + near for edge in (low, high, center // 1000) for near in range(-3, 4)]
+        whole = UNIT * 2 ** stored
+        width = rng.choice((UNIT, UNIT + 1, UNIT + 255, 2 * UNIT - 1, 2 * UNIT, rng.randrange(UNIT, 20 * UNIT), rng.randrange(UNIT, whole)))
+        center = rng.choice((rng.randrange(-20 * UNIT, whole), rng.randrange(-20, 2 ** stored) * UNIT + UNIT // 2 + rng.randrange(-200, 201)))
+        low, high = (2 * center - width) // (2 * UNIT), (2 * center + width - 2 * UNIT) // (2 * UNIT)
+        values = [edge + near for edge in (low, high, center // UNIT) for near in range(-3, 4)]
         values += [rng.randrange(low, high + 2) for _ in range(20)] + [rng.randrange(2 ** stored) for _ in range(8)]
         values = [max(0, min(2 ** stored - 1, value)) for value in values]
         shape = base_shape(rng, bits_allocated=16, bits_stored=stored, frames=1, rows=1, columns=len(values))
         model = xa.build(rng, shape)
-        decimal = lambda value: f"{'-' if value < 0 else ''}{abs(value) // 1000}.{abs(value) % 1000:03d}"
-        model[xa.SHARED][1][0][xa.VOI] = xa.sq({xa.CENTER: xa.text("DS", decimal(center)), xa.WIDTH: xa.text("DS", decimal(width))})
+        words = [xa.written(rng, value) for value in (center, width)]
+        model[xa.SHARED][1][0][xa.VOI] = xa.sq({xa.CENTER: xa.text("DS", words[0]), xa.WIDTH: xa.text("DS", words[1])})
         model[xa.PIXEL_DATA] = ("OW", struct.pack(f"<{len(values)}H", *values))
-        check_every_frame(comparison, f"window {decimal(center)}, {decimal(width)}", model, rng)
+        check_every_frame(comparison, f"window {words}", model, rng)
 
 
 def compare_shifts(comparison, rng, rounds):

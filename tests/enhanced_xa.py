@@ -161,15 +161,43 @@ def padded(rng, vr, *values):
     return text(vr, *parts)
 
 
+MILLION = 1_000_000
+
+
+def plain(count):
+    """A count of millionths as a DS with as few digits as it takes, without an exponent."""
+    whole, part = divmod(abs(count), MILLION)
+    decimals = f".{part:06d}".rstrip("0").rstrip(".")
+    return f"{'-' if count < 0 else ''}{whole}{decimals}"
+
+
+def written(rng, count):
+    """A count of millionths, below 10^12 in size, as a DS of at most 16 characters: one of the many ways to write it."""
+    digits = str(abs(count))
+    cut = len(digits.rstrip("0")) if count else rng.randrange(1, len(digits) + 1)
+    digits, power = digits[:cut], len(digits) - cut - 6  # the number is digits * 10^power
+    point = rng.randrange(len(digits) + 1)
+    exponent = power + len(digits) - point
+    sign = "-" if count < 0 else rng.choice(("", "", "+"))
+    front = digits[:point] + rng.choice((".", "") if point == len(digits) else (".",)) + digits[point:]
+    power_words = rng.choice((f"{exponent}", f"{exponent:+d}", f"{exponent:03d}"))
+    forms = [sign + plain(abs(count)), f"{sign}{abs(count) // MILLION:06d}.{abs(count) % MILLION:06d}", f"{sign}{digits}E{power}",
+             f"{sign}{front}{rng.choice('Ee')}{power_words}", f"{sign}{front}e{exponent}"]
+    return rng.choice([form for form in forms if len(form) <= 16])
+
+
 def random_width(rng, stored):
-    return rng.choice(("1", "1.000", "1.001", "2", "10", "000001", "+7.5", "999999.999", "1.5", "255", str(2 ** stored),
-                       f"{rng.randrange(1, 2 ** stored + 1)}", f"{rng.randrange(1, 300)}.{rng.randrange(1000):03d}"))
+    count = rng.choice((MILLION, MILLION + 1, 2 * MILLION, rng.randrange(MILLION, 20 * MILLION), rng.randrange(MILLION, MILLION ** 2),
+                        rng.randrange(1, 2 ** stored + 1) * MILLION, rng.randrange(1000, 300_000) * 1000))
+    return rng.choice(("1", "1.000", "1.001", "10", "000001", "+7.5", "999999.999", "1E0", "2.048E3", "1.000001", "999999.999999",
+                       str(2 ** stored), *[written(rng, count)] * 8))
 
 
 def random_center(rng, stored):
-    return rng.choice(("0", "-0", ".5", "5.", "-.5", "+1", "-100.25", "000040", "000000.000", "-999999.999",
-                       str(2 ** (stored - 1)), f"{rng.randrange(2 ** stored)}",
-                       f"{rng.randrange(2 ** stored)}.{rng.randrange(10)}", f"-{rng.randrange(500)}.5"))
+    count = rng.choice((0, 1, -1, rng.randrange(2 ** stored) * MILLION, rng.randrange(-MILLION, 2 ** stored * MILLION),
+                        rng.randrange(-500_000, 500_000) * 1000, rng.randrange(1 - MILLION ** 2, MILLION ** 2)))
+    return rng.choice(("0", "-0", ".5", "5.", "-.5", "+1", "-100.25", "000040", "000000.000", "-999999.999", "0E99999999999999",
+                       "1.024E3", "-999999.999999", str(2 ** (stored - 1)), *[written(rng, count)] * 8))
 
 
 def voi_item(rng, shape):

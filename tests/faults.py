@@ -6,6 +6,7 @@ from parents import table_of
 from reference import drawing, reading, rules, slips
 from reference.answers import Answer
 from reference.reading import ITEM, NUMBERS_IN_A_ROW
+from reference.values import UNIT
 from stand_in import StandIn, write
 
 
@@ -268,20 +269,20 @@ class PixelsWithHighBits(drawing.Pixels):
 
 
 def level_with_width(x, center, width):
-    """W in place of W - 1000 in the divisor."""
-    if 2000 * x <= 2 * center - width:
+    """W in place of W - u in the divisor."""
+    if 2 * UNIT * x <= 2 * center - width:
         return 0
-    if 2000 * x > 2 * center + width - 2000:
+    if 2 * UNIT * x > 2 * center + width - 2 * UNIT:
         return 255
-    return drawing.limited((255 * (2000 * x - 2 * center + width) + width - 1000) // (2 * width), 0, 255)
+    return drawing.limited((255 * (2 * UNIT * x - 2 * center + width) + width - UNIT) // (2 * width), 0, 255)
 
 
 def level_rounded_down(x, center, width):
-    if 2000 * x <= 2 * center - width:
+    if 2 * UNIT * x <= 2 * center - width:
         return 0
-    if 2000 * x > 2 * center + width - 2000:
+    if 2 * UNIT * x > 2 * center + width - 2 * UNIT:
         return 255
-    return drawing.limited(255 * (2000 * x - 2 * center + width) // (2 * (width - 1000)), 0, 255)
+    return drawing.limited(255 * (2 * UNIT * x - 2 * center + width) // (2 * (width - UNIT)), 0, 255)
 
 
 def first_centre_last_width(root, frame, stored, original=drawing.window):
@@ -289,8 +290,8 @@ def first_centre_last_width(root, frame, stored, original=drawing.window):
     if group is None:
         return original(root, frame, stored)
     item = drawing.items_of(root.data, group)[0]
-    return (drawing.thousandths(item.texts(drawing.tags.WINDOW_CENTER, "DS")[-1]),
-            drawing.thousandths(item.texts(drawing.tags.WINDOW_WIDTH, "DS")[-1]))
+    return (drawing.millionths(item.texts(drawing.tags.WINDOW_CENTER, "DS")[-1]),
+            drawing.millionths(item.texts(drawing.tags.WINDOW_WIDTH, "DS")[-1]))
 
 
 def last_applying_item(root, frame):
@@ -355,6 +356,7 @@ original_shifted = drawing.shifted
 original_subtracted = drawing.subtracted
 original_tid_frame = drawing.tid_frame
 original_shown = drawing.shown
+original_window = drawing.window
 SHOW_FAULTS = {
     "nothing written": StandIn(lambda o, data: o._replace(image=b"")),
     "frame 1 for every frame": StandIn(show=frame_1_for_all),
@@ -369,7 +371,7 @@ SHOW_FAULTS = {
     "image buffer before frame": StandIn(show=small_image_first),
     "the TO_LINEAR table used": StandIn(show=to_linear_used),
     "unused high bits left in": drawn_with(Pixels=PixelsWithHighBits),
-    "W in place of W - 1000": drawn_with(level=level_with_width),
+    "W in place of W - u": drawn_with(level=level_with_width),
     "not rounded": drawn_with(level=level_rounded_down),
     "the last window": drawn_with(window=first_centre_last_width),
     "the last mask item": drawn_with(applying_item=last_applying_item),
@@ -386,4 +388,12 @@ SHOW_FAULTS = {
     "MONOCHROME1 not inverted": drawn_with(shown=lambda y, photometric: y),
 }
 
-FAULTS = {"read": READ_FAULTS, "judge": JUDGE_FAULTS, "slips": SLIP_FAULTS, "show": SHOW_FAULTS}
+DECIMAL_FAULTS = {
+    "the width's own number forgotten": drawn_with(window=lambda root, frame, stored: (original_window(root, frame, stored)[0], 10 * UNIT)),
+    "the centre one millionth more": drawn_with(window=lambda root, frame, stored: tuple(
+        number + more for number, more in zip(original_window(root, frame, stored), (1, 0)))),
+    "the width one millionth less": drawn_with(window=lambda root, frame, stored: tuple(
+        number - less for number, less in zip(original_window(root, frame, stored), (0, 1)))),
+}
+
+FAULTS = {"read": READ_FAULTS, "judge": JUDGE_FAULTS, "slips": SLIP_FAULTS, "decimals": DECIMAL_FAULTS, "show": SHOW_FAULTS}

@@ -6,6 +6,7 @@ import shutil
 import sys
 import tempfile
 
+import compare_decimals
 import compare_judge
 import compare_read
 import compare_show
@@ -16,8 +17,9 @@ from library import Library
 from mutants import MUTATIONS, mutant
 from stand_in import StandIn
 
-COUNTS = {"read": 60, "judge": 100, "slips": 200, "show": 30}  # generated cases: as few as find every fault
-RUNS = {"read": compare_read.run, "judge": compare_judge.run, "slips": compare_slips.run, "show": compare_show.run}
+COUNTS = {"read": 60, "judge": 100, "slips": 200, "decimals": 200, "show": 30}  # generated cases: as few as find every fault
+RUNS = {"read": compare_read.run, "judge": compare_judge.run, "slips": compare_slips.run, "decimals": compare_decimals.run,
+        "show": compare_show.run}
 
 
 def attempt(name, stand_in, folder):

@@ -15,6 +15,32 @@ from stand_in import StandIn
 
 HERE = os.path.dirname(os.path.abspath(__file__))
 
+# In values.py: text, the text in its place.
+DECIMALS = [
+    ("([+-]?)([0-9]*)", "([+-]?)([0-9]{0,6})"),
+    ("([+-]?)([0-9]*)", "([+-]?)([0-9]+)"),
+    ("([+-]?)([0-9]*)", "(-?)([0-9]*)"),
+    ("(?:\\.([0-9]*))?", "(?:\\.([0-9]{0,6}))?"),
+    ("(?:\\.([0-9]*))?", "(?:\\.([0-9]+))?"),
+    ("(?:\\.([0-9]*))?", "(?:\\.([0-9]{0,3}))?"),
+    ("[Ee]([+-]?[0-9]+)", "E([+-]?[0-9]+)"),
+    ("[Ee]([+-]?[0-9]+)", "[Ee](-?[0-9]+)"),
+    ("[Ee]([+-]?[0-9]+)", "[Ee]([+-]?[0-9]{1,2})"),
+    ("[Ee]([+-]?[0-9]+)", "[Ee]([+-]?[0-9]*)"),
+    ("int(exponent) -", "abs(int(exponent)) -"),
+    ("int(exponent) -", "int(exponent) % 2 ** 32 -"),
+    ("int(exponent) - len(fraction)", "int(exponent)"),
+    ("DECIMAL_CHARACTERS = 16", "DECIMAL_CHARACTERS = 17"),
+    ("DECIMAL_CHARACTERS = 16", "DECIMAL_CHARACTERS = 15"),
+    ("abs(number) < 1_000_000", "abs(number) <= 1_000_000"),
+    ("abs(number) < 1_000_000", "number < 1_000_000"),
+    (" or (number * UNIT).denominator != 1", ""),
+    ("    if digits == 0:\n        return Fraction(0)\n", ""),
+    ("    if not whole + fraction:\n        return None\n", "    whole = whole or b\"0\"\n"),
+    ("-22 <= power <= 6", "-6 <= power <= 6"),
+    ("-22 <= power <= 6", "-22 <= power <= 4"),
+]
+
 # Comparison, file, text, the text in its place.
 MUTATIONS = [
     # Reading.
@@ -79,13 +105,7 @@ MUTATIONS = [
     ("judge", "values.py", "[+-]?[0-9]{1,11}", "[+-]?[0-9]{1,12}"),
     ("judge", "values.py", "[+-]?[0-9]{1,11}", "[+-]?[0-9]{1,10}"),
     ("judge", "values.py", "[+-]?[0-9]{1,11}", "[0-9]{1,11}"),
-    ("judge", "values.py", "([+-]?)([0-9]{0,6})", "([+-]?)([0-9]{0,7})"),
-    ("judge", "values.py", "([+-]?)([0-9]{0,6})", "([+-]?)([0-9]{1,6})"),
-    ("judge", "values.py", "([+-]?)([0-9]{0,6})", "(-?)([0-9]{0,6})"),
-    ("judge", "values.py", "(?:\\.([0-9]{0,3}))?", "(?:\\.([0-9]{0,4}))?"),
-    ("judge", "values.py", "(?:\\.([0-9]{0,3}))?", "(?:\\.([0-9]{1,3}))?"),
-    ("judge", "values.py", "(?:\\.([0-9]{0,3}))?", "(?:\\.([0-9]{0,2}))?"),
-    ("judge", "values.py", "if not whole + fraction:\n        return None", "pass"),
+    *[(comparison, "values.py", text, other) for comparison in ("judge", "decimals") for text, other in DECIMALS],
     ("judge", "values.py", "len(value) != 8", "len(value) < 8"),
     ("judge", "values.py", "len(value) != 2", "len(value) < 2"),
     # Rules.
@@ -111,9 +131,9 @@ MUTATIONS = [
     ("judge", "rules.py", "or len(centers) != len(widths)", ""),
     ("judge", "rules.py", "in centers + widths)", "in centers[:1] + widths)"),
     ("judge", "rules.py", "in centers + widths)", "in centers + widths[:1])"),
-    ("judge", "rules.py", ">= 1000 for text in widths)", "> 1000 for text in widths)"),
-    ("judge", "rules.py", ">= 1000 for text in widths)", ">= 999 for text in widths)"),
-    ("judge", "rules.py", ">= 1000 for text in widths)", ">= 1000 for text in widths[:1])"),
+    ("judge", "rules.py", ">= UNIT for text in widths)", "> UNIT for text in widths)"),
+    ("judge", "rules.py", ">= UNIT for text in widths)", ">= UNIT - 1 for text in widths)"),
+    ("judge", "rules.py", ">= UNIT for text in widths)", ">= UNIT for text in widths[:1])"),
     ("judge", "rules.py", "1 <= len(items) <= 16", "0 <= len(items) <= 16"),
     ("judge", "rules.py", "1 <= len(items) <= 16", "1 <= len(items) <= 15"),
     ("judge", "rules.py", "1 <= len(items) <= 16", "1 <= len(items) <= 17"),
@@ -142,6 +162,11 @@ MUTATIONS = [
     ("judge", "rules.py", "== length + length % 2)", "== length)"),
     ("judge", "rules.py", "== length + length % 2)", ">= length + length % 2)"),
     ("judge", "rules.py", "== length + length % 2)", "== (length + length % 2) % 2 ** 32)"),
+    ("decimals", "values.py", "return -number if sign", "return number if sign"),
+    ("decimals", "values.py", "return int(number * UNIT)", "return int(number * UNIT) + (abs(number) > 1000)"),
+    ("decimals", "values.py", "return int(number * UNIT)", "return int(number * 1000) * 1000"),
+    ("decimals", "values.py", "return int(number * UNIT)", "return int(float(text) * UNIT)"),
+    ("decimals", "rules.py", ">= UNIT for text in widths)", ">= 1000 for text in widths)"),
     # Slips.
     ("slips", "slips.py", "0 <= offset <= MAXIMUM_SIZE", "0 <= offset < MAXIMUM_SIZE"),
     ("slips", "slips.py", "0 <= offset <= MAXIMUM_SIZE", "True"),
@@ -173,9 +198,9 @@ MUTATIONS = [
     ("show", "drawing.py", "shifted(mask, shift(root, item, frame))", "shifted(mask, (shift(root, item, frame)[0], 0))"),
     ("show", "drawing.py", "shifted(mask, shift(root, item, frame))", "shifted(mask, (0, shift(root, item, frame)[1]))"),
     ("show", "drawing.py", "column - horizontal", "column + horizontal"),
-    ("show", "drawing.py", "2000 * x <= 2 * center - width", "2000 * x < 2 * center - width"),
-    ("show", "drawing.py", "2000 * x > 2 * center + width - 2000", "2000 * x >= 2 * center + width"),
-    ("show", "drawing.py", "+ width - 1000, divisor", ", divisor"),
+    ("show", "drawing.py", "2 * UNIT * x <= 2 * center - width", "2 * UNIT * x < 2 * center - width"),
+    ("show", "drawing.py", "2 * UNIT * x > 2 * center + width - 2 * UNIT", "2 * UNIT * x >= 2 * center + width"),
+    ("show", "drawing.py", "+ width - UNIT, divisor", ", divisor"),
     ("show", "drawing.py", "% 2 ** self.stored", ""),
     ("show", "drawing.py", "centers[0]", "centers[-1]"),
     ("show", "drawing.py", "widths[0]", "widths[-1]"),

@@ -364,23 +364,39 @@ for tag in (xa.CENTER, xa.WIDTH):
                        ("one value of two", put(tag, text("DS", "40"))), ("three values", put(tag, text("DS", "40\\50\\60")))):
         add(30, f"{tag:08X} {name}", in_group(xa.VOI, edit), OWN_VOI, per_frame=True)
         add(30, f"shared {tag:08X} {name}", in_shared_group(xa.VOI, edit), SHARED_VOI, FRAMES, frame=1)
-BAD_DECIMALS = (".", "+", "+.", "", "  ", "0000001", "1.0000", "1E1", "1e1", "4 0", "--1", "+-1", "1..2", "1.2.3", "1,5", "1234567",
-                "\t4", "4\0", "0x4", "1+", "1.+5", "\u00b2")
-for word in BAD_DECIMALS:
-    for place in (0, 1):
-        values = ["40", "50"]
-        values[place] = word
-        for tag in (xa.CENTER, xa.WIDTH):
-            add(30, f"{tag:08X} {values}", in_group(xa.VOI, put(tag, text("DS", *values))), OWN_VOI, per_frame=True)
-for word in ("0.999", "0", "-1", "-0", ".999", "000000.000", "-40", "+0.5"):
-    for values in ((word, "50"), ("50", word)):
-        add(30, f"width {values}", in_group(xa.VOI, put(xa.WIDTH, text("DS", *values))), OWN_VOI, per_frame=True)
-for word in (".5", "5.", "-.5", "+1", "000001", "-0", "000000.000", "999999.999", "-999999.999", " 7 ", "0.0"):
-    for values in ((word, "50"), ("50", word)):
-        add(0, f"center {values}", in_group(xa.VOI, put(xa.CENTER, text("DS", *values))), OWN_VOI, per_frame=True)
-for word in ("1", "1.", "1.0", "1.000", "+1.000", "000001", "000001.000", "999999.999", "  1  "):
-    for values in ((word, "50"), ("50", word)):
-        add(0, f"width {values}", in_group(xa.VOI, put(xa.WIDTH, text("DS", *values))), OWN_VOI, per_frame=True)
+BAD_DECIMALS = (".", "+", "+.", "", "  ", "4 0", "--1", "+-1", "1..2", "1.2.3", "1,5", "1234567", "\t4", "4\0", "0x4", "1+", "1.+5", "\u00b2",
+                # The exponent: no digit before it or in it, a second one, a point or a space in it.
+                "E", "e1", "E3", "+E3", ".E3", "-.E+3", "1E", "1e+", "5.E-", "1E1.5", "1E1.", "1E 1", "1 E1", "1EE1", "1E1e1", "1E+-1", "1E1-", "1D1",
+                "1E1\t", "1_0", "INF", "NAN",
+                # 17 characters.
+                "00000000000000001", "1.000000000000000", "1E000000000000005", "0E999999999999999", "+1E00000000000005",
+                # No whole count of millionths.
+                "0.0000001", "0.0000005", "-1.0000001", "1E-7", "9E-7", "15E-7", "1.5E-6", "999999.9999999", "1E-9999999999999", "1E-99999999",
+                # Not below one million in size.
+                "1000000", "1E6", "-1E6", "1e+6", "1000000.0", "1000000000000E-6", ".1E7", "1E12", "1E99999999999999", "-9E99999999999", "10E5")
+GOOD_CENTERS = (".5", "5.", "-.5", "+1", "000001", "-0", "000000.000", "999999.999", "-999999.999", " 7 ", "0.0", "0000001", "1.0000", "1E1", "1e1",
+                "2.048E3", "5.E3", ".5E3", "-.5e+03", "0.000001", "-0.000001", "1E-6", "10E-7", "0.0000010", "999999.999999", "-999999.999999",
+                "9.99999999999E5", "9999999999990E-7", "1E5", "1E00000000000005", "1E+0000000000005", "1E-0000000000006", "0E99999999",
+                "0E99999999999999", "-0E9999999999999", "0E-9999999999999", ".0e+999999999999", "0000000000000001", "1.00000000000000",
+                "  +99999900000E-5  ", "-000000000000001")
+GOOD_WIDTHS = ("1", "1.", "1.0", "1.000", "+1.000", "000001", "000001.000", "999999.999", "  1  ", "0000001", "1.0000", "1E0", "1e-0", ".1E1", "10E-1",
+               "1000000E-6", "1.000001", "1000001E-6", "2.048E3", "999999.999999", "100000000000E-11", "1E00000000000000")
+SMALL_WIDTHS = ("0.999", "0", "-1", "-0", ".999", "000000.000", "-40", "+0.5", "0.999999", "999999E-6", "9.99999E-1", "1E-6", "0E99999999999999", "-1E0",
+                "-999999.999999", "1E-1")
+
+
+def add_decimals(rule, words, *tags):
+    """Each word as a value of each tag's element, the first and the second of two in turn."""
+    for number, word in enumerate(words):
+        for tag in tags:
+            values = ("40", word) if (number + (tag == xa.WIDTH)) % 2 else (word, "50")
+            add(rule, f"{tag:08X} {values}", in_group(xa.VOI, put(tag, text("DS", *values))), OWN_VOI, per_frame=True)
+
+
+add_decimals(30, BAD_DECIMALS, xa.CENTER, xa.WIDTH)
+add_decimals(30, SMALL_WIDTHS, xa.WIDTH)
+add_decimals(0, SMALL_WIDTHS + GOOD_CENTERS, xa.CENTER)
+add_decimals(0, GOOD_WIDTHS, xa.WIDTH)
 
 # ---------------------------------------------------------------------------------------------------------------------
 # Rules 31 to 38

@@ -2,6 +2,7 @@
 """Checks the reference by itself: the sample cases of document 01 and cases worked out by hand. No library is needed."""
 
 import random
+import re
 import struct
 import sys
 import unittest
@@ -94,14 +95,61 @@ def level(**elements):
 
 class Values(unittest.TestCase):
     def test_decimals(self):
-        good = {".5": 500, "5.": 5000, "-.5": -500, "+1": 1000, "000001": 1000, "-0": 0, "000000.000": 0, "1.25": 1250,
-                "-12.034": -12034, "999999.999": 999999999, "-.05": -50, "0.1": 100, "+.001": 1, "40": 40000}
+        good = {".5": 500_000, "5.": 5_000_000, "-.5": -500_000, "+1": 1_000_000, "000001": 1_000_000, "-0": 0, "000000.000": 0,
+                "1.25": 1_250_000, "-12.034": -12_034_000, "999999.999": 999_999_999_000, "-.05": -50_000, "0.1": 100_000, "+.001": 1000,
+                "40": 40_000_000, "2.048E3": 2_048_000_000, "1.0000": 1_000_000, "0000001": 1_000_000, "1E1": 10_000_000, "1e-1": 100_000,
+                "5.E3": 5_000_000_000, ".5E3": 500_000_000, "-.5e+3": -500_000_000, "0.000001": 1, "-1E-6": -1, "10E-7": 1, "0.0000010": 1,
+                "999999.999999": 999_999_999_999, "9999999999990E-7": 999_999_999_999, "-9.99999999999E5": -999_999_999_999,
+                "0E99999999999999": 0, "-0E9999999999999": 0, "0E-9999999999999": 0, "1E00000000000005": 100_000_000_000,
+                "1E-0000000000006": 1, "0000000000000001": 1_000_000, "1.00000000000000": 1_000_000, "123456.654321": 123_456_654_321}
         for word, number in good.items():
-            self.assertEqual(values.thousandths(word.encode()), number, word)
-        for word in (".", "+", "+.", "-", "", "0000001", "1.0000", "1E1", "4 0", " 4", "1.2.3", "++1", "+-1", "1-", "\n1", "1\n"):
-            self.assertIsNone(values.thousandths(word.encode()), word)
-        self.assertIsNone(values.thousandths("\u0661".encode()))
-        self.assertIsNone(values.thousandths(None))
+            self.assertEqual(values.millionths(word.encode()), number, word)
+        for word in (".", "+", "+.", "-", "", "4 0", " 4", "1.2.3", "++1", "+-1", "1-", "\n1", "1\n", "E", "E1", ".E1", "1E", "1E+", "1E1.0", "1E1E1",
+                     "00000000000000001", "1.000000000000000", "1E000000000000005", "0E999999999999999", "1E6", "-1E6", "1000000",
+                     "1000000000000E-6", "1E-7", "0.0000001", "999999.9999999", "1E99999999999999", "1E-9999999999999", "15E-7", "1E7", "1_0",
+                     "1D1", "inf", "nan"):
+            self.assertIsNone(values.millionths(word.encode()), word)
+        self.assertIsNone(values.millionths("\u0661".encode()))
+        self.assertIsNone(values.millionths(None))
+
+    def test_what_was_read_before(self):
+        """Q-2: what rule 30 read until now it still reads, and n thousandths are 1000 n millionths. All of up to 3 and 3 digits."""
+        digits = ("", "0", "7", "05", "40", "000", "999")
+        for sign in ("", "+", "-"):
+            for whole in (*digits, "000001", "999999"):
+                for fraction in (None, *digits):
+                    if whole or fraction:
+                        old = int(whole or "0") * 1000 + int((fraction or "").ljust(3, "0"))
+                        word = sign + whole + ("" if fraction is None else "." + fraction)
+                        self.assertEqual(values.millionths(word.encode()), (-1000 if sign == "-" else 1000) * old, word)
+
+    def test_decimals_as_python_reads_them(self):
+        """Strings over the characters of a DS, against the fractions of Python's own reader."""
+        rng = random.Random(11)
+        good = 0
+        for _ in range(20_000):
+            word = "".join(rng.choice("0123456789+-.Ee") for _ in range(rng.randrange(1, 9)))
+            if rng.random() < 0.5:
+                word = f"{rng.choice(('', '-', '+'))}{rng.randrange(10 ** rng.randrange(1, 8))}.{rng.randrange(1000)}E{rng.randrange(-9, 9)}"
+            if re.search("[Ee][+-]?[0-9]{3}", word):
+                continue  # Python works the power out
+            try:
+                exact = Fraction(word) if len(word) <= 16 else None
+            except ValueError:
+                exact = None
+            count = None if exact is None or abs(exact) >= 10 ** 6 or (exact * 10 ** 6).denominator != 1 else int(exact * 10 ** 6)
+            self.assertEqual(values.millionths(word.encode()), count, word)
+            good += count is not None
+        self.assertGreater(good, 4000)
+
+    def test_written_decimals(self):
+        """The generator's ways to write a number are read as that number."""
+        rng = random.Random(9)
+        for _ in range(3000):
+            count = rng.choice((0, 1, 999_999_999_999, rng.randrange(10 ** rng.randrange(1, 13)))) * rng.choice((1, -1))
+            word = xa.written(rng, count)
+            self.assertEqual(values.millionths(word.encode()), count, word)
+            self.assertEqual(values.millionths(xa.plain(count).encode()), count, word)
 
     def test_integers(self):
         for word, number in {"3": 3, "+3": 3, "-3": -3, "00000000003": 3, "+0": 0, "99999999999": 99999999999}.items():
@@ -228,7 +276,7 @@ def window_group(center, width):
 
 class Drawing(unittest.TestCase):
     def test_sample_windows(self):
-        levels = lambda center, width, samples: [drawing.level(x, center * 1000, width * 1000) for x in samples]
+        levels = lambda center, width, samples: [drawing.level(x, center * values.UNIT, width * values.UNIT) for x in samples]
         self.assertEqual(levels(50, 1, (49, 50)), [0, 255])
         self.assertEqual(levels(40, 10, (35, 36, 40, 44, 45)), [0, 28, 142, 255, 255])
         self.assertEqual(drawing.shown(142, b"MONOCHROME1"), 113)
@@ -243,14 +291,16 @@ class Drawing(unittest.TestCase):
         self.assertEqual(drawing.draw(root_of(small_object((0, 128, 255), 1, 1, 3)), 1), (False, bytes((0, 128, 255))))
 
     def test_other_windows(self):
-        # C = 40.5, W = 2: 2000x <= 79000 gives 0, 2000x > 81000 gives 255. 40: (255 * 1000 + 1000) / 2000 = 128.
-        self.assertEqual([drawing.level(x, 40500, 2000) for x in (39, 40, 41)], [0, 128, 255])
-        # A wide window: W = 1000.5, C = -1: x = 0 gives (255 * 1002500 + 999500) / 1999000 = 128.38.
-        self.assertEqual(drawing.level(0, -1000, 1000500), 128)
-        self.assertEqual(drawing.level(-502, -1000, 1000500), 0)
+        # C = 40.5, W = 2, in ones: 2x <= 79 gives 0, 2x > 81 gives 255. 40: (255 * 1 + 1) / 2 = 128.
+        self.assertEqual([drawing.level(x, 40_500_000, 2_000_000) for x in (39, 40, 41)], [0, 128, 255])
+        # A wide window: W = 1000.5, C = -1: x = 0 gives (255 * 1002.5 + 999.5) / 1999 = 128.38.
+        self.assertEqual(drawing.level(0, -1_000_000, 1_000_500_000), 128)
+        self.assertEqual(drawing.level(-502, -1_000_000, 1_000_500_000), 0)
+        # W = 1.000255: a level for each millionth. C = 10.5: at 10, 2ux - 2C + W is 255, so (255 * 255 + 255) / 510 = 128.
+        self.assertEqual([drawing.level(10, 10_500_000 + more, 1_000_255) for more in (-1, 0, 1, 127, 128)], [129, 128, 127, 1, 0])
         # Widths under 1 never divide.
-        for width in (0, 999, -5000):
-            self.assertEqual({drawing.level(x, 10000, width) for x in range(-20, 40)}, {0, 255})
+        for width in (0, 1, 999_999, -5_000_000):
+            self.assertEqual({drawing.level(x, 10_000_000, width) for x in range(-20, 40)}, {0, 255})
 
     def test_sample_average(self):
         self.assertEqual(drawing.average([90, 91]), 91)
@@ -356,7 +406,7 @@ class Drawing(unittest.TestCase):
         self.assertEqual(drawing.draw(root_of(model), 1), (False, bytes((0, 255))))
 
     def test_no_bits_stored(self):
-        """Every cell is 0, and a masked x is 1/2: in the full window, C 500 and W 1000, and in C 0, W 10000."""
+        """Every cell is 0, and a masked x is 1/2: in the full window, C 1/2 and W 1, and in C 0, W 10."""
         for masks, full, middle in ((), 0, 142), (("AVG_SUB",), 255, 156):
             model = small_object((1, 2), 1, 1, 2, masks=masks, ranges=False, shifts=False)
             model[xa.BITS_STORED] = xa.us(0)

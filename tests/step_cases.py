@@ -48,7 +48,7 @@ def shift_words(chosen):
 def window_words(window):
     center, width = window
     if center != int(center):
-        raise ValueError("a centre that is no whole number of thousandths")
+        raise ValueError("a centre that is no whole number of millionths")
     return numbers(int(center), width)
 
 
@@ -125,8 +125,8 @@ def usual(rule):
             "masks": () if rule == 30 else ("AVG_SUB", "TID"), "extras": False}
 
 
-# Rules that many changes alike break: of these every second, third or fourth is taken, since the cases below have the rest.
-STRIDE = {30: 4, 32: 2, 35: 4, 36: 2, 37: 3}
+# Rules that many changes alike break: of these only some are taken, since the cases below have the rest.
+STRIDE = {30: 6, 32: 2, 35: 4, 36: 2, 37: 4}
 
 
 def is_taken(rule, number):
@@ -229,7 +229,7 @@ SEVERAL = sq({xa.RANGE: us(3, 3), xa.OPERATION: text("CS", "NONE")}, {xa.RANGE: 
 SPECIAL = [
     ("base", (), 0, "size 1 2 1 8 inverse no pixels 6"),
     ("frame 0", (), 1, "frame 0 part item 1 AVG_SUB masks 1 3 tid native shift - window -"),
-    ("frame 1", (), 2, "frame 1 whole item 1 AVG_SUB masks 1 3 tid native shift none 0 0 window 128000 256000"),
+    ("frame 1", (), 2, "frame 1 whole item 1 AVG_SUB masks 1 3 tid native shift none 0 0 window 128000000 256000000"),
     ("frame 4, without an item", (), 5, "frame 4 part item 1 AVG_SUB masks 1 3 tid 3 shift lacks window lacks"),
     # Frames and samples (D-2, D-3, D-8).
     ("a frame beyond N", (root({xa.NUMBER_OF_FRAMES: text("IS", "1")}),), 4, "frame 3 whole item 1 AVG_SUB masks 1 3 tid native"),
@@ -253,11 +253,11 @@ SPECIAL = [
     ("65535 × 65535 samples of 8191 bytes", (root({xa.ROWS: us(65535), xa.COLUMNS: us(65535), xa.BITS_ALLOCATED: us(65528)}),), 2, "frame 1 part"),
     ("Bits Stored 0", (root({xa.BITS_STORED: us(0)}),), 0, "size 1 2 1 0"),
     ("Bits Stored 0, masked", (root({xa.BITS_STORED: us(0)}),), 2, "item 1 AVG_SUB masks 1 3"),
-    ("Bits Stored 0, window", (root({xa.BITS_STORED: us(0)}),), 2, "window 500 1000"),
-    ("Bits Stored 0, native", (root({xa.BITS_STORED: us(0), xa.MASKS: None}),), 2, "frame 1 whole native window 500 1000"),
-    ("Bits Stored 0, VOI", (root({xa.BITS_STORED: us(0)}), own({xa.VOI: sq(window("0", "2"))})), 2, "window 0 2000"),
-    ("Bits Stored 1", (root({xa.BITS_STORED: us(1)}),), 2, "window 1000 2000"),
-    ("Bits Stored 16", (root({xa.BITS_STORED: us(16)}),), 2, "window 32768000 65536000"),
+    ("Bits Stored 0, window", (root({xa.BITS_STORED: us(0)}),), 2, "window 500000 1000000"),
+    ("Bits Stored 0, native", (root({xa.BITS_STORED: us(0), xa.MASKS: None}),), 2, "frame 1 whole native window 500000 1000000"),
+    ("Bits Stored 0, VOI", (root({xa.BITS_STORED: us(0)}), own({xa.VOI: sq(window("0", "2"))})), 2, "window 0 2000000"),
+    ("Bits Stored 1", (root({xa.BITS_STORED: us(1)}),), 2, "window 1000000 2000000"),
+    ("Bits Stored 16", (root({xa.BITS_STORED: us(16)}),), 2, "window 32768000000 65536000000"),
     ("Bits Stored 17", (root({xa.BITS_STORED: us(17)}),), 0, "size 1 2 1 17"),
     ("Bits Stored 17, window", (root({xa.BITS_STORED: us(17)}),), 2, "window -"),
     ("no Pixel Data", (root({xa.PIXEL_DATA: None}),), 0, "pixels lacks"),
@@ -317,7 +317,7 @@ SPECIAL = [
     ("two shared items", (root({xa.SHARED: sq({}, {})}),), 2, "shift lacks window lacks"),
     ("shared groups of VR UN", (root({xa.SHARED: ("UN", b"")}),), 2, "shift lacks window lacks"),
     ("no shared item, groups in the frame", (root({xa.SHARED: sq()}), own({xa.VOI: sq(window("1", "2")), xa.FRAME_SHIFT: sq(pair(1, 5.0, 6.0))}),
-                                             mask_id(1)), 2, "shift frame 20 24 window 1000 2000"),
+                                             mask_id(1)), 2, "shift frame 20 24 window 1000000 2000000"),
     ("item 2 missing", (root({xa.PER_FRAME: sq({})}),), 3, "shift lacks window lacks"),
     ("per-frame groups absent", (root({xa.PER_FRAME: None}),), 2, "shift lacks window lacks"),
     ("per-frame groups of VR OB", (root({xa.PER_FRAME: ("OB", bytes(8))}),), 2, "shift lacks window lacks"),
@@ -352,26 +352,33 @@ SPECIAL = [
     ("a shared group", (mask_id(7), shared({xa.FRAME_SHIFT: sq(pair(7, 5.0, 6.0))})), 4, "shift frame 20 24"),
     ("a shared group, hidden", (mask_id(7), shared({xa.FRAME_SHIFT: sq(pair(7, 5.0, 6.0))}), own({xa.FRAME_SHIFT: ("LO", b"")}, 3)), 4, "shift lacks"),
     # Windows (D-6).
-    ("window", (windowed("40", "400"),), 2, "window 40000 400000"),
-    ("window of the shared group", (shared({xa.VOI: sq(window("-.5", "+1.25"))}),), 2, "window -500 1250"),
+    ("window", (windowed("40", "400"),), 2, "window 40000000 400000000"),
+    ("window of the shared group", (shared({xa.VOI: sq(window("-.5", "+1.25"))}),), 2, "window -500000 1250000"),
     ("window of the shared group, hidden", (shared({xa.VOI: sq(window("1", "2"))}), own({xa.VOI: ("UN", b"")})), 2, "window lacks"),
     ("VOI group empty", (voi(),), 2, "window lacks"),
     ("VOI group of two items", (voi(window("1", "2"), window("1", "2")),), 2, "window lacks"),
     ("VOI item empty", (voi({}),), 2, "window lacks"),
     ("no width", (voi({xa.CENTER: text("DS", "1")}),), 2, "window lacks"),
     ("no centre", (voi({xa.WIDTH: text("DS", "1")}),), 2, "window lacks"),
-    ("width 0", (windowed("40", "0"),), 2, "window 40000 0"),
-    ("width negative", (windowed("40", "-7.5"),), 2, "window 40000 -7500"),
+    ("width 0", (windowed("40", "0"),), 2, "window 40000000 0"),
+    ("width negative", (windowed("40", "-7.5"),), 2, "window 40000000 -7500000"),
     ("centre -0", (windowed("-0", "-0"),), 2, "window 0 0"),
     ("centre empty", (windowed("", "1"),), 2, "window lacks"),
     ("centre blank", (windowed("  ", "1"),), 2, "window lacks"),
     ("centre of VR IS", (voi({xa.CENTER: text("IS", "1"), xa.WIDTH: text("DS", "1")}),), 2, "window lacks"),
-    ("first values good, others not", (windowed("1\\x", "0.001\\\\8"),), 2, "window 1000 1"),
-    ("first centre bad", (windowed("1E1\\1", "1\\1"),), 2, "window lacks"),
+    ("first values good, others not", (windowed("1\\x", "0.001\\\\8"),), 2, "window 1000000 1000"),
+    ("first centre bad", (windowed("1E\\1", "1\\1"),), 2, "window lacks"),
     ("first width bad", (windowed("1", ".\\1"),), 2, "window lacks"),
-    ("seven digits", (windowed("0000001", "1"),), 2, "window lacks"),
-    ("four decimals", (windowed("1", "1.0000"),), 2, "window lacks"),
-    ("largest", (windowed("-999999.999", "999999.999"),), 2, "window -999999999 999999999"),
+    ("seven digits", (windowed("0000001", "1"),), 2, "window 1000000 1000000"),
+    ("four decimals", (windowed("1", "1.0000"),), 2, "window 1000000 1000000"),
+    ("an exponent", (windowed("2.048E3", "4.096e+03"),), 2, "window 2048000000 4096000000"),
+    ("six decimals", (windowed("-.000001", "123456.654321"),), 2, "window -1 123456654321"),
+    ("zero with a large exponent", (windowed("0E99999999999999", "-0E-999999999999"),), 2, "window 0 0"),
+    ("a small exponent", (windowed("9999999999990E-7", "1E-6"),), 2, "window 999999999999 1"),
+    ("a long exponent", (windowed("1E00000000000005", "1E-0000000000006"),), 2, "window 100000000000 1"),
+    ("16 characters in spaces", (windowed("  1.00000000000000  ", " 0000000000000001"),), 2, "window 1000000 1000000"),
+    ("largest", (windowed("-999999.999999", "9.99999999999E5"),), 2, "window -999999999999 999999999999"),
+    ("largest of three decimals", (windowed("-999999.999", "999999.999"),), 2, "window -999999999000 999999999000"),
     # Photometric Interpretation (D-7).
     ("MONOCHROME1", (root({xa.PHOTOMETRIC: text("CS", " MONOCHROME1 ")}),), 0, "inverse yes"),
     ("RGB", (root({xa.PHOTOMETRIC: text("CS", "RGB")}),), 0, "inverse no"),
@@ -382,9 +389,10 @@ SPECIAL = [
     ("of VR LO", (root({xa.PHOTOMETRIC: text("LO", "MONOCHROME1")}),), 0, "inverse lacks"),
     ("absent", (root({xa.PHOTOMETRIC: None}),), 0, "inverse lacks"),
 ]
-for word in BAD_DECIMALS:
-    SPECIAL.append((f"centre {word!r}", (windowed(word + "\\1", "1"),), 2, "window lacks"))
-    SPECIAL.append((f"width {word!r}", (windowed("1", word + "\\1"),), 2, "window lacks"))
+for number, word in enumerate(BAD_DECIMALS):
+    as_center = (f"centre {word!r}", (windowed(word + "\\1", "1"),), 2, "window lacks")
+    as_width = (f"width {word!r}", (windowed("1", word + "\\1"),), 2, "window lacks")
+    SPECIAL.append(as_width if number % 2 else as_center)
 for name, value in BAD_IDS.items():
     SPECIAL.append((f"ID of the mask item {name}", (mask({xa.ITEM_ID: value}), moved_by(pair(1, 2.0, 2.0))), 2, "shift lacks"))
     its_id = {} if value is None else {xa.ITEM_ID: value}

@@ -85,8 +85,8 @@ fn frame_item(frame: usize, with_window: bool) -> Vec<u8> {
         0x0020_9111, // Frame Content
         &[item(&[text(0x0018_9074, "DT", &format!("202403050500{:02}.{:03}", frame / 4, frame % 4 * 250))])],
     )];
-    // Mask frames are drawn as they are, the others as differences from the mask.
-    let (center, width) = if frame <= MASKS { ("1900", "2400") } else { ("1931", "800") };
+    // Mask frames are drawn as they are, the others as differences from the mask. A DS number may have an exponent.
+    let (center, width) = if frame <= MASKS { ("2.048E3", "2400") } else { ("1931", "800") };
     let mut window = vec![text(0x0028_1050, "DS", center)];
     if with_window {
         window.push(text(0x0028_1051, "DS", width));

@@ -1,4 +1,4 @@
-"""Drawing frame f: document 01, steps 1 to 7, with Q-4 of document 02, computed with whole numbers and fractions.
+"""Drawing frame f: document 01, steps 1 to 7, with Q-2 and Q-4 of document 02, computed with whole numbers and fractions.
 
 The steps are defined for every data set that reads well, accepted or not, so no rule is taken for granted here: what a
 step needs and does not find raises Lacking. A step that is not taken needs nothing.
@@ -11,7 +11,7 @@ from typing import NamedTuple
 from . import attributes as tags
 from .answers import BUFFER_TOO_SMALL, DONE, NO_SUCH_FRAME, Answer, Outcome
 from .rules import judge_with_root
-from .values import integer, items_of, thousandths, whole_quarters
+from .values import UNIT, integer, items_of, millionths, whole_quarters
 
 NO_SHIFT = (0, 0)
 
@@ -260,31 +260,31 @@ def subtracted(sample, mask, stored):
 
 
 def window(root, frame, stored):
-    """Step 6. The first centre and width in thousandths are C, W; without a VOI group 1000 × 2^(stored - 1) and
-    1000 × 2^stored."""
+    """Step 6. The first centre and width in millionths are C, W; without a VOI group 1,000,000 × 2^(stored - 1) and
+    1,000,000 × 2^stored (Q-2)."""
     group = frame_group(root, frame, tags.FRAME_VOI_LUT_SEQUENCE)
     if group is None:
-        return 1000 * half_of_range(stored), 1000 * 2 ** stored
+        return UNIT * half_of_range(stored), UNIT * 2 ** stored
     items = needed(items_of(root.data, group), "Frame VOI LUT of VR SQ")
     if len(items) != 1:
         raise Lacking("the one item of Frame VOI LUT")
     centers = needed(items[0].texts(tags.WINDOW_CENTER, "DS"), "Window Center")
     widths = needed(items[0].texts(tags.WINDOW_WIDTH, "DS"), "Window Width")
-    return needed(thousandths(centers[0]), "a centre"), needed(thousandths(widths[0]), "a width")
+    return needed(millionths(centers[0]), "a centre"), needed(millionths(widths[0]), "a width")
 
 
 def level(x, center, width):
-    """Step 6. y = 0 if 2000x ≤ 2C - W; 255 if 2000x > 2C + W - 2000; else floor((255(2000x - 2C + W) + W - 1000) /
-    (2(W - 1000))). Then y is limited to 0..255."""
-    if 2000 * x <= 2 * center - width:
+    """Step 6, with u = 1,000,000 for 1000 (Q-2). y = 0 if 2ux ≤ 2C - W; 255 if 2ux > 2C + W - 2u; else
+    floor((255(2ux - 2C + W) + W - u) / (2(W - u))). Then y is limited to 0..255."""
+    if 2 * UNIT * x <= 2 * center - width:
         y = 0
-    elif 2000 * x > 2 * center + width - 2000:
+    elif 2 * UNIT * x > 2 * center + width - 2 * UNIT:
         y = 255
     else:
-        divisor = 2 * (width - 1000)
+        divisor = 2 * (width - UNIT)
         if divisor <= 0:
             raise Lacking("a divisor above 0")
-        y = floor(Fraction(255 * (2000 * x - 2 * center + width) + width - 1000, divisor))
+        y = floor(Fraction(255 * (2 * UNIT * x - 2 * center + width) + width - UNIT, divisor))
     return limited(y, 0, 255)
 
 

@@ -8,7 +8,7 @@ docstrings are the paper's words.
 from . import attributes as tags
 from .answers import DONE, RULE_BROKEN, Answer
 from .reading import read_with_elements
-from .values import Level, integer, items_of, thousandths
+from .values import UNIT, Level, integer, items_of, millionths
 
 XA_STORAGE = b"1.2.840.10008.5.1.4.1.1.12.1.1"
 XRF_STORAGE = b"1.2.840.10008.5.1.4.1.1.12.2.1"
@@ -256,8 +256,7 @@ def rule_29(root, frame):
 
 def rule_30(root, frame):
     """Per frame: Frame VOI LUT (0028,9132), if present, one item; has Window Center (0028,1050) and Width (0028,1051)
-    DS, equally many, each optional sign, up to 6 digits, then optionally a point and up to 3 digits, at least one digit
-    in all (D); widths at least 1."""
+    DS, equally many, each a whole count of millionths, below one million in size (Q-2); widths at least 1."""
     group = frame_group(root, frame, tags.FRAME_VOI_LUT_SEQUENCE)
     if group is None:
         return True
@@ -268,9 +267,9 @@ def rule_30(root, frame):
     widths = items[0].texts(tags.WINDOW_WIDTH, "DS")
     if centers is None or widths is None or len(centers) != len(widths):
         return False
-    if any(thousandths(text) is None for text in centers + widths):
+    if any(millionths(text) is None for text in centers + widths):
         return False
-    return all(thousandths(text) >= 1000 for text in widths)
+    return all(millionths(text) >= UNIT for text in widths)
 
 
 def rule_31(root):

@@ -101,7 +101,9 @@ def trimmed(part, vr):
 
 
 INTEGER_FORM = re.compile(rb"[+-]?[0-9]{1,11}")
-DECIMAL_FORM = re.compile(rb"([+-]?)([0-9]{0,6})(?:\.([0-9]{0,3}))?")
+DECIMAL_FORM = re.compile(rb"([+-]?)([0-9]*)(?:\.([0-9]*))?(?:[Ee]([+-]?[0-9]+))?")
+DECIMAL_CHARACTERS = 16
+UNIT = 1_000_000  # millionths: what a DS is counted in, to one
 
 
 def integer(text):
@@ -111,16 +113,33 @@ def integer(text):
     return int(text)
 
 
-def thousandths(text):
-    """A DS value in thousandths; None if it has another form.
+def decimal(text):
+    """The exact number of a DS value, in full (Q-2): "at most 16 characters without outer spaces, sign, digits, point,
+    exponent, a digit or more before the exponent (E or e, then a sign or none) and in it".
 
-    The form: optional sign, up to 6 digits, then optionally a point and up to 3 digits, at least one digit in all.
+    None if it has another form, or is too large or too fine for `millionths`: its power of ten is not worked out then.
     """
-    match = None if text is None else DECIMAL_FORM.fullmatch(text)
+    match = DECIMAL_FORM.fullmatch(text) if len(text) <= DECIMAL_CHARACTERS else None
     if match is None:
         return None
-    sign, whole, fraction = match.group(1), match.group(2), match.group(3) or b""
+    sign, whole, fraction, exponent = match.group(1), match.group(2), match.group(3) or b"", match.group(4) or b"0"
     if not whole + fraction:
         return None
-    size = int(whole or b"0") * 1000 + int(fraction.ljust(3, b"0"))
-    return -size if sign == b"-" else size
+    digits = int(whole + fraction)
+    power = int(exponent) - len(fraction)
+    if digits == 0:
+        return Fraction(0)
+    # 1 <= digits < 10^16. Above 6 the number is at least 10^7; below -22 it is under 10^-6 and not 0.
+    if not -22 <= power <= 6:
+        return None
+    number = digits * Fraction(10) ** power
+    return -number if sign == b"-" else number
+
+
+def millionths(text):
+    """A DS value in millionths. "Its exact number must be a whole count of millionths, below one million in size": None if
+    it is not, or has another form."""
+    number = None if text is None else decimal(text)
+    if number is None or (number * UNIT).denominator != 1 or not abs(number) < 1_000_000:
+        return None
+    return int(number * UNIT)

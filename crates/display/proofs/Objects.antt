@@ -381,7 +381,7 @@ object ns small ok =
 -- ---- Rule 30: the window
 
 -- A test of every value holds of the first.
-all-first : (p : List ℕ → Bool) (v : List ℕ) → all p (valuesOf v) ≡ true → p (valueOf v 0) ≡ true
+pub all-first : (p : List ℕ → Bool) (v : List ℕ) → all p (valuesOf v) ≡ true → p (valueOf v 0) ≡ true
 unfolding all
 all-first p v e = go (valuesOf v) (values-some v) e
   where

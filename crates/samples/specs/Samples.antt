@@ -241,3 +241,10 @@ samples =
     ∷ takes (threeFrames (tid minusOne) 10 30 60) 2 (masked (3 ∷ []) unmoved)
     ∷ shows (threeFrames (tid minusOne) 10 30 60) 3 lent (shownNative 35) (60 ∷ 9 ∷ 9 ∷ 9 ∷ 9 ∷ 9 ∷ 9 ∷ 9 ∷ [])
     ∷ []
+
+-- Cases of later requests, of our own.
+abbrev pub later : List Sample
+later =
+    -- Q-2: the window of centre 40 and width 10, its numbers written with exponents.
+    shows (oneFrame "MONOCHROME2 " "IDENTITY" (voi "4E1 " "100.0e-1") widthTen) 1 lent (shownNative 29) (0 ∷ 28 ∷ 142 ∷ 255 ∷ 255 ∷ 9 ∷ 9 ∷ 9 ∷ [])
+    ∷ []

@@ -112,7 +112,7 @@ pub fn print_shift(shift: Shifts) {
     }
 }
 
-// Step 6: the centre and the width, in thousandths.
+// Step 6: the centre and the width, in units of a DS number.
 pub fn print_window(window: Windowed) {
     match window {
         Windowed::Is(w) => {

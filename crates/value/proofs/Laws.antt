@@ -1,22 +1,22 @@
 -- For callers: what a bound says of a number that was matched, bounds of the text forms, and the values of a US.
 use mathlib.Core.Path.{_≡_, refl, ap, _∙_, subst}
-use Prim.Native.Nat.{ℕ, zero, suc, _+_, _-_, _*_, _^_, _/_, _≤_, _<_}
+use Prim.Native.Nat.{ℕ, zero, suc, _+_, _-_, _*_, _^_, _/_, _%_, _≤_, _<_}
 use native.Mathlib.Omega.{arith}
-use native.Mathlib.Nat.{one-le-pow}
 use native.Mathlib.Numerals.{add-one}
 use mathlib.Core.List.{List, [], _∷_}
 use mathlib.Core.Bool.{Bool, true, false, cond}
 use lib.ListN.{length, getD}
-use lib.Dec.{eqb}
+use lib.Dec.{eqb, leb, ltb}
+use borrow.Author.Tests.{ltb-true}
 use Rattle.dataset.specs.Bytes.{le16}
 use Rattle.value.specs.declared.Num.{Num}
 use Rattle.value.specs.declared.Num.the-variants as num
 use Rattle.value.specs.declared.Signed.{Signed}
 use Rattle.value.specs.declared.Signed.the-variants as signed
 use Rattle.value.specs.Text.{isSingle, valueOf, trimmed}
-use Rattle.value.specs.Number.{Digits, usValues, digitsOf, plus, minus, signedBy, wholeOn, wholeOf, isOf, decimals, unit, pointOn, pointBy, fractionOn, sizeOf, decimalOf}
+use Rattle.value.specs.Number.{Digits, usValues, digitsOf, plus, minus, signedBy, wholeOn, wholeOf, isOf, decimals, sizeLimit, characters, runOf, within, exactOf, scaledBy, isMark, exponentOf, endOf, pointBy, fractionOn, sizeOf, decimalOf}
 use Rattle.value.specs.Said.{Below, SizeBelow}
-use Rattle.value.proofs.Runs.{digits-size, digits-below}
+use Rattle.value.proofs.Runs.{digits-below}
 
 -- ---- A number that was matched
 
@@ -56,36 +56,47 @@ whole-on : (n : ℕ) (d : Digits) (rest : List ℕ) → d .number < n → Below 
 whole-on n d [] h = by-flag n (d .number) (eqb (d .count) 0) h
 whole-on n d (c ∷ s) h = tt
 
-pub whole-below : (s : List ℕ) → Below 100000000000 (wholeOf s)
+pub whole-below : (limit : ℕ) (s : List ℕ) → Below (10 ^ limit) (wholeOf limit s)
 unfolding wholeOf
-whole-below s = whole-on 100000000000 (digitsOf 11 0 0 s) (digitsOf 11 0 0 s .rest) (digits-below 11 0 s)
+whole-below limit s = whole-on (10 ^ limit) (digitsOf limit 0 0 s) (digitsOf limit 0 0 s .rest) (omega (arith, digits-below limit 0 s))
 
-grown : (m p a b : ℕ) → 1 ≤ p → (m + 1) * p ≤ a → a ≤ b → m * p < b
-grown m p a b q h l = omega arith
+within-below : (n : ℕ) → Below sizeLimit (within n)
+within-below n = go (ltb n sizeLimit) refl
+  where
+    go : (t : Bool) → ltb n sizeLimit ≡ t → Below sizeLimit (cond t (num.Is n) num.Lacks)
+    go true e = ltb-true n sizeLimit e
+    go false e = tt
 
--- With decimals, in the unit.
-pub point-size : (whole : ℕ) (s : List ℕ) → whole < 1000000 → digitsOf decimals whole 0 s .number * 10 ^ (decimals - digitsOf decimals whole 0 s .count) < 1000000000
-point-size whole s h =
-    grown (digitsOf decimals whole 0 s .number) (10 ^ (decimals - digitsOf decimals whole 0 s .count)) ((whole + 1) * 10 ^ decimals) 1000000000
-    (one-le-pow (decimals - digitsOf decimals whole 0 s .count) 10 (omega arith)) (digits-size decimals whole 0 s) (omega arith)
+by-test : (n : ℕ) (t : Bool) (a b : Num) → Below n a → Below n b → Below n (cond t a b)
+by-test n true a b p q = p
+by-test n false a b p q = q
 
-point-on : (whole count : ℕ) (s rest : List ℕ) → whole < 1000000 → Below 1000000000 (pointOn count (digitsOf decimals whole 0 s) rest)
-point-on whole count s [] h = by-flag 1000000000 (digitsOf decimals whole 0 s .number * 10 ^ (decimals - digitsOf decimals whole 0 s .count)) (eqb (count + digitsOf decimals whole 0 s .count) 0) (point-size whole s h)
-point-on whole count s (c ∷ t) h = tt
+exact-below : (m up down : ℕ) → Below sizeLimit (exactOf m up down)
+unfolding exactOf
+exact-below m up down = by-test sizeLimit (eqb (m * 10 ^ up % 10 ^ down) 0) (within (m * 10 ^ up / 10 ^ down)) num.Lacks (within-below (m * 10 ^ up / 10 ^ down)) tt
 
-by-point : (t : Bool) (r : Num) → Below 1000000000 r → Below 1000000000 (cond t r num.Lacks)
-by-point true r h = h
-by-point false r h = tt
+scaled-below : (m after : ℕ) (e : Signed) → Below sizeLimit (scaledBy m after e)
+scaled-below m after (signed.Plus e) = exact-below m (decimals + e) after
+scaled-below m after (signed.Minus e) = exact-below m decimals (after + e)
+scaled-below m after signed.Lacks = tt
 
-fraction-on : (d : Digits) (rest : List ℕ) → d .number < 1000000 → Below 1000000000 (fractionOn d rest)
-fraction-on d [] h = by-flag 1000000000 (d .number * unit) (eqb (d .count) 0) (omega arith)
-fraction-on d (c ∷ s) h =
-    by-point (eqb c 0x2E) (pointBy (d .count) (digitsOf decimals (d .number) 0 s))
-    (point-on (d .number) (d .count) s (digitsOf decimals (d .number) 0 s .rest) h)
+end-below : (count m after : ℕ) (s : List ℕ) → Below sizeLimit (endOf count m after s)
+unfolding endOf
+end-below count m after [] = by-test sizeLimit (eqb count 0) num.Lacks (scaledBy m after (signed.Plus 0)) tt (scaled-below m after (signed.Plus 0))
+end-below count m after (c ∷ s) =
+    by-test sizeLimit (eqb count 0) num.Lacks (cond (isMark c) (scaledBy m after (exponentOf s)) num.Lacks) tt
+    (by-test sizeLimit (isMark c) (scaledBy m after (exponentOf s)) num.Lacks (scaled-below m after (exponentOf s)) tt)
 
-pub size-below : (s : List ℕ) → Below 1000000000 (sizeOf s)
+fraction-on : (d : Digits) (rest : List ℕ) → Below sizeLimit (fractionOn d rest)
+fraction-on d [] = end-below (d .count) (d .number) 0 []
+fraction-on d (c ∷ s) =
+    by-test sizeLimit (eqb c 0x2E) (pointBy (d .count) (runOf (d .number) s)) (endOf (d .count) (d .number) 0 (c ∷ s))
+    (end-below (d .count + runOf (d .number) s .count) (runOf (d .number) s .number) (runOf (d .number) s .count) (runOf (d .number) s .rest))
+    (end-below (d .count) (d .number) 0 (c ∷ s))
+
+pub size-below : (s : List ℕ) → Below sizeLimit (sizeOf s)
 unfolding sizeOf
-size-below s = fraction-on (digitsOf 6 0 0 s) (digitsOf 6 0 0 s .rest) (digits-below 6 0 s)
+size-below s = fraction-on (runOf 0 s) (runOf 0 s .rest)
 
 plus-below : (n : ℕ) (r : Num) → Below n r → SizeBelow n (plus r)
 plus-below n (num.Is k) h = h
@@ -109,9 +120,15 @@ signed-below n size h (c ∷ s) =
 pub isOf-below : (v : List ℕ) → SizeBelow 100000000000 (isOf v)
 unfolding isOf
 isOf-below v =
-    by-sign 100000000000 (isSingle v) (signedBy wholeOf (trimmed (valueOf v 0))) signed.Lacks
-    (signed-below 100000000000 wholeOf whole-below (trimmed (valueOf v 0))) tt
+    by-sign 100000000000 (isSingle v) (signedBy (wholeOf 11) (trimmed (valueOf v 0))) signed.Lacks
+    (signed-below 100000000000 (wholeOf 11) (whole-below 11) (trimmed (valueOf v 0))) tt
 
-pub decimalOf-below : (v : List ℕ) → SizeBelow 1000000000 (decimalOf v)
+pub exponent-below : (s : List ℕ) → SizeBelow 10000000000000000 (exponentOf s)
+unfolding exponentOf
+exponent-below s = signed-below 10000000000000000 (wholeOf characters) (whole-below characters) s
+
+pub decimalOf-below : (v : List ℕ) → SizeBelow sizeLimit (decimalOf v)
 unfolding decimalOf
-decimalOf-below v = signed-below 1000000000 sizeOf size-below (trimmed v)
+decimalOf-below v =
+    by-sign sizeLimit (leb (length (trimmed v)) characters) (signedBy sizeOf (trimmed v)) signed.Lacks
+    (signed-below sizeLimit sizeOf size-below (trimmed v)) tt

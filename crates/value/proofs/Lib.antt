@@ -3,4 +3,5 @@ pub mod Lists
 pub mod Parts
 pub mod Runs
 pub mod Forms
+pub mod Powers
 pub mod Laws

@@ -1,6 +1,6 @@
 -- Numbers in values: US and SS in binary, IS and DS in text. A read that has no number answers `Lacks`.
-use Prim.Native.Nat.{ℕ, zero, suc, _+_, _-_, _*_, _^_}
-use mathlib.Core.Bool.{Bool, true, false, cond, _&&_}
+use Prim.Native.Nat.{ℕ, zero, suc, _+_, _-_, _*_, _/_, _%_, _^_}
+use mathlib.Core.Bool.{Bool, true, false, cond, _&&_, _||_}
 use mathlib.Core.List.{List, [], _∷_}
 use lib.ListN.{length}
 use lib.Dec.{eqb, leb, ltb}
@@ -65,7 +65,7 @@ signedBy size (c ∷ s) = cond (eqb c 0x2B) (plus (size s)) (cond (eqb c 0x2D) (
 
 -- ---- IS
 
--- Rule 15's form: 1 to 11 digits and nothing after them.
+-- Digits and nothing after them, at least one.
 abbrev pub wholeOn : Digits → List ℕ → Num
 wholeOn d [] = cond (eqb (d .count) 0) num.Lacks (num.Is (d .number))
 wholeOn d (c ∷ s) = num.Lacks
@@ -73,44 +73,84 @@ wholeOn d (c ∷ s) = num.Lacks
 abbrev pub wholeBy : Digits → Num
 wholeBy d = wholeOn d (d .rest)
 
-unfoldable pub wholeOf : List ℕ → Num
-wholeOf s = wholeBy (digitsOf 11 0 0 s)
+-- 1 to `limit` digits and nothing after them.
+unfoldable pub wholeOf : ℕ → List ℕ → Num
+wholeOf limit s = wholeBy (digitsOf limit 0 0 s)
 
--- A single IS.
+-- A single IS: rule 15's form, 1 to 11 digits.
 unfoldable pub isOf : List ℕ → Signed
-isOf v = cond (isSingle v) (signedBy wholeOf (trimmed (valueOf v 0))) signed.Lacks
+isOf v = cond (isSingle v) (signedBy (wholeOf 11) (trimmed (valueOf v 0))) signed.Lacks
 
 -- ---- DS
 
--- The unit of a DS number: it is read in thousandths, that is with 3 decimals.
+-- The unit of a DS number: it is read in millionths, that is with 6 decimals.
 abbrev pub decimals : ℕ
-decimals = 3
+decimals = 6
 
 abbrev pub unit : ℕ
 unit = 10 ^ decimals
 
--- Rule 30's form: up to 6 digits, then optionally a point and up to 3 digits, at least one digit in all.
--- After the point: `whole` digits stood before it, and the decimals that were not written are zeros.
-abbrev pub pointOn : ℕ → Digits → List ℕ → Num
-pointOn whole d [] = cond (eqb (whole + d .count) 0) num.Lacks (num.Is (d .number * 10 ^ (decimals - d .count)))
-pointOn whole d (c ∷ s) = num.Lacks
+-- A DS number is below one million in size: here in units.
+abbrev pub sizeLimit : ℕ
+sizeLimit = 1000000 * unit
 
+-- A DS value has at most 16 characters.
+abbrev pub characters : ℕ
+characters = 16
+
+-- All digits in front, after digits that made n.
+abbrev pub runOf : ℕ → List ℕ → Digits
+runOf n s = digitsOf (length s) n 0 s
+
+-- So many units, where a DS number may be of that size.
+abbrev pub within : ℕ → Num
+within n = cond (ltb n sizeLimit) (num.Is n) num.Lacks
+
+-- n / p, where that is a whole number.
+abbrev pub wholly : ℕ → ℕ → Num
+wholly n p = cond (eqb (n % p) 0) (within (n / p)) num.Lacks
+
+-- The exact number m · 10^up / 10^down, where that is a whole number of units and of a DS number's size.
+unfoldable pub exactOf : ℕ → ℕ → ℕ → Num
+exactOf m up down = wholly (m * 10 ^ up) (10 ^ down)
+
+-- In units: the number m / 10^after · 10^exponent.
+abbrev pub scaledBy : ℕ → ℕ → Signed → Num
+scaledBy m after (signed.Plus e) = exactOf m (decimals + e) after
+scaledBy m after (signed.Minus e) = exactOf m decimals (after + e)
+scaledBy m after signed.Lacks = num.Lacks
+
+-- E or e.
+abbrev pub isMark : ℕ → Bool
+isMark c = eqb c 0x45 || eqb c 0x65
+
+-- What stands after E or e: a sign or none, then a digit or more. (16 digits: no value has more characters.)
+unfoldable pub exponentOf : List ℕ → Signed
+exponentOf s = signedBy (wholeOf characters) s
+
+-- What stands after `count` digits that made m, `after` of them behind the point: nothing, or an exponent.
+unfoldable pub endOf : ℕ → ℕ → ℕ → List ℕ → Num
+endOf count m after [] = cond (eqb count 0) num.Lacks (scaledBy m after (signed.Plus 0))
+endOf count m after (c ∷ s) = cond (eqb count 0) num.Lacks (cond (isMark c) (scaledBy m after (exponentOf s)) num.Lacks)
+
+-- Digits after a point, `before` digits stood before it.
 abbrev pub pointBy : ℕ → Digits → Num
-pointBy whole d = pointOn whole d (d .rest)
+pointBy before d = endOf (before + d .count) (d .number) (d .count) (d .rest)
 
 abbrev pub fractionOn : Digits → List ℕ → Num
-fractionOn d [] = cond (eqb (d .count) 0) num.Lacks (num.Is (d .number * unit))
-fractionOn d (c ∷ s) = cond (eqb c 0x2E) (pointBy (d .count) (digitsOf decimals (d .number) 0 s)) num.Lacks
+fractionOn d [] = endOf (d .count) (d .number) 0 []
+fractionOn d (c ∷ s) = cond (eqb c 0x2E) (pointBy (d .count) (runOf (d .number) s)) (endOf (d .count) (d .number) 0 (c ∷ s))
 
 abbrev pub fractionBy : Digits → Num
 fractionBy d = fractionOn d (d .rest)
 
+-- Digits, then optionally a point and digits, at least one digit in all, then optionally an exponent.
 unfoldable pub sizeOf : List ℕ → Num
-sizeOf s = fractionBy (digitsOf 6 0 0 s)
+sizeOf s = fractionBy (runOf 0 s)
 
--- One value of a DS.
+-- One value of a DS, without outer spaces: at most 16 characters, an optional sign and a size.
 unfoldable pub decimalOf : List ℕ → Signed
-decimalOf v = signedBy sizeOf (trimmed v)
+decimalOf v = cond (leb (length (trimmed v)) characters) (signedBy sizeOf (trimmed v)) signed.Lacks
 
 abbrev pub isNumber : Signed → Bool
 isNumber (signed.Plus n) = true

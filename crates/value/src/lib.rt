@@ -5,7 +5,7 @@ ghost use Prim.Native.Nat.{_+_, _-_, _*_, _^_, _≤_, _<_};
 ghost use lib.ListN.{length, drop, getD};
 ghost use Rattle.value.specs.Text.{equal, valuesOf, valueOf, isSingle, trimStart, trimEnd, trimmed};
 ghost use Rattle.value.specs.Words.{wordAt, isWord, isUid};
-ghost use Rattle.value.specs.Number.{usOf, usValues, ssOf, digitsOf, plus, minus, signedBy, wholeOf, isOf, decimals, pointBy, sizeOf, decimalOf, isNumber, isWidth, allDecimals, allWidths};
+ghost use Rattle.value.specs.Number.{usOf, usValues, ssOf, digitsOf, plus, minus, signedBy, wholeOf, isOf, decimals, unit, sizeLimit, characters, runOf, within, wholly, exactOf, scaledBy, isMark, exponentOf, endOf, pointBy, sizeOf, decimalOf, isNumber, isWidth, allDecimals, allWidths};
 ghost use Rattle.value.specs.Said.{Below, SizeBelow, DigitsRead, partsAt};
 use dataset::u16_at;
 use dataset::wide;
@@ -39,8 +39,17 @@ const MINUS: u8 = 0x2D;
 
 const POINT: u8 = 0x2E;
 
-// The unit of a DS number: a thousandth.
-const UNIT: usize = 1000;
+// The unit of a DS number: a millionth. One is so many units.
+pub const UNIT: usize = 1000000;
+
+// Its decimals.
+const DECIMALS: usize = 6;
+
+// A DS number is below one million.
+const SIZE_LIMIT: usize = 1000000 * UNIT;
+
+// The characters that a DS value may have.
+const CHARACTERS: usize = 16;
 
 // ---- Text
 
@@ -236,7 +245,7 @@ pub fn ss_of(v: &[u8]) -> Signed
 
 // Up to `limit` digits in front, after digits that made `start`.
 fn digits(s: &[u8], limit: usize, start: usize) -> Run
-    requires { ⌜ (start + 1) * 10 ^ limit ≤ 100000000000 ⌝ }
+    requires { ⌜ (start + 1) * 10 ^ limit ≤ 10000000000000000 ⌝ }
     ensures { λ r. ⌜ DigitsRead limit start (now (s .entry)) r ⌝ }
 {
     let mut number = start;
@@ -292,11 +301,12 @@ fn minus(n: Num) -> Signed
 
 // ---- IS
 
-// 1 to 11 digits and nothing after them.
-fn whole_of(s: &[u8]) -> Num
-    ensures { λ r. ⌜ r ≡ wholeOf (now (s .entry)) ⌝ }
+// 1 to `limit` digits and nothing after them.
+fn whole_of(s: &[u8], limit: usize) -> Num
+    requires { ⌜ limit ≤ characters ⌝ }
+    ensures { λ r. ⌜ r ≡ wholeOf limit (now (s .entry)) ⌝ }
 {
-    let d = digits(s, 11, 0);
+    let d = digits(s, limit, 0);
     let n = d.count;
     if n == s.len() {
         if n == 0 {
@@ -310,19 +320,20 @@ fn whole_of(s: &[u8]) -> Num
 }
 
 // The same after an optional sign.
-fn signed_whole(s: &[u8]) -> Signed
-    ensures { λ r. ⌜ r ≡ signedBy wholeOf (now (s .entry)) ⌝ }
+fn signed_whole(s: &[u8], limit: usize) -> Signed
+    requires { ⌜ limit ≤ characters ⌝ }
+    ensures { λ r. ⌜ r ≡ signedBy (wholeOf limit) (now (s .entry)) ⌝ }
 {
     if s.len() == 0 {
-        return plus(whole_of(s));
+        return plus(whole_of(s, limit));
     }
     if s[0] == PLUS {
-        return plus(whole_of(&s[1..]));
+        return plus(whole_of(&s[1..], limit));
     }
     if s[0] == MINUS {
-        return minus(whole_of(&s[1..]));
+        return minus(whole_of(&s[1..], limit));
     }
-    plus(whole_of(s))
+    plus(whole_of(s, limit))
 }
 
 // A single IS.
@@ -333,7 +344,7 @@ pub fn is_of(v: &[u8]) -> Signed
     if is_single(v) {
         let p = value_of(v, 0);
         let t = trimmed(p);
-        signed_whole(t)
+        signed_whole(t, 11)
     } else {
         Signed::Lacks
     }
@@ -341,60 +352,139 @@ pub fn is_of(v: &[u8]) -> Signed
 
 // ---- DS
 
-// What a number with so many decimals is multiplied by to be in thousandths.
-fn scale(count: usize) -> usize
-    ensures { λ r. ⌜ r ≡ 10 ^ (decimals - count) ⌝ }
+// m · 10^e units. No power is worked out: a number that is not 0 leaves the size of a DS number after at most 12 turns.
+fn multiplied(m: usize, e: usize) -> Num
+    requires { ⌜ (0 < m) × (m ≤ 10000000000000000) ⌝ }
+    ensures { λ r. ⌜ r ≡ within (m * 10 ^ e) ⌝ }
 {
-    match count {
-        0 => 1000,
-        1 => 100,
-        2 => 10,
-        _ => 1,
-    }
-}
-
-// The decimals after a point: `count` digits stood before it, and made `whole`.
-fn point_of(s: &[u8], count: usize, whole: usize) -> Num
-    requires { ⌜ (count ≤ 6) × (whole < 1000000) ⌝ }
-    ensures { λ r. ⌜ r ≡ pointBy count (digitsOf decimals whole 0 (now (s .entry))) ⌝ }
-{
-    let d = digits(s, 3, whole);
-    let n = d.count;
-    if n == s.len() {
-        if count + n == 0 {
-            Num::Lacks
-        } else {
-            Num::Is(d.number * scale(n))
+    let mut n = m;
+    let mut left = e;
+    while 0 < left {
+        if SIZE_LIMIT <= n {
+            return Num::Lacks;
         }
+        n = 10 * n;
+        left -= 1;
+    }
+    if n < SIZE_LIMIT {
+        Num::Is(n)
     } else {
         Num::Lacks
     }
 }
 
-// Up to 6 digits, then optionally a point and up to 3 digits, at least one digit in all.
+// m / 10^e units, where that is a whole number: a number of 16 digits that is not 0 has at most 15 zeros behind.
+fn divided(m: usize, e: usize) -> Num
+    ensures { λ r. ⌜ r ≡ wholly m (10 ^ e) ⌝ }
+{
+    let mut n = m;
+    let mut left = e;
+    while 0 < left {
+        if n % 10 != 0 {
+            return Num::Lacks;
+        }
+        n = n / 10;
+        left -= 1;
+    }
+    if n < SIZE_LIMIT {
+        Num::Is(n)
+    } else {
+        Num::Lacks
+    }
+}
+
+// m · 10^up / 10^down units. Zero is zero at any exponent.
+fn exact(m: usize, up: usize, down: usize) -> Num
+    requires { ⌜ m ≤ 10000000000000000 ⌝ }
+    ensures { λ r. ⌜ r ≡ exactOf m up down ⌝ }
+{
+    if m == 0 {
+        Num::Is(0)
+    } else {
+        if down <= up {
+            multiplied(m, up - down)
+        } else {
+            divided(m, down - up)
+        }
+    }
+}
+
+// m / 10^after · 10^exponent, in units.
+fn scaled(m: usize, after: usize, exponent: Signed) -> Num
+    requires { ⌜ (m ≤ 10000000000000000) × ((after ≤ characters) × SizeBelow 10000000000000000 exponent) ⌝ }
+    ensures { λ r. ⌜ r ≡ scaledBy m after exponent ⌝ }
+{
+    match exponent {
+        Signed::Plus(e) => exact(m, DECIMALS + e, after),
+        Signed::Minus(e) => exact(m, DECIMALS, after + e),
+        Signed::Lacks => Num::Lacks,
+    }
+}
+
+// E or e.
+fn is_mark(b: u8) -> bool
+    ensures { λ r. ⌜ r ≡ isMark b ⌝ }
+{
+    if b == 0x45 { true } else { b == 0x65 }
+}
+
+// What stands after E or e.
+fn exponent_of(s: &[u8]) -> Signed
+    ensures { λ r. ⌜ (r ≡ exponentOf (now (s .entry))) × SizeBelow 10000000000000000 r ⌝ }
+{
+    signed_whole(s, CHARACTERS)
+}
+
+// What stands after `count` digits that made m, `after` of them behind the point.
+fn end_of(s: &[u8], count: usize, m: usize, after: usize) -> Num
+    requires { ⌜ (m ≤ 10000000000000000) × (after ≤ characters) ⌝ }
+    ensures { λ r. ⌜ r ≡ endOf count m after (now (s .entry)) ⌝ }
+{
+    if count == 0 {
+        return Num::Lacks;
+    }
+    if s.len() == 0 {
+        return exact(m, DECIMALS, after);
+    }
+    if is_mark(s[0]) {
+        scaled(m, after, exponent_of(&s[1..]))
+    } else {
+        Num::Lacks
+    }
+}
+
+// The digits after a point: `before` digits stood before it, and made `whole`.
+fn point_of(s: &[u8], before: usize, whole: usize) -> Num
+    requires { ⌜ (before + length (now s) ≤ characters) × ((whole + 1) * 10 ^ length (now s) ≤ 10000000000000000) ⌝ }
+    ensures { λ r. ⌜ r ≡ pointBy before (runOf whole (now (s .entry))) ⌝ }
+{
+    let d = digits(s, s.len(), whole);
+    let n = d.count;
+    end_of(&s[n..], before + n, d.number, n)
+}
+
+// Digits, then optionally a point and digits, at least one digit in all, then optionally an exponent.
 fn size_of(s: &[u8]) -> Num
+    requires { ⌜ length (now s) ≤ characters ⌝ }
     ensures { λ r. ⌜ r ≡ sizeOf (now (s .entry)) ⌝ }
 {
-    let d = digits(s, 6, 0);
+    let d = digits(s, s.len(), 0);
     let n = d.count;
     if n == s.len() {
-        if n == 0 {
-            Num::Lacks
-        } else {
-            Num::Is(d.number * UNIT)
-        }
+        end_of(&s[n..], n, d.number, 0)
     } else {
         if s[n] == POINT {
             let after = n + 1;
             point_of(&s[after..], n, d.number)
         } else {
-            Num::Lacks
+            end_of(&s[n..], n, d.number, 0)
         }
     }
 }
 
 // The same after an optional sign.
 fn signed_size(s: &[u8]) -> Signed
+    requires { ⌜ length (now s) ≤ characters ⌝ }
     ensures { λ r. ⌜ r ≡ signedBy sizeOf (now (s .entry)) ⌝ }
 {
     if s.len() == 0 {
@@ -409,13 +499,17 @@ fn signed_size(s: &[u8]) -> Signed
     plus(size_of(s))
 }
 
-// One value of a DS, in thousandths.
+// One value of a DS, in units.
 pub fn decimal_of(v: &[u8]) -> Signed
     ensures { λ r. ⌜ r ≡ decimalOf (now (v .entry)) ⌝ }
-    ensures { λ r. ⌜ SizeBelow 1000000000 r ⌝ }
+    ensures { λ r. ⌜ SizeBelow sizeLimit r ⌝ }
 {
     let t = trimmed(v);
-    signed_size(t)
+    if t.len() <= CHARACTERS {
+        signed_size(t)
+    } else {
+        Signed::Lacks
+    }
 }
 
 fn is_decimal(v: &[u8]) -> bool

@@ -63,14 +63,14 @@ value {z = negsuc m} g h = absurd (omega arith)
 
 -- ---- The tests, as tests of naturals
 
-same-leb : (k l m n : ℕ) → (k ≤ l → m ≤ n) → (l < k → n < m) → leb k l ≡ leb m n
+pub same-leb : (k l m n : ℕ) → (k ≤ l → m ≤ n) → (l < k → n < m) → leb k l ≡ leb m n
 same-leb k l m n f g = go (leb k l) refl
   where
     go : (t : Bool) → leb k l ≡ t → leb k l ≡ leb m n
     go true e = e ∙ sym (le-leb m n (f (leb-true k l e)))
     go false e = e ∙ sym (lt-leb m n (g (leb-false k l e)))
 
-le-test : {y z : ℤ} {a b c d : ℕ} → Gap y a b → Gap z c d → leZ y z ≡ leb (a + d) (c + b)
+pub le-test : {y z : ℤ} {a b c d : ℕ} → Gap y a b → Gap z c d → leZ y z ≡ leb (a + d) (c + b)
 le-test {y = pos m} {z = pos n} {a = a} {b = b} {c = c} {d = d} g h = same-leb m n (a + d) (c + b) (λ k. omega arith) (λ k. omega arith)
 le-test {y = pos m} {z = negsuc n} {a = a} {b = b} {c = c} {d = d} g h = sym (lt-leb (a + d) (c + b) (omega arith))
 le-test {y = negsuc m} {z = pos n} {a = a} {b = b} {c = c} {d = d} g h = sym (le-leb (a + d) (c + b) (omega arith))
@@ -83,7 +83,7 @@ ltb-leb m n = go (leb n m) refl
     go true e = le-ltb m n (leb-true n m e) ∙ ap not (sym e)
     go false e = lt-ltb m n (leb-false n m e) ∙ ap not (sym e)
 
-ltZ-leZ : (y z : ℤ) → ltZ y z ≡ not (leZ z y)
+pub ltZ-leZ : (y z : ℤ) → ltZ y z ≡ not (leZ z y)
 ltZ-leZ (pos m) (pos n) = ltb-leb m n
 ltZ-leZ (pos m) (negsuc n) = refl
 ltZ-leZ (negsuc m) (pos n) = refl

@@ -15,7 +15,7 @@ use Rattle.value.specs.declared.Num.{Num}
 use Rattle.value.specs.declared.Num.the-variants.{Is}
 use Rattle.value.specs.declared.Signed.{Signed}
 use Rattle.value.specs.declared.Signed.the-variants as signed
-use Rattle.value.specs.Number.{unit, isWidth}
+use Rattle.value.specs.Number.{unit, sizeLimit, isWidth}
 use Rattle.value.specs.Said.{SizeBelow}
 use Rattle.window.specs.declared.Window.{Window}
 use Rattle.window.specs.Window.{integer, floor, levelFor, levelOf, shadeOf}
@@ -26,9 +26,9 @@ use Rattle.window.proofs.Gaps.{Gap, whole, gap, plus, less, times, valu
 
 pub record Sizes (w : Window) : Type 0 where
   pub wide : unit ≤ above (w .width)
-  pub narrow : above (w .width) < 1000000000
-  pub high : above (w .center) < 1000000000
-  pub low : below (w .center) < 1000000000
+  pub narrow : above (w .width) < sizeLimit
+  pub high : above (w .center) < sizeLimit
+  pub low : below (w .center) < sizeLimit
 
 differ : false ≡ true → ⊥
 differ e =
@@ -40,12 +40,12 @@ is-wide (signed.Plus n) e = leb-true unit n e
 is-wide (signed.Minus n) e = absurd (differ e)
 is-wide signed.Lacks e = absurd (differ e)
 
-above-small : (s : Signed) → SizeBelow 1000000000 s → above s < 1000000000
+above-small : (s : Signed) → SizeBelow sizeLimit s → above s < sizeLimit
 above-small (signed.Plus n) h = h
 above-small (signed.Minus n) h = omega arith
 above-small signed.Lacks h = omega arith
 
-below-small : (s : Signed) → SizeBelow 1000000000 s → below s < 1000000000
+below-small : (s : Signed) → SizeBelow sizeLimit s → below s < sizeLimit
 below-small (signed.Plus n) h = omega arith
 below-small (signed.Minus n) h = h
 below-small signed.Lacks h = omega arith
@@ -59,7 +59,7 @@ sizes w d = record {
 }
 
 -- A signed number as a difference; a width as a natural.
-signed-gap : (s : Signed) → Gap (integer s) (above s) (below s)
+pub signed-gap : (s : Signed) → Gap (integer s) (above s) (below s)
 signed-gap (signed.Plus n) = whole n
 signed-gap (signed.Minus zero) = whole 0
 signed-gap (signed.Minus (suc n)) = record { is = omega arith }
@@ -158,15 +158,15 @@ pub record Leveled (window : Window) (x : ℤ) : Type 0 where
   pub is : levelOf window x ≡ Is y
   pub small : y ≤ 255
 
-over : ℤ → ℕ
+pub over : ℤ → ℕ
 over (pos n) = n
 over (negsuc n) = 0
 
-under : ℤ → ℕ
+pub under : ℤ → ℕ
 under (pos n) = 0
 under (negsuc n) = suc n
 
-integer-gap : (x : ℤ) → Gap x (over x) (under x)
+pub integer-gap : (x : ℤ) → Gap x (over x) (under x)
 unfolding over under
 integer-gap (pos n) = whole n
 integer-gap (negsuc n) = record { is = omega arith }

@@ -10,7 +10,7 @@ use Rattle.value.specs.declared.Num.{Num}
 use Rattle.value.specs.declared.Num.the-variants.{Is, Lacks}
 use Rattle.value.specs.declared.Signed.{Signed}
 use Rattle.value.specs.declared.Signed.the-variants as signed
-use Rattle.value.specs.Number.{unit, isNumber, isWidth}
+use Rattle.value.specs.Number.{unit, sizeLimit, isNumber, isWidth}
 use Rattle.value.specs.Said.{SizeBelow}
 use Rattle.window.specs.declared.Window.{Window}
 use Rattle.window.specs.Window.{levelOf, shadeOf}
@@ -18,9 +18,9 @@ use Rattle.window.specs.Window.{levelOf, shadeOf}
 -- A window that can be drawn: its centre and its width are numbers, the width at least 1, and both are of a DS's size.
 pub record Drawable (w : Window) : Type 0 where
   pub number : isNumber (w .center) ≡ true
-  pub near : SizeBelow 1000000000 (w .center)
+  pub near : SizeBelow sizeLimit (w .center)
   pub wide : isWidth (w .width) ≡ true
-  pub narrow : SizeBelow 1000000000 (w .width)
+  pub narrow : SizeBelow sizeLimit (w .width)
 
 -- A signed number is the difference of these two.
 abbrev pub above : Signed → ℕ

@@ -1,10 +1,10 @@
 // The window of a frame and its levels.
 ghost use mathlib.Core.Path.{_≡_};
-ghost use Prim.Native.Nat.{_+_, _-_, _^_, _≤_, _<_};
+ghost use Prim.Native.Nat.{_+_, _-_, _*_, _^_, _≤_, _<_};
 ghost use lib.ListN.{length};
 ghost use lib.IntN.{pos, _-ℤ_};
 ghost use Rattle.value.specs.declared.Num.the-variants.{Is};
-ghost use Rattle.value.specs.Number.{unit};
+ghost use Rattle.value.specs.Number.{unit, sizeLimit};
 ghost use Rattle.window.specs.Window.{fullWindow, levelOf, shadeOf};
 ghost use Rattle.window.specs.Said.{Drawable, Filled, above, below, rampOf, number, shadeAt};
 use value::Signed;
@@ -14,9 +14,6 @@ pub struct Window {
     pub center: Signed,
     pub width: Signed,
 }
-
-// The units to one.
-const UNIT: usize = 1000;
 
 // A signed number is above(s) - below(s).
 fn above(s: Signed) -> usize
@@ -41,14 +38,14 @@ fn below(s: Signed) -> usize
 
 // The level where up - down is 2ux - 2C + W, above 0, and w the width.
 fn ramp(up: usize, down: usize, w: usize) -> usize
-    requires { ⌜ (down < up) × ((up < 4000000000) × ((unit ≤ w) × (w < 1000000000))) ⌝ }
+    requires { ⌜ (down < up) × ((up < 4 * sizeLimit) × ((unit ≤ w) × (w < sizeLimit))) ⌝ }
     ensures { λ r. ⌜ (r ≡ rampOf (up - down) w) × (r ≤ 255) ⌝ }
 {
     let d = up - down;
-    if 2 * w < d + 2 * UNIT {
+    if 2 * w < d + 2 * value::UNIT {
         255
     } else {
-        (255 * d + w - UNIT) / (2 * (w - UNIT))
+        (255 * d + w - value::UNIT) / (2 * (w - value::UNIT))
     }
 }
 
@@ -60,8 +57,8 @@ pub fn level(window: Window, plus: usize, minus: usize) -> usize
     let center = window.center;
     let width = window.width;
     let w = above(width);
-    let up = 2 * UNIT * plus + 2 * below(center) + w;
-    let down = 2 * UNIT * minus + 2 * above(center);
+    let up = 2 * value::UNIT * plus + 2 * below(center) + w;
+    let down = 2 * value::UNIT * minus + 2 * above(center);
     if up <= down { 0 } else { ramp(up, down, w) }
 }
 
@@ -82,7 +79,7 @@ pub fn full_window(stored: usize) -> Window
     requires { ⌜ stored ≤ 16 ⌝ }
     ensures { λ r. ⌜ (r ≡ fullWindow stored) × Drawable r ⌝ }
 {
-    let full = UNIT * power(stored);
+    let full = value::UNIT * power(stored);
     Window {
         center: Signed::Plus(full / 2),
         width: Signed::Plus(full),

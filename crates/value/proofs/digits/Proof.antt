@@ -13,7 +13,7 @@ use Rattle.value.proofs.digits.Tie as tie
 abbrev Inv-loop : tie.InvT-loop
 Inv-loop s limit start number₀ left₀ i₀ number left i =
     (digitsOf left number i (drop i s) ≡ digitsOf limit start 0 s)
-    × (((number + 1) * 10 ^ left ≤ 100000000000) × ((left + i ≡ limit) × (i ≤ length s)))
+    × (((number + 1) * 10 ^ left ≤ 10000000000000000) × ((left + i ≡ limit) × (i ≤ length s)))
 
 abbrev μ-loop : tie.MeasureT-loop
 μ-loop s limit start number₀ left₀ i₀ number left i =
@@ -54,12 +54,12 @@ returns-3 c =
 mul-number : tie.Need-mul-number Inv-loop μ-loop
 mul-number c =
     let l = c .before .before .before .before .before .before .loop in
-    omega (arith, runs.bounded (l .number) (l .left) 100000000000 (l .inv .1 .0))
+    omega (arith, runs.bounded (l .number) (l .left) 10000000000000000 (l .inv .1 .0))
 
 add-number : tie.Need-add-number Inv-loop μ-loop
 add-number c =
     let l = c .before .before .before .before .before .before .loop in
-    omega (arith, runs.bounded (l .number) (l .left) 100000000000 (l .inv .1 .0), c .before .before .wide .ensures .1)
+    omega (arith, runs.bounded (l .number) (l .left) 10000000000000000 (l .inv .1 .0), c .before .before .wide .ensures .1)
 
 sub-left : tie.Need-sub-left Inv-loop μ-loop
 sub-left c =
@@ -79,7 +79,7 @@ loop-again c =
     let w = c .before .before .wide .ensures .0 in (
       rw w (sym (runs.next-digit (c .before .before .before .before .before .before .before .before .args .s .now) (l .i) (l .left) (l .number) (l .i) (c .before .before .before .before .before .loop-test .taken) (c .before .before .before .before .if1 .left) (omega (arith, w, c .before .if2 .left)) (omega (arith, w, c .if3 .left))) ∙ l .inv .0),
       (
-        runs.next-size (l .number) (c .before .before .wide .result - 0x30) (l .left) 100000000000 (c .before .before .before .before .if1 .left) (omega (arith, c .if3 .left)) (l .inv .1 .0),
+        runs.next-size (l .number) (c .before .before .wide .result - 0x30) (l .left) 10000000000000000 (c .before .before .before .before .if1 .left) (omega (arith, c .if3 .left)) (l .inv .1 .0),
         (omega (arith, c .before .before .before .before .if1 .left), omega arith),
       ),
     )

@@ -2,6 +2,7 @@ use mathlib.Core.Path.{sym, ap, _∙_}
 use Prim.Native.Nat.{ℕ, _+_, _-_, _*_}
 use native.Mathlib.Omega.{arith}
 use Rattle.value.specs.declared.Num.the-variants.{Is}
+use Rattle.value.specs.Number.{unit}
 use Rattle.window.specs.Said.{rampOf}
 use Rattle.window.proofs.Gaps.{gap}
 use Rattle.window.proofs.Laws.{sizes, window-none, window-ramp}
@@ -59,16 +60,16 @@ returns : tie.Need-returns
 returns c =
     let a = c .before .before .before .before .args in
     let s = sizes (a .window) (c .before .before .before .before .pre .0) in
-    let u = 2000 * a .plus + 2 * c .before .before .below .result + c .before .before .before .above .result in
-    let n = 2000 * a .minus + 2 * c .before .above2 .result in
+    let u = 2 * unit * a .plus + 2 * c .before .before .below .result + c .before .before .before .above .result in
+    let n = 2 * unit * a .minus + 2 * c .before .above2 .result in
     (sym (window-none (a .window) s (gap (a .plus) (a .minus)) u n (omega arith) (omega arith) (c .if1 .taken)), omega arith)
 
 returns-2 : tie.Need-returns-2
 returns-2 c =
     let a = c .before .before .before .before .before .args in
     let s = sizes (a .window) (c .before .before .before .before .before .pre .0) in
-    let u = 2000 * a .plus + 2 * c .before .before .before .below .result + c .before .before .before .before .above .result in
-    let n = 2000 * a .minus + 2 * c .before .before .above2 .result in
+    let u = 2 * unit * a .plus + 2 * c .before .before .before .below .result + c .before .before .before .before .above .result in
+    let n = 2 * unit * a .minus + 2 * c .before .before .above2 .result in
     let e = c .ramp .ensures .0 ∙ ap (λ (w : ℕ). rampOf (u - n) w) (c .before .before .before .before .above .ensures) in
     (ap Is e ∙ sym (window-ramp (a .window) s (gap (a .plus) (a .minus)) u n (omega arith) (omega arith) (c .before .if1 .left)), c .ramp .ensures .1)
 

@@ -1,0 +1,33 @@
+-- What reading window numbers in millionths keeps: the claim of specs/Kept. A frame of an accepted object has a picture by
+-- demand 3, and where rule 30 held as it was both kinds of steps give the same.
+use mathlib.Core.Path.{_≡_, refl, sym, _∙_}
+use mathlib.Core.Bool.{true}
+use mathlib.Core.List.{List}
+use Prim.Native.Nat.{ℕ, _≤_}
+use native.Mathlib.Omega.{arith}
+use Rattle.verdict.specs.Verdict.{perFrame}
+use Rattle.node.specs.Nodes.{nodesOf}
+use Rattle.conformance.specs.Judging.{firstFrame, frameCount}
+use Rattle.display.specs.Demand3.{Bytes, IsAccepted, IsFrame}
+use Rattle.display.proofs.Demand3.{demand-3}
+use Rattle.thousandths.specs.Rule30.{rule30}
+use Rattle.thousandths.specs.Kept.{WasAccepted, KeepsPicture, Kept}
+use Rattle.thousandths.proofs.Numbers as numbers
+use Rattle.thousandths.proofs.Rules as rules
+use Rattle.thousandths.proofs.Pictures as pictures
+
+accepted : (s : List ℕ) → WasAccepted s → IsAccepted s
+accepted s a = record { rows = a .rows; reads = a .reads; sound = rules.accepted (nodesOf s) (a .sound) }
+
+-- Rule 30 held at the frame.
+at-frame : (s : List ℕ) (f : ℕ) → WasAccepted s → IsFrame s f → rule30 (nodesOf s) f ≡ true
+unfolding firstFrame frameCount perFrame
+at-frame s f a i = rules.held (nodesOf s) f (a .sound 30 (omega arith) (omega arith) f (i .low) (omega (arith, i .high)))
+
+kept : (s : List ℕ) → Bytes s → WasAccepted s → (f : ℕ) → IsFrame s f → KeepsPicture (nodesOf s) f
+kept s b a f i =
+    let w = demand-3 s b f .drawable (accepted s a) i in
+    record { p = w .p; was = sym (pictures.pictures (nodesOf s) f (at-frame s f a i)) ∙ w .is; is = w .is }
+
+pub millionths-keep : Kept
+millionths-keep = record { numbers = numbers.numbers; accepted = accepted; pictures = kept; drawn = pictures.drawn }

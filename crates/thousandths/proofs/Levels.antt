@@ -1,0 +1,117 @@
+-- A window that is scaled by 1000, with everything in it, gives the same level.
+use mathlib.Core.Path.{_≡_, refl, sym, ap, _∙_}
+use mathlib.Core.Bool.{Bool, not, cond}
+use Prim.Native.Nat.{ℕ, zero, suc, _+_, _-_, _*_, _/_, _^_, _≤_, _<_}
+use native.Mathlib.Nat.{div-div-eq-div-mul, mul-div-mul-left}
+use native.Mathlib.Omega.{arith}
+use lib.IntN.{ℤ, pos, negsuc, natAbs, _+ℤ_, _-ℤ_, _*ℤ_}
+use lib.Signed.{leZ, ltZ}
+use Rattle.value.specs.declared.Num.{Num}
+use Rattle.value.specs.declared.Num.the-variants.{Is, Lacks}
+use Rattle.value.specs.declared.Signed.{Signed}
+use Rattle.value.specs.declared.Signed.the-variants as signed
+use Rattle.window.specs.declared.Window as present
+use Rattle.window.specs.Window as window
+use Rattle.window.specs.Window.{integer}
+use Rattle.window.specs.Said.{above, below}
+use Rattle.window.proofs.Gaps.{Gap, shift, whole, plus, less, times, same-leb, le-test, ltZ-leZ}
+use Rattle.window.proofs.Laws.{signed-gap, over, under, integer-gap}
+use Rattle.thousandths.specs.Number.{scaled}
+use Rattle.thousandths.specs.Step6.{Window, fullWindow, floor, limited, levelBy, levelOf, levelHalf}
+
+-- The second integer is 1000 times the first.
+record Scaled (y z : ℤ) : Type 0 where
+  pub a : ℕ
+  pub b : ℕ
+  pub one : Gap y a b
+  pub thousand : Gap z (1000 * a) (1000 * b)
+
+of-plus : {x y u v : ℤ} → Scaled x y → Scaled u v → Scaled (x +ℤ u) (y +ℤ v)
+of-plus s t = record { a = s .a + t .a; b = s .b + t .b; one = plus (s .one) (t .one); thousand = shift (plus (s .thousand) (t .thousand)) _ _ (omega arith) }
+
+of-less : {x y u v : ℤ} → Scaled x y → Scaled u v → Scaled (x -ℤ u) (y -ℤ v)
+of-less s t = record { a = s .a + t .b; b = s .b + t .a; one = less (s .one) (t .one); thousand = shift (less (s .thousand) (t .thousand)) _ _ (omega arith) }
+
+of-two : {x y : ℤ} → Scaled x y → Scaled (pos 2 *ℤ x) (pos 2 *ℤ y)
+of-two s = record { a = 2 * s .a; b = 2 * s .b; one = times 2 (s .one); thousand = shift (times 2 (s .thousand)) _ _ (omega arith) }
+
+of-255 : {x y : ℤ} → Scaled x y → Scaled (pos 255 *ℤ x) (pos 255 *ℤ y)
+of-255 s = record { a = 255 * s .a; b = 255 * s .b; one = times 255 (s .one); thousand = shift (times 255 (s .thousand)) _ _ (omega arith) }
+
+of-whole : (n : ℕ) → Scaled (pos n) (pos (1000 * n))
+of-whole n = record { a = n; b = 0; one = whole n; thousand = whole (1000 * n) }
+
+-- ---- The tests
+
+same-le : {x y u v : ℤ} → Scaled x y → Scaled u v → leZ x u ≡ leZ y v
+same-le s t =
+    le-test (s .one) (t .one)
+    ∙ same-leb (s .a + t .b) (t .a + s .b) (1000 * s .a + 1000 * t .b) (1000 * t .a + 1000 * s .b) (λ h. omega arith) (λ h. omega arith)
+    ∙ sym (le-test (s .thousand) (t .thousand))
+
+same-lt : {x y u v : ℤ} → Scaled x y → Scaled u v → ltZ x u ≡ ltZ y v
+same-lt {x = x} {y = y} {u = u} {v = v} s t = ltZ-leZ x u ∙ ap not (same-le t s) ∙ sym (ltZ-leZ y v)
+
+-- ---- The quotient
+
+scaled-pos : (n : ℕ) (z : ℤ) → Scaled (pos n) z → z ≡ pos (1000 * n)
+scaled-pos n (pos m) s = ap pos (omega (arith, s .one .is, s .thousand .is))
+scaled-pos n (negsuc m) s = absurd (omega (arith, s .one .is, s .thousand .is))
+
+scaled-neg : (n : ℕ) (z : ℤ) → Scaled (negsuc n) z → z ≡ negsuc (1000 * n + 999)
+scaled-neg n (pos m) s = absurd (omega (arith, s .one .is, s .thousand .is))
+scaled-neg n (negsuc m) s = ap negsuc (omega (arith, s .one .is, s .thousand .is))
+
+scaled-size : (y z : ℤ) → Scaled y z → natAbs z ≡ 1000 * natAbs y
+scaled-size (pos n) z s = ap natAbs (scaled-pos n z s)
+scaled-size (negsuc n) z s = ap natAbs (scaled-neg n z s) ∙ omega arith
+
+quotient : (n m d : ℕ) → m / 1000 ≡ n → m / (1000 * d) ≡ n / d
+quotient n m d e = sym (div-div-eq-div-mul m 1000 d) ∙ ap (λ (x : ℕ). x / d) e
+
+same-floor : {x y u v : ℤ} → Scaled x y → Scaled u v → window.floor y v ≡ floor x u
+same-floor {x = pos n} {y = y} {u = u} {v = v} s t = rw (scaled-pos n y s, scaled-size u v t) (ap pos (quotient n (1000 * n) (natAbs u) (omega arith)))
+same-floor {x = negsuc n} {y = y} {u = u} {v = v} s t = rw (scaled-neg n y s, scaled-size u v t) (ap negsuc (quotient n (1000 * n + 999) (natAbs u) (omega arith)))
+
+-- ---- The level
+
+same-limit : (z : ℤ) → window.limited z ≡ limited z
+same-limit (pos n) = refl
+same-limit (negsuc n) = refl
+
+level-scaled : {c d w v t q : ℤ} → Scaled c d → Scaled w v → Scaled t q → window.levelBy (pos 1000000) d v q ≡ levelBy (pos 1000) c w t
+level-scaled sc sw st =
+    rw (
+      ← same-le st (of-less (of-two sc) sw),
+      ← same-lt (of-less (of-plus (of-two sc) sw) (of-whole 2000)) st,
+      ← same-lt (of-whole 0) (of-two (of-less sw (of-whole 1000))),
+      same-floor (of-less (of-plus (of-255 (of-plus (of-less st (of-two sc)) sw)) sw) (of-whole 1000)) (of-two (of-less sw (of-whole 1000))),
+      same-limit,
+    )
+
+scaled-signed : (s : Signed) → Scaled (integer s) (integer (scaled s))
+scaled-signed (signed.Plus n) = of-whole n
+scaled-signed (signed.Minus zero) = of-whole 0
+scaled-signed (signed.Minus (suc n)) = record { a = 0; b = suc n; one = record { is = omega arith }; thousand = shift (signed-gap (signed.Minus (1000 * suc n))) 0 (1000 * suc n) (omega arith) }
+scaled-signed signed.Lacks = of-whole 0
+
+scaled-place : (x : ℤ) → Scaled (pos 2000 *ℤ x) (pos 2000000 *ℤ x)
+scaled-place x = record { a = 2000 * over x; b = 2000 * under x; one = times 2000 (integer-gap x); thousand = shift (times 2000000 (integer-gap x)) _ _ (omega arith) }
+
+-- The same window, in millionths.
+abbrev pub scaledWindow : Window → present.Window
+scaledWindow w = record { center = scaled (w .center); width = scaled (w .width) }
+
+pub same-level : (w : Window) (x : ℤ) → window.levelOf (scaledWindow w) x ≡ levelOf w x
+unfolding window.levelOf window.levelFor levelOf
+same-level w x = level-scaled (scaled-signed (w .center)) (scaled-signed (w .width)) (scaled-place x)
+
+pub same-half : (w : Window) (x : ℤ) → window.levelHalf (scaledWindow w) x ≡ levelHalf w x
+unfolding window.levelHalf levelHalf
+same-half w x = level-scaled (scaled-signed (w .center)) (scaled-signed (w .width)) (of-plus (scaled-place x) (of-whole 1000))
+
+pub same-full : (stored : ℕ) → window.fullWindow stored ≡ scaledWindow (fullWindow stored)
+unfolding window.fullWindow fullWindow
+same-full stored =
+    ap (λ (n : ℕ). record { center = signed.Plus n; width = signed.Plus (1000000 * 2 ^ stored) }) (omega arith)
+    ∙ ap (λ (n : ℕ). record { center = signed.Plus (1000 * (1000 * 2 ^ stored / 2)); width = signed.Plus n }) (omega arith)

@@ -1,0 +1,200 @@
+-- A picture that the steps gave they give.
+use mathlib.Core.Path.{_≡_, refl, sym, ap, _∙_}
+use mathlib.Core.Bool.{Bool, true, false, cond, _&&_}
+use mathlib.Core.List.{List, [], _∷_, _++_}
+use mathlib.Core.Option.{Option, none, some}
+use Prim.Native.Nat.{ℕ, zero, suc, _-_, _+_, _^_, _≤_, _<_}
+use native.Mathlib.Omega.{arith}
+use lib.Dec.{eqb, ltb}
+use lib.ListN.{length}
+use lib.IntN.{ℤ, pos, _+ℤ_, _-ℤ_}
+use Rattle.value.specs.declared.Num.{Num}
+use Rattle.value.specs.declared.Num.the-variants.{Is, Lacks}
+use Rattle.value.specs.declared.Signed.{Signed}
+use Rattle.value.specs.declared.Signed.the-variants as signed
+use Rattle.value.specs.Text.{valuesOf, valueOf}
+use Rattle.value.specs.Number as now
+use Rattle.value.specs.Number.{isNumber}
+use Rattle.verdict.proofs.Tests.{and-both}
+use Rattle.shift.specs.declared.Moves.{Moves}
+use Rattle.node.specs.Nodes.{Node, inside}
+use Rattle.node.specs.Find.{holds, ifPresent, findVr}
+use Rattle.element.specs.Tags
+use Rattle.element.specs.Tags.{DS}
+use Rattle.element.specs.Elements.{valueAt, theItem}
+use Rattle.element.specs.Frames.{groupOf}
+use Rattle.pixel.specs.declared.Geometry.{Geometry}
+use Rattle.pixel.specs.Pixel.{samplesOf, isFrame, sampleAt, areInside, blendedAt}
+use Rattle.window.specs.declared.Window as present
+use Rattle.window.specs.Window as window
+use Rattle.window.specs.Window.{shadeOf}
+use Rattle.steps.specs.Given.{need, check, then, collect}
+use Rattle.steps.specs.Steps as steps
+use Rattle.steps.specs.Steps.{Picture, Mask, native as noMask, masked as maskOf, geometryOf, pixelsOf, maskFor, inverseOf, groupFor, areFrames}
+use Rattle.display.proofs.Given.{check-some, need-some, then-some}
+use Rattle.display.proofs.Objects.{had, all-first, at-items, group-is}
+use Rattle.thousandths.specs.Number.{decimalOf, isWidth, allDecimals, allWidths, scaled}
+use Rattle.thousandths.specs.Rule30.{isWindow, hasWindow, isVoi, item30, rule30}
+use Rattle.thousandths.specs.Step6.{Window, fullWindow, levelOf, levelHalf, windowIn, windowOn, windowFor, shaded, nativeCell, maskedCell, pictureBy, stepsOf}
+use Rattle.thousandths.proofs.Numbers.{numbers}
+use Rattle.thousandths.proofs.Levels.{scaledWindow, same-level, same-half, same-full}
+use Rattle.thousandths.proofs.Rules.{width-number}
+
+-- ---- Steps that go on alike
+
+module _ {A B : Type 0} where
+  then-same : (o : Option B) (f g : B → Option A) → ((b : B) → f b ≡ g b) → then o f ≡ then o g
+  then-same none f g h = refl
+  then-same (some b) f g h = h b
+
+check-same : {A : Type 0} (t : Bool) (a b : Option A) → a ≡ b → check t a ≡ check t b
+check-same t a b e = ap (check t) e
+
+collect-same : (f g : ℕ → Num) → ((i : ℕ) → f i ≡ g i) → (n : ℕ) → collect f n ≡ collect g n
+unfolding collect
+collect-same f g h zero = refl
+collect-same f g h (suc n) = rw (collect-same f g h n, h n)
+
+-- ---- The window
+
+number-scaled : (s : Signed) → isNumber s ≡ true → isNumber (scaled s) ≡ true
+number-scaled (signed.Plus n) e = refl
+number-scaled (signed.Minus n) e = refl
+number-scaled signed.Lacks e = e
+
+module _ (ns : List Node) where
+  -- The window of the centre at c and the width at d.
+  abbrev of-values : ℕ → ℕ → Window
+  of-values c d = record { center = decimalOf (valueOf (valueAt ns c) 0); width = decimalOf (valueOf (valueAt ns d) 0) }
+
+  now-in : (is : List ℕ) (c d : ℕ) → findVr ns Tags.WindowCenter DS is ≡ Is c → findVr ns Tags.WindowWidth DS is ≡ Is d
+      → isNumber (of-values c d .center) ≡ true → isNumber (of-values c d .width) ≡ true → steps.windowIn ns is ≡ some (scaledWindow (of-values c d))
+  unfolding steps.windowIn
+  now-in is c d p q x y =
+      rw (p, q, numbers (valueOf (valueAt ns c) 0) x, numbers (valueOf (valueAt ns d) 0) y, number-scaled (of-values c d .center) x, number-scaled (of-values c d .width) y)
+
+  then-in : (is : List ℕ) (c d : ℕ) → findVr ns Tags.WindowCenter DS is ≡ Is c → findVr ns Tags.WindowWidth DS is ≡ Is d
+      → isNumber (of-values c d .center) ≡ true → isNumber (of-values c d .width) ≡ true → windowIn ns is ≡ some (of-values c d)
+  unfolding windowIn
+  then-in is c d p q x y = rw (p, q, x, y)
+
+  window-in : (is : List ℕ) (w : Window) → windowIn ns is ≡ some w → steps.windowIn ns is ≡ some (scaledWindow w)
+  unfolding windowIn
+  window-in is w e =
+      let c = need-some (findVr ns Tags.WindowCenter DS is) _ e in
+      let d = need-some (findVr ns Tags.WindowWidth DS is) _ (c .1 .1) in
+      let o = of-values (c .0) (d .0) in
+      let k = check-some (isNumber (o .center) && isNumber (o .width)) _ (d .1 .1) in
+      let b = and-both (isNumber (o .center)) (isNumber (o .width)) (k .0) in
+      let same : o ≡ w = cc (k .1) in
+      now-in is (c .0) (d .0) (c .1 .0) (d .1 .0) (b .0) (b .1) ∙ ap (λ (v : Window). some (scaledWindow v)) same
+
+  window-on : (stored : ℕ) (o : Num) (w : Window) → windowOn ns stored o ≡ some w → steps.windowOn ns stored o ≡ some (scaledWindow w)
+  window-on stored Lacks w e =
+      let same : fullWindow stored ≡ w = cc in
+      ap some (same-full stored ∙ ap scaledWindow same)
+  window-on stored (Is g) w e =
+      let j = need-some (theItem ns g) _ e in
+      rw (j .1 .0) (window-in (inside ns (j .0)) w (j .1 .1))
+
+  window-for : (f stored : ℕ) (w : Window) → windowFor ns f stored ≡ some w → steps.windowFor ns f stored ≡ some (scaledWindow w)
+  unfolding windowFor steps.windowFor
+  window-for f stored w e =
+      let o = then-some (groupFor ns f Tags.FrameVOILUTSequence) (windowOn ns stored) e in
+      rw (o .1 .0) (window-on stored (o .0) w (o .1 .1))
+
+-- ---- The cells
+
+same-shade : (inverse : Bool) (n : Num) → steps.shaded inverse n ≡ shaded inverse n
+unfolding shadeOf
+same-shade inverse (Is y) = refl
+same-shade inverse Lacks = refl
+
+module _ (g : Geometry) (v : List ℕ) (f : ℕ) (w : Window) (inverse : Bool) where
+  same-native : (i : ℕ) → steps.nativeCell g v f (scaledWindow w) inverse i ≡ nativeCell g v f w inverse i
+  unfolding steps.nativeCell nativeCell
+  same-native i = ap (steps.shaded inverse) (same-level w (pos (sampleAt g v f i))) ∙ same-shade inverse (levelOf w (pos (sampleAt g v f i)))
+
+  same-masked : (ks : List ℕ) (m : Moves) (i : ℕ) → steps.maskedCell g v f ks m (scaledWindow w) inverse i ≡ maskedCell g v f ks m w inverse i
+  unfolding steps.maskedCell maskedCell
+  same-masked ks m i = rw (same-half, same-level, same-shade)
+
+  same-picture : (m : Mask) → steps.pictureBy g v f (scaledWindow w) inverse m ≡ pictureBy g v f w inverse m
+  unfolding steps.pictureBy pictureBy
+  same-picture noMask = rw (collect-same _ _ same-native (samplesOf g))
+  same-picture (maskOf ks m) = rw (collect-same _ _ (same-masked ks m) (samplesOf g))
+
+-- ---- The steps
+
+module _ (ns : List Node) (f : ℕ) where
+  to-picture : (g : Geometry) (v : List ℕ) (m : Mask) (w : Window) (inverse : Bool) → geometryOf ns ≡ some g → pixelsOf ns ≡ some v → isFrame g v f ≡ true
+      → maskFor ns f ≡ some m → windowFor ns f (g .stored) ≡ some w → inverseOf ns ≡ some inverse → steps.stepsOf ns f ≡ pictureBy g v f w inverse m
+  unfolding steps.stepsOf
+  to-picture g v m w inverse eg ev ef em ew ei =
+      rw (eg, ev, ef, em, window-for ns f (g .stored) w ew, ei) (same-picture g v f w inverse m)
+
+  pub drawn : (p : Picture) → stepsOf ns f ≡ some p → steps.stepsOf ns f ≡ some p
+  unfolding stepsOf
+  drawn p e =
+      let g = then-some (geometryOf ns) _ e in
+      let v = then-some (pixelsOf ns) _ (g .1 .1) in
+      let k = check-some (isFrame (g .0) (v .0) f) _ (v .1 .1) in
+      let m = then-some (maskFor ns f) _ (k .1) in
+      let w = then-some (windowFor ns f (g .0 .stored)) _ (m .1 .1) in
+      let i = then-some (inverseOf ns) _ (w .1 .1) in
+      to-picture (g .0) (v .0) (m .0) (w .0) (i .0) (g .1 .0) (v .1 .0) (k .0) (m .1 .0) (w .1 .0) (i .1 .0) ∙ i .1 .1
+
+  -- Where each frame has a window, the steps give the same altogether.
+  same-steps : ((stored : ℕ) → (w : Window) × (windowFor ns f stored ≡ some w)) → steps.stepsOf ns f ≡ stepsOf ns f
+  unfolding stepsOf steps.stepsOf
+  same-steps has =
+      then-same (geometryOf ns) _ _ (λ g.
+      then-same (pixelsOf ns) _ _ (λ v.
+      check-same (isFrame g v f) _ _
+      (then-same (maskFor ns f) _ _ (λ m. by-window g v m (has (g .stored))))))
+    where
+      by-window : (g : Geometry) (v : List ℕ) (m : Mask) → (w : Window) × (windowFor ns f (g .stored) ≡ some w)
+          → then (steps.windowFor ns f (g .stored)) (λ w. then (inverseOf ns) (λ inverse. steps.pictureBy g v f w inverse m))
+          ≡ then (windowFor ns f (g .stored)) (λ w. then (inverseOf ns) (λ inverse. pictureBy g v f w inverse m))
+      by-window g v m h =
+          rw (h .1, window-for ns f (g .stored) (h .0) (h .1))
+          (then-same (inverseOf ns) (λ inverse. steps.pictureBy g v f (scaledWindow (h .0)) inverse m) (λ inverse. pictureBy g v f (h .0) inverse m) (λ inverse. same-picture g v f (h .0) inverse m))
+
+  -- Where rule 30 held there is one.
+  has-in : (is : List ℕ) → hasWindow ns is ≡ true → (w : Window) × (windowIn ns is ≡ some w)
+  unfolding hasWindow isWindow allDecimals allWidths
+  has-in is e =
+      let c = had (findVr ns Tags.WindowCenter DS is) _ e in
+      let d = had (findVr ns Tags.WindowWidth DS is) _ (c .1 .1) in
+      let x = valueAt ns (c .0) in
+      let y = valueAt ns (d .0) in
+      let a = and-both (eqb (length (valuesOf x)) (length (valuesOf y))) (allDecimals x && allWidths y) (d .1 .1) in
+      let b = and-both (allDecimals x) (allWidths y) (a .1) in
+      let p : isNumber (decimalOf (valueOf x 0)) ≡ true = all-first (λ v. isNumber (decimalOf v)) x (b .0) in
+      let q : isNumber (decimalOf (valueOf y 0)) ≡ true = width-number (decimalOf (valueOf y 0)) (all-first (λ v. isWidth (decimalOf v)) y (b .1)) in
+      (of-values ns (c .0) (d .0), then-in ns is (c .0) (d .0) (c .1 .0) (d .1 .0) p q)
+
+  item-window : (stored g j : ℕ) (w : Window) → theItem ns g ≡ Is j → windowIn ns (inside ns j) ≡ some w → windowOn ns stored (Is g) ≡ some w
+  item-window stored g j w e h = rw e h
+
+  has-on : (stored : ℕ) (o : Num) → ifPresent o (isVoi ns) ≡ true → (w : Window) × (windowOn ns stored o ≡ some w)
+  unfolding isVoi
+  has-on stored Lacks e = (fullWindow stored, refl)
+  has-on stored (Is g) e =
+      let j = had (theItem ns g) (λ i. hasWindow ns (inside ns i)) e in
+      let w = has-in (inside ns (j .0)) (j .1 .1) in
+      (w .0, item-window stored g (j .0) (w .0) (j .1 .0) (w .1))
+
+  group-window : (stored : ℕ) (o : Num) (w : Window) → groupFor ns f Tags.FrameVOILUTSequence ≡ some o → windowOn ns stored o ≡ some w → windowFor ns f stored ≡ some w
+  unfolding windowFor
+  group-window stored o w e h = rw e h
+
+  has-window : rule30 ns f ≡ true → (stored : ℕ) → (w : Window) × (windowFor ns f stored ≡ some w)
+  unfolding rule30 item30
+  has-window e stored =
+      let a = at-items ns f (item30 ns) e in
+      let o = has-on stored (groupOf ns Tags.FrameVOILUTSequence (a .s) (a .i)) (a .holds) in
+      (o .0, group-window stored (groupOf ns Tags.FrameVOILUTSequence (a .s) (a .i)) (o .0) (group-is ns f Tags.FrameVOILUTSequence (a .s) (a .i) (a .shared) (a .item)) (o .1))
+
+  pub pictures : rule30 ns f ≡ true → steps.stepsOf ns f ≡ stepsOf ns f
+  pictures e = same-steps (has-window e)

@@ -1,0 +1,125 @@
+-- Where rule 30 held as it was, it holds.
+use mathlib.Core.Path.{_≡_, refl, sym, ap, _∙_, subst}
+use mathlib.Core.Bool.{Bool, true, false, cond, _&&_}
+use mathlib.Core.List.{List, [], _∷_}
+use Prim.Native.Nat.{ℕ, _+_, _*_, _≤_, _<_}
+use native.Mathlib.Omega.{arith}
+use lib.Dec.{eqb, leb}
+use lib.ListN.{length}
+use borrow.Author.Tests.{le-leb, leb-true, eqb-true}
+use Rattle.value.specs.declared.Num.{Num}
+use Rattle.value.specs.declared.Num.the-variants.{Is, Lacks}
+use Rattle.value.specs.declared.Signed.{Signed}
+use Rattle.value.specs.declared.Signed.the-variants as signed
+use Rattle.value.specs.Text.{valuesOf}
+use Rattle.value.specs.Number as now
+use Rattle.value.specs.Number.{isNumber, all}
+use Rattle.verdict.specs.Verdict.{lastRule}
+use Rattle.verdict.proofs.Tests.{false-is-true, and-both}
+use Rattle.node.specs.Nodes.{Node, inside}
+use Rattle.node.specs.Find.{holds, ifPresent, findVr}
+use Rattle.element.specs.Tags
+use Rattle.element.specs.Tags.{DS}
+use Rattle.element.specs.Elements.{valueAt, theItem}
+use Rattle.element.specs.Frames.{sharedItem, frameItem, groupOf}
+use Rattle.rules.specs.Frame as rules
+use Rattle.rules.specs.All as list
+use Rattle.conformance.specs.declared.Finding.the-variants.{Accepted}
+use Rattle.conformance.specs.Judging.{findingOf}
+use Rattle.conformance.proofs.First.{holds-accepted}
+use Rattle.thousandths.specs.Number.{decimalOf, isWidth, allDecimals, allWidths, scaled}
+use Rattle.thousandths.specs.Rule30.{isWindow, hasWindow, isVoi, item30, rule30, ruleAt}
+use Rattle.thousandths.specs.Kept.{RulesHeld}
+use Rattle.thousandths.proofs.Numbers.{numbers}
+
+-- ---- A test that asks more
+
+all-more : (p q : List ℕ → Bool) → ((v : List ℕ) → p v ≡ true → q v ≡ true) → (vs : List (List ℕ)) → all p vs ≡ true → all q vs ≡ true
+unfolding all
+all-more p q h [] e = refl
+all-more p q h (v ∷ vs) e =
+    let b = and-both (p v) (all p vs) e in
+    rw (h v (b .0), all-more p q h vs (b .1))
+
+holds-more : (o : Num) (p q : ℕ → Bool) → ((n : ℕ) → p n ≡ true → q n ≡ true) → holds o p ≡ true → holds o q ≡ true
+holds-more (Is n) p q h e = h n e
+holds-more Lacks p q h e = e
+
+present-more : (o : Num) (p q : ℕ → Bool) → ((n : ℕ) → p n ≡ true → q n ≡ true) → ifPresent o p ≡ true → ifPresent o q ≡ true
+present-more (Is n) p q h e = h n e
+present-more Lacks p q h e = e
+
+-- ---- Numbers and widths
+
+number-scaled : (s : Signed) → isNumber s ≡ true → isNumber (scaled s) ≡ true
+number-scaled (signed.Plus n) e = refl
+number-scaled (signed.Minus n) e = refl
+number-scaled signed.Lacks e = e
+
+pub width-number : (s : Signed) → isWidth s ≡ true → isNumber s ≡ true
+width-number (signed.Plus n) e = refl
+width-number (signed.Minus n) e = absurd (false-is-true e)
+width-number signed.Lacks e = absurd (false-is-true e)
+
+width-scaled : (s : Signed) → isWidth s ≡ true → now.isWidth (scaled s) ≡ true
+width-scaled (signed.Plus n) e = le-leb 1000000 (1000 * n) (omega (arith, leb-true 1000 n e))
+width-scaled (signed.Minus n) e = e
+width-scaled signed.Lacks e = e
+
+number-now : (v : List ℕ) → isNumber (decimalOf v) ≡ true → isNumber (now.decimalOf v) ≡ true
+number-now v e = ap isNumber (numbers v e) ∙ number-scaled (decimalOf v) e
+
+width-now : (v : List ℕ) → isWidth (decimalOf v) ≡ true → now.isWidth (now.decimalOf v) ≡ true
+width-now v e = ap now.isWidth (numbers v (width-number (decimalOf v) e)) ∙ width-scaled (decimalOf v) e
+
+-- ---- Rule 30
+
+window-now : (c w : List ℕ) → isWindow c w ≡ true → rules.isWindow c w ≡ true
+unfolding isWindow rules.isWindow allDecimals allWidths now.allDecimals now.allWidths
+window-now c w e =
+    let a = and-both (eqb (length (valuesOf c)) (length (valuesOf w))) (allDecimals c && allWidths w) e in
+    let b = and-both (allDecimals c) (allWidths w) (a .1) in
+    rw (a .0, all-more (λ d. isNumber (decimalOf d)) (λ d. isNumber (now.decimalOf d)) number-now (valuesOf c) (b .0), all-more (λ d. isWidth (decimalOf d)) (λ d. now.isWidth (now.decimalOf d)) width-now (valuesOf w) (b .1))
+
+module _ (ns : List Node) where
+  has-now : (is : List ℕ) → hasWindow ns is ≡ true → rules.hasWindow ns is ≡ true
+  unfolding hasWindow rules.hasWindow
+  has-now is e =
+      holds-more (findVr ns Tags.WindowCenter DS is) _ _
+      (λ c. holds-more (findVr ns Tags.WindowWidth DS is) (λ w. isWindow (valueAt ns c) (valueAt ns w)) (λ w. rules.isWindow (valueAt ns c) (valueAt ns w)) (λ w. window-now (valueAt ns c) (valueAt ns w)))
+      e
+
+  voi-now : (g : ℕ) → isVoi ns g ≡ true → rules.isVoi ns g ≡ true
+  unfolding isVoi rules.isVoi
+  voi-now g e = holds-more (theItem ns g) (λ j. hasWindow ns (inside ns j)) (λ j. rules.hasWindow ns (inside ns j)) (λ j. has-now (inside ns j)) e
+
+  item-now : (s i : ℕ) → item30 ns s i ≡ true → rules.item30 ns s i ≡ true
+  unfolding item30 rules.item30
+  item-now s i e = present-more (groupOf ns Tags.FrameVOILUTSequence s i) (isVoi ns) (rules.isVoi ns) voi-now e
+
+  rule-now : (f : ℕ) → rule30 ns f ≡ true → rules.rule30 ns f ≡ true
+  unfolding rule30 rules.rule30
+  rule-now f e =
+      holds-more (sharedItem ns) (λ s. holds (frameItem ns f) (λ i. item30 ns s i)) (λ s. holds (frameItem ns f) (λ i. rules.item30 ns s i))
+      (λ s. holds-more (frameItem ns f) (λ i. item30 ns s i) (λ i. rules.item30 ns s i) (λ i. item-now s i)) e
+
+  -- ---- The rule list
+
+  thirty : (f : ℕ) → list.ruleAt ns 30 f ≡ rules.rule30 ns f
+  unfolding list.ruleAt list.ruleList
+  thirty f = refl
+
+  pub held : (f : ℕ) → ruleAt ns 30 f ≡ true → rule30 ns f ≡ true
+  unfolding ruleAt
+  held f e = e
+
+  at-now : (rule f : ℕ) → ruleAt ns rule f ≡ true → list.ruleAt ns rule f ≡ true
+  unfolding ruleAt
+  at-now rule f e = go (eqb rule 30) refl e
+    where
+      go : (t : Bool) → eqb rule 30 ≡ t → cond t (rule30 ns f) (list.ruleAt ns rule f) ≡ true → list.ruleAt ns rule f ≡ true
+      go true q e = rw (eqb-true rule 30 q) (thirty f ∙ rule-now f e)
+      go false q e = e
+
+  pub accepted : RulesHeld ns → findingOf ns ≡ Accepted
+  accepted a = holds-accepted ns (λ rule l h f from below. at-now rule f (a rule l (omega arith) f from below))

@@ -1,0 +1,49 @@
+-- Window numbers are read in full and in millionths now; they were read in thousandths, and without an exponent. This says
+-- what that change keeps. Number.antt, Rule30.antt and Step6.antt have the DS reader, rule 30 and drawing step 6 as they
+-- were; every other rule and step is the present one, for this change alone is meant.
+--   numbers: whatever bytes read as n thousandths then read as 1000 n millionths now, so what rule 30 read it still reads.
+--   accepted: an object that was accepted is accepted.
+--   pictures: take any frame of an object that was accepted. The steps as they were gave it a picture, and the present
+--   steps give it the same one, masked or native and cell for cell.
+--   drawn: on any data set, accepted or not, a picture that the steps gave then they give now.
+-- The proof stands in proofs/Kept.
+use mathlib.Core.Path.{_≡_}
+use mathlib.Core.Bool.{true}
+use mathlib.Core.List.{List}
+use mathlib.Core.Option.{some}
+use Prim.Native.Nat.{ℕ, _+_, _≤_, _<_}
+use Rattle.dataset.specs.Reading.{Row, readingOf, read}
+use Rattle.value.specs.Number as now
+use Rattle.value.specs.Number.{isNumber}
+use Rattle.verdict.specs.Verdict.{lastRule}
+use Rattle.node.specs.Nodes.{Node, nodesOf}
+use Rattle.conformance.specs.Judging.{firstFrame, frameCount}
+use Rattle.steps.specs.Steps as steps
+use Rattle.steps.specs.Steps.{Picture}
+use Rattle.display.specs.Demand3.{Bytes, IsAccepted, IsFrame}
+use Rattle.thousandths.specs.Number.{decimalOf, scaled}
+use Rattle.thousandths.specs.Rule30.{ruleAt}
+use Rattle.thousandths.specs.Step6.{stepsOf}
+
+-- Every rule held, rule 30 as it was, at every frame at which it is asked.
+abbrev pub RulesHeld : List Node → Type 0
+RulesHeld ns =
+    (rule : ℕ) → 1 ≤ rule → rule ≤ lastRule → (f : ℕ) → firstFrame rule ≤ f → f < firstFrame rule + frameCount ns rule → ruleAt ns rule f ≡ true
+
+-- The data set passed the size limit and the reading checks, and broke no rule.
+pub record WasAccepted (s : List ℕ) : Type 0 where
+  pub rows : List Row
+  pub reads : readingOf s ≡ read rows
+  pub sound : RulesHeld (nodesOf s)
+
+-- The steps gave frame f a picture, and it has kept it.
+pub record KeepsPicture (ns : List Node) (f : ℕ) : Type 0 where
+  pub p : Picture
+  pub was : stepsOf ns f ≡ some p
+  pub is : steps.stepsOf ns f ≡ some p
+
+pub record Kept : Type 0 where
+  pub numbers : (v : List ℕ) → isNumber (decimalOf v) ≡ true → now.decimalOf v ≡ scaled (decimalOf v)
+  pub accepted : (s : List ℕ) → WasAccepted s → IsAccepted s
+  pub pictures : (s : List ℕ) → Bytes s → WasAccepted s → (f : ℕ) → IsFrame s f → KeepsPicture (nodesOf s) f
+  pub drawn : (ns : List Node) (f : ℕ) (p : Picture) → stepsOf ns f ≡ some p → steps.stepsOf ns f ≡ some p

@@ -1,0 +1,60 @@
+-- A DS number as rule 30 read it before: in thousandths, and without an exponent.
+use Prim.Native.Nat.{ℕ, _+_, _-_, _*_, _^_}
+use mathlib.Core.Bool.{Bool, true, false, cond}
+use mathlib.Core.List.{List, [], _∷_}
+use lib.Dec.{eqb, leb}
+use Rattle.value.specs.declared.Num.{Num}
+use Rattle.value.specs.declared.Num.the-variants as num
+use Rattle.value.specs.declared.Signed.{Signed}
+use Rattle.value.specs.declared.Signed.the-variants as signed
+use Rattle.value.specs.Text.{valuesOf, trimmed}
+use Rattle.value.specs.Number.{Digits, digitsOf, signedBy, isNumber, all}
+
+-- Read in thousandths, that is with 3 decimals.
+abbrev pub decimals : ℕ
+decimals = 3
+
+abbrev pub unit : ℕ
+unit = 10 ^ decimals
+
+-- Up to 6 digits, then optionally a point and up to 3 digits, at least one digit in all.
+-- After the point: `whole` digits stood before it, and the decimals that were not written are zeros.
+abbrev pub pointOn : ℕ → Digits → List ℕ → Num
+pointOn whole d [] = cond (eqb (whole + d .count) 0) num.Lacks (num.Is (d .number * 10 ^ (decimals - d .count)))
+pointOn whole d (c ∷ s) = num.Lacks
+
+abbrev pub pointBy : ℕ → Digits → Num
+pointBy whole d = pointOn whole d (d .rest)
+
+abbrev pub fractionOn : Digits → List ℕ → Num
+fractionOn d [] = cond (eqb (d .count) 0) num.Lacks (num.Is (d .number * unit))
+fractionOn d (c ∷ s) = cond (eqb c 0x2E) (pointBy (d .count) (digitsOf decimals (d .number) 0 s)) num.Lacks
+
+abbrev pub fractionBy : Digits → Num
+fractionBy d = fractionOn d (d .rest)
+
+unfoldable pub sizeOf : List ℕ → Num
+sizeOf s = fractionBy (digitsOf 6 0 0 s)
+
+-- One value of a DS.
+unfoldable pub decimalOf : List ℕ → Signed
+decimalOf v = signedBy sizeOf (trimmed v)
+
+-- A width: at least 1.
+abbrev pub isWidth : Signed → Bool
+isWidth (signed.Plus n) = leb unit n
+isWidth (signed.Minus n) = false
+isWidth signed.Lacks = false
+
+-- Every value of a DS has the form; every one is a width.
+unfoldable pub allDecimals : List ℕ → Bool
+allDecimals v = all (λ d. isNumber (decimalOf d)) (valuesOf v)
+
+unfoldable pub allWidths : List ℕ → Bool
+allWidths v = all (λ d. isWidth (decimalOf d)) (valuesOf v)
+
+-- So many thousandths, in millionths.
+abbrev pub scaled : Signed → Signed
+scaled (signed.Plus n) = signed.Plus (1000 * n)
+scaled (signed.Minus n) = signed.Minus (1000 * n)
+scaled signed.Lacks = signed.Lacks

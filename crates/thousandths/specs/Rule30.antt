@@ -1,0 +1,38 @@
+-- Rule 30 as it was, and the rule list with it in the present one's place.
+use Prim.Native.Nat.{ℕ}
+use mathlib.Core.List.{List}
+use mathlib.Core.Bool.{Bool, cond, _&&_}
+use lib.ListN.{length}
+use lib.Dec.{eqb}
+use Rattle.value.specs.Text.{valuesOf}
+use Rattle.node.specs.Nodes.{Node, inside}
+use Rattle.node.specs.Find.{holds, ifPresent, findVr}
+use Rattle.element.specs.Tags
+use Rattle.element.specs.Tags.{DS}
+use Rattle.element.specs.Elements.{valueAt, theItem}
+use Rattle.element.specs.Frames.{groupOf}
+use Rattle.rules.specs.Frame.{atFrame}
+use Rattle.rules.specs.All as now
+use Rattle.thousandths.specs.Number.{allDecimals, allWidths}
+
+-- Frame VOI LUT (0028,9132), if present, one item; has Window Center (0028,1050) and Width (0028,1051) DS, equally many,
+-- each of the form of a DS number; widths at least 1.
+unfoldable pub isWindow : List ℕ → List ℕ → Bool
+isWindow centers widths = eqb (length (valuesOf centers)) (length (valuesOf widths)) && (allDecimals centers && allWidths widths)
+
+unfoldable pub hasWindow : List Node → List ℕ → Bool
+hasWindow ns is =
+    holds (findVr ns Tags.WindowCenter DS is) (λ c. holds (findVr ns Tags.WindowWidth DS is) (λ w. isWindow (valueAt ns c) (valueAt ns w)))
+
+unfoldable pub isVoi : List Node → ℕ → Bool
+isVoi ns g = holds (theItem ns g) (λ j. hasWindow ns (inside ns j))
+
+unfoldable pub item30 : List Node → ℕ → ℕ → Bool
+item30 ns s i = ifPresent (groupOf ns Tags.FrameVOILUTSequence s i) (isVoi ns)
+
+unfoldable pub rule30 : List Node → ℕ → Bool
+rule30 ns f = atFrame ns f (item30 ns)
+
+-- Whether a rule holds at a frame.
+unfoldable pub ruleAt : List Node → ℕ → ℕ → Bool
+ruleAt ns rule f = cond (eqb rule 30) (rule30 ns f) (now.ruleAt ns rule f)

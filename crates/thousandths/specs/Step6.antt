@@ -1,0 +1,113 @@
+-- Drawing step 6 as it was, and the steps with it in the present one's place.
+use Prim.Native.Nat.{ℕ, zero, suc, _+_, _-_, _*_, _/_, _^_}
+use mathlib.Core.Bool.{Bool, true, false, cond, _&&_}
+use mathlib.Core.List.{List}
+use mathlib.Core.Option.{Option, some}
+use lib.Dec.{eqb}
+use lib.IntN.{ℤ, pos, negsuc, natAbs, _+ℤ_, _-ℤ_, _*ℤ_}
+use lib.Signed.{leZ, ltZ}
+use Rattle.value.specs.declared.Num.{Num}
+use Rattle.value.specs.declared.Num.the-variants.{Is, Lacks}
+use Rattle.value.specs.declared.Signed.{Signed}
+use Rattle.value.specs.declared.Signed.the-variants as signed
+use Rattle.value.specs.Text.{valueOf}
+use Rattle.value.specs.Number.{isNumber}
+use Rattle.shift.specs.declared.Moves.{Moves}
+use Rattle.node.specs.Nodes.{Node, inside}
+use Rattle.node.specs.Find.{findVr}
+use Rattle.element.specs.Tags
+use Rattle.element.specs.Tags.{DS}
+use Rattle.element.specs.Elements.{valueAt, theItem}
+use Rattle.pixel.specs.declared.Geometry.{Geometry}
+use Rattle.pixel.specs.Pixel.{samplesOf, isFrame, sampleAt, areInside, blendedAt}
+use Rattle.window.specs.Window.{integer}
+use Rattle.steps.specs.Given.{need, check, then, collect}
+use Rattle.steps.specs.Steps.{Picture, Mask, native, masked, geometryOf, pixelsOf, maskFor, inverseOf, groupFor, areFrames}
+use Rattle.thousandths.specs.Number.{unit, decimalOf}
+
+-- Centre and width, in thousandths.
+pub record Window : Type 0 where
+  pub center : Signed
+  pub width : Signed
+
+-- The window of a frame without a VOI group: centre 2^(stored - 1) and width 2^stored.
+unfoldable pub fullWindow : ℕ → Window
+fullWindow stored = record { center = signed.Plus (unit * 2 ^ stored / 2); width = signed.Plus (unit * 2 ^ stored) }
+
+-- a / b rounded down, for a b above 0.
+abbrev pub floor : ℤ → ℤ → ℤ
+floor (pos a) b = pos (a / natAbs b)
+floor (negsuc a) b = negsuc (a / natAbs b)
+
+-- Limited to 0..255.
+abbrev pub limited : ℤ → ℕ
+limited (negsuc n) = 0
+limited (pos n) = cond (leZ (pos n) (pos 255)) n 255
+
+-- For a centre C and a width W, with u the units to one and t = 2ux: 0 if t ≤ 2C - W; 255 if t > 2C + W - 2u; else
+-- floor((255(t - 2C + W) + W - u) / (2(W - u))), whose divisor must be above 0. Then limited.
+abbrev pub levelBy : ℤ → ℤ → ℤ → ℤ → Num
+levelBy u c w t =
+    cond (leZ t (pos 2 *ℤ c -ℤ w)) (Is 0)
+    (cond (ltZ (pos 2 *ℤ c +ℤ w -ℤ pos 2 *ℤ u) t) (Is 255)
+    (cond (ltZ (pos 0) (pos 2 *ℤ (w -ℤ u)))
+    (Is (limited (floor (pos 255 *ℤ (t -ℤ pos 2 *ℤ c +ℤ w) +ℤ w -ℤ u) (pos 2 *ℤ (w -ℤ u)))))
+    Lacks))
+
+unfoldable pub levelOf : Window → ℤ → Num
+levelOf w x = levelBy (pos unit) (integer (w .center)) (integer (w .width)) (pos 2 *ℤ pos unit *ℤ x)
+
+-- The level of x + 1/2.
+unfoldable pub levelHalf : Window → ℤ → Num
+levelHalf w x = levelBy (pos unit) (integer (w .center)) (integer (w .width)) (pos 2 *ℤ pos unit *ℤ x +ℤ pos unit)
+
+-- The first centre and width; without a VOI group the full window.
+unfoldable pub windowIn : List Node → List ℕ → Option Window
+windowIn ns is =
+    need (findVr ns Tags.WindowCenter DS is) (λ c.
+    need (findVr ns Tags.WindowWidth DS is) (λ w.
+    check (isNumber (decimalOf (valueOf (valueAt ns c) 0)) && isNumber (decimalOf (valueOf (valueAt ns w) 0)))
+    (some (record { center = decimalOf (valueOf (valueAt ns c) 0); width = decimalOf (valueOf (valueAt ns w) 0) }))))
+
+abbrev pub windowOn : List Node → ℕ → Num → Option Window
+windowOn ns stored Lacks = some (fullWindow stored)
+windowOn ns stored (Is g) = need (theItem ns g) (λ j. windowIn ns (inside ns j))
+
+unfoldable pub windowFor : List Node → ℕ → ℕ → Option Window
+windowFor ns f stored = then (groupFor ns f Tags.FrameVOILUTSequence) (windowOn ns stored)
+
+-- Step 7: MONOCHROME1 shows 255 - y.
+abbrev pub shaded : Bool → Num → Num
+shaded inverse Lacks = Lacks
+shaded inverse (Is y) = Is (cond inverse (255 - y) y)
+
+-- The cells, the picture and the steps: as they are now, with the window of thousandths.
+unfoldable pub nativeCell : Geometry → List ℕ → ℕ → Window → Bool → ℕ → Num
+nativeCell g v f w inverse i = shaded inverse (levelOf w (pos (sampleAt g v f i)))
+
+unfoldable pub maskedCell : Geometry → List ℕ → ℕ → List ℕ → Moves → Window → Bool → ℕ → Num
+maskedCell g v f ks m w inverse i =
+    cond (areInside g m i)
+    (shaded inverse
+    (cond (eqb (g .stored) 0)
+    (levelHalf w (pos (sampleAt g v f i) -ℤ pos (blendedAt g v ks m i)))
+    (levelOf w (pos (sampleAt g v f i) -ℤ pos (blendedAt g v ks m i) +ℤ pos (2 ^ (g .stored - 1))))))
+    Lacks
+
+unfoldable pub pictureBy : Geometry → List ℕ → ℕ → Window → Bool → Mask → Option Picture
+pictureBy g v f w inverse native =
+    then (collect (nativeCell g v f w inverse) (samplesOf g)) (λ l. some (record { masked = false; samples = l }))
+pictureBy g v f w inverse (masked ks m) =
+    check (areFrames g v ks)
+    (then (collect (maskedCell g v f ks m w inverse) (samplesOf g)) (λ l. some (record { masked = true; samples = l })))
+
+-- Drawing frame f.
+unfoldable pub stepsOf : List Node → ℕ → Option Picture
+stepsOf ns f =
+    then (geometryOf ns) (λ g.
+    then (pixelsOf ns) (λ v.
+    check (isFrame g v f)
+    (then (maskFor ns f) (λ m.
+    then (windowFor ns f (g .stored)) (λ w.
+    then (inverseOf ns) (λ inverse.
+    pictureBy g v f w inverse m))))))
