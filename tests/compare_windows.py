@@ -126,6 +126,16 @@ def compare_every_level(windows, rng):
     windows.comparison.insist([(*kind, level) for kind in kinds() for level in range(256)])
 
 
+def compare_edges(windows, rng):
+    """Windows whose edges stand exactly on a sample, and a millionth beside it."""
+    for function, photometric in kinds():
+        less = 0 if function == b"LINEAR_EXACT" else UNIT  # the upper edge is at C + W / 2 - u for LINEAR
+        for width in (UNIT, 2 * UNIT, 2 * UNIT + 2, 10 * UNIT, least_width(function) + 1, least_width(function) + 2 * rng.randrange(UNIT)):
+            for edge in (-width, width - 2 * less):
+                for beside in (-1, 0, 1):
+                    windows.check(rng, photometric, function, 1000 * UNIT - edge // 2 + beside, width)
+
+
 def compare_words(comparison, rng):
     """The function's words with a width of 1/2, that only LINEAR_EXACT takes, and of 2, that both take."""
     probe = Probe(comparison.library, 1, "MONOCHROME2", True)
@@ -158,6 +168,7 @@ def run(comparison, arguments):
         probe.put(b"40", b"10", (), b"LINEAR")
         comparison.must_equal("the object: the reference", rules.judge(bytes(probe.input), probe.numbers).answer.code, 0)
     compare_words(comparison, rng)
+    compare_edges(windows, rng)
     compare_random_windows(windows, rng, comparison.count)
     compare_widths_to_1(windows, rng, comparison.count)
     if comparison.count >= 1000:
