@@ -28,13 +28,10 @@ use Rattle.pixel.specs.Pixel.{leBytes, isFrame, sampleAt, sumAt, averageOf, mas
 use Rattle.steps.specs.Given.{collect}
 use Rattle.steps.specs.Steps.{geometryOf, pixelsOf, groupFor, rangeHolds, firstHolding, applyingTo, averageFrames, offsetOf, tidFrame, shiftFor, movesFor, maskBy, maskFor, windowIn, windowFor, inverseOf, nativeCell, maskedCell, areFrames, pictureBy, stepsOf}
 use Rattle.display.specs.Show.{pictureOf, acceptedAnswer, showOf, imageOf}
-use Rattle.samples.specs.Samples.{Sample, samples, later}
+use Rattle.samples.specs.Samples.{Sample, samples}
 
--- Every sample of a list gives what it says.
-abbrev Given : List Sample → Type 0
-Given list = map (λ k. k .gives) list ≡ map (λ k. k .says) list
-
-computed : Given samples × Given later
+-- The starred cases of document 01.
+pub starred : map (λ k. k .gives) samples ≡ map (λ k. k .says) samples
 unfolding
     le16
     listed formOf
@@ -61,12 +58,4 @@ unfolding
     collect
     geometryOf pixelsOf groupFor rangeHolds firstHolding applyingTo averageFrames offsetOf tidFrame shiftFor movesFor maskBy maskFor windowIn windowFor inverseOf nativeCell maskedCell areFrames pictureBy stepsOf
     pictureOf acceptedAnswer showOf imageOf
-computed = (refl, refl)
-
--- The starred cases of document 01.
-pub starred : map (λ k. k .gives) samples ≡ map (λ k. k .says) samples
-starred = computed .0
-
--- Those of later requests.
-pub later-given : map (λ k. k .gives) later ≡ map (λ k. k .says) later
-later-given = computed .1
+starred = refl
