@@ -4,55 +4,18 @@ Whether a string is read at all, xa_judge tells: rule 30 is broken where it is n
 the window is chosen so that one millionth more or less draws another level.
 """
 
-import ctypes
 import random
 
 import enhanced_xa as xa
-import objects
 from comparison import DifferenceFound, exact_numbers, run_as_program
 from mutations import BAD_DECIMALS, GOOD_CENTERS, GOOD_WIDTHS, SMALL_WIDTHS
+from probe import FIELD, Probe
 from reference import drawing, rules
 from reference.values import UNIT, millionths
 
-FIELD = 20  # bytes of a window's value: shorter strings are padded with spaces
 LIMIT = 10 ** 12  # numbers are below it in size, in millionths
 ALPHABET = "0123456789+-.Ee "
 ROUGHLY, EXACTLY = "roughly", "exactly"
-
-
-class Probe:
-    """An accepted object of one sample of 16 bits, in which centre, width and sample are put in place before each call."""
-
-    def __init__(self, library):
-        model = xa.build(random.Random(1), xa.Shape(bits_stored=16, frames=1, rows=1, columns=1, voi="absent", extras=False))
-        marks = [bytes([letter]) * FIELD for letter in b"CW"]
-        model[xa.PER_FRAME][1][0][xa.VOI] = xa.sq({xa.CENTER: ("DS", marks[0]), xa.WIDTH: ("DS", marks[1])})
-        model[xa.PIXEL_DATA] = ("OW", b"PX")
-        data = objects.encode(model)
-        self.places = [data.index(mark) for mark in marks]
-        self.sample_place = len(data) - 2
-        self.library = library
-        self.input = (ctypes.c_ubyte * len(data)).from_buffer_copy(data)
-        self.view = memoryview(self.input).cast("B")
-        self.numbers = exact_numbers(data)
-        self.rows = (ctypes.c_uint32 * self.numbers)()
-        self.image = (ctypes.c_ubyte * 1)()
-
-    def put(self, center, width, sample=0):
-        for place, value in zip(self.places, (center, width)):
-            self.view[place:place + FIELD] = value.ljust(FIELD)
-        self.view[self.sample_place:] = sample.to_bytes(2, "little")
-
-    def verdict(self):
-        """(code, rule, frame) that the library answers."""
-        answer = self.library.functions["xa_judge"](ctypes.addressof(self.input), len(self.input), ctypes.addressof(self.rows), self.numbers)
-        return answer.code, answer.rule, answer.frame
-
-    def level(self):
-        """(code, level) that the library draws."""
-        answer = self.library.functions["xa_show"](ctypes.addressof(self.input), len(self.input), 1, ctypes.addressof(self.rows), self.numbers,
-                                                   ctypes.addressof(self.image), 1)
-        return answer.code, self.image[0]
 
 
 def random_string(rng):
@@ -106,14 +69,14 @@ def telling_widths(rng, width):
 
 
 def same_level(sample, center, width, other_center, other_width):
-    return drawing.level(sample, center, width) == drawing.level(sample, other_center, other_width)
+    return drawing.linear(sample, center, width) == drawing.linear(sample, other_center, other_width)
 
 
 def check_levels(comparison, probe, name, windows):
     """Each of (sample, centre's string, width's string, level) as the library draws it."""
     for sample, center, width, level in windows:
-        probe.put(center, width, sample)
-        comparison.must_equal(f"{name}: {center!r}, {width!r} at {sample}", probe.level(), (0, level))
+        probe.put(center, width, (sample,))
+        comparison.must_equal(f"{name}: {center!r}, {width!r} at {sample}", probe.levels(), (0, bytes([level])))
 
 
 def check_center(comparison, probe, rng, word):
@@ -129,7 +92,7 @@ def check_center(comparison, probe, rng, word):
             raise DifferenceFound(f"the comparison itself is at fault: {word!r} is not told from a neighbour")
     windows = telling or [(rng.randrange(65_536), rng.randrange(UNIT, LIMIT)) for _ in range(2)]
     check_levels(comparison, probe, f"centre {word!r}", [
-        (sample, word, xa.written(rng, width).encode(), drawing.level(sample, number, width)) for sample, width in windows])
+        (sample, word, xa.written(rng, width).encode(), drawing.linear(sample, number, width)) for sample, width in windows])
     return EXACTLY if telling else ROUGHLY
 
 
@@ -147,7 +110,7 @@ def check_width(comparison, probe, rng, word):
             raise DifferenceFound(f"the comparison itself is at fault: {word!r} is not told from a neighbour")
     windows = telling or [(rng.randrange(65_536), rng.randrange(-LIMIT + 1, LIMIT)) for _ in range(2)]
     check_levels(comparison, probe, f"width {word!r}", [
-        (sample, xa.written(rng, center).encode(), word, drawing.level(sample, center, number)) for sample, center in windows])
+        (sample, xa.written(rng, center).encode(), word, drawing.linear(sample, center, number)) for sample, center in windows])
     return EXACTLY if telling else ROUGHLY
 
 

@@ -11,7 +11,6 @@ import reading_cases
 from comparison import DifferenceFound, enough_numbers, exact_numbers, run_as_program
 from mutations import CHANGES
 from reference import drawing, reading
-from reference.values import UNIT
 
 
 def check_show(comparison, name, data, frame, row_buffer_length, image_buffer_length):
@@ -83,10 +82,16 @@ WINDOWS = (("50", "1"), ("40", "10"), ("128", "256"), ("0", "1"), ("-10", "50"),
            ("128.500001", "1.000001"), ("100.5", "1.000255"), ("-.5E-5", "100E-2"), ("999999.999999", "999999.999999"), ("1E2", "1E1"))
 
 
+EXACT_WINDOWS = (("50", "0.000001"), ("128", "1E-6"), ("49.999999", "0.000002"), ("50.25", ".5"), ("128", "0.999999"), ("127.5", "0.75"))
+
+
 def compare_windows(comparison, rng):
-    """Each window on every 8-bit value, and on values of more bits; native and masked, both photometric interpretations."""
-    for number, (center, width) in enumerate(WINDOWS):
-        for photometric in ("MONOCHROME1", "MONOCHROME2"):
+    """Each window of each function on every 8-bit value, and on values of more bits; native and masked, both photometric
+    interpretations."""
+    windows = [(center, width, function) for center, width in WINDOWS for function in ("", *xa.FUNCTIONS)]
+    windows += [(center, width, "LINEAR_EXACT") for center, width in EXACT_WINDOWS]
+    for number, (center, width, function) in enumerate(windows):
+        for photometric in ("MONOCHROME1", "MONOCHROME2") if comparison.count >= 200 else (("MONOCHROME1", "MONOCHROME2")[number % 2],):
             for stored in (8, 9 + number % 8):
                 shape = base_shape(rng, bits_allocated=8 if stored == 8 else 16, bits_stored=stored, frames=2, rows=16, columns=16,
                                    photometric=photometric, masks=("AVG_SUB",), ranges=False, shifts=False, pixel_vr="OW")
@@ -98,7 +103,9 @@ def compare_windows(comparison, rng):
                 place = rng.choice((model[xa.SHARED][1], model[xa.PER_FRAME][1]))
                 for item in place:
                     item[xa.VOI] = xa.sq({xa.CENTER: xa.padded(rng, "DS", center, "1"), xa.WIDTH: xa.padded(rng, "DS", width, "7")})
-                drawn = check_every_frame(comparison, f"window {center}, {width}, {stored} bits, {photometric}", model, rng)
+                    if function:
+                        item[xa.VOI][1][0][xa.FUNCTION] = xa.padded(rng, "CS", function)
+                drawn = check_every_frame(comparison, f"window {function} {center}, {width}, {stored} bits, {photometric}", model, rng)
                 comparison.must_equal("native, then masked", drawn, {1: 0, 2: 1})
 
 
@@ -143,25 +150,6 @@ def compare_average_rounding(comparison, rng):
                                                    for frame in range(count) for q, r in sums))
             drawn = check_every_frame(comparison, f"rounding of an average of {count}", model, rng, frames=[count])
             comparison.must_equal("masked", drawn, {count: 1})
-
-
-def compare_window_edges(comparison, rng, rounds):
-    """Random windows, with the samples about both of their edges."""
-    for number in range(rounds):
-        stored = rng.randrange(9, 17)
-        whole = UNIT * 2 ** stored
-        width = rng.choice((UNIT, UNIT + 1, UNIT + 255, 2 * UNIT - 1, 2 * UNIT, rng.randrange(UNIT, 20 * UNIT), rng.randrange(UNIT, whole)))
-        center = rng.choice((rng.randrange(-20 * UNIT, whole), rng.randrange(-20, 2 ** stored) * UNIT + UNIT // 2 + rng.randrange(-200, 201)))
-        low, high = (2 * center - width) // (2 * UNIT), (2 * center + width - 2 * UNIT) // (2 * UNIT)
-        values = [edge + near for edge in (low, high, center // UNIT) for near in range(-3, 4)]
-        values += [rng.randrange(low, high + 2) for _ in range(20)] + [rng.randrange(2 ** stored) for _ in range(8)]
-        values = [max(0, min(2 ** stored - 1, value)) for value in values]
-        shape = base_shape(rng, bits_allocated=16, bits_stored=stored, frames=1, rows=1, columns=len(values))
-        model = xa.build(rng, shape)
-        words = [xa.written(rng, value) for value in (center, width)]
-        model[xa.SHARED][1][0][xa.VOI] = xa.sq({xa.CENTER: xa.text("DS", words[0]), xa.WIDTH: xa.text("DS", words[1])})
-        model[xa.PIXEL_DATA] = ("OW", struct.pack(f"<{len(values)}H", *values))
-        check_every_frame(comparison, f"window {words}", model, rng)
 
 
 def compare_shifts(comparison, rng, rounds):
@@ -410,7 +398,6 @@ def run(comparison, arguments):
     compare_no_window(comparison, rng)
     compare_averages(comparison, rng)
     compare_average_rounding(comparison, rng)
-    compare_window_edges(comparison, rng, max(50, comparison.count // 4))
     compare_shifts(comparison, rng, max(40, comparison.count // 4))
     compare_quarters(comparison, rng)
     compare_quarter_averages(comparison, rng)

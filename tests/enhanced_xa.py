@@ -35,6 +35,7 @@ PIXEL_REPRESENTATION = 0x00280103
 BURNED_IN = 0x00280301
 CENTER = 0x00281050
 WIDTH = 0x00281051
+FUNCTION = 0x00281056
 LOSSY = 0x00282110
 LOSSY_RATIO = 0x00282112
 LOSSY_METHOD = 0x00282114
@@ -104,6 +105,7 @@ class Shape:
     lossy: str = "00"
     voi: str = "shared"
     windows: int = 1
+    function: str = ""  # VOI LUT Function; "": absent
     characteristics: str = "absent"
     masks: tuple = ()  # operations, one for each mask item; none: the sequence is absent
     ranges: bool = True  # whether mask items may have ranges
@@ -115,6 +117,7 @@ class Shape:
 
 PLACES = ("shared", "frames", "some", "absent")
 OPERATIONS = ("NONE", "AVG_SUB", "TID")
+FUNCTIONS = ("LINEAR", "LINEAR_EXACT")
 
 
 def random_shape(rng, **fixed):
@@ -135,6 +138,7 @@ def random_shape(rng, **fixed):
         lossy=rng.choice(("00", "01")),
         voi=rng.choice(PLACES),
         windows=rng.choice((1, 1, 2, 5)),
+        function=rng.choice(("", *FUNCTIONS)),
         characteristics=rng.choice(PLACES),
         masks=tuple(rng.choice(OPERATIONS) for _ in range(rng.choice((0, 1, 1, 2, 3, 16)))),
         ranges=rng.random() < 0.7,
@@ -186,6 +190,12 @@ def written(rng, count):
     return rng.choice([form for form in forms if len(form) <= 16])
 
 
+def random_small_width(rng, stored):
+    """A width above 0, under 1 half of the time."""
+    count = rng.choice((1, 2, 255, MILLION // 2, MILLION - 1, rng.randrange(1, MILLION), rng.randrange(1, 1000)))
+    return rng.choice((written(rng, count), random_width(rng, stored)))
+
+
 def random_width(rng, stored):
     count = rng.choice((MILLION, MILLION + 1, 2 * MILLION, rng.randrange(MILLION, 20 * MILLION), rng.randrange(MILLION, MILLION ** 2),
                         rng.randrange(1, 2 ** stored + 1) * MILLION, rng.randrange(1000, 300_000) * 1000))
@@ -202,8 +212,12 @@ def random_center(rng, stored):
 
 def voi_item(rng, shape):
     count = shape.windows
-    return {CENTER: padded(rng, "DS", *(random_center(rng, shape.bits_stored) for _ in range(count))),
-            WIDTH: padded(rng, "DS", *(random_width(rng, shape.bits_stored) for _ in range(count)))}
+    width = random_small_width if shape.function == "LINEAR_EXACT" else random_width
+    item = {CENTER: padded(rng, "DS", *(random_center(rng, shape.bits_stored) for _ in range(count))),
+            WIDTH: padded(rng, "DS", *(width(rng, shape.bits_stored) for _ in range(count)))}
+    if shape.function:
+        item[FUNCTION] = padded(rng, "CS", shape.function)
+    return item
 
 
 def random_shift(rng):

@@ -268,8 +268,8 @@ class PixelsWithHighBits(drawing.Pixels):
     sample = high_bits_left
 
 
-def level_with_width(x, center, width):
-    """W in place of W - u in the divisor."""
+def with_whole_width(x, center, width):
+    """W in place of W - u in the divisor of LINEAR."""
     if 2 * UNIT * x <= 2 * center - width:
         return 0
     if 2 * UNIT * x > 2 * center + width - 2 * UNIT:
@@ -277,7 +277,7 @@ def level_with_width(x, center, width):
     return drawing.limited((255 * (2 * UNIT * x - 2 * center + width) + width - UNIT) // (2 * width), 0, 255)
 
 
-def level_rounded_down(x, center, width):
+def rounded_down(x, center, width):
     if 2 * UNIT * x <= 2 * center - width:
         return 0
     if 2 * UNIT * x > 2 * center + width - 2 * UNIT:
@@ -285,13 +285,28 @@ def level_rounded_down(x, center, width):
     return drawing.limited(255 * (2 * UNIT * x - 2 * center + width) // (2 * (width - UNIT)), 0, 255)
 
 
-def first_centre_last_width(root, frame, stored, original=drawing.window):
+def less_one_unit(x, center, width):
+    """W - u in place of W in LINEAR_EXACT."""
+    if 2 * UNIT * x <= 2 * center - width:
+        return 0
+    if 2 * UNIT * x > 2 * center + width or width <= UNIT:
+        return 255
+    return drawing.limited((255 * (2 * UNIT * x - 2 * center + width) + width - UNIT) // (2 * (width - UNIT)), 0, 255)
+
+
+def last_window(root, frame, stored):
+    function, center, width = original_window(root, frame, stored)
     group = drawing.frame_group(root, frame, drawing.tags.FRAME_VOI_LUT_SEQUENCE)
-    if group is None:
-        return original(root, frame, stored)
-    item = drawing.items_of(root.data, group)[0]
-    return (drawing.millionths(item.texts(drawing.tags.WINDOW_CENTER, "DS")[-1]),
-            drawing.millionths(item.texts(drawing.tags.WINDOW_WIDTH, "DS")[-1]))
+    if group is not None:
+        item = drawing.items_of(root.data, group)[0]
+        center = drawing.millionths(item.texts(drawing.tags.WINDOW_CENTER, "DS")[-1])
+        width = drawing.millionths(item.texts(drawing.tags.WINDOW_WIDTH, "DS")[-1])
+    return function, center, width
+
+
+def window_changed(change):
+    """A window changed: `change` takes function, centre and width, and answers them."""
+    return drawn_with(window=lambda root, frame, stored: change(*original_window(root, frame, stored)))
 
 
 def last_applying_item(root, frame):
@@ -371,9 +386,12 @@ SHOW_FAULTS = {
     "image buffer before frame": StandIn(show=small_image_first),
     "the TO_LINEAR table used": StandIn(show=to_linear_used),
     "unused high bits left in": drawn_with(Pixels=PixelsWithHighBits),
-    "W in place of W - u": drawn_with(level=level_with_width),
-    "not rounded": drawn_with(level=level_rounded_down),
-    "the last window": drawn_with(window=first_centre_last_width),
+    "W in place of W - u": drawn_with(linear=with_whole_width),
+    "not rounded": drawn_with(linear=rounded_down),
+    "the last window": drawn_with(window=last_window),
+    "the function ignored": window_changed(lambda function, center, width: (b"LINEAR", center, max(width, UNIT))),
+    "LINEAR_EXACT always": window_changed(lambda function, center, width: (b"LINEAR_EXACT", center, width)),
+    "W - u in place of W": drawn_with(linear_exact=less_one_unit),
     "the last mask item": drawn_with(applying_item=last_applying_item),
     "-v for v": drawn_with(shifted=lambda mask, pair: original_shifted(mask, (-pair[0], pair[1]))),
     "v and h swapped": drawn_with(shifted=lambda mask, pair: original_shifted(mask, pair[::-1])),
@@ -389,11 +407,13 @@ SHOW_FAULTS = {
 }
 
 DECIMAL_FAULTS = {
-    "the width's own number forgotten": drawn_with(window=lambda root, frame, stored: (original_window(root, frame, stored)[0], 10 * UNIT)),
-    "the centre one millionth more": drawn_with(window=lambda root, frame, stored: tuple(
-        number + more for number, more in zip(original_window(root, frame, stored), (1, 0)))),
-    "the width one millionth less": drawn_with(window=lambda root, frame, stored: tuple(
-        number - less for number, less in zip(original_window(root, frame, stored), (0, 1)))),
+    "the width's own number forgotten": window_changed(lambda function, center, width: (function, center, 10 * UNIT)),
+    "the centre one millionth more": window_changed(lambda function, center, width: (function, center + 1, width)),
+    "the width one millionth less": window_changed(lambda function, center, width: (function, center, width - 1)),
 }
 
-FAULTS = {"read": READ_FAULTS, "judge": JUDGE_FAULTS, "slips": SLIP_FAULTS, "decimals": DECIMAL_FAULTS, "show": SHOW_FAULTS}
+WINDOW_FAULTS = {name: SHOW_FAULTS[name] for name in ("W in place of W - u", "not rounded", "the function ignored", "LINEAR_EXACT always",
+                                                      "W - u in place of W", "MONOCHROME1 not inverted")}
+
+FAULTS = {"read": READ_FAULTS, "judge": JUDGE_FAULTS, "slips": SLIP_FAULTS, "decimals": DECIMAL_FAULTS, "windows": WINDOW_FAULTS,
+          "show": SHOW_FAULTS}

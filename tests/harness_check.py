@@ -11,15 +11,16 @@ import compare_judge
 import compare_read
 import compare_show
 import compare_slips
+import compare_windows
 from comparison import Comparison, DifferenceFound
 from faults import FAULTS
 from library import Library
 from mutants import MUTATIONS, mutant
 from stand_in import StandIn
 
-COUNTS = {"read": 60, "judge": 100, "slips": 200, "decimals": 200, "show": 30}  # generated cases: as few as find every fault
+COUNTS = {"read": 60, "judge": 100, "slips": 200, "decimals": 200, "windows": 40, "show": 30}  # generated cases: as few as find every fault
 RUNS = {"read": compare_read.run, "judge": compare_judge.run, "slips": compare_slips.run, "decimals": compare_decimals.run,
-        "show": compare_show.run}
+        "windows": compare_windows.run, "show": compare_show.run}
 
 
 def attempt(name, stand_in, folder):

@@ -41,6 +41,18 @@ DECIMALS = [
     ("-22 <= power <= 6", "-22 <= power <= 4"),
 ]
 
+# In drawing.py. At its edges LINEAR_EXACT gives the same with and without its first two cases, so those are not among them.
+LEVELS = [
+    ("2 * UNIT * x <= 2 * center - width", "2 * UNIT * x < 2 * center - width"),  # shows at a width of 1 with LINEAR
+    ("2 * UNIT * x > 2 * center + width - 2 * UNIT", "2 * UNIT * x >= 2 * center + width"),
+    ("if 2 * UNIT * x > 2 * center + width:", "if 2 * UNIT * x > 2 * center + width - 2 * UNIT:"),
+    ("+ width - UNIT, 2 * (width - UNIT))", ", 2 * (width - UNIT))"),
+    ("+ width, 2 * width)", ", 2 * width)"),
+    ("+ width, 2 * width)", "+ width - UNIT, 2 * width)"),
+    ("+ width, 2 * width)", "+ width, 2 * width + 1)"),
+    ("if function == LINEAR_EXACT else linear(", "if function != LINEAR_EXACT else linear("),
+]
+
 # Comparison, file, text, the text in its place.
 MUTATIONS = [
     # Reading.
@@ -131,9 +143,21 @@ MUTATIONS = [
     ("judge", "rules.py", "or len(centers) != len(widths)", ""),
     ("judge", "rules.py", "in centers + widths)", "in centers[:1] + widths)"),
     ("judge", "rules.py", "in centers + widths)", "in centers + widths[:1])"),
-    ("judge", "rules.py", ">= UNIT for text in widths)", "> UNIT for text in widths)"),
-    ("judge", "rules.py", ">= UNIT for text in widths)", ">= UNIT - 1 for text in widths)"),
-    ("judge", "rules.py", ">= UNIT for text in widths)", ">= UNIT for text in widths[:1])"),
+    ("judge", "rules.py", ">= least for text in widths)", "> least for text in widths)"),
+    ("judge", "rules.py", ">= least for text in widths)", ">= least - 1 for text in widths)"),
+    ("judge", "rules.py", ">= least for text in widths)", ">= least for text in widths[:1])"),
+    ("judge", "rules.py", "least = 1 if function == LINEAR_EXACT else UNIT", "least = UNIT"),
+    ("judge", "rules.py", "least = 1 if function == LINEAR_EXACT else UNIT", "least = 1"),
+    ("judge", "rules.py", "least = 1 if function == LINEAR_EXACT else UNIT", "least = 0 if function == LINEAR_EXACT else UNIT"),
+    ("judge", "rules.py", "least = 1 if function == LINEAR_EXACT else UNIT", "least = 2 if function == LINEAR_EXACT else UNIT"),
+    ("judge", "rules.py", "return word if word in (LINEAR, LINEAR_EXACT) else None", "return word if word is not None else None"),
+    ("judge", "rules.py", "return word if word in (LINEAR, LINEAR_EXACT) else None", "return word if word in (LINEAR, LINEAR_EXACT, b\"SIGMOID\") else None"),
+    ("judge", "rules.py", "return word if word in (LINEAR, LINEAR_EXACT) else None", "return word if word in (LINEAR, LINEAR_EXACT) else LINEAR"),
+    ("judge", "rules.py", "return word if word in (LINEAR, LINEAR_EXACT) else None", "return word if word in (LINEAR, LINEAR_EXACT, b\"\") else None"),
+    ("judge", "rules.py", "return word if word in (LINEAR, LINEAR_EXACT) else None", "return word if (word or b\"\").upper() in (LINEAR, LINEAR_EXACT) else None"),
+    ("judge", "rules.py", "if not item.present(tags.VOI_LUT_FUNCTION):", "if not item.has(tags.VOI_LUT_FUNCTION, \"CS\"):"),
+    ("judge", "rules.py", "word = item.text(tags.VOI_LUT_FUNCTION, \"CS\")", "word = item.texts(tags.VOI_LUT_FUNCTION, \"CS\")[0]"),
+    ("judge", "attributes.py", "VOI_LUT_FUNCTION = 0x00281056", "VOI_LUT_FUNCTION = 0x00281055"),
     ("judge", "rules.py", "1 <= len(items) <= 16", "0 <= len(items) <= 16"),
     ("judge", "rules.py", "1 <= len(items) <= 16", "1 <= len(items) <= 15"),
     ("judge", "rules.py", "1 <= len(items) <= 16", "1 <= len(items) <= 17"),
@@ -166,7 +190,11 @@ MUTATIONS = [
     ("decimals", "values.py", "return int(number * UNIT)", "return int(number * UNIT) + (abs(number) > 1000)"),
     ("decimals", "values.py", "return int(number * UNIT)", "return int(number * 1000) * 1000"),
     ("decimals", "values.py", "return int(number * UNIT)", "return int(float(text) * UNIT)"),
-    ("decimals", "rules.py", ">= UNIT for text in widths)", ">= 1000 for text in widths)"),
+    ("decimals", "rules.py", ">= least for text in widths)", ">= 1000 for text in widths)"),
+    ("windows", "rules.py", "least = 1 if function == LINEAR_EXACT else UNIT", "least = UNIT"),
+    ("windows", "rules.py", "least = 1 if function == LINEAR_EXACT else UNIT", "least = 1"),
+    ("windows", "rules.py", "least = 1 if function == LINEAR_EXACT else UNIT", "least = 0 if function == LINEAR_EXACT else UNIT"),
+    ("windows", "rules.py", "return word if word in (LINEAR, LINEAR_EXACT) else None", "return word if word in (LINEAR, LINEAR_EXACT) else LINEAR"),
     # Slips.
     ("slips", "slips.py", "0 <= offset <= MAXIMUM_SIZE", "0 <= offset < MAXIMUM_SIZE"),
     ("slips", "slips.py", "0 <= offset <= MAXIMUM_SIZE", "True"),
@@ -198,9 +226,7 @@ MUTATIONS = [
     ("show", "drawing.py", "shifted(mask, shift(root, item, frame))", "shifted(mask, (shift(root, item, frame)[0], 0))"),
     ("show", "drawing.py", "shifted(mask, shift(root, item, frame))", "shifted(mask, (0, shift(root, item, frame)[1]))"),
     ("show", "drawing.py", "column - horizontal", "column + horizontal"),
-    ("show", "drawing.py", "2 * UNIT * x <= 2 * center - width", "2 * UNIT * x < 2 * center - width"),
-    ("show", "drawing.py", "2 * UNIT * x > 2 * center + width - 2 * UNIT", "2 * UNIT * x >= 2 * center + width"),
-    ("show", "drawing.py", "+ width - UNIT, divisor", ", divisor"),
+    *[(comparison, "drawing.py", text, other) for comparison in ("show", "windows") for text, other in LEVELS],
     ("show", "drawing.py", "% 2 ** self.stored", ""),
     ("show", "drawing.py", "centers[0]", "centers[-1]"),
     ("show", "drawing.py", "widths[0]", "widths[-1]"),

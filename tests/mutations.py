@@ -26,6 +26,9 @@ NO_FRAME_SHIFT = {"frame_shift": "absent"}
 OWN_SHIFTS = {"frame_shift": "frames", "masks": ("AVG_SUB", "TID")}
 SHARED_SHIFT = {"frame_shift": "shared", "masks": ("AVG_SUB", "TID")}
 OWN_VOI = {"voi": "frames", "windows": 2}
+OLD = {"function": ""}
+LINEAR = {"function": "LINEAR"}
+EXACT = {"function": "LINEAR_EXACT"}
 SHARED_VOI = {"voi": "shared", "windows": 2}
 
 
@@ -381,22 +384,52 @@ GOOD_CENTERS = (".5", "5.", "-.5", "+1", "000001", "-0", "000000.000", "999999.9
                 "  +99999900000E-5  ", "-000000000000001")
 GOOD_WIDTHS = ("1", "1.", "1.0", "1.000", "+1.000", "000001", "000001.000", "999999.999", "  1  ", "0000001", "1.0000", "1E0", "1e-0", ".1E1", "10E-1",
                "1000000E-6", "1.000001", "1000001E-6", "2.048E3", "999999.999999", "100000000000E-11", "1E00000000000000")
-SMALL_WIDTHS = ("0.999", "0", "-1", "-0", ".999", "000000.000", "-40", "+0.5", "0.999999", "999999E-6", "9.99999E-1", "1E-6", "0E99999999999999", "-1E0",
-                "-999999.999999", "1E-1")
 
 
-def add_decimals(rule, words, *tags):
+def add_decimals(rule, words, *tags, shape={}):
     """Each word as a value of each tag's element, the first and the second of two in turn."""
     for number, word in enumerate(words):
         for tag in tags:
             values = ("40", word) if (number + (tag == xa.WIDTH)) % 2 else (word, "50")
-            add(rule, f"{tag:08X} {values}", in_group(xa.VOI, put(tag, text("DS", *values))), OWN_VOI, per_frame=True)
+            add(rule, f"{shape.get('function', '')} {tag:08X} {values}", in_group(xa.VOI, put(tag, text("DS", *values))), OWN_VOI, shape,
+                per_frame=True)
 
 
+UNDER_1 = ("0.999", ".999", "+0.5", "0.999999", "999999E-6", "9.99999E-1", "1E-6", "1E-1", "0.000001", ".0000010")
+NOT_ABOVE_0 = ("0", "-1", "-0", "000000.000", "-40", "0E99999999999999", "-1E0", "-999999.999999", "-0.000001", "-1E-6", "-0.5")
+SMALL_WIDTHS = UNDER_1 + NOT_ABOVE_0
 add_decimals(30, BAD_DECIMALS, xa.CENTER, xa.WIDTH)
-add_decimals(30, SMALL_WIDTHS, xa.WIDTH)
+add_decimals(30, SMALL_WIDTHS, xa.WIDTH, shape=OLD)
+add_decimals(30, SMALL_WIDTHS, xa.WIDTH, shape=LINEAR)
+add_decimals(30, NOT_ABOVE_0, xa.WIDTH, shape=EXACT)
+add_decimals(0, UNDER_1, xa.WIDTH, shape=EXACT)
 add_decimals(0, SMALL_WIDTHS + GOOD_CENTERS, xa.CENTER)
 add_decimals(0, GOOD_WIDTHS, xa.WIDTH)
+
+BAD_FUNCTIONS = ("SIGMOID", "LINEAR_EXACTLY", "LINEAR EXACT", "LINEAREXACT", "LINEAR-EXACT", "LINEA", "LINEAR_", "EXACT", "IDENTITY", "linear",
+                 "Linear", "linear_exact", "LINEAR_exact", "L INEAR", "\tLINEAR", "LINEAR\t", "LINEAR\0", "LINEAR_EXACT\0", "", " ", "    ",
+                 "LINEAR\\LINEAR", "LINEAR_EXACT\\LINEAR_EXACT", "LINEAR\\", "\\LINEAR", "\\", "LINEAR\\SIGMOID", "LINEAR_EXACT\\LINEAR")
+GOOD_FUNCTIONS = ("LINEAR", "LINEAR_EXACT", " LINEAR", "LINEAR  ", "  LINEAR_EXACT   ")
+OTHER_VRS = {"LO": text("LO", "LINEAR"), "SH": text("SH", "LINEAR_EXACT"), "UI": text("UI", "LINEAR"), "UN": ("UN", b"LINEAR"), "OB": ("OB", b"LINEAR"),
+             "UN, empty": ("UN", b""), "LO, empty": ("LO", b""), "DS": text("DS", "1"), "US": us(1), "SQ": sq({}), "SQ, empty": sq()}
+ALL_GOOD = all_of(put(xa.CENTER, text("DS", "40", "50")), put(xa.WIDTH, text("DS", "10", "1E1")))  # for either function
+for word in BAD_FUNCTIONS:
+    add(30, f"function {word!r}", in_group(xa.VOI, all_of(ALL_GOOD, put(xa.FUNCTION, text("CS", word)))), OWN_VOI, per_frame=True)
+for name, value in OTHER_VRS.items():
+    add(30, f"function of VR {name}", in_group(xa.VOI, all_of(ALL_GOOD, put(xa.FUNCTION, value))), OWN_VOI, per_frame=True)
+    add(30, f"shared function of VR {name}", in_shared_group(xa.VOI, all_of(ALL_GOOD, put(xa.FUNCTION, value))), SHARED_VOI, FRAMES, frame=1)
+for word in GOOD_FUNCTIONS:
+    add(0, f"function {word!r}", in_group(xa.VOI, all_of(ALL_GOOD, put(xa.FUNCTION, text("CS", word)))), OWN_VOI, per_frame=True)
+add(30, "shared function SIGMOID", in_shared_group(xa.VOI, put(xa.FUNCTION, text("CS", "SIGMOID"))), SHARED_VOI, FRAMES, frame=1)
+for name, value in (("SIGMOID", text("CS", "SIGMOID")), ("VR UN", ("UN", b"LINEAR")), ("empty", ("CS", b""))):
+    add(0, f"function {name} at the root, in the frame and in the shared item",
+        all_of(put(xa.FUNCTION, value), in_shared(put(xa.FUNCTION, value)), in_frame(put(xa.FUNCTION, value))), OWN_VOI, per_frame=True)
+add(0, "function SIGMOID deeper", in_group(xa.VOI, put(0x00080001, sq({xa.FUNCTION: text("CS", "SIGMOID")}))), OWN_VOI, per_frame=True)
+add(30, "function LINEAR_EXACT deeper, width under 1",
+    in_group(xa.VOI, all_of(put(xa.WIDTH, text("DS", "0.5", "0.5")), put(0x00080001, sq({xa.FUNCTION: text("CS", "LINEAR_EXACT")})))), OWN_VOI, OLD,
+    per_frame=True)
+add(30, "LINEAR_EXACT taken away, width under 1",
+    in_group(xa.VOI, all_of(put(xa.WIDTH, text("DS", "0.5", "2")), drop(xa.FUNCTION))), OWN_VOI, EXACT, per_frame=True)
 
 # ---------------------------------------------------------------------------------------------------------------------
 # Rules 31 to 38

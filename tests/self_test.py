@@ -276,7 +276,7 @@ def window_group(center, width):
 
 class Drawing(unittest.TestCase):
     def test_sample_windows(self):
-        levels = lambda center, width, samples: [drawing.level(x, center * values.UNIT, width * values.UNIT) for x in samples]
+        levels = lambda center, width, samples: [drawing.level(x, b"LINEAR", center * values.UNIT, width * values.UNIT) for x in samples]
         self.assertEqual(levels(50, 1, (49, 50)), [0, 255])
         self.assertEqual(levels(40, 10, (35, 36, 40, 44, 45)), [0, 28, 142, 255, 255])
         self.assertEqual(drawing.shown(142, b"MONOCHROME1"), 113)
@@ -292,15 +292,51 @@ class Drawing(unittest.TestCase):
 
     def test_other_windows(self):
         # C = 40.5, W = 2, in ones: 2x <= 79 gives 0, 2x > 81 gives 255. 40: (255 * 1 + 1) / 2 = 128.
-        self.assertEqual([drawing.level(x, 40_500_000, 2_000_000) for x in (39, 40, 41)], [0, 128, 255])
+        self.assertEqual([drawing.linear(x, 40_500_000, 2_000_000) for x in (39, 40, 41)], [0, 128, 255])
         # A wide window: W = 1000.5, C = -1: x = 0 gives (255 * 1002.5 + 999.5) / 1999 = 128.38.
-        self.assertEqual(drawing.level(0, -1_000_000, 1_000_500_000), 128)
-        self.assertEqual(drawing.level(-502, -1_000_000, 1_000_500_000), 0)
+        self.assertEqual(drawing.linear(0, -1_000_000, 1_000_500_000), 128)
+        self.assertEqual(drawing.linear(-502, -1_000_000, 1_000_500_000), 0)
         # W = 1.000255: a level for each millionth. C = 10.5: at 10, 2ux - 2C + W is 255, so (255 * 255 + 255) / 510 = 128.
-        self.assertEqual([drawing.level(10, 10_500_000 + more, 1_000_255) for more in (-1, 0, 1, 127, 128)], [129, 128, 127, 1, 0])
+        self.assertEqual([drawing.linear(10, 10_500_000 + more, 1_000_255) for more in (-1, 0, 1, 127, 128)], [129, 128, 127, 1, 0])
         # Widths under 1 never divide.
         for width in (0, 1, 999_999, -5_000_000):
-            self.assertEqual({drawing.level(x, 10_000_000, width) for x in range(-20, 40)}, {0, 255})
+            self.assertEqual({drawing.linear(x, 10_000_000, width) for x in range(-20, 40)}, {0, 255})
+
+    def test_linear_exact(self):
+        # C = 40, W = 10: 35 gives 0, 45 gives 255, 40 gives (255 * 10 + 10) / 20 = 128; 36: (255 * 2 + 10) / 20 = 26.
+        self.assertEqual([drawing.linear_exact(x, 40_000_000, 10_000_000) for x in (34, 35, 36, 40, 44, 45, 46)], [0, 0, 26, 128, 230, 255, 255])
+        # W = 1: 49.5 to 50.5 about 50: 50 gives (255 + 1) / 2 = 128. LINEAR gives 255 there.
+        self.assertEqual([drawing.linear_exact(x, 50_000_000, 1_000_000) for x in (49, 50, 51)], [0, 128, 255])
+        # W = 0.000001, C = 50: 50 is the middle. C = 50.000001: 2 * 50 = 2C - 2 millionths, below. C = 49.999999: above.
+        self.assertEqual([drawing.linear_exact(50, center, 1) for center in (50_000_001, 50_000_000, 49_999_999)], [0, 128, 255])
+        # W = 255 millionths: a level for each millionth. With 2ux - 2C = 2m, y = (255 (2m + 255) + 255) / 510 = m + 128.
+        self.assertEqual([drawing.linear_exact(7, 7_000_000 - m, 255) for m in (-128, -127, 0, 127, 128)], [0, 1, 128, 255, 255])
+        # W = 0 and below never divide.
+        for width in (0, -1, -5_000_000):
+            self.assertEqual({drawing.linear_exact(x, 10_000_000, width) for x in range(-20, 40)}, {0, 255})
+
+    def test_greater_x_never_smaller_y(self):
+        rng = random.Random(10)
+        for _ in range(300):
+            width = rng.choice((rng.randrange(-5, 20), rng.randrange(10 ** rng.randrange(1, 8)))) * rng.choice((1, 1_000_000, 250_000))
+            center = rng.randrange(-10 ** 8, 10 ** 8)
+            samples = sorted(center // values.UNIT + rng.randrange(-60, 61) for _ in range(60))
+            for formula in (drawing.linear, drawing.linear_exact):
+                drawn = [formula(x, center, width) for x in samples]
+                self.assertEqual(drawn, sorted(drawn))
+                self.assertTrue(0 <= drawn[0] and drawn[-1] <= 255)
+
+    def test_function_of_objects(self):
+        samples = (35, 36, 40, 44, 45)
+        for word, expected in ((None, [0, 28, 142, 255, 255]), ("LINEAR", [0, 28, 142, 255, 255]), (" LINEAR_EXACT ", [0, 26, 128, 230, 255])):
+            for photometric in ("MONOCHROME2", "MONOCHROME1"):
+                model = small_object(samples, 1, 1, 5, photometric=photometric)
+                group = window_group("40", "10")
+                if word:
+                    group[1][0][xa.FUNCTION] = xa.text("CS", word)
+                model[xa.SHARED][1][0][xa.VOI] = group
+                drawn = expected if photometric == "MONOCHROME2" else [255 - y for y in expected]
+                self.assertEqual(drawing.draw(root_of(model), 1), (False, bytes(drawn)))
 
     def test_sample_average(self):
         self.assertEqual(drawing.average([90, 91]), 91)
@@ -461,6 +497,7 @@ class Drawing(unittest.TestCase):
             (mask(xa.MASK_FRAMES, xa.us()), 1), (mask(xa.MASK_FRAMES, xa.us(4)), 1), (mask(xa.MASK_FRAMES, xa.us(1, 0)), 1),
             (mask(xa.SHIFT, xa.fl(0.3, 0.0)), 1), (mask(xa.SHIFT, xa.fl()), 1), (put(xa.PHOTOMETRIC, xa.text("CS", "A\\B")), 1),
             (frame(xa.VOI, xa.sq()), 1), (frame(xa.VOI, ("UN", b"")), 1), (frame(xa.VOI, window_group("x", "1")), 1),
+            (frame(xa.VOI, xa.sq({**window_group("1", "1")[1][0], xa.FUNCTION: xa.text("CS", "SIGMOID")})), 1),
             (frame(xa.FRAME_SHIFT, xa.sq()), 1), (frame(xa.FRAME_SHIFT, ("UN", b"")), 1),
             (lambda root, mask, own, shared: (mask.pop(xa.ITEM_ID, None), own[0].update({xa.FRAME_SHIFT: good_group})), 1),
             (lambda root, mask, own, shared: (mask.update({xa.ITEM_ID: xa.us(1)}), own[0].update({xa.FRAME_SHIFT: xa.sq({})})), 1),

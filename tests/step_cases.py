@@ -11,7 +11,7 @@ import random
 import enhanced_xa as xa
 import objects
 from enhanced_xa import fl, sq, ss, text, us
-from mutations import BAD_DECIMALS, BAD_IDS, BAD_SHIFTS, CHANGES, GOOD_SHIFTS, NOT_A_NUMBER
+from mutations import BAD_DECIMALS, BAD_FUNCTIONS, BAD_IDS, BAD_SHIFTS, CHANGES, GOOD_SHIFTS, NOT_A_NUMBER, OTHER_VRS
 from reference import attributes as tags
 from reference import drawing, reading, values
 
@@ -46,10 +46,10 @@ def shift_words(chosen):
 
 
 def window_words(window):
-    center, width = window
+    function, center, width = window
     if center != int(center):
         raise ValueError("a centre that is no whole number of millionths")
-    return numbers(int(center), width)
+    return f"{function.decode()} {numbers(int(center), width)}"
 
 
 def item_words(root, item, frame):
@@ -126,7 +126,7 @@ def usual(rule):
 
 
 # Rules that many changes alike break: of these only some are taken, since the cases below have the rest.
-STRIDE = {30: 6, 32: 2, 35: 4, 36: 2, 37: 4}
+STRIDE = {30: 10, 32: 2, 35: 4, 36: 2, 37: 4}
 
 
 def is_taken(rule, number):
@@ -212,6 +212,11 @@ def windowed(center, width):
     return voi(window(center, width))
 
 
+def with_function(value):
+    """Frame 1 has a VOI group with a function."""
+    return voi({**window("40", "0.5"), xa.FUNCTION: value})
+
+
 def moved_by(*items):
     """Frame 1 has a Frame Pixel Shift."""
     return own({xa.FRAME_SHIFT: sq(*items)})
@@ -229,7 +234,7 @@ SEVERAL = sq({xa.RANGE: us(3, 3), xa.OPERATION: text("CS", "NONE")}, {xa.RANGE: 
 SPECIAL = [
     ("base", (), 0, "size 1 2 1 8 inverse no pixels 6"),
     ("frame 0", (), 1, "frame 0 part item 1 AVG_SUB masks 1 3 tid native shift - window -"),
-    ("frame 1", (), 2, "frame 1 whole item 1 AVG_SUB masks 1 3 tid native shift none 0 0 window 128000000 256000000"),
+    ("frame 1", (), 2, "frame 1 whole item 1 AVG_SUB masks 1 3 tid native shift none 0 0 window LINEAR 128000000 256000000"),
     ("frame 4, without an item", (), 5, "frame 4 part item 1 AVG_SUB masks 1 3 tid 3 shift lacks window lacks"),
     # Frames and samples (D-2, D-3, D-8).
     ("a frame beyond N", (root({xa.NUMBER_OF_FRAMES: text("IS", "1")}),), 4, "frame 3 whole item 1 AVG_SUB masks 1 3 tid native"),
@@ -253,11 +258,11 @@ SPECIAL = [
     ("65535 × 65535 samples of 8191 bytes", (root({xa.ROWS: us(65535), xa.COLUMNS: us(65535), xa.BITS_ALLOCATED: us(65528)}),), 2, "frame 1 part"),
     ("Bits Stored 0", (root({xa.BITS_STORED: us(0)}),), 0, "size 1 2 1 0"),
     ("Bits Stored 0, masked", (root({xa.BITS_STORED: us(0)}),), 2, "item 1 AVG_SUB masks 1 3"),
-    ("Bits Stored 0, window", (root({xa.BITS_STORED: us(0)}),), 2, "window 500000 1000000"),
-    ("Bits Stored 0, native", (root({xa.BITS_STORED: us(0), xa.MASKS: None}),), 2, "frame 1 whole native window 500000 1000000"),
-    ("Bits Stored 0, VOI", (root({xa.BITS_STORED: us(0)}), own({xa.VOI: sq(window("0", "2"))})), 2, "window 0 2000000"),
-    ("Bits Stored 1", (root({xa.BITS_STORED: us(1)}),), 2, "window 1000000 2000000"),
-    ("Bits Stored 16", (root({xa.BITS_STORED: us(16)}),), 2, "window 32768000000 65536000000"),
+    ("Bits Stored 0, window", (root({xa.BITS_STORED: us(0)}),), 2, "window LINEAR 500000 1000000"),
+    ("Bits Stored 0, native", (root({xa.BITS_STORED: us(0), xa.MASKS: None}),), 2, "frame 1 whole native window LINEAR 500000 1000000"),
+    ("Bits Stored 0, VOI", (root({xa.BITS_STORED: us(0)}), own({xa.VOI: sq(window("0", "2"))})), 2, "window LINEAR 0 2000000"),
+    ("Bits Stored 1", (root({xa.BITS_STORED: us(1)}),), 2, "window LINEAR 1000000 2000000"),
+    ("Bits Stored 16", (root({xa.BITS_STORED: us(16)}),), 2, "window LINEAR 32768000000 65536000000"),
     ("Bits Stored 17", (root({xa.BITS_STORED: us(17)}),), 0, "size 1 2 1 17"),
     ("Bits Stored 17, window", (root({xa.BITS_STORED: us(17)}),), 2, "window -"),
     ("no Pixel Data", (root({xa.PIXEL_DATA: None}),), 0, "pixels lacks"),
@@ -317,7 +322,7 @@ SPECIAL = [
     ("two shared items", (root({xa.SHARED: sq({}, {})}),), 2, "shift lacks window lacks"),
     ("shared groups of VR UN", (root({xa.SHARED: ("UN", b"")}),), 2, "shift lacks window lacks"),
     ("no shared item, groups in the frame", (root({xa.SHARED: sq()}), own({xa.VOI: sq(window("1", "2")), xa.FRAME_SHIFT: sq(pair(1, 5.0, 6.0))}),
-                                             mask_id(1)), 2, "shift frame 20 24 window 1000000 2000000"),
+                                             mask_id(1)), 2, "shift frame 20 24 window LINEAR 1000000 2000000"),
     ("item 2 missing", (root({xa.PER_FRAME: sq({})}),), 3, "shift lacks window lacks"),
     ("per-frame groups absent", (root({xa.PER_FRAME: None}),), 2, "shift lacks window lacks"),
     ("per-frame groups of VR OB", (root({xa.PER_FRAME: ("OB", bytes(8))}),), 2, "shift lacks window lacks"),
@@ -352,33 +357,42 @@ SPECIAL = [
     ("a shared group", (mask_id(7), shared({xa.FRAME_SHIFT: sq(pair(7, 5.0, 6.0))})), 4, "shift frame 20 24"),
     ("a shared group, hidden", (mask_id(7), shared({xa.FRAME_SHIFT: sq(pair(7, 5.0, 6.0))}), own({xa.FRAME_SHIFT: ("LO", b"")}, 3)), 4, "shift lacks"),
     # Windows (D-6).
-    ("window", (windowed("40", "400"),), 2, "window 40000000 400000000"),
-    ("window of the shared group", (shared({xa.VOI: sq(window("-.5", "+1.25"))}),), 2, "window -500000 1250000"),
+    ("window", (windowed("40", "400"),), 2, "window LINEAR 40000000 400000000"),
+    ("window of the shared group", (shared({xa.VOI: sq(window("-.5", "+1.25"))}),), 2, "window LINEAR -500000 1250000"),
     ("window of the shared group, hidden", (shared({xa.VOI: sq(window("1", "2"))}), own({xa.VOI: ("UN", b"")})), 2, "window lacks"),
     ("VOI group empty", (voi(),), 2, "window lacks"),
     ("VOI group of two items", (voi(window("1", "2"), window("1", "2")),), 2, "window lacks"),
     ("VOI item empty", (voi({}),), 2, "window lacks"),
     ("no width", (voi({xa.CENTER: text("DS", "1")}),), 2, "window lacks"),
     ("no centre", (voi({xa.WIDTH: text("DS", "1")}),), 2, "window lacks"),
-    ("width 0", (windowed("40", "0"),), 2, "window 40000000 0"),
-    ("width negative", (windowed("40", "-7.5"),), 2, "window 40000000 -7500000"),
-    ("centre -0", (windowed("-0", "-0"),), 2, "window 0 0"),
+    ("width 0", (windowed("40", "0"),), 2, "window LINEAR 40000000 0"),
+    ("width negative", (windowed("40", "-7.5"),), 2, "window LINEAR 40000000 -7500000"),
+    ("centre -0", (windowed("-0", "-0"),), 2, "window LINEAR 0 0"),
     ("centre empty", (windowed("", "1"),), 2, "window lacks"),
     ("centre blank", (windowed("  ", "1"),), 2, "window lacks"),
     ("centre of VR IS", (voi({xa.CENTER: text("IS", "1"), xa.WIDTH: text("DS", "1")}),), 2, "window lacks"),
-    ("first values good, others not", (windowed("1\\x", "0.001\\\\8"),), 2, "window 1000000 1000"),
+    ("first values good, others not", (windowed("1\\x", "0.001\\\\8"),), 2, "window LINEAR 1000000 1000"),
     ("first centre bad", (windowed("1E\\1", "1\\1"),), 2, "window lacks"),
     ("first width bad", (windowed("1", ".\\1"),), 2, "window lacks"),
-    ("seven digits", (windowed("0000001", "1"),), 2, "window 1000000 1000000"),
-    ("four decimals", (windowed("1", "1.0000"),), 2, "window 1000000 1000000"),
-    ("an exponent", (windowed("2.048E3", "4.096e+03"),), 2, "window 2048000000 4096000000"),
-    ("six decimals", (windowed("-.000001", "123456.654321"),), 2, "window -1 123456654321"),
-    ("zero with a large exponent", (windowed("0E99999999999999", "-0E-999999999999"),), 2, "window 0 0"),
-    ("a small exponent", (windowed("9999999999990E-7", "1E-6"),), 2, "window 999999999999 1"),
-    ("a long exponent", (windowed("1E00000000000005", "1E-0000000000006"),), 2, "window 100000000000 1"),
-    ("16 characters in spaces", (windowed("  1.00000000000000  ", " 0000000000000001"),), 2, "window 1000000 1000000"),
-    ("largest", (windowed("-999999.999999", "9.99999999999E5"),), 2, "window -999999999999 999999999999"),
-    ("largest of three decimals", (windowed("-999999.999", "999999.999"),), 2, "window -999999999000 999999999000"),
+    ("seven digits", (windowed("0000001", "1"),), 2, "window LINEAR 1000000 1000000"),
+    ("four decimals", (windowed("1", "1.0000"),), 2, "window LINEAR 1000000 1000000"),
+    ("an exponent", (windowed("2.048E3", "4.096e+03"),), 2, "window LINEAR 2048000000 4096000000"),
+    ("six decimals", (windowed("-.000001", "123456.654321"),), 2, "window LINEAR -1 123456654321"),
+    ("zero with a large exponent", (windowed("0E99999999999999", "-0E-999999999999"),), 2, "window LINEAR 0 0"),
+    ("a small exponent", (windowed("9999999999990E-7", "1E-6"),), 2, "window LINEAR 999999999999 1"),
+    ("a long exponent", (windowed("1E00000000000005", "1E-0000000000006"),), 2, "window LINEAR 100000000000 1"),
+    ("16 characters in spaces", (windowed("  1.00000000000000  ", " 0000000000000001"),), 2, "window LINEAR 1000000 1000000"),
+    ("largest", (windowed("-999999.999999", "9.99999999999E5"),), 2, "window LINEAR -999999999999 999999999999"),
+    ("largest of three decimals", (windowed("-999999.999", "999999.999"),), 2, "window LINEAR -999999999000 999999999000"),
+    # VOI LUT Function (Q-3).
+    ("LINEAR", (with_function(text("CS", "LINEAR")),), 2, "window LINEAR 40000000 500000"),
+    ("LINEAR_EXACT", (with_function(text("CS", " LINEAR_EXACT ")),), 2, "window LINEAR_EXACT 40000000 500000"),
+    ("LINEAR_EXACT of the shared group", (shared({xa.VOI: sq({**window("1", "-2"), xa.FUNCTION: text("CS", "LINEAR_EXACT")})}),), 2,
+     "window LINEAR_EXACT 1000000 -2000000"),
+    ("LINEAR_EXACT, width 0", (voi({**window("1", "0"), xa.FUNCTION: text("CS", "LINEAR_EXACT")}),), 2, "window LINEAR_EXACT 1000000 0"),
+    ("LINEAR_EXACT, centre bad", (voi({**window("x", "1"), xa.FUNCTION: text("CS", "LINEAR_EXACT")}),), 2, "window lacks"),
+    ("LINEAR_EXACT beside the VOI group", (windowed("1", "2"), own({xa.FUNCTION: text("CS", "LINEAR_EXACT")})), 2, "window LINEAR 1000000 2000000"),
+    ("SIGMOID beside the VOI group", (windowed("1", "2"), root({xa.FUNCTION: text("CS", "SIGMOID")})), 2, "window LINEAR 1000000 2000000"),
     # Photometric Interpretation (D-7).
     ("MONOCHROME1", (root({xa.PHOTOMETRIC: text("CS", " MONOCHROME1 ")}),), 0, "inverse yes"),
     ("RGB", (root({xa.PHOTOMETRIC: text("CS", "RGB")}),), 0, "inverse no"),
@@ -389,6 +403,8 @@ SPECIAL = [
     ("of VR LO", (root({xa.PHOTOMETRIC: text("LO", "MONOCHROME1")}),), 0, "inverse lacks"),
     ("absent", (root({xa.PHOTOMETRIC: None}),), 0, "inverse lacks"),
 ]
+SPECIAL += [(f"function {word!r}", (with_function(text("CS", word)),), 2, "window lacks") for word in BAD_FUNCTIONS]
+SPECIAL += [(f"function of VR {name}", (with_function(value),), 2, "window lacks") for name, value in OTHER_VRS.items()]
 for number, word in enumerate(BAD_DECIMALS):
     as_center = (f"centre {word!r}", (windowed(word + "\\1", "1"),), 2, "window lacks")
     as_width = (f"width {word!r}", (windowed("1", word + "\\1"),), 2, "window lacks")

@@ -33,7 +33,7 @@ const RULES: [&str; 38] = [
     "No sequence may be both in the shared item (5200,9229) and in the frame's own item of Per-Frame Functional Groups Sequence (5200,9230).",
     "Frame Content Sequence (0020,9111) SQ must be absent from the shared item (5200,9229), and have one item in the frame's own item of (5200,9230).",
     "XA/XRF Frame Characteristics Sequence (0018,9412) SQ, where the frame has it, must have one item.",
-    "Frame VOI LUT Sequence (0028,9132) SQ, where the frame has it, must have one item, with equally many Window Center (0028,1050) DS and Window Width (0028,1051) DS, each a number of at most 16 characters, whole in millionths and below one million in size, the widths at least 1.",
+    "Frame VOI LUT Sequence (0028,9132) SQ, where the frame has it, must have one item, with equally many Window Center (0028,1050) DS and Window Width (0028,1051) DS, each a number of at most 16 characters, whole in millionths and below one million in size; VOI LUT Function (0028,1056) CS absent, LINEAR or LINEAR_EXACT; the widths at least 1, with LINEAR_EXACT above 0.",
     "Mask Subtraction Sequence (0028,6100) SQ, if present, must have 1 to 16 items, each with a Mask Operation (0028,6101) CS of NONE, AVG_SUB or TID.",
     "Applicable Frame Range (0028,6102) US in a mask item, if present, must be pairs of a first and a last frame, in order and from 1 to Number of Frames (0028,0008).",
     "A mask item whose Mask Operation (0028,6101) is AVG_SUB must have 1 to 64 Mask Frame Numbers (0028,6110) US from 1 to Number of Frames (0028,0008), and Contrast Frame Averaging (0028,6112) US absent or 1.",

@@ -1,4 +1,4 @@
-"""Drawing frame f: document 01, steps 1 to 7, with Q-2 and Q-4 of document 02, computed with whole numbers and fractions.
+"""Drawing frame f: document 01, steps 1 to 7, with Q-2, Q-3 and Q-4 of document 02, computed with whole numbers and fractions.
 
 The steps are defined for every data set that reads well, accepted or not, so no rule is taken for granted here: what a
 step needs and does not find raises Lacking. A step that is not taken needs nothing.
@@ -10,7 +10,7 @@ from typing import NamedTuple
 
 from . import attributes as tags
 from .answers import BUFFER_TOO_SMALL, DONE, NO_SUCH_FRAME, Answer, Outcome
-from .rules import judge_with_root
+from .rules import LINEAR, LINEAR_EXACT, judge_with_root, voi_lut_function
 from .values import UNIT, integer, items_of, millionths, whole_quarters
 
 NO_SHIFT = (0, 0)
@@ -260,31 +260,50 @@ def subtracted(sample, mask, stored):
 
 
 def window(root, frame, stored):
-    """Step 6. The first centre and width in millionths are C, W; without a VOI group 1,000,000 × 2^(stored - 1) and
-    1,000,000 × 2^stored (Q-2)."""
+    """Step 6. The function, and the first centre and width in millionths, C, W; without a VOI group LINEAR,
+    1,000,000 × 2^(stored - 1) and 1,000,000 × 2^stored (Q-2, Q-3)."""
     group = frame_group(root, frame, tags.FRAME_VOI_LUT_SEQUENCE)
     if group is None:
-        return UNIT * half_of_range(stored), UNIT * 2 ** stored
+        return LINEAR, UNIT * half_of_range(stored), UNIT * 2 ** stored
     items = needed(items_of(root.data, group), "Frame VOI LUT of VR SQ")
     if len(items) != 1:
         raise Lacking("the one item of Frame VOI LUT")
     centers = needed(items[0].texts(tags.WINDOW_CENTER, "DS"), "Window Center")
     widths = needed(items[0].texts(tags.WINDOW_WIDTH, "DS"), "Window Width")
-    return needed(millionths(centers[0]), "a centre"), needed(millionths(widths[0]), "a width")
+    return (needed(voi_lut_function(items[0]), "a function"), needed(millionths(centers[0]), "a centre"),
+            needed(millionths(widths[0]), "a width"))
 
 
-def level(x, center, width):
+def divided(number, divisor):
+    """Rounded down. Step 6 needs "a divisor above 0 where it divides"."""
+    if divisor <= 0:
+        raise Lacking("a divisor above 0")
+    return floor(Fraction(number, divisor))
+
+
+def linear(x, center, width):
     """Step 6, with u = 1,000,000 for 1000 (Q-2). y = 0 if 2ux ≤ 2C - W; 255 if 2ux > 2C + W - 2u; else
-    floor((255(2ux - 2C + W) + W - u) / (2(W - u))). Then y is limited to 0..255."""
+    floor((255(2ux - 2C + W) + W - u) / (2(W - u)))."""
     if 2 * UNIT * x <= 2 * center - width:
-        y = 0
-    elif 2 * UNIT * x > 2 * center + width - 2 * UNIT:
-        y = 255
-    else:
-        divisor = 2 * (width - UNIT)
-        if divisor <= 0:
-            raise Lacking("a divisor above 0")
-        y = floor(Fraction(255 * (2 * UNIT * x - 2 * center + width) + width - UNIT, divisor))
+        return 0
+    if 2 * UNIT * x > 2 * center + width - 2 * UNIT:
+        return 255
+    return divided(255 * (2 * UNIT * x - 2 * center + width) + width - UNIT, 2 * (width - UNIT))
+
+
+def linear_exact(x, center, width):
+    """Q-3. "For LINEAR_EXACT (PS3.3 C.11.2.1.3), with u the units to one: 0 if 2ux ≤ 2C - W, 255 if 2ux > 2C + W, else
+    floor((255(2ux - 2C + W) + W) / (2W))"."""
+    if 2 * UNIT * x <= 2 * center - width:
+        return 0
+    if 2 * UNIT * x > 2 * center + width:
+        return 255
+    return divided(255 * (2 * UNIT * x - 2 * center + width) + width, 2 * width)
+
+
+def level(x, function, center, width):
+    """Step 6. Then y is limited to 0..255."""
+    y = linear_exact(x, center, width) if function == LINEAR_EXACT else linear(x, center, width)
     return limited(y, 0, 255)
 
 
@@ -305,7 +324,7 @@ def draw(root, frame):
     pixels = Pixels(root)
     samples = pixels.frame(frame)
     mask = mask_samples(root, frame, pixels)
-    center, width = window(root, frame, pixels.stored)
+    function, center, width = window(root, frame, pixels.stored)
     photometric = photometric_of(root)
     image = bytearray()
     for row in range(pixels.rows):
@@ -313,7 +332,7 @@ def draw(root, frame):
             x = samples[row][column]
             if mask is not None:
                 x = subtracted(x, mask[row][column], pixels.stored)
-            image.append(shown(level(x, center, width), photometric))
+            image.append(shown(level(x, function, center, width), photometric))
     return mask is not None, bytes(image)
 
 

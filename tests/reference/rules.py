@@ -59,6 +59,18 @@ def one_item(items):
     return items is not None and len(items) == 1
 
 
+LINEAR, LINEAR_EXACT = b"LINEAR", b"LINEAR_EXACT"
+
+
+def voi_lut_function(item):
+    """The function of a VOI item (Q-3): LINEAR where VOI LUT Function (0028,1056) CS is absent, LINEAR or LINEAR_EXACT as it says,
+    None for "SIGMOID, all other words, an empty value and another VR"."""
+    if not item.present(tags.VOI_LUT_FUNCTION):
+        return LINEAR
+    word = item.text(tags.VOI_LUT_FUNCTION, "CS")
+    return word if word in (LINEAR, LINEAR_EXACT) else None
+
+
 def small_shift(level):
     """A Mask Sub-pixel Shift as rule 35 asks it: FL, two whole multiples of 1/4 from -64 to 64."""
     pair = level.quarter_pair(tags.MASK_SUB_PIXEL_SHIFT)
@@ -256,7 +268,8 @@ def rule_29(root, frame):
 
 def rule_30(root, frame):
     """Per frame: Frame VOI LUT (0028,9132), if present, one item; has Window Center (0028,1050) and Width (0028,1051)
-    DS, equally many, each a whole count of millionths, below one million in size (Q-2); widths at least 1."""
+    DS, equally many, each a whole count of millionths, below one million in size (Q-2); widths at least 1, for LINEAR_EXACT
+    above 0; VOI LUT Function (0028,1056) CS absent, LINEAR or LINEAR_EXACT (Q-3)."""
     group = frame_group(root, frame, tags.FRAME_VOI_LUT_SEQUENCE)
     if group is None:
         return True
@@ -269,7 +282,11 @@ def rule_30(root, frame):
         return False
     if any(millionths(text) is None for text in centers + widths):
         return False
-    return all(millionths(text) >= UNIT for text in widths)
+    function = voi_lut_function(items[0])
+    if function is None:
+        return False
+    least = 1 if function == LINEAR_EXACT else UNIT
+    return all(millionths(text) >= least for text in widths)
 
 
 def rule_31(root):

@@ -77,7 +77,7 @@ shade-small false y h = h
 
 level-cell : (w : Window) → Drawable w → (inverse : Bool) (x : ℤ) → Cell (shaded inverse (levelOf w x))
 level-cell w d inverse x =
-    let l = leveled w d x in
+    let l = leveled w x in
     record { y = shadeOf inverse (l .y); is = ap (shaded inverse) (l .is); small = shade-small inverse (l .y) (l .small) }
 
 pub native-cell : (g : Geometry) (v : List ℕ) (f : ℕ) (w : Window) → Drawable w → (inverse : Bool) (i : ℕ) → Cell (nativeCell g v f w inverse i)

@@ -16,8 +16,8 @@ use Rattle.value.specs.declared.Num.the-variants.{Is, Lacks}
 use Rattle.value.specs.declared.Signed.{Signed}
 use Rattle.value.specs.declared.Signed.the-variants as signed
 use Rattle.value.specs.Text.{ascii, equal, valuesOf, valueOf, isSingle, trimStart, trimEnd}
-use Rattle.value.specs.Words.{isWord, wordAt}
-use Rattle.value.specs.Number.{unit, all, allDecimals, allWidths, decimalOf, isNumber, isWidth}
+use Rattle.value.specs.Words.{isWord, wordAt, isFunction}
+use Rattle.value.specs.Number.{unit, all, allDecimals, allWidths, decimalOf, isNumber, leastWidth, isWidth}
 use Rattle.value.proofs.Laws.{decimalOf-below}
 use Rattle.value.proofs.Parts.{values-some}
 use Rattle.verdict.specs.Verdict.{perFrame}
@@ -26,7 +26,7 @@ use Rattle.node.specs.Nodes.{Node, nodeAt, root, inside}
 use Rattle.node.specs.Find.{holds, ifPresent, orElse, find, findVr}
 use Rattle.element.specs.Tags
 use Rattle.element.specs.Tags.{CS, DS, OB, OW}
-use Rattle.element.specs.Elements.{valueAt, usIn, theItem}
+use Rattle.element.specs.Elements.{valueAt, usIn, theItem, functionIn}
 use Rattle.element.specs.Frames.{framesOf, sharedItem, frameItem, groupOf}
 use Rattle.rules.specs.Root.{photometricIs, bitsFit, rule9, rule10, rule11, rule12, rule13, rule14, rule15, rule25, rule26}
 use Rattle.rules.specs.Frame.{atFrame, item27, item30, isVoi, hasWindow, isWindow, rule27, rule28, rule29, rule30, rule37}
@@ -389,10 +389,10 @@ all-first p v e = go (valuesOf v) (values-some v) e
     go [] h q = absurd (omega arith)
     go (x ∷ vs) h q = and-both (p x) (all p vs) q .0
 
-width-number : (s : Signed) → isWidth s ≡ true → isNumber s ≡ true
-width-number (signed.Plus n) e = refl
-width-number (signed.Minus n) e = absurd (false-is-true e)
-width-number signed.Lacks e = absurd (false-is-true e)
+width-number : (least : ℕ) (s : Signed) → isWidth least s ≡ true → isNumber s ≡ true
+width-number least (signed.Plus n) e = refl
+width-number least (signed.Minus n) e = absurd (false-is-true e)
+width-number least signed.Lacks e = absurd (false-is-true e)
 
 -- A window in a VOI item: the first centre and the first width.
 abbrev firstOf : List Node → ℕ → Signed
@@ -400,23 +400,24 @@ firstOf ns i = decimalOf (valueOf (valueAt ns i) 0)
 
 module _ (ns : List Node) (is : List ℕ) where
   window-is : (c w : ℕ) → findVr ns Tags.WindowCenter DS is ≡ Is c → findVr ns Tags.WindowWidth DS is ≡ Is w → isNumber (firstOf ns c) ≡ true
-      → isNumber (firstOf ns w) ≡ true → windowIn ns is ≡ some (record { center = firstOf ns c; width = firstOf ns w })
+      → isNumber (firstOf ns w) ≡ true → isFunction (functionIn ns is) ≡ true → windowIn ns is ≡ some (record { center = firstOf ns c; width = firstOf ns w; function = functionIn ns is })
   unfolding windowIn
-  window-is c w p q x y = rw (p, q, x, y)
+  window-is c w p q x y z = rw (p, q, x, y, z)
 
   window-in : hasWindow ns is ≡ true → (w : Window) × ((windowIn ns is ≡ some w) × Drawable w)
   unfolding hasWindow isWindow allDecimals allWidths
   window-in e =
       let c = had (findVr ns Tags.WindowCenter DS is) _ e in
       let w = had (findVr ns Tags.WindowWidth DS is) _ (c .1 .1) in
-      let t = and-both (eqb (length (valuesOf (valueAt ns (c .0)))) (length (valuesOf (valueAt ns (w .0))))) _ (w .1 .1) in
-      let u = and-both (allDecimals (valueAt ns (c .0))) (allWidths (valueAt ns (w .0))) (t .1) in
+      let f = and-both (isFunction (functionIn ns is)) _ (w .1 .1) in
+      let t = and-both (eqb (length (valuesOf (valueAt ns (c .0)))) (length (valuesOf (valueAt ns (w .0))))) _ (f .1) in
+      let u = and-both (allDecimals (valueAt ns (c .0))) (allWidths (leastWidth (functionIn ns is)) (valueAt ns (w .0))) (t .1) in
       let number : isNumber (firstOf ns (c .0)) ≡ true = all-first (λ d. isNumber (decimalOf d)) (valueAt ns (c .0)) (u .0) in
-      let wide : isWidth (firstOf ns (w .0)) ≡ true = all-first (λ d. isWidth (decimalOf d)) (valueAt ns (w .0)) (u .1) in (
-        record { center = firstOf ns (c .0); width = firstOf ns (w .0) },
+      let wide : isWidth (leastWidth (functionIn ns is)) (firstOf ns (w .0)) ≡ true = all-first (λ d. isWidth (leastWidth (functionIn ns is)) (decimalOf d)) (valueAt ns (w .0)) (u .1) in (
+        record { center = firstOf ns (c .0); width = firstOf ns (w .0); function = functionIn ns is },
         (
-          window-is (c .0) (w .0) (c .1 .0) (w .1 .0) number (width-number (firstOf ns (w .0)) wide),
-          record { number = number; near = decimalOf-below (valueOf (valueAt ns (c .0)) 0); wide = wide; narrow = decimalOf-below (valueOf (valueAt ns (w .0)) 0) },
+          window-is (c .0) (w .0) (c .1 .0) (w .1 .0) number (width-number (leastWidth (functionIn ns is)) (firstOf ns (w .0)) wide) (f .0),
+          record { ruled = record { number = number; function = f .0; wide = wide }; near = decimalOf-below (valueOf (valueAt ns (c .0)) 0); narrow = decimalOf-below (valueOf (valueAt ns (w .0)) 0) },
         ),
       )
 
@@ -426,7 +427,7 @@ unfolding fullWindow
 full-drawable stored h =
     let b : 2 ^ stored ≤ 65536 = power-small stored 16 h in
     let c : 1 ≤ 2 ^ stored = one-le-pow stored 2 (omega arith) in
-    record { number = refl; near = omega arith; wide = le-leb unit (unit * 2 ^ stored) (omega arith); narrow = omega arith }
+    record { ruled = record { number = refl; function = refl; wide = le-leb unit (unit * 2 ^ stored) (omega arith) }; near = omega arith; narrow = omega arith }
 
 item-window : (ns : List Node) (stored g j : ℕ) (w : Window) → theItem ns g ≡ Is j → windowIn ns (inside ns j) ≡ some w → windowOn ns stored (Is g) ≡ some w
 item-window ns stored g j w e h = rw e h

@@ -69,7 +69,7 @@ twice s =
 shade-cell : (w : Window) → Drawable w → (stored : ℕ) (inverse : Bool) (i : ℕ) (x : ℤ) → pos (i + 2 ^ (stored - 1)) -ℤ pos (2 ^ stored - 1) ≡ x
     → shaded inverse (levelOf w x) ≡ Is (shadeAt w stored inverse i)
 shade-cell w d stored inverse i x e =
-    let l = leveled w d x in
+    let l = leveled w x in
     ap (shaded inverse) (l .is) ∙ ap Is (sym (shade-is w stored inverse i (l .y) (rw e (l .is))))
 
 module _ (g : Geometry) (v : List ℕ) (f : ℕ) (low : 1 ≤ g .stored) (w : Window) (d : Drawable w) (inverse : Bool)

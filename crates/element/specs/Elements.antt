@@ -11,10 +11,12 @@ use Rattle.value.specs.declared.Num.the-variants.{Is, Lacks}
 use Rattle.value.specs.declared.Signed.{Signed}
 use Rattle.value.specs.declared.Signed.the-variants as signed
 use Rattle.value.specs.Number.{usOf, ssOf}
-use Rattle.value.specs.Words.{isWord, isUid}
+use Rattle.value.specs.declared.Function.{Function}
+use Rattle.value.specs.declared.Function.the-variants as function
+use Rattle.value.specs.Words.{isWord, isUid, functionOf}
 use Rattle.node.specs.Nodes.{Node, nodeAt, inside}
 use Rattle.node.specs.Find.{holds, andThen, find, findVr}
-use Rattle.element.specs.Tags.{CS, UI, US, SS}
+use Rattle.element.specs.Tags.{CS, UI, US, SS, VOILUTFunction}
 
 abbrev pub valueAt : List Node → ℕ → List ℕ
 valueAt ns i = nodeAt ns i .value
@@ -61,3 +63,13 @@ every p (i ∷ is) = p i && every p is
 unfoldable pub some : (ℕ → Bool) → List ℕ → Bool
 some p [] = false
 some p (i ∷ is) = p i || some p is
+
+-- ---- The function of a window
+
+-- VOI LUT Function (0028,1056) CS among the members of a VOI item: absent it is LINEAR; of another VR it is none.
+abbrev pub functionOn : List Node → Num → Function
+functionOn ns Lacks = function.Linear
+functionOn ns (Is k) = cond (eqb (nodeAt ns k .vr) CS) (functionOf (valueAt ns k)) function.Lacks
+
+unfoldable pub functionIn : List Node → List ℕ → Function
+functionIn ns is = functionOn ns (find ns VOILUTFunction is)

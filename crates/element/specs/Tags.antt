@@ -125,6 +125,9 @@ WindowCenter = 0x0028_1050
 abbrev pub WindowWidth : ℕ
 WindowWidth = 0x0028_1051
 
+abbrev pub VOILUTFunction : ℕ
+VOILUTFunction = 0x0028_1056
+
 abbrev pub LossyImageCompression : ℕ
 LossyImageCompression = 0x0028_2110
 

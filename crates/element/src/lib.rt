@@ -10,9 +10,11 @@ ghost use Rattle.node.specs.Nodes.{Node, nodesOf, nodeAt, nextNode, members, ro
 ghost use Rattle.node.specs.Find.{absent, find, findVr, has};
 ghost use Rattle.node.specs.Table.{Table};
 ghost use Rattle.value.specs.Said.{Below, SizeBelow};
-ghost use Rattle.element.specs.Elements.{usIn, csIs, uiIs, oneItem, theItem, insideOf, itemsIn};
+ghost use Rattle.element.specs.Elements.{usIn, csIs, uiIs, oneItem, theItem, insideOf, itemsIn, functionOn, functionIn};
+ghost use Rattle.value.specs.declared.Num.the-variants as num;
 ghost use Rattle.element.specs.Frames.{counted, framesOf, sharedItem, frameItems, groupOf, maskItems};
 ghost use Rattle.element.specs.Along.{Along};
+use value::Function;
 use value::Num;
 use value::Signed;
 
@@ -246,6 +248,31 @@ pub fn advance(bytes: &[u8], rows: &[u32], c: Items) -> Items
         }
     } else {
         c
+    }
+}
+
+// ---- The function of a window
+
+// VOI LUT Function at node k.
+fn function_at(bytes: &[u8], rows: &[u32], k: usize) -> Function
+    requires { ⌜ Table (now bytes) (now rows) × (k < length (nodesOf (now bytes))) ⌝ }
+    ensures { λ r. ⌜ r ≡ functionOn (nodesOf (now (bytes .entry))) (num.Is k) ⌝ }
+{
+    if node::vr(bytes, rows, k) == tags::CS {
+        value::function_of(node::value(bytes, rows, k))
+    } else {
+        Function::Lacks
+    }
+}
+
+// The function of the window in a VOI item.
+pub fn function_in(bytes: &[u8], rows: &[u32], item: usize) -> Function
+    requires { ⌜ Table (now bytes) (now rows) × (item < length (nodesOf (now bytes))) ⌝ }
+    ensures { λ r. ⌜ r ≡ functionIn (nodesOf (now (bytes .entry))) (inside (nodesOf (now (bytes .entry))) item) ⌝ }
+{
+    match find_item(bytes, rows, item, tags::VOI_LUT_FUNCTION) {
+        Num::Lacks => Function::Linear,
+        Num::Is(k) => function_at(bytes, rows, k),
     }
 }
 

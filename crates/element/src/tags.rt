@@ -79,6 +79,8 @@ pub const WINDOW_CENTER: usize = 0x0028_1050;
 
 pub const WINDOW_WIDTH: usize = 0x0028_1051;
 
+pub const VOI_LUT_FUNCTION: usize = 0x0028_1056;
+
 pub const LOSSY_IMAGE_COMPRESSION: usize = 0x0028_2110;
 
 pub const LOSSY_IMAGE_COMPRESSION_RATIO: usize = 0x0028_2112;

@@ -89,7 +89,7 @@ fn print_groups(rule: usize) {
             b"XA/XRF Frame Characteristics Sequence (0018,9412) SQ, where the frame has it, must have one item.",
         ),
         _ => say(
-            b"Frame VOI LUT Sequence (0028,9132) SQ, where the frame has it, must have one item, with equally many Window Center (0028,1050) DS and Window Width (0028,1051) DS, each a number of at most 16 characters, whole in millionths and below one million in size, the widths at least 1.",
+            b"Frame VOI LUT Sequence (0028,9132) SQ, where the frame has it, must have one item, with equally many Window Center (0028,1050) DS and Window Width (0028,1051) DS, each a number of at most 16 characters, whole in millionths and below one million in size; VOI LUT Function (0028,1056) CS absent, LINEAR or LINEAR_EXACT; the widths at least 1, with LINEAR_EXACT above 0.",
         ),
     }
 }

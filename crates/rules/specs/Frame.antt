@@ -9,13 +9,15 @@ use Rattle.dataset.specs.Vr.{SQ}
 use Rattle.value.specs.declared.Num.{Num}
 use Rattle.value.specs.declared.Num.the-variants.{Is, Lacks}
 use Rattle.value.specs.Text.{valuesOf}
-use Rattle.value.specs.Number.{allDecimals, allWidths}
+use Rattle.value.specs.declared.Function.{Function}
+use Rattle.value.specs.Words.{isFunction}
+use Rattle.value.specs.Number.{allDecimals, leastWidth, allWidths}
 use Rattle.shift.specs.Shift.{isShift}
 use Rattle.node.specs.Nodes.{Node, nodeAt, inside}
 use Rattle.node.specs.Find.{holds, ifPresent, absent, find, findVr}
 use Rattle.element.specs.Tags
 use Rattle.element.specs.Tags.{DS, FL}
-use Rattle.element.specs.Elements.{valueAt, usIn, oneItem, theItem, every, some}
+use Rattle.element.specs.Elements.{valueAt, usIn, oneItem, theItem, functionIn, every, some}
 use Rattle.element.specs.Frames.{frameItem, sharedItem, groupOf}
 
 -- At frame f: what is asked of the shared item s and item f, whose node is i.
@@ -51,13 +53,15 @@ unfoldable pub rule29 : List Node → ℕ → Bool
 rule29 ns f = atFrame ns f (item29 ns)
 
 -- Rule 30. Frame VOI LUT (0028,9132), if present, one item; has Window Center (0028,1050) and Width (0028,1051) DS,
--- equally many, each of the form of a DS number; widths at least 1. (An empty value is no number.)
-unfoldable pub isWindow : List ℕ → List ℕ → Bool
-isWindow centers widths = eqb (length (valuesOf centers)) (length (valuesOf widths)) && (allDecimals centers && allWidths widths)
+-- equally many, each of the form of a DS number; its VOI LUT Function (0028,1056) CS, if present, LINEAR or LINEAR_EXACT; widths
+-- at least 1 with LINEAR, above 0 with LINEAR_EXACT. (An empty value is no number, and no function.)
+unfoldable pub isWindow : Function → List ℕ → List ℕ → Bool
+isWindow f centers widths =
+    isFunction f && (eqb (length (valuesOf centers)) (length (valuesOf widths)) && (allDecimals centers && allWidths (leastWidth f) widths))
 
 unfoldable pub hasWindow : List Node → List ℕ → Bool
 hasWindow ns is =
-    holds (findVr ns Tags.WindowCenter DS is) (λ c. holds (findVr ns Tags.WindowWidth DS is) (λ w. isWindow (valueAt ns c) (valueAt ns w)))
+    holds (findVr ns Tags.WindowCenter DS is) (λ c. holds (findVr ns Tags.WindowWidth DS is) (λ w. isWindow (functionIn ns is) (valueAt ns c) (valueAt ns w)))
 
 unfoldable pub isVoi : List Node → ℕ → Bool
 isVoi ns g = holds (theItem ns g) (λ j. hasWindow ns (inside ns j))

@@ -1,7 +1,10 @@
 // Rules 27 to 30 and 37, which are asked at each frame, over a row table.
 ghost use mathlib.Core.Path.{_≡_};
 ghost use Prim.Native.Nat.{ℕ, _+_, _-_, _*_, _≤_, _<_};
-ghost use mathlib.Core.Bool.{Bool};
+ghost use mathlib.Core.Bool.{Bool, _&&_};
+ghost use lib.Dec.{eqb};
+ghost use Rattle.value.specs.Text.{valuesOf};
+ghost use Rattle.value.specs.Number.{allDecimals, allWidths};
 ghost use lib.ListN.{length};
 ghost use Rattle.node.specs.Nodes.{Node, nodesOf, nodeAt, members, inside};
 ghost use Rattle.node.specs.Find.{absent, ifPresent, find};
@@ -9,6 +12,7 @@ ghost use Rattle.node.specs.Table.{Table};
 ghost use Rattle.element.specs.Elements.{every};
 ghost use Rattle.rules.specs.Frame.{isShared, repeatsShared, item27, item28, isWindow, hasWindow, isVoi, isShiftItem, isShiftGroup};
 ghost use Rattle.rules_frame.specs.Parts.{groupTag, groupFits, groupIn, sharedPart, itemRule};
+use value::Function;
 use value::Num;
 
 const SQ: usize = 0x5351;
@@ -86,15 +90,26 @@ fn item_28(bytes: &[u8], rows: &[u32], shared: usize, ok: bool, item: usize) -> 
 
 // ---- Rule 30: Frame VOI LUT
 
-fn is_window(centers: &[u8], widths: &[u8]) -> bool
-    ensures { λ r. ⌜ r ≡ isWindow (now (centers .entry)) (now (widths .entry)) ⌝ }
+// Centres and widths: equally many, and each of its form.
+fn are_pairs(least: usize, centers: &[u8], widths: &[u8]) -> bool
+    ensures { λ r. ⌜ r ≡ (eqb (length (valuesOf (now (centers .entry)))) (length (valuesOf (now (widths .entry)))) && (allDecimals (now (centers .entry)) && allWidths least (now (widths .entry)))) ⌝ }
 {
     if value::count_values(centers) == value::count_values(widths) {
         if value::all_decimals(centers) {
-            value::all_widths(widths)
+            value::all_widths(widths, least)
         } else {
             false
         }
+    } else {
+        false
+    }
+}
+
+fn is_window(f: Function, centers: &[u8], widths: &[u8]) -> bool
+    ensures { λ r. ⌜ r ≡ isWindow f (now (centers .entry)) (now (widths .entry)) ⌝ }
+{
+    if value::is_function(f) {
+        are_pairs(value::least_width(f), centers, widths)
     } else {
         false
     }
@@ -122,7 +137,11 @@ fn has_window(bytes: &[u8], rows: &[u32], item: usize) -> bool
     ) else {
         return false;
     };
-    is_window(node::value(bytes, rows, c), node::value(bytes, rows, w))
+    is_window(
+        element::function_in(bytes, rows, item),
+        node::value(bytes, rows, c),
+        node::value(bytes, rows, w),
+    )
 }
 
 fn is_voi(bytes: &[u8], rows: &[u32], group: usize) -> bool

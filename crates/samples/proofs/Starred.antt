@@ -9,11 +9,11 @@ use Rattle.dataset.specs.Header.{when, headerBy, delimiterBy, levelBy, definedB
 use Rattle.dataset.specs.Reading.{level, valueAt, readingOf}
 use Rattle.dataset.specs.Tree.{rowsOf}
 use Rattle.value.specs.Text.{equal, valuesOf, trimStart, trimEnd}
-use Rattle.value.specs.Words.{wordAt, isWord, isUid}
+use Rattle.value.specs.Words.{wordAt, isWord, isUid, functionOf}
 use Rattle.value.specs.Number.{usOf, usValues, ssOf, digitsOf, signedBy, wholeOf, isOf, exactOf, exponentOf, endOf, sizeOf, decimalOf, all, allDecimals, allWidths}
 use Rattle.node.specs.Nodes.{nodesOf, members, membersBy}
 use Rattle.node.specs.Find.{find, ofVr, filled, has}
-use Rattle.element.specs.Elements.{oneItem, theItem, itemsIn, every, some}
+use Rattle.element.specs.Elements.{oneItem, theItem, itemsIn, every, some, functionIn}
 use Rattle.element.specs.Frames.{framesOf, sharedItem, frameItems, maskItems}
 use Rattle.shift.specs.Shift.{movesOf}
 use Rattle.verdict.specs.Verdict.{perFrame}
@@ -23,18 +23,15 @@ use Rattle.rules.specs.Mask.{operationIs, isOperation, isMask, rangeFits, allFr
 use Rattle.rules.specs.Pixels.{isPixelVr, isPixelData, rule38}
 use Rattle.rules.specs.All.{ruleList, ruleAt}
 use Rattle.conformance.specs.Judging.{firstFrame, frameCount, lowest, firstBroken, judgeOf}
-use Rattle.window.specs.Window.{fullWindow, levelFor, levelOf, shadeOf}
+use Rattle.window.specs.Window.{fullWindow, levelOf, shadeOf}
 use Rattle.pixel.specs.Pixel.{leBytes, isFrame, sampleAt, sumAt, averageOf, maskAt, placeOf, restOf, neighbourOf, areInside, blendOf, blendedAt}
 use Rattle.steps.specs.Given.{collect}
 use Rattle.steps.specs.Steps.{geometryOf, pixelsOf, groupFor, rangeHolds, firstHolding, applyingTo, averageFrames, offsetOf, tidFrame, shiftFor, movesFor, maskBy, maskFor, windowIn, windowFor, inverseOf, nativeCell, maskedCell, areFrames, pictureBy, stepsOf}
 use Rattle.display.specs.Show.{pictureOf, acceptedAnswer, showOf, imageOf}
-use Rattle.samples.specs.Samples.{Sample, samples, later}
+use Rattle.samples.specs.Samples.{Sample, samples}
 
--- Every sample of a list gives what it says.
-abbrev Given : List Sample → Type 0
-Given list = map (λ k. k .gives) list ≡ map (λ k. k .says) list
-
-computed : Given samples × Given later
+-- The starred cases of document 01.
+pub starred : map (λ k. k .gives) samples ≡ map (λ k. k .says) samples
 unfolding
     le16
     listed formOf
@@ -42,11 +39,11 @@ unfolding
     level valueAt readingOf
     rowsOf
     equal valuesOf trimStart trimEnd
-    wordAt isWord isUid
+    wordAt isWord isUid functionOf
     usOf usValues ssOf digitsOf signedBy wholeOf isOf exactOf exponentOf endOf sizeOf decimalOf all allDecimals allWidths
     nodesOf members membersBy
     find ofVr filled has
-    oneItem theItem itemsIn every some
+    oneItem theItem itemsIn every some functionIn
     framesOf sharedItem frameItems maskItems
     movesOf
     perFrame
@@ -56,17 +53,9 @@ unfolding
     isPixelVr isPixelData rule38
     ruleList ruleAt
     firstFrame frameCount lowest firstBroken judgeOf
-    fullWindow levelFor levelOf shadeOf
+    fullWindow levelOf shadeOf
     leBytes isFrame sampleAt sumAt averageOf maskAt placeOf restOf neighbourOf areInside blendOf blendedAt
     collect
     geometryOf pixelsOf groupFor rangeHolds firstHolding applyingTo averageFrames offsetOf tidFrame shiftFor movesFor maskBy maskFor windowIn windowFor inverseOf nativeCell maskedCell areFrames pictureBy stepsOf
     pictureOf acceptedAnswer showOf imageOf
-computed = (refl, refl)
-
--- The starred cases of document 01.
-pub starred : map (λ k. k .gives) samples ≡ map (λ k. k .says) samples
-starred = computed .0
-
--- Those of later requests.
-pub later-given : map (λ k. k .gives) later ≡ map (λ k. k .says) later
-later-given = computed .1
+starred = refl

@@ -62,6 +62,11 @@ abbrev pub voi : String → String → List ℕ
 voi center width =
     sequence 0x0028 0x9132 (item (short 0x0028 0x1050 "DS" (ascii center) ++ short 0x0028 0x1051 "DS" (ascii width)))
 
+abbrev pub exactVoi : String → String → List ℕ
+exactVoi center width =
+    sequence 0x0028 0x9132
+    (item (short 0x0028 0x1050 "DS" (ascii center) ++ (short 0x0028 0x1051 "DS" (ascii width) ++ short 0x0028 0x1056 "CS" (ascii "LINEAR_EXACT"))))
+
 -- ---- Data sets
 
 -- With a byte more where their number is odd.

@@ -23,6 +23,7 @@ use Rattle.dataset.specs.declared.ReadAnswer.{ReadAnswer}
 use Rattle.value.specs.declared.Num.{Num}
 use Rattle.value.specs.declared.Num.the-variants.{Is}
 use Rattle.value.specs.declared.Signed.the-variants.{Plus}
+use Rattle.value.specs.declared.Function.the-variants.{Linear}
 use Rattle.value.specs.Number.{unit}
 use Rattle.node.specs.Nodes.{nodesOf}
 use Rattle.conformance.specs.Judging.{judgeOf}
@@ -37,7 +38,7 @@ use Rattle.steps.specs.Steps.{Mask, native, masked, shaded, maskedCell, maskFor
 use Rattle.display.specs.Show.{showOf, imageOf}
 use Rattle.display.specs.Show as shown
 use Rattle.display.specs.declared.ShowAnswer.{ShowAnswer}
-use Rattle.samples.specs.Objects.{two, threeFrames, oneFrame, tid, tidAbsent, averageOfTwo, noWindow, voi}
+use Rattle.samples.specs.Objects.{two, threeFrames, oneFrame, tid, tidAbsent, averageOfTwo, noWindow, voi, exactVoi}
 
 -- ---- What comes out
 
@@ -117,7 +118,7 @@ minusOne = 0xFF ∷ 0xFF ∷ []
 
 -- A centre and a width, whole numbers.
 abbrev pub window : ℕ → ℕ → Window
-window center width = record { center = Plus (unit * center); width = Plus (unit * width) }
+window center width = record { center = Plus (unit * center); width = Plus (unit * width); function = Linear }
 
 abbrev pub monochrome1 : Bool
 monochrome1 = true
@@ -247,4 +248,6 @@ abbrev pub later : List Sample
 later =
     -- Q-2: the window of centre 40 and width 10, its numbers written with exponents.
     shows (oneFrame "MONOCHROME2 " "IDENTITY" (voi "4E1 " "100.0e-1") widthTen) 1 lent (shownNative 29) (0 ∷ 28 ∷ 142 ∷ 255 ∷ 255 ∷ 9 ∷ 9 ∷ 9 ∷ [])
+    -- Q-3: that window with LINEAR_EXACT, at 36 floor((255 · 2 + 10) / 20).
+    ∷ shows (oneFrame "MONOCHROME2 " "IDENTITY" (exactVoi "40" "10") widthTen) 1 lent (shownNative 30) (0 ∷ 26 ∷ 128 ∷ 230 ∷ 255 ∷ 9 ∷ 9 ∷ 9 ∷ [])
     ∷ []

@@ -14,7 +14,7 @@ use Rattle.value.specs.declared.Num.the-variants.{Is, Lacks}
 use Rattle.value.specs.declared.Signed.{Signed}
 use Rattle.value.specs.declared.Signed.the-variants as signed
 use Rattle.value.specs.Text.{ascii, valueOf, isSingle}
-use Rattle.value.specs.Words.{isWord}
+use Rattle.value.specs.Words.{isWord, isFunction}
 use Rattle.value.specs.Number.{usValues, ssOf, isNumber, decimalOf}
 use Rattle.shift.specs.declared.Shift.{Shift}
 use Rattle.shift.specs.declared.Shift.the-variants as shift
@@ -24,7 +24,7 @@ use Rattle.node.specs.Nodes.{Node, nodeAt, root, inside}
 use Rattle.node.specs.Find.{find, findVr}
 use Rattle.element.specs.Tags
 use Rattle.element.specs.Tags.{CS, DS, FL, OB, OW, SS, US}
-use Rattle.element.specs.Elements.{valueAt, usIn, csIs, theItem}
+use Rattle.element.specs.Elements.{valueAt, usIn, csIs, theItem, functionIn}
 use Rattle.element.specs.Frames.{framesOf, sharedItem, frameItem}
 use Rattle.rules.specs.Frame.{idIn}
 use Rattle.rules.specs.Mask.{operationIs}
@@ -176,14 +176,14 @@ maskOn ns f (Item j) = maskBy ns f j
 unfoldable pub maskFor : List Node → ℕ → Option Mask
 maskFor ns f = then (applyingTo ns f) (maskOn ns f)
 
--- ---- Step 6. The first centre and width; without a VOI group the full window.
+-- ---- Step 6. The first centre and width, and the function; without a VOI group the full window.
 
 unfoldable pub windowIn : List Node → List ℕ → Option Window
 windowIn ns is =
     need (findVr ns Tags.WindowCenter DS is) (λ c.
     need (findVr ns Tags.WindowWidth DS is) (λ w.
-    check (isNumber (decimalOf (valueOf (valueAt ns c) 0)) && isNumber (decimalOf (valueOf (valueAt ns w) 0)))
-    (some (record { center = decimalOf (valueOf (valueAt ns c) 0); width = decimalOf (valueOf (valueAt ns w) 0) }))))
+    check (isNumber (decimalOf (valueOf (valueAt ns c) 0)) && (isNumber (decimalOf (valueOf (valueAt ns w) 0)) && isFunction (functionIn ns is)))
+    (some (record { center = decimalOf (valueOf (valueAt ns c) 0); width = decimalOf (valueOf (valueAt ns w) 0); function = functionIn ns is }))))
 
 abbrev pub windowOn : List Node → ℕ → Num → Option Window
 windowOn ns stored Lacks = some (fullWindow stored)

@@ -8,7 +8,7 @@ ghost use lib.ListN.{length};
 ghost use lib.Dec.{eqb, leb};
 ghost use Rattle.value.specs.declared.Num.the-variants as num;
 ghost use Rattle.value.specs.Text.{ascii, valueOf, isSingle};
-ghost use Rattle.value.specs.Words.{isWord};
+ghost use Rattle.value.specs.Words.{isWord, isFunction};
 ghost use Rattle.value.specs.Number.{usValues, isNumber, decimalOf};
 ghost use Rattle.value.specs.Said.{Below, SizeBelow};
 ghost use Rattle.node.specs.Nodes.{nodesOf, members, inside};
@@ -20,6 +20,7 @@ ghost use Rattle.steps.specs.Said.{foundOf, FoundBelow, holdsOf, applies
 use element::tags;
 use pixel::Geometry;
 use shift::Shift;
+use value::Function;
 use value::Num;
 use value::Signed;
 use window::Window;
@@ -455,13 +456,21 @@ fn is_number(n: Signed) -> bool
     }
 }
 
-// A centre and a width, where both are numbers.
-fn window_of(center: Signed, width: Signed) -> Windowed
-    ensures { λ r. ⌜ windowedOf r ≡ check (isNumber center && isNumber width) (some (record { center = center; width = width })) ⌝ }
+// A centre and a width, where both are numbers, and a function.
+fn window_of(center: Signed, width: Signed, function: Function) -> Windowed
+    ensures { λ r. ⌜ windowedOf r ≡ check (isNumber center && (isNumber width && isFunction function)) (some (record { center = center; width = width; function = function })) ⌝ }
 {
     if is_number(center) {
         if is_number(width) {
-            Windowed::Is(Window { center, width })
+            if value::is_function(function) {
+                Windowed::Is(Window {
+                    center,
+                    width,
+                    function,
+                })
+            } else {
+                Windowed::Lacks
+            }
         } else {
             Windowed::Lacks
         }
@@ -490,7 +499,7 @@ fn window_in(bytes: &[u8], rows: &[u32], j: usize) -> Windowed
     };
     let center = first_decimal(node::value(bytes, rows, c));
     let width = first_decimal(node::value(bytes, rows, w));
-    window_of(center, width)
+    window_of(center, width, element::function_in(bytes, rows, j))
 }
 
 // The window of a VOI group.

@@ -5,6 +5,7 @@ use steps::Inverse;
 use steps::Shifts;
 use steps::Sized;
 use steps::Windowed;
+use value::Function;
 use value::Signed;
 
 pub fn print_number(n: usize) {
@@ -112,13 +113,29 @@ pub fn print_shift(shift: Shifts) {
     }
 }
 
-// Step 6: the centre and the width, in units of a DS number.
+fn print_function(function: Function) {
+    match function {
+        Function::Linear => {
+            io::write_all(1, b" LINEAR");
+        }
+        Function::Exact => {
+            io::write_all(1, b" LINEAR_EXACT");
+        }
+        Function::Lacks => {
+            io::write_all(1, b" other");
+        }
+    }
+}
+
+// Step 6: the function, and the centre and the width in units of a DS number.
 pub fn print_window(window: Windowed) {
     match window {
         Windowed::Is(w) => {
+            let function = w.function;
             let center = w.center;
             let width = w.width;
             io::write_all(1, b" window");
+            print_function(function);
             print_signed(center);
             print_signed(width);
         }

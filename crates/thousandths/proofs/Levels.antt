@@ -10,6 +10,8 @@ use Rattle.value.specs.declared.Num.{Num}
 use Rattle.value.specs.declared.Num.the-variants.{Is, Lacks}
 use Rattle.value.specs.declared.Signed.{Signed}
 use Rattle.value.specs.declared.Signed.the-variants as signed
+use Rattle.value.specs.declared.Function.{Function}
+use Rattle.value.specs.declared.Function.the-variants as function
 use Rattle.window.specs.declared.Window as present
 use Rattle.window.specs.Window as window
 use Rattle.window.specs.Window.{integer}
@@ -17,7 +19,7 @@ use Rattle.window.specs.Said.{above, below}
 use Rattle.window.proofs.Gaps.{Gap, shift, whole, plus, less, times, same-leb, le-test, ltZ-leZ}
 use Rattle.window.proofs.Laws.{signed-gap, over, under, integer-gap}
 use Rattle.thousandths.specs.Number.{scaled}
-use Rattle.thousandths.specs.Step6.{Window, fullWindow, floor, limited, levelBy, levelOf, levelHalf}
+use Rattle.thousandths.specs.Step6.{Window, fullWindow, floor, limited, takenOff, levelBy, levelAt, levelOf, levelHalf}
 
 -- The second integer is 1000 times the first.
 record Scaled (y z : ℤ) : Type 0 where
@@ -79,15 +81,20 @@ same-limit : (z : ℤ) → window.limited z ≡ limited z
 same-limit (pos n) = refl
 same-limit (negsuc n) = refl
 
-level-scaled : {c d w v t q : ℤ} → Scaled c d → Scaled w v → Scaled t q → window.levelBy (pos 1000000) d v q ≡ levelBy (pos 1000) c w t
-level-scaled sc sw st =
+level-scaled : {e o c d w v t q : ℤ} → Scaled e o → Scaled c d → Scaled w v → Scaled t q → window.levelBy o d v q ≡ levelBy e c w t
+level-scaled se sc sw st =
     rw (
       ← same-le st (of-less (of-two sc) sw),
-      ← same-lt (of-less (of-plus (of-two sc) sw) (of-whole 2000)) st,
-      ← same-lt (of-whole 0) (of-two (of-less sw (of-whole 1000))),
-      same-floor (of-less (of-plus (of-255 (of-plus (of-less st (of-two sc)) sw)) sw) (of-whole 1000)) (of-two (of-less sw (of-whole 1000))),
+      ← same-lt (of-less (of-plus (of-two sc) sw) (of-two se)) st,
+      ← same-lt (of-whole 0) (of-two (of-less sw se)),
+      same-floor (of-less (of-plus (of-255 (of-plus (of-less st (of-two sc)) sw)) sw) se) (of-two (of-less sw se)),
       same-limit,
     )
+
+scaled-off : (f : Function) → Scaled (pos (takenOff f)) (pos (window.takenOff f))
+scaled-off function.Linear = of-whole 1000
+scaled-off function.Exact = of-whole 0
+scaled-off function.Lacks = of-whole 1000
 
 scaled-signed : (s : Signed) → Scaled (integer s) (integer (scaled s))
 scaled-signed (signed.Plus n) = of-whole n
@@ -100,18 +107,21 @@ scaled-place x = record { a = 2000 * over x; b = 2000 * under x; one = times 200
 
 -- The same window, in millionths.
 abbrev pub scaledWindow : Window → present.Window
-scaledWindow w = record { center = scaled (w .center); width = scaled (w .width) }
+scaledWindow w = record { center = scaled (w .center); width = scaled (w .width); function = w .function }
+
+same-at : (w : Window) {t q : ℤ} → Scaled t q → window.levelAt (scaledWindow w) q ≡ levelAt w t
+same-at w st = level-scaled (scaled-off (w .function)) (scaled-signed (w .center)) (scaled-signed (w .width)) st
 
 pub same-level : (w : Window) (x : ℤ) → window.levelOf (scaledWindow w) x ≡ levelOf w x
-unfolding window.levelOf window.levelFor levelOf
-same-level w x = level-scaled (scaled-signed (w .center)) (scaled-signed (w .width)) (scaled-place x)
+unfolding window.levelOf levelOf
+same-level w x = same-at w (scaled-place x)
 
 pub same-half : (w : Window) (x : ℤ) → window.levelHalf (scaledWindow w) x ≡ levelHalf w x
 unfolding window.levelHalf levelHalf
-same-half w x = level-scaled (scaled-signed (w .center)) (scaled-signed (w .width)) (of-plus (scaled-place x) (of-whole 1000))
+same-half w x = same-at w (of-plus (scaled-place x) (of-whole 1000))
 
 pub same-full : (stored : ℕ) → window.fullWindow stored ≡ scaledWindow (fullWindow stored)
 unfolding window.fullWindow fullWindow
 same-full stored =
-    ap (λ (n : ℕ). record { center = signed.Plus n; width = signed.Plus (1000000 * 2 ^ stored) }) (omega arith)
-    ∙ ap (λ (n : ℕ). record { center = signed.Plus (1000 * (1000 * 2 ^ stored / 2)); width = signed.Plus n }) (omega arith)
+    ap (λ (n : ℕ). record { center = signed.Plus n; width = signed.Plus (1000000 * 2 ^ stored); function = function.Linear }) (omega arith)
+    ∙ ap (λ (n : ℕ). record { center = signed.Plus (1000 * (1000 * 2 ^ stored / 2)); width = signed.Plus n; function = function.Linear }) (omega arith)

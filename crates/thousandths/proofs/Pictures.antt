@@ -12,7 +12,9 @@ use Rattle.value.specs.declared.Num.{Num}
 use Rattle.value.specs.declared.Num.the-variants.{Is, Lacks}
 use Rattle.value.specs.declared.Signed.{Signed}
 use Rattle.value.specs.declared.Signed.the-variants as signed
+use Rattle.value.specs.declared.Function.{Function}
 use Rattle.value.specs.Text.{valuesOf, valueOf}
+use Rattle.value.specs.Words.{isFunction}
 use Rattle.value.specs.Number as now
 use Rattle.value.specs.Number.{isNumber}
 use Rattle.verdict.proofs.Tests.{and-both}
@@ -21,7 +23,7 @@ use Rattle.node.specs.Nodes.{Node, inside}
 use Rattle.node.specs.Find.{holds, ifPresent, findVr}
 use Rattle.element.specs.Tags
 use Rattle.element.specs.Tags.{DS}
-use Rattle.element.specs.Elements.{valueAt, theItem}
+use Rattle.element.specs.Elements.{valueAt, theItem, functionIn}
 use Rattle.element.specs.Frames.{groupOf}
 use Rattle.pixel.specs.declared.Geometry.{Geometry}
 use Rattle.pixel.specs.Pixel.{samplesOf, isFrame, sampleAt, areInside, blendedAt}
@@ -33,7 +35,7 @@ use Rattle.steps.specs.Steps as steps
 use Rattle.steps.specs.Steps.{Picture, Mask, native as noMask, masked as maskOf, geometryOf, pixelsOf, maskFor, inverseOf, groupFor, areFrames}
 use Rattle.display.proofs.Given.{check-some, need-some, then-some}
 use Rattle.display.proofs.Objects.{had, all-first, at-items, group-is}
-use Rattle.thousandths.specs.Number.{decimalOf, isWidth, allDecimals, allWidths, scaled}
+use Rattle.thousandths.specs.Number.{decimalOf, leastWidth, isWidth, allDecimals, allWidths, scaled}
 use Rattle.thousandths.specs.Rule30.{isWindow, hasWindow, isVoi, item30, rule30}
 use Rattle.thousandths.specs.Step6.{Window, fullWindow, levelOf, levelHalf, windowIn, windowOn, windowFor, shaded, nativeCell, maskedCell, pictureBy, stepsOf}
 use Rattle.thousandths.proofs.Numbers.{numbers}
@@ -63,31 +65,34 @@ number-scaled (signed.Minus n) e = refl
 number-scaled signed.Lacks e = e
 
 module _ (ns : List Node) where
-  -- The window of the centre at c and the width at d.
-  abbrev of-values : ℕ → ℕ → Window
-  of-values c d = record { center = decimalOf (valueOf (valueAt ns c) 0); width = decimalOf (valueOf (valueAt ns d) 0) }
+  -- The window of the centre at c and the width at d, with a function.
+  abbrev of-values : Function → ℕ → ℕ → Window
+  of-values k c d = record { center = decimalOf (valueOf (valueAt ns c) 0); width = decimalOf (valueOf (valueAt ns d) 0); function = k }
 
   now-in : (is : List ℕ) (c d : ℕ) → findVr ns Tags.WindowCenter DS is ≡ Is c → findVr ns Tags.WindowWidth DS is ≡ Is d
-      → isNumber (of-values c d .center) ≡ true → isNumber (of-values c d .width) ≡ true → steps.windowIn ns is ≡ some (scaledWindow (of-values c d))
+      → isNumber (decimalOf (valueOf (valueAt ns c) 0)) ≡ true → isNumber (decimalOf (valueOf (valueAt ns d) 0)) ≡ true → isFunction (functionIn ns is) ≡ true
+      → steps.windowIn ns is ≡ some (scaledWindow (of-values (functionIn ns is) c d))
   unfolding steps.windowIn
-  now-in is c d p q x y =
-      rw (p, q, numbers (valueOf (valueAt ns c) 0) x, numbers (valueOf (valueAt ns d) 0) y, number-scaled (of-values c d .center) x, number-scaled (of-values c d .width) y)
+  now-in is c d p q x y z =
+      rw (p, q, numbers (valueOf (valueAt ns c) 0) x, numbers (valueOf (valueAt ns d) 0) y, number-scaled (decimalOf (valueOf (valueAt ns c) 0)) x, number-scaled (decimalOf (valueOf (valueAt ns d) 0)) y, z)
 
   then-in : (is : List ℕ) (c d : ℕ) → findVr ns Tags.WindowCenter DS is ≡ Is c → findVr ns Tags.WindowWidth DS is ≡ Is d
-      → isNumber (of-values c d .center) ≡ true → isNumber (of-values c d .width) ≡ true → windowIn ns is ≡ some (of-values c d)
+      → isNumber (decimalOf (valueOf (valueAt ns c) 0)) ≡ true → isNumber (decimalOf (valueOf (valueAt ns d) 0)) ≡ true → isFunction (functionIn ns is) ≡ true
+      → windowIn ns is ≡ some (of-values (functionIn ns is) c d)
   unfolding windowIn
-  then-in is c d p q x y = rw (p, q, x, y)
+  then-in is c d p q x y z = rw (p, q, x, y, z)
 
   window-in : (is : List ℕ) (w : Window) → windowIn ns is ≡ some w → steps.windowIn ns is ≡ some (scaledWindow w)
   unfolding windowIn
   window-in is w e =
       let c = need-some (findVr ns Tags.WindowCenter DS is) _ e in
       let d = need-some (findVr ns Tags.WindowWidth DS is) _ (c .1 .1) in
-      let o = of-values (c .0) (d .0) in
-      let k = check-some (isNumber (o .center) && isNumber (o .width)) _ (d .1 .1) in
-      let b = and-both (isNumber (o .center)) (isNumber (o .width)) (k .0) in
+      let o = of-values (functionIn ns is) (c .0) (d .0) in
+      let k = check-some (isNumber (o .center) && (isNumber (o .width) && isFunction (functionIn ns is))) _ (d .1 .1) in
+      let b = and-both (isNumber (o .center)) (isNumber (o .width) && isFunction (functionIn ns is)) (k .0) in
+      let e = and-both (isNumber (o .width)) (isFunction (functionIn ns is)) (b .1) in
       let same : o ≡ w = cc (k .1) in
-      now-in is (c .0) (d .0) (c .1 .0) (d .1 .0) (b .0) (b .1) ∙ ap (λ (v : Window). some (scaledWindow v)) same
+      now-in is (c .0) (d .0) (c .1 .0) (d .1 .0) (b .0) (e .0) (e .1) ∙ ap (λ (v : Window). some (scaledWindow v)) same
 
   window-on : (stored : ℕ) (o : Num) (w : Window) → windowOn ns stored o ≡ some w → steps.windowOn ns stored o ≡ some (scaledWindow w)
   window-on stored Lacks w e =
@@ -168,11 +173,13 @@ module _ (ns : List Node) (f : ℕ) where
       let d = had (findVr ns Tags.WindowWidth DS is) _ (c .1 .1) in
       let x = valueAt ns (c .0) in
       let y = valueAt ns (d .0) in
-      let a = and-both (eqb (length (valuesOf x)) (length (valuesOf y))) (allDecimals x && allWidths y) (d .1 .1) in
-      let b = and-both (allDecimals x) (allWidths y) (a .1) in
+      let least = leastWidth (functionIn ns is) in
+      let k = and-both (isFunction (functionIn ns is)) (eqb (length (valuesOf x)) (length (valuesOf y)) && (allDecimals x && allWidths least y)) (d .1 .1) in
+      let a = and-both (eqb (length (valuesOf x)) (length (valuesOf y))) (allDecimals x && allWidths least y) (k .1) in
+      let b = and-both (allDecimals x) (allWidths least y) (a .1) in
       let p : isNumber (decimalOf (valueOf x 0)) ≡ true = all-first (λ v. isNumber (decimalOf v)) x (b .0) in
-      let q : isNumber (decimalOf (valueOf y 0)) ≡ true = width-number (decimalOf (valueOf y 0)) (all-first (λ v. isWidth (decimalOf v)) y (b .1)) in
-      (of-values ns (c .0) (d .0), then-in ns is (c .0) (d .0) (c .1 .0) (d .1 .0) p q)
+      let q : isNumber (decimalOf (valueOf y 0)) ≡ true = width-number least (decimalOf (valueOf y 0)) (all-first (λ v. isWidth least (decimalOf v)) y (b .1)) in
+      (of-values ns (functionIn ns is) (c .0) (d .0), then-in ns is (c .0) (d .0) (c .1 .0) (d .1 .0) p q (k .0))
 
   item-window : (stored g j : ℕ) (w : Window) → theItem ns g ≡ Is j → windowIn ns (inside ns j) ≡ some w → windowOn ns stored (Is g) ≡ some w
   item-window stored g j w e h = rw e h

@@ -11,7 +11,10 @@ use Rattle.value.specs.declared.Num.{Num}
 use Rattle.value.specs.declared.Num.the-variants.{Is, Lacks}
 use Rattle.value.specs.declared.Signed.{Signed}
 use Rattle.value.specs.declared.Signed.the-variants as signed
+use Rattle.value.specs.declared.Function.{Function}
+use Rattle.value.specs.declared.Function.the-variants as function
 use Rattle.value.specs.Text.{valuesOf}
+use Rattle.value.specs.Words.{isFunction}
 use Rattle.value.specs.Number as now
 use Rattle.value.specs.Number.{isNumber, all}
 use Rattle.verdict.specs.Verdict.{lastRule}
@@ -20,14 +23,14 @@ use Rattle.node.specs.Nodes.{Node, inside}
 use Rattle.node.specs.Find.{holds, ifPresent, findVr}
 use Rattle.element.specs.Tags
 use Rattle.element.specs.Tags.{DS}
-use Rattle.element.specs.Elements.{valueAt, theItem}
+use Rattle.element.specs.Elements.{valueAt, theItem, functionIn}
 use Rattle.element.specs.Frames.{sharedItem, frameItem, groupOf}
 use Rattle.rules.specs.Frame as rules
 use Rattle.rules.specs.All as list
 use Rattle.conformance.specs.declared.Finding.the-variants.{Accepted}
 use Rattle.conformance.specs.Judging.{findingOf}
 use Rattle.conformance.proofs.First.{holds-accepted}
-use Rattle.thousandths.specs.Number.{decimalOf, isWidth, allDecimals, allWidths, scaled}
+use Rattle.thousandths.specs.Number.{decimalOf, leastWidth, isWidth, allDecimals, allWidths, scaled}
 use Rattle.thousandths.specs.Rule30.{isWindow, hasWindow, isVoi, item30, rule30, ruleAt}
 use Rattle.thousandths.specs.Kept.{RulesHeld}
 use Rattle.thousandths.proofs.Numbers.{numbers}
@@ -56,37 +59,48 @@ number-scaled (signed.Plus n) e = refl
 number-scaled (signed.Minus n) e = refl
 number-scaled signed.Lacks e = e
 
-pub width-number : (s : Signed) → isWidth s ≡ true → isNumber s ≡ true
-width-number (signed.Plus n) e = refl
-width-number (signed.Minus n) e = absurd (false-is-true e)
-width-number signed.Lacks e = absurd (false-is-true e)
+pub width-number : (least : ℕ) (s : Signed) → isWidth least s ≡ true → isNumber s ≡ true
+width-number least (signed.Plus n) e = refl
+width-number least (signed.Minus n) e = absurd (false-is-true e)
+width-number least signed.Lacks e = absurd (false-is-true e)
 
-width-scaled : (s : Signed) → isWidth s ≡ true → now.isWidth (scaled s) ≡ true
-width-scaled (signed.Plus n) e = le-leb 1000000 (1000 * n) (omega (arith, leb-true 1000 n e))
-width-scaled (signed.Minus n) e = e
-width-scaled signed.Lacks e = e
+least-scaled : (f : Function) → now.leastWidth f ≤ 1000 * leastWidth f
+least-scaled function.Linear = omega arith
+least-scaled function.Exact = omega arith
+least-scaled function.Lacks = omega arith
+
+width-scaled : (f : Function) (s : Signed) → isWidth (leastWidth f) s ≡ true → now.isWidth (now.leastWidth f) (scaled s) ≡ true
+width-scaled f (signed.Plus n) e = le-leb (now.leastWidth f) (1000 * n) (omega (arith, least-scaled f, leb-true (leastWidth f) n e))
+width-scaled f (signed.Minus n) e = e
+width-scaled f signed.Lacks e = e
 
 number-now : (v : List ℕ) → isNumber (decimalOf v) ≡ true → isNumber (now.decimalOf v) ≡ true
 number-now v e = ap isNumber (numbers v e) ∙ number-scaled (decimalOf v) e
 
-width-now : (v : List ℕ) → isWidth (decimalOf v) ≡ true → now.isWidth (now.decimalOf v) ≡ true
-width-now v e = ap now.isWidth (numbers v (width-number (decimalOf v) e)) ∙ width-scaled (decimalOf v) e
+width-now : (f : Function) (v : List ℕ) → isWidth (leastWidth f) (decimalOf v) ≡ true → now.isWidth (now.leastWidth f) (now.decimalOf v) ≡ true
+width-now f v e = ap (now.isWidth (now.leastWidth f)) (numbers v (width-number (leastWidth f) (decimalOf v) e)) ∙ width-scaled f (decimalOf v) e
 
 -- ---- Rule 30
 
-window-now : (c w : List ℕ) → isWindow c w ≡ true → rules.isWindow c w ≡ true
+window-now : (f : Function) (c w : List ℕ) → isWindow f c w ≡ true → rules.isWindow f c w ≡ true
 unfolding isWindow rules.isWindow allDecimals allWidths now.allDecimals now.allWidths
-window-now c w e =
-    let a = and-both (eqb (length (valuesOf c)) (length (valuesOf w))) (allDecimals c && allWidths w) e in
-    let b = and-both (allDecimals c) (allWidths w) (a .1) in
-    rw (a .0, all-more (λ d. isNumber (decimalOf d)) (λ d. isNumber (now.decimalOf d)) number-now (valuesOf c) (b .0), all-more (λ d. isWidth (decimalOf d)) (λ d. now.isWidth (now.decimalOf d)) width-now (valuesOf w) (b .1))
+window-now f c w e =
+    let k = and-both (isFunction f) (eqb (length (valuesOf c)) (length (valuesOf w)) && (allDecimals c && allWidths (leastWidth f) w)) e in
+    let a = and-both (eqb (length (valuesOf c)) (length (valuesOf w))) (allDecimals c && allWidths (leastWidth f) w) (k .1) in
+    let b = and-both (allDecimals c) (allWidths (leastWidth f) w) (a .1) in
+    rw (
+      k .0,
+      a .0,
+      all-more (λ d. isNumber (decimalOf d)) (λ d. isNumber (now.decimalOf d)) number-now (valuesOf c) (b .0),
+      all-more (λ d. isWidth (leastWidth f) (decimalOf d)) (λ d. now.isWidth (now.leastWidth f) (now.decimalOf d)) (width-now f) (valuesOf w) (b .1),
+    )
 
 module _ (ns : List Node) where
   has-now : (is : List ℕ) → hasWindow ns is ≡ true → rules.hasWindow ns is ≡ true
   unfolding hasWindow rules.hasWindow
   has-now is e =
       holds-more (findVr ns Tags.WindowCenter DS is) _ _
-      (λ c. holds-more (findVr ns Tags.WindowWidth DS is) (λ w. isWindow (valueAt ns c) (valueAt ns w)) (λ w. rules.isWindow (valueAt ns c) (valueAt ns w)) (λ w. window-now (valueAt ns c) (valueAt ns w)))
+      (λ c. holds-more (findVr ns Tags.WindowWidth DS is) (λ w. isWindow (functionIn ns is) (valueAt ns c) (valueAt ns w)) (λ w. rules.isWindow (functionIn ns is) (valueAt ns c) (valueAt ns w)) (λ w. window-now (functionIn ns is) (valueAt ns c) (valueAt ns w)))
       e
 
   voi-now : (g : ℕ) → isVoi ns g ≡ true → rules.isVoi ns g ≡ true

@@ -1,6 +1,7 @@
 -- Window numbers are read in full and in millionths now; they were read in thousandths, and without an exponent. This says
--- what that change keeps. Number.antt, Rule30.antt and Step6.antt have the DS reader, rule 30 and drawing step 6 as they
--- were; every other rule and step is the present one, for this change alone is meant.
+-- what that change keeps. Number.antt, Rule30.antt and Step6.antt have the DS reader, and rule 30 and drawing step 6 with it
+-- in thousandths; everything else is as it is now, for this change alone is meant: every other rule and step, and of rule 30
+-- and step 6 what they say of a window's function. So the claim is about both functions.
 --   numbers: whatever bytes read as n thousandths then read as 1000 n millionths now, so what rule 30 read it still reads.
 --   accepted: an object that was accepted is accepted.
 --   pictures: take any frame of an object that was accepted. The steps as they were gave it a picture, and the present

@@ -7,6 +7,8 @@ use Rattle.value.specs.declared.Num.{Num}
 use Rattle.value.specs.declared.Num.the-variants as num
 use Rattle.value.specs.declared.Signed.{Signed}
 use Rattle.value.specs.declared.Signed.the-variants as signed
+use Rattle.value.specs.declared.Function.{Function}
+use Rattle.value.specs.declared.Function.the-variants as function
 use Rattle.value.specs.Text.{valuesOf, trimmed}
 use Rattle.value.specs.Number.{Digits, digitsOf, signedBy, isNumber, all}
 
@@ -40,18 +42,24 @@ sizeOf s = fractionBy (digitsOf 6 0 0 s)
 unfoldable pub decimalOf : List ℕ → Signed
 decimalOf v = signedBy sizeOf (trimmed v)
 
--- A width: at least 1.
-abbrev pub isWidth : Signed → Bool
-isWidth (signed.Plus n) = leb unit n
-isWidth (signed.Minus n) = false
-isWidth signed.Lacks = false
+-- The least width of a function: 1 for LINEAR, and for LINEAR_EXACT anything above 0.
+abbrev pub leastWidth : Function → ℕ
+leastWidth function.Linear = unit
+leastWidth function.Exact = 1
+leastWidth function.Lacks = unit
+
+-- A width: at least so many thousandths.
+abbrev pub isWidth : ℕ → Signed → Bool
+isWidth least (signed.Plus n) = leb least n
+isWidth least (signed.Minus n) = false
+isWidth least signed.Lacks = false
 
 -- Every value of a DS has the form; every one is a width.
 unfoldable pub allDecimals : List ℕ → Bool
 allDecimals v = all (λ d. isNumber (decimalOf d)) (valuesOf v)
 
-unfoldable pub allWidths : List ℕ → Bool
-allWidths v = all (λ d. isWidth (decimalOf d)) (valuesOf v)
+unfoldable pub allWidths : ℕ → List ℕ → Bool
+allWidths least v = all (λ d. isWidth least (decimalOf d)) (valuesOf v)
 
 -- So many thousandths, in millionths.
 abbrev pub scaled : Signed → Signed

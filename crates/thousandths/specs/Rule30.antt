@@ -4,25 +4,28 @@ use mathlib.Core.List.{List}
 use mathlib.Core.Bool.{Bool, cond, _&&_}
 use lib.ListN.{length}
 use lib.Dec.{eqb}
+use Rattle.value.specs.declared.Function.{Function}
 use Rattle.value.specs.Text.{valuesOf}
+use Rattle.value.specs.Words.{isFunction}
 use Rattle.node.specs.Nodes.{Node, inside}
 use Rattle.node.specs.Find.{holds, ifPresent, findVr}
 use Rattle.element.specs.Tags
 use Rattle.element.specs.Tags.{DS}
-use Rattle.element.specs.Elements.{valueAt, theItem}
+use Rattle.element.specs.Elements.{valueAt, theItem, functionIn}
 use Rattle.element.specs.Frames.{groupOf}
 use Rattle.rules.specs.Frame.{atFrame}
 use Rattle.rules.specs.All as now
-use Rattle.thousandths.specs.Number.{allDecimals, allWidths}
+use Rattle.thousandths.specs.Number.{allDecimals, leastWidth, allWidths}
 
 -- Frame VOI LUT (0028,9132), if present, one item; has Window Center (0028,1050) and Width (0028,1051) DS, equally many,
--- each of the form of a DS number; widths at least 1.
-unfoldable pub isWindow : List ℕ → List ℕ → Bool
-isWindow centers widths = eqb (length (valuesOf centers)) (length (valuesOf widths)) && (allDecimals centers && allWidths widths)
+-- each of the old form; VOI LUT Function (0028,1056) as now; widths at least 1 with LINEAR, above 0 with LINEAR_EXACT.
+unfoldable pub isWindow : Function → List ℕ → List ℕ → Bool
+isWindow f centers widths =
+    isFunction f && (eqb (length (valuesOf centers)) (length (valuesOf widths)) && (allDecimals centers && allWidths (leastWidth f) widths))
 
 unfoldable pub hasWindow : List Node → List ℕ → Bool
 hasWindow ns is =
-    holds (findVr ns Tags.WindowCenter DS is) (λ c. holds (findVr ns Tags.WindowWidth DS is) (λ w. isWindow (valueAt ns c) (valueAt ns w)))
+    holds (findVr ns Tags.WindowCenter DS is) (λ c. holds (findVr ns Tags.WindowWidth DS is) (λ w. isWindow (functionIn ns is) (valueAt ns c) (valueAt ns w)))
 
 unfoldable pub isVoi : List Node → ℕ → Bool
 isVoi ns g = holds (theItem ns g) (λ j. hasWindow ns (inside ns j))

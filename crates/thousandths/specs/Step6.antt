@@ -10,14 +10,17 @@ use Rattle.value.specs.declared.Num.{Num}
 use Rattle.value.specs.declared.Num.the-variants.{Is, Lacks}
 use Rattle.value.specs.declared.Signed.{Signed}
 use Rattle.value.specs.declared.Signed.the-variants as signed
+use Rattle.value.specs.declared.Function.{Function}
+use Rattle.value.specs.declared.Function.the-variants as function
 use Rattle.value.specs.Text.{valueOf}
+use Rattle.value.specs.Words.{isFunction}
 use Rattle.value.specs.Number.{isNumber}
 use Rattle.shift.specs.declared.Moves.{Moves}
 use Rattle.node.specs.Nodes.{Node, inside}
 use Rattle.node.specs.Find.{findVr}
 use Rattle.element.specs.Tags
 use Rattle.element.specs.Tags.{DS}
-use Rattle.element.specs.Elements.{valueAt, theItem}
+use Rattle.element.specs.Elements.{valueAt, theItem, functionIn}
 use Rattle.pixel.specs.declared.Geometry.{Geometry}
 use Rattle.pixel.specs.Pixel.{samplesOf, isFrame, sampleAt, areInside, blendedAt}
 use Rattle.window.specs.Window.{integer}
@@ -25,14 +28,15 @@ use Rattle.steps.specs.Given.{need, check, then, collect}
 use Rattle.steps.specs.Steps.{Picture, Mask, native, masked, geometryOf, pixelsOf, maskFor, inverseOf, groupFor, areFrames}
 use Rattle.thousandths.specs.Number.{unit, decimalOf}
 
--- Centre and width, in thousandths.
+-- Centre and width, in thousandths, and the function.
 pub record Window : Type 0 where
   pub center : Signed
   pub width : Signed
+  pub function : Function
 
 -- The window of a frame without a VOI group: centre 2^(stored - 1) and width 2^stored.
 unfoldable pub fullWindow : ℕ → Window
-fullWindow stored = record { center = signed.Plus (unit * 2 ^ stored / 2); width = signed.Plus (unit * 2 ^ stored) }
+fullWindow stored = record { center = signed.Plus (unit * 2 ^ stored / 2); width = signed.Plus (unit * 2 ^ stored); function = function.Linear }
 
 -- a / b rounded down, for a b above 0.
 abbrev pub floor : ℤ → ℤ → ℤ
@@ -44,30 +48,39 @@ abbrev pub limited : ℤ → ℕ
 limited (negsuc n) = 0
 limited (pos n) = cond (leZ (pos n) (pos 255)) n 255
 
--- For a centre C and a width W, with u the units to one and t = 2ux: 0 if t ≤ 2C - W; 255 if t > 2C + W - 2u; else
--- floor((255(t - 2C + W) + W - u) / (2(W - u))), whose divisor must be above 0. Then limited.
+-- What a function takes off, e: LINEAR one, in thousandths, and LINEAR_EXACT nothing.
+abbrev pub takenOff : Function → ℕ
+takenOff function.Linear = unit
+takenOff function.Exact = 0
+takenOff function.Lacks = unit
+
+-- For a centre C and a width W, with u the units to one and t = 2ux: 0 if t ≤ 2C - W; 255 if t > 2C + W - 2e; else
+-- floor((255(t - 2C + W) + W - e) / (2(W - e))), whose divisor must be above 0. Then limited.
 abbrev pub levelBy : ℤ → ℤ → ℤ → ℤ → Num
-levelBy u c w t =
+levelBy e c w t =
     cond (leZ t (pos 2 *ℤ c -ℤ w)) (Is 0)
-    (cond (ltZ (pos 2 *ℤ c +ℤ w -ℤ pos 2 *ℤ u) t) (Is 255)
-    (cond (ltZ (pos 0) (pos 2 *ℤ (w -ℤ u)))
-    (Is (limited (floor (pos 255 *ℤ (t -ℤ pos 2 *ℤ c +ℤ w) +ℤ w -ℤ u) (pos 2 *ℤ (w -ℤ u)))))
+    (cond (ltZ (pos 2 *ℤ c +ℤ w -ℤ pos 2 *ℤ e) t) (Is 255)
+    (cond (ltZ (pos 0) (pos 2 *ℤ (w -ℤ e)))
+    (Is (limited (floor (pos 255 *ℤ (t -ℤ pos 2 *ℤ c +ℤ w) +ℤ w -ℤ e) (pos 2 *ℤ (w -ℤ e)))))
     Lacks))
 
+abbrev pub levelAt : Window → ℤ → Num
+levelAt w t = levelBy (pos (takenOff (w .function))) (integer (w .center)) (integer (w .width)) t
+
 unfoldable pub levelOf : Window → ℤ → Num
-levelOf w x = levelBy (pos unit) (integer (w .center)) (integer (w .width)) (pos 2 *ℤ pos unit *ℤ x)
+levelOf w x = levelAt w (pos 2 *ℤ pos unit *ℤ x)
 
 -- The level of x + 1/2.
 unfoldable pub levelHalf : Window → ℤ → Num
-levelHalf w x = levelBy (pos unit) (integer (w .center)) (integer (w .width)) (pos 2 *ℤ pos unit *ℤ x +ℤ pos unit)
+levelHalf w x = levelAt w (pos 2 *ℤ pos unit *ℤ x +ℤ pos unit)
 
--- The first centre and width; without a VOI group the full window.
+-- The first centre and width, and the function; without a VOI group the full window.
 unfoldable pub windowIn : List Node → List ℕ → Option Window
 windowIn ns is =
     need (findVr ns Tags.WindowCenter DS is) (λ c.
     need (findVr ns Tags.WindowWidth DS is) (λ w.
-    check (isNumber (decimalOf (valueOf (valueAt ns c) 0)) && isNumber (decimalOf (valueOf (valueAt ns w) 0)))
-    (some (record { center = decimalOf (valueOf (valueAt ns c) 0); width = decimalOf (valueOf (valueAt ns w) 0) }))))
+    check (isNumber (decimalOf (valueOf (valueAt ns c) 0)) && (isNumber (decimalOf (valueOf (valueAt ns w) 0)) && isFunction (functionIn ns is)))
+    (some (record { center = decimalOf (valueOf (valueAt ns c) 0); width = decimalOf (valueOf (valueAt ns w) 0); function = functionIn ns is }))))
 
 abbrev pub windowOn : List Node → ℕ → Num → Option Window
 windowOn ns stored Lacks = some (fullWindow stored)

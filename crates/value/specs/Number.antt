@@ -9,6 +9,8 @@ use Rattle.value.specs.declared.Num.{Num}
 use Rattle.value.specs.declared.Num.the-variants as num
 use Rattle.value.specs.declared.Signed.{Signed}
 use Rattle.value.specs.declared.Signed.the-variants as signed
+use Rattle.value.specs.declared.Function.{Function}
+use Rattle.value.specs.declared.Function.the-variants as function
 use Rattle.value.specs.Text.{valuesOf, valueOf, isSingle, trimmed}
 
 -- ---- US and SS
@@ -157,11 +159,17 @@ isNumber (signed.Plus n) = true
 isNumber (signed.Minus n) = true
 isNumber signed.Lacks = false
 
--- A width: at least 1.
-abbrev pub isWidth : Signed → Bool
-isWidth (signed.Plus n) = leb unit n
-isWidth (signed.Minus n) = false
-isWidth signed.Lacks = false
+-- The least width of a function: 1 for LINEAR; for LINEAR_EXACT a width need only be above 0.
+abbrev pub leastWidth : Function → ℕ
+leastWidth function.Linear = unit
+leastWidth function.Exact = 1
+leastWidth function.Lacks = unit
+
+-- A width: at least so many units.
+abbrev pub isWidth : ℕ → Signed → Bool
+isWidth least (signed.Plus n) = leb least n
+isWidth least (signed.Minus n) = false
+isWidth least signed.Lacks = false
 
 unfoldable pub all : (List ℕ → Bool) → List (List ℕ) → Bool
 all p [] = true
@@ -171,5 +179,5 @@ all p (v ∷ vs) = p v && all p vs
 unfoldable pub allDecimals : List ℕ → Bool
 allDecimals v = all (λ d. isNumber (decimalOf d)) (valuesOf v)
 
-unfoldable pub allWidths : List ℕ → Bool
-allWidths v = all (λ d. isWidth (decimalOf d)) (valuesOf v)
+unfoldable pub allWidths : ℕ → List ℕ → Bool
+allWidths least v = all (λ d. isWidth least (decimalOf d)) (valuesOf v)

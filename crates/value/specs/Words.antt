@@ -1,8 +1,10 @@
 -- Values that are compared with a word: each is single.
 use Prim.Native.Nat.{ℕ}
-use mathlib.Core.Bool.{Bool, _&&_}
+use mathlib.Core.Bool.{Bool, true, false, cond, _&&_}
 use mathlib.Core.List.{List}
-use Rattle.value.specs.Text.{equal, isSingle, valueOf, trimEnd, trimmed}
+use Rattle.value.specs.Text.{ascii, equal, isSingle, valueOf, trimEnd, trimmed}
+use Rattle.value.specs.declared.Function.{Function}
+use Rattle.value.specs.declared.Function.the-variants.{Linear, Exact, Lacks}
 
 -- Value k of a CS, without outer spaces, is the word.
 unfoldable pub wordAt : List ℕ → ℕ → List ℕ → Bool
@@ -15,3 +17,12 @@ isWord v word = isSingle v && wordAt v 0 word
 -- A UI is the UID, without trailing zero bytes.
 unfoldable pub isUid : List ℕ → List ℕ → Bool
 isUid v uid = isSingle v && equal (trimEnd 0 (valueOf v 0)) uid
+
+-- VOI LUT Function (0028,1056): LINEAR or LINEAR_EXACT. No other word is drawn.
+unfoldable pub functionOf : List ℕ → Function
+functionOf v = cond (isWord v (ascii "LINEAR")) Linear (cond (isWord v (ascii "LINEAR_EXACT")) Exact Lacks)
+
+abbrev pub isFunction : Function → Bool
+isFunction Linear = true
+isFunction Exact = true
+isFunction Lacks = false

@@ -4,8 +4,8 @@ ghost use mathlib.Core.Path.{_≡_};
 ghost use Prim.Native.Nat.{_+_, _-_, _*_, _^_, _≤_, _<_};
 ghost use lib.ListN.{length, drop, getD};
 ghost use Rattle.value.specs.Text.{equal, valuesOf, valueOf, isSingle, trimStart, trimEnd, trimmed};
-ghost use Rattle.value.specs.Words.{wordAt, isWord, isUid};
-ghost use Rattle.value.specs.Number.{usOf, usValues, ssOf, digitsOf, plus, minus, signedBy, wholeOf, isOf, decimals, unit, sizeLimit, characters, runOf, within, wholly, exactOf, scaledBy, isMark, exponentOf, endOf, pointBy, sizeOf, decimalOf, isNumber, isWidth, allDecimals, allWidths};
+ghost use Rattle.value.specs.Words.{wordAt, isWord, isUid, functionOf, isFunction};
+ghost use Rattle.value.specs.Number.{usOf, usValues, ssOf, digitsOf, plus, minus, signedBy, wholeOf, isOf, decimals, unit, sizeLimit, characters, runOf, within, wholly, exactOf, scaledBy, isMark, exponentOf, endOf, pointBy, sizeOf, decimalOf, isNumber, leastWidth, isWidth, allDecimals, allWidths};
 ghost use Rattle.value.specs.Said.{Below, SizeBelow, DigitsRead, partsAt};
 use dataset::u16_at;
 use dataset::wide;
@@ -20,6 +20,13 @@ pub enum Num {
 pub enum Signed {
     Plus(usize),
     Minus(usize),
+    Lacks,
+}
+
+// The function of a window, or none that is drawn.
+pub enum Function {
+    Linear,
+    Exact,
     Lacks,
 }
 
@@ -198,6 +205,44 @@ pub fn is_uid(v: &[u8], uid: &[u8]) -> bool
         equal(t, uid)
     } else {
         false
+    }
+}
+
+// ---- The function of a window
+
+// VOI LUT Function: LINEAR or LINEAR_EXACT.
+pub fn function_of(v: &[u8]) -> Function
+    ensures { λ r. ⌜ r ≡ functionOf (now (v .entry)) ⌝ }
+{
+    if is_word(v, b"LINEAR") {
+        Function::Linear
+    } else {
+        if is_word(v, b"LINEAR_EXACT") {
+            Function::Exact
+        } else {
+            Function::Lacks
+        }
+    }
+}
+
+pub fn is_function(f: Function) -> bool
+    ensures { λ r. ⌜ r ≡ isFunction f ⌝ }
+{
+    match f {
+        Function::Linear => true,
+        Function::Exact => true,
+        Function::Lacks => false,
+    }
+}
+
+// The least width of a function, in units.
+pub fn least_width(f: Function) -> usize
+    ensures { λ r. ⌜ r ≡ leastWidth f ⌝ }
+{
+    match f {
+        Function::Linear => UNIT,
+        Function::Exact => 1,
+        Function::Lacks => UNIT,
     }
 }
 
@@ -522,12 +567,12 @@ fn is_decimal(v: &[u8]) -> bool
     }
 }
 
-// A width: at least 1.
-fn is_width(v: &[u8]) -> bool
-    ensures { λ r. ⌜ r ≡ isWidth (decimalOf (now (v .entry))) ⌝ }
+// A width: at least so many units.
+fn is_width(v: &[u8], least: usize) -> bool
+    ensures { λ r. ⌜ r ≡ isWidth least (decimalOf (now (v .entry))) ⌝ }
 {
     match decimal_of(v) {
-        Signed::Plus(n) => UNIT <= n,
+        Signed::Plus(n) => least <= n,
         Signed::Minus(_) => false,
         Signed::Lacks => false,
     }
@@ -553,13 +598,13 @@ pub fn all_decimals(v: &[u8]) -> bool
 }
 
 // Every value of a DS is a width.
-pub fn all_widths(v: &[u8]) -> bool
-    ensures { λ r. ⌜ r ≡ allWidths (now (v .entry)) ⌝ }
+pub fn all_widths(v: &[u8], least: usize) -> bool
+    ensures { λ r. ⌜ r ≡ allWidths least (now (v .entry)) ⌝ }
 {
     let mut from = 0;
     loop {
         let end = value_end(v, from);
-        if is_width(&v[from..end]) {
+        if is_width(&v[from..end], least) {
             if end < v.len() {
                 from = end + 1;
             } else {

@@ -1,5 +1,5 @@
--- The levels of a drawable window: which case of step 6 applies, in naturals; no level lacks, and each is at most 255.
-use mathlib.Core.Path.{_≡_, refl, ap, _∙_}
+-- The levels of a window: which case of step 6 applies, in naturals; no level lacks, and each is at most 255.
+use mathlib.Core.Path.{_≡_, refl, sym, ap, _∙_}
 use mathlib.Core.Bool.{Bool, true, false, cond}
 use mathlib.Core.List.{List}
 use Prim.Native.Nat.{ℕ, zero, suc, _+_, _*_, _-_, _/_, _^_, _≤_, _<_}
@@ -15,17 +15,24 @@ use Rattle.value.specs.declared.Num.{Num}
 use Rattle.value.specs.declared.Num.the-variants.{Is}
 use Rattle.value.specs.declared.Signed.{Signed}
 use Rattle.value.specs.declared.Signed.the-variants as signed
-use Rattle.value.specs.Number.{unit, sizeLimit, isWidth}
+use Rattle.value.specs.declared.Function.{Function}
+use Rattle.value.specs.declared.Function.the-variants as function
+use Rattle.value.specs.Number.{unit, sizeLimit, leastWidth, isWidth}
 use Rattle.value.specs.Said.{SizeBelow}
 use Rattle.window.specs.declared.Window.{Window}
-use Rattle.window.specs.Window.{integer, floor, levelFor, levelOf, shadeOf}
-use Rattle.window.specs.Said.{Drawable, Filled, above, below, rampOf, number, shadeAt}
+use Rattle.window.specs.Window.{integer, floor, takenOff, levelBy, levelAt, levelOf, shadeOf}
+use Rattle.window.specs.Said.{Ruled, Drawable, Filled, above, below, rampOf, number, shadeAt}
 use Rattle.window.proofs.Gaps.{Gap, whole, gap, plus, less, times, value, le-yes, le-no, lt-yes, lt-no}
 
 -- ---- A window's sizes
 
+-- What a function takes off the width is no more than the width, and the width is above 0.
+pub record Widths (w : Window) : Type 0 where
+  pub wide : takenOff (w .function) ≤ above (w .width)
+  pub some : 0 < above (w .width)
+
 pub record Sizes (w : Window) : Type 0 where
-  pub wide : unit ≤ above (w .width)
+  pub widths : Widths w
   pub narrow : above (w .width) < sizeLimit
   pub high : above (w .center) < sizeLimit
   pub low : below (w .center) < sizeLimit
@@ -35,10 +42,21 @@ differ e =
     let z : _≡_ {A = ℕ} 0 1 = cc in
     omega arith
 
-is-wide : (s : Signed) → isWidth s ≡ true → unit ≤ above s
-is-wide (signed.Plus n) e = leb-true unit n e
-is-wide (signed.Minus n) e = absurd (differ e)
-is-wide signed.Lacks e = absurd (differ e)
+is-wide : (least : ℕ) (s : Signed) → isWidth least s ≡ true → least ≤ above s
+is-wide least (signed.Plus n) e = leb-true least n e
+is-wide least (signed.Minus n) e = absurd (differ e)
+is-wide least signed.Lacks e = absurd (differ e)
+
+off-least : (f : Function) → (takenOff f ≤ leastWidth f) × (0 < leastWidth f)
+off-least function.Linear = (omega arith, omega arith)
+off-least function.Exact = (omega arith, omega arith)
+off-least function.Lacks = (omega arith, omega arith)
+
+pub widths : (w : Window) → Ruled w → Widths w
+widths w r =
+    let h = is-wide (leastWidth (w .function)) (w .width) (r .wide) in
+    let o = off-least (w .function) in
+    record { wide = omega (arith, o .0, h); some = omega (arith, o .1, h) }
 
 above-small : (s : Signed) → SizeBelow sizeLimit s → above s < sizeLimit
 above-small (signed.Plus n) h = h
@@ -52,7 +70,7 @@ below-small signed.Lacks h = omega arith
 
 pub sizes : (w : Window) → Drawable w → Sizes w
 sizes w d = record {
-  wide = is-wide (w .width) (d .wide);
+  widths = widths w (d .ruled);
   narrow = above-small (w .width) (d .narrow);
   high = above-small (w .center) (d .near);
   low = below-small (w .center) (d .near);
@@ -65,92 +83,94 @@ signed-gap (signed.Minus zero) = whole 0
 signed-gap (signed.Minus (suc n)) = record { is = omega arith }
 signed-gap signed.Lacks = whole 0
 
-width-is : (s : Signed) → unit ≤ above s → integer s ≡ pos (above s)
+width-is : (s : Signed) → 0 < above s → integer s ≡ pos (above s)
 width-is (signed.Plus n) h = refl
 width-is (signed.Minus n) h = absurd (omega arith)
 width-is signed.Lacks h = absurd (omega arith)
 
+width-below : (s : Signed) → 0 < above s → below s ≡ 0
+width-below (signed.Plus n) h = refl
+width-below (signed.Minus n) h = absurd (omega arith)
+width-below signed.Lacks h = absurd (omega arith)
+
 -- ---- The third case
 
 -- Before the limit, it is at most 255.
-pub quotient-small : (d w : ℕ) → 0 < d → d + 2 * unit ≤ 2 * w → (255 * d + w - unit) / (2 * (w - unit)) ≤ 255
-quotient-small d w z h = fewer (div-lt-iff-lt-mul {k = 2 * (w - unit)} {x = 255 * d + w - unit} {y = 256} (omega arith) .1 (omega arith))
+pub quotient-small : (e d w : ℕ) → 0 < d → d + 2 * e ≤ 2 * w → (255 * d + w - e) / (2 * (w - e)) ≤ 255
+quotient-small e d w z h = fewer (div-lt-iff-lt-mul {k = 2 * (w - e)} {x = 255 * d + w - e} {y = 256} (omega arith) .1 (omega arith))
   where
     fewer : {q : ℕ} → q < 256 → q ≤ 255
     fewer l = omega arith
 
-pub ramp-small : (d w : ℕ) → 0 < d → rampOf d w ≤ 255
+pub ramp-small : (e d w : ℕ) → 0 < d → rampOf e d w ≤ 255
 unfolding rampOf
-ramp-small d w z = go (ltb (2 * w) (d + 2 * unit)) refl
+ramp-small e d w z = go (ltb (2 * w) (d + 2 * e)) refl
   where
-    go : (t : Bool) → ltb (2 * w) (d + 2 * unit) ≡ t → cond t 255 ((255 * d + w - unit) / (2 * (w - unit))) ≤ 255
-    go true e = omega arith
-    go false e = quotient-small d w z (ltb-false _ _ e)
+    go : (t : Bool) → ltb (2 * w) (d + 2 * e) ≡ t → cond t 255 ((255 * d + w - e) / (2 * (w - e))) ≤ 255
+    go true p = omega arith
+    go false p = quotient-small e d w z (ltb-false _ _ p)
 
 -- ---- The cases of step 6
 
-module _ {x c : ℤ} {p m a b : ℕ} (w : ℕ) (x-is : Gap x p m) (c-is : Gap c a b) (wide : unit ≤ w) where
-  module _ (u n : ℕ) (u-is : u ≡ 2 * unit * p + 2 * b + w) (n-is : n ≡ 2 * unit * m + 2 * a) where
-    first-holds : u ≤ n → leZ (pos 2 *ℤ pos unit *ℤ x) (pos 2 *ℤ c -ℤ pos w) ≡ true
-    first-holds h = le-yes (times (2 * unit) x-is) (less (times 2 c-is) (whole w)) (omega arith)
+module _ {t c : ℤ} {p m a b : ℕ} (e w : ℕ) (t-is : Gap t p m) (c-is : Gap c a b) (wide : e ≤ w) where
+  module _ (u n : ℕ) (u-is : u ≡ p + 2 * b + w) (n-is : n ≡ m + 2 * a) where
+    first-holds : u ≤ n → leZ t (pos 2 *ℤ c -ℤ pos w) ≡ true
+    first-holds h = le-yes t-is (less (times 2 c-is) (whole w)) (omega arith)
 
-    first-fails : n < u → leZ (pos 2 *ℤ pos unit *ℤ x) (pos 2 *ℤ c -ℤ pos w) ≡ false
-    first-fails h = le-no (times (2 * unit) x-is) (less (times 2 c-is) (whole w)) (omega arith)
+    first-fails : n < u → leZ t (pos 2 *ℤ c -ℤ pos w) ≡ false
+    first-fails h = le-no t-is (less (times 2 c-is) (whole w)) (omega arith)
 
-    second-holds : n < u → 2 * w < u - n + 2 * unit → ltZ (pos 2 *ℤ c +ℤ pos w -ℤ pos 2 *ℤ pos unit) (pos 2 *ℤ pos unit *ℤ x) ≡ true
-    second-holds h k = lt-yes (less (plus (times 2 c-is) (whole w)) (whole (2 * unit))) (times (2 * unit) x-is) (omega arith)
+    second-holds : n < u → 2 * w < u - n + 2 * e → ltZ (pos 2 *ℤ c +ℤ pos w -ℤ pos 2 *ℤ pos e) t ≡ true
+    second-holds h k = lt-yes (less (plus (times 2 c-is) (whole w)) (whole (2 * e))) t-is (omega arith)
 
-    second-fails : n < u → u - n + 2 * unit ≤ 2 * w → ltZ (pos 2 *ℤ c +ℤ pos w -ℤ pos 2 *ℤ pos unit) (pos 2 *ℤ pos unit *ℤ x) ≡ false
-    second-fails h k = lt-no (less (plus (times 2 c-is) (whole w)) (whole (2 * unit))) (times (2 * unit) x-is) (omega arith)
+    second-fails : n < u → u - n + 2 * e ≤ 2 * w → ltZ (pos 2 *ℤ c +ℤ pos w -ℤ pos 2 *ℤ pos e) t ≡ false
+    second-fails h k = lt-no (less (plus (times 2 c-is) (whole w)) (whole (2 * e))) t-is (omega arith)
 
-    divisor : pos 2 *ℤ (pos w -ℤ pos unit) ≡ pos (2 * (w - unit))
-    divisor = ap (λ z. pos 2 *ℤ z) (value (gap w unit) wide)
+    divisor : pos 2 *ℤ (pos w -ℤ pos e) ≡ pos (2 * (w - e))
+    divisor = ap (λ z. pos 2 *ℤ z) (value (gap w e) wide)
 
-    dividend : n < u → pos 255 *ℤ (pos 2 *ℤ pos unit *ℤ x -ℤ pos 2 *ℤ c +ℤ pos w) +ℤ pos w -ℤ pos unit ≡ pos (255 * (u - n) + w - unit)
+    dividend : n < u → pos 255 *ℤ (t -ℤ pos 2 *ℤ c +ℤ pos w) +ℤ pos w -ℤ pos e ≡ pos (255 * (u - n) + w - e)
     dividend h =
         value
-        (less (plus (times 255 (plus (less (times (2 * unit) x-is) (times 2 c-is)) (whole w))) (whole w)) (whole unit))
+        (less (plus (times 255 (plus (less t-is (times 2 c-is)) (whole w))) (whole w)) (whole e))
         (omega arith)
         ∙ ap pos (omega arith)
 
     -- Before the limit.
-    pub third : n < u → floor (pos 255 *ℤ (pos 2 *ℤ pos unit *ℤ x -ℤ pos 2 *ℤ c +ℤ pos w) +ℤ pos w -ℤ pos unit) (pos 2 *ℤ (pos w -ℤ pos unit)) ≡ pos ((255 * (u - n) + w - unit) / (2 * (w - unit)))
+    pub third : n < u → floor (pos 255 *ℤ (t -ℤ pos 2 *ℤ c +ℤ pos w) +ℤ pos w -ℤ pos e) (pos 2 *ℤ (pos w -ℤ pos e)) ≡ pos ((255 * (u - n) + w - e) / (2 * (w - e)))
     third h = rw (dividend h, divisor)
 
-    pub level-none : u ≤ n → levelFor (pos unit) c (pos w) x ≡ Is 0
-    unfolding levelFor
+    pub level-none : u ≤ n → levelBy (pos e) c (pos w) t ≡ Is 0
     level-none h = rw (first-holds h)
 
-    level-full : n < u → 2 * w < u - n + 2 * unit → levelFor (pos unit) c (pos w) x ≡ Is 255
-    unfolding levelFor
+    level-full : n < u → 2 * w < u - n + 2 * e → levelBy (pos e) c (pos w) t ≡ Is 255
     level-full h k = rw (first-fails h, second-holds h k)
 
-    level-part : n < u → u - n + 2 * unit ≤ 2 * w → levelFor (pos unit) c (pos w) x ≡ Is ((255 * (u - n) + w - unit) / (2 * (w - unit)))
-    unfolding levelFor
+    level-part : n < u → u - n + 2 * e ≤ 2 * w → levelBy (pos e) c (pos w) t ≡ Is ((255 * (u - n) + w - e) / (2 * (w - e)))
     level-part h k =
-        let z : 0 < 2 * (w - unit) = omega arith in
-        let q : (255 * (u - n) + w - unit) / (2 * (w - unit)) ≤ 255 = quotient-small (u - n) w (omega arith) k in
-        rw (first-fails h, second-fails h k, third h, divisor, lt-ltb 0 (2 * (w - unit)) z, le-leb ((255 * (u - n) + w - unit) / (2 * (w - unit))) 255 q)
+        let z : 0 < 2 * (w - e) = omega arith in
+        let q : (255 * (u - n) + w - e) / (2 * (w - e)) ≤ 255 = quotient-small e (u - n) w (omega arith) k in
+        rw (first-fails h, second-fails h k, third h, divisor, lt-ltb 0 (2 * (w - e)) z, le-leb ((255 * (u - n) + w - e) / (2 * (w - e))) 255 q)
 
-    pub level-ramp : n < u → levelFor (pos unit) c (pos w) x ≡ Is (rampOf (u - n) w)
+    pub level-ramp : n < u → levelBy (pos e) c (pos w) t ≡ Is (rampOf e (u - n) w)
     unfolding rampOf
-    level-ramp h = go (ltb (2 * w) (u - n + 2 * unit)) refl
+    level-ramp h = go (ltb (2 * w) (u - n + 2 * e)) refl
       where
-        go : (t : Bool) → ltb (2 * w) (u - n + 2 * unit) ≡ t → levelFor (pos unit) c (pos w) x ≡ Is (cond t 255 ((255 * (u - n) + w - unit) / (2 * (w - unit))))
-        go true e = level-full h (ltb-true (2 * w) (u - n + 2 * unit) e)
-        go false e = level-part h (ltb-false (2 * w) (u - n + 2 * unit) e)
+        go : (b : Bool) → ltb (2 * w) (u - n + 2 * e) ≡ b → levelBy (pos e) c (pos w) t ≡ Is (cond b 255 ((255 * (u - n) + w - e) / (2 * (w - e))))
+        go true q = level-full h (ltb-true (2 * w) (u - n + 2 * e) q)
+        go false q = level-part h (ltb-false (2 * w) (u - n + 2 * e) q)
 
 -- ---- Windows
 
-module _ (window : Window) (sizes : Sizes window) {x : ℤ} {p m : ℕ} (x-is : Gap x p m) where
+module _ (window : Window) (widths : Widths window) {x : ℤ} {p m : ℕ} (x-is : Gap x p m) where
   module _ (u n : ℕ) (u-is : u ≡ 2 * unit * p + 2 * below (window .center) + above (window .width)) (n-is : n ≡ 2 * unit * m + 2 * above (window .center)) where
     pub window-none : u ≤ n → levelOf window x ≡ Is 0
     unfolding levelOf
-    window-none h = rw (width-is (window .width) (sizes .wide)) (level-none (above (window .width)) x-is (signed-gap (window .center)) (sizes .wide) u n u-is n-is h)
+    window-none h = rw (width-is (window .width) (widths .some)) (level-none (takenOff (window .function)) (above (window .width)) (times (2 * unit) x-is) (signed-gap (window .center)) (widths .wide) u n u-is n-is h)
 
-    pub window-ramp : n < u → levelOf window x ≡ Is (rampOf (u - n) (above (window .width)))
+    pub window-ramp : n < u → levelOf window x ≡ Is (rampOf (takenOff (window .function)) (u - n) (above (window .width)))
     unfolding levelOf
-    window-ramp h = rw (width-is (window .width) (sizes .wide)) (level-ramp (above (window .width)) x-is (signed-gap (window .center)) (sizes .wide) u n u-is n-is h)
+    window-ramp h = rw (width-is (window .width) (widths .some)) (level-ramp (takenOff (window .function)) (above (window .width)) (times (2 * unit) x-is) (signed-gap (window .center)) (widths .wide) u n u-is n-is h)
 
 -- A level that does not lack, and is at most 255.
 pub record Leveled (window : Window) (x : ℤ) : Type 0 where
@@ -171,25 +191,79 @@ unfolding over under
 integer-gap (pos n) = whole n
 integer-gap (negsuc n) = record { is = omega arith }
 
--- Every integer has a level in a drawable window.
-pub leveled : (window : Window) → Drawable window → (x : ℤ) → Leveled window x
-leveled window d x = go (leb u n) refl
+-- ---- Windows of every width
+
+-- Where the width is no more than what the function takes off, the level goes from 0 to 255 at once.
+module _ {t c w : ℤ} {p m a b g h : ℕ} (e : ℕ) (t-is : Gap t p m) (c-is : Gap c a b) (w-is : Gap w g h) where
+  step-none : p + 2 * b + g ≤ m + 2 * a + h → levelBy (pos e) c w t ≡ Is 0
+  step-none l = rw (le-yes t-is (less (times 2 c-is) w-is) (omega arith))
+
+  step-full : g ≤ e + h → m + 2 * a + h < p + 2 * b + g → levelBy (pos e) c w t ≡ Is 255
+  step-full k l =
+      rw (le-no t-is (less (times 2 c-is) w-is) (omega arith), lt-yes (less (plus (times 2 c-is) w-is) (whole (2 * e))) t-is (omega arith))
+
+ramp-full : (e d w : ℕ) → w ≤ e → 0 < d → rampOf e d w ≡ 255
+unfolding rampOf
+ramp-full e d w h k = rw (lt-ltb (2 * w) (d + 2 * e) (omega arith))
+
+-- Where the cases part, as naturals: with t = p - m, t - 2C + W is raised - lowered.
+unfoldable pub raised : Window → ℕ → ℕ
+raised window p = p + 2 * below (window .center) + above (window .width)
+
+unfoldable pub lowered : Window → ℕ → ℕ
+lowered window m = m + 2 * above (window .center) + below (window .width)
+
+-- The level in naturals.
+unfoldable pub levelled : Window → ℕ → ℕ → ℕ
+levelled window p m =
+    cond (leb (raised window p) (lowered window m)) 0
+    (rampOf (takenOff (window .function)) (raised window p - lowered window m) (above (window .width)))
+
+module _ (window : Window) {t : ℤ} {p m : ℕ} (t-is : Gap t p m) where
+  above-none : lowered window m < raised window p → levelAt window t ≡ Is (rampOf (takenOff (window .function)) (raised window p - lowered window m) (above (window .width)))
+  unfolding raised lowered
+  above-none l = go (leb (above (window .width)) (takenOff (window .function))) refl
+    where
+      go : (s : Bool) → leb (above (window .width)) (takenOff (window .function)) ≡ s
+          → levelAt window t ≡ Is (rampOf (takenOff (window .function)) (raised window p - lowered window m) (above (window .width)))
+      go true q =
+          let narrow = leb-true (above (window .width)) (takenOff (window .function)) q in
+          step-full (takenOff (window .function)) t-is (signed-gap (window .center)) (signed-gap (window .width)) (omega (arith, narrow)) l
+          ∙ ap Is (sym (ramp-full (takenOff (window .function)) (raised window p - lowered window m) (above (window .width)) narrow (omega arith)))
+      go false q =
+          let wide : takenOff (window .function) < above (window .width) = leb-false (above (window .width)) (takenOff (window .function)) q in
+          let none = width-below (window .width) (omega arith) in
+          rw (width-is (window .width) (omega arith))
+          (level-ramp (takenOff (window .function)) (above (window .width)) t-is (signed-gap (window .center)) (omega arith) (raised window p) (lowered window m) refl (omega (arith, none)) l)
+
+  pub level-is : levelAt window t ≡ Is (levelled window p m)
+  unfolding levelled raised lowered
+  level-is = go (leb (raised window p) (lowered window m)) refl
+    where
+      go : (s : Bool) → leb (raised window p) (lowered window m) ≡ s
+          → levelAt window t ≡ Is (cond s 0 (rampOf (takenOff (window .function)) (raised window p - lowered window m) (above (window .width))))
+      go true e = step-none (takenOff (window .function)) t-is (signed-gap (window .center)) (signed-gap (window .width)) (leb-true (raised window p) (lowered window m) e)
+      go false e = above-none (leb-false (raised window p) (lowered window m) e)
+
+pub level-small : (window : Window) (p m : ℕ) → levelled window p m ≤ 255
+unfolding levelled
+level-small window p m = go (leb (raised window p) (lowered window m)) refl
   where
-    u : ℕ
-    u = 2 * unit * over x + 2 * below (window .center) + above (window .width)
-
-    n : ℕ
-    n = 2 * unit * under x + 2 * above (window .center)
-
-    go : (t : Bool) → leb u n ≡ t → Leveled window x
-    go true e = record { y = 0; is = window-none window (sizes window d) (integer-gap x) u n refl refl (leb-true u n e); small = omega arith }
+    go : (s : Bool) → leb (raised window p) (lowered window m) ≡ s
+        → cond s 0 (rampOf (takenOff (window .function)) (raised window p - lowered window m) (above (window .width))) ≤ 255
+    go true e = omega arith
     go false e =
-        let l : n < u = leb-false u n e in
-        record {
-          y = rampOf (u - n) (above (window .width));
-          is = window-ramp window (sizes window d) (integer-gap x) u n refl refl l;
-          small = ramp-small (u - n) (above (window .width)) (omega arith);
-        }
+        let l : lowered window m < raised window p = leb-false (raised window p) (lowered window m) e in
+        ramp-small (takenOff (window .function)) (raised window p - lowered window m) (above (window .width)) (omega arith)
+
+-- Every x has a level, in every window.
+pub leveled : (window : Window) (x : ℤ) → Leveled window x
+unfolding levelOf
+leveled window x = record {
+  y = levelled window (2 * unit * over x) (2 * unit * under x);
+  is = level-is window (times (2 * unit) (integer-gap x));
+  small = level-small window (2 * unit * over x) (2 * unit * under x);
+}
 
 -- ---- Tables
 

@@ -1,3 +1,5 @@
 pub mod Gaps
 pub mod Laws
+pub mod Formulas
+pub mod Monotone
 pub mod Cases

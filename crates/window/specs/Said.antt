@@ -10,16 +10,22 @@ use Rattle.value.specs.declared.Num.{Num}
 use Rattle.value.specs.declared.Num.the-variants.{Is, Lacks}
 use Rattle.value.specs.declared.Signed.{Signed}
 use Rattle.value.specs.declared.Signed.the-variants as signed
-use Rattle.value.specs.Number.{unit, sizeLimit, isNumber, isWidth}
+use Rattle.value.specs.Words.{isFunction}
+use Rattle.value.specs.Number.{unit, sizeLimit, isNumber, leastWidth, isWidth}
 use Rattle.value.specs.Said.{SizeBelow}
 use Rattle.window.specs.declared.Window.{Window}
 use Rattle.window.specs.Window.{levelOf, shadeOf}
 
--- A window that can be drawn: its centre and its width are numbers, the width at least 1, and both are of a DS's size.
-pub record Drawable (w : Window) : Type 0 where
+-- A window as rule 30 lets it through: its centre is a number, its function one of the two, and its width of that function's size.
+pub record Ruled (w : Window) : Type 0 where
   pub number : isNumber (w .center) ≡ true
+  pub function : isFunction (w .function) ≡ true
+  pub wide : isWidth (leastWidth (w .function)) (w .width) ≡ true
+
+-- A window that can be drawn: one that rule 30 lets through, whose centre and width are of a DS's size.
+pub record Drawable (w : Window) : Type 0 where
+  pub ruled : Ruled w
   pub near : SizeBelow sizeLimit (w .center)
-  pub wide : isWidth (w .width) ≡ true
   pub narrow : SizeBelow sizeLimit (w .width)
 
 -- A signed number is the difference of these two.
@@ -33,9 +39,9 @@ below (signed.Plus n) = 0
 below (signed.Minus n) = n
 below signed.Lacks = 0
 
--- The level where d is 2ux - 2C + W and above 0.
-unfoldable pub rampOf : ℕ → ℕ → ℕ
-rampOf d w = cond (ltb (2 * w) (d + 2 * unit)) 255 ((255 * d + w - unit) / (2 * (w - unit)))
+-- The level where d is 2ux - 2C + W and above 0, and e what the function takes off.
+unfoldable pub rampOf : ℕ → ℕ → ℕ → ℕ
+rampOf e d w = cond (ltb (2 * w) (d + 2 * e)) 255 ((255 * d + w - e) / (2 * (w - e)))
 
 -- The number of a level that does not lack.
 abbrev pub number : Num → ℕ

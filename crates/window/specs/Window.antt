@@ -7,6 +7,8 @@ use Rattle.value.specs.declared.Num.{Num}
 use Rattle.value.specs.declared.Num.the-variants.{Is, Lacks}
 use Rattle.value.specs.declared.Signed.{Signed}
 use Rattle.value.specs.declared.Signed.the-variants as signed
+use Rattle.value.specs.declared.Function.{Function}
+use Rattle.value.specs.declared.Function.the-variants as function
 use Rattle.value.specs.Number.{unit}
 use Rattle.window.specs.declared.Window.{Window}
 
@@ -17,9 +19,9 @@ integer (signed.Minus zero) = pos 0
 integer (signed.Minus (suc n)) = negsuc n
 integer signed.Lacks = pos 0
 
--- The window of a frame without a VOI group: centre 2^(stored - 1), which is 1/2 for 0 bits stored, and width 2^stored, in units.
+-- The window of a frame without a VOI group: centre 2^(stored - 1), which is 1/2 for 0 bits stored, and width 2^stored, in units; LINEAR.
 unfoldable pub fullWindow : ℕ → Window
-fullWindow stored = record { center = signed.Plus (unit * 2 ^ stored / 2); width = signed.Plus (unit * 2 ^ stored) }
+fullWindow stored = record { center = signed.Plus (unit * 2 ^ stored / 2); width = signed.Plus (unit * 2 ^ stored); function = function.Linear }
 
 -- a / b rounded down, for a b above 0.
 abbrev pub floor : ℤ → ℤ → ℤ
@@ -31,25 +33,32 @@ abbrev pub limited : ℤ → ℕ
 limited (negsuc n) = 0
 limited (pos n) = cond (leZ (pos n) (pos 255)) n 255
 
--- Step 6, for a centre C and a width W, with u the units to one and t = 2ux: 0 if t ≤ 2C - W; 255 if t > 2C + W - 2u; else
--- floor((255(t - 2C + W) + W - u) / (2(W - u))), whose divisor must be above 0. Then limited.
+-- What a function takes off, e: LINEAR one, in units, and LINEAR_EXACT nothing.
+abbrev pub takenOff : Function → ℕ
+takenOff function.Linear = unit
+takenOff function.Exact = 0
+takenOff function.Lacks = unit
+
+-- Step 6, for a centre C and a width W, with u the units to one and t = 2ux: 0 if t ≤ 2C - W; 255 if t > 2C + W - 2e; else
+-- floor((255(t - 2C + W) + W - e) / (2(W - e))), whose divisor must be above 0. Then limited. With e = u it is the paper's LINEAR
+-- (PS3.3 C.11.2.1.2), with e = 0 its LINEAR_EXACT (C.11.2.1.3).
 abbrev pub levelBy : ℤ → ℤ → ℤ → ℤ → Num
-levelBy u c w t =
+levelBy e c w t =
     cond (leZ t (pos 2 *ℤ c -ℤ w)) (Is 0)
-    (cond (ltZ (pos 2 *ℤ c +ℤ w -ℤ pos 2 *ℤ u) t) (Is 255)
-    (cond (ltZ (pos 0) (pos 2 *ℤ (w -ℤ u)))
-    (Is (limited (floor (pos 255 *ℤ (t -ℤ pos 2 *ℤ c +ℤ w) +ℤ w -ℤ u) (pos 2 *ℤ (w -ℤ u)))))
+    (cond (ltZ (pos 2 *ℤ c +ℤ w -ℤ pos 2 *ℤ e) t) (Is 255)
+    (cond (ltZ (pos 0) (pos 2 *ℤ (w -ℤ e)))
+    (Is (limited (floor (pos 255 *ℤ (t -ℤ pos 2 *ℤ c +ℤ w) +ℤ w -ℤ e) (pos 2 *ℤ (w -ℤ e)))))
     Lacks))
 
-unfoldable pub levelFor : ℤ → ℤ → ℤ → ℤ → Num
-levelFor u c w x = levelBy u c w (pos 2 *ℤ u *ℤ x)
+abbrev pub levelAt : Window → ℤ → Num
+levelAt w t = levelBy (pos (takenOff (w .function))) (integer (w .center)) (integer (w .width)) t
 
 unfoldable pub levelOf : Window → ℤ → Num
-levelOf w x = levelFor (pos unit) (integer (w .center)) (integer (w .width)) x
+levelOf w x = levelAt w (pos 2 *ℤ pos unit *ℤ x)
 
 -- The level of x + 1/2.
 unfoldable pub levelHalf : Window → ℤ → Num
-levelHalf w x = levelBy (pos unit) (integer (w .center)) (integer (w .width)) (pos 2 *ℤ pos unit *ℤ x +ℤ pos unit)
+levelHalf w x = levelAt w (pos 2 *ℤ pos unit *ℤ x +ℤ pos unit)
 
 -- Step 7: MONOCHROME1 shows 255 - y.
 unfoldable pub shadeOf : Bool → ℕ → ℕ

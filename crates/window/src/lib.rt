@@ -5,14 +5,16 @@ ghost use lib.ListN.{length};
 ghost use lib.IntN.{pos, _-ℤ_};
 ghost use Rattle.value.specs.declared.Num.the-variants.{Is};
 ghost use Rattle.value.specs.Number.{unit, sizeLimit};
-ghost use Rattle.window.specs.Window.{fullWindow, levelOf, shadeOf};
+ghost use Rattle.window.specs.Window.{fullWindow, takenOff, levelOf, shadeOf};
 ghost use Rattle.window.specs.Said.{Drawable, Filled, above, below, rampOf, number, shadeAt};
+use value::Function;
 use value::Signed;
 
-// Centre and width, in units of a DS number.
+// Centre and width, in units of a DS number, and the function.
 pub struct Window {
     pub center: Signed,
     pub width: Signed,
+    pub function: Function,
 }
 
 // A signed number is above(s) - below(s).
@@ -36,16 +38,27 @@ fn below(s: Signed) -> usize
     }
 }
 
-// The level where up - down is 2ux - 2C + W, above 0, and w the width.
-fn ramp(up: usize, down: usize, w: usize) -> usize
-    requires { ⌜ (down < up) × ((up < 4 * sizeLimit) × ((unit ≤ w) × (w < sizeLimit))) ⌝ }
-    ensures { λ r. ⌜ (r ≡ rampOf (up - down) w) × (r ≤ 255) ⌝ }
+// What a function takes off the width.
+fn taken_off(f: Function) -> usize
+    ensures { λ r. ⌜ (r ≡ takenOff f) × (r ≤ unit) ⌝ }
+{
+    match f {
+        Function::Linear => value::UNIT,
+        Function::Exact => 0,
+        Function::Lacks => value::UNIT,
+    }
+}
+
+// The level where up - down is 2ux - 2C + W, above 0, w the width and e what the function takes off.
+fn ramp(e: usize, up: usize, down: usize, w: usize) -> usize
+    requires { ⌜ (down < up) × ((up < 4 * sizeLimit) × ((e ≤ unit) × ((e ≤ w) × (w < sizeLimit)))) ⌝ }
+    ensures { λ r. ⌜ (r ≡ rampOf e (up - down) w) × (r ≤ 255) ⌝ }
 {
     let d = up - down;
-    if 2 * w < d + 2 * value::UNIT {
+    if 2 * w < d + 2 * e {
         255
     } else {
-        (255 * d + w - value::UNIT) / (2 * (w - value::UNIT))
+        (255 * d + w - e) / (2 * (w - e))
     }
 }
 
@@ -56,10 +69,12 @@ pub fn level(window: Window, plus: usize, minus: usize) -> usize
 {
     let center = window.center;
     let width = window.width;
+    let function = window.function;
     let w = above(width);
+    let e = taken_off(function);
     let up = 2 * value::UNIT * plus + 2 * below(center) + w;
     let down = 2 * value::UNIT * minus + 2 * above(center);
-    if up <= down { 0 } else { ramp(up, down, w) }
+    if up <= down { 0 } else { ramp(e, up, down, w) }
 }
 
 // 2^n.
@@ -83,6 +98,7 @@ pub fn full_window(stored: usize) -> Window
     Window {
         center: Signed::Plus(full / 2),
         width: Signed::Plus(full),
+        function: Function::Linear,
     }
 }
 

@@ -1,57 +1,39 @@
-use mathlib.Core.Path.{_≡_, refl, sym, ap, _∙_}
-use borrow.Author.Tests.{eq-eqb, ne-eqb}
+use mathlib.Core.Path.{sym, ap, _∙_}
 use Rattle.rules.specs.Frame.{isWindow}
 use borrow.Author.Needs.{needs}
 use Rattle.rules_frame.proofs.is_window.Statement.{statement}
 use Rattle.rules_frame.proofs.is_window.Tie as tie
 use Rattle.rules_frame.proofs.is_window.Reads as reads
 use Rattle.rules_frame.proofs.is_window.Lts as lts
-use Rattle.value.proofs.all_decimals.Reads as all-decimals-reads
-use Rattle.value.proofs.all_widths.Reads as all-widths-reads
-use Rattle.value.proofs.count_values.Reads as count-values-reads
+use Rattle.rules_frame.proofs.are_pairs.Reads as are-pairs-reads
+use Rattle.value.proofs.is_function.Reads as is-function-reads
+use Rattle.value.proofs.least_width.Reads as least-width-reads
 
--- src/lib.rt:90:8
-count-values-requires : tie.Need-count-values-requires
-count-values-requires c κs = search needs
+-- src/lib.rt:144:8
+is-function-requires : tie.Need-is-function-requires
+is-function-requires c κs = search needs
 
--- src/lib.rt:90:40
-count-values-requires-2 : tie.Need-count-values-requires-2
-count-values-requires-2 c κs = search needs
+-- src/lib.rt:145:19
+least-width-requires : tie.Need-least-width-requires
+least-width-requires c κs = search needs
 
--- src/lib.rt:91:12
-all-decimals-requires : tie.Need-all-decimals-requires
-all-decimals-requires c κs = search needs
+-- src/lib.rt:145:9
+are-pairs-requires : tie.Need-are-pairs-requires
+are-pairs-requires c κs = search needs
 
--- src/lib.rt:92:13
-all-widths-requires : tie.Need-all-widths-requires
-all-widths-requires c κs = search needs
-
--- src/lib.rt:87:1
+-- src/lib.rt:141:1
 returns : tie.Need-returns
 unfolding isWindow
 returns c =
-    rw (← c .before .before .before .before .before .count-values .ensures .0, ← c .before .before .before .before .count-values2 .ensures .0, eq-eqb _ _ (c .before .before .before .if1 .taken), ← c .before .before .all-decimals .ensures, c .before .if2 .taken) (c .all-widths .ensures)
+    rw (sym (c .before .before .before .is-function .ensures) ∙ c .before .before .if1 .taken, ← c .before .least-width .ensures) (c .are-pairs .ensures)
 
--- src/lib.rt:87:1
+-- src/lib.rt:141:1
 returns-2 : tie.Need-returns-2
 unfolding isWindow
 returns-2 c =
-    rw (← c .before .before .before .before .count-values .ensures .0, ← c .before .before .before .count-values2 .ensures .0, eq-eqb _ _ (c .before .before .if1 .taken), ← c .before .all-decimals .ensures, c .if2 .left)
-
--- src/lib.rt:87:1
-returns-3 : tie.Need-returns-3
-unfolding isWindow
-returns-3 c =
-    rw (← c .before .before .count-values .ensures .0, ← c .before .count-values2 .ensures .0, ne-eqb _ _ (c .if1 .left))
+    rw (sym (c .before .is-function .ensures) ∙ c .if1 .left)
 
 pub is-window-spec : {M : Type 1} → statement M
 is-window-spec =
     tie.close
-    (tie.spec
-    count-values-requires
-    count-values-requires-2
-    all-decimals-requires
-    all-widths-requires
-    returns
-    returns-2
-    returns-3)
+    (tie.spec is-function-requires least-width-requires are-pairs-requires returns returns-2)

@@ -11,16 +11,16 @@ use Rattle.value.proofs.Parts as parts
 use Rattle.value.proofs.all_widths.Statement.{statement}
 use Rattle.value.proofs.all_widths.Tie as tie
 
-abbrev test : List ℕ → Bool
-test d = isWidth (decimalOf d)
+abbrev test : ℕ → List ℕ → Bool
+test least d = isWidth least (decimalOf d)
 
 -- The loop: all values from the place on are widths exactly where all values are.
 abbrev Inv-loop : tie.InvT-loop
-Inv-loop v from₀ from =
-    (all test (valuesOf (drop from v)) ≡ all test (valuesOf v)) × (from ≤ length v)
+Inv-loop v least from₀ from =
+    (all (test least) (valuesOf (drop from v)) ≡ all (test least) (valuesOf v)) × (from ≤ length v)
 
 abbrev μ-loop : tie.MeasureT-loop
-μ-loop v from₀ from =
+μ-loop v least from₀ from =
     length v - from
 
 loop-holds : tie.Need-loop-holds Inv-loop μ-loop
@@ -57,20 +57,20 @@ loop-less c =
 
 loop-again : tie.Need-loop-again Inv-loop μ-loop
 loop-again c =
-    let h = parts.part-test (c .before .before .before .before .before .before .before .args .v .now) (c .before .before .before .before .before .loop .from) (c .before .before .before .before .value-end .result) (c .before .before .before .before .value-end .ensures) test (c .before .before .is-width .result) true (c .before .before .is-width .ensures) (c .before .if1 .taken) in
-    (sym (parts.all-more (c .before .before .before .before .before .before .before .args .v .now) (c .before .before .before .before .before .loop .from) (c .before .before .before .before .value-end .result) (c .before .before .before .before .value-end .ensures) test (c .if2 .taken) h) ∙ c .before .before .before .before .before .loop .inv .0, omega (arith, c .if2 .taken))
+    let h = parts.part-test (c .before .before .before .before .before .before .before .args .v .now) (c .before .before .before .before .before .loop .from) (c .before .before .before .before .value-end .result) (c .before .before .before .before .value-end .ensures) (test (c .before .before .before .before .before .before .before .args .least)) (c .before .before .is-width .result) true (c .before .before .is-width .ensures) (c .before .if1 .taken) in
+    (sym (parts.all-more (c .before .before .before .before .before .before .before .args .v .now) (c .before .before .before .before .before .loop .from) (c .before .before .before .before .value-end .result) (c .before .before .before .before .value-end .ensures) (test (c .before .before .before .before .before .before .before .args .least)) (c .if2 .taken) h) ∙ c .before .before .before .before .before .loop .inv .0, omega (arith, c .if2 .taken))
 
 returns : tie.Need-returns Inv-loop μ-loop
 unfolding allWidths
 returns c =
-    let h = parts.part-test (c .before .before .before .before .before .before .before .args .v .now) (c .before .before .before .before .before .loop .from) (c .before .before .before .before .value-end .result) (c .before .before .before .before .value-end .ensures) test (c .before .before .is-width .result) true (c .before .before .is-width .ensures) (c .before .if1 .taken) in
-    sym h ∙ sym (parts.all-last (c .before .before .before .before .before .before .before .args .v .now) (c .before .before .before .before .before .loop .from) (c .before .before .before .before .value-end .result) (c .before .before .before .before .value-end .ensures) test (c .if2 .left)) ∙ c .before .before .before .before .before .loop .inv .0
+    let h = parts.part-test (c .before .before .before .before .before .before .before .args .v .now) (c .before .before .before .before .before .loop .from) (c .before .before .before .before .value-end .result) (c .before .before .before .before .value-end .ensures) (test (c .before .before .before .before .before .before .before .args .least)) (c .before .before .is-width .result) true (c .before .before .is-width .ensures) (c .before .if1 .taken) in
+    sym h ∙ sym (parts.all-last (c .before .before .before .before .before .before .before .args .v .now) (c .before .before .before .before .before .loop .from) (c .before .before .before .before .value-end .result) (c .before .before .before .before .value-end .ensures) (test (c .before .before .before .before .before .before .before .args .least)) (c .if2 .left)) ∙ c .before .before .before .before .before .loop .inv .0
 
 returns-2 : tie.Need-returns-2 Inv-loop μ-loop
 unfolding allWidths
 returns-2 c =
-    let h = parts.part-test (c .before .before .before .before .before .before .args .v .now) (c .before .before .before .before .loop .from) (c .before .before .before .value-end .result) (c .before .before .before .value-end .ensures) test (c .before .is-width .result) false (c .before .is-width .ensures) (c .if1 .left) in
-    sym (parts.all-no (c .before .before .before .before .before .before .args .v .now) (c .before .before .before .before .loop .from) (c .before .before .before .value-end .result) (c .before .before .before .value-end .ensures) test (parts.part-within (c .before .before .before .before .before .before .args .v .now) (c .before .before .before .before .loop .from) (c .before .before .before .value-end .result) (c .before .before .before .value-end .ensures) (c .before .before .before .before .loop .inv .1)) h) ∙ c .before .before .before .before .loop .inv .0
+    let h = parts.part-test (c .before .before .before .before .before .before .args .v .now) (c .before .before .before .before .loop .from) (c .before .before .before .value-end .result) (c .before .before .before .value-end .ensures) (test (c .before .before .before .before .before .before .args .least)) (c .before .is-width .result) false (c .before .is-width .ensures) (c .if1 .left) in
+    sym (parts.all-no (c .before .before .before .before .before .before .args .v .now) (c .before .before .before .before .loop .from) (c .before .before .before .value-end .result) (c .before .before .before .value-end .ensures) (test (c .before .before .before .before .before .before .args .least)) (parts.part-within (c .before .before .before .before .before .before .args .v .now) (c .before .before .before .before .loop .from) (c .before .before .before .value-end .result) (c .before .before .before .value-end .ensures) (c .before .before .before .before .loop .inv .1)) h) ∙ c .before .before .before .before .loop .inv .0
 
 pub all-widths-spec : {M : Type 1} → statement M
 all-widths-spec =

@@ -1,7 +1,6 @@
 use Prim.Native.Nat.{ℕ, _+_, _-_, _*_, _<_}
 use native.Mathlib.Omega.{arith}
 use borrow.Author.Tests.{lt-ltb, le-ltb}
-use Rattle.value.specs.Number.{unit}
 use Rattle.window.specs.Said.{rampOf}
 use Rattle.window.proofs.Laws.{quotient-small}
 use borrow.Author.Needs.{needs}
@@ -41,13 +40,13 @@ div-result c = search needs
 returns : tie.Need-returns
 unfolding rampOf
 returns c =
-    (rw (lt-ltb (2 * c .before .args .w) (c .before .args .up - c .before .args .down + 2 * unit) (c .if1 .taken)), omega arith)
+    (rw (lt-ltb (2 * c .before .args .w) (c .before .args .up - c .before .args .down + 2 * c .before .args .e) (c .if1 .taken)), omega arith)
 
 returns-2 : tie.Need-returns-2
 unfolding rampOf
 returns-2 c =
     let some : 0 < c .before .args .up - c .before .args .down = omega arith in
-    (rw (le-ltb (2 * c .before .args .w) (c .before .args .up - c .before .args .down + 2 * unit) (c .if1 .left)), quotient-small (c .before .args .up - c .before .args .down) (c .before .args .w) some (c .if1 .left))
+    (rw (le-ltb (2 * c .before .args .w) (c .before .args .up - c .before .args .down + 2 * c .before .args .e) (c .if1 .left)), quotient-small (c .before .args .e) (c .before .args .up - c .before .args .down) (c .before .args .w) some (c .if1 .left))
 
 pub ramp-spec : {M : Type 1} → statement M
 ramp-spec =

@@ -1,0 +1,25 @@
+-- Q-3: a greater x never gets a smaller y. Take any window, with either function, LINEAR or LINEAR_EXACT, and with any centre
+-- and width, zero and negative widths too. Take two cells x and z, x not above z. Then drawing step 6 gives both a level, and
+-- that of x is not above that of z. Both functions are covered by this one statement; the full window of a frame without a
+-- VOI group, and windows that rule 30 does not let through, are among those that it speaks of. Its proof stands in
+-- proofs/Monotone.
+use Prim.Native.Nat.{ℕ, _≤_}
+use mathlib.Core.Path.{_≡_}
+use mathlib.Core.Bool.{true}
+use lib.IntN.{ℤ}
+use lib.Signed.{leZ}
+use Rattle.value.specs.declared.Num.{Num}
+use Rattle.value.specs.declared.Num.the-variants.{Is}
+use Rattle.window.specs.declared.Window.{Window}
+use Rattle.window.specs.Window.{levelOf}
+
+-- Two levels, neither lacking, the first not above the second.
+pub record Rising (first second : Num) : Type 0 where
+  pub y : ℕ
+  pub v : ℕ
+  pub is : first ≡ Is y
+  pub next : second ≡ Is v
+  pub rises : y ≤ v
+
+abbrev pub Monotone : Type 0
+Monotone = (w : Window) (x z : ℤ) → leZ x z ≡ true → Rising (levelOf w x) (levelOf w z)
