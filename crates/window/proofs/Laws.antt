@@ -148,8 +148,8 @@ module _ {t c : ℤ} {p m a b : ℕ} (e w : ℕ) (t-is : Gap t p m) (c-is : Gap 
 
     level-part : n < u → u - n + 2 * e ≤ 2 * w → levelBy (pos e) c (pos w) t ≡ some (pos ((255 * (u - n) + w - e) / (2 * (w - e))))
     level-part h k =
-        let z : 0 < 2 * (w - e) = omega arith in
-        rw (first-fails h, second-fails h k, third h, divisor, lt-ltb 0 (2 * (w - e)) z)
+        let z : ltZ (pos 0) (pos 2 *ℤ (pos w -ℤ pos e)) ≡ true = ap (ltZ (pos 0)) divisor ∙ lt-ltb 0 (2 * (w - e)) (omega arith) in
+        rw (first-fails h, second-fails h k, z) (ap some (third h))
 
     pub level-ramp : n < u → levelBy (pos e) c (pos w) t ≡ some (pos (rampOf e (u - n) w))
     unfolding rampOf
