@@ -6,6 +6,6 @@ Layers, each checkable against its paragraph:
     reading.py   "Reading": data set -> elements, items, rows; codes 1 to 8; Q-6 in the rows and in code 8
     values.py    the value forms that rules and drawing steps read; Q-2 in the DS
     rules.py     "The rule list": rules 1 to 38, first broken rule, lowest frame; Q-3 in rule 30, Q-4 in 35 and 37
-    drawing.py   "Drawing frame f": steps 1 to 7, or something is lacking; Q-4 in step 4, Q-3 in step 6
+    drawing.py   "Drawing frame f": steps 1 to 7, or something is lacking; Q-4 in step 4, Q-3 and Q-9 in step 6
     slips.py     the 13-byte verdict slips
 """

@@ -1,4 +1,4 @@
-"""Drawing frame f: document 01, steps 1 to 7, with Q-2, Q-3 and Q-4 of document 02, computed with whole numbers and fractions.
+"""Drawing frame f: document 01, steps 1 to 7, with Q-2, Q-3, Q-4 and Q-9 of document 02, computed with whole numbers and fractions.
 
 The steps are defined for every data set that reads well, accepted or not, so no rule is taken for granted here: what a
 step needs and does not find raises Lacking. A step that is not taken needs nothing.
@@ -302,9 +302,10 @@ def linear_exact(x, center, width):
 
 
 def level(x, function, center, width):
-    """Step 6. Then y is limited to 0..255."""
+    """Step 6, by either function. "Then y is limited to 0..255" is struck (Q-9): y is within that by itself."""
     y = linear_exact(x, center, width) if function == LINEAR_EXACT else linear(x, center, width)
-    return limited(y, 0, 255)
+    assert 0 <= y <= 255, (x, function, center, width, y)
+    return y
 
 
 def photometric_of(root):

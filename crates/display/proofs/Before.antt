@@ -44,11 +44,11 @@ use Rattle.pixel.specs.Whole.{sourceOf}
 use Rattle.pixel.proofs.Blend.{source-below, are-inside}
 use Rattle.pixel.proofs.Quarters.{agree}
 use Rattle.window.specs.declared.Window.{Window}
-use Rattle.window.specs.Window.{levelOf, levelHalf}
+use Rattle.window.specs.Window.{levelOf, levelHalf, shaded}
 use Rattle.steps.specs.declared.Applying.{Applying}
 use Rattle.steps.specs.declared.Applying.the-variants.{Item, Nothing}
 use Rattle.steps.specs.Given.{need, check, then, collect}
-use Rattle.steps.specs.Steps.{Picture, Mask, native, masked, geometryOf, pixelsOf, applyingTo, averageFrames, tidFrame, naming, ownIn, itemAt, shiftFrom, shiftFor, movesFor, onTid, maskBy, maskOn, maskFor, windowFor, inverseOf, shaded, nativeCell, maskedCell, areFrames, pictureBy, stepsOf}
+use Rattle.steps.specs.Steps.{Picture, Mask, native, masked, geometryOf, pixelsOf, applyingTo, averageFrames, tidFrame, naming, ownIn, itemAt, shiftFrom, shiftFor, movesFor, onTid, maskBy, maskOn, maskFor, windowFor, inverseOf, nativeCell, maskedCell, areFrames, pictureBy, stepsOf}
 use Rattle.display.specs.Demand3.{Bytes}
 use Rattle.display.specs.Before.{wasShiftAt, shiftFitted, rule35Before, wasShiftItem, wasShiftGroup, item37Before, rule37Before, ruleBefore, AcceptedBefore, movesBefore, onTidBefore, maskByBefore, maskOnBefore, maskForBefore, maskedCellBefore, pictureBefore, stepsBefore, DrawnAlike, Kept, KeepsPictures, SamePictures}
 use Rattle.display.proofs.Given.{never, check-some, then-some}

@@ -18,11 +18,11 @@ use Rattle.pixel.specs.declared.Geometry.{Geometry}
 use Rattle.pixel.specs.Pixel.{samplesOf, isFrame, sampleAt, areInside, blendedAt}
 use Rattle.pixel.proofs.Blend.{are-inside}
 use Rattle.window.specs.declared.Window.{Window}
-use Rattle.window.specs.Window.{levelOf, shadeOf}
+use Rattle.window.specs.Window.{levelOf, shaded}
 use Rattle.window.specs.Said.{Drawable}
-use Rattle.window.proofs.Laws.{leveled}
+use Rattle.window.proofs.Laws.{leveled, shadeNumber, shaded-is}
 use Rattle.steps.specs.Given.{need, check, then, collect}
-use Rattle.steps.specs.Steps.{Picture, Mask, shaded, nativeCell, maskedCell, areFrames, pictureBy, geometryOf, stepsOf, native as noMask, masked as maskBy}
+use Rattle.steps.specs.Steps.{Picture, Mask, nativeCell, maskedCell, areFrames, pictureBy, geometryOf, stepsOf, native as noMask, masked as maskBy}
 use Rattle.element.specs.Tags
 use Rattle.element.specs.Elements.{usIn}
 use Rattle.element.specs.Frames.{framesOf}
@@ -70,15 +70,14 @@ collect-all f (suc n) h =
 
 -- ---- A cell lacks nothing in a window that can be drawn with
 
-shade-small : (inverse : Bool) (y : ℕ) → y ≤ 255 → shadeOf inverse y ≤ 255
-unfolding shadeOf
+shade-small : (inverse : Bool) (y : ℕ) → y ≤ 255 → shadeNumber inverse y ≤ 255
 shade-small true y h = omega arith
 shade-small false y h = h
 
 level-cell : (w : Window) → Drawable w → (inverse : Bool) (x : ℤ) → Cell (shaded inverse (levelOf w x))
 level-cell w d inverse x =
     let l = leveled w x in
-    record { y = shadeOf inverse (l .y); is = ap (shaded inverse) (l .is); small = shade-small inverse (l .y) (l .small) }
+    record { y = shadeNumber inverse (l .y); is = ap (shaded inverse) (l .is) ∙ shaded-is inverse (l .y) (l .small); small = shade-small inverse (l .y) (l .small) }
 
 pub native-cell : (g : Geometry) (v : List ℕ) (f : ℕ) (w : Window) → Drawable w → (inverse : Bool) (i : ℕ) → Cell (nativeCell g v f w inverse i)
 unfolding nativeCell

@@ -20,12 +20,12 @@ use Rattle.pixel.specs.Painted.{painted, nativeShade, maskedShade}
 use Rattle.pixel.proofs.Laws.{sample-most, half-low}
 use Rattle.pixel.proofs.Blend.{are-inside, blended-most}
 use Rattle.window.specs.declared.Window.{Window}
-use Rattle.window.specs.Window.{levelOf, shadeOf}
+use Rattle.window.specs.Window.{levelOf, shaded}
 use Rattle.window.specs.Said.{Drawable, shadeAt, Filled}
-use Rattle.window.proofs.Laws.{leveled, shade-is}
+use Rattle.window.proofs.Laws.{leveled, shaded-is, shade-is}
 use Rattle.window.proofs.Gaps.{Gap, shift, whole, plus, gap}
 use Rattle.steps.specs.Given.{need, then, collect}
-use Rattle.steps.specs.Steps.{shaded, nativeCell, maskedCell}
+use Rattle.steps.specs.Steps.{nativeCell, maskedCell}
 use Rattle.display.proofs.Lacking.{some-bits}
 
 -- ---- Painted cells are collected cells
@@ -70,7 +70,7 @@ shade-cell : (w : Window) → Drawable w → (stored : ℕ) (inverse : Bool) (i 
     → shaded inverse (levelOf w x) ≡ Is (shadeAt w stored inverse i)
 shade-cell w d stored inverse i x e =
     let l = leveled w x in
-    ap (shaded inverse) (l .is) ∙ ap Is (sym (shade-is w stored inverse i (l .y) (rw e (l .is))))
+    ap (shaded inverse) (l .is) ∙ shaded-is inverse (l .y) (l .small) ∙ ap Is (sym (shade-is w stored inverse i (l .y) (l .small) (rw e (l .is))))
 
 module _ (g : Geometry) (v : List ℕ) (f : ℕ) (low : 1 ≤ g .stored) (w : Window) (d : Drawable w) (inverse : Bool)
     (table : List ℕ) (t : Filled (shadeAt w (g .stored) inverse) (2 ^ (g .stored + 1) - 1) table) where

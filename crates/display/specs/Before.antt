@@ -36,11 +36,11 @@ use Rattle.pixel.specs.declared.Geometry.{Geometry}
 use Rattle.pixel.specs.Pixel.{samplesOf, isFrame, sampleAt, maskAt}
 use Rattle.pixel.specs.Whole.{sourceOf}
 use Rattle.window.specs.declared.Window.{Window}
-use Rattle.window.specs.Window.{levelOf, levelHalf}
+use Rattle.window.specs.Window.{levelOf, levelHalf, shaded}
 use Rattle.steps.specs.declared.Applying.{Applying}
 use Rattle.steps.specs.declared.Applying.the-variants.{Item, Nothing}
 use Rattle.steps.specs.Given.{check, then, collect}
-use Rattle.steps.specs.Steps.{Picture, Mask, native, masked, geometryOf, pixelsOf, applyingTo, averageFrames, tidFrame, shiftFor, windowFor, inverseOf, shaded, nativeCell, areFrames, stepsOf}
+use Rattle.steps.specs.Steps.{Picture, Mask, native, masked, geometryOf, pixelsOf, applyingTo, averageFrames, tidFrame, shiftFor, windowFor, inverseOf, nativeCell, areFrames, stepsOf}
 use Rattle.display.specs.Demand3.{Bytes}
 
 -- ---- Rule 35: two whole numbers in -64..64

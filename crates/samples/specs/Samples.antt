@@ -31,10 +31,10 @@ use Rattle.conformance.specs.Judging as judged
 use Rattle.conformance.specs.declared.JudgeAnswer.{JudgeAnswer}
 use Rattle.shift.specs.declared.Moves.{Moves}
 use Rattle.window.specs.declared.Window.{Window}
-use Rattle.window.specs.Window.{levelOf, fullWindow}
+use Rattle.window.specs.Window.{levelOf, fullWindow, shaded}
 use Rattle.pixel.specs.declared.Geometry.{Geometry}
 use Rattle.pixel.specs.Pixel.{maskAt}
-use Rattle.steps.specs.Steps.{Mask, native, masked, shaded, maskedCell, maskFor}
+use Rattle.steps.specs.Steps.{Mask, native, masked, maskedCell, maskFor}
 use Rattle.display.specs.Show.{showOf, imageOf}
 use Rattle.display.specs.Show as shown
 use Rattle.display.specs.declared.ShowAnswer.{ShowAnswer}

@@ -31,7 +31,7 @@ use Rattle.rules.specs.Mask.{operationIs}
 use Rattle.pixel.specs.declared.Geometry.{Geometry}
 use Rattle.pixel.specs.Pixel.{samplesOf, isFrame, sampleAt, areInside, blendedAt}
 use Rattle.window.specs.declared.Window.{Window}
-use Rattle.window.specs.Window.{fullWindow, levelOf, levelHalf, shadeOf}
+use Rattle.window.specs.Window.{fullWindow, levelOf, levelHalf, shaded}
 use Rattle.steps.specs.declared.Applying.{Applying}
 use Rattle.steps.specs.declared.Applying.the-variants.{Item, Nothing}
 use Rattle.steps.specs.Given.{need, check, then, collect}
@@ -200,10 +200,6 @@ inverseOf ns =
     check (leb 1 (length (valueAt ns i)) && isSingle (valueAt ns i)) (some (isWord (valueAt ns i) (ascii "MONOCHROME1"))))
 
 -- ---- The cells
-
-abbrev pub shaded : Bool → Num → Num
-shaded inverse Lacks = Lacks
-shaded inverse (Is y) = Is (shadeOf inverse y)
 
 -- Step 5: x = cell, or cell - mask + 2^(stored - 1) if masked, signed; then steps 6 and 7.
 unfoldable pub nativeCell : Geometry → List ℕ → ℕ → Window → Bool → ℕ → Num

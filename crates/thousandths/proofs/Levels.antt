@@ -6,20 +6,18 @@ use native.Mathlib.Nat.{div-div-eq-div-mul, mul-div-mul-left}
 use native.Mathlib.Omega.{arith}
 use lib.IntN.{ℤ, pos, negsuc, natAbs, _+ℤ_, _-ℤ_, _*ℤ_}
 use lib.Signed.{leZ, ltZ}
-use Rattle.value.specs.declared.Num.{Num}
-use Rattle.value.specs.declared.Num.the-variants.{Is, Lacks}
 use Rattle.value.specs.declared.Signed.{Signed}
 use Rattle.value.specs.declared.Signed.the-variants as signed
 use Rattle.value.specs.declared.Function.{Function}
 use Rattle.value.specs.declared.Function.the-variants as function
 use Rattle.window.specs.declared.Window as present
 use Rattle.window.specs.Window as window
-use Rattle.window.specs.Window.{integer}
+use Rattle.window.specs.Window.{integer, floor}
 use Rattle.window.specs.Said.{above, below}
 use Rattle.window.proofs.Gaps.{Gap, shift, whole, plus, less, times, same-leb, le-test, ltZ-leZ}
 use Rattle.window.proofs.Laws.{signed-gap, over, under, integer-gap}
 use Rattle.thousandths.specs.Number.{scaled}
-use Rattle.thousandths.specs.Step6.{Window, fullWindow, floor, limited, takenOff, levelBy, levelAt, levelOf, levelHalf}
+use Rattle.thousandths.specs.Step6.{Window, fullWindow, takenOff, levelBy, levelAt, levelOf, levelHalf}
 
 -- The second integer is 1000 times the first.
 record Scaled (y z : ℤ) : Type 0 where
@@ -71,15 +69,11 @@ scaled-size (negsuc n) z s = ap natAbs (scaled-neg n z s) ∙ omega arith
 quotient : (n m d : ℕ) → m / 1000 ≡ n → m / (1000 * d) ≡ n / d
 quotient n m d e = sym (div-div-eq-div-mul m 1000 d) ∙ ap (λ (x : ℕ). x / d) e
 
-same-floor : {x y u v : ℤ} → Scaled x y → Scaled u v → window.floor y v ≡ floor x u
+same-floor : {x y u v : ℤ} → Scaled x y → Scaled u v → floor y v ≡ floor x u
 same-floor {x = pos n} {y = y} {u = u} {v = v} s t = rw (scaled-pos n y s, scaled-size u v t) (ap pos (quotient n (1000 * n) (natAbs u) (omega arith)))
 same-floor {x = negsuc n} {y = y} {u = u} {v = v} s t = rw (scaled-neg n y s, scaled-size u v t) (ap negsuc (quotient n (1000 * n + 999) (natAbs u) (omega arith)))
 
 -- ---- The level
-
-same-limit : (z : ℤ) → window.limited z ≡ limited z
-same-limit (pos n) = refl
-same-limit (negsuc n) = refl
 
 level-scaled : {e o c d w v t q : ℤ} → Scaled e o → Scaled c d → Scaled w v → Scaled t q → window.levelBy o d v q ≡ levelBy e c w t
 level-scaled se sc sw st =
@@ -88,7 +82,6 @@ level-scaled se sc sw st =
       ← same-lt (of-less (of-plus (of-two sc) sw) (of-two se)) st,
       ← same-lt (of-whole 0) (of-two (of-less sw se)),
       same-floor (of-less (of-plus (of-255 (of-plus (of-less st (of-two sc)) sw)) sw) se) (of-two (of-less sw se)),
-      same-limit,
     )
 
 scaled-off : (f : Function) → Scaled (pos (takenOff f)) (pos (window.takenOff f))

@@ -29,7 +29,7 @@ use Rattle.pixel.specs.declared.Geometry.{Geometry}
 use Rattle.pixel.specs.Pixel.{samplesOf, isFrame, sampleAt, areInside, blendedAt}
 use Rattle.window.specs.declared.Window as present
 use Rattle.window.specs.Window as window
-use Rattle.window.specs.Window.{shadeOf}
+use Rattle.window.specs.Window.{shaded}
 use Rattle.steps.specs.Given.{need, check, then, collect}
 use Rattle.steps.specs.Steps as steps
 use Rattle.steps.specs.Steps.{Picture, Mask, native as noMask, masked as maskOf, geometryOf, pixelsOf, maskFor, inverseOf, groupFor, areFrames}
@@ -37,7 +37,7 @@ use Rattle.display.proofs.Given.{check-some, need-some, then-some}
 use Rattle.display.proofs.Objects.{had, all-first, at-items, group-is}
 use Rattle.thousandths.specs.Number.{decimalOf, leastWidth, isWidth, allDecimals, allWidths, scaled}
 use Rattle.thousandths.specs.Rule30.{isWindow, hasWindow, isVoi, item30, rule30}
-use Rattle.thousandths.specs.Step6.{Window, fullWindow, levelOf, levelHalf, windowIn, windowOn, windowFor, shaded, nativeCell, maskedCell, pictureBy, stepsOf}
+use Rattle.thousandths.specs.Step6.{Window, fullWindow, levelOf, levelHalf, windowIn, windowOn, windowFor, nativeCell, maskedCell, pictureBy, stepsOf}
 use Rattle.thousandths.proofs.Numbers.{numbers}
 use Rattle.thousandths.proofs.Levels.{scaledWindow, same-level, same-half, same-full}
 use Rattle.thousandths.proofs.Rules.{width-number}
@@ -110,19 +110,14 @@ module _ (ns : List Node) where
 
 -- ---- The cells
 
-same-shade : (inverse : Bool) (n : Num) → steps.shaded inverse n ≡ shaded inverse n
-unfolding shadeOf
-same-shade inverse (Is y) = refl
-same-shade inverse Lacks = refl
-
 module _ (g : Geometry) (v : List ℕ) (f : ℕ) (w : Window) (inverse : Bool) where
   same-native : (i : ℕ) → steps.nativeCell g v f (scaledWindow w) inverse i ≡ nativeCell g v f w inverse i
   unfolding steps.nativeCell nativeCell
-  same-native i = ap (steps.shaded inverse) (same-level w (pos (sampleAt g v f i))) ∙ same-shade inverse (levelOf w (pos (sampleAt g v f i)))
+  same-native i = ap (shaded inverse) (same-level w (pos (sampleAt g v f i)))
 
   same-masked : (ks : List ℕ) (m : Moves) (i : ℕ) → steps.maskedCell g v f ks m (scaledWindow w) inverse i ≡ maskedCell g v f ks m w inverse i
   unfolding steps.maskedCell maskedCell
-  same-masked ks m i = rw (same-half, same-level, same-shade)
+  same-masked ks m i = rw (same-half, same-level)
 
   same-picture : (m : Mask) → steps.pictureBy g v f (scaledWindow w) inverse m ≡ pictureBy g v f w inverse m
   unfolding steps.pictureBy pictureBy

@@ -2,9 +2,9 @@
 use Prim.Native.Nat.{ℕ, zero, suc, _+_, _-_, _*_, _/_, _^_}
 use mathlib.Core.Bool.{Bool, true, false, cond, _&&_}
 use mathlib.Core.List.{List}
-use mathlib.Core.Option.{Option, some}
+use mathlib.Core.Option.{Option, none, some}
 use lib.Dec.{eqb}
-use lib.IntN.{ℤ, pos, negsuc, natAbs, _+ℤ_, _-ℤ_, _*ℤ_}
+use lib.IntN.{ℤ, pos, _+ℤ_, _-ℤ_, _*ℤ_}
 use lib.Signed.{leZ, ltZ}
 use Rattle.value.specs.declared.Num.{Num}
 use Rattle.value.specs.declared.Num.the-variants.{Is, Lacks}
@@ -23,7 +23,7 @@ use Rattle.element.specs.Tags.{DS}
 use Rattle.element.specs.Elements.{valueAt, theItem, functionIn}
 use Rattle.pixel.specs.declared.Geometry.{Geometry}
 use Rattle.pixel.specs.Pixel.{samplesOf, isFrame, sampleAt, areInside, blendedAt}
-use Rattle.window.specs.Window.{integer}
+use Rattle.window.specs.Window.{integer, floor, shaded}
 use Rattle.steps.specs.Given.{need, check, then, collect}
 use Rattle.steps.specs.Steps.{Picture, Mask, native, masked, geometryOf, pixelsOf, maskFor, inverseOf, groupFor, areFrames}
 use Rattle.thousandths.specs.Number.{unit, decimalOf}
@@ -38,16 +38,6 @@ pub record Window : Type 0 where
 unfoldable pub fullWindow : ℕ → Window
 fullWindow stored = record { center = signed.Plus (unit * 2 ^ stored / 2); width = signed.Plus (unit * 2 ^ stored); function = function.Linear }
 
--- a / b rounded down, for a b above 0.
-abbrev pub floor : ℤ → ℤ → ℤ
-floor (pos a) b = pos (a / natAbs b)
-floor (negsuc a) b = negsuc (a / natAbs b)
-
--- Limited to 0..255.
-abbrev pub limited : ℤ → ℕ
-limited (negsuc n) = 0
-limited (pos n) = cond (leZ (pos n) (pos 255)) n 255
-
 -- What a function takes off, e: LINEAR one, in thousandths, and LINEAR_EXACT nothing.
 abbrev pub takenOff : Function → ℕ
 takenOff function.Linear = unit
@@ -55,23 +45,23 @@ takenOff function.Exact = 0
 takenOff function.Lacks = unit
 
 -- For a centre C and a width W, with u the units to one and t = 2ux: 0 if t ≤ 2C - W; 255 if t > 2C + W - 2e; else
--- floor((255(t - 2C + W) + W - e) / (2(W - e))), whose divisor must be above 0. Then limited.
-abbrev pub levelBy : ℤ → ℤ → ℤ → ℤ → Num
+-- floor((255(t - 2C + W) + W - e) / (2(W - e))), whose divisor must be above 0.
+abbrev pub levelBy : ℤ → ℤ → ℤ → ℤ → Option ℤ
 levelBy e c w t =
-    cond (leZ t (pos 2 *ℤ c -ℤ w)) (Is 0)
-    (cond (ltZ (pos 2 *ℤ c +ℤ w -ℤ pos 2 *ℤ e) t) (Is 255)
+    cond (leZ t (pos 2 *ℤ c -ℤ w)) (some (pos 0))
+    (cond (ltZ (pos 2 *ℤ c +ℤ w -ℤ pos 2 *ℤ e) t) (some (pos 255))
     (cond (ltZ (pos 0) (pos 2 *ℤ (w -ℤ e)))
-    (Is (limited (floor (pos 255 *ℤ (t -ℤ pos 2 *ℤ c +ℤ w) +ℤ w -ℤ e) (pos 2 *ℤ (w -ℤ e)))))
-    Lacks))
+    (some (floor (pos 255 *ℤ (t -ℤ pos 2 *ℤ c +ℤ w) +ℤ w -ℤ e) (pos 2 *ℤ (w -ℤ e))))
+    none))
 
-abbrev pub levelAt : Window → ℤ → Num
+abbrev pub levelAt : Window → ℤ → Option ℤ
 levelAt w t = levelBy (pos (takenOff (w .function))) (integer (w .center)) (integer (w .width)) t
 
-unfoldable pub levelOf : Window → ℤ → Num
+unfoldable pub levelOf : Window → ℤ → Option ℤ
 levelOf w x = levelAt w (pos 2 *ℤ pos unit *ℤ x)
 
 -- The level of x + 1/2.
-unfoldable pub levelHalf : Window → ℤ → Num
+unfoldable pub levelHalf : Window → ℤ → Option ℤ
 levelHalf w x = levelAt w (pos 2 *ℤ pos unit *ℤ x +ℤ pos unit)
 
 -- The first centre and width, and the function; without a VOI group the full window.
@@ -88,11 +78,6 @@ windowOn ns stored (Is g) = need (theItem ns g) (λ j. windowIn ns (inside ns j)
 
 unfoldable pub windowFor : List Node → ℕ → ℕ → Option Window
 windowFor ns f stored = then (groupFor ns f Tags.FrameVOILUTSequence) (windowOn ns stored)
-
--- Step 7: MONOCHROME1 shows 255 - y.
-abbrev pub shaded : Bool → Num → Num
-shaded inverse Lacks = Lacks
-shaded inverse (Is y) = Is (cond inverse (255 - y) y)
 
 -- The cells, the picture and the steps: as they are now, with the window of thousandths.
 unfoldable pub nativeCell : Geometry → List ℕ → ℕ → Window → Bool → ℕ → Num

@@ -3,14 +3,14 @@ use Prim.Native.Nat.{ℕ, _*_}
 use mathlib.Core.Path.{_≡_, refl}
 use mathlib.Core.Bool.{Bool, true, false}
 use mathlib.Core.List.{List, [], _∷_, map}
+use mathlib.Core.Option.{some}
 use lib.IntN.{pos}
-use Rattle.value.specs.declared.Num.{Num}
-use Rattle.value.specs.declared.Num.the-variants.{Is, Lacks}
+use Rattle.value.specs.declared.Num.the-variants.{Is}
 use Rattle.value.specs.declared.Signed.the-variants as signed
 use Rattle.value.specs.declared.Function.the-variants.{Linear, Exact}
 use Rattle.value.specs.Number.{unit}
 use Rattle.window.specs.declared.Window.{Window}
-use Rattle.window.specs.Window.{fullWindow, levelOf, levelHalf, shadeOf}
+use Rattle.window.specs.Window.{fullWindow, levelOf, levelHalf, shadeOf, shaded}
 
 pub record Cell : Type 0 where
   pub window : Window
@@ -52,10 +52,6 @@ samples =
     ∷ cell (fullWindow 8) false 255 255
     ∷ []
 
-abbrev shaded : Bool → Num → Num
-shaded inverse (Is y) = Is (shadeOf inverse y)
-shaded inverse Lacks = Lacks
-
 pub sample-shades : map (λ (c : Cell). shaded (c .inverse) (levelOf (c .window) (pos (c .x)))) samples ≡ map (λ (c : Cell). Is (c .shade)) samples
 unfolding samples narrow wide exact fullWindow levelOf shadeOf
 sample-shades = refl
@@ -64,10 +60,10 @@ sample-shades = refl
 pub middle : Window
 middle = record { center = signed.Plus 0; width = signed.Plus (10 * unit); function = Linear }
 
-pub no-bits : map (λ (w : Window). levelOf w (pos 0)) (fullWindow 0 ∷ middle ∷ []) ≡ (Is 0 ∷ Is 142 ∷ [])
+pub no-bits : map (λ (w : Window). levelOf w (pos 0)) (fullWindow 0 ∷ middle ∷ []) ≡ (some (pos 0) ∷ some (pos 142) ∷ [])
 unfolding middle fullWindow levelOf
 no-bits = refl
 
-pub no-bits-masked : map (λ (w : Window). levelHalf w (pos 0)) (fullWindow 0 ∷ middle ∷ []) ≡ (Is 255 ∷ Is 156 ∷ [])
+pub no-bits-masked : map (λ (w : Window). levelHalf w (pos 0)) (fullWindow 0 ∷ middle ∷ []) ≡ (some (pos 255) ∷ some (pos 156) ∷ [])
 unfolding middle fullWindow levelHalf
 no-bits-masked = refl

@@ -1,5 +1,6 @@
 -- The levels of a window: which case of step 6 applies, in naturals; no level lacks, and each is at most 255.
 use mathlib.Core.Path.{_≡_, refl, sym, ap, _∙_}
+use mathlib.Core.Option.{Option, some}
 use mathlib.Core.Bool.{Bool, true, false, cond}
 use mathlib.Core.List.{List}
 use Prim.Native.Nat.{ℕ, zero, suc, _+_, _*_, _-_, _/_, _^_, _≤_, _<_}
@@ -20,7 +21,7 @@ use Rattle.value.specs.declared.Function.the-variants as function
 use Rattle.value.specs.Number.{unit, sizeLimit, leastWidth, isWidth}
 use Rattle.value.specs.Said.{SizeBelow}
 use Rattle.window.specs.declared.Window.{Window}
-use Rattle.window.specs.Window.{integer, floor, takenOff, levelBy, levelAt, levelOf, shadeOf}
+use Rattle.window.specs.Window.{integer, floor, takenOff, levelBy, levelAt, levelOf, shadeOf, cellOf, shaded}
 use Rattle.window.specs.Said.{Ruled, Drawable, Filled, above, below, rampOf, number, shadeAt}
 use Rattle.window.proofs.Gaps.{Gap, whole, gap, plus, less, times, value, le-yes, le-no, lt-yes, lt-no}
 
@@ -95,7 +96,7 @@ width-below signed.Lacks h = absurd (omega arith)
 
 -- ---- The third case
 
--- Before the limit, it is at most 255.
+-- It is at most 255.
 pub quotient-small : (e d w : ℕ) → 0 < d → d + 2 * e ≤ 2 * w → (255 * d + w - e) / (2 * (w - e)) ≤ 255
 quotient-small e d w z h = fewer (div-lt-iff-lt-mul {k = 2 * (w - e)} {x = 255 * d + w - e} {y = 256} (omega arith) .1 (omega arith))
   where
@@ -136,27 +137,25 @@ module _ {t c : ℤ} {p m a b : ℕ} (e w : ℕ) (t-is : Gap t p m) (c-is : Gap 
         (omega arith)
         ∙ ap pos (omega arith)
 
-    -- Before the limit.
     pub third : n < u → floor (pos 255 *ℤ (t -ℤ pos 2 *ℤ c +ℤ pos w) +ℤ pos w -ℤ pos e) (pos 2 *ℤ (pos w -ℤ pos e)) ≡ pos ((255 * (u - n) + w - e) / (2 * (w - e)))
     third h = rw (dividend h, divisor)
 
-    pub level-none : u ≤ n → levelBy (pos e) c (pos w) t ≡ Is 0
+    pub level-none : u ≤ n → levelBy (pos e) c (pos w) t ≡ some (pos 0)
     level-none h = rw (first-holds h)
 
-    level-full : n < u → 2 * w < u - n + 2 * e → levelBy (pos e) c (pos w) t ≡ Is 255
+    level-full : n < u → 2 * w < u - n + 2 * e → levelBy (pos e) c (pos w) t ≡ some (pos 255)
     level-full h k = rw (first-fails h, second-holds h k)
 
-    level-part : n < u → u - n + 2 * e ≤ 2 * w → levelBy (pos e) c (pos w) t ≡ Is ((255 * (u - n) + w - e) / (2 * (w - e)))
+    level-part : n < u → u - n + 2 * e ≤ 2 * w → levelBy (pos e) c (pos w) t ≡ some (pos ((255 * (u - n) + w - e) / (2 * (w - e))))
     level-part h k =
-        let z : 0 < 2 * (w - e) = omega arith in
-        let q : (255 * (u - n) + w - e) / (2 * (w - e)) ≤ 255 = quotient-small e (u - n) w (omega arith) k in
-        rw (first-fails h, second-fails h k, third h, divisor, lt-ltb 0 (2 * (w - e)) z, le-leb ((255 * (u - n) + w - e) / (2 * (w - e))) 255 q)
+        let z : ltZ (pos 0) (pos 2 *ℤ (pos w -ℤ pos e)) ≡ true = ap (ltZ (pos 0)) divisor ∙ lt-ltb 0 (2 * (w - e)) (omega arith) in
+        rw (first-fails h, second-fails h k, z) (ap some (third h))
 
-    pub level-ramp : n < u → levelBy (pos e) c (pos w) t ≡ Is (rampOf e (u - n) w)
+    pub level-ramp : n < u → levelBy (pos e) c (pos w) t ≡ some (pos (rampOf e (u - n) w))
     unfolding rampOf
     level-ramp h = go (ltb (2 * w) (u - n + 2 * e)) refl
       where
-        go : (b : Bool) → ltb (2 * w) (u - n + 2 * e) ≡ b → levelBy (pos e) c (pos w) t ≡ Is (cond b 255 ((255 * (u - n) + w - e) / (2 * (w - e))))
+        go : (b : Bool) → ltb (2 * w) (u - n + 2 * e) ≡ b → levelBy (pos e) c (pos w) t ≡ some (pos (cond b 255 ((255 * (u - n) + w - e) / (2 * (w - e)))))
         go true q = level-full h (ltb-true (2 * w) (u - n + 2 * e) q)
         go false q = level-part h (ltb-false (2 * w) (u - n + 2 * e) q)
 
@@ -164,18 +163,18 @@ module _ {t c : ℤ} {p m a b : ℕ} (e w : ℕ) (t-is : Gap t p m) (c-is : Gap 
 
 module _ (window : Window) (widths : Widths window) {x : ℤ} {p m : ℕ} (x-is : Gap x p m) where
   module _ (u n : ℕ) (u-is : u ≡ 2 * unit * p + 2 * below (window .center) + above (window .width)) (n-is : n ≡ 2 * unit * m + 2 * above (window .center)) where
-    pub window-none : u ≤ n → levelOf window x ≡ Is 0
+    pub window-none : u ≤ n → levelOf window x ≡ some (pos 0)
     unfolding levelOf
     window-none h = rw (width-is (window .width) (widths .some)) (level-none (takenOff (window .function)) (above (window .width)) (times (2 * unit) x-is) (signed-gap (window .center)) (widths .wide) u n u-is n-is h)
 
-    pub window-ramp : n < u → levelOf window x ≡ Is (rampOf (takenOff (window .function)) (u - n) (above (window .width)))
+    pub window-ramp : n < u → levelOf window x ≡ some (pos (rampOf (takenOff (window .function)) (u - n) (above (window .width))))
     unfolding levelOf
     window-ramp h = rw (width-is (window .width) (widths .some)) (level-ramp (takenOff (window .function)) (above (window .width)) (times (2 * unit) x-is) (signed-gap (window .center)) (widths .wide) u n u-is n-is h)
 
 -- A level that does not lack, and is at most 255.
 pub record Leveled (window : Window) (x : ℤ) : Type 0 where
   pub y : ℕ
-  pub is : levelOf window x ≡ Is y
+  pub is : levelOf window x ≡ some (pos y)
   pub small : y ≤ 255
 
 pub over : ℤ → ℕ
@@ -195,10 +194,10 @@ integer-gap (negsuc n) = record { is = omega arith }
 
 -- Where the width is no more than what the function takes off, the level goes from 0 to 255 at once.
 module _ {t c w : ℤ} {p m a b g h : ℕ} (e : ℕ) (t-is : Gap t p m) (c-is : Gap c a b) (w-is : Gap w g h) where
-  step-none : p + 2 * b + g ≤ m + 2 * a + h → levelBy (pos e) c w t ≡ Is 0
+  step-none : p + 2 * b + g ≤ m + 2 * a + h → levelBy (pos e) c w t ≡ some (pos 0)
   step-none l = rw (le-yes t-is (less (times 2 c-is) w-is) (omega arith))
 
-  step-full : g ≤ e + h → m + 2 * a + h < p + 2 * b + g → levelBy (pos e) c w t ≡ Is 255
+  step-full : g ≤ e + h → m + 2 * a + h < p + 2 * b + g → levelBy (pos e) c w t ≡ some (pos 255)
   step-full k l =
       rw (le-no t-is (less (times 2 c-is) w-is) (omega arith), lt-yes (less (plus (times 2 c-is) w-is) (whole (2 * e))) t-is (omega arith))
 
@@ -220,28 +219,28 @@ levelled window p m =
     (rampOf (takenOff (window .function)) (raised window p - lowered window m) (above (window .width)))
 
 module _ (window : Window) {t : ℤ} {p m : ℕ} (t-is : Gap t p m) where
-  above-none : lowered window m < raised window p → levelAt window t ≡ Is (rampOf (takenOff (window .function)) (raised window p - lowered window m) (above (window .width)))
+  above-none : lowered window m < raised window p → levelAt window t ≡ some (pos (rampOf (takenOff (window .function)) (raised window p - lowered window m) (above (window .width))))
   unfolding raised lowered
   above-none l = go (leb (above (window .width)) (takenOff (window .function))) refl
     where
       go : (s : Bool) → leb (above (window .width)) (takenOff (window .function)) ≡ s
-          → levelAt window t ≡ Is (rampOf (takenOff (window .function)) (raised window p - lowered window m) (above (window .width)))
+          → levelAt window t ≡ some (pos (rampOf (takenOff (window .function)) (raised window p - lowered window m) (above (window .width))))
       go true q =
           let narrow = leb-true (above (window .width)) (takenOff (window .function)) q in
           step-full (takenOff (window .function)) t-is (signed-gap (window .center)) (signed-gap (window .width)) (omega (arith, narrow)) l
-          ∙ ap Is (sym (ramp-full (takenOff (window .function)) (raised window p - lowered window m) (above (window .width)) narrow (omega arith)))
+          ∙ ap (λ (y : ℕ). some (pos y)) (sym (ramp-full (takenOff (window .function)) (raised window p - lowered window m) (above (window .width)) narrow (omega arith)))
       go false q =
           let wide : takenOff (window .function) < above (window .width) = leb-false (above (window .width)) (takenOff (window .function)) q in
           let none = width-below (window .width) (omega arith) in
           rw (width-is (window .width) (omega arith))
           (level-ramp (takenOff (window .function)) (above (window .width)) t-is (signed-gap (window .center)) (omega arith) (raised window p) (lowered window m) refl (omega (arith, none)) l)
 
-  pub level-is : levelAt window t ≡ Is (levelled window p m)
+  pub level-is : levelAt window t ≡ some (pos (levelled window p m))
   unfolding levelled raised lowered
   level-is = go (leb (raised window p) (lowered window m)) refl
     where
       go : (s : Bool) → leb (raised window p) (lowered window m) ≡ s
-          → levelAt window t ≡ Is (cond s 0 (rampOf (takenOff (window .function)) (raised window p - lowered window m) (above (window .width))))
+          → levelAt window t ≡ some (pos (cond s 0 (rampOf (takenOff (window .function)) (raised window p - lowered window m) (above (window .width)))))
       go true e = step-none (takenOff (window .function)) t-is (signed-gap (window .center)) (signed-gap (window .width)) (leb-true (raised window p) (lowered window m) e)
       go false e = above-none (leb-false (raised window p) (lowered window m) e)
 
@@ -289,7 +288,16 @@ filled-more f n s t l = record { size = length-set s n (f n) ∙ t .size; value 
 pub power-small : (n k : ℕ) → n ≤ k → 2 ^ n ≤ 2 ^ k
 power-small n k h = pow-le-pow-right {n = 2} (omega arith) {i = n} {j = k} h
 
+-- The shade of a level.
+abbrev pub shadeNumber : Bool → ℕ → ℕ
+shadeNumber inverse y = cond inverse (255 - y) y
+
+pub shaded-is : (inverse : Bool) (y : ℕ) → y ≤ 255 → shaded inverse (some (pos y)) ≡ Is (shadeNumber inverse y)
+unfolding shadeOf
+shaded-is true y h = ap cellOf (value (gap 255 y) h)
+shaded-is false y h = refl
+
 -- A place of the table, by its level.
-pub shade-is : (window : Window) (stored : ℕ) (inverse : Bool) (i y : ℕ) → levelOf window (pos (i + 2 ^ (stored - 1)) -ℤ pos (2 ^ stored - 1)) ≡ Is y → shadeAt window stored inverse i ≡ shadeOf inverse y
+pub shade-is : (window : Window) (stored : ℕ) (inverse : Bool) (i y : ℕ) → y ≤ 255 → levelOf window (pos (i + 2 ^ (stored - 1)) -ℤ pos (2 ^ stored - 1)) ≡ some (pos y) → shadeAt window stored inverse i ≡ shadeNumber inverse y
 unfolding shadeAt
-shade-is window stored inverse i y e = ap (λ (n : Num). shadeOf inverse (number n)) e
+shade-is window stored inverse i y h e = ap (λ (o : Option ℤ). number (shaded inverse o)) e ∙ ap number (shaded-is inverse y h)

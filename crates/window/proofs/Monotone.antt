@@ -6,9 +6,9 @@ use Prim.Native.Nat.{ℕ, _+_, _*_, _-_, _/_, _≤_, _<_}
 use native.Mathlib.Nat.{le-div-iff-mul-le, div-mul-le-self, le-trans}
 use native.Mathlib.Omega.{arith}
 use lib.Dec.{ltb, leb}
-use lib.IntN.{ℤ}
+use lib.IntN.{ℤ, pos}
 use lib.Signed.{leZ}
-use borrow.Author.Tests.{ltb-true, ltb-false, leb-true, leb-false}
+use borrow.Author.Tests.{le-leb, ltb-true, ltb-false, leb-true, leb-false}
 use Rattle.value.specs.Number.{unit}
 use Rattle.window.specs.declared.Window.{Window}
 use Rattle.window.specs.Window.{takenOff, levelOf}
@@ -54,9 +54,9 @@ unfolding levelOf
 monotone w x z h =
     let o = leb-true (over x + under z) (over z + under x) (sym (le-test (integer-gap x) (integer-gap z)) ∙ h) in
     record {
-      y = levelled w (2 * unit * over x) (2 * unit * under x);
-      v = levelled w (2 * unit * over z) (2 * unit * under z);
+      y = pos (levelled w (2 * unit * over x) (2 * unit * under x));
+      v = pos (levelled w (2 * unit * over z) (2 * unit * under z));
       is = level-is w (times (2 * unit) (integer-gap x));
       next = level-is w (times (2 * unit) (integer-gap z));
-      rises = levelled-grows w (2 * unit * over x) (2 * unit * under x) (2 * unit * over z) (2 * unit * under z) (omega (arith, o));
+      rises = le-leb _ _ (levelled-grows w (2 * unit * over x) (2 * unit * under x) (2 * unit * over z) (2 * unit * under z) (omega (arith, o)));
     }

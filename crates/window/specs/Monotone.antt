@@ -3,23 +3,21 @@
 -- that of x is not above that of z. Both functions are covered by this one statement; the full window of a frame without a
 -- VOI group, and windows that rule 30 does not let through, are among those that it speaks of. Its proof stands in
 -- proofs/Monotone.
-use Prim.Native.Nat.{ℕ, _≤_}
 use mathlib.Core.Path.{_≡_}
 use mathlib.Core.Bool.{true}
+use mathlib.Core.Option.{Option, some}
 use lib.IntN.{ℤ}
 use lib.Signed.{leZ}
-use Rattle.value.specs.declared.Num.{Num}
-use Rattle.value.specs.declared.Num.the-variants.{Is}
 use Rattle.window.specs.declared.Window.{Window}
 use Rattle.window.specs.Window.{levelOf}
 
 -- Two levels, neither lacking, the first not above the second.
-pub record Rising (first second : Num) : Type 0 where
-  pub y : ℕ
-  pub v : ℕ
-  pub is : first ≡ Is y
-  pub next : second ≡ Is v
-  pub rises : y ≤ v
+pub record Rising (first second : Option ℤ) : Type 0 where
+  pub y : ℤ
+  pub v : ℤ
+  pub is : first ≡ some y
+  pub next : second ≡ some v
+  pub rises : leZ y v ≡ true
 
 abbrev pub Monotone : Type 0
 Monotone = (w : Window) (x z : ℤ) → leZ x z ≡ true → Rising (levelOf w x) (levelOf w z)

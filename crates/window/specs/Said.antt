@@ -14,7 +14,7 @@ use Rattle.value.specs.Words.{isFunction}
 use Rattle.value.specs.Number.{unit, sizeLimit, isNumber, leastWidth, isWidth}
 use Rattle.value.specs.Said.{SizeBelow}
 use Rattle.window.specs.declared.Window.{Window}
-use Rattle.window.specs.Window.{levelOf, shadeOf}
+use Rattle.window.specs.Window.{levelOf, shaded}
 
 -- A window as rule 30 lets it through: its centre is a number, its function one of the two, and its width of that function's size.
 pub record Ruled (w : Window) : Type 0 where
@@ -43,14 +43,14 @@ below signed.Lacks = 0
 unfoldable pub rampOf : ℕ → ℕ → ℕ → ℕ
 rampOf e d w = cond (ltb (2 * w) (d + 2 * e)) 255 ((255 * d + w - e) / (2 * (w - e)))
 
--- The number of a level that does not lack.
+-- The number of a cell that does not lack.
 abbrev pub number : Num → ℕ
 number (Is n) = n
 number Lacks = 0
 
 -- Place i of a table for so many stored bits: the shade of x = i + 2^(stored - 1) - (2^stored - 1).
 unfoldable pub shadeAt : Window → ℕ → Bool → ℕ → ℕ
-shadeAt window stored inverse i = shadeOf inverse (number (levelOf window (pos (i + 2 ^ (stored - 1)) -ℤ pos (2 ^ stored - 1))))
+shadeAt window stored inverse i = number (shaded inverse (levelOf window (pos (i + 2 ^ (stored - 1)) -ℤ pos (2 ^ stored - 1))))
 
 -- A table whose first n places are those of f.
 pub record Filled (f : ℕ → ℕ) (n : ℕ) (s : List ℕ) : Type 0 where

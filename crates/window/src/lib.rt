@@ -3,9 +3,9 @@ ghost use mathlib.Core.Path.{_≡_};
 ghost use Prim.Native.Nat.{_+_, _-_, _*_, _^_, _≤_, _<_};
 ghost use lib.ListN.{length};
 ghost use lib.IntN.{pos, _-ℤ_};
-ghost use Rattle.value.specs.declared.Num.the-variants.{Is};
+ghost use mathlib.Core.Option.{some};
 ghost use Rattle.value.specs.Number.{unit, sizeLimit};
-ghost use Rattle.window.specs.Window.{fullWindow, takenOff, levelOf, shadeOf};
+ghost use Rattle.window.specs.Window.{fullWindow, takenOff, levelOf, shaded};
 ghost use Rattle.window.specs.Said.{Drawable, Filled, above, below, rampOf, number, shadeAt};
 use value::Function;
 use value::Signed;
@@ -65,7 +65,7 @@ fn ramp(e: usize, up: usize, down: usize, w: usize) -> usize
 // The level of x = plus - minus.
 pub fn level(window: Window, plus: usize, minus: usize) -> usize
     requires { ⌜ Drawable window × ((plus < 200000) × (minus < 200000)) ⌝ }
-    ensures { λ r. ⌜ (Is r ≡ levelOf window (pos plus -ℤ pos minus)) × (r ≤ 255) ⌝ }
+    ensures { λ r. ⌜ (some (pos r) ≡ levelOf window (pos plus -ℤ pos minus)) × (r ≤ 255) ⌝ }
 {
     let center = window.center;
     let width = window.width;
@@ -105,7 +105,7 @@ pub fn full_window(stored: usize) -> Window
 // The shade of x = plus - minus: its level, or 255 less the level.
 fn shade(window: Window, plus: usize, minus: usize, inverse: bool) -> u8
     requires { ⌜ Drawable window × ((plus < 200000) × (minus < 200000)) ⌝ }
-    ensures { λ r. ⌜ r ≡ shadeOf inverse (number (levelOf window (pos plus -ℤ pos minus))) ⌝ }
+    ensures { λ r. ⌜ r ≡ number (shaded inverse (levelOf window (pos plus -ℤ pos minus))) ⌝ }
 {
     let y = level(window, plus, minus);
     if inverse { (255 - y) as u8 } else { y as u8 }

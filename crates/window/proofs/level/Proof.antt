@@ -1,7 +1,8 @@
 use mathlib.Core.Path.{_≡_, sym, ap, _∙_}
 use Prim.Native.Nat.{ℕ, _+_, _-_, _*_}
 use native.Mathlib.Omega.{arith}
-use Rattle.value.specs.declared.Num.the-variants.{Is}
+use mathlib.Core.Option.{some}
+use lib.IntN.{pos}
 use Rattle.value.specs.Number.{unit}
 use Rattle.window.specs.Said.{above, rampOf}
 use Rattle.window.proofs.Gaps.{gap}
@@ -96,7 +97,7 @@ returns-2 c =
     let u = 2 * unit * a .plus + 2 * c .before .before .before .below .result + c .before .before .before .before .before .above .result in
     let n = 2 * unit * a .minus + 2 * c .before .before .above2 .result in
     let e = c .ramp .ensures .0 ∙ ap (λ (w : ℕ). rampOf (c .before .before .before .before .taken-off .result) (u - n) w) (c .before .before .before .before .before .above .ensures) ∙ ap (λ (o : ℕ). rampOf o (u - n) (above (a .window .width))) (c .before .before .before .before .taken-off .ensures .0) in
-    (ap Is e ∙ sym (window-ramp (a .window) (s .widths) (gap (a .plus) (a .minus)) u n (omega arith) (omega arith) (c .before .if1 .left)), c .ramp .ensures .1)
+    (ap (λ (y : ℕ). some (pos y)) e ∙ sym (window-ramp (a .window) (s .widths) (gap (a .plus) (a .minus)) u n (omega arith) (omega arith) (c .before .if1 .left)), c .ramp .ensures .1)
 
 pub level-spec : {M : Type 1} → statement M
 level-spec =

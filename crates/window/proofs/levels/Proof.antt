@@ -1,5 +1,5 @@
 use lib.IntN.{pos, _-ℤ_}
-use Rattle.window.specs.Window.{levelOf, shadeOf}
+use Rattle.window.specs.Window.{levelOf, shaded}
 use mathlib.Core.Path.{_≡_, ap, _∙_, subst}
 use native.Mathlib.Omega.{arith}
 use borrow.Author.Needs.{needs}
@@ -78,8 +78,8 @@ loop-again c =
     let i = c .before .before .loop .i in
     let e : c .shade .result ≡ shadeAt (a .window) (a .stored) (a .inverse) i =
     c .shade .ensures
-    ∙ ap (λ (h : ℕ). shadeOf (a .inverse) (number (levelOf (a .window) (pos (i + h) -ℤ pos (c .before .before .before .before .before .power2 .result - 1))))) (c .before .before .before .before .before .before .power .ensures .0)
-    ∙ ap (λ (l : ℕ). shadeOf (a .inverse) (number (levelOf (a .window) (pos (i + 2 ^ (a .stored - 1)) -ℤ pos (l - 1))))) (c .before .before .before .before .before .power2 .ensures .0) in
+    ∙ ap (λ (h : ℕ). number (shaded (a .inverse) (levelOf (a .window) (pos (i + h) -ℤ pos (c .before .before .before .before .before .power2 .result - 1))))) (c .before .before .before .before .before .before .power .ensures .0)
+    ∙ ap (λ (l : ℕ). number (shaded (a .inverse) (levelOf (a .window) (pos (i + 2 ^ (a .stored - 1)) -ℤ pos (l - 1))))) (c .before .before .before .before .before .power2 .ensures .0) in
     (omega arith, rw e (filled-more (shadeAt (a .window) (a .stored) (a .inverse)) i (c .before .before .loop .table) (c .before .before .loop .inv .1) (omega arith)))
 
 returns : tie.Need-returns Inv-loop μ-loop

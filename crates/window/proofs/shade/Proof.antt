@@ -1,4 +1,5 @@
-use Rattle.window.specs.Window.{shadeOf}
+use mathlib.Core.Bool.{true, false}
+use Rattle.window.proofs.Laws.{shaded-is}
 use borrow.Author.Needs.{needs}
 use Rattle.window.proofs.shade.Statement.{statement}
 use Rattle.window.proofs.shade.Tie as tie
@@ -16,14 +17,12 @@ cast-result-2 : tie.Need-cast-result-2
 cast-result-2 c = search needs
 
 returns : tie.Need-returns
-unfolding shadeOf
 returns c =
-    rw (c .if1 .taken, ← c .before .level .ensures .0)
+    rw (c .if1 .taken, ← c .before .level .ensures .0, shaded-is true (c .before .level .result) (c .before .level .ensures .1))
 
 returns-2 : tie.Need-returns-2
-unfolding shadeOf
 returns-2 c =
-    rw (c .if1 .left, ← c .before .level .ensures .0)
+    rw (c .if1 .left, ← c .before .level .ensures .0, shaded-is false (c .before .level .result) (c .before .level .ensures .1))
 
 pub shade-spec : {M : Type 1} → statement M
 shade-spec =
