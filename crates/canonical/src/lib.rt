@@ -1,0 +1,189 @@
+// A data set written anew with defined lengths throughout and no end marks. specs/ says what is written; `write_anew`, at
+// the end, is the public call.
+ghost use mathlib.Core.Path.{_≡_};
+ghost use mathlib.Core.List.{_++_};
+ghost use Prim.Native.Nat.{_+_, _-_, _≤_, _<_};
+ghost use lib.ListN.{length, take, drop};
+ghost use lib.Seq.{slice};
+ghost use Rattle.dataset.specs.Reading.{readingOf};
+ghost use Rattle.dataset.specs.Answer.{bufferOf};
+ghost use Rattle.node.specs.Nodes.{Node, nodesOf, nodeAt};
+ghost use Rattle.node.specs.Table.{Table};
+ghost use Rattle.canonical.specs.Put.{Put, Bytes, Sized};
+ghost use Rattle.canonical.specs.Anew.{anewOf, targetOf};
+ghost use Rattle.canonical.specs.Written.{le, letters, lengthOf, header, headSize, ownSize, sizeOf, nodeBytes, writtenOf};
+use dataset::ReadAnswer;
+
+// ---- Bytes into the target
+
+// A number as two bytes, and as four.
+fn put_u16(target: &mut [u8], at: usize, x: usize)
+    requires { ⌜ at + 2 ≤ length (now target) ⌝ }
+    ensures { λ _. ⌜ Put (now (target .entry)) (now (target .exit)) at (le 2 x) ⌝ }
+{
+    target[at] = (x % 256) as u8;
+    target[at + 1] = (x / 256 % 256) as u8;
+}
+
+fn put_u32(target: &mut [u8], at: usize, x: usize)
+    requires { ⌜ at + 4 ≤ length (now target) ⌝ }
+    ensures { λ _. ⌜ Put (now (target .entry)) (now (target .exit)) at (le 4 x) ⌝ }
+{
+    target[at] = (x % 256) as u8;
+    target[at + 1] = (x / 256 % 256) as u8;
+    target[at + 2] = (x / 256 / 256 % 256) as u8;
+    target[at + 3] = (x / 256 / 256 / 256 % 256) as u8;
+}
+
+// A VR's two letters.
+fn put_letters(target: &mut [u8], at: usize, vr: usize)
+    requires { ⌜ at + 2 ≤ length (now target) ⌝ }
+    ensures { λ _. ⌜ Put (now (target .entry)) (now (target .exit)) at (letters vr) ⌝ }
+{
+    target[at] = (vr / 256 % 256) as u8;
+    target[at + 1] = (vr % 256) as u8;
+}
+
+fn head_size(vr: usize) -> usize
+    ensures { λ r. ⌜ (r ≡ headSize vr) × ((8 ≤ r) × (r ≤ 12)) ⌝ }
+{
+    if dataset::vr_form(vr) == 2 { 12 } else { 8 }
+}
+
+// What stands in a header after the tag.
+fn put_length(target: &mut [u8], at: usize, vr: usize, size: usize)
+    requires { ⌜ at + headSize vr ≤ length (now target) + 4 ⌝ }
+    ensures { λ _. ⌜ Put (now (target .entry)) (now (target .exit)) at (lengthOf vr size) ⌝ }
+{
+    if vr == 0 {
+        put_u32(target, at, size)
+    } else {
+        put_letters(target, at, vr);
+        if dataset::vr_form(vr) == 2 {
+            put_u16(target, at + 2, 0);
+            put_u32(target, at + 4, size)
+        } else {
+            put_u16(target, at + 2, size)
+        }
+    }
+}
+
+fn put_header(target: &mut [u8], at: usize, tag: usize, vr: usize, size: usize)
+    requires { ⌜ at + headSize vr ≤ length (now target) ⌝ }
+    ensures { λ _. ⌜ Put (now (target .entry)) (now (target .exit)) at (header tag vr size) ⌝ }
+{
+    put_u16(target, at, tag / 65536);
+    put_u16(target, at + 2, tag % 65536);
+    put_length(target, at + 4, vr, size)
+}
+
+fn put_value(target: &mut [u8], at: usize, value: &[u8])
+    requires { ⌜ at + length (now value) ≤ length (now target) ⌝ }
+    ensures { λ _. ⌜ Put (now (target .entry)) (now (target .exit)) at (now (value .entry)) ⌝ }
+{
+    let mut i = 0;
+    while i < value.len() {
+        target[at + i] = value[i];
+        i += 1;
+    }
+}
+
+// ---- Sizes
+
+// The bytes that node i takes by itself.
+fn own_size(bytes: &[u8], rows: &[u32], i: usize) -> usize
+    requires { ⌜ Sized (now bytes) (now rows) × (i < length (nodesOf (now bytes))) ⌝ }
+    ensures { λ r. ⌜ r ≡ ownSize (nodeAt (nodesOf (now (bytes .entry))) i) ⌝ }
+{
+    head_size(node::vr(bytes, rows, i)) + node::value(bytes, rows, i).len()
+}
+
+// The bytes that the nodes from `from` up to `to` take together.
+fn span(bytes: &[u8], rows: &[u32], from: usize, to: usize) -> usize
+    requires { ⌜ Sized (now bytes) (now rows) × ((from ≤ to) × (to ≤ length (nodesOf (now bytes)))) ⌝ }
+    ensures { λ r. ⌜ (r ≡ sizeOf (slice from to (nodesOf (now (bytes .entry))))) × (r ≤ 1073741824) ⌝ }
+{
+    let mut sum: usize = 0;
+    let mut i = from;
+    while i < to {
+        sum += own_size(bytes, rows, i);
+        i += 1;
+    }
+    sum
+}
+
+// ---- Nodes into the target
+
+// Writes node i, and answers where the next one goes.
+fn put_node(bytes: &[u8], rows: &[u32], target: &mut [u8], i: usize, at: usize) -> usize
+    requires { ⌜ Sized (now bytes) (now rows) × ((i < length (nodesOf (now bytes))) × (at + sizeOf (drop i (nodesOf (now bytes))) ≤ length (now target))) ⌝ }
+    ensures { λ r. ⌜ (r ≡ at + ownSize (nodeAt (nodesOf (now (bytes .entry))) i)) × Put (now (target .entry)) (now (target .exit)) at (nodeBytes (nodeAt (nodesOf (now (bytes .entry))) i) (drop (i + 1) (nodesOf (now (bytes .entry))))) ⌝ }
+{
+    let tag = node::tag(bytes, rows, i);
+    let vr = node::vr(bytes, rows, i);
+    let next = node::next(bytes, rows, i);
+    let inner = span(bytes, rows, i + 1, next);
+    let value = node::value(bytes, rows, i);
+    put_header(target, at, tag, vr, value.len() + inner);
+    let start = at + head_size(vr);
+    put_value(target, start, value);
+    start + value.len()
+}
+
+fn put_nodes(bytes: &[u8], rows: &[u32], target: &mut [u8])
+    requires { ⌜ Sized (now bytes) (now rows) × (sizeOf (nodesOf (now bytes)) ≤ length (now target)) ⌝ }
+    ensures { λ _. ⌜ Put (now (target .entry)) (now (target .exit)) 0 (writtenOf (nodesOf (now (bytes .entry)))) ⌝ }
+{
+    let n = node::count(bytes, rows);
+    let mut at: usize = 0;
+    let mut i = 0;
+    while i < n {
+        at = put_node(bytes, rows, target, i, at);
+        i += 1;
+    }
+}
+
+// ---- The call
+
+// What the type of the bytes says of each; it costs nothing.
+fn known(bytes: &[u8])
+    ensures { λ _. ⌜ Bytes (now (bytes .entry)) ⌝ }
+{
+    if 0 < bytes.len() {
+        dataset::wide(bytes[0]);
+    }
+}
+
+// The answer of `write_anew`: the number of rows and of bytes; the number of bytes, code 21; code and offset; code 7; code 8.
+pub enum AnewAnswer {
+    Done(usize, usize),
+    NoTarget(usize),
+    Refused(usize, usize),
+    TooLarge,
+    NoRoom,
+}
+
+// Reads the data set, and writes it anew with defined lengths into the target.
+pub fn write_anew(bytes: &[u8], rows: &mut [u32], target: &mut [u8]) -> AnewAnswer
+    ensures { λ r. ⌜ r ≡ anewOf (now (bytes .entry)) (now (rows .entry)) (now (target .entry)) ⌝ }
+    ensures { λ _. ⌜ now (rows .exit) ≡ bufferOf (readingOf (now (bytes .entry))) (now (rows .entry)) ⌝ }
+    ensures { λ _. ⌜ now (target .exit) ≡ targetOf (now (bytes .entry)) (now (rows .entry)) (now (target .entry)) ⌝ }
+{
+    known(bytes);
+    match dataset::read(bytes, rows) {
+        ReadAnswer::TooLarge => AnewAnswer::TooLarge,
+        ReadAnswer::Refused(code, offset) => AnewAnswer::Refused(code, offset),
+        ReadAnswer::NoRoom => AnewAnswer::NoRoom,
+        ReadAnswer::Done(n) => {
+            let end = dataset::WIDTH * n;
+            let table = &rows[..end];
+            let size = span(bytes, table, 0, n);
+            if size <= target.len() {
+                put_nodes(bytes, table, target);
+                AnewAnswer::Done(n, size)
+            } else {
+                AnewAnswer::NoTarget(size)
+            }
+        }
+    }
+}

@@ -1,0 +1,1 @@
+// Judging and drawing before and after writing anew: see proofs/.
