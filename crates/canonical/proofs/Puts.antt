@@ -11,7 +11,7 @@ use lib.Seq.{sets, drop-cons}
 use lib.Dec.{eqb}
 use Rattle.dataset.specs.Vr.{formOf}
 use Rattle.dataset.proofs.Buffer.{sets-append}
-use Rattle.canonical.specs.Put.{Put}
+use Rattle.canonical.specs.Contracts.{Put}
 use Rattle.canonical.specs.Written.{le, letters, lengthOf, header, headSize}
 
 -- ---- A value, byte by byte: what is left to put, put, comes to the whole

@@ -18,8 +18,7 @@ use Rattle.dataset.specs.Reading.{Row, row, Run, done, refused, onHead, onRun, 
 use Rattle.dataset.specs.Tree.{Kind, elements, items, rowsOf}
 use Rattle.dataset.proofs.Level.{value-plain}
 use Rattle.node.specs.Nodes.{Node, nodeOf, nodesOf, holdsNodes}
-use Rattle.canonical.specs.Put.{Bytes}
-use Rattle.canonical.specs.Written.{header, headSize}
+use Rattle.canonical.specs.Written.{Bytes, header, headSize}
 use Rattle.canonical.proofs.Back.{value-sq}
 use Rattle.canonical.proofs.Shape.{Tag, Leaf, Shape, none, leaf, sequence, item, node, Form, no, short, long, form, vr-not-0, length-header, head-short, head-long, sq-long, item-short}
 

@@ -14,8 +14,7 @@ use Rattle.dataset.specs.Vr.{formOf, listed, SQ}
 use Rattle.dataset.specs.Header.{itemTag}
 use Rattle.dataset.specs.Tree.{Kind, elements, items}
 use Rattle.node.specs.Nodes.{Node}
-use Rattle.canonical.specs.Put.{Bytes}
-use Rattle.canonical.specs.Written.{le, letters, lengthOf, header, headSize, ownSize, sizeOf, nodeBytes, writtenOf}
+use Rattle.canonical.specs.Written.{Bytes, le, letters, lengthOf, header, headSize, ownSize, sizeOf, nodeBytes, writtenOf}
 
 -- A tag of 32 bits that is no item's and no end mark's.
 pub record Tag (tag : ℕ) : Type 0 where

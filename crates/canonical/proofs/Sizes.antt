@@ -8,7 +8,7 @@ use lib.ListN.{length, getD, take, drop, drop-of-length-le, length-append}
 use lib.Seq.{sets, slice, slice-cons, slice-empty, drop-cons, take-length, take-nil}
 use Rattle.dataset.proofs.Buffer.{sets-append}
 use Rattle.node.specs.Nodes.{Node, nodeAt, noNode}
-use Rattle.canonical.specs.Put.{Put}
+use Rattle.canonical.specs.Contracts.{Put}
 use Rattle.canonical.specs.Written.{header, headSize, ownSize, sizeOf, nodeBytes, writtenOf}
 use Rattle.canonical.proofs.Shape.{length-header}
 use Rattle.canonical.proofs.Puts.{put-then}

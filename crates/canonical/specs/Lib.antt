@@ -1,3 +1,3 @@
 pub mod Written
-pub mod Put
-pub mod Anew
+pub mod Contracts
+pub mod Answer

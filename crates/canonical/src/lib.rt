@@ -1,5 +1,5 @@
-// A data set written anew with defined lengths throughout and no end marks. specs/ says what is written; `write_anew`, at
-// the end, is the public call.
+// The canonical form of a data set: defined lengths throughout and no end marks. specs/Written.antt says what is written; `write_canonical`,
+// at the end, is the public call.
 ghost use mathlib.Core.Path.{_≡_};
 ghost use mathlib.Core.List.{_++_};
 ghost use Prim.Native.Nat.{_+_, _-_, _≤_, _<_};
@@ -9,9 +9,9 @@ ghost use Rattle.dataset.specs.Reading.{readingOf};
 ghost use Rattle.dataset.specs.Answer.{bufferOf};
 ghost use Rattle.node.specs.Nodes.{Node, nodesOf, nodeAt};
 ghost use Rattle.node.specs.Table.{Table};
-ghost use Rattle.canonical.specs.Put.{Put, Bytes, Sized};
-ghost use Rattle.canonical.specs.Anew.{anewOf, targetOf};
-ghost use Rattle.canonical.specs.Written.{le, letters, lengthOf, header, headSize, ownSize, sizeOf, nodeBytes, writtenOf};
+ghost use Rattle.canonical.specs.Contracts.{Put, Sized};
+ghost use Rattle.canonical.specs.Answer.{canonicalOf, targetOf};
+ghost use Rattle.canonical.specs.Written.{Bytes, le, letters, lengthOf, header, headSize, ownSize, sizeOf, nodeBytes, writtenOf};
 use dataset::ReadAnswer;
 
 // ---- Bytes into the target
@@ -145,8 +145,8 @@ fn put_nodes(bytes: &[u8], rows: &[u32], target: &mut [u8])
 
 // ---- The call
 
-// What the type of the bytes says of each; it costs nothing.
-fn known(bytes: &[u8])
+// Each byte is below 256, which is known where one is read.
+fn byte_bounds(bytes: &[u8])
     ensures { λ _. ⌜ Bytes (now (bytes .entry)) ⌝ }
 {
     if 0 < bytes.len() {
@@ -154,35 +154,36 @@ fn known(bytes: &[u8])
     }
 }
 
-// The answer of `write_anew`: the number of rows and of bytes; the number of bytes, code 21; code and offset; code 7; code 8.
-pub enum AnewAnswer {
+// The answer of `write_canonical`: the number of rows and of bytes written; the number of bytes that are to be written, code 21; code and
+// offset; code 7; code 8.
+pub enum CanonicalAnswer {
     Done(usize, usize),
-    NoTarget(usize),
+    NoTargetRoom(usize),
     Refused(usize, usize),
     TooLarge,
     NoRoom,
 }
 
-// Reads the data set, and writes it anew with defined lengths into the target.
-pub fn write_anew(bytes: &[u8], rows: &mut [u32], target: &mut [u8]) -> AnewAnswer
-    ensures { λ r. ⌜ r ≡ anewOf (now (bytes .entry)) (now (rows .entry)) (now (target .entry)) ⌝ }
+// Reads the data set into the row buffer, and writes its canonical form into the target.
+pub fn write_canonical(bytes: &[u8], rows: &mut [u32], target: &mut [u8]) -> CanonicalAnswer
+    ensures { λ r. ⌜ r ≡ canonicalOf (now (bytes .entry)) (now (rows .entry)) (now (target .entry)) ⌝ }
     ensures { λ _. ⌜ now (rows .exit) ≡ bufferOf (readingOf (now (bytes .entry))) (now (rows .entry)) ⌝ }
     ensures { λ _. ⌜ now (target .exit) ≡ targetOf (now (bytes .entry)) (now (rows .entry)) (now (target .entry)) ⌝ }
 {
-    known(bytes);
+    byte_bounds(bytes);
     match dataset::read(bytes, rows) {
-        ReadAnswer::TooLarge => AnewAnswer::TooLarge,
-        ReadAnswer::Refused(code, offset) => AnewAnswer::Refused(code, offset),
-        ReadAnswer::NoRoom => AnewAnswer::NoRoom,
+        ReadAnswer::TooLarge => CanonicalAnswer::TooLarge,
+        ReadAnswer::Refused(code, offset) => CanonicalAnswer::Refused(code, offset),
+        ReadAnswer::NoRoom => CanonicalAnswer::NoRoom,
         ReadAnswer::Done(n) => {
             let end = dataset::WIDTH * n;
             let table = &rows[..end];
             let size = span(bytes, table, 0, n);
             if size <= target.len() {
                 put_nodes(bytes, table, target);
-                AnewAnswer::Done(n, size)
+                CanonicalAnswer::Done(n, size)
             } else {
-                AnewAnswer::NoTarget(size)
+                CanonicalAnswer::NoTargetRoom(size)
             }
         }
     }

@@ -2,21 +2,21 @@ use mathlib.Core.Path.{_≡_, refl, sym, ap, _∙_}
 use Prim.Native.Nat.{ℕ, _*_}
 use native.Mathlib.Omega.{arith}
 use lib.Seq.{length-take-le}
-use Rattle.canonical.specs.Anew.{anewOf, targetOf}
-use Rattle.canonical.proofs.Answers.{after-reading, size-all, answers-done, answers-short, done-target, short-target}
+use Rattle.canonical.specs.Answer.{canonicalOf, targetOf}
+use Rattle.canonical.proofs.Answers.{ready, size-all, answers-done, answers-short, done-target, short-target}
 use borrow.Author.Needs.{needs}
-use Rattle.canonical.proofs.write_anew.Statement.{statement}
-use Rattle.canonical.proofs.write_anew.Tie as tie
-use Rattle.canonical.proofs.write_anew.Reads as reads
-use Rattle.canonical.proofs.write_anew.Lts as lts
-use Rattle.canonical.proofs.known.Reads as known-reads
+use Rattle.canonical.proofs.write_canonical.Statement.{statement}
+use Rattle.canonical.proofs.write_canonical.Tie as tie
+use Rattle.canonical.proofs.write_canonical.Reads as reads
+use Rattle.canonical.proofs.write_canonical.Lts as lts
+use Rattle.canonical.proofs.byte_bounds.Reads as byte-bounds-reads
 use Rattle.canonical.proofs.put_nodes.Reads as put-nodes-reads
 use Rattle.canonical.proofs.span.Reads as span-reads
 use Rattle.dataset.proofs.read.Reads as read-reads
 
 -- src/lib.rt:172:5
-known-requires : tie.Need-known-requires
-known-requires c κs = search needs
+byte-bounds-requires : tie.Need-byte-bounds-requires
+byte-bounds-requires c κs = search needs
 
 -- src/lib.rt:173:11
 read-requires : tie.Need-read-requires
@@ -41,30 +41,30 @@ enum-known-n c = search needs
 -- src/lib.rt:178:23
 mul-end : tie.Need-mul-end
 mul-end c =
-    let r = after-reading (c .before .before .before .before .before .before .before .before .before .before .before .args .bytes .now) (c .before .before .before .before .before .before .before .before .before .before .before .args .rows .now) (c .before .before .before .before .before .read .last .1 .0) (c .before .n .given .0 .0) (c .before .before .before .before .before .before .before .known .ensures) (sym (c .before .n .given .1) ∙ c .before .before .before .before .before .read .ensures .0) (c .before .before .before .before .before .read .ensures .1) in
+    let r = ready (c .before .before .before .before .before .before .before .before .before .before .before .args .bytes .now) (c .before .before .before .before .before .before .before .before .before .before .before .args .rows .now) (c .before .before .before .before .before .read .last .1 .0) (c .before .n .given .0 .0) (c .before .before .before .before .before .before .before .byte-bounds .ensures) (sym (c .before .n .given .1) ∙ c .before .before .before .before .before .read .ensures .0) (c .before .before .before .before .before .read .ensures .1) in
     omega (arith, r .count, r .sized .table .few)
 
 -- src/lib.rt:179:25
 slice-reshare-prefix-table : tie.Need-slice-reshare-prefix-table
 slice-reshare-prefix-table c =
-    after-reading (c .before .before .before .before .before .before .before .before .before .before .before .args .bytes .now) (c .before .before .before .before .before .before .before .before .before .before .before .args .rows .now) (c .before .before .before .before .before .read .last .1 .0) (c .before .n .given .0 .0) (c .before .before .before .before .before .before .before .known .ensures) (sym (c .before .n .given .1) ∙ c .before .before .before .before .before .read .ensures .0) (c .before .before .before .before .before .read .ensures .1) .room
+    ready (c .before .before .before .before .before .before .before .before .before .before .before .args .bytes .now) (c .before .before .before .before .before .before .before .before .before .before .before .args .rows .now) (c .before .before .before .before .before .read .last .1 .0) (c .before .n .given .0 .0) (c .before .before .before .before .before .before .before .byte-bounds .ensures) (sym (c .before .n .given .1) ∙ c .before .before .before .before .before .read .ensures .0) (c .before .before .before .before .before .read .ensures .1) .room
 
 -- src/lib.rt:179:17
 slice-aggregate-table : tie.Need-slice-aggregate-table
 slice-aggregate-table c =
-    let r = after-reading (c .before .before .before .before .before .before .before .before .before .before .before .before .args .bytes .now) (c .before .before .before .before .before .before .before .before .before .before .before .before .args .rows .now) (c .before .before .before .before .before .before .read .last .1 .0) (c .before .before .n .given .0 .0) (c .before .before .before .before .before .before .before .before .known .ensures) (sym (c .before .before .n .given .1) ∙ c .before .before .before .before .before .before .read .ensures .0) (c .before .before .before .before .before .before .read .ensures .1) in
+    let r = ready (c .before .before .before .before .before .before .before .before .before .before .before .before .args .bytes .now) (c .before .before .before .before .before .before .before .before .before .before .before .before .args .rows .now) (c .before .before .before .before .before .before .read .last .1 .0) (c .before .before .n .given .0 .0) (c .before .before .before .before .before .before .before .before .byte-bounds .ensures) (sym (c .before .before .n .given .1) ∙ c .before .before .before .before .before .before .read .ensures .0) (c .before .before .before .before .before .before .read .ensures .1) in
     sym (length-take-le (7 * c .before .before .n .given .0 .0) (c .before .before .before .before .before .before .read .last .1 .0) (r .room))
 
 -- src/lib.rt:180:17
 span-requires : tie.Need-span-requires
 span-requires c κs =
-    let r = after-reading (c .before .before .before .before .before .before .before .before .before .before .before .before .args .bytes .now) (c .before .before .before .before .before .before .before .before .before .before .before .before .args .rows .now) (c .before .before .before .before .before .before .read .last .1 .0) (c .before .before .n .given .0 .0) (c .before .before .before .before .before .before .before .before .known .ensures) (sym (c .before .before .n .given .1) ∙ c .before .before .before .before .before .before .read .ensures .0) (c .before .before .before .before .before .before .read .ensures .1) in
+    let r = ready (c .before .before .before .before .before .before .before .before .before .before .before .before .args .bytes .now) (c .before .before .before .before .before .before .before .before .before .before .before .before .args .rows .now) (c .before .before .before .before .before .before .read .last .1 .0) (c .before .before .n .given .0 .0) (c .before .before .before .before .before .before .before .before .byte-bounds .ensures) (sym (c .before .before .n .given .1) ∙ c .before .before .before .before .before .before .read .ensures .0) (c .before .before .before .before .before .before .read .ensures .1) in
     (r .sized, (omega arith, omega (arith, r .count)))
 
 -- src/lib.rt:182:17
 put-nodes-requires : tie.Need-put-nodes-requires
 put-nodes-requires c κs =
-    let r = after-reading (c .before .before .before .before .before .before .before .before .before .before .before .before .before .before .before .args .bytes .now) (c .before .before .before .before .before .before .before .before .before .before .before .before .before .before .before .args .rows .now) (c .before .before .before .before .before .before .before .before .before .read .last .1 .0) (c .before .before .before .before .before .n .given .0 .0) (c .before .before .before .before .before .before .before .before .before .before .before .known .ensures) (sym (c .before .before .before .before .before .n .given .1) ∙ c .before .before .before .before .before .before .before .before .before .read .ensures .0) (c .before .before .before .before .before .before .before .before .before .read .ensures .1) in
+    let r = ready (c .before .before .before .before .before .before .before .before .before .before .before .before .before .before .before .args .bytes .now) (c .before .before .before .before .before .before .before .before .before .before .before .before .before .before .before .args .rows .now) (c .before .before .before .before .before .before .before .before .before .read .last .1 .0) (c .before .before .before .before .before .n .given .0 .0) (c .before .before .before .before .before .before .before .before .before .before .before .byte-bounds .ensures) (sym (c .before .before .before .before .before .n .given .1) ∙ c .before .before .before .before .before .before .before .before .before .read .ensures .0) (c .before .before .before .before .before .before .before .before .before .read .ensures .1) in
     (r .sized, omega (arith, size-all (c .before .before .before .before .before .before .before .before .before .before .before .before .before .before .before .args .bytes .now) (c .before .before .span .ensures .0) (r .count)))
 
 -- src/lib.rt:167:1
@@ -73,7 +73,7 @@ same-length c = search needs
 
 -- src/lib.rt:167:1
 returns : tie.Need-returns
-unfolding anewOf targetOf
+unfolding canonicalOf targetOf
 returns c =
     (rw (← c .before .before .before .before .read .ensures .0, c .enum-told .given .1), (c .before .before .before .before .read .ensures .1, rw (← c .before .before .before .before .read .ensures .0, c .enum-told .given .1)))
 
@@ -83,7 +83,7 @@ same-length-2 c = search needs
 
 -- src/lib.rt:167:1
 returns-2 : tie.Need-returns-2
-unfolding anewOf targetOf
+unfolding canonicalOf targetOf
 returns-2 c =
     (rw (← c .before .before .before .before .before .read .ensures .0, c .before .code .given .1), (c .before .before .before .before .before .read .ensures .1, rw (← c .before .before .before .before .before .read .ensures .0, c .before .code .given .1)))
 
@@ -93,7 +93,7 @@ same-length-3 c = search needs
 
 -- src/lib.rt:167:1
 returns-3 : tie.Need-returns-3
-unfolding anewOf targetOf
+unfolding canonicalOf targetOf
 returns-3 c =
     (rw (← c .before .before .before .before .read .ensures .0, c .enum-told2 .given .1), (c .before .before .before .before .read .ensures .1, rw (← c .before .before .before .before .read .ensures .0, c .enum-told2 .given .1)))
 
@@ -109,7 +109,7 @@ same-length-5 c = search needs
 returns-4 : tie.Need-returns-4
 returns-4 c =
     let e = sym (c .before .before .before .before .before .before .before .before .n .given .1) ∙ c .before .before .before .before .before .before .before .before .before .before .before .before .read .ensures .0 in
-    let r = after-reading (c .before .before .before .before .before .before .before .before .before .before .before .before .before .before .before .before .before .before .args .bytes .now) (c .before .before .before .before .before .before .before .before .before .before .before .before .before .before .before .before .before .before .args .rows .now) (c .before .before .before .before .before .before .before .before .before .before .before .before .read .last .1 .0) (c .before .before .before .before .before .before .before .before .n .given .0 .0) (c .before .before .before .before .before .before .before .before .before .before .before .before .before .before .known .ensures) e (c .before .before .before .before .before .before .before .before .before .before .before .before .read .ensures .1) in (
+    let r = ready (c .before .before .before .before .before .before .before .before .before .before .before .before .before .before .before .before .before .before .args .bytes .now) (c .before .before .before .before .before .before .before .before .before .before .before .before .before .before .before .before .before .before .args .rows .now) (c .before .before .before .before .before .before .before .before .before .before .before .before .read .last .1 .0) (c .before .before .before .before .before .before .before .before .n .given .0 .0) (c .before .before .before .before .before .before .before .before .before .before .before .before .before .before .byte-bounds .ensures) e (c .before .before .before .before .before .before .before .before .before .before .before .before .read .ensures .1) in (
       answers-done (c .before .before .before .before .before .before .before .before .before .before .before .before .before .before .before .before .before .before .args .bytes .now) (c .before .before .before .before .before .before .before .before .before .before .before .before .before .before .before .before .before .before .args .rows .now) (c .before .before .before .before .before .before .before .before .before .before .before .before .before .before .before .before .before .before .args .target .now) (c .before .before .before .before .before .before .before .before .n .given .0 .0) (c .before .before .before .before .before .span .result) e (c .before .before .before .before .before .span .ensures .0) (r .count) (c .before .before .before .before .if1 .taken),
       (
         c .before .before .before .before .before .before .before .before .before .before .before .before .read .ensures .1,
@@ -125,15 +125,15 @@ same-length-6 c = search needs
 returns-5 : tie.Need-returns-5
 returns-5 c =
     let e = sym (c .before .before .before .before .n .given .1) ∙ c .before .before .before .before .before .before .before .before .read .ensures .0 in
-    let r = after-reading (c .before .before .before .before .before .before .before .before .before .before .before .before .before .before .args .bytes .now) (c .before .before .before .before .before .before .before .before .before .before .before .before .before .before .args .rows .now) (c .before .before .before .before .before .before .before .before .read .last .1 .0) (c .before .before .before .before .n .given .0 .0) (c .before .before .before .before .before .before .before .before .before .before .known .ensures) e (c .before .before .before .before .before .before .before .before .read .ensures .1) in
+    let r = ready (c .before .before .before .before .before .before .before .before .before .before .before .before .before .before .args .bytes .now) (c .before .before .before .before .before .before .before .before .before .before .before .before .before .before .args .rows .now) (c .before .before .before .before .before .before .before .before .read .last .1 .0) (c .before .before .before .before .n .given .0 .0) (c .before .before .before .before .before .before .before .before .before .before .byte-bounds .ensures) e (c .before .before .before .before .before .before .before .before .read .ensures .1) in
     let a = answers-short (c .before .before .before .before .before .before .before .before .before .before .before .before .before .before .args .bytes .now) (c .before .before .before .before .before .before .before .before .before .before .before .before .before .before .args .rows .now) (c .before .before .before .before .before .before .before .before .before .before .before .before .before .before .args .target .now) (c .before .before .before .before .n .given .0 .0) (c .before .span .result) e (c .before .span .ensures .0) (r .count) (omega arith) in
     (a, (c .before .before .before .before .before .before .before .before .read .ensures .1, short-target (c .before .before .before .before .before .before .before .before .before .before .before .before .before .before .args .bytes .now) (c .before .before .before .before .before .before .before .before .before .before .before .before .before .before .args .rows .now) (c .before .before .before .before .before .before .before .before .before .before .before .before .before .before .args .target .now) (c .before .span .result) a))
 
-pub write-anew-spec : {M : Type 1} → statement M
-write-anew-spec =
+pub write-canonical-spec : {M : Type 1} → statement M
+write-canonical-spec =
     tie.close
     (tie.spec
-    known-requires
+    byte-bounds-requires
     read-requires
     enum-told
     enum-known-code

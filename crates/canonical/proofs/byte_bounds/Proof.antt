@@ -1,10 +1,10 @@
 use native.Mathlib.Omega.{arith}
 use lib.ListN.{getD, List·getD-eq-default}
 use borrow.Author.Needs.{needs}
-use Rattle.canonical.proofs.known.Statement.{statement}
-use Rattle.canonical.proofs.known.Tie as tie
-use Rattle.canonical.proofs.known.Reads as reads
-use Rattle.canonical.proofs.known.Lts as lts
+use Rattle.canonical.proofs.byte_bounds.Statement.{statement}
+use Rattle.canonical.proofs.byte_bounds.Tie as tie
+use Rattle.canonical.proofs.byte_bounds.Reads as reads
+use Rattle.canonical.proofs.byte_bounds.Lts as lts
 use Rattle.dataset.proofs.wide.Reads as wide-reads
 
 -- src/lib.rt:153:23
@@ -25,5 +25,5 @@ returns-2 : tie.Need-returns-2
 returns-2 c =
     λ k. omega (arith, c .before .shared-slice-known .given k)
 
-pub known-spec : {M : Type 1} → statement M
-known-spec = tie.close (tie.spec shared-slice-read-wide wide-requires returns returns-2)
+pub byte-bounds-spec : {M : Type 1} → statement M
+byte-bounds-spec = tie.close (tie.spec shared-slice-read-wide wide-requires returns returns-2)
