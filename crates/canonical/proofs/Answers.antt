@@ -23,14 +23,25 @@ use Rattle.canonical.proofs.Sizes.{slice-all, length-written}
 
 -- ---- The row table
 
-pub nodes-small : (s : List ℕ) → Bytes s → sizeOf (nodesOf s) ≤ 1073741824
+record Few (s : List ℕ) (size : ℕ) : Type 0 where
+  fits : size ≤ length s
+  small : size ≤ 1073741824
+
+nodes-few : (s : List ℕ) → Bytes s → Few s (sizeOf (nodesOf s))
 unfolding nodesOf rowsOf sizeOf
-nodes-small s bytes = go (readingOf s) (reading-shape s bytes)
+nodes-few s bytes = go (readingOf s) (reading-shape s bytes)
   where
-    go : (o : Reading) → Readable s bytes o → sizeOf (map (nodeOf s) (rowsIn o)) ≤ 1073741824
-    go tooLarge r = omega arith
-    go (refusedAt code offset) r = omega arith
-    go (read rows) r = omega (arith, shape-size (r .shape), r .fits, r .small)
+    go : (o : Reading) → Readable s bytes o → Few s (sizeOf (map (nodeOf s) (rowsIn o)))
+    go tooLarge r = record { fits = omega arith; small = omega arith }
+    go (refusedAt code offset) r = record { fits = omega arith; small = omega arith }
+    go (read rows) r = record { fits = omega (arith, shape-size (r .shape), r .fits); small = omega (arith, shape-size (r .shape), r .fits, r .small) }
+
+-- The canonical form is no longer than the data set.
+pub form-fits : (s : List ℕ) → Bytes s → length (writtenOf (nodesOf s)) ≤ length s
+form-fits s bytes = omega (arith, length-written (nodesOf s), nodes-few s bytes .fits)
+
+pub form-small : (s : List ℕ) → Bytes s → length (writtenOf (nodesOf s)) ≤ 1073741824
+form-small s bytes = omega (arith, length-written (nodesOf s), nodes-few s bytes .small)
 
 -- What holds once reading has answered with n rows.
 pub record Ready (s buffer : List ℕ) (n : ℕ) : Type 0 where
@@ -41,7 +52,7 @@ pub record Ready (s buffer : List ℕ) (n : ℕ) : Type 0 where
 pub ready : (s before buffer : List ℕ) (n : ℕ) → Bytes s → answer.Done n ≡ answerOf (readingOf s) before → buffer ≡ bufferOf (readingOf s) before → Ready s buffer n
 ready s before buffer n bytes e f =
     let t = after-reading s before buffer n e f in
-    record { room = t .0; sized = record { table = t .1; small = nodes-small s bytes }; count = nodes-read s before buffer n e f }
+    record { room = t .0; sized = record { table = t .1; small = nodes-few s bytes .small }; count = nodes-read s before buffer n e f }
 
 -- ---- The answer and the target
 

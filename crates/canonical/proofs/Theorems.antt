@@ -14,15 +14,14 @@ use Rattle.dataset.specs.declared.ReadAnswer.{ReadAnswer}
 use Rattle.dataset.specs.declared.ReadAnswer.the-variants as answer
 use Rattle.dataset.proofs.Laws.{Small, answer-small}
 use Rattle.node.specs.Nodes.{nodeOf, nodesOf}
-use Rattle.canonical.specs.Written.{Bytes, sizeOf, writtenOf}
+use Rattle.canonical.specs.Written.{Bytes, writtenOf}
 use Rattle.canonical.specs.declared.CanonicalAnswer.{CanonicalAnswer}
 use Rattle.canonical.specs.declared.CanonicalAnswer.the-variants as canonical
 use Rattle.canonical.specs.Answer.{answerFor, canonicalOf, codeOf, offsetOf, rowCountOf, sizeNamed}
 use Rattle.canonical.proofs.Shape.{shape-is, shape-bytes}
 use Rattle.canonical.proofs.Back.{shape-back}
 use Rattle.canonical.proofs.Read.{Readable, reading-shape}
-use Rattle.canonical.proofs.Sizes.{length-written}
-use Rattle.canonical.proofs.Answers.{nodes-small}
+use Rattle.canonical.proofs.Answers.{form-small}
 
 -- The canonical form w of a data set s that reads well: it reads well, has the same nodes, and is no longer.
 pub record Returns (s w : List ℕ) : Type 0 where
@@ -55,7 +54,7 @@ pub record SmallAnswer (a : CanonicalAnswer) : Type 0 where
 pub canonical-small : (s rows target : List ℕ) → Bytes s → SmallAnswer (canonicalOf s rows target)
 unfolding canonicalOf
 canonical-small s rows target bytes =
-    go (answerOf (readingOf s) rows) (answer-small s rows) (omega (arith, length-written (nodesOf s), nodes-small s bytes))
+    go (answerOf (readingOf s) rows) (answer-small s rows) (form-small s bytes)
   where
     by-room : (n size : ℕ) → n ≤ 134217728 → size ≤ 1073741824 → (t : Bool) → SmallAnswer (cond t (canonical.Done n size) (canonical.NoTargetRoom size))
     by-room n size h k true = record { code = omega arith; offset = omega arith; rows = h; length = k }

@@ -145,8 +145,8 @@ fn put_nodes(bytes: &[u8], rows: &[u32], target: &mut [u8])
 
 // ---- The call
 
-// Each byte is below 256, which is known where one is read.
-fn byte_bounds(bytes: &[u8])
+// Each byte is below 256: known where one is read, and so stated here for callers that read none.
+pub fn byte_bounds(bytes: &[u8])
     ensures { λ _. ⌜ Bytes (now (bytes .entry)) ⌝ }
 {
     if 0 < bytes.len() {

@@ -1,1 +1,1 @@
-// Judging and drawing before and after writing anew: see proofs/.
+// The claims about the canonical form, among them that judging and drawing are the same before and after it: specs/Canonical.antt.
