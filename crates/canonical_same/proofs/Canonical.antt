@@ -133,7 +133,7 @@ parents-same s t a i h =
 -- ---- The answers
 
 module _ (s rows target : List ℕ) where
-  w : List ℕ
+  abbrev w : List ℕ
   w = canonicalForm s
 
   refused-as : (a : ReadAnswer) → (reading.codeOf a ≡ 0 → ⊥)
