@@ -2,24 +2,28 @@
 use mathlib.Core.Path.{_≡_, sym, ap, _∙_}
 use Prim.Native.Nat.{ℕ, _+_, _*_, _≤_, _<_}
 use native.Mathlib.Omega.{arith}
+use mathlib.Core.Bool.{true, false}
 use native.Mathlib.Nat.{zero-add}
-use borrow.Author.Tests.{le-leb, lt-leb}
+use borrow.Author.Tests.{le-leb, lt-leb, ltb-true, ltb-false}
 use mathlib.Core.List.{List, _++_, map}
 use lib.ListN.{length, take, drop}
 use lib.Seq.{sets-eq, slice}
+use lib.Dec.{ltb}
 use Rattle.dataset.specs.declared.ReadAnswer.the-variants as answer
 use Rattle.dataset.specs.Reading.{Reading, tooLarge, refusedAt, read, readingOf}
 use Rattle.dataset.specs.Answer.{answerOf, bufferOf}
 use Rattle.dataset.specs.Tree.{rowsIn, rowsOf}
 use Rattle.node.specs.Nodes.{nodeOf, nodesOf}
+use Rattle.node.proofs.Laws.{next-within}
 use Rattle.node.proofs.After.{after-reading, nodes-read}
 use Rattle.canonical.specs.declared.CanonicalAnswer.the-variants as canonical
-use Rattle.canonical.specs.Contracts.{Put, Sized}
+use Rattle.canonical.specs.Contracts.{Sized, Fitting, Wrote}
 use Rattle.canonical.specs.Written.{Bytes, sizeOf, writtenOf}
 use Rattle.canonical.specs.Answer.{canonicalOf, targetOf}
 use Rattle.canonical.proofs.Shape.{shape-size}
 use Rattle.canonical.proofs.Read.{Readable, reading-shape}
 use Rattle.canonical.proofs.Sizes.{slice-all, length-written}
+use Rattle.canonical.proofs.Members.{wrote-all}
 
 -- ---- The row table
 
@@ -52,33 +56,35 @@ pub record Ready (s buffer : List ℕ) (n : ℕ) : Type 0 where
 pub ready : (s before buffer : List ℕ) (n : ℕ) → Bytes s → answer.Done n ≡ answerOf (readingOf s) before → buffer ≡ bufferOf (readingOf s) before → Ready s buffer n
 ready s before buffer n bytes e f =
     let t = after-reading s before buffer n e f in
-    record { room = t .0; sized = record { table = t .1; small = nodes-few s bytes .small }; count = nodes-read s before buffer n e f }
+    record { room = t .0; sized = record { table = t .1; fits = nodes-few s bytes .fits; small = nodes-few s bytes .small }; count = nodes-read s before buffer n e f }
 
 -- ---- The answer and the target
 
-pub size-all : (s : List ℕ) {n size : ℕ} → size ≡ sizeOf (slice 0 n (nodesOf s)) → n ≡ length (nodesOf s) → size ≡ sizeOf (nodesOf s)
-size-all s {n} {size} k c = k ∙ ap sizeOf (slice-all (nodesOf s) n c)
+pub fitting-all : (s target : List ℕ) {buffer : List ℕ} {n : ℕ} → Ready s buffer n → ltb (length target) (sizeOf (nodesOf s)) ≡ false → Fitting (nodesOf s) target 0 n 0
+fitting-all s target {buffer} {n} r h =
+    record {
+      low = omega arith;
+      high = omega (arith, r .count);
+      whole = λ k l m. omega (arith, r .count, next-within s (take (7 * n) buffer) (r .sized .table) k (omega (arith, r .count)));
+      room = omega (arith, ltb-false (length target) (sizeOf (nodesOf s)) h);
+    }
 
-module _ (s before target : List ℕ) where
-  module _ (n size : ℕ) (e : answer.Done n ≡ answerOf (readingOf s) before) (k : size ≡ sizeOf (slice 0 n (nodesOf s))) (c : n ≡ length (nodesOf s)) where
-    size-is : size ≡ length (writtenOf (nodesOf s))
-    size-is = size-all s k c ∙ sym (length-written (nodesOf s))
+module _ (s before target : List ℕ) (n : ℕ) (e : answer.Done n ≡ answerOf (readingOf s) before) (c : n ≡ length (nodesOf s)) where
+  pub short-answer : (size : ℕ) → size ≡ sizeOf (slice 0 n (nodesOf s)) → ltb (length target) (sizeOf (nodesOf s)) ≡ true
+      → (canonical.NoTargetRoom size ≡ canonicalOf s before target) × (target ≡ targetOf s before target)
+  unfolding canonicalOf targetOf
+  short-answer size k h =
+      let q : size ≡ length (writtenOf (nodesOf s)) = k ∙ ap sizeOf (slice-all (nodesOf s) n c) ∙ sym (length-written (nodesOf s)) in
+      let f = lt-leb (length (writtenOf (nodesOf s))) (length target) (omega (arith, length-written (nodesOf s), ltb-true (length target) (sizeOf (nodesOf s)) h)) in
+      (rw (← e, f, q), rw (← e, f))
 
-    pub answers-done : size ≤ length target → canonical.Done n size ≡ canonicalOf s before target
-    unfolding canonicalOf
-    answers-done h = rw (← e, le-leb (length (writtenOf (nodesOf s))) (length target) (omega (arith, size-is)), size-is)
-
-    pub answers-short : length target < size → canonical.NoTargetRoom size ≡ canonicalOf s before target
-    unfolding canonicalOf
-    answers-short h = rw (← e, lt-leb (length (writtenOf (nodesOf s))) (length target) (omega (arith, size-is)), size-is)
-
-    pub done-target : (after : List ℕ) → size ≤ length target → Put target after 0 (writtenOf (nodesOf s)) → after ≡ targetOf s before target
-    unfolding targetOf
-    done-target after h p =
-        rw (← answers-done h)
-        (p .is ∙ sets-eq (writtenOf (nodesOf s)) target 0 (omega (arith, size-is)) ∙ ap (λ (j : ℕ). writtenOf (nodesOf s) ++ drop j target) (zero-add (length (writtenOf (nodesOf s)))))
-
-  -- A refusal leaves the target.
-  pub short-target : (size : ℕ) → canonical.NoTargetRoom size ≡ canonicalOf s before target → target ≡ targetOf s before target
-  unfolding targetOf
-  short-target size e = rw (← e)
+  pub done-answer : (size : ℕ) (after : List ℕ) → Wrote (nodesOf s) target after 0 0 n size → ltb (length target) (sizeOf (nodesOf s)) ≡ false
+      → (canonical.Done n size ≡ canonicalOf s before target) × (after ≡ targetOf s before target)
+  unfolding canonicalOf targetOf
+  done-answer size after w h =
+      let o = wrote-all w c in
+      let q : size ≡ length (writtenOf (nodesOf s)) = o .0 ∙ sym (length-written (nodesOf s)) in
+      let l : length (writtenOf (nodesOf s)) ≤ length target = omega (arith, length-written (nodesOf s), ltb-false (length target) (sizeOf (nodesOf s)) h) in
+      let f = le-leb (length (writtenOf (nodesOf s))) (length target) l in
+      let z = sets-eq (writtenOf (nodesOf s)) target 0 (omega arith) ∙ ap (λ (j : ℕ). writtenOf (nodesOf s) ++ drop j target) (zero-add (length (writtenOf (nodesOf s)))) in
+      (rw (← e, f, q), rw (← e, f) (o .1 .is ∙ z))

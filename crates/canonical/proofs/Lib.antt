@@ -4,5 +4,6 @@ pub mod Read
 pub mod Theorems
 pub mod Puts
 pub mod Sizes
+pub mod Members
 pub mod Answers
 pub mod Sample

@@ -5,11 +5,12 @@ ghost use mathlib.Core.List.{_++_};
 ghost use Prim.Native.Nat.{_+_, _-_, _≤_, _<_};
 ghost use lib.ListN.{length, take, drop};
 ghost use lib.Seq.{slice};
+ghost use lib.Dec.{ltb};
 ghost use Rattle.dataset.specs.Reading.{readingOf};
 ghost use Rattle.dataset.specs.Answer.{bufferOf};
 ghost use Rattle.node.specs.Nodes.{Node, nodesOf, nodeAt};
 ghost use Rattle.node.specs.Table.{Table};
-ghost use Rattle.canonical.specs.Contracts.{Put, Sized};
+ghost use Rattle.canonical.specs.Contracts.{Put, Sized, Fitting, Wrote};
 ghost use Rattle.canonical.specs.Answer.{canonicalOf, targetOf};
 ghost use Rattle.canonical.specs.Written.{Bytes, le, letters, lengthOf, header, headSize, ownSize, sizeOf, nodeBytes, writtenOf};
 use dataset::ReadAnswer;
@@ -112,35 +113,49 @@ fn span(bytes: &[u8], rows: &[u32], from: usize, to: usize) -> usize
     sum
 }
 
-// ---- Nodes into the target
-
-// Writes node i, and answers where the next one goes.
-fn put_node(bytes: &[u8], rows: &[u32], target: &mut [u8], i: usize, at: usize) -> usize
-    requires { ⌜ Sized (now bytes) (now rows) × ((i < length (nodesOf (now bytes))) × (at + sizeOf (drop i (nodesOf (now bytes))) ≤ length (now target))) ⌝ }
-    ensures { λ r. ⌜ (r ≡ at + ownSize (nodeAt (nodesOf (now (bytes .entry))) i)) × Put (now (target .entry)) (now (target .exit)) at (nodeBytes (nodeAt (nodesOf (now (bytes .entry))) i) (drop (i + 1) (nodesOf (now (bytes .entry))))) ⌝ }
+// Whether a target of so many bytes is too short. The canonical form is never longer than the data set, so that its length is added up
+// only for a target that is shorter than the data set.
+fn lacks_room(bytes: &[u8], rows: &[u32], room: usize) -> bool
+    requires { ⌜ Sized (now bytes) (now rows) ⌝ }
+    ensures { λ r. ⌜ r ≡ ltb room (sizeOf (nodesOf (now (bytes .entry)))) ⌝ }
 {
-    let tag = node::tag(bytes, rows, i);
-    let vr = node::vr(bytes, rows, i);
-    let next = node::next(bytes, rows, i);
-    let inner = span(bytes, rows, i + 1, next);
-    let value = node::value(bytes, rows, i);
-    put_header(target, at, tag, vr, value.len() + inner);
-    let start = at + head_size(vr);
-    put_value(target, start, value);
-    start + value.len()
+    if bytes.len() <= room {
+        false
+    } else {
+        room < span(bytes, rows, 0, node::count(bytes, rows))
+    }
 }
 
-fn put_nodes(bytes: &[u8], rows: &[u32], target: &mut [u8])
-    requires { ⌜ Sized (now bytes) (now rows) × (sizeOf (nodesOf (now bytes)) ≤ length (now target)) ⌝ }
-    ensures { λ _. ⌜ Put (now (target .entry)) (now (target .exit)) 0 (writtenOf (nodesOf (now (bytes .entry)))) ⌝ }
+// ---- Nodes into the target
+
+// Writes the nodes from `from` up to `to`, and answers where the next one goes. What is below a node is written before its header, since its
+// length is then known: each node is written once, and gone down to at most 16 deep.
+fn put_members(
+    bytes: &[u8],
+    rows: &[u32],
+    target: &mut [u8],
+    from: usize,
+    to: usize,
+    start: usize,
+) -> usize
+    requires { ⌜ Sized (now bytes) (now rows) × Fitting (nodesOf (now bytes)) (now target) from to start ⌝ }
+    ensures { λ r. ⌜ Wrote (nodesOf (now (bytes .entry))) (now (target .entry)) (now (target .exit)) from start to r ⌝ }
 {
-    let n = node::count(bytes, rows);
-    let mut at: usize = 0;
-    let mut i = 0;
-    while i < n {
-        at = put_node(bytes, rows, target, i, at);
-        i += 1;
+    let mut i = from;
+    let mut at = start;
+    while i < to {
+        let tag = node::tag(bytes, rows, i);
+        let vr = node::vr(bytes, rows, i);
+        let next = node::next(bytes, rows, i);
+        let value = node::value(bytes, rows, i);
+        let inside = at + head_size(vr);
+        put_value(target, inside, value);
+        let end = put_members(bytes, rows, target, i + 1, next, inside + value.len());
+        put_header(target, at, tag, vr, end - inside);
+        at = end;
+        i = next;
     }
+    at
 }
 
 // ---- The call
@@ -178,12 +193,10 @@ pub fn write_canonical(bytes: &[u8], rows: &mut [u32], target: &mut [u8]) -> Can
         ReadAnswer::Done(n) => {
             let end = dataset::WIDTH * n;
             let table = &rows[..end];
-            let size = span(bytes, table, 0, n);
-            if size <= target.len() {
-                put_nodes(bytes, table, target);
-                CanonicalAnswer::Done(n, size)
+            if lacks_room(bytes, table, target.len()) {
+                CanonicalAnswer::NoTargetRoom(span(bytes, table, 0, n))
             } else {
-                CanonicalAnswer::NoTargetRoom(size)
+                CanonicalAnswer::Done(n, put_members(bytes, table, target, 0, n, 0))
             }
         }
     }
