@@ -1,34 +1,24 @@
--- Sizes of nodes, and nodes put one after another.
-use mathlib.Core.Path.{_≡_, refl, sym, ap, _∙_, subst}
-use Prim.Native.Nat.{ℕ, zero, suc, _+_, _-_, _≤_, _<_}
+-- Sizes of nodes: of parts of a list of them, and of the bytes that are written of them.
+use mathlib.Core.Path.{_≡_, refl, ap}
+use Prim.Native.Nat.{ℕ, zero, suc, _+_, _≤_, _<_}
 use native.Mathlib.Omega.{arith}
-use native.Mathlib.Nat.{zero-add}
-use mathlib.Core.List.{List, [], _∷_, _++_}
-use lib.ListN.{length, getD, take, drop, drop-of-length-le, length-append}
-use lib.Seq.{sets, slice, slice-cons, slice-empty, drop-cons, take-length, take-nil}
-use Rattle.dataset.proofs.Buffer.{sets-append}
+use mathlib.Core.List.{List, [], _∷_}
+use lib.ListN.{length, take, drop, length-append}
+use lib.Seq.{slice, slice-cons, slice-empty, drop-cons, take-length}
 use Rattle.node.specs.Nodes.{Node, nodeAt, noNode}
-use Rattle.canonical.specs.Contracts.{Put}
-use Rattle.canonical.specs.Written.{header, headSize, ownSize, sizeOf, nodeBytes, writtenOf}
+use Rattle.canonical.specs.Written.{headSize, ownSize, sizeOf, nodeBytes, writtenOf}
 use Rattle.canonical.proofs.Shape.{length-header}
-use Rattle.canonical.proofs.Puts.{put-then}
 
--- ---- Sizes
+-- ---- Parts
 
-size-take : (k : ℕ) (ns : List Node) → sizeOf (take k ns) ≤ sizeOf ns
+pub size-split : (k : ℕ) (ns : List Node) → sizeOf ns ≡ sizeOf (take k ns) + sizeOf (drop k ns)
 unfolding sizeOf
-size-take zero ns = omega arith
-size-take (suc k) [] = omega arith
-size-take (suc k) (n ∷ ns) = omega (arith, size-take k ns)
-
-size-drop : (k : ℕ) (ns : List Node) → sizeOf (drop k ns) ≤ sizeOf ns
-unfolding sizeOf
-size-drop zero ns = omega arith
-size-drop (suc k) [] = omega arith
-size-drop (suc k) (n ∷ ns) = omega (arith, size-drop k ns)
+size-split zero ns = omega arith
+size-split (suc k) [] = omega arith
+size-split (suc k) (n ∷ ns) = omega (arith, size-split k ns)
 
 pub size-slice : (f t : ℕ) (ns : List Node) → sizeOf (slice f t ns) ≤ sizeOf ns
-size-slice f t ns = omega (arith, size-drop f (take t ns), size-take t ns)
+size-slice f t ns = omega (arith, size-split f (take t ns), size-split t ns)
 
 pub size-next : (ns : List Node) (i : ℕ) → i < length ns → sizeOf (drop i ns) ≡ ownSize (nodeAt ns i) + sizeOf (drop (i + 1) ns)
 unfolding sizeOf
@@ -78,9 +68,3 @@ pub length-written : (ns : List Node) → length (writtenOf ns) ≡ sizeOf ns
 unfolding writtenOf sizeOf
 length-written [] = refl
 length-written (n ∷ ns) = rw (length-append (nodeBytes n ns) (writtenOf ns), length-node n ns, length-written ns)
-
-pub size-split : (k : ℕ) (ns : List Node) → sizeOf ns ≡ sizeOf (take k ns) + sizeOf (drop k ns)
-unfolding sizeOf
-size-split zero ns = omega arith
-size-split (suc k) [] = omega arith
-size-split (suc k) (n ∷ ns) = omega (arith, size-split k ns)
