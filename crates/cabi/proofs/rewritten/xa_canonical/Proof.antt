@@ -22,29 +22,29 @@ enum-known-n c = search needs
 
 cast-t16 : tie.Need-cast-t16
 cast-t16 c =
-    record { fits = omega (arith, canonical-narrow _ _ _ (c .before .before .before .before .before .before .before .before .before .byte-bounds .ensures) (c .before .before .before .before .before .before .before .write-canonical .ensures .0) (c .before .n .given .1) .rows) }
+    record { fits = omega (arith, canonical-narrow _ _ _ (c .before .before .before .before .before .before .before .before .before .before .byte-bounds .ensures) (c .before .before .before .before .before .before .before .write-canonical .ensures .0) (c .before .n .given .1) .rows) }
 
 cast-t17 : tie.Need-cast-t17
 cast-t17 c =
-    record { fits = omega (arith, canonical-narrow _ _ _ (c .before .before .before .before .before .before .before .before .before .byte-bounds .ensures) (c .before .before .before .before .before .before .before .write-canonical .ensures .0) (c .before .n .given .1) .length) }
+    record { fits = omega (arith, canonical-narrow _ _ _ (c .before .before .before .before .before .before .before .before .before .before .byte-bounds .ensures) (c .before .before .before .before .before .before .before .write-canonical .ensures .0) (c .before .n .given .1) .length) }
 
 enum-known-size : tie.Need-enum-known-size
 enum-known-size c = search needs
 
 cast-t18 : tie.Need-cast-t18
 cast-t18 c =
-    record { fits = omega (arith, canonical-narrow _ _ _ (c .before .before .before .before .before .before .before .before .before .byte-bounds .ensures) (c .before .before .before .before .before .before .before .write-canonical .ensures .0) (c .before .size .given .1) .length) }
+    record { fits = omega (arith, canonical-narrow _ _ _ (c .before .before .before .before .before .before .before .before .before .before .byte-bounds .ensures) (c .before .before .before .before .before .before .before .write-canonical .ensures .0) (c .before .size .given .1) .length) }
 
 enum-known-code : tie.Need-enum-known-code
 enum-known-code c = search needs
 
 cast-t19 : tie.Need-cast-t19
 cast-t19 c =
-    record { fits = omega (arith, canonical-narrow _ _ _ (c .before .before .before .before .before .before .before .before .before .byte-bounds .ensures) (c .before .before .before .before .before .before .before .write-canonical .ensures .0) (c .before .code .given .1) .code) }
+    record { fits = omega (arith, canonical-narrow _ _ _ (c .before .before .before .before .before .before .before .before .before .before .byte-bounds .ensures) (c .before .before .before .before .before .before .before .write-canonical .ensures .0) (c .before .code .given .1) .code) }
 
 cast-t20 : tie.Need-cast-t20
 cast-t20 c =
-    record { fits = omega (arith, canonical-narrow _ _ _ (c .before .before .before .before .before .before .before .before .before .byte-bounds .ensures) (c .before .before .before .before .before .before .before .write-canonical .ensures .0) (c .before .code .given .1) .offset) }
+    record { fits = omega (arith, canonical-narrow _ _ _ (c .before .before .before .before .before .before .before .before .before .before .byte-bounds .ensures) (c .before .before .before .before .before .before .before .write-canonical .ensures .0) (c .before .code .given .1) .offset) }
 
 enum-told : tie.Need-enum-told
 enum-told c = search needs
