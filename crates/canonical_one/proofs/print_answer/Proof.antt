@@ -1,3 +1,7 @@
+-- What the answer says is written is in the target, by what is required.
+use mathlib.Core.Path.{subst}
+use Rattle.canonical.specs.declared.CanonicalAnswer.{CanonicalAnswer}
+use Rattle.canonical_one.specs.Roomy.{Held}
 use borrow.Author.Needs.{needs}
 use Rattle.canonical_one.proofs.print_answer.Statement.{statement}
 use Rattle.canonical_one.proofs.print_answer.Tie as tie
@@ -7,75 +11,58 @@ use Rattle.canonical_one.proofs.print_form.Reads as print-form-reads
 use Rattle.canonical_one.proofs.print_refusal.Reads as print-refusal-reads
 use Rattle.io.proofs.write_all.Reads as write-all-reads
 
--- src/main.rt:58:34
 enum-known-answer : tie.Need-enum-known-answer
 enum-known-answer c = search needs
 
--- src/main.rt:58:43
 print-form-requires : tie.Need-print-form-requires
-print-form-requires c κs = ?
+print-form-requires c κs =
+    subst (λ (a : CanonicalAnswer). Held a (c .before .before .before .before .args .target .now)) (c .before .answer .given .1) (c .before .before .before .before .pre)
 
--- src/main.rt:59:34
 enum-known-answer-2 : tie.Need-enum-known-answer-2
 enum-known-answer-2 c = search needs
 
--- src/main.rt:59:51
 print-refusal-requires : tie.Need-print-refusal-requires
 print-refusal-requires c κs = search needs
 
--- src/main.rt:61:30
 enum-told : tie.Need-enum-told
 enum-told c = search needs
 
--- src/main.rt:61:30
 slice-aggregate-write-all : tie.Need-slice-aggregate-write-all
 slice-aggregate-write-all c = search needs
 
--- src/main.rt:61:13
 write-all-requires : tie.Need-write-all-requires
 write-all-requires c κs = search needs
 
--- src/main.rt:64:30
 enum-told-2 : tie.Need-enum-told-2
 enum-told-2 c = search needs
 
--- src/main.rt:64:30
 slice-aggregate-write-all-2 : tie.Need-slice-aggregate-write-all-2
 slice-aggregate-write-all-2 c = search needs
 
--- src/main.rt:64:13
 write-all-requires-2 : tie.Need-write-all-requires-2
 write-all-requires-2 c κs = search needs
 
--- src/main.rt:67:30
 enum-told-3 : tie.Need-enum-told-3
 enum-told-3 c = search needs
 
--- src/main.rt:67:30
 slice-aggregate-write-all-3 : tie.Need-slice-aggregate-write-all-3
 slice-aggregate-write-all-3 c = search needs
 
--- src/main.rt:67:13
 write-all-requires-3 : tie.Need-write-all-requires-3
 write-all-requires-3 c κs = search needs
 
--- src/main.rt:54:1
 returns : tie.Need-returns
 returns c = search needs
 
--- src/main.rt:54:1
 returns-2 : tie.Need-returns-2
 returns-2 c = search needs
 
--- src/main.rt:54:1
 returns-3 : tie.Need-returns-3
 returns-3 c = search needs
 
--- src/main.rt:54:1
 returns-4 : tie.Need-returns-4
 returns-4 c = search needs
 
--- src/main.rt:54:1
 returns-5 : tie.Need-returns-5
 returns-5 c = search needs
 

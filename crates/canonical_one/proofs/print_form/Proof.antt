@@ -1,3 +1,6 @@
+-- The part that is written has as many bytes as its end says.
+use mathlib.Core.Path.{sym}
+use lib.Seq.{length-take-le}
 use borrow.Author.Needs.{needs}
 use Rattle.canonical_one.proofs.print_form.Statement.{statement}
 use Rattle.canonical_one.proofs.print_form.Tie as tie
@@ -5,15 +8,12 @@ use Rattle.canonical_one.proofs.print_form.Reads as reads
 use Rattle.canonical_one.proofs.print_form.Lts as lts
 use Rattle.io.proofs.write_all.Reads as write-all-reads
 
--- src/main.rt:43:22
 slice-aggregate-write-all : tie.Need-slice-aggregate-write-all
-slice-aggregate-write-all c = ?
+slice-aggregate-write-all c = sym (length-take-le _ _ (c .before .before .pre))
 
--- src/main.rt:43:5
 write-all-requires : tie.Need-write-all-requires
 write-all-requires c κs = search needs
 
--- src/main.rt:40:1
 returns : tie.Need-returns
 returns c = search needs
 
