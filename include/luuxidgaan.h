@@ -92,6 +92,33 @@ xa_answer xa_judge(const uint8_t *data, size_t size, uint32_t *rows, size_t rows
 xa_answer xa_show(const uint8_t *data, size_t size, uint64_t frame, uint32_t *rows, size_t rows_len, uint8_t *image,
                   size_t image_len);
 
+/* What `xa_canonical` answers. Fields that the code does not name are 0.
+ *
+ *   code  meaning                                                              fields named
+ *      0  written                                                              rows, length
+ *   1..8  as `xa_read` has them, in its order                                  with 1 to 6: offset
+ *     21  the target holds fewer bytes than the canonical form has; tested     length
+ *         last
+ *
+ * `length` is the length of the canonical form, which is never more than `size`.
+ */
+typedef struct {
+    uint32_t code;
+    uint32_t offset;
+    uint32_t rows;
+    uint32_t length;
+} xa_rewritten;
+
+/* Reads the data set as `xa_read` does, afresh, and writes its canonical form: the same elements and items in the same order, with
+ * defined lengths throughout and no delimiters. Two data sets have the same canonical form just where they have the same tags,
+ * VRs, nesting and values; they are then judged and drawn alike.
+ *
+ * `target` has room for `target_len` bytes. With code 0 the first `length` of them are written, and nothing beyond them; with any
+ * other code no byte of `target` is. The rows, those of the data set as it was handed in, are written with codes 0 and 21.
+ */
+xa_rewritten xa_canonical(const uint8_t *data, size_t size, uint32_t *rows, size_t rows_len, uint8_t *target,
+                          size_t target_len);
+
 /* A slip is 13 bytes that record a verdict: what `xa_judge` answers, without the number of rows. */
 
 /* What `xa_read_slip` answers.

@@ -3,7 +3,7 @@
 import ctypes
 
 from parents import table_of
-from reference import drawing, reading, rules, slips
+from reference import canonical, drawing, reading, rules, slips
 from reference.answers import Answer
 from reference.reading import ITEM, NUMBERS_IN_A_ROW
 from reference.values import UNIT
@@ -415,5 +415,32 @@ DECIMAL_FAULTS = {
 WINDOW_FAULTS = {name: SHOW_FAULTS[name] for name in ("W in place of W - u", "not rounded", "the function ignored", "LINEAR_EXACT always",
                                                       "W - u in place of W", "MONOCHROME1 not inverted")}
 
+def with_end_marks(data, row_buffer_length, target_length):
+    """Writes what it was handed where that reads well: lengths and end marks stay."""
+    outcome = canonical.write_canonical(data, row_buffer_length, target_length)
+    if outcome.answer.code != 0 or target_length < len(data):
+        return outcome
+    return outcome._replace(answer=outcome.answer._replace(length=len(data)), target=bytes(data))
+
+
+CANONICAL_FAULTS = {
+    "lengths and end marks kept": StandIn(write_canonical=with_end_marks),
+    "length not told with code 21": StandIn(answer_changed(length=lambda a: 0 if a.code == 21 else a.length)),
+    "length of what was read": StandIn(lambda o, data: o._replace(answer=o.answer._replace(length=len(data))) if o.answer.code == 21 else o),
+    "row count told with code 21": StandIn(answer_changed(rows=lambda a: 1 if a.code == 21 else a.rows)),
+    "offset not told": StandIn(answer_changed(offset=lambda a: 0)),
+    "target touched at code 21": StandIn(lambda o, data: o._replace(target=b"\0") if o.answer.code == 21 and o.answer.length > 1 else o),
+    "target touched at code 2": StandIn(lambda o, data: o._replace(target=b"\0") if o.answer.code == 2 else o),
+    "a byte too many written": StandIn(lambda o, data: o._replace(target=o.target + b"\0") if o.target else o),
+    "last byte not written": StandIn(lambda o, data: o._replace(target=o.target[:-1])),
+    "nothing written": StandIn(lambda o, data: o._replace(target=b"")),
+    "rows not written at code 21": StandIn(lambda o, data: o._replace(rows=()) if o.answer.code == 21 else o),
+    "row buffer touched at code 8": StandIn(after=touched(
+        lambda o, data, rows, length: last_number_of(rows, length) if o.answer.code == 8 else None)),
+    "code 21 told as 11": StandIn(answer_changed(code=lambda a: 11 if a.code == 21 else a.code)),
+    "another form judged otherwise": StandIn(judge=lambda data, length: rules.judge(data, length) if b"\xFF\xFF\xFF\xFF" in bytes(data[:1 << 16])
+                                             else rules.judge(data, length)._replace(answer=Answer(8))),
+}
+
 FAULTS = {"read": READ_FAULTS, "judge": JUDGE_FAULTS, "slips": SLIP_FAULTS, "decimals": DECIMAL_FAULTS, "windows": WINDOW_FAULTS,
-          "show": SHOW_FAULTS}
+          "show": SHOW_FAULTS, "canonical": CANONICAL_FAULTS}

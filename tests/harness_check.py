@@ -6,6 +6,7 @@ import shutil
 import sys
 import tempfile
 
+import compare_canonical
 import compare_decimals
 import compare_judge
 import compare_read
@@ -18,9 +19,9 @@ from library import Library
 from mutants import MUTATIONS, mutant
 from stand_in import StandIn
 
-COUNTS = {"read": 60, "judge": 100, "slips": 200, "decimals": 200, "windows": 40, "show": 30}  # generated cases: as few as find every fault
+COUNTS = {"read": 60, "judge": 100, "slips": 200, "decimals": 200, "windows": 40, "show": 30, "canonical": 40}  # generated cases: as few as find every fault
 RUNS = {"read": compare_read.run, "judge": compare_judge.run, "slips": compare_slips.run, "decimals": compare_decimals.run,
-        "windows": compare_windows.run, "show": compare_show.run}
+        "windows": compare_windows.run, "show": compare_show.run, "canonical": compare_canonical.run}
 
 
 def attempt(name, stand_in, folder):

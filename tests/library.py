@@ -13,6 +13,7 @@ import struct
 import tempfile
 
 from reference.answers import Answer
+from reference.canonical import CanonicalAnswer
 
 GUARD = 64  # bytes in front of and behind a buffer
 
@@ -21,6 +22,12 @@ class AnswerStruct(ctypes.Structure):
     """xa_answer of include/luuxidgaan.h."""
 
     _fields_ = [(name, ctypes.c_uint32) for name in ("code", "offset", "rows", "rule", "frame", "masked")]
+
+
+class RewrittenStruct(ctypes.Structure):
+    """xa_rewritten of include/luuxidgaan.h."""
+
+    _fields_ = [(name, ctypes.c_uint32) for name in ("code", "offset", "rows", "length")]
 
 
 class SlipStruct(ctypes.Structure):
@@ -34,6 +41,8 @@ SIGNATURES = {
     "xa_judge": (AnswerStruct, [ctypes.c_void_p, ctypes.c_size_t, ctypes.c_void_p, ctypes.c_size_t]),
     "xa_show": (AnswerStruct, [ctypes.c_void_p, ctypes.c_size_t, ctypes.c_uint64, ctypes.c_void_p, ctypes.c_size_t,
                                ctypes.c_void_p, ctypes.c_size_t]),
+    "xa_canonical": (RewrittenStruct, [ctypes.c_void_p, ctypes.c_size_t, ctypes.c_void_p, ctypes.c_size_t, ctypes.c_void_p,
+                                       ctypes.c_size_t]),
     "xa_write_slip": (ctypes.c_uint32, [AnswerStruct, ctypes.c_void_p, ctypes.c_size_t]),
     "xa_read_slip": (SlipStruct, [ctypes.c_void_p, ctypes.c_size_t]),
 }
@@ -41,6 +50,10 @@ SIGNATURES = {
 
 def answer_of(struct_value):
     return Answer(*(getattr(struct_value, name) for name in Answer._fields))
+
+
+def rewritten_of(struct_value):
+    return CanonicalAnswer(*(getattr(struct_value, name) for name in CanonicalAnswer._fields))
 
 
 class GuardedBuffer:
@@ -156,6 +169,23 @@ class Library:
                                            image_buffer_length)
         return Observation(answer_of(result), rows, image, self.input)
 
+    def canonical(self, data, row_buffer_length, target_length):
+        address = self._place(data)
+        rows = GuardedBuffer(4 * row_buffer_length)
+        target = GuardedBuffer(target_length)
+        result = self.functions["xa_canonical"](address, len(data), rows.address, row_buffer_length, target.address,
+                                                target_length)
+        return CanonicalObservation(rewritten_of(result), rows, target, self.input)
+
+    def canonical_on_mapping(self, memory, row_buffer_length, target_length):
+        """The call on a large mapping (for the size limit); whether it changed is not looked at."""
+        address = ctypes.addressof(ctypes.c_char.from_buffer(memory))
+        rows = GuardedBuffer(4 * row_buffer_length)
+        target = GuardedBuffer(target_length)
+        result = self.functions["xa_canonical"](address, len(memory), rows.address, row_buffer_length, target.address,
+                                                target_length)
+        return CanonicalObservation(rewritten_of(result), rows, target, None)
+
     def call_on_mapping(self, name, memory, row_buffer_length):
         """A call on a large mapping (for the size limit); whether it changed is not looked at. Show gets frame 1."""
         address = ctypes.addressof(ctypes.c_char.from_buffer(memory))
@@ -179,6 +209,22 @@ class Library:
         return int(result.code), answer_of(result.verdict), self.input.fault()
 
 
+def difference_in(buffers, answer, expected_answer, input_memory):
+    """None if the answers are equal, each of the buffers (name, buffer, bytes written) holds what it has to, and the input is as it was; else
+    the first thing that differs, in words."""
+    if answer != expected_answer:
+        return f"answer {answer}, expected {expected_answer}"
+    for name, buffer, written in buffers:
+        fault = buffer.fault(written)
+        if fault:
+            return f"{name}: {fault}"
+    return input_memory.fault() if input_memory else None
+
+
+def packed(numbers):
+    return struct.pack(f"<{len(numbers)}I", *numbers)
+
+
 class Observation:
     """What a call answered, with the buffers that it was given."""
 
@@ -190,12 +236,19 @@ class Observation:
 
     def difference(self, expected):
         """None if the call did what the outcome `expected` says; else the first thing that differs, in words."""
-        if self.answer != expected.answer:
-            return f"answer {self.answer}, expected {expected.answer}"
-        fault = self.rows.fault(struct.pack(f"<{len(expected.rows)}I", *expected.rows))
-        if fault:
-            return "row buffer: " + fault
-        fault = self.image.fault(expected.image)
-        if fault:
-            return "image buffer: " + fault
-        return self.input.fault() if self.input else None
+        buffers = [("row buffer", self.rows, packed(expected.rows)), ("image buffer", self.image, expected.image)]
+        return difference_in(buffers, self.answer, expected.answer, self.input)
+
+
+class CanonicalObservation:
+    """What xa_canonical answered, with the buffers that it was given."""
+
+    def __init__(self, answer, rows, target, input_memory):
+        self.answer = answer
+        self.rows = rows
+        self.target = target
+        self.input = input_memory
+
+    def difference(self, expected):
+        buffers = [("row buffer", self.rows, packed(expected.rows)), ("target", self.target, expected.target)]
+        return difference_in(buffers, self.answer, expected.answer, self.input)

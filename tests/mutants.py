@@ -234,6 +234,18 @@ MUTATIONS = [
     ("show", "drawing.py", "image_buffer_length < root", "image_buffer_length <= root"),
     ("show", "drawing.py", "((frame - 1) * self.rows + row)", "(row)"),
     ("show", "drawing.py", "own = naming_item(root, item, frame)", "own = None"),
+    # The canonical form.
+    ("canonical", "canonical.py", "return 12 if vr in LONG_VRS else 8", "return 12"),
+    ("canonical", "canonical.py", "return sum(8 + item_length(item) for item in element.items)", "return sum(item_length(item) for item in element.items)"),
+    ("canonical", "canonical.py", "target_length < length", "target_length <= length"),
+    ("canonical", "canonical.py", "target_length < length", "target_length < len(data)"),
+    ("canonical", "canonical.py", "if target_length < length:", "if False:"),
+    ("canonical", "canonical.py", "length = b\"\\0\\0\" + len(content)", "length = b\"\\1\\0\" + len(content)"),
+    ("canonical", "canonical.py", "len(content).to_bytes(2, \"little\")", "len(content).to_bytes(2, \"big\")"),
+    ("canonical", "canonical.py", "tag_bytes(ITEM) + len(content)", "tag_bytes(ITEM) + (8 + len(content))"),
+    ("canonical", "canonical.py", "+ content\n\n\ndef write_elements", "+ content + tag_bytes(0xFFFEE00D) + bytes(4)\n\n\ndef write_elements"),
+    ("canonical", "canonical.py", "(tag >> 16).to_bytes(2, \"little\") + (tag & 0xFFFF).to_bytes(2, \"little\")", "tag.to_bytes(4, \"little\")"),
+    ("canonical", "canonical.py", "TARGET_TOO_SMALL, length=length), rows=read.rows)", "TARGET_TOO_SMALL, length=length))"),
 ]
 
 
@@ -254,7 +266,7 @@ def mutant(folder, number, file, text, other):
     importlib.invalidate_caches()
     load = lambda part: importlib.import_module(f"{name}.{part}")
     return StandIn(read=load("reading").read, judge=forgiving(load("rules").judge), show=forgiving(load("drawing").show),
-                   write_slip=load("slips").write_slip, read_slip=load("slips").read_slip)
+                   write_slip=load("slips").write_slip, read_slip=load("slips").read_slip, write_canonical=load("canonical").write_canonical)
 
 
 def forgiving(call):

@@ -131,6 +131,26 @@ pydicom.dcmwrite(sys.argv[2], data_set, write_like_original=True)
 """
 
 
+# Each sequence and item is told to have a defined length, where the file had another.
+PYDICOM_DEFINED = """
+import sys, pydicom
+
+def define(data_set):
+    for element in data_set:
+        if element.VR == "SQ":
+            element.is_undefined_length = False
+            for item in element.value:
+                item.is_undefined_length_sequence_item = False
+                define(item)
+
+data_set = pydicom.dcmread(sys.argv[1], force=True)
+define(data_set)
+data_set.is_little_endian = True
+data_set.is_implicit_VR = False
+pydicom.dcmwrite(sys.argv[2], data_set, write_like_original=True)
+"""
+
+
 def has_pydicom():
     return os.path.exists(PYTHON) and subprocess.run([PYTHON, "-c", "import pydicom"], capture_output=True).returncode == 0
 
@@ -155,6 +175,23 @@ def rewritten(folder, data_set):
         subprocess.run(command, check=True, capture_output=True)
         with open(target, "rb") as file:
             yield name, file.read()
+
+
+def written_defined(folder, data_set):
+    """(writer, data set): the same object as other programs write it with defined lengths throughout. A writer that refuses it is left out."""
+    source = os.path.join(folder, "bare.xa")
+    target = os.path.join(folder, "defined.xa")
+    with open(source, "wb") as file:
+        file.write(data_set)
+    writers = []
+    if has_dcmtk():
+        writers.append(("dcmconv +e", ["dcmconv", "-f", "-te", "-F", "+te", "+e", source, target]))
+    if has_pydicom():
+        writers.append(("pydicom", [PYTHON, "-W", "ignore", "-c", PYDICOM_DEFINED, source, target]))
+    for name, command in writers:
+        if subprocess.run(command, capture_output=True).returncode == 0:
+            with open(target, "rb") as file:
+                yield name, file.read()
 
 
 def windowed_by_dcmtk(folder, data_set, frame, center, width):

@@ -14,7 +14,7 @@ import parents
 import reading_cases
 import sample_cases
 from mutations import CHANGES
-from reference import drawing, reading, rules, slips, values
+from reference import canonical, drawing, reading, rules, slips, values
 from reference.answers import Answer, Outcome
 
 
@@ -522,6 +522,46 @@ class Drawing(unittest.TestCase):
             for frame in range(1, shape.frames + 1):
                 _, image = drawing.draw(root, frame)
                 self.assertEqual(len(image), shape.rows * shape.columns)
+
+
+class Canonical(unittest.TestCase):
+    # (0008,1140) SQ undefined { item undefined { (0028,0010) US 2 } item of length 0 } then (0028,0011) US 2.
+    MIXED = bytes.fromhex(
+        "08 00 40 11 53 51 00 00 FF FF FF FF FE FF 00 E0 FF FF FF FF 28 00 10 00 55 53 02 00 02 00 FE FF 0D E0 00 00 00 00"
+        "FE FF 00 E0 00 00 00 00 FE FF DD E0 00 00 00 00 28 00 11 00 55 53 02 00 02 00")
+    FORM = bytes.fromhex(
+        "08 00 40 11 53 51 00 00 1A 00 00 00 FE FF 00 E0 0A 00 00 00 28 00 10 00 55 53 02 00 02 00"
+        "FE FF 00 E0 00 00 00 00 28 00 11 00 55 53 02 00 02 00")
+
+    def written(self, data):
+        outcome = canonical.write_canonical(data, 8 * len(data), len(data))
+        self.assertEqual(outcome.answer.code, 0)
+        return outcome.target
+
+    def test_worked_out_by_hand(self):
+        self.assertEqual(self.written(self.MIXED), self.FORM)
+        self.assertEqual(self.written(b""), b"")
+        self.assertEqual(self.written(bytes.fromhex("00 52 29 92 53 51 00 00 FF FF FF FF FE FF DD E0 00 00 00 00")),
+                         bytes.fromhex("00 52 29 92 53 51 00 00 00 00 00 00"))
+
+    def test_refusals(self):
+        rows = reading.read(self.MIXED, 1000).rows
+        answer = canonical.CanonicalAnswer
+        for row_room, target, expected in ((len(rows), 48, answer(0, rows=5, length=48)), (len(rows), 47, answer(21, length=48)),
+                                           (len(rows) - 1, 47, answer(8)), (len(rows) - 1, 48, answer(8))):
+            outcome = canonical.write_canonical(self.MIXED, row_room, target)
+            self.assertEqual(outcome.answer, expected)
+            self.assertEqual(outcome.rows, () if expected.code == 8 else rows)
+            self.assertEqual(outcome.target, self.FORM if expected.code == 0 else b"")
+        self.assertEqual(canonical.write_canonical(self.MIXED * 2, 1000, 0).answer, answer(2, offset=len(self.MIXED)))
+
+    def test_one_form_for_all_lengths(self):
+        rng = random.Random(10)
+        for _ in range(200):
+            model = objects.random_model(rng)
+            form = objects.encode(model)
+            for share in (0, 0.5, 1):
+                self.assertEqual(self.written(objects.encode(model, lambda: rng.random() < share)), form)
 
 
 if __name__ == "__main__":

@@ -5,8 +5,8 @@ With no fault it must pass every comparison; with a fault it must fail one. So i
 
 import ctypes
 
-from library import AnswerStruct, SlipStruct, answer_of
-from reference import drawing, reading, rules, slips
+from library import AnswerStruct, RewrittenStruct, SlipStruct, answer_of
+from reference import canonical, drawing, reading, rules, slips
 
 
 def write(address, content):
@@ -29,12 +29,13 @@ class StandIn:
     written; the calls themselves may be played by others than the reference's."""
 
     def __init__(self, change=None, after=None, read=reading.read, judge=rules.judge, show=drawing.show,
-                 write_slip=slips.write_slip, read_slip=slips.read_slip):
+                 write_slip=slips.write_slip, read_slip=slips.read_slip, write_canonical=canonical.write_canonical):
         self.read = read
         self.judge = judge
         self.show = show
         self.write_slip = write_slip
         self.read_slip = read_slip
+        self.write_canonical = write_canonical
         self.change = change or (lambda outcome, data: outcome)
         self.after = after or (lambda outcome, data, rows, rows_length: None)
 
@@ -59,6 +60,14 @@ class StandIn:
         write(image, outcome.image)
         self.after(outcome, data, rows, rows_length)
         return AnswerStruct(*outcome.answer)
+
+    def xa_canonical(self, data, size, rows, rows_length, target, target_length):
+        content = view(data, size)
+        outcome = self.change(self.write_canonical(content, rows_length, target_length), content)
+        write_rows(rows, outcome.rows)
+        write(target, outcome.target)
+        self.after(outcome, data, rows, rows_length)
+        return RewrittenStruct(*outcome.answer)
 
     def xa_write_slip(self, verdict, slip, slip_length):
         code, written = self.write_slip(answer_of(verdict), slip_length)

@@ -4,7 +4,7 @@
 //! but most bytes are pixels, and a run of 900 frames has 22,598 rows. So the buffer starts small and is doubled each time
 //! the library answers that it is too small.
 
-use crate::library::{self, Answer, ROW_WIDTH};
+use crate::library::{self, Answer, Coded, Rewritten, ROW_WIDTH};
 use crate::table::Table;
 
 /// Rows of the first buffer: 112 KiB.
@@ -38,6 +38,11 @@ impl RowBuffer {
         self.lend(data, |data, rows| library::show(data, frame, rows, image))
     }
 
+    /// Writes the canonical form of a data set into the target, which suffices if it is as long as the data set.
+    pub fn canonical(&mut self, data: &[u8], target: &mut [u8]) -> Result<Rewritten, String> {
+        self.lend(data, |data, rows| library::canonical(data, rows, target))
+    }
+
     /// The first `rows` rows.
     pub fn table(&self, rows: u32) -> Table<'_> {
         let end = (rows as usize).saturating_mul(ROW_WIDTH).min(self.numbers.len());
@@ -51,14 +56,14 @@ impl RowBuffer {
         }
     }
 
-    fn lend(&mut self, data: &[u8], mut call: impl FnMut(&[u8], &mut [u32]) -> Answer) -> Result<Answer, String> {
+    fn lend<A: Coded>(&mut self, data: &[u8], mut call: impl FnMut(&[u8], &mut [u32]) -> A) -> Result<A, String> {
         let most = data.len() / 8;
         let mut room = most.min(FIRST);
         loop {
             self.grow(room)?;
             let answer = call(data, &mut self.numbers);
             let had = self.numbers.len() / ROW_WIDTH;
-            if answer.code != NO_ROOM || had >= most {
+            if answer.code() != NO_ROOM || had >= most {
                 return Ok(answer);
             }
             room = most.min(had.max(1) * 2);

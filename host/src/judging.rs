@@ -2,7 +2,6 @@
 
 use std::collections::{BTreeMap, HashMap};
 use std::io::{self, Write};
-use std::os::unix::ffi::OsStrExt;
 use std::path::{Path, PathBuf};
 use std::sync::atomic::{AtomicBool, AtomicUsize, Ordering};
 use std::sync::mpsc::{channel, Sender};
@@ -14,7 +13,7 @@ use crate::buffer::RowBuffer;
 use crate::files::{self, Finding, Found, Opened};
 use crate::head::{self, Judged};
 use crate::library::{self, Answer, SLIP_SIZE};
-use crate::output::{json_text, line, note, note_of, Status};
+use crate::output::{json_text, line, note, note_of, path_fields, Status};
 use crate::sentences;
 
 /// What `luux judge` was asked.
@@ -84,16 +83,6 @@ impl Report {
         }
         format!("{{{fields}}}\n")
     }
-}
-
-/// A path as a JSON field. Where it is not UTF-8, its bytes follow in hexadecimal, since no JSON string can hold them.
-fn path_fields(name: &str, path: &Path) -> String {
-    let mut fields = format!("\"{name}\":{}", json_text(&path.to_string_lossy()));
-    if path.to_str().is_none() {
-        let digits: String = path.as_os_str().as_bytes().iter().map(|byte| format!("{byte:02x}")).collect();
-        fields.push_str(&format!(",\"{name}_hex\":\"{digits}\""));
-    }
-    fields
 }
 
 fn judge_file(path: &Path, buffer: &mut RowBuffer) -> Result<Judged, String> {

@@ -1,4 +1,4 @@
-//! The five calls of the proved library, and the mapping of a file. All `unsafe` code of the host is here.
+//! The six calls of the proved library, and the mapping of a file. All `unsafe` code of the host is here.
 //!
 //! `include/luuxidgaan.h` says what the calls answer. Of the caller they ask two things: each pointer has as many
 //! elements behind it as its size says, and buffers do not overlap. Slices are so: a shared slice is not changed while
@@ -29,6 +29,33 @@ pub struct Slip {
     pub verdict: Answer,
 }
 
+/// `xa_rewritten` of the header: fields that the code does not name are 0.
+#[repr(C)]
+#[derive(Clone, Copy, Debug, Default, PartialEq, Eq)]
+pub struct Rewritten {
+    pub code: u32,
+    pub offset: u32,
+    pub rows: u32,
+    pub length: u32,
+}
+
+/// An answer that may say that the row buffer is too small.
+pub trait Coded {
+    fn code(&self) -> u32;
+}
+
+impl Coded for Answer {
+    fn code(&self) -> u32 {
+        self.code
+    }
+}
+
+impl Coded for Rewritten {
+    fn code(&self) -> u32 {
+        self.code
+    }
+}
+
 /// The bytes of a slip.
 pub const SLIP_SIZE: usize = 13;
 
@@ -47,6 +74,14 @@ extern "C" {
         image: *mut u8,
         image_len: usize,
     ) -> Answer;
+    fn xa_canonical(
+        data: *const u8,
+        size: usize,
+        rows: *mut u32,
+        rows_len: usize,
+        target: *mut u8,
+        target_len: usize,
+    ) -> Rewritten;
     fn xa_write_slip(verdict: Answer, slip: *mut u8, slip_len: usize) -> u32;
     fn xa_read_slip(slip: *const u8, slip_len: usize) -> Slip;
 }
@@ -68,6 +103,14 @@ pub fn judge(data: &[u8], rows: &mut [u32]) -> Answer {
 pub fn show(data: &[u8], frame: u64, rows: &mut [u32], image: &mut [u8]) -> Answer {
     // Sound: as in `read`; two mutable slices never overlap, and the call writes within these two alone.
     unsafe { xa_show(data.as_ptr(), data.len(), frame, rows.as_mut_ptr(), rows.len(), image.as_mut_ptr(), image.len()) }
+}
+
+/// Writes the canonical form of a data set.
+pub fn canonical(data: &[u8], rows: &mut [u32], target: &mut [u8]) -> Rewritten {
+    // Sound: as in `show`.
+    unsafe {
+        xa_canonical(data.as_ptr(), data.len(), rows.as_mut_ptr(), rows.len(), target.as_mut_ptr(), target.len())
+    }
 }
 
 /// Writes the slip of a verdict; answers the code.

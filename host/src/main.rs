@@ -5,6 +5,7 @@
 #![deny(unsafe_code)]
 
 mod buffer;
+mod canonical;
 mod demo;
 mod files;
 mod head;
@@ -27,7 +28,7 @@ use output::{note, Status};
 
 const STATUSES: &str = "\
 Exit status:
-  0  all was accepted (judge, slip read), read (rows) or drawn (show, contact)
+  0  all was accepted (judge, slip read), read (rows, duplicates), written (canonical) or drawn (show, contact)
   1  something was refused; the line says why
   2  wrong usage, nothing to judge, or a file that cannot be read or written
 
@@ -105,6 +106,29 @@ enum Command {
         #[arg(short, long, value_name = "PICTURE")]
         output: Option<PathBuf>,
     },
+    /// Write a data set in its canonical form
+    ///
+    /// The same elements and items in the same order, with defined lengths throughout and no delimiters. Data sets that differ in nothing
+    /// but their lengths have the same canonical form, byte for byte; it is judged and drawn as the data set is.
+    Canonical {
+        /// A data set
+        file: PathBuf,
+        /// The file to write
+        #[arg(short, long, value_name = "OUT")]
+        output: PathBuf,
+    },
+    /// Find files whose data sets are equal, though their bytes may differ
+    ///
+    /// Data sets are equal where their canonical forms are. A line for each group of them, and its files below it; a summary is the last
+    /// line. Files that hold no data set are told on standard error. Folders are gone through as luux judge does.
+    Duplicates {
+        /// Files, or folders whose files are compared
+        #[arg(required = true, value_name = "FILE|DIR")]
+        paths: Vec<PathBuf>,
+        /// Print one JSON object for each group, and the summary on standard error
+        #[arg(long)]
+        json: bool,
+    },
     /// Look at verdict slips
     Slip {
         #[command(subcommand)]
@@ -163,6 +187,8 @@ fn run(command: Command, out: &mut dyn Write) -> io::Result<Status> {
             check_picture(output.as_deref());
             picture::contact(&file, output.as_deref(), out)
         }
+        Command::Canonical { file, output } => canonical::write(&file, &output, out),
+        Command::Duplicates { paths, json } => canonical::duplicates(&paths, json, out),
         Command::Slip { command: SlipCommand::Read { files } } => listing::read_slips(&files, out),
         Command::Demo { folder } => demo::run(&folder, processors(), out),
     }

@@ -1,6 +1,7 @@
 //! Printing, where the reader of a pipe may leave at any time.
 
 use std::io::{self, Write};
+use std::os::unix::ffi::OsStrExt;
 use std::path::Path;
 
 use crate::files;
@@ -51,4 +52,14 @@ pub fn json_text(text: &str) -> String {
     }
     quoted.push('"');
     quoted
+}
+
+/// A path as a JSON field. Where it is not UTF-8, its bytes follow in hexadecimal, since no JSON string can hold them.
+pub fn path_fields(name: &str, path: &Path) -> String {
+    let mut fields = format!("\"{name}\":{}", json_text(&path.to_string_lossy()));
+    if path.to_str().is_none() {
+        let digits: String = path.as_os_str().as_bytes().iter().map(|byte| format!("{byte:02x}")).collect();
+        fields.push_str(&format!(",\"{name}_hex\":\"{digits}\""));
+    }
+    fields
 }

@@ -8,4 +8,5 @@ Layers, each checkable against its paragraph:
     rules.py     "The rule list": rules 1 to 38, first broken rule, lowest frame; Q-3 in rule 30, Q-4 in 35 and 37
     drawing.py   "Drawing frame f": steps 1 to 7, or something is lacking; Q-4 in step 4, Q-3 and Q-9 in step 6
     slips.py     the 13-byte verdict slips
+    canonical.py a data set written anew in one way (document 02, Q-10)
 """

@@ -41,3 +41,4 @@ BUFFER_TOO_SMALL = 11  # the image buffer, or the slip buffer
 NOT_A_SLIP = 12
 SLIP_VERSION = 13
 IMPOSSIBLE_VERDICT = 14
+TARGET_TOO_SMALL = 21

@@ -1,5 +1,5 @@
 -- The numbers of every answer fit 32 bits: a reader's, since they are small; a judge's, since its answer is a possible
--- verdict and has few rows; those of `show`, since they are the judge's; those of a slip that reads well, since it is a
+-- verdict and has few rows; those of `show`, since they are the judge's; those of `write_canonical`, since it writes no more than was read; those of a slip that reads well, since it is a
 -- possible verdict; a refusal's code, since it is 11 to 14.
 use mathlib.Core.Path.{_≡_, refl, sym, _∙_, subst}
 use mathlib.Core.Bool.{Bool, true, false, cond, not, _&&_}
@@ -23,6 +23,10 @@ use Rattle.node.specs.Nodes.{Node, nodesOf}
 use Rattle.display.specs.declared.ShowAnswer.{ShowAnswer}
 use Rattle.display.specs.declared.ShowAnswer.the-variants as shown
 use Rattle.display.specs.Show.{isFrameOf, imageSize, pictureOf, acceptedAnswer, answerFor, showOf}
+use Rattle.canonical.specs.declared.CanonicalAnswer.{CanonicalAnswer}
+use Rattle.canonical.specs.Written.{Bytes}
+use Rattle.canonical.specs.Answer.{canonicalOf}
+use Rattle.canonical.proofs.Theorems.{SmallAnswer as CanonicalSmall, canonical-small}
 use Rattle.slip.specs.declared.SlipAnswer.{SlipAnswer}
 use Rattle.slip.specs.declared.SlipAnswer.the-variants as read
 use Rattle.slip.specs.declared.WriteAnswer.{WriteAnswer}
@@ -73,6 +77,11 @@ show-narrow s f buffer image = answer-narrow (nodesOf s) f image (judgeOf s buff
 
 pub shown-narrow : {a b : ShowAnswer} (s : List ℕ) (f : ℕ) (buffer image : List ℕ) → a ≡ showOf s f buffer image → a ≡ b → Fits32 b
 shown-narrow s f buffer image e g = subst Fits32 (sym e ∙ g) (show-narrow s f buffer image)
+
+-- ---- What a match found an answer of `write_canonical` to be
+
+pub canonical-narrow : {a b : CanonicalAnswer} (s rows target : List ℕ) → Bytes s → a ≡ canonicalOf s rows target → a ≡ b → CanonicalSmall b
+canonical-narrow s rows target bytes e f = subst CanonicalSmall (sym e ∙ f) (canonical-small s rows target bytes)
 
 -- ---- What a match found a slip's answer to be
 

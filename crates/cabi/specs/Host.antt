@@ -1,5 +1,5 @@
--- What a host is handed for each answer: one struct of six numbers, which every call answers with. Fields that a code
--- does not name are 0.
+-- What a host is handed for each answer. Reading, judging and drawing answer with one struct of six numbers. Fields that a code does not name
+-- are 0.
 use Prim.Native.Nat.{ℕ, _<_}
 use Rattle.dataset.specs.declared.ReadAnswer.{ReadAnswer}
 use Rattle.dataset.specs.Answer.{codeOf, offsetOf, rowCountOf}
@@ -12,7 +12,10 @@ use Rattle.slip.specs.declared.SlipAnswer.{SlipAnswer}
 use Rattle.slip.specs.declared.SlipAnswer.the-variants as read
 use Rattle.slip.specs.declared.WriteAnswer.{WriteAnswer}
 use Rattle.slip.specs.declared.WriteAnswer.the-variants as write
+use Rattle.canonical.specs.declared.CanonicalAnswer.{CanonicalAnswer}
+use Rattle.canonical.specs.Answer as canonical
 use Rattle.cabi.specs.declared.Answer.{Answer}
+use Rattle.cabi.specs.declared.rewritten.Rewritten.{Rewritten}
 use Rattle.cabi.specs.declared.slips.Slip.{Slip}
 
 -- An answer of which nothing but the code is named.
@@ -62,6 +65,18 @@ pub record Fits32 (a : ShowAnswer) : Type 0 where
   pub rows : showing.rowCountOf a < 4294967296
   pub rule : showing.ruleOf a < 4294967296
   pub frame : showing.frameOf a < 4294967296
+
+-- ---- The canonical form
+
+-- The answer of `xa_canonical`: as `xa_read` for codes 1 to 8; with codes 0 and 21 the length of the canonical form, with code 0 also the
+-- number of rows.
+abbrev pub canonicalAnswer : CanonicalAnswer → Rewritten
+canonicalAnswer a = record {
+  code = canonical.codeOf a;
+  offset = canonical.offsetOf a;
+  rows = canonical.rowCountOf a;
+  length = canonical.sizeNamed a;
+}
 
 -- ---- Slips
 

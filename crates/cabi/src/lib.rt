@@ -2,6 +2,7 @@
 // any bytes and any buffers may be handed in.
 mod judge;
 mod read;
+mod rewritten;
 mod show;
 mod slips;
 
@@ -9,6 +10,8 @@ ghost use mathlib.Core.Path.{_≡_};
 ghost use Rattle.cabi.specs.Host.{codeAlone};
 pub use judge::xa_judge;
 pub use read::xa_read;
+pub use rewritten::Rewritten;
+pub use rewritten::xa_canonical;
 pub use show::xa_show;
 pub use slips::Slip;
 pub use slips::xa_read_slip;

@@ -1,23 +1,15 @@
--- The search over rules and frames, at the counts that the loops have; and the row table that a reading left.
+-- The search over rules and frames, at the counts that the loops have.
 use mathlib.Core.Path.{_≡_, refl, sym, ap, _∙_, subst}
-use mathlib.Core.Bool.{Bool, true, false, cond, _&&_, _||_}
-use mathlib.Core.List.{List, [], _∷_, _++_}
-use Prim.Native.Nat.{ℕ, zero, suc, _+_, _-_, _*_, _<_, _≤_}
+use mathlib.Core.Bool.{Bool, true, false, cond}
+use mathlib.Core.List.{List}
+use Prim.Native.Nat.{ℕ, zero, suc, _+_, _-_, _<_, _≤_}
 use native.Mathlib.Omega.{arith}
-use lib.ListN.{length, take, drop, length-append}
-use lib.Seq.{take-at, drop-drop}
+use lib.ListN.{drop}
+use lib.Seq.{drop-drop}
 use lib.Dec.{eqb, leb}
 use borrow.Author.Tests.{le-leb, leb-true, leb-false, eqb-true, eqb-false}
-use Rattle.dataset.specs.Reading.{Row, Reading, tooLarge, refusedAt, read, readingOf}
-use Rattle.dataset.specs.Answer.{flat, fits, answerOf, bufferOf}
-use Rattle.dataset.specs.Tree.{rowsIn, rowsOf}
-use Rattle.dataset.specs.declared.ReadAnswer.{ReadAnswer}
-use Rattle.dataset.specs.declared.ReadAnswer.the-variants as answer
-use Rattle.dataset.proofs.Buffer.{length-flat}
 use Rattle.verdict.specs.Verdict.{perFrame}
 use Rattle.node.specs.Nodes.{Node, members}
-use Rattle.node.specs.Table.{Table}
-use Rattle.node.proofs.Laws.{table}
 use Rattle.element.specs.declared.Items.{Items}
 use Rattle.element.specs.Along.{Along}
 use Rattle.element.specs.Frames.{framesOf, frameItems}
@@ -124,26 +116,3 @@ module _ (ns : List Node) where
   along-more {c} {d} a frame h w v =
       let e : frame - a + 1 ≡ frame + 1 - a = omega arith in
       rw (w .ahead, drop-drop 1 (frame - a) (frameItems ns), e) at v
-
--- ---- The row table that a reading left
-
-left-table : (r : Reading) (before buffer : List ℕ) (n : ℕ) → answer.Done n ≡ answerOf r before → buffer ≡ bufferOf r before
-    → (7 * n ≤ length buffer) × (take (7 * n) buffer ≡ flat (rowsIn r))
-left-table tooLarge before buffer n e f = let z : _≡_ {A = ℕ} 0 1 = cc in absurd (omega arith)
-left-table (refusedAt code offset) before buffer n e f = let z : _≡_ {A = ℕ} 0 1 = cc in absurd (omega arith)
-left-table (read rows) before buffer n e f = go (fits rows before) e f
-  where
-    go : (t : Bool) → answer.Done n ≡ cond t (answer.Done (length rows)) answer.NoRoom
-        → buffer ≡ cond t (flat rows ++ drop (7 * length rows) before) before → (7 * n ≤ length buffer) × (take (7 * n) buffer ≡ flat rows)
-    go true e f =
-        let m : n ≡ length rows = cc in
-        let l : length (flat rows) ≡ 7 * n = omega (arith, length-flat rows) in
-        (rw (f, length-append (flat rows) (drop (7 * length rows) before)) (omega arith), rw f (take-at (flat rows) (drop (7 * length rows) before) (7 * n) l))
-    go false e f = let z : _≡_ {A = ℕ} 0 1 = cc in absurd (omega arith)
-
-pub after-reading : (s before buffer : List ℕ) (n : ℕ) → answer.Done n ≡ answerOf (readingOf s) before → buffer ≡ bufferOf (readingOf s) before
-    → (7 * n ≤ length buffer) × Table s (take (7 * n) buffer)
-unfolding rowsOf
-after-reading s before buffer n e f =
-    let t = left-table (readingOf s) before buffer n e f in
-    (t .0, table s (take (7 * n) buffer) (t .1))

@@ -125,7 +125,7 @@ fn forms_after(first: usize) -> u64
 
 // The form of a VR: 2 with a 32-bit length, 1 with a 16-bit length, 0 where it is not listed. SQ is told first, since the
 // readers ask for it again.
-fn vr_form(vr: usize) -> usize
+pub fn vr_form(vr: usize) -> usize
     ensures { λ r. ⌜ r ≡ formOf vr ⌝ }
 {
     if vr == SQ {

@@ -15,7 +15,7 @@ use Rattle.conformance.specs.declared.Finding.the-variants as finding
 use Rattle.conformance.specs.declared.JudgeAnswer.{JudgeAnswer}
 use Rattle.conformance.specs.declared.JudgeAnswer.the-variants as judged
 use Rattle.conformance.specs.Judging.{findingOf, answerFor, judgeOf}
-use Rattle.conformance.proofs.Loops.{after-reading}
+use Rattle.node.proofs.After.{after-reading}
 use Rattle.display.specs.Show.{pictureOf, answerFor as shownFor, imageBy, showOf, imageOf}
 
 pub accepted-parts : (f : Finding) (r : ReadAnswer) (n : ℕ) → judged.Accepted n ≡ answerFor f r → (read.Done n ≡ r) × (f ≡ finding.Accepted)

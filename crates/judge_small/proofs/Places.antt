@@ -18,7 +18,7 @@ use Rattle.conformance.specs.declared.JudgeAnswer.{JudgeAnswer}
 use Rattle.conformance.specs.declared.JudgeAnswer.the-variants as judged
 use Rattle.conformance.specs.Judging.{findingOf, answerFor, judgeOf}
 use Rattle.conformance.proofs.JudgeAnswer.{the-type}
-use Rattle.conformance.proofs.Loops.{after-reading}
+use Rattle.node.proofs.After.{after-reading}
 use Rattle.judge_small.specs.declared.Located.{Located}
 use Rattle.judge_small.specs.Located.{located, locatedOf}
 use Rattle.judge_small.proofs.Room.{roomy}

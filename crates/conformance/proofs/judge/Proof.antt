@@ -1,6 +1,6 @@
 use mathlib.Core.Path.{_≡_, refl, sym, ap, _∙_, subst}
 use native.Mathlib.Omega.{arith}
-use Rattle.conformance.proofs.Loops as loops
+use Rattle.node.proofs.After.{after-reading}
 use Prim.Native.Nat.{_*_}
 use lib.Seq.{length-take-le}
 use Rattle.conformance.specs.Judging.{judgeOf}
@@ -35,23 +35,23 @@ enum-known-n c = search needs
 -- src/lib.rt:182:23
 mul-end : tie.Need-mul-end
 mul-end c =
-    let t = loops.after-reading (c .before .before .before .before .before .before .before .before .before .args .bytes .now) (c .before .before .before .before .before .before .before .before .before .args .rows .now) (c .before .before .before .before .before .read .last .1 .0) (c .before .n .given .0 .0) (sym (c .before .n .given .1) ∙ c .before .before .before .before .before .read .ensures .0) (c .before .before .before .before .before .read .ensures .1) in
+    let t = after-reading (c .before .before .before .before .before .before .before .before .before .args .bytes .now) (c .before .before .before .before .before .before .before .before .before .args .rows .now) (c .before .before .before .before .before .read .last .1 .0) (c .before .n .given .0 .0) (sym (c .before .n .given .1) ∙ c .before .before .before .before .before .read .ensures .0) (c .before .before .before .before .before .read .ensures .1) in
     omega (arith, t .1 .size, t .1 .few, length-take-le (7 * c .before .n .given .0 .0) (c .before .before .before .before .before .read .last .1 .0) (t .0))
 
 -- src/lib.rt:183:39
 slice-reshare-prefix-first-broken : tie.Need-slice-reshare-prefix-first-broken
 slice-reshare-prefix-first-broken c =
-    loops.after-reading (c .before .before .before .before .before .before .before .before .before .args .bytes .now) (c .before .before .before .before .before .before .before .before .before .args .rows .now) (c .before .before .before .before .before .read .last .1 .0) (c .before .n .given .0 .0) (sym (c .before .n .given .1) ∙ c .before .before .before .before .before .read .ensures .0) (c .before .before .before .before .before .read .ensures .1) .0
+    after-reading (c .before .before .before .before .before .before .before .before .before .args .bytes .now) (c .before .before .before .before .before .before .before .before .before .args .rows .now) (c .before .before .before .before .before .read .last .1 .0) (c .before .n .given .0 .0) (sym (c .before .n .given .1) ∙ c .before .before .before .before .before .read .ensures .0) (c .before .before .before .before .before .read .ensures .1) .0
 
 -- src/lib.rt:183:39
 slice-aggregate-first-broken : tie.Need-slice-aggregate-first-broken
 slice-aggregate-first-broken c =
-    sym (length-take-le _ _ (loops.after-reading (c .before .before .before .before .before .before .before .before .before .before .args .bytes .now) (c .before .before .before .before .before .before .before .before .before .before .args .rows .now) (c .before .before .before .before .before .before .read .last .1 .0) (c .before .before .n .given .0 .0) (sym (c .before .before .n .given .1) ∙ c .before .before .before .before .before .before .read .ensures .0) (c .before .before .before .before .before .before .read .ensures .1) .0))
+    sym (length-take-le _ _ (after-reading (c .before .before .before .before .before .before .before .before .before .before .args .bytes .now) (c .before .before .before .before .before .before .before .before .before .before .args .rows .now) (c .before .before .before .before .before .before .read .last .1 .0) (c .before .before .n .given .0 .0) (sym (c .before .before .n .given .1) ∙ c .before .before .before .before .before .before .read .ensures .0) (c .before .before .before .before .before .before .read .ensures .1) .0))
 
 -- src/lib.rt:183:19
 first-broken-requires : tie.Need-first-broken-requires
 first-broken-requires c κs =
-    loops.after-reading (c .before .before .before .before .before .before .before .before .before .before .args .bytes .now) (c .before .before .before .before .before .before .before .before .before .before .args .rows .now) (c .before .before .before .before .before .before .read .last .1 .0) (c .before .before .n .given .0 .0) (sym (c .before .before .n .given .1) ∙ c .before .before .before .before .before .before .read .ensures .0) (c .before .before .before .before .before .before .read .ensures .1) .1
+    after-reading (c .before .before .before .before .before .before .before .before .before .before .args .bytes .now) (c .before .before .before .before .before .before .before .before .before .before .args .rows .now) (c .before .before .before .before .before .before .read .last .1 .0) (c .before .before .n .given .0 .0) (sym (c .before .before .n .given .1) ∙ c .before .before .before .before .before .before .read .ensures .0) (c .before .before .before .before .before .before .read .ensures .1) .1
 
 -- src/lib.rt:184:38
 enum-told-3 : tie.Need-enum-told-3

@@ -3,7 +3,7 @@ use mathlib.Core.Path.{sym, _∙_}
 use Prim.Native.Nat.{_*_}
 use native.Mathlib.Omega.{arith}
 use lib.Seq.{length-take-le}
-use Rattle.conformance.proofs.Loops.{after-reading}
+use Rattle.node.proofs.After.{after-reading}
 use borrow.Author.Needs.{needs}
 use Rattle.steps_cases.proofs.print_case.Statement.{statement}
 use Rattle.steps_cases.proofs.print_case.Tie as tie

@@ -1,0 +1,135 @@
+-- The answer is that of `write_canonical`, case by case; its numbers fit 32 bits since those of every answer are small.
+use mathlib.Core.Path.{ap, sym, _∙_}
+use native.Mathlib.Omega.{arith}
+use Rattle.cabi.specs.Host.{canonicalAnswer}
+use Rattle.cabi.proofs.Numbers.{canonical-narrow}
+use borrow.Author.Needs.{needs}
+use Rattle.cabi.proofs.rewritten.xa_canonical.Statement.{statement}
+use Rattle.cabi.proofs.rewritten.xa_canonical.Tie as tie
+use Rattle.cabi.proofs.rewritten.xa_canonical.Reads as reads
+use Rattle.cabi.proofs.rewritten.xa_canonical.Lts as lts
+use Rattle.canonical.proofs.byte_bounds.Reads as byte-bounds-reads
+use Rattle.canonical.proofs.write_canonical.Reads as write-canonical-reads
+
+byte-bounds-requires : tie.Need-byte-bounds-requires
+byte-bounds-requires c κs = search needs
+
+write-canonical-requires : tie.Need-write-canonical-requires
+write-canonical-requires c κs = search needs
+
+enum-known-n : tie.Need-enum-known-n
+enum-known-n c = search needs
+
+cast-t16 : tie.Need-cast-t16
+cast-t16 c =
+    record { fits = omega (arith, canonical-narrow _ _ _ (c .before .before .before .before .before .before .before .before .before .before .byte-bounds .ensures) (c .before .before .before .before .before .before .before .write-canonical .ensures .0) (c .before .n .given .1) .rows) }
+
+cast-t17 : tie.Need-cast-t17
+cast-t17 c =
+    record { fits = omega (arith, canonical-narrow _ _ _ (c .before .before .before .before .before .before .before .before .before .before .byte-bounds .ensures) (c .before .before .before .before .before .before .before .write-canonical .ensures .0) (c .before .n .given .1) .length) }
+
+enum-known-size : tie.Need-enum-known-size
+enum-known-size c = search needs
+
+cast-t18 : tie.Need-cast-t18
+cast-t18 c =
+    record { fits = omega (arith, canonical-narrow _ _ _ (c .before .before .before .before .before .before .before .before .before .before .byte-bounds .ensures) (c .before .before .before .before .before .before .before .write-canonical .ensures .0) (c .before .size .given .1) .length) }
+
+enum-known-code : tie.Need-enum-known-code
+enum-known-code c = search needs
+
+cast-t19 : tie.Need-cast-t19
+cast-t19 c =
+    record { fits = omega (arith, canonical-narrow _ _ _ (c .before .before .before .before .before .before .before .before .before .before .byte-bounds .ensures) (c .before .before .before .before .before .before .before .write-canonical .ensures .0) (c .before .code .given .1) .code) }
+
+cast-t20 : tie.Need-cast-t20
+cast-t20 c =
+    record { fits = omega (arith, canonical-narrow _ _ _ (c .before .before .before .before .before .before .before .before .before .before .byte-bounds .ensures) (c .before .before .before .before .before .before .before .write-canonical .ensures .0) (c .before .code .given .1) .offset) }
+
+enum-told : tie.Need-enum-told
+enum-told c = search needs
+
+enum-told-2 : tie.Need-enum-told-2
+enum-told-2 c = search needs
+
+same-length : tie.Need-same-length
+same-length c = search needs
+
+same-length-2 : tie.Need-same-length-2
+same-length-2 c = search needs
+
+returns : tie.Need-returns
+returns c =
+    (ap canonicalAnswer (sym (c .before .n .given .1) ∙ c .before .before .before .before .before .before .before .write-canonical .ensures .0), c .before .before .before .before .before .before .before .write-canonical .ensures .1)
+
+same-length-3 : tie.Need-same-length-3
+same-length-3 c = search needs
+
+same-length-4 : tie.Need-same-length-4
+same-length-4 c = search needs
+
+returns-2 : tie.Need-returns-2
+returns-2 c =
+    (ap canonicalAnswer (sym (c .before .size .given .1) ∙ c .before .before .before .before .before .before .before .write-canonical .ensures .0), c .before .before .before .before .before .before .before .write-canonical .ensures .1)
+
+same-length-5 : tie.Need-same-length-5
+same-length-5 c = search needs
+
+same-length-6 : tie.Need-same-length-6
+same-length-6 c = search needs
+
+returns-3 : tie.Need-returns-3
+returns-3 c =
+    (ap canonicalAnswer (sym (c .before .code .given .1) ∙ c .before .before .before .before .before .before .before .write-canonical .ensures .0), c .before .before .before .before .before .before .before .write-canonical .ensures .1)
+
+same-length-7 : tie.Need-same-length-7
+same-length-7 c = search needs
+
+same-length-8 : tie.Need-same-length-8
+same-length-8 c = search needs
+
+returns-4 : tie.Need-returns-4
+returns-4 c =
+    (ap canonicalAnswer (sym (c .enum-told .given .1) ∙ c .before .before .before .before .before .before .write-canonical .ensures .0), c .before .before .before .before .before .before .write-canonical .ensures .1)
+
+same-length-9 : tie.Need-same-length-9
+same-length-9 c = search needs
+
+same-length-10 : tie.Need-same-length-10
+same-length-10 c = search needs
+
+returns-5 : tie.Need-returns-5
+returns-5 c =
+    (ap canonicalAnswer (sym (c .enum-told2 .given .1) ∙ c .before .before .before .before .before .before .write-canonical .ensures .0), c .before .before .before .before .before .before .write-canonical .ensures .1)
+
+pub xa-canonical-spec : {M : Type 1} → statement M
+xa-canonical-spec =
+    tie.close
+    (tie.spec
+    byte-bounds-requires
+    write-canonical-requires
+    enum-known-n
+    cast-t16
+    cast-t17
+    enum-known-size
+    cast-t18
+    enum-known-code
+    cast-t19
+    cast-t20
+    enum-told
+    enum-told-2
+    same-length
+    same-length-2
+    returns
+    same-length-3
+    same-length-4
+    returns-2
+    same-length-5
+    same-length-6
+    returns-3
+    same-length-7
+    same-length-8
+    returns-4
+    same-length-9
+    same-length-10
+    returns-5)

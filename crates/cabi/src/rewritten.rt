@@ -1,0 +1,59 @@
+// Writing a data set in its canonical form, for hosts.
+use canonical::CanonicalAnswer;
+ghost use mathlib.Core.Path.{_≡_};
+ghost use Rattle.dataset.specs.Reading.{readingOf};
+ghost use Rattle.dataset.specs.Answer.{bufferOf};
+ghost use Rattle.canonical.specs.Answer.{canonicalOf, targetOf};
+ghost use Rattle.cabi.specs.Host.{canonicalAnswer};
+
+// What `xa_canonical` answers with. Fields that a code does not name are 0; specs/Host.antt says which code names which.
+#[repr(C)]
+pub struct Rewritten {
+    pub code: u32,
+    pub offset: u32,
+    pub rows: u32,
+    pub length: u32,
+}
+
+// Reads a data set into rows of seven numbers and writes its canonical form. With codes 1 to 8 the row buffer stays as it was, with
+// every code but 0 the target.
+#[no_mangle]
+pub extern "C" fn xa_canonical(bytes: &[u8], rows: &mut [u32], target: &mut [u8]) -> Rewritten
+    ensures { λ r. ⌜ r ≡ canonicalAnswer (canonicalOf (now (bytes .entry)) (now (rows .entry)) (now (target .entry))) ⌝ }
+    ensures { λ _. ⌜ now (rows .exit) ≡ bufferOf (readingOf (now (bytes .entry))) (now (rows .entry)) ⌝ }
+    ensures { λ _. ⌜ now (target .exit) ≡ targetOf (now (bytes .entry)) (now (rows .entry)) (now (target .entry)) ⌝ }
+{
+    canonical::byte_bounds(bytes);
+    match canonical::write_canonical(bytes, rows, target) {
+        CanonicalAnswer::Done(n, size) => Rewritten {
+            code: 0,
+            offset: 0,
+            rows: n as u32,
+            length: size as u32,
+        },
+        CanonicalAnswer::NoTargetRoom(size) => Rewritten {
+            code: 21,
+            offset: 0,
+            rows: 0,
+            length: size as u32,
+        },
+        CanonicalAnswer::Refused(code, offset) => Rewritten {
+            code: code as u32,
+            offset: offset as u32,
+            rows: 0,
+            length: 0,
+        },
+        CanonicalAnswer::TooLarge => Rewritten {
+            code: 7,
+            offset: 0,
+            rows: 0,
+            length: 0,
+        },
+        CanonicalAnswer::NoRoom => Rewritten {
+            code: 8,
+            offset: 0,
+            rows: 0,
+            length: 0,
+        },
+    }
+}

@@ -1,0 +1,9 @@
+pub mod Shape
+pub mod Back
+pub mod Read
+pub mod Theorems
+pub mod Puts
+pub mod Sizes
+pub mod Members
+pub mod Answers
+pub mod Sample

@@ -1,0 +1,67 @@
+-- The canonical form reads back as the nodes that were written: reading gives a shape, a shape is what is written of its nodes, and the bytes
+-- of a shape read as its nodes (Read.antt, Shape.antt, Back.antt).
+use mathlib.Core.Path.{_≡_, sym, ap, _∙_, subst}
+use Prim.Native.Nat.{ℕ, _≤_}
+use native.Mathlib.Omega.{arith}
+use mathlib.Core.Bool.{Bool, true, false, cond}
+use mathlib.Core.List.{List, map}
+use lib.ListN.{length}
+use lib.Dec.{leb}
+use Rattle.dataset.specs.Reading.{Row, Reading, read, readingOf}
+use Rattle.dataset.specs.Tree.{rowsOf}
+use Rattle.dataset.specs.Answer.{answerOf}
+use Rattle.dataset.specs.declared.ReadAnswer.{ReadAnswer}
+use Rattle.dataset.specs.declared.ReadAnswer.the-variants as answer
+use Rattle.dataset.proofs.Laws.{Small, answer-small}
+use Rattle.node.specs.Nodes.{nodeOf, nodesOf}
+use Rattle.canonical.specs.Written.{Bytes, writtenOf}
+use Rattle.canonical.specs.declared.CanonicalAnswer.{CanonicalAnswer}
+use Rattle.canonical.specs.declared.CanonicalAnswer.the-variants as canonical
+use Rattle.canonical.specs.Answer.{answerFor, canonicalOf, codeOf, offsetOf, rowCountOf, sizeNamed}
+use Rattle.canonical.proofs.Shape.{shape-is, shape-bytes}
+use Rattle.canonical.proofs.Back.{shape-back}
+use Rattle.canonical.proofs.Read.{Readable, reading-shape}
+use Rattle.canonical.proofs.Answers.{form-small}
+
+-- The canonical form w of a data set s that reads well: it reads well, has the same nodes, and is no longer.
+pub record Returns (s w : List ℕ) : Type 0 where
+  pub rows : List Row
+  pub reads : readingOf w ≡ read rows
+  pub nodes : nodesOf w ≡ nodesOf s
+  pub fits : length w ≤ length s
+  pub bytes : Bytes w
+
+nodes-are : (s : List ℕ) (rows : List Row) → readingOf s ≡ read rows → nodesOf s ≡ map (nodeOf s) rows
+unfolding nodesOf rowsOf
+nodes-are s rows e = rw e
+
+pub written-returns : (s : List ℕ) → Bytes s → (rows : List Row) → readingOf s ≡ read rows → Returns s (writtenOf (nodesOf s))
+written-returns s bytes rows e =
+    let r = subst (λ (o : Reading). Readable s bytes o) e (reading-shape s bytes) in
+    let n : nodesOf s ≡ map (nodeOf s) rows = nodes-are s rows e in
+    let w : writtenOf (nodesOf s) ≡ r .bytesOf = ap writtenOf n ∙ shape-is (r .shape) in
+    let b = shape-back (r .shape) (omega (arith, r .fits, r .small)) in
+    rw w (record { rows = b .rows; reads = b .is; nodes = nodes-are (r .bytesOf) (b .rows) (b .is) ∙ b .nodes ∙ sym n; fits = r .fits; bytes = shape-bytes (r .shape) })
+
+-- ---- The numbers of every answer are small
+
+pub record SmallAnswer (a : CanonicalAnswer) : Type 0 where
+  pub code : codeOf a ≤ 21
+  pub offset : offsetOf a ≤ 1073741824
+  pub rows : rowCountOf a ≤ 134217728
+  pub length : sizeNamed a ≤ 1073741824
+
+pub canonical-small : (s rows target : List ℕ) → Bytes s → SmallAnswer (canonicalOf s rows target)
+unfolding canonicalOf
+canonical-small s rows target bytes =
+    go (answerOf (readingOf s) rows) (answer-small s rows) (form-small s bytes)
+  where
+    by-room : (n size : ℕ) → n ≤ 134217728 → size ≤ 1073741824 → (t : Bool) → SmallAnswer (cond t (canonical.Done n size) (canonical.NoTargetRoom size))
+    by-room n size h k true = record { code = omega arith; offset = omega arith; rows = h; length = k }
+    by-room n size h k false = record { code = omega arith; offset = omega arith; rows = omega arith; length = k }
+
+    go : (a : ReadAnswer) → Small a → length (writtenOf (nodesOf s)) ≤ 1073741824 → SmallAnswer (answerFor (writtenOf (nodesOf s)) target a)
+    go (answer.Done n) h k = by-room n (length (writtenOf (nodesOf s))) h k (leb (length (writtenOf (nodesOf s))) (length target))
+    go (answer.Refused code offset) h k = record { code = omega (arith, h .1 .0); offset = h .1 .1; rows = omega arith; length = omega arith }
+    go answer.TooLarge h k = record { code = omega arith; offset = omega arith; rows = omega arith; length = omega arith }
+    go answer.NoRoom h k = record { code = omega arith; offset = omega arith; rows = omega arith; length = omega arith }

@@ -1,0 +1,134 @@
+-- The answer is reading's where that refuses; else what is left of the row table says whether the target is too short, and what was put into it.
+use mathlib.Core.Path.{sym, _∙_}
+use native.Mathlib.Omega.{arith}
+use Prim.Native.Nat.{_*_}
+use lib.Seq.{length-take-le}
+use borrow.Author.Needs.{needs}
+use Rattle.canonical.specs.Answer.{canonicalOf, targetOf}
+use Rattle.canonical.proofs.Answers.{ready, fitting-all, short-answer, done-answer}
+use Rattle.canonical.proofs.write_canonical.Statement.{statement}
+use Rattle.canonical.proofs.write_canonical.Tie as tie
+use Rattle.canonical.proofs.write_canonical.Reads as reads
+use Rattle.canonical.proofs.write_canonical.Lts as lts
+use Rattle.canonical.proofs.byte_bounds.Reads as byte-bounds-reads
+use Rattle.canonical.proofs.lacks_room.Reads as lacks-room-reads
+use Rattle.canonical.proofs.put_members.Reads as put-members-reads
+use Rattle.canonical.proofs.span.Reads as span-reads
+use Rattle.dataset.proofs.read.Reads as read-reads
+
+byte-bounds-requires : tie.Need-byte-bounds-requires
+byte-bounds-requires c κs = search needs
+
+read-requires : tie.Need-read-requires
+read-requires c κs = search needs
+
+enum-told : tie.Need-enum-told
+enum-told c = search needs
+
+enum-known-code : tie.Need-enum-known-code
+enum-known-code c = search needs
+
+enum-told-2 : tie.Need-enum-told-2
+enum-told-2 c = search needs
+
+enum-known-n : tie.Need-enum-known-n
+enum-known-n c = search needs
+
+mul-end : tie.Need-mul-end
+mul-end c =
+    omega (arith, ready (c .before .before .before .before .before .before .before .before .before .before .before .args .bytes .now) (c .before .before .before .before .before .before .before .before .before .before .before .args .rows .now) (c .before .before .before .before .before .read .last .1 .0) (c .before .n .given .0 .0) (c .before .before .before .before .before .before .before .byte-bounds .ensures) (sym (c .before .n .given .1) ∙ c .before .before .before .before .before .read .ensures .0) (c .before .before .before .before .before .read .ensures .1) .room)
+
+slice-reshare-prefix-table : tie.Need-slice-reshare-prefix-table
+slice-reshare-prefix-table c =
+    ready (c .before .before .before .before .before .before .before .before .before .before .before .args .bytes .now) (c .before .before .before .before .before .before .before .before .before .before .before .args .rows .now) (c .before .before .before .before .before .read .last .1 .0) (c .before .n .given .0 .0) (c .before .before .before .before .before .before .before .byte-bounds .ensures) (sym (c .before .n .given .1) ∙ c .before .before .before .before .before .read .ensures .0) (c .before .before .before .before .before .read .ensures .1) .room
+
+slice-aggregate-table : tie.Need-slice-aggregate-table
+slice-aggregate-table c =
+    sym (length-take-le (7 * c .before .before .n .given .0 .0) (c .before .before .before .before .before .before .read .last .1 .0) (ready (c .before .before .before .before .before .before .before .before .before .before .before .before .args .bytes .now) (c .before .before .before .before .before .before .before .before .before .before .before .before .args .rows .now) (c .before .before .before .before .before .before .read .last .1 .0) (c .before .before .n .given .0 .0) (c .before .before .before .before .before .before .before .before .byte-bounds .ensures) (sym (c .before .before .n .given .1) ∙ c .before .before .before .before .before .before .read .ensures .0) (c .before .before .before .before .before .before .read .ensures .1) .room))
+
+lacks-room-requires : tie.Need-lacks-room-requires
+lacks-room-requires c κs =
+    ready (c .before .before .before .before .before .before .before .before .before .before .before .before .args .bytes .now) (c .before .before .before .before .before .before .before .before .before .before .before .before .args .rows .now) (c .before .before .before .before .before .before .read .last .1 .0) (c .before .before .n .given .0 .0) (c .before .before .before .before .before .before .before .before .byte-bounds .ensures) (sym (c .before .before .n .given .1) ∙ c .before .before .before .before .before .before .read .ensures .0) (c .before .before .before .before .before .before .read .ensures .1) .sized
+
+span-requires : tie.Need-span-requires
+span-requires c κs =
+    let r = ready (c .before .before .before .before .before .before .before .before .before .before .before .before .before .before .args .bytes .now) (c .before .before .before .before .before .before .before .before .before .before .before .before .before .before .args .rows .now) (c .before .before .before .before .before .before .before .before .read .last .1 .0) (c .before .before .before .before .n .given .0 .0) (c .before .before .before .before .before .before .before .before .before .before .byte-bounds .ensures) (sym (c .before .before .before .before .n .given .1) ∙ c .before .before .before .before .before .before .before .before .read .ensures .0) (c .before .before .before .before .before .before .before .before .read .ensures .1) in
+    (r .sized, (omega arith, omega (arith, r .count)))
+
+put-members-requires : tie.Need-put-members-requires
+put-members-requires c κs =
+    let r = ready (c .before .before .before .before .before .before .before .before .before .before .before .before .before .before .before .args .bytes .now) (c .before .before .before .before .before .before .before .before .before .before .before .before .before .before .before .args .rows .now) (c .before .before .before .before .before .before .before .before .before .read .last .1 .0) (c .before .before .before .before .before .n .given .0 .0) (c .before .before .before .before .before .before .before .before .before .before .before .byte-bounds .ensures) (sym (c .before .before .before .before .before .n .given .1) ∙ c .before .before .before .before .before .before .before .before .before .read .ensures .0) (c .before .before .before .before .before .before .before .before .before .read .ensures .1) in
+    (r .sized, fitting-all (c .before .before .before .before .before .before .before .before .before .before .before .before .before .before .before .args .bytes .now) (c .before .before .before .before .before .before .before .before .before .before .before .before .before .before .before .args .target .now) r (sym (c .before .before .lacks-room .ensures) ∙ c .before .if1 .left))
+
+same-length : tie.Need-same-length
+same-length c = search needs
+
+returns : tie.Need-returns
+unfolding canonicalOf targetOf
+returns c =
+    (rw (← c .before .before .before .before .read .ensures .0, c .enum-told .given .1), (c .before .before .before .before .read .ensures .1, rw (← c .before .before .before .before .read .ensures .0, c .enum-told .given .1)))
+
+same-length-2 : tie.Need-same-length-2
+same-length-2 c = search needs
+
+returns-2 : tie.Need-returns-2
+unfolding canonicalOf targetOf
+returns-2 c =
+    (rw (← c .before .before .before .before .before .read .ensures .0, c .before .code .given .1), (c .before .before .before .before .before .read .ensures .1, rw (← c .before .before .before .before .before .read .ensures .0, c .before .code .given .1)))
+
+same-length-3 : tie.Need-same-length-3
+same-length-3 c = search needs
+
+returns-3 : tie.Need-returns-3
+unfolding canonicalOf targetOf
+returns-3 c =
+    (rw (← c .before .before .before .before .read .ensures .0, c .enum-told2 .given .1), (c .before .before .before .before .read .ensures .1, rw (← c .before .before .before .before .read .ensures .0, c .enum-told2 .given .1)))
+
+same-length-4 : tie.Need-same-length-4
+same-length-4 c = search needs
+
+returns-4 : tie.Need-returns-4
+returns-4 c =
+    let r = ready (c .before .before .before .before .before .before .before .before .before .before .before .before .before .before .before .args .bytes .now) (c .before .before .before .before .before .before .before .before .before .before .before .before .before .before .before .args .rows .now) (c .before .before .before .before .before .before .before .before .before .read .last .1 .0) (c .before .before .before .before .before .n .given .0 .0) (c .before .before .before .before .before .before .before .before .before .before .before .byte-bounds .ensures) (sym (c .before .before .before .before .before .n .given .1) ∙ c .before .before .before .before .before .before .before .before .before .read .ensures .0) (c .before .before .before .before .before .before .before .before .before .read .ensures .1) in
+    let a = short-answer (c .before .before .before .before .before .before .before .before .before .before .before .before .before .before .before .args .bytes .now) (c .before .before .before .before .before .before .before .before .before .before .before .before .before .before .before .args .rows .now) (c .before .before .before .before .before .before .before .before .before .before .before .before .before .before .before .args .target .now) (c .before .before .before .before .before .n .given .0 .0) (sym (c .before .before .before .before .before .n .given .1) ∙ c .before .before .before .before .before .before .before .before .before .read .ensures .0) (r .count) (c .span .result) (c .span .ensures .0) (sym (c .before .before .lacks-room .ensures) ∙ c .before .if1 .taken) in
+    (a .0, (c .before .before .before .before .before .before .before .before .before .read .ensures .1, a .1))
+
+same-length-5 : tie.Need-same-length-5
+same-length-5 c = search needs
+
+same-length-6 : tie.Need-same-length-6
+same-length-6 c = search needs
+
+returns-5 : tie.Need-returns-5
+returns-5 c =
+    let r = ready (c .before .before .before .before .before .before .before .before .before .before .before .before .before .before .before .before .before .before .args .bytes .now) (c .before .before .before .before .before .before .before .before .before .before .before .before .before .before .before .before .before .before .args .rows .now) (c .before .before .before .before .before .before .before .before .before .before .before .before .read .last .1 .0) (c .before .before .before .before .before .before .before .before .n .given .0 .0) (c .before .before .before .before .before .before .before .before .before .before .before .before .before .before .byte-bounds .ensures) (sym (c .before .before .before .before .before .before .before .before .n .given .1) ∙ c .before .before .before .before .before .before .before .before .before .before .before .before .read .ensures .0) (c .before .before .before .before .before .before .before .before .before .before .before .before .read .ensures .1) in
+    let a = done-answer (c .before .before .before .before .before .before .before .before .before .before .before .before .before .before .before .before .before .before .args .bytes .now) (c .before .before .before .before .before .before .before .before .before .before .before .before .before .before .before .before .before .before .args .rows .now) (c .before .before .before .before .before .before .before .before .before .before .before .before .before .before .before .before .before .before .args .target .now) (c .before .before .before .before .before .before .before .before .n .given .0 .0) (sym (c .before .before .before .before .before .before .before .before .n .given .1) ∙ c .before .before .before .before .before .before .before .before .before .before .before .before .read .ensures .0) (r .count) (c .before .before .put-members .result) _ (c .before .before .put-members .ensures) (sym (c .before .before .before .before .before .lacks-room .ensures) ∙ c .before .before .before .before .if1 .left) in
+    (a .0, (c .before .before .before .before .before .before .before .before .before .before .before .before .read .ensures .1, a .1))
+
+pub write-canonical-spec : {M : Type 1} → statement M
+write-canonical-spec =
+    tie.close
+    (tie.spec
+    byte-bounds-requires
+    read-requires
+    enum-told
+    enum-known-code
+    enum-told-2
+    enum-known-n
+    mul-end
+    slice-reshare-prefix-table
+    slice-aggregate-table
+    lacks-room-requires
+    span-requires
+    put-members-requires
+    same-length
+    returns
+    same-length-2
+    returns-2
+    same-length-3
+    returns-3
+    same-length-4
+    returns-4
+    same-length-5
+    same-length-6
+    returns-5)

@@ -1,0 +1,58 @@
+-- The canonical form of a data set: written with defined lengths throughout and no end marks (document 02, Q-10). It is a function of the
+-- data set's nodes alone, that is of tags, VRs, depths, rows below and, for what is no sequence and no item, values.
+use Prim.Native.Nat.{ℕ, zero, suc, _+_, _/_, _%_, _<_}
+use mathlib.Core.Bool.{cond}
+use mathlib.Core.List.{List, [], _∷_, _++_}
+use lib.ListN.{length, take, getD}
+use lib.Dec.{eqb}
+use Rattle.dataset.specs.Vr.{formOf}
+use Rattle.node.specs.Nodes.{Node}
+
+-- A list of bytes: beyond its end it counts as zeros.
+abbrev pub Bytes : List ℕ → Type 0
+Bytes s = (k : ℕ) → getD s k 0 < 256
+
+-- ---- Headers
+
+-- A number as n bytes, little-endian.
+unfoldable pub le : ℕ → ℕ → List ℕ
+le zero x = []
+le (suc n) x = x % 256 ∷ le n (x / 256)
+
+-- The two letters of a VR.
+unfoldable pub letters : ℕ → List ℕ
+letters vr = vr / 256 % 256 ∷ vr % 256 ∷ []
+
+-- What stands in a header after the tag. An item has no VR, 0 in its row: a 32-bit length. An element: its VR, then two zero bytes and
+-- a 32-bit length, or a 16-bit length, as its VR has it (form 2, form 1).
+unfoldable pub lengthOf : ℕ → ℕ → List ℕ
+lengthOf vr size = cond (eqb vr 0) (le 4 size) (letters vr ++ cond (eqb (formOf vr) 2) (le 2 0 ++ le 4 size) (le 2 size))
+
+-- A header: group, element, VR and length.
+unfoldable pub header : ℕ → ℕ → ℕ → List ℕ
+header tag vr size = le 2 (tag / 65536) ++ (le 2 (tag % 65536) ++ lengthOf vr size)
+
+-- How many bytes a header has.
+unfoldable pub headSize : ℕ → ℕ
+headSize vr = cond (eqb (formOf vr) 2) 12 8
+
+-- ---- Nodes
+
+-- The bytes that a node takes by itself: its header and its value. A sequence and an item have no value of their own.
+unfoldable pub ownSize : Node → ℕ
+ownSize n = headSize (n .vr) + length (n .value)
+
+-- The bytes that nodes take together.
+unfoldable pub sizeOf : List Node → ℕ
+sizeOf [] = 0
+sizeOf (n ∷ ns) = ownSize n + sizeOf ns
+
+-- A node's header and value; `after` are the nodes that follow it, of which the first stand below it. The length in its header is its
+-- value's and that of all nodes below it: one of the two is 0.
+unfoldable pub nodeBytes : Node → List Node → List ℕ
+nodeBytes n after = header (n .tag) (n .vr) (length (n .value) + sizeOf (take (n .descendants) after)) ++ n .value
+
+-- The canonical form: node after node. Nothing else is written, so no end mark is.
+unfoldable pub writtenOf : List Node → List ℕ
+writtenOf [] = []
+writtenOf (n ∷ ns) = nodeBytes n ns ++ writtenOf ns

@@ -1,0 +1,37 @@
+-- The target's length is as it was, so what is written is in it; and both buffers suffice.
+use mathlib.Core.Path.{sym, subst}
+use Rattle.canonical.specs.declared.CanonicalAnswer.{CanonicalAnswer}
+use Rattle.canonical_one.specs.Roomy.{Held, Roomy}
+use Rattle.canonical_one.proofs.Room.{held, roomy}
+use borrow.Author.Needs.{needs}
+use Rattle.canonical_one.proofs.write_roomy.Statement.{statement}
+use Rattle.canonical_one.proofs.write_roomy.Tie as tie
+use Rattle.canonical_one.proofs.write_roomy.Reads as reads
+use Rattle.canonical_one.proofs.write_roomy.Lts as lts
+use Rattle.canonical.proofs.byte_bounds.Reads as byte-bounds-reads
+use Rattle.canonical.proofs.write_canonical.Reads as write-canonical-reads
+
+byte-bounds-requires : tie.Need-byte-bounds-requires
+byte-bounds-requires c κs = search needs
+
+write-canonical-requires : tie.Need-write-canonical-requires
+write-canonical-requires c κs = search needs
+
+same-length : tie.Need-same-length
+same-length c = search needs
+
+same-length-2 : tie.Need-same-length-2
+same-length-2 c = search needs
+
+returns : tie.Need-returns
+returns c =
+    let a = c .before .before .before .before .before .before .before .before .before .before .before .args in
+    let p = c .before .before .before .before .before .before .before .before .before .before .before .pre in
+    let w = c .before .before .before .before .write-canonical in
+    let e = w .ensures in
+    (e .0, (e .1 .1, (subst (λ (r : CanonicalAnswer). Held r (w .last .1 .1 .0)) (sym (e .0)) (held (a .bytes .now) (a .rows .now) (a .target .now) (w .last .1 .1 .0) (search needs)), subst Roomy (sym (e .0)) (roomy (a .bytes .now) (a .rows .now) (a .target .now) (c .before .before .before .before .before .before .before .byte-bounds .ensures) (p .0) (p .1)))))
+
+pub write-roomy-spec : {M : Type 1} → statement M
+write-roomy-spec =
+    tie.close
+    (tie.spec byte-bounds-requires write-canonical-requires same-length same-length-2 returns)

@@ -1,0 +1,89 @@
+// Writes the canonical form of the data set on standard input to standard output. A refusal is said on standard error, and so is that
+// the input is too long.
+use canonical::CanonicalAnswer;
+ghost use mathlib.Core.Path.{_≡_};
+ghost use Prim.Native.Nat.{_*_, _≤_};
+ghost use lib.ListN.{length};
+ghost use Rattle.canonical.specs.Answer.{canonicalOf, targetOf};
+ghost use Rattle.canonical_one.specs.Roomy.{Held, Roomy};
+
+// The most bytes that are taken.
+const MOST: usize = 65_536;
+
+// One byte more than is taken, so that an input that is too long is seen to be.
+fn input() -> [u8; 65_537]
+    ensures { λ r. ⌜ 65537 ≡ length r ⌝ }
+{
+    [0; 65_537]
+}
+
+// Room for the rows of a data set of that size, since a row has at least 8 bytes. A function of its own gives the
+// length, so that no proof computes it from the array.
+fn row_buffer() -> [u32; 57_344]
+    ensures { λ r. ⌜ 57344 ≡ length r ⌝ }
+{
+    [0; 57_344]
+}
+
+// Writes the canonical form, with room for seven numbers for each 8 bytes and a target as long as the data set: both suffice.
+fn write_roomy(bytes: &[u8], rows: &mut [u32], target: &mut [u8]) -> CanonicalAnswer
+    requires { ⌜ (7 * length (now bytes) ≤ 8 * length (now rows)) × (length (now bytes) ≤ length (now target)) ⌝ }
+    ensures { λ r. ⌜ r ≡ canonicalOf (now (bytes .entry)) (now (rows .entry)) (now (target .entry)) ⌝ }
+    ensures { λ _. ⌜ now (target .exit) ≡ targetOf (now (bytes .entry)) (now (rows .entry)) (now (target .entry)) ⌝ }
+    ensures { λ r. ⌜ Held r (now (target .exit)) ⌝ }
+    ensures { λ r. ⌜ Roomy r ⌝ }
+{
+    canonical::byte_bounds(bytes);
+    canonical::write_canonical(bytes, rows, target)
+}
+
+fn print_form(target: &[u8], size: usize)
+    requires { ⌜ size ≤ length (now target) ⌝ }
+{
+    io::write_all(1, &target[..size]);
+}
+
+fn print_refusal(code: usize, offset: usize) {
+    io::write_all(2, b"code ");
+    io::print_decimal(2, code as u64);
+    io::write_all(2, b" place ");
+    io::print_decimal(2, offset as u64);
+    io::write_all(2, b"\n");
+}
+
+fn print_answer(answer: CanonicalAnswer, target: &[u8])
+    requires { ⌜ Held answer (now target) ⌝ }
+{
+    match answer {
+        CanonicalAnswer::Done(_, size) => print_form(target, size),
+        CanonicalAnswer::Refused(code, offset) => print_refusal(code, offset),
+        CanonicalAnswer::TooLarge => {
+            io::write_all(2, b"code 7\n");
+        }
+        CanonicalAnswer::NoRoom => {
+            io::write_all(2, b"code 8\n");
+        }
+        CanonicalAnswer::NoTargetRoom(_) => {
+            io::write_all(2, b"code 21\n");
+        }
+    }
+}
+
+fn write_form(bytes: &[u8])
+    requires { ⌜ length (now bytes) ≤ 65536 ⌝ }
+{
+    let mut rows = row_buffer();
+    let mut target = io::large_buffer();
+    let answer = write_roomy(bytes, &mut rows, &mut target);
+    print_answer(answer, &target);
+}
+
+fn main() {
+    let mut bytes = input();
+    let n = io::read_full(0, &mut bytes);
+    if MOST < n {
+        io::write_all(2, b"too long: at most 65536 bytes\n");
+        return;
+    }
+    write_form(&bytes[..n]);
+}

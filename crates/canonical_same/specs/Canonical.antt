@@ -1,0 +1,92 @@
+-- One way to write it (document 02, Q-10).
+--
+-- Take a data set that reads well, and its canonical form: written with defined lengths throughout and no end marks, as
+-- crates/canonical/specs/Written.antt has it. Reading the canonical form gives as many rows, with the same tags, VRs, depths, rows below
+-- and, SQ aside, element values in the same order, and the same seventh numbers. It is never longer than the data set, and its own canonical
+-- form is itself. With the same buffers and frame number, the judge answers the same for both, code 8 included, and `show` gives the
+-- same answer and picture.
+--
+-- Two data sets that agree in tags, VRs, depths, rows below and element values have the same canonical form. The other way round, two that read well and have
+-- the same canonical form agree in them, and are judged and drawn alike: so duplicates are found by their canonical bytes.
+--
+-- The call refuses with 7, 1 to 6 and 8 as reading does. Once the rows are read it answers 21 exactly where the target is shorter than the
+-- canonical form, and else 0; both name that length. A refusal leaves the target as it was; done writes the canonical form and nothing beyond it.
+--
+-- Canonical.antt in proofs/ proves it. That the code computes these answers is in the contracts of `write_canonical` and `xa_canonical`.
+use mathlib.Core.Path.{_≡_}
+use Prim.Native.Nat.{ℕ, _≤_, _<_}
+use mathlib.Core.List.{List, _++_}
+use lib.ListN.{length, take, drop}
+use Rattle.dataset.specs.Vr.{SQ}
+use Rattle.dataset.specs.Reading.{Row, read, readingOf}
+use Rattle.dataset.specs.Answer as reading
+use Rattle.dataset.specs.declared.ReadAnswer.the-variants as read-answer
+use Rattle.dataset.specs.Tree.{rowsOf, rowAt}
+use Rattle.node.specs.Nodes.{nodesOf}
+use Rattle.conformance.specs.Judging.{judgeOf}
+use Rattle.display.specs.Show.{showOf, imageOf}
+use Rattle.canonical.specs.Written.{Bytes, writtenOf}
+use Rattle.canonical.specs.Answer.{canonicalOf, targetOf, codeOf, offsetOf}
+use Rattle.canonical.specs.declared.CanonicalAnswer.the-variants as canonical
+
+-- The canonical form of a data set.
+abbrev pub canonicalForm : List ℕ → List ℕ
+canonicalForm s = writtenOf (nodesOf s)
+
+-- A list of bytes that reads well.
+pub record ReadsWell (s : List ℕ) : Type 0 where
+  pub bytes : Bytes s
+  pub rows : List Row
+  pub reads : readingOf s ≡ read rows
+
+-- Row i, and the bytes of its value.
+abbrev pub rowOf : List ℕ → ℕ → Row
+rowOf s i = rowAt (rowsOf s) i
+
+abbrev pub valueOf : List ℕ → ℕ → List ℕ
+valueOf s i = take (rowOf s i .size) (drop (rowOf s i .offset) s)
+
+-- Row i has the same tag, VR, depth and rows below in both, and if it is of an element that is not SQ, the same value. An item's VR is 0.
+pub record AgreeAt (s t : List ℕ) (i : ℕ) : Type 0 where
+  pub tag : rowOf s i .tag ≡ rowOf t i .tag
+  pub vr : rowOf s i .vr ≡ rowOf t i .vr
+  pub depth : rowOf s i .depth ≡ rowOf t i .depth
+  pub below : rowOf s i .descendants ≡ rowOf t i .descendants
+  pub value : (rowOf s i .vr ≡ SQ → ⊥) → (rowOf s i .vr ≡ 0 → ⊥) → valueOf s i ≡ valueOf t i
+
+-- As many rows, which agree one by one.
+pub record Agree (s t : List ℕ) : Type 0 where
+  pub count : length (rowsOf s) ≡ length (rowsOf t)
+  pub each : (i : ℕ) → i < length (rowsOf s) → AgreeAt s t i
+
+-- Judged and drawn alike, with whatever buffers and frame number.
+pub record Alike (s t : List ℕ) : Type 0 where
+  pub judged : (rows : List ℕ) → judgeOf s rows ≡ judgeOf t rows
+  pub shown : (frame : ℕ) (rows image : List ℕ) → showOf s frame rows image ≡ showOf t frame rows image
+  pub picture : (frame : ℕ) (rows image : List ℕ) → imageOf s frame rows image ≡ imageOf t frame rows image
+
+-- A data set s, and its canonical form w.
+pub record Written (s w : List ℕ) : Type 0 where
+  pub reads : ReadsWell w
+  pub agrees : Agree s w
+  pub parents : (i : ℕ) → i < length (rowsOf s) → rowOf s i .parent ≡ rowOf w i .parent
+  pub no-longer : length w ≤ length s
+  pub again : canonicalForm w ≡ w
+  pub alike : Alike s w
+
+-- What the call answers for a data set whose canonical form is w, and the target afterwards.
+pub record Answered (s w rows target : List ℕ) : Type 0 where
+  pub refused : (reading.codeOf (reading.answerOf (readingOf s) rows) ≡ 0 → ⊥)
+      → (codeOf (canonicalOf s rows target) ≡ reading.codeOf (reading.answerOf (readingOf s) rows))
+      × ((offsetOf (canonicalOf s rows target) ≡ reading.offsetOf (reading.answerOf (readingOf s) rows)) × (targetOf s rows target ≡ target))
+  pub short : (n : ℕ) → reading.answerOf (readingOf s) rows ≡ read-answer.Done n → length target < length w
+      → (canonicalOf s rows target ≡ canonical.NoTargetRoom (length w)) × (targetOf s rows target ≡ target)
+  pub done : (n : ℕ) → reading.answerOf (readingOf s) rows ≡ read-answer.Done n → length w ≤ length target
+      → (canonicalOf s rows target ≡ canonical.Done n (length w)) × (targetOf s rows target ≡ w ++ drop (length w) target)
+  pub only-short : codeOf (canonicalOf s rows target) ≡ 21 → length target < length w
+
+pub record Canonical : Type 0 where
+  pub written : (s : List ℕ) → ReadsWell s → Written s (canonicalForm s)
+  pub same : (s t : List ℕ) → Agree s t → canonicalForm s ≡ canonicalForm t
+  pub duplicates : (s t : List ℕ) → ReadsWell s → ReadsWell t → canonicalForm s ≡ canonicalForm t → Agree s t × Alike s t
+  pub answered : (s rows target : List ℕ) → Answered s (canonicalForm s) rows target

@@ -1,0 +1,220 @@
+//! `luux canonical` and `luux duplicates`: data sets in their canonical form, as the library writes it.
+//!
+//! Files are sorted by the SHA-256 of their canonical forms. Those that share it are then compared byte by byte, so that what is called
+//! equal is equal whatever the hash.
+
+use std::collections::{HashMap, HashSet};
+use std::fs;
+use std::io::{self, Write};
+use std::path::{Path, PathBuf};
+
+use sha2::{Digest, Sha256};
+
+use crate::buffer::RowBuffer;
+use crate::files::{self, Finding, Opened};
+use crate::head::Judged;
+use crate::library::Answer;
+use crate::output::{line, note, note_of, path_fields, Status};
+
+/// Why there is no canonical form, in words.
+enum Failure {
+    /// The library refused.
+    Refused(String),
+    /// Something else.
+    Trouble(String),
+}
+
+impl From<String> for Failure {
+    fn from(trouble: String) -> Failure {
+        Failure::Trouble(trouble)
+    }
+}
+
+impl Failure {
+    fn parts(self) -> (Status, String) {
+        match self {
+            Failure::Refused(text) => (Status::Refused, text),
+            Failure::Trouble(text) => (Status::Failed, text),
+        }
+    }
+}
+
+/// The canonical form of a file's data set, and whether the file is in that form already.
+fn form_of(path: &Path, buffer: &mut RowBuffer) -> Result<(Vec<u8>, bool), Failure> {
+    let opened = Opened::open(path)?;
+    let data = opened.bytes();
+    let mut form = Vec::new();
+    if form.try_reserve_exact(data.len()).is_err() {
+        return Err(Failure::Trouble(format!("there is no memory for {} bytes", data.len())));
+    }
+    // It is never longer than the data set.
+    form.resize(data.len(), 0);
+    let written = buffer.canonical(data, &mut form)?;
+    if written.code != 0 {
+        let answer = Answer { code: written.code, offset: written.offset, ..Answer::default() };
+        return Err(Failure::Refused(Judged::of(data, answer, buffer.table(0)).line()));
+    }
+    buffer.let_go();
+    form.truncate(written.length as usize);
+    let same = form == data;
+    opened.unchanged()?;
+    Ok((form, same))
+}
+
+/// Writes the canonical form of a file to another.
+pub fn write(path: &Path, output: &Path, out: &mut dyn Write) -> io::Result<Status> {
+    if files::is_same(path, output) {
+        note_of(output, "it is the data set itself; name another file");
+        return Ok(Status::Failed);
+    }
+    let (form, same) = match form_of(path, &mut RowBuffer::default()) {
+        Ok(found) => found,
+        Err(failure) => {
+            let (status, text) = failure.parts();
+            match status {
+                Status::Refused => line(out, path, &text)?,
+                _ => note_of(path, &text),
+            }
+            return Ok(status);
+        }
+    };
+    if let Err(error) = files::write_whole(output, &form, false) {
+        note_of(output, &format!("cannot be written: {}", files::trouble(&error)));
+        return Ok(Status::Failed);
+    }
+    let text = format!("{} bytes, {}", form.len(), if same { "as they were" } else { "in canonical form" });
+    line(out, output, &text)?;
+    Ok(Status::Fine)
+}
+
+/// A file, and whether it is in canonical form itself.
+struct Member {
+    path: PathBuf,
+    canonical: bool,
+}
+
+/// Files whose canonical forms are equal.
+struct Group {
+    hash: [u8; 32],
+    length: usize,
+    members: Vec<Member>,
+}
+
+impl Group {
+    fn hash_text(&self) -> String {
+        self.hash.iter().map(|byte| format!("{byte:02x}")).collect()
+    }
+
+    fn print(&self, out: &mut dyn Write) -> io::Result<()> {
+        writeln!(out, "{} equal data sets, {} bytes in canonical form, SHA-256 {}", self.members.len(), self.length, self.hash_text())?;
+        for member in &self.members {
+            out.write_all(b"  ")?;
+            out.write_all(&files::printed(&member.path))?;
+            out.write_all(b"\n")?;
+        }
+        Ok(())
+    }
+
+    /// One object: the hash, the length, and the files, each with whether it is in canonical form itself.
+    fn json(&self) -> String {
+        let files: Vec<String> = self
+            .members
+            .iter()
+            .map(|member| format!("{{{},\"canonical\":{}}}", path_fields("path", &member.path), member.canonical))
+            .collect();
+        format!("{{\"sha256\":\"{}\",\"length\":{},\"files\":[{}]}}\n", self.hash_text(), self.length, files.join(","))
+    }
+}
+
+/// What is known so far: the groups in the order of their first files, and which of them have a hash.
+#[derive(Default)]
+struct Search {
+    groups: Vec<Group>,
+    by_hash: HashMap<[u8; 32], Vec<usize>>,
+    buffer: RowBuffer,
+    status: Option<Status>,
+    refused: usize,
+    unread: usize,
+}
+
+impl Search {
+    fn add(&mut self, path: &Path) {
+        let found = form_of(path, &mut self.buffer).and_then(|(form, canonical)| self.place(path, &form, canonical));
+        if let Err(failure) = found {
+            let (status, text) = failure.parts();
+            self.fail(path, status, &text);
+        }
+    }
+
+    fn fail(&mut self, path: &Path, status: Status, text: &str) {
+        note_of(path, text);
+        self.status = self.status.max(Some(status));
+        match status {
+            Status::Refused => self.refused += 1,
+            _ => self.unread += 1,
+        }
+    }
+
+    /// Puts a file into the group whose first file has the same canonical form; into a new one where there is none.
+    fn place(&mut self, path: &Path, form: &[u8], canonical: bool) -> Result<(), Failure> {
+        let hash: [u8; 32] = Sha256::digest(form).into();
+        let member = Member { path: path.to_path_buf(), canonical };
+        for &number in self.by_hash.get(&hash).map_or(&[][..], Vec::as_slice) {
+            let first = self.groups[number].members[0].path.clone();
+            if form_of(&first, &mut self.buffer)?.0 == form {
+                self.groups[number].members.push(member);
+                return Ok(());
+            }
+        }
+        self.by_hash.entry(hash).or_default().push(self.groups.len());
+        self.groups.push(Group { hash, length: form.len(), members: vec![member] });
+        Ok(())
+    }
+}
+
+/// Finds files whose data sets have the same canonical form.
+pub fn duplicates(named: &[PathBuf], json: bool, out: &mut dyn Write) -> io::Result<Status> {
+    let finding = Finding::of(named, None);
+    for (path, reason) in &finding.skipped {
+        note_of(path, &format!("skipped: {reason}"));
+    }
+    if finding.found.is_empty() {
+        note("nothing was compared: there is no file in what was named");
+        return Ok(Status::Failed);
+    }
+    let mut search = Search::default();
+    let mut seen = HashSet::new();
+    for one in &finding.found {
+        // A file is no duplicate of itself, by whatever name it was found again.
+        if fs::canonicalize(&one.path).map_or(false, |path| !seen.insert(path)) {
+            note_of(&one.path, "skipped: the same file was found before");
+            continue;
+        }
+        match &one.unreadable {
+            Some(trouble) => search.fail(&one.path, Status::Failed, trouble),
+            None => search.add(&one.path),
+        }
+    }
+    let equal: Vec<&Group> = search.groups.iter().filter(|group| group.members.len() > 1).collect();
+    for group in &equal {
+        match json {
+            true => out.write_all(group.json().as_bytes())?,
+            false => group.print(out)?,
+        }
+    }
+    let files = finding.found.len();
+    let summary = format!(
+        "{files} {}: {} with an equal in {} {}, {} refused, {} could not be read",
+        if files == 1 { "file" } else { "files" },
+        equal.iter().map(|group| group.members.len()).sum::<usize>(),
+        equal.len(),
+        if equal.len() == 1 { "group" } else { "groups" },
+        search.refused,
+        search.unread
+    );
+    match json {
+        true => note(&summary),
+        false => writeln!(out, "{summary}")?,
+    }
+    Ok(search.status.unwrap_or(Status::Fine))
+}
