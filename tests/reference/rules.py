@@ -381,11 +381,46 @@ def rule_38(root):
             and element.value_length == length + length % 2)
 
 
+def to_linear_items(items):
+    """The items whose LUT Function (0028,9474) CS is TO_LINEAR."""
+    return [item for item in items if item.text(tags.LUT_FUNCTION, "CS") == b"TO_LINEAR"]
+
+
+def rule_39(root, frame):
+    """Per frame: (0028,9443), if present, has one item; (0028,9422), if present, has at least one item and at most one
+    TO_LINEAR item, and is present with one if Pixel Intensity Relationship (0028,1040) CS in (0028,9443) is LOG; a
+    TO_LINEAR item's descriptor has three numbers, the last 16, and its data are two bytes for each entry (02, Q-8)."""
+    logarithmic = False
+    properties = frame_group(root, frame, tags.FRAME_PIXEL_DATA_PROPERTIES_SEQUENCE)
+    if properties is not None:
+        items = items_of(root.data, properties)
+        if not one_item(items):
+            return False
+        logarithmic = items[0].text(tags.PIXEL_INTENSITY_RELATIONSHIP, "CS") == b"LOG"
+    luts = frame_group(root, frame, tags.PIXEL_INTENSITY_RELATIONSHIP_LUT_SEQUENCE)
+    if luts is None:
+        return not logarithmic
+    items = items_of(root.data, luts)
+    if not items:
+        return False
+    linear = to_linear_items(items)
+    if len(linear) > 1 or (logarithmic and not linear):
+        return False
+    for item in linear:
+        descriptor = item.unsigned_shorts(tags.LUT_DESCRIPTOR)
+        data = item.value(tags.LUT_DATA, "OW")
+        if descriptor is None or len(descriptor) != 3 or descriptor[2] != 16:
+            return False
+        if data is None or len(data) != 2 * (descriptor[0] or 65536):
+            return False
+    return True
+
+
 # ---------------------------------------------------------------------------------------------------------------------
 # The verdict
 
-RULES = {number: globals()[f"rule_{number}"] for number in range(1, 39)}
-PER_FRAME_RULES = frozenset((27, 28, 29, 30, 37))
+RULES = {number: globals()[f"rule_{number}"] for number in range(1, 40)}
+PER_FRAME_RULES = frozenset((27, 28, 29, 30, 37, 39))
 
 
 def first_broken_rule(root):

@@ -26,7 +26,7 @@ def possible(code, rule, frame, offset):
     if code == 9:
         if rule in PER_FRAME_RULES:
             return 1 <= frame <= 65_535 and offset == 0
-        return 1 <= rule <= 38 and frame == 0 and offset == 0
+        return 1 <= rule <= 39 and frame == 0 and offset == 0
     return False
 
 

@@ -12,5 +12,5 @@ pub mod Draws
 pub mod Whole
 pub mod Answers
 pub mod Judged
-pub mod Demand3
+pub mod Drawing
 pub mod Before

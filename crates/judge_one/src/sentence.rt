@@ -117,13 +117,16 @@ fn print_masks(rule: usize) {
         37 => say(
             b"Frame Pixel Shift Sequence (0028,9415) SQ, where the frame has it, must have items, each with a Subtraction Item ID (0028,9416) US that no other has and a Mask Sub-pixel Shift (0028,6114) FL of two numbers from -64 to 64, each a whole multiple of 1/4.",
         ),
-        _ => say(
+        38 => say(
             b"Pixel Data (7FE0,0010) must be OW, or OB at 8 bits, and as long as Number of Frames (0028,0008) x Rows (0028,0010) x Columns (0028,0011) x bytes of a pixel, plus 1 if that is odd.",
+        ),
+        _ => say(
+            b"Frame Pixel Data Properties Sequence (0028,9443) SQ, where the frame has it, must have one item, and Pixel Intensity Relationship LUT Sequence (0028,9422) SQ items of which at most one is TO_LINEAR, as one must be where Pixel Intensity Relationship (0028,1040) is LOG; that one has a LUT Descriptor (0028,3002) US of three numbers, the last 16, and LUT Data (0028,3006) OW of two bytes an entry.",
         ),
     }
 }
 
-// The sentence of a rule from 1 to 38.
+// The sentence of a rule from 1 to 39.
 pub fn print_sentence(rule: usize) {
     if rule <= 16 {
         if rule <= 8 {

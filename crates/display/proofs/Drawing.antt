@@ -1,5 +1,5 @@
 -- Demand 3: every frame of an accepted object can be drawn, and `show` draws exactly those, as the steps say. The statement
--- stands in specs/Demand3, which opens with it in plain words; here is its proof. That no step lacks anything is from
+-- stands in specs/Drawing, which opens with it in plain words; here is its proof. That no step lacks anything is from
 -- Lacking; the rest follows what `show` answers back to what it was asked.
 use mathlib.Core.Path.{_≡_, refl, sym, ap, _∙_, subst}
 use mathlib.Core.Bool.{Bool, true, false, cond, _&&_}
@@ -27,7 +27,7 @@ use Rattle.steps.specs.Steps.{Picture, stepsOf}
 use Rattle.display.specs.declared.ShowAnswer.{ShowAnswer}
 use Rattle.display.specs.declared.ShowAnswer.the-variants as shown
 use Rattle.display.specs.Show.{isFrameOf, imageSize, pictureOf, acceptedAnswer, answerFor as shownFor, imageBy, showOf, imageOf, codeOf, rowCountOf, maskedOf}
-use Rattle.display.specs.Demand3.{Bytes, IsAccepted, IsFrame, HasRoom, Whole, HandsBack, Promise, Demand3}
+use Rattle.display.specs.Drawing.{Bytes, IsAccepted, IsFrame, HasRoom, Whole, HandsBack, Drawing}
 use Rattle.display.proofs.Lacking.{nothing-lacks}
 
 -- ---- Where there is room, the answer is a picture
@@ -132,8 +132,8 @@ module _ (s : List ℕ) (f : ℕ) (buffer image : List ℕ) where
 
 -- ---- The claim
 
-pub demand-3 : Demand3
-demand-3 s b f =
+pub drawing : (s : List ℕ) → Bytes s → (f : ℕ) → Drawing s f
+drawing s b f =
     record {
       drawable = whole;
       drawn = λ buffer image a i r. ap codeOf (shows s f buffer image a i r);

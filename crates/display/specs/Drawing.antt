@@ -1,4 +1,4 @@
--- Demand 3, as one statement. An object is accepted when it passes the size limit and the reading checks and breaks no
+-- The drawing part of demand 3, whose one statement is `Demand3` of `Rattle.linear`. An object is accepted when it passes the size limit and the reading checks and breaks no
 -- listed rule. Take any frame of it, from 1 to its Number of Frames. Then no drawing step lacks anything: the frame lies
 -- whole inside the pixel bytes, the functional groups that the steps open are there, every value has the VR, count and form
 -- that a step reads, every mask cell lies inside the picture, and no step divides by zero. So the steps give a picture,
@@ -7,7 +7,7 @@
 -- hands back, masked or native and cell for cell, is the picture that the steps give, and the image buffer is untouched
 -- beyond it. The statement covers all steps, frames and cells at once. It is made of the same definitions of the rules and
 -- of the steps that the calls are proved to follow, and no rule is built into the steps. Its proof stands in
--- proofs/Demand3.
+-- proofs/Drawing.
 use mathlib.Core.Path.{_≡_}
 use mathlib.Core.Bool.{cond}
 use mathlib.Core.List.{List, [], _∷_, _++_}
@@ -62,7 +62,7 @@ pub record HandsBack (s : List ℕ) (f : ℕ) (buffer image : List ℕ) (p : Pic
   pub masked : maskedOf (showOf s f buffer image) ≡ cond (p .masked) 1 0
   pub cells : imageOf s f buffer image ≡ p .samples ++ drop (imageSize (nodesOf s)) image
 
-pub record Promise (s : List ℕ) (f : ℕ) : Type 0 where
+pub record Drawing (s : List ℕ) (f : ℕ) : Type 0 where
   -- Every frame of an accepted object can be drawn.
   pub drawable : IsAccepted s → IsFrame s f → Whole (nodesOf s) f
   -- Every frame of an accepted object is drawn where there is room,
@@ -72,7 +72,3 @@ pub record Promise (s : List ℕ) (f : ℕ) : Type 0 where
   -- What is drawn is what the steps give.
   pub as-stepped : (buffer image : List ℕ) → codeOf (showOf s f buffer image) ≡ 0 → (p : Picture) → stepsOf (nodesOf s) f ≡ some p
       → HandsBack s f buffer image p
-
--- For every data set, given as bytes, and every frame number.
-abbrev pub Demand3 : Type 0
-Demand3 = (s : List ℕ) → Bytes s → (f : ℕ) → Promise s f
