@@ -68,5 +68,5 @@ pub extern "C" fn xa_root_level(cell: u64) -> u8
 pub extern "C" fn xa_root_entry(level: u8) -> u16
     ensures { λ r. ⌜ r ≡ entryOf level ⌝ }
 {
-    squareroot::entry(level as usize)
+    squareroot::entry(level)
 }

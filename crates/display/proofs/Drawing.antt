@@ -1,6 +1,6 @@
--- Demand 3: every frame of an accepted object can be drawn, and `show` draws exactly those, as the steps say. The statement
--- stands in specs/Drawing, which opens with it in plain words; here is its proof. That no step lacks anything is from
--- Lacking; the rest follows what `show` answers back to what it was asked.
+-- The drawing part of demand 3: every frame of an accepted object can be drawn, and `show` draws exactly those, as the steps
+-- say. The statement stands in specs/Drawing; here is its proof. That no step lacks anything is from Lacking; the rest follows
+-- what `show` answers back to what it was asked.
 use mathlib.Core.Path.{_≡_, refl, sym, ap, _∙_, subst}
 use mathlib.Core.Bool.{Bool, true, false, cond, _&&_}
 use mathlib.Core.List.{List, [], _∷_, _++_}
@@ -28,28 +28,12 @@ use Rattle.display.specs.declared.ShowAnswer.{ShowAnswer}
 use Rattle.display.specs.declared.ShowAnswer.the-variants as shown
 use Rattle.display.specs.Show.{isFrameOf, imageSize, pictureOf, acceptedAnswer, answerFor as shownFor, imageBy, showOf, imageOf, codeOf, rowCountOf, maskedOf}
 use Rattle.display.specs.Drawing.{Bytes, IsAccepted, IsFrame, HasRoom, Whole, HandsBack, Drawing}
+use Rattle.display.proofs.Codes.{was-frame, judged-accepted, was-judged}
 use Rattle.display.proofs.Lacking.{nothing-lacks}
 
 -- ---- Where there is room, the answer is a picture
 
-both : (p q : Bool) → p && q ≡ true → (p ≡ true) × (q ≡ true)
-both true q h = (refl, h)
-both false q h = let z : _≡_ {A = ℕ} 0 1 = cc in absurd (omega arith)
-
-room-answer : (rows : List Row) (buffer : List ℕ) → width * length rows ≤ length buffer → answerOf (read rows) buffer ≡ answer.Done (length rows)
-room-answer rows buffer h = rw (le-leb (width * length rows) (length buffer) h)
-
 module _ (s : List ℕ) (f : ℕ) (buffer image : List ℕ) where
-  rows-are : (a : IsAccepted s) → rowsOf s ≡ a .rows
-  unfolding rowsOf
-  rows-are a = ap rowsIn (a .reads)
-
-  judged-accepted : (a : IsAccepted s) → HasRoom s buffer image → judgeOf s buffer ≡ judged.Accepted (length (rowsOf s))
-  unfolding judgeOf
-  judged-accepted a r =
-      let h : width * length (a .rows) ≤ length buffer = subst (λ (l : List Row). width * length l ≤ length buffer) (rows-are a) (r .rows) in
-      rw (a .reads, room-answer (a .rows) buffer h, a .sound, rows-are a)
-
   answer-drawn : (n : ℕ) → IsFrame s f → HasRoom s buffer image → acceptedAnswer (nodesOf s) f image n ≡ shown.Drawn n (pictureOf (nodesOf s) f .masked)
   unfolding acceptedAnswer
   answer-drawn n i r =
@@ -57,7 +41,7 @@ module _ (s : List ℕ) (f : ℕ) (buffer image : List ℕ) where
 
   shows : (a : IsAccepted s) → IsFrame s f → HasRoom s buffer image → showOf s f buffer image ≡ shown.Drawn (length (rowsOf s)) (pictureOf (nodesOf s) f .masked)
   unfolding showOf
-  shows a i r = rw (judged-accepted a r, answer-drawn (length (rowsOf s)) i r)
+  shows a i r = rw (judged-accepted s buffer a (r .rows), answer-drawn (length (rowsOf s)) i r)
 
   -- ---- And from a picture back to what there was
 
@@ -73,39 +57,17 @@ module _ (s : List ℕ) (f : ℕ) (buffer image : List ℕ) where
       go : (t u : Bool) → isFrameOf (nodesOf s) f ≡ t → leb (imageSize (nodesOf s)) (length image) ≡ u
           → codeOf (cond t (cond u (shown.Drawn n (pictureOf (nodesOf s) f .masked)) shown.NoImageRoom) shown.NoFrame) ≡ 0 → Shown n
       go true true p q e =
-          let b = both (leb 1 f) (leb f (numberOf (framesOf (nodesOf s)))) p in
-          record {
-            frame = record { low = leb-true 1 f (b .0); high = leb-true f (numberOf (framesOf (nodesOf s))) (b .1) };
-            cells = leb-true (imageSize (nodesOf s)) (length image) q;
-          }
+          record { frame = was-frame s f p; cells = leb-true (imageSize (nodesOf s)) (length image) q }
       go true false p q e = absurd (omega (arith, e))
       go false u p q e = absurd (omega (arith, e))
 
-  -- An answer of the judge that lets a picture follow is that of an accepted object with room for its rows.
-  record Judged (r : Reading) (found : Finding) : Type 0 where
-    pub rows : List Row
-    pub reads : r ≡ read rows
-    pub sound : found ≡ finding.Accepted
-    pub room : width * length (rowsIn r) ≤ length buffer
-    pub code : codeOf (acceptedAnswer (nodesOf s) f image (length rows)) ≡ 0
-
-  was-judged : (r : Reading) (found : Finding) → Small (answerOf r buffer) → codeOf (shownFor (nodesOf s) f image (answerFor found (answerOf r buffer))) ≡ 0 → Judged r found
-  was-judged tooLarge found w e = absurd (omega (arith, e))
-  was-judged (refusedAt code offset) found w e = absurd (omega (arith, e, w .0))
-  was-judged (read rows) found w e = go found (leb (width * length rows) (length buffer)) refl e
-    where
-      go : (x : Finding) (t : Bool) → leb (width * length rows) (length buffer) ≡ t
-          → codeOf (shownFor (nodesOf s) f image (answerFor x (cond t (answer.Done (length rows)) answer.NoRoom))) ≡ 0 → Judged (read rows) x
-      go finding.Accepted true p e = record { rows = rows; reads = refl; sound = refl; room = leb-true (width * length rows) (length buffer) p; code = e }
-      go (finding.Broken rule frame) true p e = absurd (omega (arith, e))
-      go x false p e = absurd (omega (arith, e))
-
   was-accepted : codeOf (showOf s f buffer image) ≡ 0 → IsAccepted s × (IsFrame s f × HasRoom s buffer image)
-  unfolding showOf judgeOf rowsOf
+  unfolding showOf
   was-accepted e =
-      let j = was-judged (readingOf s) (findingOf (nodesOf s)) (answer-small s buffer) e in
-      let d = was-shown (length (j .rows)) (j .code) in
-      (record { rows = j .rows; reads = j .reads; sound = j .sound }, (d .frame, record { rows = j .room; cells = d .cells }))
+      let j = was-judged s buffer (λ a. codeOf (shownFor (nodesOf s) f image a))
+      (record { broken = λ n rule frame. refl; refused = λ code offset. refl; too-large = refl; no-room = refl }) e in
+      let d = was-shown (length (j .accepted .rows)) (j .code) in
+      (j .accepted, (d .frame, record { rows = j .room; cells = d .cells }))
 
   -- ---- What is handed back
 

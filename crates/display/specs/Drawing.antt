@@ -1,13 +1,13 @@
--- The drawing part of demand 3, whose one statement is `Demand3` of `Rattle.linear`. An object is accepted when it passes the size limit and the reading checks and breaks no
--- listed rule. Take any frame of it, from 1 to its Number of Frames. Then no drawing step lacks anything: the frame lies
--- whole inside the pixel bytes, the functional groups that the steps open are there, every value has the VR, count and form
--- that a step reads, every mask cell lies inside the picture, and no step divides by zero. So the steps give a picture,
--- native or masked, of exactly Rows × Columns cells, each from 0 to 255. And `show` answers code 0 exactly when the object
--- is accepted, the number is that of one of its frames, and there is room for the rows and for the cells; what it then
--- hands back, masked or native and cell for cell, is the picture that the steps give, and the image buffer is untouched
--- beyond it. The statement covers all steps, frames and cells at once. It is made of the same definitions of the rules and
--- of the steps that the calls are proved to follow, and no rule is built into the steps. Its proof stands in
--- proofs/Drawing.
+-- The drawing part of demand 3, whose one statement is `Demand3` of `Rattle.linear`. An object is accepted when it passes the
+-- size limit and the reading checks and breaks no listed rule. Take any frame of it, from 1 to its Number of Frames. Then no
+-- drawing step lacks anything: the frame lies whole inside the pixel bytes, the functional groups that the steps open are
+-- there, every value has the VR, count and form that a step reads, every mask cell lies inside the picture, and no step divides
+-- by zero. So the steps give a picture, native or masked, of exactly Rows × Columns cells, each from 0 to 255. And `show`
+-- answers code 0 exactly when the object is accepted, the number is that of one of its frames, and there is room for the rows
+-- and for the cells; what it then hands back, masked or native and cell for cell, is the picture that the steps give, and the
+-- image buffer is untouched beyond it. The statement covers all steps, frames and cells at once. It is made of the same
+-- definitions of the rules and of the steps that the calls are proved to follow, and no rule is built into the steps. Its proof
+-- stands in proofs/Drawing.
 use mathlib.Core.Path.{_≡_}
 use mathlib.Core.Bool.{cond}
 use mathlib.Core.List.{List, [], _∷_, _++_}
@@ -39,7 +39,7 @@ pub record IsFrame (s : List ℕ) (f : ℕ) : Type 0 where
   pub low : 1 ≤ f
   pub high : f ≤ numberOf (framesOf (nodesOf s))
 
--- Room as codes 8 and 11 count it: seven numbers for each row, and a byte for each cell.
+-- Room as codes 8 and 11 count it: seven numbers for each row, and a place for each cell.
 pub record HasRoom (s buffer image : List ℕ) : Type 0 where
   pub rows : width * length (rowsOf s) ≤ length buffer
   pub cells : imageSize (nodesOf s) ≤ length image

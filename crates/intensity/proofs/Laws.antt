@@ -1,15 +1,17 @@
--- TO_LINEAR items along members, one at a time; grades by their parts.
+-- TO_LINEAR items along members, one at a time; grades by their parts; the count of entries.
 use mathlib.Core.Path.{_≡_, refl, sym, ap, _∙_}
 use Prim.Native.Nat.{ℕ, _≤_, _<_}
 use native.Mathlib.Omega.{arith}
 use borrow.Author.Tests.{lt-leb}
 use lib.ListN.{length}
 use mathlib.Core.List.{List, [], _∷_}
-use mathlib.Core.Bool.{Bool, true, false}
+use mathlib.Core.Bool.{Bool, true, false, cond}
+use lib.Dec.{eqb}
+use Rattle.dataset.specs.Bytes.{le16}
 use Rattle.node.specs.Nodes.{Node, nextNode, members}
 use Rattle.node.proofs.Walks.{members-end, members-next}
 use Rattle.element.specs.Elements.{every}
-use Rattle.rules.specs.Intensity.{isLinear, linearAmong, hasLut, areLuts}
+use Rattle.rules.specs.Intensity.{isLinear, linearAmong, entryCount, hasLut, areLuts}
 use Rattle.intensity.specs.Grades.{lutsOf}
 use Rattle.intensity.specs.Said.{Stops}
 
@@ -57,3 +59,10 @@ module _ (ns : List Node) (from to k : ℕ) (at : Stops ns from to k) where
 
     pub luts-more : other < to → lutsOf ns (linearAmong ns (members ns from to)) ≡ 0
     luts-more h = rw (rest, linear-here ns other to h (later .stands h)) (luts-two ns k other (linearAmong ns (members ns (nextNode ns other) to)))
+
+-- How many entries a descriptor says.
+pub count-zero : (d : List ℕ) → le16 d 0 ≡ 0 → entryCount d ≡ 65536
+count-zero d e = rw e
+
+pub count-some : (d : List ℕ) (n : ℕ) → n ≡ le16 d 0 → eqb n 0 ≡ false → entryCount d ≡ n
+count-some d n e h = rw (← e, h)

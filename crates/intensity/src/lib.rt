@@ -4,7 +4,7 @@ ghost use Prim.Native.Nat.{ℕ, _≤_, _<_};
 ghost use lib.ListN.{length};
 ghost use Rattle.node.specs.Nodes.{nodesOf, members};
 ghost use Rattle.node.specs.Table.{Table};
-ghost use Rattle.rules.specs.Intensity.{isLinear, linearAmong, isLut, hasLut};
+ghost use Rattle.rules.specs.Intensity.{isLinear, linearAmong, entryCount, isLut, hasLut};
 ghost use Rattle.intensity.specs.Grades.{agree, relationOf, lutsOf, tableOf, relationIn, tableIn};
 ghost use Rattle.intensity.specs.Said.{Stops};
 use dataset::u16_at;
@@ -38,18 +38,23 @@ pub fn next_linear(bytes: &[u8], rows: &[u32], from: usize, to: usize) -> usize
     j
 }
 
+// How many entries a LUT Descriptor says: 0 stands for 65,536.
+pub fn entry_count(descriptor: &[u8]) -> usize
+    requires { ⌜ 2 ≤ length (now descriptor) ⌝ }
+    ensures { λ r. ⌜ r ≡ entryCount (now (descriptor .entry)) ⌝ }
+    ensures { λ r. ⌜ (1 ≤ r) × (r ≤ 65536) ⌝ }
+{
+    let n = u16_at(descriptor, 0);
+    if n == 0 { 65_536 } else { n }
+}
+
 // A descriptor of three numbers, the last 16, and two bytes for each entry.
 fn is_lut(descriptor: &[u8], table: &[u8]) -> bool
     ensures { λ r. ⌜ r ≡ isLut (now (descriptor .entry)) (now (table .entry)) ⌝ }
 {
     if descriptor.len() == 6 {
         if u16_at(descriptor, 4) == 16 {
-            let n = u16_at(descriptor, 0);
-            if n == 0 {
-                table.len() == 131_072
-            } else {
-                table.len() == 2 * n
-            }
+            table.len() == 2 * entry_count(descriptor)
         } else {
             false
         }

@@ -16,20 +16,11 @@ use Rattle.conformance.specs.declared.JudgeAnswer.{JudgeAnswer}
 use Rattle.conformance.specs.Judging.{judgeOf}
 use Rattle.steps.specs.Given.{need, then}
 use Rattle.display.specs.Show.{imageSize}
+use Rattle.display.proofs.Answers.{none-frame, low-frame, high-frame}
 use Rattle.linear.specs.declared.LinearAnswer.{LinearAnswer}
 use Rattle.linear.specs.declared.LinearAnswer.the-variants as linear
 use Rattle.linear.specs.Mapping.{linearFor, isMapped, mappingBy, mappingOf}
 use Rattle.linear.specs.Answer.{entriesIn, entriesOf, acceptedAnswer, answerFor, linearOf, valuesBy, valuesOf}
-
-none-frame : (f : ℕ) → leb 1 f && leb f 0 ≡ false
-none-frame zero = refl
-none-frame (suc f) = rw (lt-leb (suc f) 0 (omega arith), and-false)
-
-high-frame : (f n : ℕ) → n < f → leb 1 f && leb f n ≡ false
-high-frame f n h = rw (lt-leb f n h, and-false)
-
-low-frame : (f n : ℕ) → f < 1 → leb 1 f && leb f n ≡ false
-low-frame f n h = rw (lt-leb 1 f h)
 
 -- The numbers by the item.
 pub entries-are : (ns : List Node) (f j : ℕ) → linearFor ns f ≡ some (Is j) → entriesOf ns f ≡ entriesIn (mappingBy ns f j)

@@ -28,6 +28,7 @@ use Rattle.node.specs.Nodes.{root}
 use Rattle.pixel.specs.Pixel.{samplesOf}
 use Rattle.display.specs.Show.{isFrameOf, imageSize}
 use Rattle.display.specs.Drawing.{Bytes, IsAccepted, IsFrame, HasRoom}
+use Rattle.display.proofs.Codes.{was-frame, judged-accepted, was-judged}
 use Rattle.display.proofs.Objects.{object, same-is}
 use Rattle.display.proofs.Small.{us-in-small}
 use Rattle.display.proofs.Lacking.{geometry-size}
@@ -41,84 +42,45 @@ use Rattle.linear.specs.Demand3.{Mapped, Measured, Promise, Demand3}
 use Rattle.linear.proofs.Accepted.{mappable, item-lut}
 use Rattle.linear.proofs.Maps as maps
 
--- ---- Where there is room, the answer is a picture
+-- ---- Where there is room, the answer is the numbers
 
-both : (p q : Bool) → p && q ≡ true → (p ≡ true) × (q ≡ true)
-both true q h = (refl, h)
-both false q h = let z : _≡_ {A = ℕ} 0 1 = cc in absurd (omega arith)
-
-room-answer : (rows : List Row) (buffer : List ℕ) → width * length rows ≤ length buffer → answerOf (read rows) buffer ≡ answer.Done (length rows)
-room-answer rows buffer h = rw (le-leb (width * length rows) (length buffer) h)
-
-module _ (s : List ℕ) (f : ℕ) (buffer image : List ℕ) where
-  rows-are : (a : IsAccepted s) → rowsOf s ≡ a .rows
-  unfolding rowsOf
-  rows-are a = ap rowsIn (a .reads)
-
-  judged-accepted : (a : IsAccepted s) → HasRoom s buffer image → judgeOf s buffer ≡ judged.Accepted (length (rowsOf s))
-  unfolding judgeOf
-  judged-accepted a r =
-      let h : width * length (a .rows) ≤ length buffer = subst (λ (l : List Row). width * length l ≤ length buffer) (rows-are a) (r .rows) in
-      rw (a .reads, room-answer (a .rows) buffer h, a .sound, rows-are a)
-
-  answer-mapped : (n : ℕ) → IsFrame s f → isMapped (nodesOf s) f ≡ true → HasRoom s buffer image → acceptedAnswer (nodesOf s) f image n ≡ linear.Mapped n
+module _ (s : List ℕ) (f : ℕ) (buffer values : List ℕ) where
+  answer-mapped : (n : ℕ) → IsFrame s f → isMapped (nodesOf s) f ≡ true → HasRoom s buffer values → acceptedAnswer (nodesOf s) f values n ≡ linear.Mapped n
   unfolding acceptedAnswer
   answer-mapped n i m r =
-      rw (le-leb 1 f (i .low), le-leb f (numberOf (framesOf (nodesOf s))) (i .high), m, le-leb (imageSize (nodesOf s)) (length image) (r .cells))
+      rw (le-leb 1 f (i .low), le-leb f (numberOf (framesOf (nodesOf s))) (i .high), m, le-leb (imageSize (nodesOf s)) (length values) (r .cells))
 
-  maps-to : (a : IsAccepted s) → IsFrame s f → isMapped (nodesOf s) f ≡ true → HasRoom s buffer image → linearOf s f buffer image ≡ linear.Mapped (length (rowsOf s))
+  maps-to : (a : IsAccepted s) → IsFrame s f → isMapped (nodesOf s) f ≡ true → HasRoom s buffer values → linearOf s f buffer values ≡ linear.Mapped (length (rowsOf s))
   unfolding linearOf
-  maps-to a i m r = rw (judged-accepted a r, answer-mapped (length (rowsOf s)) i m r)
+  maps-to a i m r = rw (judged-accepted s buffer a (r .rows), answer-mapped (length (rowsOf s)) i m r)
 
   -- ---- And from numbers back to what there was
 
-  record Shown (n : ℕ) : Type 0 where
+  -- What the answer of an accepted object says of the frame, its item and the values buffer.
+  record Taken (n : ℕ) : Type 0 where
     pub frame : IsFrame s f
     pub item : isMapped (nodesOf s) f ≡ true
-    pub cells : imageSize (nodesOf s) ≤ length image
+    pub cells : imageSize (nodesOf s) ≤ length values
 
-  was-shown : (n : ℕ) → codeOf (acceptedAnswer (nodesOf s) f image n) ≡ 0 → Shown n
+  was-taken : (n : ℕ) → codeOf (acceptedAnswer (nodesOf s) f values n) ≡ 0 → Taken n
   unfolding acceptedAnswer
-  was-shown n e = go (isFrameOf (nodesOf s) f) (isMapped (nodesOf s) f) (leb (imageSize (nodesOf s)) (length image)) refl refl refl e
+  was-taken n e = go (isFrameOf (nodesOf s) f) (isMapped (nodesOf s) f) (leb (imageSize (nodesOf s)) (length values)) refl refl refl e
     where
-      go : (t m u : Bool) → isFrameOf (nodesOf s) f ≡ t → isMapped (nodesOf s) f ≡ m → leb (imageSize (nodesOf s)) (length image) ≡ u
-          → codeOf (cond t (cond m (cond u (linear.Mapped n) linear.NoValuesRoom) linear.NoItem) linear.NoFrame) ≡ 0 → Shown n
+      go : (t m u : Bool) → isFrameOf (nodesOf s) f ≡ t → isMapped (nodesOf s) f ≡ m → leb (imageSize (nodesOf s)) (length values) ≡ u
+          → codeOf (cond t (cond m (cond u (linear.Mapped n) linear.NoValuesRoom) linear.NoItem) linear.NoFrame) ≡ 0 → Taken n
       go true true true p w q e =
-          let b = both (leb 1 f) (leb f (numberOf (framesOf (nodesOf s)))) p in
-          record {
-            frame = record { low = leb-true 1 f (b .0); high = leb-true f (numberOf (framesOf (nodesOf s))) (b .1) };
-            item = w;
-            cells = leb-true (imageSize (nodesOf s)) (length image) q;
-          }
+          record { frame = was-frame s f p; item = w; cells = leb-true (imageSize (nodesOf s)) (length values) q }
       go true true false p w q e = absurd (omega (arith, e))
       go true false u p w q e = absurd (omega (arith, e))
       go false m u p w q e = absurd (omega (arith, e))
 
-  -- An answer of the judge that lets numbers follow is that of an accepted object with room for its rows.
-  record Judged (r : Reading) (found : Finding) : Type 0 where
-    pub rows : List Row
-    pub reads : r ≡ read rows
-    pub sound : found ≡ finding.Accepted
-    pub room : width * length (rowsIn r) ≤ length buffer
-    pub code : codeOf (acceptedAnswer (nodesOf s) f image (length rows)) ≡ 0
-
-  was-judged : (r : Reading) (found : Finding) → Small (answerOf r buffer) → codeOf (linearFrom (nodesOf s) f image (answerFor found (answerOf r buffer))) ≡ 0 → Judged r found
-  was-judged tooLarge found w e = absurd (omega (arith, e))
-  was-judged (refusedAt code offset) found w e = absurd (omega (arith, e, w .0))
-  was-judged (read rows) found w e = go found (leb (width * length rows) (length buffer)) refl e
-    where
-      go : (x : Finding) (t : Bool) → leb (width * length rows) (length buffer) ≡ t
-          → codeOf (linearFrom (nodesOf s) f image (answerFor x (cond t (answer.Done (length rows)) answer.NoRoom))) ≡ 0 → Judged (read rows) x
-      go finding.Accepted true p e = record { rows = rows; reads = refl; sound = refl; room = leb-true (width * length rows) (length buffer) p; code = e }
-      go (finding.Broken rule frame) true p e = absurd (omega (arith, e))
-      go x false p e = absurd (omega (arith, e))
-
-  was-accepted : codeOf (linearOf s f buffer image) ≡ 0 → IsAccepted s × (IsFrame s f × ((isMapped (nodesOf s) f ≡ true) × HasRoom s buffer image))
-  unfolding linearOf judgeOf rowsOf
+  was-accepted : codeOf (linearOf s f buffer values) ≡ 0 → IsAccepted s × (IsFrame s f × ((isMapped (nodesOf s) f ≡ true) × HasRoom s buffer values))
+  unfolding linearOf
   was-accepted e =
-      let j = was-judged (readingOf s) (findingOf (nodesOf s)) (answer-small s buffer) e in
-      let d = was-shown (length (j .rows)) (j .code) in
-      (record { rows = j .rows; reads = j .reads; sound = j .sound }, (d .frame, (d .item, record { rows = j .room; cells = d .cells })))
+      let j = was-judged s buffer (λ a. codeOf (linearFrom (nodesOf s) f values a))
+      (record { broken = λ n rule frame. refl; refused = λ code offset. refl; too-large = refl; no-room = refl }) e in
+      let d = was-taken (length (j .accepted .rows)) (j .code) in
+      (j .accepted, (d .frame, (d .item, record { rows = j .room; cells = d .cells })))
 
   -- ---- What is handed back
 
@@ -126,13 +88,13 @@ module _ (s : List ℕ) (f : ℕ) (buffer image : List ℕ) where
   unfolding entriesOf
   entries-is l e = rw e
 
-  values-is : (a : IsAccepted s) → IsFrame s f → isMapped (nodesOf s) f ≡ true → HasRoom s buffer image
-      → valuesOf s f buffer image ≡ entriesOf (nodesOf s) f ++ drop (length (entriesOf (nodesOf s) f)) image
+  values-is : (a : IsAccepted s) → IsFrame s f → isMapped (nodesOf s) f ≡ true → HasRoom s buffer values
+      → valuesOf s f buffer values ≡ entriesOf (nodesOf s) f ++ drop (length (entriesOf (nodesOf s) f)) values
   unfolding valuesOf
   values-is a i m r = rw (maps-to a i m r)
 
-  handed : (a : IsAccepted s) → IsFrame s f → isMapped (nodesOf s) f ≡ true → HasRoom s buffer image → (w : Mapped (nodesOf s) f) (l : List ℕ) → mappingOf (nodesOf s) f ≡ some l
-      → Measured s f buffer image l
+  handed : (a : IsAccepted s) → IsFrame s f → isMapped (nodesOf s) f ≡ true → HasRoom s buffer values → (w : Mapped (nodesOf s) f) (l : List ℕ) → mappingOf (nodesOf s) f ≡ some l
+      → Measured s f buffer values l
   handed a i m r w l e =
       let q = entries-is l e in
       let same : some (w .l) ≡ some l = sym (w .is) ∙ e in
@@ -140,8 +102,8 @@ module _ (s : List ℕ) (f : ℕ) (buffer image : List ℕ) where
       record {
         rows = ap rowCountOf (maps-to a i m r);
         numbers =
-            subst (λ (n : ℕ). valuesOf s f buffer image ≡ l ++ drop n image) (ap length (sym v) ∙ w .size)
-            (subst (λ (x : List ℕ). valuesOf s f buffer image ≡ x ++ drop (length x) image) q (values-is a i m r));
+            subst (λ (n : ℕ). valuesOf s f buffer values ≡ l ++ drop n values) (ap length (sym v) ∙ w .size)
+            (subst (λ (x : List ℕ). valuesOf s f buffer values ≡ x ++ drop (length x) values) q (values-is a i m r));
       }
 
 -- ---- The mapping lacks nothing

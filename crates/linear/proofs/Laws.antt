@@ -47,12 +47,6 @@ module _ (from count x : ℕ) where
   unfolding placeOf
   place-above h k = rw (le-ltb x from h, le-ltb x (from + count) k)
 
-pub count-zero : (d : List ℕ) → le16 d 0 ≡ 0 → entryCount d ≡ 65536
-count-zero d e = rw e
-
-pub count-some : (d : List ℕ) (n : ℕ) → n ≡ le16 d 0 → eqb n 0 ≡ false → entryCount d ≡ n
-count-some d n e h = rw (← e, h)
-
 -- A place is one of the entries.
 pub place-most : (from count x : ℕ) → 1 ≤ count → placeOf from count x < count
 unfolding placeOf

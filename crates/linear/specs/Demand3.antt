@@ -1,9 +1,12 @@
--- Demand 3, as one statement over drawing and mapping. An object is accepted when it passes the size limit and the reading
--- checks and breaks no listed rule. Take any frame of it, from 1 to its Number of Frames. Then no drawing step lacks anything,
--- and `show` draws it, as the records of `Rattle.display` say. And where the frame has a TO_LINEAR item, its mapping lacks no
--- value, cell or entry: it gives exactly Rows × Columns numbers. `linear` answers code 0 exactly when the object is accepted, the
--- number is that of one of its frames, the frame has a TO_LINEAR item, and there is room for the rows and for Rows × Columns
--- numbers; what it then hands back is what the mapping gives, and the values buffer is untouched beyond it.
+-- Demand 3, one statement over drawing and mapping. An object is accepted when it passes the size limit and the reading checks
+-- and breaks no listed rule. Take any frame of it, from 1 to its Number of Frames. Then no drawing step lacks anything and
+-- `show` draws the frame, as `Drawing` of `Rattle.display` says. And where the frame has a TO_LINEAR item, its mapping lacks no
+-- value, cell or entry: it gives exactly Rows × Columns numbers. `linear` answers code 0 exactly when the object is accepted,
+-- the number is that of one of its frames, the frame has a TO_LINEAR item, and there is room for the rows and for
+-- Rows × Columns numbers; what it then hands back is what the mapping gives, and the values buffer is untouched beyond it. The
+-- statement covers all steps, frames, cells and entries at once. It is made of the same definitions of the rules, the steps and
+-- the mapping that the calls are proved to follow, and no rule is built into the steps or the mapping. Its proof stands in
+-- proofs/Demand3.
 use mathlib.Core.Path.{_≡_}
 use mathlib.Core.Bool.{true}
 use mathlib.Core.List.{List, _++_}
@@ -29,6 +32,7 @@ pub record Measured (s : List ℕ) (f : ℕ) (buffer values l : List ℕ) : Type
   pub numbers : valuesOf s f buffer values ≡ l ++ drop (imageSize (nodesOf s)) values
 
 pub record Promise (s : List ℕ) (f : ℕ) : Type 0 where
+  -- Drawing: every frame of an accepted object can be drawn and is, nothing else is, and as the steps say.
   pub drawing : Drawing s f
   -- Every frame of an accepted object that has a TO_LINEAR item can be mapped.
   pub mappable : IsAccepted s → IsFrame s f → isMapped (nodesOf s) f ≡ true → Mapped (nodesOf s) f

@@ -1,5 +1,6 @@
 -- Back to beam intensity (document 02, Q-8): the mapping of frame f, over the nodes of a data set that reads well, accepted
--- or not. No rule is built in: what it needs and does not find is lacking, and then it gives `none`.
+-- or not. It takes each cell of the frame to its entry in the LUT of the frame's TO_LINEAR item. No rule is built in: what it
+-- needs and does not find is lacking, and then it gives `none`.
 use Prim.Native.Nat.{ℕ, _+_, _-_, _*_}
 use mathlib.Core.Bool.{Bool, true, false, cond, _&&_}
 use mathlib.Core.List.{List}
@@ -20,11 +21,13 @@ use Rattle.pixel.specs.Pixel.{samplesOf, isFrame, sampleAt}
 use Rattle.steps.specs.Given.{need, check, then, collect}
 use Rattle.steps.specs.Steps.{geometryOf, pixelsOf, groupFor}
 
--- The frame's TO_LINEAR item, or that it has none. The items of its Pixel Intensity Relationship LUT Sequence are opened.
+-- The first TO_LINEAR item of a frame's Pixel Intensity Relationship LUT Sequence (0028,9422), or that there is none; a group that
+-- is no sequence lacks its items.
 abbrev pub linearOn : List Node → Num → Option Num
 linearOn ns Lacks = some Lacks
 linearOn ns (Is g) = check (eqb (nodeAt ns g .vr) SQ) (some (first (linearAmong ns (inside ns g))))
 
+-- The frame's TO_LINEAR item, or that it has none.
 unfoldable pub linearFor : List Node → ℕ → Option Num
 linearFor ns f = then (groupFor ns f Tags.PixelIntensityRelationshipLUTSequence) (linearOn ns)
 
@@ -43,7 +46,8 @@ entryAt d t x = le16 t (2 * entryPlace d x)
 unfoldable pub entryOf : List ℕ → List ℕ → ℕ → Num
 entryOf d t x = cond (leb (2 * entryPlace d x + 2) (length t)) (Is (entryAt d t x)) Lacks
 
--- The entries of the frame's cells (step 1: modulo 2^stored, no mask and no window), by TO_LINEAR item j.
+-- The entries of the frame's cells (step 1: modulo 2^stored, no mask and no window), by TO_LINEAR item j: its LUT Descriptor
+-- (0028,3002) US, of three numbers, the last 16, and its LUT Data (0028,3006) OW.
 unfoldable pub mappingBy : List Node → ℕ → ℕ → Option (List ℕ)
 mappingBy ns f j =
     then (geometryOf ns) (λ g.

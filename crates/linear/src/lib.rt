@@ -13,7 +13,6 @@ ghost use Rattle.node.specs.Nodes.{nodesOf};
 ghost use Rattle.node.specs.Table.{Table};
 ghost use Rattle.pixel.specs.Pixel.{samplesOf, sampleAt};
 ghost use Rattle.pixel.specs.Painted.{painted};
-ghost use Rattle.rules.specs.Intensity.{entryCount};
 ghost use Rattle.value.specs.declared.Num.the-variants as num;
 ghost use Rattle.steps.specs.Said.{foundOf, FoundBelow};
 ghost use Rattle.linear.specs.Mapping.{linearOn, linearFor, placeOf, entryAt, mappingBy};
@@ -80,15 +79,6 @@ fn linear_for(bytes: &[u8], rows: &[u32], frame: usize) -> Found
 
 // ---- Cells to entries
 
-fn entry_count(descriptor: &[u8]) -> usize
-    requires { ⌜ 2 ≤ length (now descriptor) ⌝ }
-    ensures { λ r. ⌜ r ≡ entryCount (now (descriptor .entry)) ⌝ }
-    ensures { λ r. ⌜ (1 ≤ r) × (r ≤ 65536) ⌝ }
-{
-    let n = u16_at(descriptor, 0);
-    if n == 0 { 65_536 } else { n }
-}
-
 // The place of cell x's entry.
 fn place(from: usize, count: usize, x: usize) -> usize
     requires { ⌜ (1 ≤ count) × ((count ≤ 65536) × (from < 65536)) ⌝ }
@@ -128,7 +118,7 @@ fn map_cells(
     let first = (frame - 1) * n;
     let low = pixel::power(g.stored) - 1;
     let from = u16_at(descriptor, 2);
-    let count = entry_count(descriptor);
+    let count = intensity::entry_count(descriptor);
     for i in 0..n {
         let x = pixel::sample(pixels, g, low, first + i);
         values[i] = entry(entries, place(from, count, x));

@@ -1,4 +1,6 @@
--- Rule 39, which is asked at each frame: the way back to beam intensity (document 02, Q-8).
+-- Rule 39, which is asked at each frame: the way back to beam intensity (document 02, Q-8). It reads two of the frame's
+-- functional groups, each that in item f, of any VR, else the shared one: Frame Pixel Data Properties (0028,9443), which says how
+-- cells and intensity are related, and Pixel Intensity Relationship LUT Sequence (0028,9422), whose TO_LINEAR item maps them.
 use Prim.Native.Nat.{ℕ, _*_}
 use mathlib.Core.List.{List, [], _∷_}
 use mathlib.Core.Bool.{Bool, cond, not, _&&_, _||_}
@@ -15,15 +17,17 @@ use Rattle.element.specs.Elements.{valueAt, csIs, oneItem, theItem, every}
 use Rattle.element.specs.Frames.{groupOf}
 use Rattle.rules.specs.Frame.{atFrame}
 
--- A TO_LINEAR item: LUT Function (0028,9474) CS is TO_LINEAR. Those among items.
+-- A TO_LINEAR item: LUT Function (0028,9474) CS is TO_LINEAR, one value. Nothing is asked of any other item.
 unfoldable pub isLinear : List Node → ℕ → Bool
 isLinear ns j = csIs ns Tags.LUTFunction (ascii "TO_LINEAR") (inside ns j)
 
+-- The TO_LINEAR items among items.
 unfoldable pub linearAmong : List Node → List ℕ → List ℕ
 linearAmong ns [] = []
 linearAmong ns (j ∷ js) = cond (isLinear ns j) (j ∷ linearAmong ns js) (linearAmong ns js)
 
--- The numbers of a LUT Descriptor: how many entries (0 stands for 65,536), the first mapped cell, the bits of an entry.
+-- A LUT Descriptor has three numbers of two bytes: how many entries, the first mapped cell, the bits of an entry. Of entries 0
+-- stands for 65,536.
 abbrev pub entryCount : List ℕ → ℕ
 entryCount d = cond (eqb (le16 d 0) 0) 65536 (le16 d 0)
 
@@ -37,14 +41,15 @@ hasLut ns j =
     holds (findVr ns Tags.LUTDescriptor US (inside ns j)) (λ d.
     holds (findVr ns Tags.LUTData OW (inside ns j)) (λ t. isLut (valueAt ns d) (valueAt ns t)))
 
--- Pixel Intensity Relationship LUT Sequence (0028,9422): at least one item, at most one TO_LINEAR item, and what that has.
+-- Of TO_LINEAR items: at most one, and it has its LUT.
 unfoldable pub areLuts : List Node → List ℕ → Bool
 areLuts ns js = leb (length js) 1 && every (hasLut ns) js
 
+-- Pixel Intensity Relationship LUT Sequence (0028,9422): at least one item, and of them TO_LINEAR as above.
 unfoldable pub isLutGroup : List Node → ℕ → Bool
 isLutGroup ns g = eqb (nodeAt ns g .vr) SQ && (leb 1 (length (inside ns g)) && areLuts ns (linearAmong ns (inside ns g)))
 
--- It has one TO_LINEAR item.
+-- It is with one TO_LINEAR item.
 unfoldable pub hasLinear : List Node → ℕ → Bool
 hasLinear ns g = eqb (length (linearAmong ns (inside ns g))) 1
 

@@ -1,4 +1,4 @@
 -- What the proofs use, and the theorems.
 pub mod Table
 pub mod Roots
-pub mod Theorems
+pub mod Derivation

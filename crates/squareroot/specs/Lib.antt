@@ -1,2 +1,2 @@
 pub mod SquareRoot
-pub mod Claims
+pub mod Derivation

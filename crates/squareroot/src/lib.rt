@@ -1,6 +1,5 @@
 // The square root derivation of source document 002, 14 bits to 8, with the desk's own scale.
 ghost use mathlib.Core.Path.{_≡_};
-ghost use Prim.Native.Nat.{_≤_};
 ghost use Rattle.squareroot.specs.SquareRoot.{levelOf, entryOf};
 
 // The TO_LINEAR entries: p × p / 4, rounded up.
@@ -264,11 +263,10 @@ const ENTRIES: [u16; 256] = [
 ];
 
 // The entry of a level.
-pub fn entry(p: usize) -> u16
-    requires { ⌜ p ≤ 255 ⌝ }
+pub fn entry(p: u8) -> u16
     ensures { λ r. ⌜ r ≡ entryOf p ⌝ }
 {
-    ENTRIES[p]
+    ENTRIES[p as usize]
 }
 
 // The largest p with p × p ≤ 4v, for the lowest 14 bits v of the cell: low × low ≤ 4v < high × high, halved eight times.

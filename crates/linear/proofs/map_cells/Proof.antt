@@ -15,7 +15,7 @@ use Rattle.linear.proofs.map_cells.Reads as reads
 use Rattle.linear.proofs.map_cells.Lts as lts
 use Rattle.dataset.proofs.u16_at.Reads as u16-at-reads
 use Rattle.linear.proofs.entry.Reads as entry-reads
-use Rattle.linear.proofs.entry_count.Reads as entry-count-reads
+use Rattle.intensity.proofs.entry_count.Reads as entry-count-reads
 use Rattle.linear.proofs.place.Reads as place-reads
 use Rattle.pixel.proofs.power.Reads as power-reads
 use Rattle.pixel.proofs.sample.Reads as sample-reads

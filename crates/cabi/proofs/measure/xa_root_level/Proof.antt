@@ -1,6 +1,6 @@
 use native.Mathlib.Omega.{arith}
 use Rattle.squareroot.specs.SquareRoot.{levelOf}
-use Rattle.squareroot.proofs.Theorems.{derivation}
+use Rattle.squareroot.proofs.Derivation.{derivation}
 use borrow.Author.Needs.{needs}
 use Rattle.cabi.proofs.measure.xa_root_level.Statement.{statement}
 use Rattle.cabi.proofs.measure.xa_root_level.Tie as tie

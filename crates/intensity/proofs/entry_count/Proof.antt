@@ -1,12 +1,12 @@
 use mathlib.Core.Path.{_≡_, refl, sym, ap, _∙_}
 use native.Mathlib.Omega.{arith}
 use borrow.Author.Tests.{ne-eqb}
-use Rattle.linear.proofs.Laws as laws
+use Rattle.intensity.proofs.Laws as laws
 use borrow.Author.Needs.{needs}
-use Rattle.linear.proofs.entry_count.Statement.{statement}
-use Rattle.linear.proofs.entry_count.Tie as tie
-use Rattle.linear.proofs.entry_count.Reads as reads
-use Rattle.linear.proofs.entry_count.Lts as lts
+use Rattle.intensity.proofs.entry_count.Statement.{statement}
+use Rattle.intensity.proofs.entry_count.Tie as tie
+use Rattle.intensity.proofs.entry_count.Reads as reads
+use Rattle.intensity.proofs.entry_count.Lts as lts
 use Rattle.dataset.proofs.u16_at.Reads as u16-at-reads
 
 -- src/lib.rt:88:9

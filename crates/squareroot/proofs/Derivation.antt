@@ -1,11 +1,12 @@
--- The claims of `Claims.antt`, proved.
+-- The claims of specs/Derivation: a level's square and the next square enclose four times its cell, and four times an entry is the
+-- level's square or up to three more.
 use mathlib.Core.Path.{_≡_, refl, sym, _∙_, ap}
 use mathlib.Core.Bool.{Bool, true, false, cond}
 use Prim.Native.Nat.{ℕ, zero, suc, _+_, _*_, _/_, _%_, _≤_, _<_}
 use native.Mathlib.Nat.{mod-lt, mod-eq-of-lt, div-add-mod, div-lt-iff-lt-mul}
 use native.Mathlib.Omega.{arith}
 use Rattle.squareroot.specs.SquareRoot.{rootOf, cell, levelOf, entryOf}
-use Rattle.squareroot.specs.Claims.{Largest, Near, Derivation}
+use Rattle.squareroot.specs.Derivation.{Largest, Near, Derivation}
 use Rattle.squareroot.proofs.Roots.{square, under, root-low, root-high, root-is}
 
 largest : (t : ℕ) → Largest t (rootOf t)
