@@ -1,4 +1,4 @@
-"""The rule list of document 01: rules 1 to 38, one function each, and the verdict.
+"""The rule list of document 01: rules 1 to 38, one function each, rule 39 of document 02, and the verdict.
 
 Each function answers whether its rule holds for a data set that reads well; the per-frame ones, whether it holds at a
 frame. Rules are asked in order and the first broken one ends the asking, so a rule may rely on the ones before it. The
@@ -242,7 +242,7 @@ def rule_26(root):
 
 
 # ---------------------------------------------------------------------------------------------------------------------
-# Rules 27 to 38
+# Rules 27 to 39
 
 
 def sequence_tags(level):
@@ -386,6 +386,20 @@ def to_linear_items(items):
     return [item for item in items if item.text(tags.LUT_FUNCTION, "CS") == b"TO_LINEAR"]
 
 
+def entry_count(descriptor):
+    """LUT Descriptor gives entry count (0 stands for 65,536), first mapped cell and 16."""
+    return descriptor[0] or 65_536
+
+
+def has_lut(item):
+    """A TO_LINEAR item's descriptor has three numbers, the last 16, and its data are two bytes for each entry."""
+    descriptor = item.unsigned_shorts(tags.LUT_DESCRIPTOR)
+    if descriptor is None or len(descriptor) != 3 or descriptor[2] != 16:
+        return False
+    data = item.value(tags.LUT_DATA, "OW")
+    return data is not None and len(data) == 2 * entry_count(descriptor)
+
+
 def rule_39(root, frame):
     """Per frame: (0028,9443), if present, has one item; (0028,9422), if present, has at least one item and at most one
     TO_LINEAR item, and is present with one if Pixel Intensity Relationship (0028,1040) CS in (0028,9443) is LOG; a
@@ -404,16 +418,9 @@ def rule_39(root, frame):
     if not items:
         return False
     linear = to_linear_items(items)
-    if len(linear) > 1 or (logarithmic and not linear):
+    if logarithmic and not linear:
         return False
-    for item in linear:
-        descriptor = item.unsigned_shorts(tags.LUT_DESCRIPTOR)
-        data = item.value(tags.LUT_DATA, "OW")
-        if descriptor is None or len(descriptor) != 3 or descriptor[2] != 16:
-            return False
-        if data is None or len(data) != 2 * (descriptor[0] or 65536):
-            return False
-    return True
+    return len(linear) <= 1 and all(has_lut(item) for item in linear)
 
 
 # ---------------------------------------------------------------------------------------------------------------------
