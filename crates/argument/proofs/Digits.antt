@@ -10,10 +10,10 @@ use borrow.Author.Tests.{le-leb, lt-leb}
 use types.Run.{OneOf, miss}
 use denote.Enum.Declared.{tagOf}
 use Rattle.value.proofs.Lists.{from-next}
-use Rattle.show_one.specs.declared.decimal.Decimal.{Decimal}
-use Rattle.show_one.specs.declared.decimal.Decimal.the-variants.{Number, TooLarge, NotNumber}
-use Rattle.show_one.proofs.decimal.Decimal.{the-type}
-use Rattle.show_one.specs.Digits.{moreOf, withByte, withBytes, decimalOf}
+use Rattle.argument.specs.declared.Decimal.{Decimal}
+use Rattle.argument.specs.declared.Decimal.the-variants.{Number, TooLarge, NotNumber}
+use Rattle.argument.proofs.Decimal.{the-type}
+use Rattle.argument.specs.Digits.{moreOf, withByte, withBytes, decimalOf}
 
 -- ---- A byte more
 

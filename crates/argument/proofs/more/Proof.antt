@@ -2,10 +2,10 @@
 use Prim.Native.Nat.{_+_, _*_}
 use native.Mathlib.Omega.{arith}
 use borrow.Author.Tests.{lt-ltb, le-ltb}
-use Rattle.show_one.specs.Digits.{moreOf}
+use Rattle.argument.specs.Digits.{moreOf}
 use borrow.Author.Needs.{needs}
-use Rattle.show_one.proofs.decimal.more.Statement.{statement}
-use Rattle.show_one.proofs.decimal.more.Tie as tie
+use Rattle.argument.proofs.more.Statement.{statement}
+use Rattle.argument.proofs.more.Tie as tie
 
 sub-if1 : tie.Need-sub-if1
 sub-if1 c = search needs

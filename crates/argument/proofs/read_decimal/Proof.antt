@@ -3,12 +3,12 @@ use mathlib.Core.Path.{_≡_, refl, _∙_}
 use Prim.Native.Nat.{_≤_, _-_}
 use native.Mathlib.Omega.{arith}
 use lib.ListN.{length, drop}
-use Rattle.show_one.specs.declared.decimal.Decimal.the-variants.{Number}
-use Rattle.show_one.specs.Digits.{withBytes}
-use Rattle.show_one.proofs.Digits as laws
+use Rattle.argument.specs.declared.Decimal.the-variants.{Number}
+use Rattle.argument.specs.Digits.{withBytes}
+use Rattle.argument.proofs.Digits as laws
 use borrow.Author.Needs.{needs}
-use Rattle.show_one.proofs.decimal.read_decimal.Statement.{statement}
-use Rattle.show_one.proofs.decimal.read_decimal.Tie as tie
+use Rattle.argument.proofs.read_decimal.Statement.{statement}
+use Rattle.argument.proofs.read_decimal.Tie as tie
 
 abbrev Inv-loop : tie.InvT-loop
 Inv-loop text d₀ i₀ i-end d i = (i ≤ length text) × (withBytes d (drop i text) ≡ withBytes (Number 0) text)

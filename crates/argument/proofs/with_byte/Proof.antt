@@ -1,9 +1,9 @@
 -- Each return is a case of the definition.
 use mathlib.Core.Path.{_∙_}
-use Rattle.show_one.proofs.Digits as laws
+use Rattle.argument.proofs.Digits as laws
 use borrow.Author.Needs.{needs}
-use Rattle.show_one.proofs.decimal.with_byte.Statement.{statement}
-use Rattle.show_one.proofs.decimal.with_byte.Tie as tie
+use Rattle.argument.proofs.with_byte.Statement.{statement}
+use Rattle.argument.proofs.with_byte.Tie as tie
 
 enum-known-before : tie.Need-enum-known-before
 enum-known-before c = search needs

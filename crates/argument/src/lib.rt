@@ -1,7 +1,7 @@
-// A number in plain decimal digits, as an argument has it.
+// A number in plain decimal digits, as an argument of a program has it.
 ghost use mathlib.Core.Path.{_≡_};
 ghost use Prim.Native.Nat.{_<_};
-ghost use Rattle.show_one.specs.Digits.{moreOf, withByte, decimalOf};
+ghost use Rattle.argument.specs.Digits.{moreOf, withByte, decimalOf};
 
 pub enum Decimal {
     Number(u64),

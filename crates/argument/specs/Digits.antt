@@ -4,8 +4,8 @@ use Prim.Native.Nat.{ℕ, _+_, _-_, _*_}
 use mathlib.Core.Bool.{cond, _&&_}
 use mathlib.Core.List.{List, [], _∷_}
 use lib.Dec.{leb, ltb}
-use Rattle.show_one.specs.declared.decimal.Decimal.{Decimal}
-use Rattle.show_one.specs.declared.decimal.Decimal.the-variants.{Number, TooLarge, NotNumber}
+use Rattle.argument.specs.declared.Decimal.{Decimal}
+use Rattle.argument.specs.declared.Decimal.the-variants.{Number, TooLarge, NotNumber}
 
 -- A digit d after the number n.
 unfoldable pub moreOf : ℕ → ℕ → Decimal
