@@ -40,14 +40,14 @@ trait Cell: Copy {
     const HIGHEST: u16;
 
     /// The cells as files have them, the high byte first.
-    fn bytes(cells: &[Self]) -> Cow<[u8]>;
+    fn bytes(cells: &[Self]) -> Cow<'_, [u8]>;
 }
 
 impl Cell for u8 {
     const DEPTH: png::BitDepth = png::BitDepth::Eight;
     const HIGHEST: u16 = 255;
 
-    fn bytes(cells: &[u8]) -> Cow<[u8]> {
+    fn bytes(cells: &[u8]) -> Cow<'_, [u8]> {
         Cow::Borrowed(cells)
     }
 }
@@ -56,7 +56,7 @@ impl Cell for u16 {
     const DEPTH: png::BitDepth = png::BitDepth::Sixteen;
     const HIGHEST: u16 = 65_535;
 
-    fn bytes(cells: &[u16]) -> Cow<[u8]> {
+    fn bytes(cells: &[u16]) -> Cow<'_, [u8]> {
         Cow::Owned(cells.iter().flat_map(|cell| cell.to_be_bytes()).collect())
     }
 }
