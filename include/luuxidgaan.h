@@ -1,5 +1,5 @@
-/* Reads, judges and draws X-ray angiographic (XA, XRF) data sets in Explicit VR Little Endian, without a file head, and
- * keeps verdicts on slips.
+/* Reads, judges and draws X-ray angiographic (XA, XRF) data sets in Explicit VR Little Endian, without a file head, maps
+ * their frames back to beam intensity, and keeps verdicts on slips.
  *
  * Every call takes any bytes and any buffers; nothing is asked of the caller but that each pointer has as many
  * elements behind it as the size that follows it says, and that no two buffers overlap. A pointer whose size is 0 is
@@ -22,6 +22,9 @@ extern "C" {
  * XA_ROW_NUMBERS x (size / 8) numbers. */
 #define XA_ROW_NUMBERS 7
 
+/* The number of rules. */
+#define XA_RULES 39
+
 /* What a call answers. Fields that the code does not name are 0.
  *
  *   code  meaning                                                              fields named
@@ -41,12 +44,14 @@ extern "C" {
  *         numbers a row
  *      9  a rule is broken: the first that is, and at it the lowest frame      rows, rule, frame
  *     10  no such frame: the number is not in 1 to Number of Frames            none
- *     11  the image buffer holds fewer than Rows x Columns bytes               none
+ *     11  the image buffer holds fewer than Rows x Columns bytes, or the       none
+ *         values buffer fewer than Rows x Columns numbers
+ *     20  the frame has no TO_LINEAR item to be mapped by                      none
  *
  * `offset` counts bytes from 0: where the refused header starts, or the end at which an undefined length is still
- * open. `rule` is 1 to 38; `frame` counts from 1, and is 0 for a rule that is not asked at each frame. The size (7) is
- * tested first, then 1 to 6 header by header, then the row buffer (8), then the rules (9), then the frame (10), then the
- * image buffer (11).
+ * open. `rule` is 1 to XA_RULES; `frame` counts from 1, and is 0 for a rule that is not asked at each frame. The size (7)
+ * is tested first, then 1 to 6 header by header, then the row buffer (8), then the rules (9), then the frame (10), then by
+ * xa_linear the item (20), then the image or values buffer (11).
  */
 typedef struct {
     uint32_t code;
@@ -75,7 +80,7 @@ typedef struct {
  */
 xa_answer xa_read(const uint8_t *data, size_t size, uint32_t *rows, size_t rows_len);
 
-/* Reads the data set as `xa_read` does, afresh, and judges it by the 38 rules: code 0 where every rule holds, code 9
+/* Reads the data set as `xa_read` does, afresh, and judges it by the XA_RULES rules: code 0 where every rule holds, code 9
  * where one is broken. With codes 0 and 9 the rows are written, and nothing beyond them; with any other code nothing is.
  */
 xa_answer xa_judge(const uint8_t *data, size_t size, uint32_t *rows, size_t rows_len);
@@ -118,6 +123,28 @@ typedef struct {
  */
 xa_rewritten xa_canonical(const uint8_t *data, size_t size, uint32_t *rows, size_t rows_len, uint8_t *target,
                           size_t target_len);
+
+/* Judges the data set as `xa_judge` does, afresh, and maps frame `frame`, counted from 1, back to beam intensity: each stored
+ * sample, neither masked nor windowed, becomes its entry in the LUT of the frame's TO_LINEAR item (Pixel Intensity
+ * Relationship LUT Sequence, in the frame's own item of the functional groups or else in the shared one). Samples below the
+ * first mapped one take the first entry, samples above the last the last.
+ *
+ * `values` has room for `values_len` numbers. With code 0 the first Rows x Columns of them are written, row by row, and
+ * nothing beyond them; with any other code no number of `values` is. The rows are written with codes 0, 9, 10, 20 and 11.
+ * Every frame of a data set that `xa_judge` accepts is mapped where it has a TO_LINEAR item and there is room.
+ */
+xa_answer xa_linear(const uint8_t *data, size_t size, uint64_t frame, uint32_t *rows, size_t rows_len, uint16_t *values,
+                    size_t values_len);
+
+/* The square root derivation, 14 bits to 8: the largest p with p x p <= 4v, for the cell v that the lowest 14 bits of
+ * `cell` are. No cell becomes 1.
+ */
+uint8_t xa_root_level(uint64_t cell);
+
+/* The entry that a derived image's LUT has for level p: p x p / 4, rounded up. `xa_root_level` of it is p again, but for
+ * level 1; and a cell less the entry of its level is 0 to 127.
+ */
+uint16_t xa_root_entry(uint8_t level);
 
 /* A slip is 13 bytes that record a verdict: what `xa_judge` answers, without the number of rows. */
 

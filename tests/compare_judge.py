@@ -74,7 +74,7 @@ def compare_good(comparison, rng, count):
     comparison.insist([("planes", one) for one in ("SINGLE PLANE", "BIPLANE", "UNDEFINED")])
     comparison.insist([("image_type", one) for one in ("ORIGINAL", "DERIVED", "MIXED")])
     comparison.insist([("bits_stored", one) for one in range(8, 17)])
-    comparison.insist([(group, one) for group in ("voi", "characteristics", "frame_shift") for one in xa.PLACES])
+    comparison.insist([(group, one) for group in ("voi", "characteristics", "frame_shift", "properties", "luts") for one in xa.PLACES])
 
 
 def frames_of(change):
@@ -345,8 +345,8 @@ def run(comparison, arguments):
     compare_size_limit(comparison)
     line = compare_outside(comparison, arguments.require_outside)
     comparison.insist([("code", code) for code in range(10)])
-    comparison.insist([("rule", rule) for rule in range(1, 39)])
-    few = [rule for rule in range(1, 39) if comparison.tally.get(("ways", rule), 0) < 3]
+    comparison.insist([("rule", rule) for rule in rules.RULES])
+    few = [rule for rule in rules.RULES if comparison.tally.get(("ways", rule), 0) < 3]
     if few:
         raise DifferenceFound(f"the comparison itself is at fault: fewer than three ways to break rules {few}")
     return line

@@ -64,8 +64,8 @@ def check_refusals(comparison, name, model, rng):
 
 def base_shape(rng, **fixed):
     """A shape with little in it but what is fixed."""
-    return xa.random_shape(rng, **{"masks": (), "voi": "absent", "frame_shift": "absent", "characteristics": "absent", "extras": False,
-                                   **fixed})
+    return xa.random_shape(rng, **{"masks": (), "voi": "absent", "frame_shift": "absent", "characteristics": "absent", "properties": "absent",
+                                   "luts": "absent", "extras": False, **fixed})
 
 
 def every_value(stored):

@@ -45,7 +45,8 @@ def compare_writing(comparison, rng):
             if rng.random() < 0.2:
                 check_write(comparison, verdict, rng.randrange(13))
     for length in range(21):
-        for verdict in (Answer(0), Answer(2, offset=10), Answer(9, rule=26), Answer(9, rule=37, frame=812), Answer(9, rule=37), Answer(10)):
+        for verdict in (Answer(0), Answer(2, offset=10), Answer(9, rule=26), Answer(9, rule=37, frame=812), Answer(9, rule=37),
+                        Answer(9, rule=39, frame=812), Answer(9, rule=39), Answer(10)):
             check_write(comparison, verdict, length)
     # The row count and masked or native play no part.
     for rows, masked in ((57, 0), (0, 1), (2 ** 32 - 1, 2 ** 32 - 1)):
@@ -55,7 +56,7 @@ def compare_writing(comparison, rng):
 
 def compare_reading(comparison, rng, count):
     good = [slips.slip_bytes(*fields) for fields in
-            ((0, 0, 0, 0), (7, 0, 0, 0), (2, 0, 0, 10), (6, 0, 0, 2 ** 30), (9, 26, 0, 0), (9, 27, 1, 0), (9, 37, 65535, 0), (9, 38, 0, 0))]
+            ((0, 0, 0, 0), (7, 0, 0, 0), (2, 0, 0, 10), (6, 0, 0, 2 ** 30), (9, 26, 0, 0), (9, 27, 1, 0), (9, 37, 65535, 0), (9, 38, 0, 0), (9, 39, 1, 0))]
     for slip in good:
         for length in range(21):
             check_read(comparison, (slip + bytes(8))[:length])

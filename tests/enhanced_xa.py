@@ -33,12 +33,15 @@ BITS_STORED = 0x00280101
 HIGH_BIT = 0x00280102
 PIXEL_REPRESENTATION = 0x00280103
 BURNED_IN = 0x00280301
+RELATIONSHIP = 0x00281040
 CENTER = 0x00281050
 WIDTH = 0x00281051
 FUNCTION = 0x00281056
 LOSSY = 0x00282110
 LOSSY_RATIO = 0x00282112
 LOSSY_METHOD = 0x00282114
+LUT_DESCRIPTOR = 0x00283002
+LUT_DATA = 0x00283006
 MASKS = 0x00286100
 OPERATION = 0x00286101
 RANGE = 0x00286102
@@ -49,6 +52,9 @@ TID_OFFSET = 0x00286120
 VOI = 0x00289132
 FRAME_SHIFT = 0x00289415
 ITEM_ID = 0x00289416
+LUTS = 0x00289422
+PROPERTIES = 0x00289443
+LUT_FUNCTION = 0x00289474
 LUT_SHAPE = 0x20500020
 SHARED = 0x52009229
 PER_FRAME = 0x52009230
@@ -111,6 +117,8 @@ class Shape:
     ranges: bool = True  # whether mask items may have ranges
     shifts: bool = True  # whether mask items may have shifts
     frame_shift: str = "absent"
+    properties: str = "absent"  # Frame Pixel Data Properties
+    luts: str = "absent"  # Pixel Intensity Relationship LUT Sequence
     pixel_vr: str = "OW"
     extras: bool = True  # elements that no rule speaks of
 
@@ -144,6 +152,8 @@ def random_shape(rng, **fixed):
         ranges=rng.random() < 0.7,
         shifts=rng.random() < 0.7,
         frame_shift=rng.choice(PLACES),
+        properties=rng.choice(PLACES),
+        luts=rng.choice(PLACES),
         pixel_vr=rng.choice(("OW", "OB")) if allocated == 8 else "OW",
         extras=rng.random() < 0.5,
     )
@@ -261,6 +271,24 @@ def frame_shift_items(rng, ids):
     return [{ITEM_ID: us(one), SHIFT: random_shift(rng)} for one in chosen]
 
 
+def lut_items(rng, with_linear):
+    """Items of a Pixel Intensity Relationship LUT Sequence: at most one TO_LINEAR item, and others, of which nothing is asked."""
+    others = ({}, {LUT_FUNCTION: padded(rng, "CS", "TO_LOG"), LUT_DESCRIPTOR: us(9)}, {LUT_FUNCTION: text("LO", "TO_LINEAR")},
+              {LUT_FUNCTION: text("CS", "TO_LINEAR", "TO_LINEAR"), LUT_DATA: ("OW", b"")})
+    items = [rng.choice(others) for _ in range(rng.choice((0, 0, 1, 2)))]
+    if with_linear:
+        count = rng.choice((1, 2, 3, 17, 256))
+        items.append({LUT_FUNCTION: padded(rng, "CS", "TO_LINEAR"), LUT_DESCRIPTOR: us(count, rng.choice((0, 0, 1, 100, 65535)), 16),
+                      LUT_DATA: ("OW", rng.randbytes(2 * count))})
+    rng.shuffle(items)
+    return items or [{}]
+
+
+def properties_item(rng, may_be_log):
+    words = ("LIN", "DISP", "SQRT", "LOG\\LOG", "log") + ("LOG",) * 5 * may_be_log
+    return rng.choice(({RELATIONSHIP: padded(rng, "CS", *rng.choice(words).split("\\"))}, {RELATIONSHIP: text("LO", "LOG")}, {}))
+
+
 def place_group(rng, shape, model, where, tag, make):
     """Puts a functional group where the shape wants it. `make` builds its items."""
     if where == "shared":
@@ -326,6 +354,10 @@ def build(rng, shape):
         model[MASKS] = sq(*(mask_item(rng, shape, operation, ids[number] if with_ids else rng.choice((None, 7)))
                             for number, operation in enumerate(shape.masks)))
     place_group(rng, shape, model, shape.frame_shift, FRAME_SHIFT, lambda: frame_shift_items(rng, ids))
+    # LOG asks for a table at every frame.
+    logarithmic = shape.luts in ("shared", "frames") and rng.random() < 0.5
+    place_group(rng, shape, model, shape.properties, PROPERTIES, lambda: [properties_item(rng, logarithmic)])
+    place_group(rng, shape, model, shape.luts, LUTS, lambda: lut_items(rng, logarithmic or rng.random() < 0.8))
     if shape.extras:
         add_extras(rng, model)
     length = shape.frames * shape.rows * shape.columns * (shape.bits_allocated // 8)

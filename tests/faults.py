@@ -3,7 +3,7 @@
 import ctypes
 
 from parents import table_of
-from reference import canonical, drawing, reading, rules, slips
+from reference import canonical, drawing, intensity, reading, rules, slips
 from reference.answers import Answer
 from reference.reading import ITEM, NUMBERS_IN_A_ROW
 from reference.values import UNIT
@@ -442,5 +442,119 @@ CANONICAL_FAULTS = {
                                              else rules.judge(data, length)._replace(answer=Answer(8))),
 }
 
+
+def mapped_with(**functions):
+    """A mapping in which some names of the reference's are others."""
+
+    def linear(*arguments):
+        kept = {name: getattr(intensity, name) for name in functions}
+        for name, function in functions.items():
+            setattr(intensity, name, function)
+        try:
+            return intensity.linear(*arguments)
+        finally:
+            for name, function in kept.items():
+                setattr(intensity, name, function)
+
+    return StandIn(linear=linear)
+
+
+def cut_to_8_bits(self, frame):
+    return [[cell % 256 for cell in row] for row in drawing.Pixels.frame(self, frame)]
+
+
+class PixelsOf8Bits(drawing.Pixels):
+    frame = cut_to_8_bits
+
+
+class DrawnPixels(drawing.Pixels):
+    """The cells of the picture that is drawn, not the stored ones."""
+
+    def __init__(self, root):
+        super().__init__(root)
+        self.root = root
+
+    def frame(self, frame):
+        _, image = drawing.draw(self.root, frame)
+        return [image]
+
+
+class LastEntryEarly(intensity.Table):
+    """Cells above the last take the entry before the last."""
+
+    def entry(self, cell):
+        return super().entry(min(cell, self.first + max(self.count - 2, 0)))
+
+
+class WrappedTable(intensity.Table):
+    """Places modulo the entry count in place of the first and the last entry."""
+
+    def entry(self, cell):
+        return super().entry(self.first + (cell - self.first) % self.count)
+
+
+class SwappedTable(intensity.Table):
+    """The high byte of an entry first."""
+
+    def entry(self, cell):
+        return int.from_bytes(super().entry(cell).to_bytes(2, "little"), "big")
+
+
+def another_linear(change):
+    """`change(outcome, data, frame, rows, room)` answers another outcome of the call."""
+
+    def linear(data, frame, row_length, room):
+        return change(intensity.linear(data, frame, row_length, room), data, frame, row_length, room)
+
+    return StandIn(linear=linear)
+
+
+def room_before_item(outcome, data, frame, row_length, room):
+    """Code 11 before code 20; the sizes of a picture are those of `show`."""
+    small = outcome.answer.code == 20 and drawing.show(data, frame, row_length, room).answer.code == 11
+    return outcome._replace(answer=Answer(11)) if small else outcome
+
+
+def item_before_frame(outcome, data, frame, row_length, room):
+    return outcome._replace(answer=Answer(20)) if outcome.answer.code == 10 else outcome
+
+
+def shared_table(root, frame, tag):
+    """The shared table preferred to the frame's own."""
+    shared = root.items(drawing.tags.SHARED_FUNCTIONAL_GROUPS_SEQUENCE)[0].find(tag)
+    return shared if shared is not None else drawing.frame_group(root, 1, tag)
+
+
+LINEAR_FAULTS = {
+    "nothing written": StandIn(lambda o, data: o._replace(values=())),
+    "frame 1 for every frame": another_linear(
+        lambda o, data, frame, rows, room: o if o.answer.code else o._replace(values=intensity.linear(data, 1, rows, room).values)),
+    "a number too many written": StandIn(lambda o, data: o._replace(values=o.values + (0,)) if o.values else o),
+    "values touched at code 20": StandIn(lambda o, data: o._replace(values=(0,)) if o.answer.code == 20 else o),
+    "values touched at code 11": StandIn(lambda o, data: o._replace(values=(0,)) if o.answer.code == 11 else o),
+    "values touched at code 9": StandIn(lambda o, data: o._replace(values=(0,)) if o.answer.code == 9 else o),
+    "rows not written at code 20": StandIn(lambda o, data: o._replace(rows=()) if o.answer.code == 20 else o),
+    "row count told with code 20": StandIn(answer_changed(rows=lambda a: 5 if a.code == 20 else a.rows)),
+    "code 20 told as 10": StandIn(answer_changed(code=lambda a: 10 if a.code == 20 else a.code)),
+    "zeros where there is no item": StandIn(lambda o, data: o._replace(answer=Answer(0, rows=len(o.rows) // NUMBERS_IN_A_ROW))
+                                            if o.answer.code == 20 else o),
+    "11 before 20": another_linear(room_before_item),
+    "20 before 10": another_linear(item_before_frame),
+    "16-bit frame number": StandIn(linear=lambda data, frame, *rooms: intensity.linear(data, frame % 65536, *rooms)),
+    "cells of 8 bits": mapped_with(Pixels=PixelsOf8Bits),
+    "unused high bits left in": mapped_with(Pixels=PixelsWithHighBits),
+    "drawn cells": mapped_with(Pixels=DrawnPixels),
+    "the last entry off by one": mapped_with(Table=LastEntryEarly),
+    "places wrapped": mapped_with(Table=WrappedTable),
+    "the high byte first": mapped_with(Table=SwappedTable),
+    "one table for all frames": mapped_with(frame_group=shared_table),
+    "the root of v": StandIn(root_level=lambda cell: intensity.root_level(cell // 4)),
+    "rounded to the nearest": StandIn(root_level=lambda cell: round((4 * (cell % 2 ** 14)) ** 0.5) % 256),
+    "the lowest 13 bits": StandIn(root_level=lambda cell: intensity.root_level(cell % 2 ** 13)),
+    "16 bits": StandIn(root_level=lambda cell: intensity.root_level(cell) if cell < 2 ** 14 else intensity.isqrt(cell % 2 ** 16) % 256),
+    "an entry rounded down": StandIn(root_entry=lambda level: level * level // 4),
+    "the last entry changed": StandIn(root_entry=lambda level: intensity.root_entry(level) - (level == 255)),
+}
+
 FAULTS = {"read": READ_FAULTS, "judge": JUDGE_FAULTS, "slips": SLIP_FAULTS, "decimals": DECIMAL_FAULTS, "windows": WINDOW_FAULTS,
-          "show": SHOW_FAULTS, "canonical": CANONICAL_FAULTS}
+          "show": SHOW_FAULTS, "canonical": CANONICAL_FAULTS, "linear": LINEAR_FAULTS}

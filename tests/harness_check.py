@@ -9,6 +9,7 @@ import tempfile
 import compare_canonical
 import compare_decimals
 import compare_judge
+import compare_linear
 import compare_read
 import compare_show
 import compare_slips
@@ -19,9 +20,10 @@ from library import Library
 from mutants import MUTATIONS, mutant
 from stand_in import StandIn
 
-COUNTS = {"read": 60, "judge": 100, "slips": 200, "decimals": 200, "windows": 40, "show": 30, "canonical": 40}  # generated cases: as few as find every fault
+COUNTS = {"read": 60, "judge": 100, "slips": 200, "decimals": 200, "windows": 40, "show": 30, "canonical": 40,
+          "linear": 20}  # generated cases: as few as find every fault
 RUNS = {"read": compare_read.run, "judge": compare_judge.run, "slips": compare_slips.run, "decimals": compare_decimals.run,
-        "windows": compare_windows.run, "show": compare_show.run, "canonical": compare_canonical.run}
+        "windows": compare_windows.run, "show": compare_show.run, "canonical": compare_canonical.run, "linear": compare_linear.run}
 
 
 def attempt(name, stand_in, folder):

@@ -43,6 +43,10 @@ SIGNATURES = {
                                ctypes.c_void_p, ctypes.c_size_t]),
     "xa_canonical": (RewrittenStruct, [ctypes.c_void_p, ctypes.c_size_t, ctypes.c_void_p, ctypes.c_size_t, ctypes.c_void_p,
                                        ctypes.c_size_t]),
+    "xa_linear": (AnswerStruct, [ctypes.c_void_p, ctypes.c_size_t, ctypes.c_uint64, ctypes.c_void_p, ctypes.c_size_t,
+                                 ctypes.c_void_p, ctypes.c_size_t]),
+    "xa_root_level": (ctypes.c_uint8, [ctypes.c_uint64]),
+    "xa_root_entry": (ctypes.c_uint16, [ctypes.c_uint8]),
     "xa_write_slip": (ctypes.c_uint32, [AnswerStruct, ctypes.c_void_p, ctypes.c_size_t]),
     "xa_read_slip": (SlipStruct, [ctypes.c_void_p, ctypes.c_size_t]),
 }
@@ -186,13 +190,28 @@ class Library:
                                                 target_length)
         return CanonicalObservation(rewritten_of(result), rows, target, None)
 
+    def linear(self, data, frame, row_buffer_length, values_buffer_length):
+        address = self._place(data)
+        rows = GuardedBuffer(4 * row_buffer_length)
+        values = GuardedBuffer(2 * values_buffer_length)
+        result = self.functions["xa_linear"](address, len(data), frame, rows.address, row_buffer_length, values.address,
+                                             values_buffer_length)
+        return Observation(answer_of(result), rows, GuardedBuffer(0), self.input, values)
+
+    def root_level(self, cell):
+        return int(self.functions["xa_root_level"](cell))
+
+    def root_entry(self, level):
+        return int(self.functions["xa_root_entry"](level))
+
     def call_on_mapping(self, name, memory, row_buffer_length):
-        """A call on a large mapping (for the size limit); whether it changed is not looked at. Show gets frame 1."""
+        """A call on a large mapping (for the size limit); whether it changed is not looked at. Show and linear get frame 1."""
         address = ctypes.addressof(ctypes.c_char.from_buffer(memory))
         rows = GuardedBuffer(4 * row_buffer_length)
         image = GuardedBuffer(16)
-        between = (1,) if name == "xa_show" else ()
-        behind = (image.address, image.length) if name == "xa_show" else ()
+        lent = {"xa_show": image.length, "xa_linear": image.length // 2}.get(name)
+        between = () if lent is None else (1,)
+        behind = () if lent is None else (image.address, lent)
         result = self.functions[name](address, len(memory), *between, rows.address, row_buffer_length, *behind)
         return Observation(answer_of(result), rows, image, None)
 
@@ -228,15 +247,18 @@ def packed(numbers):
 class Observation:
     """What a call answered, with the buffers that it was given."""
 
-    def __init__(self, answer, rows, image, input_memory):
+    def __init__(self, answer, rows, image, input_memory, values=None):
         self.answer = answer
         self.rows = rows
         self.image = image
         self.input = input_memory
+        self.values = values
 
     def difference(self, expected):
         """None if the call did what the outcome `expected` says; else the first thing that differs, in words."""
         buffers = [("row buffer", self.rows, packed(expected.rows)), ("image buffer", self.image, expected.image)]
+        if self.values:
+            buffers.append(("values buffer", self.values, struct.pack(f"<{len(expected.values)}H", *expected.values)))
         return difference_in(buffers, self.answer, expected.answer, self.input)
 
 

@@ -195,11 +195,41 @@ MUTATIONS = [
     ("windows", "rules.py", "least = 1 if function == LINEAR_EXACT else UNIT", "least = 1"),
     ("windows", "rules.py", "least = 1 if function == LINEAR_EXACT else UNIT", "least = 0 if function == LINEAR_EXACT else UNIT"),
     ("windows", "rules.py", "return word if word in (LINEAR, LINEAR_EXACT) else None", "return word if word in (LINEAR, LINEAR_EXACT) else LINEAR"),
+    ("judge", "rules.py", "== b\"LOG\"", "== b\"LIN\""),
+    ("judge", "rules.py", "== b\"TO_LINEAR\"", "in (b\"TO_LINEAR\", b\"TO_LOG\")"),
+    ("judge", "rules.py", "return not logarithmic", "return True"),
+    ("judge", "rules.py", "if logarithmic and not linear:", "if not linear:"),
+    ("judge", "rules.py", "if logarithmic and not linear:", "if False:"),
+    ("judge", "rules.py", "len(linear) <= 1 and", "len(linear) <= 2 and"),
+    ("judge", "rules.py", "descriptor[0] or 65_536", "descriptor[0]"),
+    ("judge", "rules.py", "descriptor[0] or 65_536", "descriptor[0] or 65_535"),
+    ("judge", "rules.py", "len(descriptor) != 3 or descriptor[2] != 16", "len(descriptor) < 3 or descriptor[2] != 16"),
+    ("judge", "rules.py", "len(descriptor) != 3 or descriptor[2] != 16", "len(descriptor) not in (2, 3) or descriptor[-1] not in (10, 16)"),
+    ("judge", "rules.py", "len(descriptor) != 3 or descriptor[2] != 16", "len(descriptor) != 3 or descriptor[2] % 256 != 16"),
+    ("judge", "rules.py", "len(descriptor) != 3 or descriptor[2] != 16", "len(descriptor) != 3"),
+    ("judge", "rules.py", "item.value(tags.LUT_DATA, \"OW\")", "item.value(tags.LUT_DATA, \"OW\") or item.value(tags.LUT_DATA, \"OB\")"),
+    ("judge", "rules.py", "len(data) == 2 * entry_count(descriptor)", "len(data) >= 2 * entry_count(descriptor)"),
+    ("judge", "rules.py", "len(data) == 2 * entry_count(descriptor)", "len(data) <= 2 * entry_count(descriptor)"),
+    ("judge", "rules.py", "frame_group(root, frame, tags.PIXEL_INTENSITY_RELATIONSHIP_LUT_SEQUENCE)",
+     "frame_item(root, frame).find(tags.PIXEL_INTENSITY_RELATIONSHIP_LUT_SEQUENCE)"),
+    ("judge", "rules.py", "frame_group(root, frame, tags.FRAME_PIXEL_DATA_PROPERTIES_SEQUENCE)",
+     "frame_item(root, frame).find(tags.FRAME_PIXEL_DATA_PROPERTIES_SEQUENCE)"),
+    # Mapping and derivation.
+    ("linear", "intensity.py", "limited(cell - self.first, 0, self.count - 1)", "limited(cell - self.first, 0, self.count - 2)"),
+    ("linear", "intensity.py", "limited(cell - self.first, 0, self.count - 1)", "limited(cell - self.first, 1, self.count - 1)"),
+    ("linear", "intensity.py", "limited(cell - self.first, 0, self.count - 1)", "limited(cell, 0, self.count - 1)"),
+    ("linear", "intensity.py", "limited(cell - self.first, 0, self.count - 1)", "limited(cell - self.first - 1, 0, self.count - 1)"),
+    ("linear", "intensity.py", "self.data[start:start + 2], \"little\"", "self.data[start:start + 1], \"little\""),
+    ("linear", "intensity.py", "values_buffer_length < len(numbers)", "values_buffer_length <= len(numbers)"),
+    ("linear", "intensity.py", "values_buffer_length < len(numbers)", "values_buffer_length < 2 * len(numbers)"),
+    ("linear", "intensity.py", "isqrt(4 * (cell % 2 ** 14))", "isqrt(4 * (cell % 2 ** 15))"),
+    ("linear", "intensity.py", "isqrt(4 * (cell % 2 ** 14))", "isqrt(4 * (cell % 2 ** 14) + 1)"),
+    ("linear", "intensity.py", "-(-level * level // 4)", "(level * level + 2) // 4"),
     # Slips.
     ("slips", "slips.py", "0 <= offset <= MAXIMUM_SIZE", "0 <= offset < MAXIMUM_SIZE"),
     ("slips", "slips.py", "0 <= offset <= MAXIMUM_SIZE", "True"),
-    ("slips", "slips.py", "1 <= rule <= 38 and", "1 <= rule <= 39 and"),
-    ("slips", "slips.py", "1 <= rule <= 38 and", "0 <= rule <= 38 and"),
+    ("slips", "slips.py", "1 <= rule <= 39 and", "1 <= rule <= 40 and"),
+    ("slips", "slips.py", "1 <= rule <= 39 and", "0 <= rule <= 39 and"),
     ("slips", "slips.py", "1 <= frame <= 65_535", "0 <= frame <= 65_535"),
     ("slips", "slips.py", "if code in (0, 7, 8):", "if code in (0, 7, 8, 10):"),
     ("slips", "slips.py", "if slip_buffer_length < LENGTH:", "if slip_buffer_length != LENGTH:"),
@@ -265,8 +295,10 @@ def mutant(folder, number, file, text, other):
         sys.path.insert(0, folder)
     importlib.invalidate_caches()
     load = lambda part: importlib.import_module(f"{name}.{part}")
+    intensity = load("intensity")
     return StandIn(read=load("reading").read, judge=forgiving(load("rules").judge), show=forgiving(load("drawing").show),
-                   write_slip=load("slips").write_slip, read_slip=load("slips").read_slip, write_canonical=load("canonical").write_canonical)
+                   write_slip=load("slips").write_slip, read_slip=load("slips").read_slip, write_canonical=load("canonical").write_canonical,
+                   linear=forgiving(intensity.linear), root_level=intensity.root_level, root_entry=intensity.root_entry)
 
 
 def forgiving(call):

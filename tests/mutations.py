@@ -25,6 +25,7 @@ NO_MASKS = {"masks": ()}
 NO_FRAME_SHIFT = {"frame_shift": "absent"}
 OWN_SHIFTS = {"frame_shift": "frames", "masks": ("AVG_SUB", "TID")}
 SHARED_SHIFT = {"frame_shift": "shared", "masks": ("AVG_SUB", "TID")}
+NO_INTENSITY = {"luts": "absent", "properties": "absent"}
 OWN_VOI = {"voi": "frames", "windows": 2}
 OLD = {"function": ""}
 LINEAR = {"function": "LINEAR"}
@@ -40,18 +41,19 @@ class Change:
     shape: dict
     per_frame: bool = False
     frame: int = 0  # for what breaks a per-frame rule at one frame of its own: that frame
+    about: int = 0  # the rule that a near miss is of, where that is told; else the rule itself
 
 
 CHANGES = []
 
 
-def add(rule, name, edit, *shapes, per_frame=False, frame=0):
+def add(rule, name, edit, *shapes, per_frame=False, frame=0, about=0):
     shape = {}
     for part in shapes:
         shape.update(part)
     if per_frame:
         shape.update(FRAMES)
-    CHANGES.append(Change(rule, name, edit, shape, per_frame, frame))
+    CHANGES.append(Change(rule, name, edit, shape, per_frame, frame, about or rule))
 
 
 def put(tag, value):
@@ -642,3 +644,125 @@ add(38, "a product that is 0 in 32 bits",
     all_of(put(xa.ROWS, us(32768)), put(xa.COLUMNS, us(32768)), put(xa.PIXEL_DATA, ("OW", b""))), EIGHT, {"frames": 4})
 add(38, "a product that is 196604 in 32 bits",
     all_of(put(xa.ROWS, us(65535)), put(xa.COLUMNS, us(13108)), put(xa.PIXEL_DATA, ("OW", bytes(196604)))), EIGHT, {"frames": 5})
+
+# ---------------------------------------------------------------------------------------------------------------------
+# Rule 39
+
+GOOD_LUT = {xa.LUT_FUNCTION: text("CS", "TO_LINEAR"), xa.LUT_DESCRIPTOR: us(3, 10, 16), xa.LUT_DATA: ("OW", b"abcdef")}
+OTHER_LUT = {xa.LUT_FUNCTION: text("CS", "TO_LOG"), xa.LUT_DESCRIPTOR: us(3, 10), xa.LUT_DATA: ("OB", b"")}
+LOG = sq({xa.RELATIONSHIP: text("CS", "LOG")})
+
+
+def changed_lut(descriptor=(3, 10, 16), **values):
+    """A TO_LINEAR item with other elements: `LUT_DATA=None` leaves it out."""
+    item = {**GOOD_LUT, xa.LUT_DESCRIPTOR: us(*descriptor)}
+    for name, value in values.items():
+        drop(getattr(xa, name))(item, 0) if value is None else put(getattr(xa, name), value)(item, 0)
+    return item
+
+
+BAD_LUTS = {
+    "descriptor absent": changed_lut(LUT_DESCRIPTOR=None), "descriptor empty": changed_lut(LUT_DESCRIPTOR=("US", b"")),
+    "descriptor of 1 number": changed_lut((3,)), "descriptor of 2 numbers": changed_lut((3, 10)),
+    "descriptor of 4 numbers": changed_lut((3, 10, 16, 16)), "descriptor of 6 numbers": changed_lut((3, 10, 16, 3, 10, 16)),
+    "descriptor SS": changed_lut(LUT_DESCRIPTOR=ss(3, 10, 16)), "descriptor UN": changed_lut(LUT_DESCRIPTOR=("UN", us(3, 10, 16)[1])),
+    "8 bits": changed_lut((3, 10, 8)), "15 bits": changed_lut((3, 10, 15)), "17 bits": changed_lut((3, 10, 17)),
+    "0 bits": changed_lut((3, 10, 0)), "bits first": changed_lut((16, 10, 3)), "272 bits": changed_lut((3, 10, 272)),
+    "data absent": changed_lut(LUT_DATA=None), "data empty": changed_lut(LUT_DATA=("OW", b"")),
+    "data OB": changed_lut(LUT_DATA=("OB", b"abcdef")), "data US": changed_lut(LUT_DATA=("US", b"abcdef")),
+    "data UN": changed_lut(LUT_DATA=("UN", b"abcdef")), "data SQ": changed_lut(LUT_DATA=sq()),
+    "data an entry short": changed_lut(LUT_DATA=("OW", b"abcd")), "data an entry long": changed_lut(LUT_DATA=("OW", b"abcdefgh")),
+    "a byte an entry": changed_lut((6, 10, 16)), "65,536 entries and no data": changed_lut((0, 10, 16), LUT_DATA=("OW", b"")),
+    "65,536 entries, data an entry short": changed_lut((0, 0, 16), LUT_DATA=("OW", bytes(131_070))),
+    "65,536 entries, data an entry long": changed_lut((0, 0, 16), LUT_DATA=("OW", bytes(131_074))),
+    "65,535 entries, data for 65,536": changed_lut((65_535, 0, 16), LUT_DATA=("OW", bytes(131_072))),
+}
+GOOD_LUTS = {
+    "three entries": GOOD_LUT, "one entry": changed_lut((1, 65_535, 16), LUT_DATA=("OW", b"ab")),
+    "65,536 entries": changed_lut((0, 65_535, 16), LUT_DATA=("OW", bytes(131_072))),
+    "65,535 entries": changed_lut((65_535, 1, 16), LUT_DATA=("OW", bytes(131_070))),
+}
+NOT_LINEAR = {
+    "without a function": changed_lut((1,), LUT_FUNCTION=None), "with an empty function": changed_lut((1,), LUT_FUNCTION=("CS", b"")),
+    "with a function of VR LO": changed_lut((1,), LUT_FUNCTION=text("LO", "TO_LINEAR")),
+    "with two functions": changed_lut((1,), LUT_FUNCTION=text("CS", "TO_LINEAR", "TO_LINEAR")),
+    "with another function": OTHER_LUT, "with a function in small letters": changed_lut((1,), LUT_FUNCTION=text("CS", "to_linear")),
+    "with a longer function": changed_lut((1,), LUT_FUNCTION=text("CS", "TO_LINEARX")),
+}
+
+
+def own_luts(*items):
+    return in_frame(put(xa.LUTS, sq(*items)))
+
+
+def shared_luts(*items):
+    return in_shared(put(xa.LUTS, sq(*items)))
+
+
+for name, item in BAD_LUTS.items():
+    add(39, name, own_luts(item), NO_INTENSITY, per_frame=True)
+    add(39, f"{name}, among others", own_luts(OTHER_LUT, item, {}), NO_INTENSITY, per_frame=True)
+    add(39, f"{name}, shared", shared_luts(item), NO_INTENSITY, FRAMES, frame=1)
+for name, item in GOOD_LUTS.items():
+    add(0, name, own_luts(item), NO_INTENSITY, per_frame=True, about=39)
+    add(0, f"{name}, among others", own_luts({}, OTHER_LUT, item), NO_INTENSITY, per_frame=True, about=39)
+    add(0, f"{name}, shared", shared_luts(item), NO_INTENSITY, about=39)
+    add(0, f"{name}, shared, and LOG", all_of(shared_luts(item), in_frame(put(xa.PROPERTIES, LOG))), NO_INTENSITY, per_frame=True, about=39)
+for name, item in NOT_LINEAR.items():
+    add(0, f"an item {name}", own_luts(item, item), NO_INTENSITY, per_frame=True, about=39)
+    add(39, f"LOG and an item {name}", all_of(own_luts(item), in_frame(put(xa.PROPERTIES, LOG))), NO_INTENSITY, per_frame=True)
+    add(0, f"LOG, an item {name} and a table", all_of(own_luts(item, GOOD_LUT, item), in_frame(put(xa.PROPERTIES, LOG))), NO_INTENSITY,
+        per_frame=True, about=39)
+for name, value in (("no items", sq()), ("VR UN", ("UN", b"")), ("VR LO", text("LO", "x"))):
+    add(39, f"LUT sequence: {name}", in_frame(put(xa.LUTS, value)), NO_INTENSITY, per_frame=True)
+    add(39, f"properties: {name}", in_frame(put(xa.PROPERTIES, value)), NO_INTENSITY, per_frame=True)
+    add(39, f"shared LUT sequence: {name}", in_shared(put(xa.LUTS, value)), NO_INTENSITY, FRAMES, frame=1)
+    add(39, f"shared properties: {name}", in_shared(put(xa.PROPERTIES, value)), NO_INTENSITY, FRAMES, frame=1)
+for name, value in (("VR UN", ("UN", b"")), ("VR LO", text("LO", "x"))):
+    add(39, f"shared table hidden by {name}", all_of(shared_luts(GOOD_LUT), in_frame(put(xa.LUTS, value))), NO_INTENSITY, per_frame=True)
+    add(39, f"shared LOG hidden by {name}",
+        all_of(shared_luts(GOOD_LUT), in_shared(put(xa.PROPERTIES, LOG)), in_frame(put(xa.PROPERTIES, value))), NO_INTENSITY, per_frame=True)
+add(39, "properties of two items", in_frame(put(xa.PROPERTIES, sq({}, {}))), NO_INTENSITY, per_frame=True)
+add(39, "two tables", own_luts(GOOD_LUT, GOOD_LUT), NO_INTENSITY, per_frame=True)
+add(39, "two tables, one at each end", own_luts(GOOD_LUT, OTHER_LUT, {}, GOOD_LUT), NO_INTENSITY, per_frame=True)
+add(39, "two tables, shared", shared_luts(GOOD_LUT, GOOD_LUT), NO_INTENSITY, FRAMES, frame=1)
+add(39, "a good and a bad table", own_luts(GOOD_LUT, changed_lut((1,))), NO_INTENSITY, per_frame=True)
+add(39, "LOG without a table", in_frame(put(xa.PROPERTIES, LOG)), NO_INTENSITY, per_frame=True)
+add(39, "LOG with spaces, without a table", in_frame(put(xa.PROPERTIES, sq({xa.RELATIONSHIP: text("CS", "  LOG ")}))), NO_INTENSITY,
+    per_frame=True)
+add(39, "shared LOG without a table", in_shared(put(xa.PROPERTIES, LOG)), NO_INTENSITY, FRAMES, frame=1)
+add(0, "LOG with a table", all_of(own_luts(GOOD_LUT), in_frame(put(xa.PROPERTIES, LOG))), NO_INTENSITY, per_frame=True, about=39)
+for name, value in (("LOG twice", text("CS", "LOG", "LOG")), ("LOG of VR LO", text("LO", "LOG")), ("log", text("CS", "log")),
+                    ("LOGE", text("CS", "LOGE")), ("LIN", text("CS", "LIN")), ("an empty one", ("CS", b""))):
+    add(0, f"relationship: {name}", in_frame(put(xa.PROPERTIES, sq({xa.RELATIONSHIP: value}))), NO_INTENSITY, per_frame=True, about=39)
+add(0, "properties of an empty item", in_frame(put(xa.PROPERTIES, sq({}))), NO_INTENSITY, per_frame=True, about=39)
+
+
+def shared_log_and_tables_but(model, frame):
+    """LOG for all, and a table in every frame but one."""
+    shared_item(model)[xa.PROPERTIES] = LOG
+    for number in range(1, 6):
+        if number != frame:
+            frame_item(model, number)[xa.LUTS] = sq(GOOD_LUT)
+
+
+def tables_hidden_from(model, frame):
+    """A broken shared table that only this frame sees."""
+    shared_item(model)[xa.LUTS] = ("UN", b"")
+    for number in range(1, 6):
+        if number != frame:
+            frame_item(model, number)[xa.LUTS] = sq(GOOD_LUT)
+
+
+for one in (1, 3, 5):
+    add(39, f"shared LOG, no table in frame {one} alone", lambda model, _, one=one: shared_log_and_tables_but(model, one), NO_INTENSITY, FRAMES,
+        frame=one)
+    add(39, f"a broken shared LUT sequence, seen by frame {one} alone", lambda model, _, one=one: tables_hidden_from(model, one), NO_INTENSITY,
+        FRAMES, frame=one)
+add(0, "shared LOG, tables in all frames", lambda model, frame: shared_log_and_tables_but(model, 0), NO_INTENSITY, FRAMES, about=39)
+add(39, "LOG, and the function only in a sequence",
+    all_of(in_frame(put(xa.PROPERTIES, LOG)), own_luts({0x00281100: sq(GOOD_LUT)})), NO_INTENSITY, per_frame=True)
+add(0, "LUTs at the root", put(xa.LUTS, ("UN", b"")), about=39)
+add(0, "properties at the root", put(xa.PROPERTIES, sq({}, {})), about=39)
+add(27, "LUTs in both places", all_of(shared_luts(GOOD_LUT), own_luts(GOOD_LUT)), NO_INTENSITY, per_frame=True)
+add(38, "LUTs broken too", all_of(drop(xa.PIXEL_DATA), shared_luts(), in_shared(put(xa.PROPERTIES, sq()))), NO_INTENSITY)

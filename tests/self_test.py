@@ -14,7 +14,7 @@ import parents
 import reading_cases
 import sample_cases
 from mutations import CHANGES
-from reference import canonical, drawing, reading, rules, slips, values
+from reference import canonical, drawing, intensity, reading, rules, slips, values
 from reference.answers import Answer, Outcome
 
 
@@ -209,7 +209,7 @@ class Rules(unittest.TestCase):
             self.assertEqual(self.verdict({**model, xa.PER_FRAME: ("SQ", items)}), (9, 26, 0))
 
     def test_every_rule_has_its_words(self):
-        self.assertEqual(list(rules.RULES), list(range(1, 39)))
+        self.assertEqual(list(rules.RULES), list(range(1, 40)))
         for number, rule in rules.RULES.items():
             self.assertTrue(rule.__doc__, number)
 
@@ -235,6 +235,7 @@ class Slips(unittest.TestCase):
                  (Answer(2, offset=10), "58 41 56 01 00 02 00 00 00 0A 00 00 00"),
                  (Answer(9, rule=37, frame=812, rows=5), "58 41 56 01 00 09 25 2C 03 00 00 00 00"),
                  (Answer(9, rule=26), "58 41 56 01 00 09 1A 00 00 00 00 00 00"),
+                 (Answer(9, rule=39, frame=2), "58 41 56 01 00 09 27 02 00 00 00 00 00"),
                  (Answer(6, offset=2 ** 30), "58 41 56 01 00 06 00 00 00 00 00 00 40")]
         for answer, text in cases:
             self.assertEqual(slips.write_slip(answer, 13), (0, bytes.fromhex(text)))
@@ -243,7 +244,7 @@ class Slips(unittest.TestCase):
 
     def test_impossible(self):
         for answer in (Answer(10), Answer(0, rule=1), Answer(0, offset=1), Answer(7, frame=1), Answer(2, offset=2 ** 30 + 1),
-                       Answer(3, rule=1), Answer(9), Answer(9, rule=39), Answer(9, rule=26, frame=1), Answer(9, rule=27),
+                       Answer(3, rule=1), Answer(9), Answer(9, rule=39), Answer(9, rule=40), Answer(9, rule=40, frame=1), Answer(9, rule=26, frame=1), Answer(9, rule=27),
                        Answer(9, rule=31, frame=1), Answer(9, rule=30, frame=65536), Answer(9, rule=1, offset=4), Answer(256),
                        Answer(265, rule=1), Answer(9, rule=257)):
             for length in (0, 13, 20):
@@ -562,6 +563,92 @@ class Canonical(unittest.TestCase):
             form = objects.encode(model)
             for share in (0, 0.5, 1):
                 self.assertEqual(self.written(objects.encode(model, lambda: rng.random() < share)), form)
+
+
+def lut(descriptor, *entries):
+    """A TO_LINEAR item."""
+    return {xa.LUT_FUNCTION: xa.text("CS", "TO_LINEAR"), xa.LUT_DESCRIPTOR: xa.us(*descriptor),
+            xa.LUT_DATA: ("OW", struct.pack(f"<{len(entries)}H", *entries))}
+
+
+class Intensity(unittest.TestCase):
+    def test_derivation(self):
+        # 4v is 0; 4; 8; 12; 16; 24; 28; 65532. 5 x 5 = 25, 255 x 255 = 65025, 256 x 256 = 65536.
+        levels = {0: 0, 1: 2, 2: 2, 3: 3, 4: 4, 6: 4, 7: 5, 16383: 255, 16384: 0, 16385: 2, 2 ** 64 - 1: 255}
+        self.assertEqual({cell: intensity.root_level(cell) for cell in levels}, levels)
+        # A quarter of 1, 4, 9, 25, 49, 65025 is 0.25, 1, 2.25, 6.25, 12.25, 16256.25.
+        entries = {0: 0, 1: 1, 2: 1, 3: 3, 4: 4, 5: 7, 7: 13, 255: 16257}
+        self.assertEqual({level: intensity.root_entry(level) for level in entries}, entries)
+
+    def test_derivation_is_the_largest(self):
+        for cell in range(2 ** 14):
+            level = intensity.root_level(cell)
+            self.assertTrue(level * level <= 4 * cell < (level + 1) * (level + 1))
+
+    def test_mapping(self):
+        """Three entries from cell 10: cells 9 to 13 take the first, the first, the second, the last, the last."""
+        model = small_object((9, 10, 11, 12, 13), 1, 1, 5)
+        self.assertIsNone(intensity.mapped(root_of(model), 1))
+        model[xa.SHARED][1][0][xa.LUTS] = xa.sq({}, lut((3, 10, 16), 100, 200, 300))
+        self.assertEqual(intensity.mapped(root_of(model), 1), (100, 100, 200, 300, 300))
+        model[xa.SHARED][1][0][xa.LUTS] = xa.sq(lut((0, 12, 16), *range(1000, 1000 + 60_000), *range(5536)))
+        self.assertEqual(intensity.mapped(root_of(model), 1), (1000, 1000, 1000, 1000, 1001))
+
+    def test_cells_are_stored_ones(self):
+        shape = xa.Shape(bits_allocated=16, bits_stored=9, frames=1, rows=1, columns=3, voi="absent", extras=False)
+        model = xa.build(random.Random(1), shape)
+        model[xa.PIXEL_DATA] = ("OW", struct.pack("<HHH", 0xFE00, 0xFFFF, 0x0101))
+        model[xa.SHARED][1][0][xa.LUTS] = xa.sq(lut((512, 0, 16), *range(512)))
+        self.assertEqual(intensity.mapped(root_of(model), 1), (0, 511, 257))
+
+    def test_lacking(self):
+        """Data sets that are not accepted: only what the mapping reads may lack."""
+        def maps(group, frame=1, **more):
+            model = small_object((9, 10, 11, 12), 2, 1, 2)
+            model[xa.SHARED][1][0][xa.LUTS] = group
+            model.update(more.get("root", {}))
+            try:
+                return intensity.mapped(root_of(model), frame)
+            except drawing.Lacking:
+                return "lacks"
+
+        good = lut((3, 10, 16), 100, 200, 300)
+        self.assertEqual(maps(xa.sq(good, lut((2, 0, 16), 7, 8))), (100, 100))  # the first of two
+        self.assertEqual(maps(xa.sq(lut((9, 10, 16), 100, 200, 300)), 2), (200, 300))  # only the entries that are read
+        self.assertEqual(maps(xa.sq(lut((9, 8, 16), 100, 200, 300)), 2), "lacks")
+        self.assertEqual(maps(xa.sq(good), root={xa.MODALITY: xa.us(1), xa.PHOTOMETRIC: xa.us(1)}), (100, 100))
+        self.assertIsNone(maps(xa.sq()))
+        self.assertIsNone(maps(xa.sq({xa.LUT_FUNCTION: xa.text("CS", "TO_LOG")})))
+        for group in (("UN", b""), xa.sq({**good, xa.LUT_DESCRIPTOR: xa.ss(3, 10, 16)}), xa.sq({**good, xa.LUT_DATA: ("OB", b"abcdef")}),
+                      xa.sq(lut((3, 10), 1, 2, 3)), xa.sq(lut((3, 10, 16, 0), 1, 2, 3)), xa.sq(lut((3, 10, 8), 1, 2, 3)),
+                      xa.sq({xa.LUT_FUNCTION: xa.text("CS", "TO_LINEAR")})):
+            self.assertEqual(maps(group), "lacks", group)
+        self.assertEqual([maps(xa.sq(good), frame) for frame in (0, 3)], ["lacks", "lacks"])
+        self.assertEqual(maps(xa.sq(good), root={xa.PIXEL_DATA: ("OB", bytes(2))}, frame=2), "lacks")
+
+    def test_order_of_refusals(self):
+        model = small_object((1, 2, 3, 4), 2, 1, 2)
+        model[xa.PER_FRAME][1][1][xa.LUTS] = xa.sq(lut((3, 2, 16), 50, 60, 70))
+        data = objects.encode(model)
+        whole = reading.read(data, 10_000)
+        room = reading.NUMBERS_IN_A_ROW * whole.answer.rows
+        self.assertEqual(intensity.linear(data, 2, room, 2), Outcome(whole.answer, whole.rows, values=(60, 70)))
+        self.assertEqual(intensity.linear(data, 2, room, 1), Outcome(Answer(11), whole.rows))
+        self.assertEqual(intensity.linear(data, 1, room, 0), Outcome(Answer(20), whole.rows))
+        self.assertEqual(intensity.linear(data, 3, room, 0), Outcome(Answer(10), whole.rows))
+        self.assertEqual(intensity.linear(data, 3, room - 1, 0), Outcome(Answer(8)))
+
+    def test_accepted_objects_lack_nothing(self):
+        rng = random.Random(5)
+        seen = set()
+        for _ in range(60):
+            shape = xa.random_shape(rng)
+            root = root_of(xa.build(rng, shape))
+            for frame in range(1, shape.frames + 1):
+                numbers = intensity.mapped(root, frame)
+                seen.add(numbers is None)
+                self.assertTrue(numbers is None or len(numbers) == shape.rows * shape.columns)
+        self.assertEqual(seen, {True, False})
 
 
 if __name__ == "__main__":

@@ -6,7 +6,7 @@ With no fault it must pass every comparison; with a fault it must fail one. So i
 import ctypes
 
 from library import AnswerStruct, RewrittenStruct, SlipStruct, answer_of
-from reference import canonical, drawing, reading, rules, slips
+from reference import canonical, drawing, intensity, reading, rules, slips
 
 
 def write(address, content):
@@ -29,13 +29,17 @@ class StandIn:
     written; the calls themselves may be played by others than the reference's."""
 
     def __init__(self, change=None, after=None, read=reading.read, judge=rules.judge, show=drawing.show,
-                 write_slip=slips.write_slip, read_slip=slips.read_slip, write_canonical=canonical.write_canonical):
+                 write_slip=slips.write_slip, read_slip=slips.read_slip, write_canonical=canonical.write_canonical,
+                 linear=intensity.linear, root_level=intensity.root_level, root_entry=intensity.root_entry):
         self.read = read
         self.judge = judge
         self.show = show
         self.write_slip = write_slip
         self.read_slip = read_slip
         self.write_canonical = write_canonical
+        self.linear = linear
+        self.xa_root_level = root_level
+        self.xa_root_entry = root_entry
         self.change = change or (lambda outcome, data: outcome)
         self.after = after or (lambda outcome, data, rows, rows_length: None)
 
@@ -68,6 +72,14 @@ class StandIn:
         write(target, outcome.target)
         self.after(outcome, data, rows, rows_length)
         return RewrittenStruct(*outcome.answer)
+
+    def xa_linear(self, data, size, frame, rows, rows_length, values, values_length):
+        content = view(data, size)
+        outcome = self.change(self.linear(content, frame, rows_length, values_length), content)
+        write_rows(rows, outcome.rows)
+        write(values, b"".join((number & 0xFFFF).to_bytes(2, "little") for number in outcome.values))
+        self.after(outcome, data, rows, rows_length)
+        return AnswerStruct(*outcome.answer)
 
     def xa_write_slip(self, verdict, slip, slip_length):
         code, written = self.write_slip(answer_of(verdict), slip_length)

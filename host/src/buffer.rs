@@ -43,6 +43,11 @@ impl RowBuffer {
         self.lend(data, |data, rows| library::canonical(data, rows, target))
     }
 
+    /// Maps a frame into the values.
+    pub fn linear(&mut self, data: &[u8], frame: u64, values: &mut [u16]) -> Result<Answer, String> {
+        self.lend(data, |data, rows| library::linear(data, frame, rows, values))
+    }
+
     /// The first `rows` rows.
     pub fn table(&self, rows: u32) -> Table<'_> {
         let end = (rows as usize).saturating_mul(ROW_WIDTH).min(self.numbers.len());

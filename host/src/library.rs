@@ -1,4 +1,4 @@
-//! The six calls of the proved library, and the mapping of a file. All `unsafe` code of the host is here.
+//! The calls of the proved library that the tool makes, and the mapping of a file. All `unsafe` code of the host is here.
 //!
 //! `include/luuxidgaan.h` says what the calls answer. Of the caller they ask two things: each pointer has as many
 //! elements behind it as its size says, and buffers do not overlap. Slices are so: a shared slice is not changed while
@@ -82,6 +82,15 @@ extern "C" {
         target: *mut u8,
         target_len: usize,
     ) -> Rewritten;
+    fn xa_linear(
+        data: *const u8,
+        size: usize,
+        frame: u64,
+        rows: *mut u32,
+        rows_len: usize,
+        values: *mut u16,
+        values_len: usize,
+    ) -> Answer;
     fn xa_write_slip(verdict: Answer, slip: *mut u8, slip_len: usize) -> u32;
     fn xa_read_slip(slip: *const u8, slip_len: usize) -> Slip;
 }
@@ -110,6 +119,14 @@ pub fn canonical(data: &[u8], rows: &mut [u32], target: &mut [u8]) -> Rewritten 
     // Sound: as in `show`.
     unsafe {
         xa_canonical(data.as_ptr(), data.len(), rows.as_mut_ptr(), rows.len(), target.as_mut_ptr(), target.len())
+    }
+}
+
+/// Maps a frame of an accepted data set back to beam intensity.
+pub fn linear(data: &[u8], frame: u64, rows: &mut [u32], values: &mut [u16]) -> Answer {
+    // Sound: as in `show`.
+    unsafe {
+        xa_linear(data.as_ptr(), data.len(), frame, rows.as_mut_ptr(), rows.len(), values.as_mut_ptr(), values.len())
     }
 }
 

@@ -28,7 +28,7 @@ use output::{note, Status};
 
 const STATUSES: &str = "\
 Exit status:
-  0  all was accepted (judge, slip read), read (rows, duplicates), written (canonical) or drawn (show, contact)
+  0  all was accepted (judge, slip read), read (rows, duplicates), written (canonical), drawn (show, contact) or mapped (linear)
   1  something was refused; the line says why
   2  wrong usage, nothing to judge, or a file that cannot be read or written
 
@@ -63,7 +63,7 @@ enum Command {
         #[arg(long)]
         tree: bool,
     },
-    /// Judge files by the 38 rules, one line for each
+    /// Judge files by the 39 rules, one line for each
     ///
     /// A line says: accepted; or the first broken rule, the lowest frame that breaks it (0: not a matter of one frame), which
     /// item and row are that frame's, and what the rule asks; or the code and the byte at which reading stopped. A summary is
@@ -129,6 +129,22 @@ enum Command {
         #[arg(long)]
         json: bool,
     },
+    /// Map one frame back to beam intensity
+    ///
+    /// Each stored pixel, neither masked nor windowed, becomes its entry in the frame's TO_LINEAR table: a number of 16 bits.
+    Linear {
+        /// A data set
+        file: PathBuf,
+        /// The frame, from 1 on
+        #[arg(value_parser = frame_number)]
+        frame: u64,
+        /// The picture of 16 bits, .png or .pgm [default: FILE.linear-FRAME.png in the working folder]
+        #[arg(short, long, value_name = "PICTURE", conflicts_with = "csv")]
+        output: Option<PathBuf>,
+        /// Print the numbers instead, a line for each row with commas between them
+        #[arg(long)]
+        csv: bool,
+    },
     /// Look at verdict slips
     Slip {
         #[command(subcommand)]
@@ -189,6 +205,11 @@ fn run(command: Command, out: &mut dyn Write) -> io::Result<Status> {
         }
         Command::Canonical { file, output } => canonical::write(&file, &output, out),
         Command::Duplicates { paths, json } => canonical::duplicates(&paths, json, out),
+        Command::Linear { file, frame, csv: true, .. } => picture::linear_text(&file, frame, out),
+        Command::Linear { file, frame, output, .. } => {
+            check_picture(output.as_deref());
+            picture::linear(&file, frame, output.as_deref(), out)
+        }
         Command::Slip { command: SlipCommand::Read { files } } => listing::read_slips(&files, out),
         Command::Demo { folder } => demo::run(&folder, processors(), out),
     }

@@ -1,13 +1,15 @@
-//! `luux show` and `luux contact`: frames as the library drew them, in PNG or PGM files.
+//! `luux show`, `luux contact` and `luux linear`: frames as the library drew or mapped them, in PNG or PGM files or as text.
 //!
 //! No cell is computed here. A contact sheet takes every k-th cell of every k-th row of a drawn frame.
 
+use std::borrow::Cow;
 use std::io::{self, Write};
 use std::path::{Path, PathBuf};
 
 use crate::buffer::RowBuffer;
 use crate::files::{self, Opened};
 use crate::head::Judged;
+use crate::library::Answer;
 use crate::output::{line, note_of, Status};
 use crate::sentences;
 use crate::table::Table;
@@ -32,27 +34,54 @@ impl From<String> for Failure {
     }
 }
 
-/// Grey cells, row by row.
-struct Image {
-    width: usize,
-    height: usize,
-    cells: Vec<u8>,
+/// What a cell is: a grey level of 8 bits, or a number of 16.
+trait Cell: Copy {
+    const DEPTH: png::BitDepth;
+    const HIGHEST: u16;
+
+    /// The cells as files have them, the high byte first.
+    fn bytes(cells: &[Self]) -> Cow<'_, [u8]>;
 }
 
-impl Image {
-    fn new(width: usize, height: usize, grey: u8) -> Result<Image, String> {
+impl Cell for u8 {
+    const DEPTH: png::BitDepth = png::BitDepth::Eight;
+    const HIGHEST: u16 = 255;
+
+    fn bytes(cells: &[u8]) -> Cow<'_, [u8]> {
+        Cow::Borrowed(cells)
+    }
+}
+
+impl Cell for u16 {
+    const DEPTH: png::BitDepth = png::BitDepth::Sixteen;
+    const HIGHEST: u16 = 65_535;
+
+    fn bytes(cells: &[u16]) -> Cow<'_, [u8]> {
+        Cow::Owned(cells.iter().flat_map(|cell| cell.to_be_bytes()).collect())
+    }
+}
+
+/// Cells, row by row.
+struct Image<C> {
+    width: usize,
+    height: usize,
+    cells: Vec<C>,
+}
+
+impl<C: Cell> Image<C> {
+    fn new(width: usize, height: usize, cell: C) -> Result<Image<C>, String> {
         let mut cells = Vec::new();
         let size = width.saturating_mul(height);
         if cells.try_reserve_exact(size).is_err() {
             return Err(format!("there is no memory for a picture of {width} x {height}"));
         }
-        cells.resize(size, grey);
+        cells.resize(size, cell);
         Ok(Image { width, height, cells })
     }
 
-    fn put(&mut self, x: usize, y: usize, grey: u8) {
-        if let Some(cell) = self.cells.get_mut(y * self.width + x) {
-            *cell = grey;
+    fn put(&mut self, x: usize, y: usize, cell: C) {
+        if let Some(place) = self.cells.get_mut(y * self.width + x) {
+            *place = cell;
         }
     }
 
@@ -61,18 +90,18 @@ impl Image {
         let mut content = Vec::new();
         match form {
             Form::Pgm => {
-                content.extend(format!("P5\n{} {}\n255\n", self.width, self.height).into_bytes());
-                content.extend(&self.cells);
+                content.extend(format!("P5\n{} {}\n{}\n", self.width, self.height, C::HIGHEST).into_bytes());
+                content.extend(C::bytes(&self.cells).iter());
             }
             Form::Png => {
                 let mut encoder = png::Encoder::new(&mut content, self.width as u32, self.height as u32);
                 encoder.set_color(png::ColorType::Grayscale);
-                encoder.set_depth(png::BitDepth::Eight);
+                encoder.set_depth(C::DEPTH);
                 encoder.set_filter(png::FilterType::NoFilter);
                 encoder.set_compression(png::Compression::Default);
                 encoder
                     .write_header()
-                    .and_then(|mut writer| writer.write_image_data(&self.cells))
+                    .and_then(|mut writer| writer.write_image_data(&C::bytes(&self.cells)))
                     .map_err(|error| format!("cannot be made a PNG: {error}"))?;
             }
         }
@@ -124,12 +153,24 @@ impl Run {
     }
 
     /// A frame, and whether it is masked.
-    fn draw(&mut self, frame: u64) -> Result<(Image, bool), Failure> {
+    fn draw(&mut self, frame: u64) -> Result<(Image<u8>, bool), Failure> {
         let mut image = Image::new(self.width, self.height, 0)?;
         let answer = self.buffer.show(self.opened.bytes(), frame, &mut image.cells)?;
+        self.done(answer).map(|()| (image, answer.masked == 1))
+    }
+
+    /// A frame in numbers that are linear to beam intensity.
+    fn map(&mut self, frame: u64) -> Result<Image<u16>, Failure> {
+        let mut image = Image::new(self.width, self.height, 0)?;
+        let answer = self.buffer.linear(self.opened.bytes(), frame, &mut image.cells)?;
+        self.done(answer).map(|()| image)
+    }
+
+    /// Whether a call was done, on a file that stayed as it was.
+    fn done(&self, answer: Answer) -> Result<(), Failure> {
         self.opened.unchanged()?;
         match answer.code {
-            0 => Ok((image, answer.masked == 1)),
+            0 => Ok(()),
             NO_SUCH_FRAME => {
                 let text = format!("{}; it has frames 1 to {}", sentences::answer(&answer, 0), self.frames);
                 Err(Failure::Refused(text))
@@ -181,7 +222,7 @@ const DIGITS: [u16; 10] = [
     0b111_101_111_001_111,
 ];
 
-fn put_label(sheet: &mut Image, left: usize, top: usize, frame: u64) {
+fn put_label(sheet: &mut Image<u8>, left: usize, top: usize, frame: u64) {
     for (place, digit) in frame.to_string().bytes().enumerate() {
         let dots = DIGITS[usize::from(digit - b'0')];
         for dot in (0..15).filter(|dot| dots >> (14 - dot) & 1 == 1) {
@@ -195,7 +236,7 @@ fn put_label(sheet: &mut Image, left: usize, top: usize, frame: u64) {
 }
 
 /// The sheet, and the frames on it.
-fn sheet_of(run: &mut Run) -> Result<(Image, Vec<u64>), Failure> {
+fn sheet_of(run: &mut Run) -> Result<(Image<u8>, Vec<u64>), Failure> {
     let frames = chosen(run.frames, SHEET);
     let step = ((run.width.max(run.height) + SIDE - 1) / SIDE).max(1);
     let (width, height) = ((run.width + step - 1) / step, (run.height + step - 1) / step);
@@ -230,7 +271,7 @@ fn explain(path: &Path, failure: Failure, out: &mut dyn Write) -> io::Result<Sta
 }
 
 /// Writes an image and says so.
-fn write(image: &Image, from: &Path, to: &Path, about: &str, out: &mut dyn Write) -> io::Result<Status> {
+fn write<C: Cell>(image: &Image<C>, from: &Path, to: &Path, about: &str, out: &mut dyn Write) -> io::Result<Status> {
     let written = match form_of(to) {
         None => Err(String::from("its name must end in .png or .pgm")),
         Some(_) if files::is_same(from, to) => Err(String::from("it is the run itself; name another file")),
@@ -270,6 +311,33 @@ pub fn contact(path: &Path, to: Option<&Path>, out: &mut dyn Write) -> io::Resul
             let named: Vec<String> = frames.iter().map(u64::to_string).collect();
             let about = format!("{} of {all} frames: {}", frames.len(), named.join(" "));
             write(&sheet, path, &to, &about, out)
+        }
+        Err(failure) => explain(path, failure, out),
+    }
+}
+
+/// Maps one frame back to beam intensity.
+pub fn linear(path: &Path, frame: u64, to: Option<&Path>, out: &mut dyn Write) -> io::Result<Status> {
+    let to = to.map_or_else(|| files::beside(path, &format!(".linear-{frame}.png")), PathBuf::from);
+    match Run::open(path).and_then(|mut run| run.map(frame)) {
+        Ok(image) => write(&image, path, &to, &format!("frame {frame}, linear"), out),
+        Err(failure) => explain(path, failure, out),
+    }
+}
+
+/// Prints one frame's numbers, a line for each row with commas between them. Nothing but numbers goes to standard output.
+pub fn linear_text(path: &Path, frame: u64, out: &mut dyn Write) -> io::Result<Status> {
+    match Run::open(path).and_then(|mut run| run.map(frame)) {
+        Ok(image) => {
+            for row in image.cells.chunks(image.width.max(1)) {
+                let numbers: Vec<String> = row.iter().map(u16::to_string).collect();
+                writeln!(out, "{}", numbers.join(","))?;
+            }
+            Ok(Status::Fine)
+        }
+        Err(Failure::Refused(text)) => {
+            note_of(path, &text);
+            Ok(Status::Refused)
         }
         Err(failure) => explain(path, failure, out),
     }

@@ -3,7 +3,7 @@
 use crate::library::Answer;
 
 /// What each rule asks, rule 1 first: the sentences of the program `judge_one`.
-const RULES: [&str; 38] = [
+const RULES: [&str; 39] = [
     "SOP Class UID (0008,0016) UI must be Enhanced XA, 1.2.840.10008.5.1.4.1.1.12.1.1, or Enhanced XRF, 1.2.840.10008.5.1.4.1.1.12.2.1.",
     "Modality (0008,0060) CS must be XA in an XA object and RF in an XRF object.",
     "Image Type (0008,0008) CS must have at least four values, the first ORIGINAL, DERIVED or MIXED and the fourth NONE.",
@@ -42,6 +42,7 @@ const RULES: [&str; 38] = [
     "Where a frame has Frame Pixel Shift Sequence (0028,9415), every mask item must have a Subtraction Item ID (0028,9416) US, no two the same.",
     "Frame Pixel Shift Sequence (0028,9415) SQ, where the frame has it, must have items, each with a Subtraction Item ID (0028,9416) US that no other has and a Mask Sub-pixel Shift (0028,6114) FL of two numbers from -64 to 64, each a whole multiple of 1/4.",
     "Pixel Data (7FE0,0010) must be OW, or OB at 8 bits, and as long as Number of Frames (0028,0008) x Rows (0028,0010) x Columns (0028,0011) x bytes of a pixel, plus 1 if that is odd.",
+    "Frame Pixel Data Properties Sequence (0028,9443) SQ, where the frame has it, must have one item; Pixel Intensity Relationship LUT Sequence (0028,9422) SQ, where the frame has it, must have items, at most one of them with LUT Function (0028,9474) CS TO_LINEAR, and must be there with one where Pixel Intensity Relationship (0028,1040) CS is LOG; a TO_LINEAR item must have a LUT Descriptor (0028,3002) US of three numbers, the last 16, and LUT Data (0028,3006) OW of two bytes for each entry.",
 ];
 
 /// The sentence of a rule.
@@ -64,10 +65,11 @@ pub fn code(number: u32) -> &'static str {
         8 => "too little room for the rows",
         9 => "a rule is broken",
         10 => "no such frame",
-        11 => "too little room for the picture or the slip",
+        11 => "too little room for the picture, the numbers or the slip",
         12 => "not a slip: not 13 bytes, or another mark",
         13 => "a slip of a version that is not 1",
         14 => "a slip with fields that no verdict has",
+        20 => "the frame has no TO_LINEAR item",
         21 => "too little room for the canonical form",
         _ => "unknown code",
     }

@@ -5,8 +5,9 @@ Layers, each checkable against its paragraph:
     answers.py   what a call hands back, and the buffers afterwards
     reading.py   "Reading": data set -> elements, items, rows; codes 1 to 8; Q-6 in the rows and in code 8
     values.py    the value forms that rules and drawing steps read; Q-2 in the DS
-    rules.py     "The rule list": rules 1 to 38, first broken rule, lowest frame; Q-3 in rule 30, Q-4 in 35 and 37
+    rules.py     "The rule list": rules 1 to 38 and Q-8's 39, first broken rule, lowest frame; Q-3 in rule 30, Q-4 in 35 and 37
     drawing.py   "Drawing frame f": steps 1 to 7, or something is lacking; Q-4 in step 4, Q-3 and Q-9 in step 6
+    intensity.py Q-8: a frame mapped back to beam intensity, or something is lacking; the square root derivation
     slips.py     the 13-byte verdict slips
     canonical.py a data set written anew in one way (document 02, Q-10)
 """

@@ -18,12 +18,13 @@ class Outcome(NamedTuple):
     """An answer together with what the call writes.
 
     `rows` are the numbers written to the front of the row buffer, `image` the bytes written to the front of the image
-    buffer. What lies behind them keeps what it had.
+    buffer, `values` the 16-bit numbers written to the front of the values buffer. What lies behind them keeps what it had.
     """
 
     answer: Answer
     rows: tuple = ()
     image: bytes = b""
+    values: tuple = ()
 
 
 DONE = 0
@@ -37,8 +38,9 @@ DATA_SET_TOO_LARGE = 7
 ROW_BUFFER_TOO_SMALL = 8
 RULE_BROKEN = 9
 NO_SUCH_FRAME = 10
-BUFFER_TOO_SMALL = 11  # the image buffer, or the slip buffer
+BUFFER_TOO_SMALL = 11  # the image buffer, the values buffer, or the slip buffer
 NOT_A_SLIP = 12
 SLIP_VERSION = 13
 IMPOSSIBLE_VERDICT = 14
+NO_TO_LINEAR_ITEM = 20
 TARGET_TOO_SMALL = 21  # Q-10

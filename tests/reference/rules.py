@@ -1,4 +1,4 @@
-"""The rule list of document 01: rules 1 to 38, one function each, and the verdict.
+"""The rule list of document 01: rules 1 to 38, one function each, rule 39 of document 02, and the verdict.
 
 Each function answers whether its rule holds for a data set that reads well; the per-frame ones, whether it holds at a
 frame. Rules are asked in order and the first broken one ends the asking, so a rule may rely on the ones before it. The
@@ -242,7 +242,7 @@ def rule_26(root):
 
 
 # ---------------------------------------------------------------------------------------------------------------------
-# Rules 27 to 38
+# Rules 27 to 39
 
 
 def sequence_tags(level):
@@ -381,11 +381,53 @@ def rule_38(root):
             and element.value_length == length + length % 2)
 
 
+def to_linear_items(items):
+    """The items whose LUT Function (0028,9474) CS is TO_LINEAR."""
+    return [item for item in items if item.text(tags.LUT_FUNCTION, "CS") == b"TO_LINEAR"]
+
+
+def entry_count(descriptor):
+    """LUT Descriptor gives entry count (0 stands for 65,536), first mapped cell and 16."""
+    return descriptor[0] or 65_536
+
+
+def has_lut(item):
+    """A TO_LINEAR item's descriptor has three numbers, the last 16, and its data are two bytes for each entry."""
+    descriptor = item.unsigned_shorts(tags.LUT_DESCRIPTOR)
+    if descriptor is None or len(descriptor) != 3 or descriptor[2] != 16:
+        return False
+    data = item.value(tags.LUT_DATA, "OW")
+    return data is not None and len(data) == 2 * entry_count(descriptor)
+
+
+def rule_39(root, frame):
+    """Per frame: (0028,9443), if present, has one item; (0028,9422), if present, has at least one item and at most one
+    TO_LINEAR item, and is present with one if Pixel Intensity Relationship (0028,1040) CS in (0028,9443) is LOG; a
+    TO_LINEAR item's descriptor has three numbers, the last 16, and its data are two bytes for each entry (02, Q-8)."""
+    logarithmic = False
+    properties = frame_group(root, frame, tags.FRAME_PIXEL_DATA_PROPERTIES_SEQUENCE)
+    if properties is not None:
+        items = items_of(root.data, properties)
+        if not one_item(items):
+            return False
+        logarithmic = items[0].text(tags.PIXEL_INTENSITY_RELATIONSHIP, "CS") == b"LOG"
+    luts = frame_group(root, frame, tags.PIXEL_INTENSITY_RELATIONSHIP_LUT_SEQUENCE)
+    if luts is None:
+        return not logarithmic
+    items = items_of(root.data, luts)
+    if not items:
+        return False
+    linear = to_linear_items(items)
+    if logarithmic and not linear:
+        return False
+    return len(linear) <= 1 and all(has_lut(item) for item in linear)
+
+
 # ---------------------------------------------------------------------------------------------------------------------
 # The verdict
 
-RULES = {number: globals()[f"rule_{number}"] for number in range(1, 39)}
-PER_FRAME_RULES = frozenset((27, 28, 29, 30, 37))
+RULES = {number: globals()[f"rule_{number}"] for number in range(1, 40)}
+PER_FRAME_RULES = frozenset((27, 28, 29, 30, 37, 39))
 
 
 def first_broken_rule(root):

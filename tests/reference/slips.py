@@ -16,7 +16,7 @@ LENGTH = 13
 def possible(code, rule, frame, offset):
     """Whether the fields are those of a verdict.
 
-    "Possible: code 0, 7 or 8, rest 0; 1-6 with place up to 1,073,741,824, rest 0; 9 with rule 1-38, place 0, frame 1 to
+    "Possible: code 0, 7 or 8, rest 0; 1-6 with place up to 1,073,741,824, rest 0; 9 with rule 1-39, place 0, frame 1 to
     65,535 for rules 27-30 and 37, else 0."
     """
     if code in (0, 7, 8):
@@ -26,7 +26,7 @@ def possible(code, rule, frame, offset):
     if code == 9:
         if rule in PER_FRAME_RULES:
             return 1 <= frame <= 65_535 and offset == 0
-        return 1 <= rule <= 38 and frame == 0 and offset == 0
+        return 1 <= rule <= 39 and frame == 0 and offset == 0
     return False
 
 

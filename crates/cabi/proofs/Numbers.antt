@@ -27,13 +27,17 @@ use Rattle.canonical.specs.declared.CanonicalAnswer.{CanonicalAnswer}
 use Rattle.canonical.specs.Written.{Bytes}
 use Rattle.canonical.specs.Answer.{canonicalOf}
 use Rattle.canonical.proofs.Theorems.{SmallAnswer as CanonicalSmall, canonical-small}
+use Rattle.linear.specs.declared.LinearAnswer.{LinearAnswer}
+use Rattle.linear.specs.declared.LinearAnswer.the-variants as linear
+use Rattle.linear.specs.Mapping.{isMapped}
+use Rattle.linear.specs.Answer.{acceptedAnswer as acceptedLinear, answerFor as linearFor, linearOf}
 use Rattle.slip.specs.declared.SlipAnswer.{SlipAnswer}
 use Rattle.slip.specs.declared.SlipAnswer.the-variants as read
 use Rattle.slip.specs.declared.WriteAnswer.{WriteAnswer}
 use Rattle.slip.specs.declared.WriteAnswer.the-variants as write
 use Rattle.slip.specs.Slip.{mark, version, versionAt, slipSize, number, equal, fieldsOf, readOf, writeOf}
 use Rattle.slip.proofs.Theorems.{read-possible}
-use Rattle.cabi.specs.Host.{writeCode, slipAnswer, Narrow, Fits32}
+use Rattle.cabi.specs.Host.{writeCode, slipAnswer, Narrow, Fits32, LinearFits32}
 
 -- ---- What a match found a reader's answer to be
 
@@ -82,6 +86,36 @@ shown-narrow s f buffer image e g = subst Fits32 (sym e ∙ g) (show-narrow s f 
 
 pub canonical-narrow : {a b : CanonicalAnswer} (s rows target : List ℕ) → Bytes s → a ≡ canonicalOf s rows target → a ≡ b → CanonicalSmall b
 canonical-narrow s rows target bytes e f = subst CanonicalSmall (sym e ∙ f) (canonical-small s rows target bytes)
+
+-- ---- What a match found an answer of `linear` to be
+
+linear-accepted : (ns : List Node) (f : ℕ) (values : List ℕ) (n : ℕ) → n ≤ 134217728 → LinearFits32 (acceptedLinear ns f values n)
+unfolding acceptedLinear
+linear-accepted ns f values n h = go (isFrameOf ns f) (isMapped ns f) (leb (imageSize ns) (length values))
+  where
+    go : (t m u : Bool) → LinearFits32 (cond t (cond m (cond u (linear.Mapped n) linear.NoValuesRoom) linear.NoItem) linear.NoFrame)
+    go true true true = record { code = omega arith; offset = omega arith; rows = omega arith; rule = omega arith; frame = omega arith }
+    go true true false = record { code = omega arith; offset = omega arith; rows = omega arith; rule = omega arith; frame = omega arith }
+    go true false u = record { code = omega arith; offset = omega arith; rows = omega arith; rule = omega arith; frame = omega arith }
+    go false m u = record { code = omega arith; offset = omega arith; rows = omega arith; rule = omega arith; frame = omega arith }
+
+linear-answer : (ns : List Node) (f : ℕ) (values : List ℕ) (j : JudgeAnswer) → Small (verdictOf j) → rowCountOf j ≤ 134217728 → LinearFits32 (linearFor ns f values j)
+linear-answer ns f values (judged.Accepted n) m h = linear-accepted ns f values n h
+linear-answer ns f values (judged.Broken n rule frame) m h =
+    record { code = omega arith; offset = omega arith; rows = omega arith; rule = omega (arith, m .rule); frame = omega (arith, m .frame) }
+linear-answer ns f values (judged.Refused code offset) m h =
+    record { code = omega (arith, m .code); offset = omega (arith, m .offset); rows = omega arith; rule = omega arith; frame = omega arith }
+linear-answer ns f values judged.TooLarge m h =
+    record { code = omega arith; offset = omega arith; rows = omega arith; rule = omega arith; frame = omega arith }
+linear-answer ns f values judged.NoRoom m h =
+    record { code = omega arith; offset = omega arith; rows = omega arith; rule = omega arith; frame = omega arith }
+
+linear-all : (s : List ℕ) (f : ℕ) (buffer values : List ℕ) → LinearFits32 (linearOf s f buffer values)
+unfolding linearOf
+linear-all s f buffer values = linear-answer (nodesOf s) f values (judgeOf s buffer) (judge-small s buffer) (judge-rows s buffer)
+
+pub linear-narrow : {a b : LinearAnswer} (s : List ℕ) (f : ℕ) (buffer values : List ℕ) → a ≡ linearOf s f buffer values → a ≡ b → LinearFits32 b
+linear-narrow s f buffer values e g = subst LinearFits32 (sym e ∙ g) (linear-all s f buffer values)
 
 -- ---- What a match found a slip's answer to be
 

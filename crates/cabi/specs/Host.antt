@@ -8,6 +8,8 @@ use Rattle.conformance.specs.declared.JudgeAnswer.{JudgeAnswer}
 use Rattle.conformance.specs.Judging as judging
 use Rattle.display.specs.declared.ShowAnswer.{ShowAnswer}
 use Rattle.display.specs.Show as showing
+use Rattle.linear.specs.declared.LinearAnswer.{LinearAnswer}
+use Rattle.linear.specs.Answer as mapping
 use Rattle.slip.specs.declared.SlipAnswer.{SlipAnswer}
 use Rattle.slip.specs.declared.SlipAnswer.the-variants as read
 use Rattle.slip.specs.declared.WriteAnswer.{WriteAnswer}
@@ -77,6 +79,27 @@ canonicalAnswer a = record {
   rows = canonical.rowCountOf a;
   length = canonical.sizeNamed a;
 }
+
+-- ---- Back to beam intensity
+
+-- The answer of `xa_linear`: as `xa_judge` for codes 0 to 9; codes 10, 20 and 11 name nothing else.
+abbrev pub linearAnswer : LinearAnswer → Answer
+linearAnswer a = record {
+  code = mapping.codeOf a;
+  offset = mapping.offsetOf a;
+  rows = mapping.rowCountOf a;
+  rule = mapping.ruleOf a;
+  frame = mapping.frameOf a;
+  masked = 0;
+}
+
+-- The numbers of an answer fit 32 bits.
+pub record LinearFits32 (a : LinearAnswer) : Type 0 where
+  pub code : mapping.codeOf a < 4294967296
+  pub offset : mapping.offsetOf a < 4294967296
+  pub rows : mapping.rowCountOf a < 4294967296
+  pub rule : mapping.ruleOf a < 4294967296
+  pub frame : mapping.frameOf a < 4294967296
 
 -- ---- Slips
 

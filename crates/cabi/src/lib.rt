@@ -1,6 +1,7 @@
 // The library's calls for hosts in C and whatever calls C; include/luuxidgaan.h declares them. None has a `requires`:
 // any bytes and any buffers may be handed in.
 mod judge;
+mod measure;
 mod read;
 mod rewritten;
 mod show;
@@ -9,6 +10,9 @@ mod slips;
 ghost use mathlib.Core.Path.{_≡_};
 ghost use Rattle.cabi.specs.Host.{codeAlone};
 pub use judge::xa_judge;
+pub use measure::xa_linear;
+pub use measure::xa_root_entry;
+pub use measure::xa_root_level;
 pub use read::xa_read;
 pub use rewritten::Rewritten;
 pub use rewritten::xa_canonical;

@@ -8,7 +8,7 @@ use lib.ListN.{drop}
 use lib.Seq.{drop-drop}
 use lib.Dec.{eqb, leb}
 use borrow.Author.Tests.{le-leb, leb-true, leb-false, eqb-true, eqb-false}
-use Rattle.verdict.specs.Verdict.{perFrame}
+use Rattle.verdict.specs.Verdict.{lastRule, perFrame}
 use Rattle.node.specs.Nodes.{Node, members}
 use Rattle.element.specs.declared.Items.{Items}
 use Rattle.element.specs.Along.{Along}
@@ -17,7 +17,7 @@ use Rattle.rules.specs.All.{ruleAt}
 use Rattle.conformance.specs.declared.Finding.{Finding}
 use Rattle.conformance.specs.declared.Finding.the-variants.{Accepted, Broken}
 use Rattle.conformance.specs.Judging.{numberOf, firstFrame, frameCount, lowest, firstBroken}
-use Rattle.conformance.specs.Parts.{endFrame, Asked}
+use Rattle.conformance.specs.Parts.{endRule, endFrame, Asked}
 
 -- ---- Which rules are asked once
 
@@ -32,6 +32,10 @@ per-frame-37 : perFrame 37 ≡ true
 unfolding perFrame
 per-frame-37 = refl
 
+per-frame-39 : perFrame 39 ≡ true
+unfolding perFrame
+per-frame-39 = refl
+
 -- A rule from 27 on that is asked once is 31 at least, and from 37 on it is 38.
 pub once-mask : (rule : ℕ) → perFrame rule ≡ false → 26 < rule → 31 ≤ rule
 once-mask rule h l = go (leb rule 30) refl
@@ -40,12 +44,16 @@ once-mask rule h l = go (leb rule 30) refl
     go true e = absurd (true-not-false (sym (per-frame-range rule (omega arith) (leb-true rule 30 e)) ∙ h))
     go false e = omega (arith, leb-false rule 30 e)
 
-pub once-last : (rule : ℕ) → perFrame rule ≡ false → 36 < rule → rule ≤ 38 → rule ≡ 38
-once-last rule h l m = go (eqb rule 37) refl
+pub once-last : (rule : ℕ) → perFrame rule ≡ false → 36 < rule → rule ≤ lastRule → rule ≡ 38
+once-last rule h l m = go (eqb rule 37) refl (eqb rule 39) refl
   where
-    go : (b : Bool) → eqb rule 37 ≡ b → rule ≡ 38
-    go true e = absurd (true-not-false (sym per-frame-37 ∙ subst (λ (x : ℕ). perFrame x ≡ false) (eqb-true rule 37 e) h))
-    go false e = omega (arith, eqb-false rule 37 e)
+    not : (k : ℕ) → perFrame k ≡ true → eqb rule k ≡ true → ⊥
+    not k p e = true-not-false (sym p ∙ subst (λ (x : ℕ). perFrame x ≡ false) (eqb-true rule k e) h)
+
+    go : (b : Bool) → eqb rule 37 ≡ b → (c : Bool) → eqb rule 39 ≡ c → rule ≡ 38
+    go true e c f = absurd (not 37 per-frame-37 e)
+    go false e true f = absurd (not 39 per-frame-39 f)
+    go false e false f = omega (arith, eqb-false rule 37 e, eqb-false rule 39 f)
 
 -- ---- Frames of a rule
 
@@ -76,22 +84,22 @@ frame-span ns rule = go (perFrame rule) (numberOf (framesOf ns))
     go true n = omega arith
     go false n = refl
 
-rule-left : (r : ℕ) → r < 39 → 39 - r ≡ suc (39 - (r + 1))
+rule-left : (r : ℕ) → r < endRule → endRule - r ≡ suc (endRule - (r + 1))
 rule-left r h = omega arith
 
-pub rules-start : (ns : List Node) (r : ℕ) → r < 39
-    → firstBroken ns (39 - r) r ≡ lowest ns r (endFrame (numberOf (framesOf ns)) r - firstFrame r) (firstFrame r) (firstBroken ns (39 - (r + 1)) (r + 1))
+pub rules-start : (ns : List Node) (r : ℕ) → r < endRule
+    → firstBroken ns (endRule - r) r ≡ lowest ns r (endFrame (numberOf (framesOf ns)) r - firstFrame r) (firstFrame r) (firstBroken ns (endRule - (r + 1)) (r + 1))
 unfolding firstBroken
 rules-start ns r h = rw (rule-left r h, ← frame-span ns r)
 
-pub rules-done : (ns : List Node) (r : ℕ) → 39 ≤ r → firstBroken ns (39 - r) r ≡ Accepted
+pub rules-done : (ns : List Node) (r : ℕ) → endRule ≤ r → firstBroken ns (endRule - r) r ≡ Accepted
 unfolding firstBroken
-rules-done ns r h = rw (none r 39 h)
+rules-done ns r h = rw (none r endRule h)
 
 -- ---- The items that are left, at a frame counted from the rule's first
 
 module _ (ns : List Node) where
-  pub asked-at : {c : Items} (n rule frame : ℕ) → 1 ≤ rule → rule < 39 → firstFrame rule ≤ frame → frame < endFrame n rule
+  pub asked-at : {c : Items} (n rule frame : ℕ) → 1 ≤ rule → rule < endRule → firstFrame rule ≤ frame → frame < endFrame n rule
       → Along ns (drop (frame - firstFrame rule) (frameItems ns)) c → Asked ns rule frame c
   unfolding firstFrame
   asked-at {c} n rule frame a b f e w =

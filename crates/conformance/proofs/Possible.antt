@@ -46,7 +46,8 @@ rule15-few ns h = few-frames (framesOf ns) (h 0 (omega arith) (omega arith))
 per-frame-late : (rule : ℕ) → perFrame rule ≡ true → 27 ≤ rule
 unfolding perFrame
 per-frame-late rule e =
-    ⊎-elim (λ a. leb-true 27 rule (and-both (leb 27 rule) (leb rule 30) a .0)) (λ b. omega (arith, eqb-true rule 37 b)) (or-either (leb 27 rule && leb rule 30) (eqb rule 37) e)
+    ⊎-elim (λ a. leb-true 27 rule (and-both (leb 27 rule) (leb rule 30) a .0)) (λ b. ⊎-elim (λ d. omega (arith, eqb-true rule 37 d)) (λ d. omega (arith, eqb-true rule 39 d)) (or-either (eqb rule 37) (eqb rule 39) b))
+    (or-either (leb 27 rule && leb rule 30) (eqb rule 37 || eqb rule 39) e)
 
 frame-fits : (ns : List Node) (rule frame : ℕ) → Broke ns rule frame → frameFits rule frame ≡ true
 unfolding frameFits firstFrame frameCount

@@ -11,12 +11,17 @@ use Rattle.node.specs.Nodes.{Node}
 use Rattle.element.specs.declared.Items.{Items}
 use Rattle.element.specs.Along.{Along}
 use Rattle.element.specs.Frames.{frameItems}
+use Rattle.rules_frame.specs.declared.SharedPart.{SharedPart}
 use Rattle.rules_frame.specs.Parts.{sharedPart}
 
 -- What a rule that is asked at each frame comes to in the shared item.
-abbrev pub okFor : List Node → ℕ → Num → Bool
-okFor ns rule Lacks = true
+abbrev pub okFor : List Node → ℕ → Num → SharedPart
+okFor ns rule Lacks = record { ok = true; relation = 1; table = 1 }
 okFor ns rule (Is s) = sharedPart ns rule s
+
+-- The number after the last rule's.
+abbrev pub endRule : ℕ
+endRule = lastRule + 1
 
 -- The frame after the last at which a rule is asked, of n frames.
 abbrev pub endFrame : ℕ → ℕ → ℕ

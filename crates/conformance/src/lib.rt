@@ -6,7 +6,7 @@ ghost use lib.ListN.{length, drop};
 ghost use Rattle.dataset.specs.Reading.{readingOf};
 ghost use Rattle.dataset.specs.Answer.{bufferOf};
 ghost use Rattle.value.specs.Said.{Below};
-ghost use Rattle.verdict.specs.Verdict.{perFrame};
+ghost use Rattle.verdict.specs.Verdict.{lastRule, perFrame};
 ghost use Rattle.node.specs.Nodes.{nodesOf, members};
 ghost use Rattle.node.specs.Table.{Table};
 ghost use Rattle.element.specs.Frames.{framesOf, sharedItem, frameItems};
@@ -16,8 +16,12 @@ ghost use Rattle.conformance.specs.Judging.{numberOf, firstFrame, findin
 ghost use Rattle.conformance.specs.Parts.{okFor, Asked, endFrame};
 use dataset::ReadAnswer;
 use element::Items;
+use rules_frame::SharedPart;
 use value::Num;
 use verdict::Verdict;
+
+// The number after the last rule's.
+const END_RULE: usize = verdict::LAST_RULE + 1;
 
 // What the rules come to: all hold, or the first broken one and its lowest frame.
 pub enum Finding {
@@ -36,12 +40,16 @@ pub enum JudgeAnswer {
 }
 
 // What a rule that is asked at each frame comes to in the shared item, worked out once for the rule.
-fn shared_ok(bytes: &[u8], rows: &[u32], rule: usize, shared: Num) -> bool
+fn shared_ok(bytes: &[u8], rows: &[u32], rule: usize, shared: Num) -> SharedPart
     requires { ⌜ Table (now bytes) (now rows) × Below (length (nodesOf (now bytes))) shared ⌝ }
     ensures { λ r. ⌜ r ≡ okFor (nodesOf (now (bytes .entry))) rule shared ⌝ }
 {
     match shared {
-        Num::Lacks => true,
+        Num::Lacks => SharedPart {
+            ok: true,
+            relation: 1,
+            table: 1,
+        },
         Num::Is(s) => rules_frame::shared_part(bytes, rows, rule, s),
     }
 }
@@ -52,11 +60,11 @@ fn frame_holds(
     rows: &[u32],
     rule: usize,
     shared: Num,
-    ok: bool,
+    part: SharedPart,
     items: Items,
     frame: usize,
 ) -> bool
-    requires { ⌜ Table (now bytes) (now rows) × (Below (length (nodesOf (now bytes))) shared × ((shared ≡ sharedItem (nodesOf (now bytes))) × ((ok ≡ okFor (nodesOf (now bytes)) rule shared) × ((perFrame rule ≡ true) × Along (nodesOf (now bytes)) (drop (frame - 1) (frameItems (nodesOf (now bytes)))) items)))) ⌝ }
+    requires { ⌜ Table (now bytes) (now rows) × (Below (length (nodesOf (now bytes))) shared × ((shared ≡ sharedItem (nodesOf (now bytes))) × ((part ≡ okFor (nodesOf (now bytes)) rule shared) × ((perFrame rule ≡ true) × Along (nodesOf (now bytes)) (drop (frame - 1) (frameItems (nodesOf (now bytes)))) items)))) ⌝ }
     ensures { λ r. ⌜ r ≡ ruleAt (nodesOf (now (bytes .entry))) rule frame ⌝ }
 {
     match shared {
@@ -65,7 +73,7 @@ fn frame_holds(
             let at = items.at;
             let end = items.end;
             if at < end {
-                rules_frame::item_rule(bytes, rows, rule, s, ok, at)
+                rules_frame::item_rule(bytes, rows, rule, s, part, at)
             } else {
                 false
             }
@@ -75,7 +83,7 @@ fn frame_holds(
 
 // A rule that is asked once.
 fn once_holds(bytes: &[u8], rows: &[u32], rule: usize) -> bool
-    requires { ⌜ Table (now bytes) (now rows) × ((1 ≤ rule) × ((rule ≤ 38) × (perFrame rule ≡ false))) ⌝ }
+    requires { ⌜ Table (now bytes) (now rows) × ((1 ≤ rule) × ((rule ≤ lastRule) × (perFrame rule ≡ false))) ⌝ }
     ensures { λ r. ⌜ r ≡ ruleAt (nodesOf (now (bytes .entry))) rule 0 ⌝ }
 {
     if rule <= 26 {
@@ -95,15 +103,15 @@ fn rule_holds(
     rows: &[u32],
     rule: usize,
     shared: Num,
-    ok: bool,
+    part: SharedPart,
     items: Items,
     frame: usize,
 ) -> bool
-    requires { ⌜ Table (now bytes) (now rows) × (Below (length (nodesOf (now bytes))) shared × ((shared ≡ sharedItem (nodesOf (now bytes))) × ((ok ≡ okFor (nodesOf (now bytes)) rule shared) × Asked (nodesOf (now bytes)) rule frame items))) ⌝ }
+    requires { ⌜ Table (now bytes) (now rows) × (Below (length (nodesOf (now bytes))) shared × ((shared ≡ sharedItem (nodesOf (now bytes))) × ((part ≡ okFor (nodesOf (now bytes)) rule shared) × Asked (nodesOf (now bytes)) rule frame items))) ⌝ }
     ensures { λ r. ⌜ r ≡ ruleAt (nodesOf (now (bytes .entry))) rule frame ⌝ }
 {
     if verdict::per_frame(rule) {
-        frame_holds(bytes, rows, rule, shared, ok, items, frame)
+        frame_holds(bytes, rows, rule, shared, part, items, frame)
     } else {
         once_holds(bytes, rows, rule)
     }
@@ -143,13 +151,13 @@ pub fn first_broken(bytes: &[u8], rows: &[u32]) -> Finding
     let shared = element::shared_item(bytes, rows);
     let items = element::frame_items(bytes, rows);
     let found = 'judge: loop {
-        for rule in 1..39 {
-            let ok = shared_ok(bytes, rows, rule, shared);
+        for rule in 1..END_RULE {
+            let part = shared_ok(bytes, rows, rule, shared);
             let first = first_frame(rule);
             let end = end_frame(rule, n);
             let mut left = items;
             for frame in first..end {
-                if rule_holds(bytes, rows, rule, shared, ok, left, frame) {
+                if rule_holds(bytes, rows, rule, shared, part, left, frame) {
                     left = element::advance(bytes, rows, left);
                 } else {
                     break 'judge Finding::Broken(rule, frame);

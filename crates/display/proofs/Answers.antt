@@ -16,14 +16,15 @@ use Rattle.display.specs.declared.ShowAnswer.{ShowAnswer}
 use Rattle.display.specs.declared.ShowAnswer.the-variants as shown
 use Rattle.display.specs.Show.{imageSize, pictureOf, acceptedAnswer}
 
-none-frame : (f : ℕ) → leb 1 f && leb f 0 ≡ false
+-- A number that is no frame does not pass the test of code 10.
+pub none-frame : (f : ℕ) → leb 1 f && leb f 0 ≡ false
 none-frame zero = refl
 none-frame (suc f) = rw (lt-leb (suc f) 0 (omega arith), and-false)
 
-high-frame : (f n : ℕ) → n < f → leb 1 f && leb f n ≡ false
+pub high-frame : (f n : ℕ) → n < f → leb 1 f && leb f n ≡ false
 high-frame f n h = rw (lt-leb f n h, and-false)
 
-low-frame : (f n : ℕ) → f < 1 → leb 1 f && leb f n ≡ false
+pub low-frame : (f n : ℕ) → f < 1 → leb 1 f && leb f n ≡ false
 low-frame f n h = rw (lt-leb 1 f h)
 
 module _ (ns : List Node) (f : ℕ) (image : List ℕ) (count : ℕ) where

@@ -1,5 +1,5 @@
 -- For a frame of an accepted object no step lacks anything: its cells all answer, and the list of them is the picture. What
--- demand 3 (Demand3) says of the definitions is `nothing-lacks`.
+-- demand 3 (Drawing) says of the definitions is `nothing-lacks`.
 use mathlib.Core.Path.{_≡_, refl, sym, ap, _∙_, subst}
 use mathlib.Core.Bool.{Bool, true, false, cond, _&&_}
 use mathlib.Core.List.{List, [], _∷_, _++_}
@@ -30,7 +30,7 @@ use Rattle.conformance.specs.declared.Finding.the-variants.{Accepted}
 use Rattle.conformance.specs.Judging.{numberOf, findingOf}
 use Rattle.display.specs.Show.{imageSize}
 use Rattle.display.proofs.Given.{never}
-use Rattle.display.specs.Demand3.{Bytes, AllLevels, Whole}
+use Rattle.display.specs.Drawing.{Bytes, AllLevels, Whole}
 use Rattle.display.proofs.Small.{us-in-small}
 use Rattle.display.proofs.Objects.{object, windowed}
 use Rattle.display.proofs.Masks.{masking}

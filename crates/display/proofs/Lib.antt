@@ -1,4 +1,4 @@
--- What the proofs of the drawing use; demand 3 stands in Demand3.
+-- What the proofs of the drawing use; the drawing part of demand 3 stands in Drawing.
 pub mod Given
 pub mod Accepted
 pub mod Objects
@@ -12,5 +12,6 @@ pub mod Draws
 pub mod Whole
 pub mod Answers
 pub mod Judged
-pub mod Demand3
+pub mod Codes
+pub mod Drawing
 pub mod Before

@@ -22,7 +22,7 @@ use Rattle.shift.specs.declared.Shift.the-variants as shift
 use Rattle.shift.specs.declared.Moves.{Moves}
 use Rattle.shift.specs.Shift.{largestMove, isShort, itemShift, frameShift, movesOf, isShiftOf, isShift}
 use Rattle.shift.proofs.Laws.{moves-both, shift-length, item-is, frame-is}
-use Rattle.verdict.specs.Verdict.{perFrame}
+use Rattle.verdict.specs.Verdict.{lastRule, perFrame}
 use Rattle.verdict.proofs.Tests.{false-is-true, and-both}
 use Rattle.node.specs.Nodes.{Node, nodeAt, nextNode, root, inside}
 use Rattle.node.specs.Find.{holds, ifPresent, andThen, orElse, find, findVr, ofVr, filled}
@@ -376,9 +376,9 @@ module _ (ns : List Node) (f n j : ℕ) (m : Moves) (moved : movesFor ns f j ≡
       go false p false q false r = absurd (false-is-true (rw (p, q, r) at op))
 
 module _ (ns : List Node) (ok : findingOf ns ≡ Accepted) where
-  once : (rule : ℕ) → 1 ≤ rule → rule < 39 → perFrame rule ≡ false → ruleAt ns rule 0 ≡ true
+  once : (rule : ℕ) → 1 ≤ rule → rule ≤ lastRule → perFrame rule ≡ false → ruleAt ns rule 0 ≡ true
   unfolding firstFrame frameCount
-  once rule a b e = accepted-holds ns ok rule a b 0 (rw e (omega arith)) (rw e (omega arith))
+  once rule a b e = accepted-holds ns ok rule a (omega arith) 0 (rw e (omega arith)) (rw e (omega arith))
 
   pub r31 : rule31 ns ≡ true
   unfolding ruleAt ruleList perFrame

@@ -20,7 +20,7 @@ use Rattle.value.specs.Words.{isWord, wordAt, isFunction}
 use Rattle.value.specs.Number.{unit, all, allDecimals, allWidths, decimalOf, isNumber, leastWidth, isWidth}
 use Rattle.value.proofs.Laws.{decimalOf-below}
 use Rattle.value.proofs.Parts.{values-some}
-use Rattle.verdict.specs.Verdict.{perFrame}
+use Rattle.verdict.specs.Verdict.{lastRule, perFrame}
 use Rattle.verdict.proofs.Tests.{false-is-true, and-both, or-either}
 use Rattle.node.specs.Nodes.{Node, nodeAt, root, inside}
 use Rattle.node.specs.Find.{holds, ifPresent, orElse, find, findVr}
@@ -32,6 +32,7 @@ use Rattle.rules.specs.Root.{photometricIs, bitsFit, rule9, rule10, rule11, rul
 use Rattle.rules.specs.Frame.{atFrame, item27, item30, isVoi, hasWindow, isWindow, rule27, rule28, rule29, rule30, rule37}
 use Rattle.rules.specs.Mask.{rule31, rule32, rule33, rule34, rule35, rule36}
 use Rattle.rules.specs.Pixels.{padded, isPixelVr, isPixelData, rule38}
+use Rattle.rules.specs.Intensity.{rule39}
 use Rattle.rules.specs.All.{ruleList, ruleAt}
 use Rattle.conformance.specs.declared.Finding.the-variants.{Accepted}
 use Rattle.conformance.specs.Judging.{firstFrame, frameCount, findingOf}
@@ -82,11 +83,11 @@ group-is ns f tag s i a b = rw b (go (find ns tag (inside ns i)))
 -- ---- The rules of an accepted object
 
 module _ (ns : List Node) (ok : findingOf ns ≡ Accepted) where
-  pub at-once : (rule : ℕ) → 1 ≤ rule → rule ≤ 38 → perFrame rule ≡ false → ruleAt ns rule 0 ≡ true
+  pub at-once : (rule : ℕ) → 1 ≤ rule → rule ≤ lastRule → perFrame rule ≡ false → ruleAt ns rule 0 ≡ true
   unfolding firstFrame frameCount
   at-once rule a b e = accepted-holds ns ok rule a (omega arith) 0 (rw e (omega arith)) (rw e (omega arith))
 
-  pub at-frame : (rule n f : ℕ) → 1 ≤ rule → rule ≤ 38 → perFrame rule ≡ true → framesOf ns ≡ Is n → 1 ≤ f → f ≤ n → ruleAt ns rule f ≡ true
+  pub at-frame : (rule n f : ℕ) → 1 ≤ rule → rule ≤ lastRule → perFrame rule ≡ true → framesOf ns ≡ Is n → 1 ≤ f → f ≤ n → ruleAt ns rule f ≡ true
   unfolding firstFrame frameCount
   at-frame rule n f a b e c l h = accepted-holds ns ok rule a (omega arith) f (rw e (omega arith)) (rw (e, c) (omega arith))
 
@@ -174,6 +175,10 @@ module _ (ns : List Node) (ok : findingOf ns ≡ Accepted) where
     pub r37 : rule37 ns f ≡ true
     unfolding ruleAt ruleList perFrame
     r37 = at-frame 37 n f (omega arith) (omega arith) refl count low high
+
+    pub r39 : rule39 ns f ≡ true
+    unfolding ruleAt ruleList perFrame
+    r39 = at-frame 39 n f (omega arith) (omega arith) refl count low high
 
     -- The item of the frame.
     pub item-of : (i : ℕ) × (frameItem ns f ≡ Is i)

@@ -15,7 +15,7 @@ use Rattle.value.specs.Number.{usOf}
 use Rattle.node.specs.Nodes.{Node, holdsNodes, nodeOf, nodesOf, noNode, nodeAt, root}
 use Rattle.node.specs.Find.{andThen, find, findVr}
 use Rattle.element.specs.Elements.{usIn}
-use Rattle.display.specs.Demand3.{Bytes}
+use Rattle.display.specs.Drawing.{Bytes}
 
 none-bytes : Bytes []
 none-bytes i = omega arith

@@ -24,7 +24,7 @@ use Rattle.display.specs.Said.{AllWithin, Sound, Gives, maskingOf, Maski
 use Rattle.display.specs.Show.{imageSize}
 use Rattle.display.proofs.Given.{never}
 use Rattle.display.proofs.Lacking.{geometry-size}
-use Rattle.display.specs.Demand3.{Bytes}
+use Rattle.display.specs.Drawing.{Bytes}
 use Rattle.display.proofs.Small.{us-in-small}
 use Rattle.display.proofs.Objects.{object, windowed, same-is}
 use Rattle.display.proofs.Masks as masks

@@ -41,7 +41,7 @@ use Rattle.steps.specs.declared.Applying.{Applying}
 use Rattle.steps.specs.declared.Applying.the-variants.{Item, Nothing}
 use Rattle.steps.specs.Given.{check, then, collect}
 use Rattle.steps.specs.Steps.{Picture, Mask, native, masked, geometryOf, pixelsOf, applyingTo, averageFrames, tidFrame, shiftFor, windowFor, inverseOf, nativeCell, areFrames, stepsOf}
-use Rattle.display.specs.Demand3.{Bytes}
+use Rattle.display.specs.Drawing.{Bytes}
 
 -- ---- Rule 35: two whole numbers in -64..64
 

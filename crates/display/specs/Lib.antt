@@ -1,4 +1,4 @@
 pub mod Show
 pub mod Said
-pub mod Demand3
+pub mod Drawing
 pub mod Before

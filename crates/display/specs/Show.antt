@@ -26,7 +26,7 @@ abbrev pub imageSize : List Node → ℕ
 imageSize ns = numberOf (usIn ns Tags.Rows (root ns)) * numberOf (usIn ns Tags.Columns (root ns))
 
 -- The picture that the steps give. Where they lack something, which they never do for a frame of an accepted object
--- (proofs/Demand3), an empty one stands for it.
+-- (proofs/Drawing), an empty one stands for it.
 abbrev pub pictureIn : Option Picture → Picture
 pictureIn none = record { masked = false; samples = [] }
 pictureIn (some p) = p

@@ -234,7 +234,7 @@ fn number_of(n: Num) -> usize
 }
 
 // Rows times Columns.
-fn image_size(bytes: &[u8], rows: &[u32]) -> usize
+pub fn image_size(bytes: &[u8], rows: &[u32]) -> usize
     requires { ⌜ Table (now bytes) (now rows) ⌝ }
     ensures { λ r. ⌜ r ≡ imageSize (nodesOf (now (bytes .entry))) ⌝ }
 {

@@ -119,6 +119,9 @@ PixelRepresentation = 0x0028_0103
 abbrev pub BurnedInAnnotation : ℕ
 BurnedInAnnotation = 0x0028_0301
 
+abbrev pub PixelIntensityRelationship : ℕ
+PixelIntensityRelationship = 0x0028_1040
+
 abbrev pub WindowCenter : ℕ
 WindowCenter = 0x0028_1050
 
@@ -136,6 +139,12 @@ LossyImageCompressionRatio = 0x0028_2112
 
 abbrev pub LossyImageCompressionMethod : ℕ
 LossyImageCompressionMethod = 0x0028_2114
+
+abbrev pub LUTDescriptor : ℕ
+LUTDescriptor = 0x0028_3002
+
+abbrev pub LUTData : ℕ
+LUTData = 0x0028_3006
 
 abbrev pub MaskSubtractionSequence : ℕ
 MaskSubtractionSequence = 0x0028_6100
@@ -166,6 +175,15 @@ FramePixelShiftSequence = 0x0028_9415
 
 abbrev pub SubtractionItemID : ℕ
 SubtractionItemID = 0x0028_9416
+
+abbrev pub PixelIntensityRelationshipLUTSequence : ℕ
+PixelIntensityRelationshipLUTSequence = 0x0028_9422
+
+abbrev pub FramePixelDataPropertiesSequence : ℕ
+FramePixelDataPropertiesSequence = 0x0028_9443
+
+abbrev pub LUTFunction : ℕ
+LUTFunction = 0x0028_9474
 
 abbrev pub PresentationLUTShape : ℕ
 PresentationLUTShape = 0x2050_0020

@@ -75,6 +75,8 @@ pub const PIXEL_REPRESENTATION: usize = 0x0028_0103;
 
 pub const BURNED_IN_ANNOTATION: usize = 0x0028_0301;
 
+pub const PIXEL_INTENSITY_RELATIONSHIP: usize = 0x0028_1040;
+
 pub const WINDOW_CENTER: usize = 0x0028_1050;
 
 pub const WINDOW_WIDTH: usize = 0x0028_1051;
@@ -86,6 +88,10 @@ pub const LOSSY_IMAGE_COMPRESSION: usize = 0x0028_2110;
 pub const LOSSY_IMAGE_COMPRESSION_RATIO: usize = 0x0028_2112;
 
 pub const LOSSY_IMAGE_COMPRESSION_METHOD: usize = 0x0028_2114;
+
+pub const LUT_DESCRIPTOR: usize = 0x0028_3002;
+
+pub const LUT_DATA: usize = 0x0028_3006;
 
 pub const MASK_SUBTRACTION_SEQUENCE: usize = 0x0028_6100;
 
@@ -106,6 +112,12 @@ pub const FRAME_VOI_LUT_SEQUENCE: usize = 0x0028_9132;
 pub const FRAME_PIXEL_SHIFT_SEQUENCE: usize = 0x0028_9415;
 
 pub const SUBTRACTION_ITEM_ID: usize = 0x0028_9416;
+
+pub const PIXEL_INTENSITY_RELATIONSHIP_LUT_SEQUENCE: usize = 0x0028_9422;
+
+pub const FRAME_PIXEL_DATA_PROPERTIES_SEQUENCE: usize = 0x0028_9443;
+
+pub const LUT_FUNCTION: usize = 0x0028_9474;
 
 pub const PRESENTATION_LUT_SHAPE: usize = 0x2050_0020;
 

@@ -6,6 +6,11 @@ fn say(text: &[u8]) {
     io::write_all(1, b"\n");
 }
 
+// A number that is none of the rules' gets no rule's sentence.
+fn say_none() {
+    say(b"no such rule");
+}
+
 fn print_kind(rule: usize) {
     match rule {
         1 => say(
@@ -27,7 +32,8 @@ fn print_kind(rule: usize) {
         7 => say(
             b"Plane Identification (0018,9457) CS must not be MONOPLANE where Planes in Acquisition (0018,9410) is BIPLANE.",
         ),
-        _ => say(b"Acquisition DateTime (0008,002A) DT must have a value."),
+        8 => say(b"Acquisition DateTime (0008,002A) DT must have a value."),
+        _ => say_none(),
     }
 }
 
@@ -44,7 +50,8 @@ fn print_pixels(rule: usize) {
         15 => say(
             b"Number of Frames (0028,0008) IS must be a number of at most 11 digits, from 1 to 65535.",
         ),
-        _ => say(b"Content Qualification (0018,9004) CS must be PRODUCT, RESEARCH or SERVICE."),
+        16 => say(b"Content Qualification (0018,9004) CS must be PRODUCT, RESEARCH or SERVICE."),
+        _ => say_none(),
     }
 }
 
@@ -67,9 +74,10 @@ fn print_image(rule: usize) {
         23 => say(
             b"In an ORIGINAL image Exposure in mAs (0018,9332) FD must have a value, or both Exposure Time in ms (0018,9328) FD and X-Ray Tube Current in mA (0018,9330) FD.",
         ),
-        _ => say(
+        24 => say(
             b"In an ORIGINAL image of an XRF object Positioner Type (0018,1508) CS must be COLUMN.",
         ),
+        _ => say_none(),
     }
 }
 
@@ -88,9 +96,10 @@ fn print_groups(rule: usize) {
         29 => say(
             b"XA/XRF Frame Characteristics Sequence (0018,9412) SQ, where the frame has it, must have one item.",
         ),
-        _ => say(
+        30 => say(
             b"Frame VOI LUT Sequence (0028,9132) SQ, where the frame has it, must have one item, with equally many Window Center (0028,1050) DS and Window Width (0028,1051) DS, each a number of at most 16 characters, whole in millionths and below one million in size; VOI LUT Function (0028,1056) CS absent, LINEAR or LINEAR_EXACT; the widths at least 1, with LINEAR_EXACT above 0.",
         ),
+        _ => say_none(),
     }
 }
 
@@ -117,13 +126,17 @@ fn print_masks(rule: usize) {
         37 => say(
             b"Frame Pixel Shift Sequence (0028,9415) SQ, where the frame has it, must have items, each with a Subtraction Item ID (0028,9416) US that no other has and a Mask Sub-pixel Shift (0028,6114) FL of two numbers from -64 to 64, each a whole multiple of 1/4.",
         ),
-        _ => say(
+        38 => say(
             b"Pixel Data (7FE0,0010) must be OW, or OB at 8 bits, and as long as Number of Frames (0028,0008) x Rows (0028,0010) x Columns (0028,0011) x bytes of a pixel, plus 1 if that is odd.",
         ),
+        39 => say(
+            b"Frame Pixel Data Properties Sequence (0028,9443) SQ, where the frame has it, must have one item; Pixel Intensity Relationship LUT Sequence (0028,9422) SQ, where the frame has it, must have items, at most one of them with LUT Function (0028,9474) CS TO_LINEAR, and must be there with one where Pixel Intensity Relationship (0028,1040) CS is LOG; a TO_LINEAR item must have a LUT Descriptor (0028,3002) US of three numbers, the last 16, and LUT Data (0028,3006) OW of two bytes for each entry.",
+        ),
+        _ => say_none(),
     }
 }
 
-// The sentence of a rule from 1 to 38.
+// The sentence of a rule from 1 to 39.
 pub fn print_sentence(rule: usize) {
     if rule <= 16 {
         if rule <= 8 {

@@ -57,7 +57,7 @@ pub fn is_frame(g: Geometry, pixels: &[u8], k: usize) -> bool
 
 // ---- Samples
 
-fn power(n: usize) -> usize
+pub fn power(n: usize) -> usize
     requires { ⌜ n ≤ 16 ⌝ }
     ensures { λ r. ⌜ r ≡ 2 ^ n ⌝ }
 {
@@ -65,7 +65,7 @@ fn power(n: usize) -> usize
 }
 
 // Sample j of all frames, without the bits that are not stored.
-fn sample(pixels: &[u8], g: Geometry, low: usize, j: usize) -> usize
+pub fn sample(pixels: &[u8], g: Geometry, low: usize, j: usize) -> usize
     requires { ⌜ Lies (now pixels) g low j ⌝ }
     ensures { λ r. ⌜ (r ≡ cellAt g (now (pixels .entry)) j) × (r ≤ low) ⌝ }
 {

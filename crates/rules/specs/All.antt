@@ -8,6 +8,7 @@ use Rattle.rules.specs.Root.{rule1, rule2, rule3, rule4, rule5, rule6, r
 use Rattle.rules.specs.Frame.{rule27, rule28, rule29, rule30, rule37}
 use Rattle.rules.specs.Mask.{rule31, rule32, rule33, rule34, rule35, rule36}
 use Rattle.rules.specs.Pixels.{rule38}
+use Rattle.rules.specs.Intensity.{rule39}
 
 -- Whether each rule holds, from the first on; those that are asked at each frame, at frame f.
 unfoldable pub ruleList : List Node → ℕ → List Bool
@@ -50,6 +51,7 @@ ruleList ns f =
     ∷ rule36 ns
     ∷ rule37 ns f
     ∷ rule38 ns
+    ∷ rule39 ns f
     ∷ []
 
 -- Whether a rule holds at a frame; the frame counts only for a rule that is asked at each frame.

@@ -2,4 +2,5 @@ pub mod Root
 pub mod Frame
 pub mod Mask
 pub mod Pixels
+pub mod Intensity
 pub mod All

@@ -10,6 +10,8 @@ use Rattle.value.specs.declared.Num.the-variants.{Is, Lacks}
 use Rattle.node.specs.Find.{absent, find}
 use Rattle.element.specs.Tags
 use Rattle.element.specs.Elements.{oneItem}
+use Rattle.intensity.specs.Grades.{relationIn, tableIn, agree}
+use Rattle.rules_frame.specs.declared.SharedPart.{SharedPart}
 use Rattle.rules.specs.Frame.{item27, item28, isVoi, isShiftGroup}
 
 -- The functional group that rule 29, 30 or 37 is of, and what it asks of the group.
@@ -27,16 +29,30 @@ onGroup (Is g) fits otherwise = fits g
 unfoldable pub groupIn : List Node → ℕ → ℕ → Bool → Bool
 groupIn ns rule i otherwise = onGroup (find ns (groupTag rule) (inside ns i)) (groupFits ns rule) otherwise
 
--- What a rule asks of the shared item s alone.
-unfoldable pub sharedPart : List Node → ℕ → ℕ → Bool
-sharedPart ns rule s =
+-- What rules 27 to 30 and 37 ask of the shared item s alone.
+unfoldable pub sharedOk : List Node → ℕ → ℕ → Bool
+sharedOk ns rule s =
     cond (eqb rule 27) true
     (cond (eqb rule 28) (absent (find ns Tags.FrameContentSequence (inside ns s)))
     (groupIn ns rule s true))
 
--- What a rule asks of the shared item s and a frame's item i.
-unfoldable pub itemRule : List Node → ℕ → ℕ → ℕ → Bool
-itemRule ns rule s i =
+-- What they ask of the shared item s and a frame's item i.
+unfoldable pub itemBy : List Node → ℕ → ℕ → ℕ → Bool
+itemBy ns rule s i =
     cond (eqb rule 27) (item27 ns s i)
     (cond (eqb rule 28) (item28 ns s i)
     (groupIn ns rule i (groupIn ns rule s true)))
+
+-- Rule 39 is of two groups, each with a grade; a rule that is not 39 has none of them, and 39 no other part.
+unfoldable pub sharedPart : List Node → ℕ → ℕ → SharedPart
+sharedPart ns rule s =
+    cond (eqb rule 39)
+    (record { ok = true; relation = relationIn ns s 1; table = tableIn ns s 1 })
+    (record { ok = sharedOk ns rule s; relation = 1; table = 1 })
+
+unfoldable pub itemGrades : List Node → ℕ → ℕ → Bool
+itemGrades ns s i = agree (relationIn ns i (relationIn ns s 1)) (tableIn ns i (tableIn ns s 1))
+
+-- What a rule asks of the shared item s and a frame's item i.
+unfoldable pub itemRule : List Node → ℕ → ℕ → ℕ → Bool
+itemRule ns rule s i = cond (eqb rule 39) (itemGrades ns s i) (itemBy ns rule s i)

@@ -1,4 +1,4 @@
-// Rules 27 to 30 and 37, which are asked at each frame, over a row table.
+// Rules 27 to 30, 37 and 39, which are asked at each frame, over a row table.
 ghost use mathlib.Core.Path.{_≡_};
 ghost use Prim.Native.Nat.{ℕ, _+_, _-_, _*_, _≤_, _<_};
 ghost use mathlib.Core.Bool.{Bool, _&&_};
@@ -11,11 +11,18 @@ ghost use Rattle.node.specs.Find.{absent, ifPresent, find};
 ghost use Rattle.node.specs.Table.{Table};
 ghost use Rattle.element.specs.Elements.{every};
 ghost use Rattle.rules.specs.Frame.{isShared, repeatsShared, item27, item28, isWindow, hasWindow, isVoi, isShiftItem, isShiftGroup};
-ghost use Rattle.rules_frame.specs.Parts.{groupTag, groupFits, groupIn, sharedPart, itemRule};
+ghost use Rattle.rules_frame.specs.Parts.{groupTag, groupFits, groupIn, sharedOk, itemBy, sharedPart, itemGrades, itemRule};
 use value::Function;
 use value::Num;
 
 const SQ: usize = 0x5351;
+
+// What a rule comes to in the shared item: of rule 39 the grades of its two functional groups.
+pub struct SharedPart {
+    pub ok: bool,
+    pub relation: usize,
+    pub table: usize,
+}
 
 // ---- Rule 27: no sequence stands both in the shared item and in the frame's item
 
@@ -256,10 +263,10 @@ fn group_in(bytes: &[u8], rows: &[u32], rule: usize, item: usize, otherwise: boo
     }
 }
 
-// What a rule asks of the shared item alone: worked out once for the rule.
-pub fn shared_part(bytes: &[u8], rows: &[u32], rule: usize, shared: usize) -> bool
+// What rules 27 to 30 and 37 ask of the shared item alone.
+fn shared_ok(bytes: &[u8], rows: &[u32], rule: usize, shared: usize) -> bool
     requires { ⌜ Table (now bytes) (now rows) × (shared < length (nodesOf (now bytes))) ⌝ }
-    ensures { λ r. ⌜ r ≡ sharedPart (nodesOf (now (bytes .entry))) rule shared ⌝ }
+    ensures { λ r. ⌜ r ≡ sharedOk (nodesOf (now (bytes .entry))) rule shared ⌝ }
 {
     if rule == 27 {
         true
@@ -272,17 +279,10 @@ pub fn shared_part(bytes: &[u8], rows: &[u32], rule: usize, shared: usize) -> bo
     }
 }
 
-// A rule at a frame: `shared` is the shared item, `ok` what the rule comes to there, `item` the frame's item.
-pub fn item_rule(
-    bytes: &[u8],
-    rows: &[u32],
-    rule: usize,
-    shared: usize,
-    ok: bool,
-    item: usize,
-) -> bool
-    requires { ⌜ Table (now bytes) (now rows) × ((shared < length (nodesOf (now bytes))) × ((item < length (nodesOf (now bytes))) × (ok ≡ sharedPart (nodesOf (now bytes)) rule shared))) ⌝ }
-    ensures { λ r. ⌜ r ≡ itemRule (nodesOf (now (bytes .entry))) rule shared item ⌝ }
+// Rules 27 to 30 and 37 at a frame.
+fn item_by(bytes: &[u8], rows: &[u32], rule: usize, shared: usize, ok: bool, item: usize) -> bool
+    requires { ⌜ Table (now bytes) (now rows) × ((shared < length (nodesOf (now bytes))) × ((item < length (nodesOf (now bytes))) × (ok ≡ sharedOk (nodesOf (now bytes)) rule shared))) ⌝ }
+    ensures { λ r. ⌜ r ≡ itemBy (nodesOf (now (bytes .entry))) rule shared item ⌝ }
 {
     if rule == 27 {
         item_27(bytes, rows, shared, item)
@@ -292,5 +292,57 @@ pub fn item_rule(
         } else {
             group_in(bytes, rows, rule, item, ok)
         }
+    }
+}
+
+// ---- Rule 39: the grades of its two groups
+
+fn item_39(bytes: &[u8], rows: &[u32], shared: usize, part: SharedPart, item: usize) -> bool
+    requires { ⌜ Table (now bytes) (now rows) × ((item < length (nodesOf (now bytes))) × (part ≡ sharedPart (nodesOf (now bytes)) 39 shared)) ⌝ }
+    ensures { λ r. ⌜ r ≡ itemGrades (nodesOf (now (bytes .entry))) shared item ⌝ }
+{
+    let relation = intensity::relation_in(bytes, rows, item, part.relation);
+    let table = intensity::table_in(bytes, rows, item, part.table);
+    intensity::do_agree(relation, table)
+}
+
+// ---- All of them
+
+// What a rule asks of the shared item alone: worked out once for the rule.
+pub fn shared_part(bytes: &[u8], rows: &[u32], rule: usize, shared: usize) -> SharedPart
+    requires { ⌜ Table (now bytes) (now rows) × (shared < length (nodesOf (now bytes))) ⌝ }
+    ensures { λ r. ⌜ r ≡ sharedPart (nodesOf (now (bytes .entry))) rule shared ⌝ }
+{
+    if rule == 39 {
+        SharedPart {
+            ok: true,
+            relation: intensity::relation_in(bytes, rows, shared, 1),
+            table: intensity::table_in(bytes, rows, shared, 1),
+        }
+    } else {
+        SharedPart {
+            ok: shared_ok(bytes, rows, rule, shared),
+            relation: 1,
+            table: 1,
+        }
+    }
+}
+
+// A rule at a frame: `shared` is the shared item, `part` what the rule comes to there, `item` the frame's item.
+pub fn item_rule(
+    bytes: &[u8],
+    rows: &[u32],
+    rule: usize,
+    shared: usize,
+    part: SharedPart,
+    item: usize,
+) -> bool
+    requires { ⌜ Table (now bytes) (now rows) × ((shared < length (nodesOf (now bytes))) × ((item < length (nodesOf (now bytes))) × (part ≡ sharedPart (nodesOf (now bytes)) rule shared))) ⌝ }
+    ensures { λ r. ⌜ r ≡ itemRule (nodesOf (now (bytes .entry))) rule shared item ⌝ }
+{
+    if rule == 39 {
+        item_39(bytes, rows, shared, part, item)
+    } else {
+        item_by(bytes, rows, rule, shared, part.ok, item)
     }
 }

@@ -1,8 +1,6 @@
 // Draws one frame of the data set on standard input. Its one argument is the frame's number. It writes the image to
 // standard output in the form PGM, which says in a comment whether the frame is masked; or the refusal, in a line.
-mod decimal;
-
-use decimal::Decimal;
+use argument::Decimal;
 use display::ShowAnswer;
 use show_small::Shown;
 ghost use mathlib.Core.Path.{_≡_};
@@ -110,7 +108,7 @@ fn main() {
         io::write_all(1, b"frame: at most 20 digits\n");
         return;
     }
-    match decimal::read_decimal(&text[..n]) {
+    match argument::read_decimal(&text[..n]) {
         Decimal::Number(frame) => show_input(frame),
         Decimal::TooLarge => {
             io::write_all(1, b"frame: at most 18446744073709551615\n");

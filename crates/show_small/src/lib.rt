@@ -26,7 +26,7 @@ fn row_buffer() -> [u32; 57_344]
 }
 
 // A number, or 0 where it is lacking.
-fn number_of(n: Num) -> usize
+pub fn number_of(n: Num) -> usize
     ensures { λ r. ⌜ r ≡ numberOf n ⌝ }
 {
     match n {

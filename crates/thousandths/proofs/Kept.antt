@@ -8,8 +8,8 @@ use native.Mathlib.Omega.{arith}
 use Rattle.verdict.specs.Verdict.{perFrame}
 use Rattle.node.specs.Nodes.{nodesOf}
 use Rattle.conformance.specs.Judging.{firstFrame, frameCount}
-use Rattle.display.specs.Demand3.{Bytes, IsAccepted, IsFrame}
-use Rattle.display.proofs.Demand3.{demand-3}
+use Rattle.display.specs.Drawing.{Bytes, IsAccepted, IsFrame}
+use Rattle.display.proofs.Drawing.{drawing}
 use Rattle.thousandths.specs.Rule30.{rule30}
 use Rattle.thousandths.specs.Kept.{WasAccepted, KeepsPicture, Kept}
 use Rattle.thousandths.proofs.Numbers as numbers
@@ -26,7 +26,7 @@ at-frame s f a i = rules.held (nodesOf s) f (a .sound 30 (omega arith) (omega ar
 
 kept : (s : List ℕ) → Bytes s → WasAccepted s → (f : ℕ) → IsFrame s f → KeepsPicture (nodesOf s) f
 kept s b a f i =
-    let w = demand-3 s b f .drawable (accepted s a) i in
+    let w = drawing s b f .drawable (accepted s a) i in
     record { p = w .p; was = sym (pictures.pictures (nodesOf s) f (at-frame s f a i)) ∙ w .is; is = w .is }
 
 pub millionths-keep : Kept

@@ -21,7 +21,7 @@ use Rattle.node.specs.Nodes.{Node, nodesOf}
 use Rattle.conformance.specs.Judging.{firstFrame, frameCount}
 use Rattle.steps.specs.Steps as steps
 use Rattle.steps.specs.Steps.{Picture}
-use Rattle.display.specs.Demand3.{Bytes, IsAccepted, IsFrame}
+use Rattle.display.specs.Drawing.{Bytes, IsAccepted, IsFrame}
 use Rattle.thousandths.specs.Number.{decimalOf, scaled}
 use Rattle.thousandths.specs.Rule30.{ruleAt}
 use Rattle.thousandths.specs.Step6.{stepsOf}

@@ -7,7 +7,7 @@ use Rattle.verdict.specs.declared.Verdict.{Verdict}
 
 -- The number of the last rule.
 abbrev pub lastRule : ℕ
-lastRule = 38
+lastRule = 39
 
 -- The last frame number that there is.
 abbrev pub lastFrame : ℕ
@@ -17,9 +17,9 @@ lastFrame = 65535
 abbrev pub lastOffset : ℕ
 lastOffset = 1073741824
 
--- The rules that are asked at each frame: 27 to 30, and 37.
+-- The rules that are asked at each frame: 27 to 30, 37 and 39.
 unfoldable pub perFrame : ℕ → Bool
-perFrame rule = (leb 27 rule && leb rule 30) || eqb rule 37
+perFrame rule = (leb 27 rule && leb rule 30) || (eqb rule 37 || eqb rule 39)
 
 -- The frame that goes with a broken rule: 1 to 65,535 for a rule that is asked at each frame, else 0.
 unfoldable pub frameFits : ℕ → ℕ → Bool

@@ -3,7 +3,7 @@ ghost use mathlib.Core.Path.{_≡_};
 ghost use Rattle.verdict.specs.Verdict.{perFrame, frameFits, alone, possiblePlain, possibleRefusal, possibleBreach, possible};
 
 // The number of the last rule.
-pub const LAST_RULE: usize = 38;
+pub const LAST_RULE: usize = 39;
 
 // The last frame number that there is.
 pub const LAST_FRAME: usize = 65_535;
@@ -24,6 +24,9 @@ pub fn per_frame(rule: usize) -> bool
     ensures { λ r. ⌜ r ≡ perFrame rule ⌝ }
 {
     if rule == 37 {
+        return true;
+    }
+    if rule == 39 {
         return true;
     }
     if 27 <= rule { rule <= 30 } else { false }

@@ -8,6 +8,7 @@ use lib.ListN.{drop}
 use Rattle.node.specs.Nodes.{nodesOf}
 use Rattle.element.specs.Along.{Along}
 use Rattle.element.specs.Frames.{frameItems}
+use Rattle.conformance.specs.Parts.{endRule}
 use Rattle.conformance.specs.Judging.{lowest, firstBroken, findingOf}
 use Rattle.conformance.proofs.first_broken.Statement.{statement}
 use Rattle.conformance.proofs.first_broken.Tie as tie
@@ -23,19 +24,19 @@ use Rattle.element.proofs.frame_items.Reads as frame-items-reads
 use Rattle.element.proofs.shared_item.Reads as shared-item-reads
 
 abbrev Inv-loop2 : tie.InvT-loop2
-Inv-loop2 bytes rows n shared items rule ok first end left₀ frame₀ left frame =
-    (lowest (nodesOf bytes) rule (end - frame) frame (firstBroken (nodesOf bytes) (39 - (rule + 1)) (rule + 1)) ≡ findingOf (nodesOf bytes))
+Inv-loop2 bytes rows n shared items rule part first end left₀ frame₀ left frame =
+    (lowest (nodesOf bytes) rule (end - frame) frame (firstBroken (nodesOf bytes) (endRule - (rule + 1)) (rule + 1)) ≡ findingOf (nodesOf bytes))
     × ((first ≤ frame) × Along (nodesOf bytes) (drop (frame - first) (frameItems (nodesOf bytes))) left)
 
 abbrev μ-loop2 : tie.MeasureT-loop2
-μ-loop2 bytes rows n shared items rule ok first end left₀ frame₀ left frame = end - frame
+μ-loop2 bytes rows n shared items rule part first end left₀ frame₀ left frame = end - frame
 
 abbrev Inv-loop : tie.InvT-loop
 Inv-loop bytes rows n shared items rule₀ rule =
-    (1 ≤ rule) × ((rule ≤ 39) × (firstBroken (nodesOf bytes) (39 - rule) rule ≡ findingOf (nodesOf bytes)))
+    (1 ≤ rule) × ((rule ≤ endRule) × (firstBroken (nodesOf bytes) (endRule - rule) rule ≡ findingOf (nodesOf bytes)))
 
 abbrev μ-loop : tie.MeasureT-loop
-μ-loop bytes rows n shared items rule₀ rule = 39 - rule
+μ-loop bytes rows n shared items rule₀ rule = endRule - rule
 
 abbrev Inv-judge : tie.InvT-judge
 Inv-judge bytes rows n shared items = Unit

@@ -25,7 +25,8 @@ shared-part-requires c κs =
 
 -- src/lib.rt:39:1
 returns : tie.Need-returns
-returns c = search needs
+returns c =
+    ap (λ (x : Num). okFor (nodesOf (c .before .before .before .before .args .bytes .now)) (c .before .before .before .before .args .rule) x) (sym (c .enum-told .given .1))
 
 -- src/lib.rt:39:1
 returns-2 : tie.Need-returns-2

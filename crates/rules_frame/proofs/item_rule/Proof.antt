@@ -1,51 +1,38 @@
-use mathlib.Core.Path.{_≡_, refl, sym, ap, _∙_}
+use mathlib.Core.Path.{_≡_, refl, sym, ap, _∙_, subst}
+use Prim.Native.Nat.{ℕ}
 use borrow.Author.Tests.{eq-eqb, ne-eqb}
-use mathlib.Core.Bool.{Bool}
 use Rattle.node.specs.Nodes.{nodesOf}
-use Rattle.rules_frame.specs.Parts.{groupIn, sharedPart, itemRule}
-use borrow.Author.Needs.{needs}
+use Rattle.rules_frame.specs.declared.SharedPart.{SharedPart}
+use Rattle.rules_frame.specs.Parts.{sharedPart, itemRule}
 use Rattle.rules_frame.proofs.item_rule.Statement.{statement}
 use Rattle.rules_frame.proofs.item_rule.Tie as tie
 use Rattle.rules_frame.proofs.item_rule.Reads as reads
 use Rattle.rules_frame.proofs.item_rule.Lts as lts
-use Rattle.rules_frame.proofs.group_in.Reads as group-in-reads
-use Rattle.rules_frame.proofs.item_27.Reads as item-27-reads
-use Rattle.rules_frame.proofs.item_28.Reads as item-28-reads
+use Rattle.rules_frame.proofs.item_39.Reads as item-39-reads
+use Rattle.rules_frame.proofs.item_by.Reads as item-by-reads
 
--- src/lib.rt:243:9
-item-27-requires : tie.Need-item-27-requires
-item-27-requires c κs = search needs
+-- src/lib.rt:365:9
+item-39-requires : tie.Need-item-39-requires
+item-39-requires c κs =
+    (c .before .before .before .pre .0, (c .before .before .before .pre .1 .1 .0, c .before .before .before .pre .1 .1 .1 ∙ ap (λ (k : ℕ). sharedPart (nodesOf (c .before .before .before .args .bytes .now)) k (c .before .before .before .args .shared)) (c .if1 .taken)))
 
--- src/lib.rt:246:13
-item-28-requires : tie.Need-item-28-requires
+-- src/lib.rt:367:9
+item-by-requires : tie.Need-item-by-requires
 unfolding sharedPart
-item-28-requires c κs =
-    (c .before .before .before .before .pre .0, (c .before .before .before .before .pre .1 .1 .0, rw (ne-eqb _ _ (c .before .if1 .left), eq-eqb _ _ (c .if2 .taken)) at (c .before .before .before .before .pre .1 .1 .1)))
+item-by-requires c κs =
+    (c .before .before .before .pre .0, (c .before .before .before .pre .1 .0, (c .before .before .before .pre .1 .1 .0, ap (λ (p : SharedPart). p .ok) (rw (ne-eqb _ _ (c .if1 .left)) at (c .before .before .before .pre .1 .1 .1)))))
 
--- src/lib.rt:248:13
-group-in-requires : tie.Need-group-in-requires
-group-in-requires c κs = search needs
-
--- src/lib.rt:238:1
+-- src/lib.rt:353:1
 returns : tie.Need-returns
 unfolding itemRule
 returns c =
-    rw (eq-eqb _ _ (c .before .if1 .taken)) (c .item-27 .ensures)
+    rw (eq-eqb _ _ (c .before .if1 .taken)) (c .item-39 .ensures)
 
--- src/lib.rt:238:1
+-- src/lib.rt:353:1
 returns-2 : tie.Need-returns-2
 unfolding itemRule
 returns-2 c =
-    rw (ne-eqb _ _ (c .before .before .if1 .left), eq-eqb _ _ (c .before .if2 .taken)) (c .item-28 .ensures)
-
--- src/lib.rt:238:1
-returns-3 : tie.Need-returns-3
-unfolding itemRule sharedPart
-returns-3 c =
-    rw (ne-eqb _ _ (c .before .before .if1 .left), ne-eqb _ _ (c .before .if2 .left))
-    (c .group-in .ensures ∙ ap (λ (b : Bool). groupIn (nodesOf (c .before .before .before .before .before .args .bytes .now)) (c .before .before .before .before .before .args .rule) (c .before .before .before .before .before .args .item) b) (rw (ne-eqb _ _ (c .before .before .if1 .left), ne-eqb _ _ (c .before .if2 .left)) at (c .before .before .before .before .before .pre .1 .1 .1)))
+    rw (ne-eqb _ _ (c .before .if1 .left)) (c .item-by .ensures)
 
 pub item-rule-spec : {M : Type 1} → statement M
-item-rule-spec =
-    tie.close
-    (tie.spec item-27-requires item-28-requires group-in-requires returns returns-2 returns-3)
+item-rule-spec = tie.close (tie.spec item-39-requires item-by-requires returns returns-2)

@@ -6,35 +6,35 @@ use Rattle.rules_frame.proofs.shared_part.Statement.{statement}
 use Rattle.rules_frame.proofs.shared_part.Tie as tie
 use Rattle.rules_frame.proofs.shared_part.Reads as reads
 use Rattle.rules_frame.proofs.shared_part.Lts as lts
-use Rattle.rules_frame.proofs.content_absent.Reads as content-absent-reads
-use Rattle.rules_frame.proofs.group_in.Reads as group-in-reads
+use Rattle.intensity.proofs.relation_in.Reads as relation-in-reads
+use Rattle.intensity.proofs.table_in.Reads as table-in-reads
+use Rattle.rules_frame.proofs.shared_ok.Reads as shared-ok-reads
 
--- src/lib.rt:230:13
-content-absent-requires : tie.Need-content-absent-requires
-content-absent-requires c κs = search needs
+-- src/lib.rt:340:23
+relation-in-requires : tie.Need-relation-in-requires
+relation-in-requires c κs = search needs
 
--- src/lib.rt:232:13
-group-in-requires : tie.Need-group-in-requires
-group-in-requires c κs = search needs
+-- src/lib.rt:341:20
+table-in-requires : tie.Need-table-in-requires
+table-in-requires c κs = search needs
 
--- src/lib.rt:222:1
+-- src/lib.rt:345:17
+shared-ok-requires : tie.Need-shared-ok-requires
+shared-ok-requires c κs = search needs
+
+-- src/lib.rt:333:1
 returns : tie.Need-returns
 unfolding sharedPart
 returns c =
-    rw (eq-eqb _ _ (c .if1 .taken))
+    rw (eq-eqb _ _ (c .before .before .if1 .taken), ← c .before .relation-in .ensures, ← c .table-in .ensures)
 
--- src/lib.rt:222:1
+-- src/lib.rt:333:1
 returns-2 : tie.Need-returns-2
 unfolding sharedPart
 returns-2 c =
-    rw (ne-eqb _ _ (c .before .before .if1 .left), eq-eqb _ _ (c .before .if2 .taken)) (c .content-absent .ensures)
-
--- src/lib.rt:222:1
-returns-3 : tie.Need-returns-3
-unfolding sharedPart
-returns-3 c =
-    rw (ne-eqb _ _ (c .before .before .if1 .left), ne-eqb _ _ (c .before .if2 .left)) (c .group-in .ensures)
+    rw (ne-eqb _ _ (c .before .if1 .left), ← c .shared-ok .ensures)
 
 pub shared-part-spec : {M : Type 1} → statement M
 shared-part-spec =
-    tie.close (tie.spec content-absent-requires group-in-requires returns returns-2 returns-3)
+    tie.close
+    (tie.spec relation-in-requires table-in-requires shared-ok-requires returns returns-2)

@@ -13,12 +13,17 @@ returns c =
 returns-2 : tie.Need-returns-2
 unfolding perFrame
 returns-2 c =
-    simp (ne-eqb _ _ (c .before .if1 .left), le-leb _ _ (c .if2 .taken), or-false)
+    simp (ne-eqb _ _ (c .before .if1 .left), eq-eqb _ _ (c .if2 .taken), or-true)
 
 returns-3 : tie.Need-returns-3
 unfolding perFrame
 returns-3 c =
-    simp (ne-eqb _ _ (c .before .if1 .left), lt-leb _ _ (c .if2 .left))
+    simp (ne-eqb _ _ (c .before .before .if1 .left), ne-eqb _ _ (c .before .if2 .left), le-leb _ _ (c .if3 .taken), or-false)
+
+returns-4 : tie.Need-returns-4
+unfolding perFrame
+returns-4 c =
+    simp (ne-eqb _ _ (c .before .before .if1 .left), ne-eqb _ _ (c .before .if2 .left), lt-leb _ _ (c .if3 .left))
 
 pub per-frame-spec : {M : Type 1} → statement M
-per-frame-spec = tie.close (tie.spec returns returns-2 returns-3)
+per-frame-spec = tie.close (tie.spec returns returns-2 returns-3 returns-4)

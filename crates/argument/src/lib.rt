@@ -1,0 +1,52 @@
+// A number in plain decimal digits, as an argument of a program has it.
+ghost use mathlib.Core.Path.{_≡_};
+ghost use Prim.Native.Nat.{_<_};
+ghost use Rattle.argument.specs.Digits.{moreOf, withByte, decimalOf};
+
+pub enum Decimal {
+    Number(u64),
+    TooLarge,
+    NotNumber,
+}
+
+// The number with a digit more.
+fn more(n: u64, d: u64) -> Decimal
+    requires { ⌜ d < 10 ⌝ }
+    ensures { λ r. ⌜ r ≡ moreOf n d ⌝ }
+{
+    if (18_446_744_073_709_551_615 - d) / 10 < n {
+        Decimal::TooLarge
+    } else {
+        Decimal::Number(10 * n + d)
+    }
+}
+
+// What was read, with a byte more: a number stays one if the byte is a digit.
+fn with_byte(before: Decimal, c: u8) -> Decimal
+    ensures { λ r. ⌜ r ≡ withByte before c ⌝ }
+{
+    let Decimal::Number(n) = before else {
+        return before;
+    };
+    if c < b'0' {
+        return Decimal::NotNumber;
+    }
+    if b'9' < c {
+        return Decimal::NotNumber;
+    }
+    more(n, (c - b'0') as u64)
+}
+
+// The number that the text is, or why it is none.
+pub fn read_decimal(text: &[u8]) -> Decimal
+    ensures { λ r. ⌜ r ≡ decimalOf (now (text .entry)) ⌝ }
+{
+    if text.len() == 0 {
+        return Decimal::NotNumber;
+    }
+    let mut d = Decimal::Number(0);
+    for i in 0..text.len() {
+        d = with_byte(d, text[i]);
+    }
+    d
+}

@@ -1,0 +1,109 @@
+-- The drawing part of demand 3: every frame of an accepted object can be drawn, and `show` draws exactly those, as the steps
+-- say. The statement stands in specs/Drawing; here is its proof. That no step lacks anything is from Lacking; the rest follows
+-- what `show` answers back to what it was asked.
+use mathlib.Core.Path.{_≡_, refl, sym, ap, _∙_, subst}
+use mathlib.Core.Bool.{Bool, true, false, cond, _&&_}
+use mathlib.Core.List.{List, [], _∷_, _++_}
+use mathlib.Core.Option.{Option, none, some}
+use Prim.Native.Nat.{ℕ, _*_, _≤_, _<_}
+use native.Mathlib.Omega.{arith}
+use lib.ListN.{length, drop}
+use lib.Dec.{leb}
+use borrow.Author.Tests.{le-leb, leb-true}
+use Rattle.dataset.specs.Reading.{Row, Reading, tooLarge, refusedAt, read, readingOf}
+use Rattle.dataset.specs.Answer.{width, answerOf}
+use Rattle.dataset.specs.Tree.{rowsIn, rowsOf}
+use Rattle.dataset.specs.declared.ReadAnswer.{ReadAnswer}
+use Rattle.dataset.specs.declared.ReadAnswer.the-variants as answer
+use Rattle.dataset.proofs.Laws.{Small, answer-small}
+use Rattle.node.specs.Nodes.{Node, nodesOf}
+use Rattle.element.specs.Frames.{framesOf}
+use Rattle.conformance.specs.declared.Finding.{Finding}
+use Rattle.conformance.specs.declared.Finding.the-variants as finding
+use Rattle.conformance.specs.declared.JudgeAnswer.{JudgeAnswer}
+use Rattle.conformance.specs.declared.JudgeAnswer.the-variants as judged
+use Rattle.conformance.specs.Judging.{numberOf, findingOf, answerFor, judgeOf}
+use Rattle.steps.specs.Steps.{Picture, stepsOf}
+use Rattle.display.specs.declared.ShowAnswer.{ShowAnswer}
+use Rattle.display.specs.declared.ShowAnswer.the-variants as shown
+use Rattle.display.specs.Show.{isFrameOf, imageSize, pictureOf, acceptedAnswer, answerFor as shownFor, imageBy, showOf, imageOf, codeOf, rowCountOf, maskedOf}
+use Rattle.display.specs.Drawing.{Bytes, IsAccepted, IsFrame, HasRoom, Whole, HandsBack, Drawing}
+use Rattle.display.proofs.Codes.{was-frame, judged-accepted, was-judged}
+use Rattle.display.proofs.Lacking.{nothing-lacks}
+
+-- ---- Where there is room, the answer is a picture
+
+module _ (s : List ℕ) (f : ℕ) (buffer image : List ℕ) where
+  answer-drawn : (n : ℕ) → IsFrame s f → HasRoom s buffer image → acceptedAnswer (nodesOf s) f image n ≡ shown.Drawn n (pictureOf (nodesOf s) f .masked)
+  unfolding acceptedAnswer
+  answer-drawn n i r =
+      rw (le-leb 1 f (i .low), le-leb f (numberOf (framesOf (nodesOf s))) (i .high), le-leb (imageSize (nodesOf s)) (length image) (r .cells))
+
+  shows : (a : IsAccepted s) → IsFrame s f → HasRoom s buffer image → showOf s f buffer image ≡ shown.Drawn (length (rowsOf s)) (pictureOf (nodesOf s) f .masked)
+  unfolding showOf
+  shows a i r = rw (judged-accepted s buffer a (r .rows), answer-drawn (length (rowsOf s)) i r)
+
+  -- ---- And from a picture back to what there was
+
+  -- What the answer of an accepted object says of the frame and of the image buffer.
+  record Shown (n : ℕ) : Type 0 where
+    pub frame : IsFrame s f
+    pub cells : imageSize (nodesOf s) ≤ length image
+
+  was-shown : (n : ℕ) → codeOf (acceptedAnswer (nodesOf s) f image n) ≡ 0 → Shown n
+  unfolding acceptedAnswer
+  was-shown n e = go (isFrameOf (nodesOf s) f) (leb (imageSize (nodesOf s)) (length image)) refl refl e
+    where
+      go : (t u : Bool) → isFrameOf (nodesOf s) f ≡ t → leb (imageSize (nodesOf s)) (length image) ≡ u
+          → codeOf (cond t (cond u (shown.Drawn n (pictureOf (nodesOf s) f .masked)) shown.NoImageRoom) shown.NoFrame) ≡ 0 → Shown n
+      go true true p q e =
+          record { frame = was-frame s f p; cells = leb-true (imageSize (nodesOf s)) (length image) q }
+      go true false p q e = absurd (omega (arith, e))
+      go false u p q e = absurd (omega (arith, e))
+
+  was-accepted : codeOf (showOf s f buffer image) ≡ 0 → IsAccepted s × (IsFrame s f × HasRoom s buffer image)
+  unfolding showOf
+  was-accepted e =
+      let j = was-judged s buffer (λ a. codeOf (shownFor (nodesOf s) f image a))
+      (record { broken = λ n rule frame. refl; refused = λ code offset. refl; too-large = refl; no-room = refl }) e in
+      let d = was-shown (length (j .accepted .rows)) (j .code) in
+      (j .accepted, (d .frame, record { rows = j .room; cells = d .cells }))
+
+  -- ---- What is handed back
+
+  picture-is : (p : Picture) → stepsOf (nodesOf s) f ≡ some p → pictureOf (nodesOf s) f ≡ p
+  unfolding pictureOf
+  picture-is p e = rw e
+
+  image-is : (a : IsAccepted s) → IsFrame s f → HasRoom s buffer image → imageOf s f buffer image ≡ pictureOf (nodesOf s) f .samples ++ drop (length (pictureOf (nodesOf s) f .samples)) image
+  unfolding imageOf
+  image-is a i r = rw (shows a i r)
+
+  handed : (a : IsAccepted s) → IsFrame s f → HasRoom s buffer image → (w : Whole (nodesOf s) f) (p : Picture) → stepsOf (nodesOf s) f ≡ some p → HandsBack s f buffer image p
+  handed a i r w p e =
+      let q = picture-is p e in
+      let same : some (w .p) ≡ some p = sym (w .is) ∙ e in
+      let v : w .p ≡ p = cc in
+      record {
+        rows = ap rowCountOf (shows a i r);
+        masked = ap maskedOf (shows a i r) ∙ ap (λ (x : Picture). cond (x .masked) 1 0) q;
+        cells =
+            subst (λ (n : ℕ). imageOf s f buffer image ≡ p .samples ++ drop n image) (ap (λ (x : Picture). length (x .samples)) (sym v) ∙ w .size)
+            (subst (λ (x : Picture). imageOf s f buffer image ≡ x .samples ++ drop (length (x .samples)) image) q (image-is a i r));
+      }
+
+-- ---- The claim
+
+pub drawing : (s : List ℕ) → Bytes s → (f : ℕ) → Drawing s f
+drawing s b f =
+    record {
+      drawable = whole;
+      drawn = λ buffer image a i r. ap codeOf (shows s f buffer image a i r);
+      nothing-else = was-accepted s f;
+      as-stepped = λ buffer image e p q.
+          let w = was-accepted s f buffer image e in
+          handed s f buffer image (w .0) (w .1 .0) (w .1 .1) (whole (w .0) (w .1 .0)) p q;
+    }
+  where
+    whole : IsAccepted s → IsFrame s f → Whole (nodesOf s) f
+    whole a i = nothing-lacks s b (a .sound) f (i .low) (i .high)

@@ -1,0 +1,70 @@
+-- Which answer an accepted object gets: codes 10, 20 and 11 where their tests say so, and else the numbers.
+use mathlib.Core.Path.{_≡_, refl, sym, ap, _∙_}
+use mathlib.Core.Bool.{Bool, true, false, cond, _&&_, and-false}
+use mathlib.Core.List.{List, _++_}
+use mathlib.Core.Option.{Option, none, some}
+use Prim.Native.Nat.{ℕ, zero, suc, _≤_, _<_}
+use native.Mathlib.Omega.{arith}
+use lib.ListN.{length, drop}
+use lib.Dec.{leb}
+use borrow.Author.Tests.{le-leb, lt-leb}
+use Rattle.value.specs.declared.Num.{Num}
+use Rattle.value.specs.declared.Num.the-variants.{Is, Lacks}
+use Rattle.node.specs.Nodes.{Node, nodesOf}
+use Rattle.element.specs.Frames.{framesOf}
+use Rattle.conformance.specs.declared.JudgeAnswer.{JudgeAnswer}
+use Rattle.conformance.specs.Judging.{judgeOf}
+use Rattle.steps.specs.Given.{need, then}
+use Rattle.display.specs.Show.{imageSize}
+use Rattle.display.proofs.Answers.{none-frame, low-frame, high-frame}
+use Rattle.linear.specs.declared.LinearAnswer.{LinearAnswer}
+use Rattle.linear.specs.declared.LinearAnswer.the-variants as linear
+use Rattle.linear.specs.Mapping.{linearFor, isMapped, mappingBy, mappingOf}
+use Rattle.linear.specs.Answer.{entriesIn, entriesOf, acceptedAnswer, answerFor, linearOf, valuesBy, valuesOf}
+
+-- The numbers by the item.
+pub entries-are : (ns : List Node) (f j : ℕ) → linearFor ns f ≡ some (Is j) → entriesOf ns f ≡ entriesIn (mappingBy ns f j)
+unfolding entriesOf mappingOf
+entries-are ns f j e = rw e
+
+module _ (ns : List Node) (f : ℕ) (values : List ℕ) (count : ℕ) where
+  pub no-frames : framesOf ns ≡ Lacks → linear.NoFrame ≡ acceptedAnswer ns f values count
+  unfolding acceptedAnswer
+  no-frames e = rw (e, none-frame f)
+
+  module _ (n : ℕ) (e : framesOf ns ≡ Is n) where
+    pub below-frames : f < 1 → linear.NoFrame ≡ acceptedAnswer ns f values count
+    unfolding acceptedAnswer
+    below-frames h = rw (e, low-frame f n h)
+
+    pub above-frames : n < f → linear.NoFrame ≡ acceptedAnswer ns f values count
+    unfolding acceptedAnswer
+    above-frames h = rw (e, high-frame f n h)
+
+    module _ (low : 1 ≤ f) (high : f ≤ n) where
+      pub item-lacks : linearFor ns f ≡ none → linear.NoItem ≡ acceptedAnswer ns f values count
+      unfolding acceptedAnswer isMapped
+      item-lacks h = rw (e, le-leb 1 f low, le-leb f n high, h)
+
+      pub item-absent : linearFor ns f ≡ some Lacks → linear.NoItem ≡ acceptedAnswer ns f values count
+      unfolding acceptedAnswer isMapped
+      item-absent h = rw (e, le-leb 1 f low, le-leb f n high, h)
+
+      module _ (j : ℕ) (h : linearFor ns f ≡ some (Is j)) where
+        pub no-room : length values < imageSize ns → linear.NoValuesRoom ≡ acceptedAnswer ns f values count
+        unfolding acceptedAnswer isMapped
+        no-room k = rw (e, le-leb 1 f low, le-leb f n high, h, lt-leb (imageSize ns) (length values) k)
+
+        pub is-mapped : imageSize ns ≤ length values → linear.Mapped count ≡ acceptedAnswer ns f values count
+        unfolding acceptedAnswer isMapped
+        is-mapped k = rw (e, le-leb 1 f low, le-leb f n high, h, le-leb (imageSize ns) (length values) k)
+
+-- What `linear` answers and leaves in the values buffer, by what the judge answered.
+module _ (s : List ℕ) (f : ℕ) (before values : List ℕ) (a : JudgeAnswer) (e : a ≡ judgeOf s before) where
+  pub linear-by : answerFor (nodesOf s) f values a ≡ linearOf s f before values
+  unfolding linearOf
+  linear-by = ap (answerFor (nodesOf s) f values) e
+
+  pub values-by : valuesBy (entriesOf (nodesOf s) f) values (answerFor (nodesOf s) f values a) ≡ valuesOf s f before values
+  unfolding valuesOf
+  values-by = ap (valuesBy (entriesOf (nodesOf s) f) values) linear-by

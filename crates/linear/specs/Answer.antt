@@ -1,0 +1,108 @@
+-- What `linear` answers, and what its buffers then hold (document 02, Q-8): as `show` up to code 10, then 20 for a frame that
+-- has no TO_LINEAR item, then 11 for a values buffer under Rows × Columns numbers, then 0.
+use Prim.Native.Nat.{ℕ}
+use mathlib.Core.Bool.{Bool, cond}
+use mathlib.Core.List.{List, [], _++_}
+use mathlib.Core.Option.{Option, none, some}
+use lib.ListN.{length, drop}
+use lib.Dec.{leb}
+use Rattle.node.specs.Nodes.{Node, nodesOf}
+use Rattle.conformance.specs.Judging.{judgeOf}
+use Rattle.conformance.specs.declared.JudgeAnswer.{JudgeAnswer}
+use Rattle.conformance.specs.declared.JudgeAnswer.the-variants as judged
+use Rattle.display.specs.Show.{isFrameOf, imageSize}
+use Rattle.linear.specs.declared.LinearAnswer.{LinearAnswer}
+use Rattle.linear.specs.declared.LinearAnswer.the-variants as linear
+use Rattle.linear.specs.Mapping.{mappingOf, isMapped}
+
+-- The entries; where something is lacking, which is never so for a frame of an accepted object with a TO_LINEAR item, none.
+abbrev pub entriesIn : Option (List ℕ) → List ℕ
+entriesIn none = []
+entriesIn (some l) = l
+
+unfoldable pub entriesOf : List Node → ℕ → List ℕ
+entriesOf ns f = entriesIn (mappingOf ns f)
+
+-- The answer for an accepted object with n rows.
+unfoldable pub acceptedAnswer : List Node → ℕ → List ℕ → ℕ → LinearAnswer
+acceptedAnswer ns f values n =
+    cond (isFrameOf ns f)
+    (cond (isMapped ns f)
+    (cond (leb (imageSize ns) (length values)) (linear.Mapped n) linear.NoValuesRoom)
+    linear.NoItem)
+    linear.NoFrame
+
+abbrev pub answerFor : List Node → ℕ → List ℕ → JudgeAnswer → LinearAnswer
+answerFor ns f values (judged.Accepted n) = acceptedAnswer ns f values n
+answerFor ns f values (judged.Broken n rule frame) = linear.Broken n rule frame
+answerFor ns f values (judged.Refused code offset) = linear.Refused code offset
+answerFor ns f values judged.TooLarge = linear.TooLarge
+answerFor ns f values judged.NoRoom = linear.NoRoom
+
+unfoldable pub linearOf : List ℕ → ℕ → List ℕ → List ℕ → LinearAnswer
+linearOf s f buffer values = answerFor (nodesOf s) f values (judgeOf s buffer)
+
+-- The values buffer afterwards: the entries, and untouched beyond them; untouched by a refusal.
+abbrev pub valuesBy : List ℕ → List ℕ → LinearAnswer → List ℕ
+valuesBy l values (linear.Mapped n) = l ++ drop (length l) values
+valuesBy l values (linear.Broken n rule frame) = values
+valuesBy l values (linear.Refused code offset) = values
+valuesBy l values linear.TooLarge = values
+valuesBy l values linear.NoRoom = values
+valuesBy l values linear.NoFrame = values
+valuesBy l values linear.NoItem = values
+valuesBy l values linear.NoValuesRoom = values
+
+unfoldable pub valuesOf : List ℕ → ℕ → List ℕ → List ℕ → List ℕ
+valuesOf s f buffer values = valuesBy (entriesOf (nodesOf s) f) values (linearOf s f buffer values)
+
+-- The paper's numbers of each case; fields not named are 0.
+abbrev pub codeOf : LinearAnswer → ℕ
+codeOf (linear.Mapped n) = 0
+codeOf (linear.Broken n rule frame) = 9
+codeOf (linear.Refused code offset) = code
+codeOf linear.TooLarge = 7
+codeOf linear.NoRoom = 8
+codeOf linear.NoFrame = 10
+codeOf linear.NoItem = 20
+codeOf linear.NoValuesRoom = 11
+
+abbrev pub rowCountOf : LinearAnswer → ℕ
+rowCountOf (linear.Mapped n) = n
+rowCountOf (linear.Broken n rule frame) = n
+rowCountOf (linear.Refused code offset) = 0
+rowCountOf linear.TooLarge = 0
+rowCountOf linear.NoRoom = 0
+rowCountOf linear.NoFrame = 0
+rowCountOf linear.NoItem = 0
+rowCountOf linear.NoValuesRoom = 0
+
+abbrev pub ruleOf : LinearAnswer → ℕ
+ruleOf (linear.Mapped n) = 0
+ruleOf (linear.Broken n rule frame) = rule
+ruleOf (linear.Refused code offset) = 0
+ruleOf linear.TooLarge = 0
+ruleOf linear.NoRoom = 0
+ruleOf linear.NoFrame = 0
+ruleOf linear.NoItem = 0
+ruleOf linear.NoValuesRoom = 0
+
+abbrev pub frameOf : LinearAnswer → ℕ
+frameOf (linear.Mapped n) = 0
+frameOf (linear.Broken n rule frame) = frame
+frameOf (linear.Refused code offset) = 0
+frameOf linear.TooLarge = 0
+frameOf linear.NoRoom = 0
+frameOf linear.NoFrame = 0
+frameOf linear.NoItem = 0
+frameOf linear.NoValuesRoom = 0
+
+abbrev pub offsetOf : LinearAnswer → ℕ
+offsetOf (linear.Mapped n) = 0
+offsetOf (linear.Broken n rule frame) = 0
+offsetOf (linear.Refused code offset) = offset
+offsetOf linear.TooLarge = 0
+offsetOf linear.NoRoom = 0
+offsetOf linear.NoFrame = 0
+offsetOf linear.NoItem = 0
+offsetOf linear.NoValuesRoom = 0

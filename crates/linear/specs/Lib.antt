@@ -1,0 +1,4 @@
+pub mod Mapping
+pub mod Answer
+pub mod Said
+pub mod Demand3

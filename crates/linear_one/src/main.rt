@@ -1,0 +1,136 @@
+// Maps one frame of the data set on standard input back to beam intensity. Its one argument is the frame's number. It writes
+// the numbers to standard output as a PGM image of 16 bits, the high byte first; or the refusal, in a line.
+use argument::Decimal;
+use linear::LinearAnswer;
+use linear_small::Mapped;
+ghost use mathlib.Core.Path.{_≡_};
+ghost use Prim.Native.Nat.{_*_, _≤_};
+ghost use lib.ListN.{length};
+
+// One byte more than is mapped, so that an input that is too long is seen to be.
+fn input() -> [u8; 65_537]
+    ensures { λ r. ⌜ 65537 ≡ length r ⌝ }
+{
+    [0; 65_537]
+}
+
+// A number for each cell: an accepted object has as many bytes of pixel data.
+fn values_buffer() -> [u16; 65_536]
+    ensures { λ r. ⌜ 65536 ≡ length r ⌝ }
+{
+    [0; 65_536]
+}
+
+// A name and its number.
+fn print_field(name: &[u8], n: usize) {
+    io::write_all(1, name);
+    io::write_all(1, b" ");
+    io::print_decimal(1, n as u64);
+}
+
+fn print_broken(rows: usize, rule: usize, frame: usize) {
+    print_field(b"code 9 rule", rule);
+    print_field(b" frame", frame);
+    print_field(b" rows", rows);
+    io::write_all(1, b"\n");
+}
+
+fn print_unread(code: usize, offset: usize) {
+    print_field(b"code", code);
+    print_field(b" place", offset);
+    io::write_all(1, b"\n");
+}
+
+// The head of the image: its kind, its size, and the highest number.
+fn print_head(width: usize, height: usize) {
+    io::write_all(1, b"P5\n");
+    io::print_decimal(1, width as u64);
+    print_field(b"", height);
+    io::write_all(1, b"\n65535\n");
+}
+
+fn print_value(value: u16) {
+    let bytes = [(value / 256) as u8, (value % 256) as u8];
+    io::write_all(1, &bytes);
+}
+
+fn print_values(values: &[u16]) {
+    for i in 0..values.len() {
+        print_value(values[i]);
+    }
+}
+
+fn print_image(width: usize, height: usize, values: &[u16])
+    requires { ⌜ height * width ≤ length (now values) ⌝ }
+{
+    print_head(width, height);
+    let size = height * width;
+    print_values(&values[..size]);
+}
+
+fn print_mapped(mapped: Mapped, values: &[u16])
+    requires { ⌜ mapped .height * mapped .width ≤ length (now values) ⌝ }
+{
+    let answer = mapped.answer;
+    match answer {
+        LinearAnswer::Mapped(_) => print_image(mapped.width, mapped.height, values),
+        LinearAnswer::Broken(rows, rule, frame) => print_broken(rows, rule, frame),
+        LinearAnswer::Refused(code, offset) => print_unread(code, offset),
+        LinearAnswer::TooLarge => {
+            io::write_all(1, b"code 7\n");
+        }
+        LinearAnswer::NoRoom => {
+            io::write_all(1, b"code 8\n");
+        }
+        LinearAnswer::NoFrame => {
+            io::write_all(1, b"code 10\n");
+        }
+        LinearAnswer::NoItem => {
+            io::write_all(1, b"code 20\n");
+        }
+        LinearAnswer::NoValuesRoom => {
+            io::write_all(1, b"code 11\n");
+        }
+    }
+}
+
+fn map_frame(bytes: &[u8], frame: u64)
+    requires { ⌜ length (now bytes) ≤ 65536 ⌝ }
+{
+    let mut values = values_buffer();
+    let mapped = linear_small::linear_small(bytes, frame, &mut values);
+    print_mapped(mapped, &values);
+}
+
+// Reads the data set.
+fn map_input(frame: u64) {
+    let mut bytes = input();
+    let n = io::read_full(0, &mut bytes);
+    if judge_small::MOST < n {
+        io::write_all(1, b"too long: at most 65536 bytes\n");
+        return;
+    }
+    map_frame(&bytes[..n], frame);
+}
+
+fn main() {
+    if os::arg_count() != 2 {
+        io::write_all(1, b"frame: one number is wanted\n");
+        return;
+    }
+    let mut text = [0u8; 20];
+    let n = os::arg(1, &mut text);
+    if os::errno() != 0 {
+        io::write_all(1, b"frame: at most 20 digits\n");
+        return;
+    }
+    match argument::read_decimal(&text[..n]) {
+        Decimal::Number(frame) => map_input(frame),
+        Decimal::TooLarge => {
+            io::write_all(1, b"frame: at most 18446744073709551615\n");
+        }
+        Decimal::NotNumber => {
+            io::write_all(1, b"frame: a number is wanted\n");
+        }
+    }
+}

@@ -1,0 +1,25 @@
+-- The two numbers are read from the rows.
+use borrow.Author.Needs.{needs}
+use Rattle.linear_small.proofs.with_size.Statement.{statement}
+use Rattle.linear_small.proofs.with_size.Tie as tie
+
+us-root-requires : tie.Need-us-root-requires
+us-root-requires c κs = search needs
+
+number-of-requires : tie.Need-number-of-requires
+number-of-requires c κs = search needs
+
+us-root-requires-2 : tie.Need-us-root-requires-2
+us-root-requires-2 c κs = search needs
+
+number-of-requires-2 : tie.Need-number-of-requires-2
+number-of-requires-2 c κs = search needs
+
+returns : tie.Need-returns
+returns c =
+    rw (c .before .before .number-of .ensures, c .number-of2 .ensures, c .before .before .before .us-root .ensures .0, c .before .us-root2 .ensures .0)
+
+pub with-size-spec : {M : Type 1} → statement M
+with-size-spec =
+    tie.close
+    (tie.spec us-root-requires number-of-requires us-root-requires-2 number-of-requires-2 returns)

@@ -1,0 +1,2 @@
+pub mod SquareRoot
+pub mod Derivation

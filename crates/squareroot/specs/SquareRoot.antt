@@ -1,0 +1,25 @@
+-- The square root derivation of source document 002, 14 bits to 8, with the desk's own scale (document 02, Q-8).
+use Prim.Native.Nat.{ℕ, zero, suc, _+_, _*_, _/_, _%_}
+use mathlib.Core.Bool.{cond}
+use lib.Dec.{leb}
+
+-- The largest p up to `from` with p × p ≤ t.
+unfoldable pub largestBy : ℕ → ℕ → ℕ
+largestBy zero t = zero
+largestBy (suc p) t = cond (leb (suc p * suc p) t) (suc p) (largestBy p t)
+
+-- The largest p with p × p ≤ t: none is above t.
+unfoldable pub rootOf : ℕ → ℕ
+rootOf t = largestBy t t
+
+-- A 14-bit cell; of a larger number the lowest 14 bits.
+abbrev pub cell : ℕ → ℕ
+cell v = v % 16384
+
+-- What cell v becomes: the largest p with p × p ≤ 4v.
+unfoldable pub levelOf : ℕ → ℕ
+levelOf v = rootOf (4 * cell v)
+
+-- The entry of level p: p × p / 4, rounded up.
+unfoldable pub entryOf : ℕ → ℕ
+entryOf p = (p * p + 3) / 4
