@@ -1,4 +1,3 @@
 -- What the proofs use, and the theorems.
-pub mod Table
 pub mod Roots
 pub mod Derivation
