@@ -3,6 +3,7 @@
 A change is an edit of a model with the shape that it needs. Per-frame ones are made at a given frame.
 """
 
+import copy
 import dataclasses
 import struct
 from typing import Callable
@@ -58,7 +59,7 @@ def add(rule, name, edit, *shapes, per_frame=False, frame=0, about=0):
 
 def put(tag, value):
     def edit(model, frame):
-        model[tag] = value
+        model[tag] = copy.deepcopy(value)  # changes share their values, and a later change may edit what this one put
     return edit
 
 
