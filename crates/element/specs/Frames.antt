@@ -10,8 +10,8 @@ use Rattle.value.specs.declared.Signed.the-variants as signed
 use Rattle.value.specs.Number.{isOf}
 use Rattle.node.specs.Nodes.{Node, root, inside}
 use Rattle.node.specs.Find.{holds, andThen, orElse, find, findVr}
-use Rattle.element.specs.Tags.{IS, NumberOfFrames, SharedFunctionalGroupsSequence, PerFrameFunctionalGroupsSequence, MaskSubtractionSequence}
-use Rattle.element.specs.Elements.{valueAt, theItem, itemsIn, first}
+use Rattle.element.specs.Tags.{IS, NumberOfFrames, SharedFunctionalGroupsSequence, PerFrameFunctionalGroupsSequence, MaskSubtractionSequence, MaskOperation, SubtractionItemID}
+use Rattle.element.specs.Elements.{valueAt, usIn, csIs, theItem, itemsIn, first}
 
 -- A signed number that counts: what is below zero counts nothing.
 abbrev pub counted : Signed → Num
@@ -41,3 +41,11 @@ groupOf ns tag s i = orElse (find ns tag (inside ns i)) (find ns tag (inside ns 
 -- The mask items, in their order.
 unfoldable pub maskItems : List Node → List ℕ
 maskItems ns = itemsIn ns MaskSubtractionSequence (root ns)
+
+-- A mask item's operation is the word.
+unfoldable pub operationIs : List Node → List ℕ → ℕ → Bool
+operationIs ns word j = csIs ns MaskOperation word (inside ns j)
+
+-- The Subtraction Item ID of a mask item, or of an item of a frame's own shifts.
+abbrev pub idIn : List Node → ℕ → Num
+idIn ns j = usIn ns SubtractionItemID (inside ns j)
