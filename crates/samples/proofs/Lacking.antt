@@ -2,6 +2,7 @@
 -- the same.
 use mathlib.Core.Path.{_≡_, refl}
 use mathlib.Core.List.{List, map}
+use lib.Ieee.{odd, ofFields, ofBits}
 use Rattle.dataset.specs.Bytes.{le16}
 use Rattle.dataset.specs.Vr.{listed, formOf}
 use Rattle.dataset.specs.Header.{when, headerBy, delimiterBy, levelBy, definedBy, longBy, typedAt, taggedAt, sizedBy, memberAt}
@@ -26,13 +27,14 @@ use Rattle.conformance.specs.Judging.{firstFrame, frameCount, lowest, firstBrok
 use Rattle.window.specs.Window.{fullWindow, levelOf, shadeOf}
 use Rattle.pixel.specs.Pixel.{leBytes, isFrame, sampleAt, sumAt, averageOf, maskAt, placeOf, restOf, neighbourOf, areInside, blendOf, blendedAt}
 use Rattle.steps.specs.Given.{collect}
-use Rattle.steps.specs.Steps.{geometryOf, pixelsOf, groupFor, rangeHolds, firstHolding, applyingTo, averageFrames, offsetOf, tidFrame, shiftFor, movesFor, maskBy, maskFor, windowIn, windowFor, inverseOf, nativeCell, maskedCell, areFrames, pictureBy, stepsOf}
+use Rattle.steps.specs.Steps.{geometryOf, pixelsOf, groupFor, rangeHolds, firstHolding, applyingTo, averageFrames, offsetOf, tidFrame, naming, shiftFor, movesFor, maskBy, maskFor, windowIn, windowFor, inverseOf, nativeCell, maskedCell, areFrames, pictureBy, stepsOf}
 use Rattle.display.specs.Show.{pictureOf, acceptedAnswer, showOf, imageOf}
 use Rattle.samples.specs.Lacking.{Case, lacking}
 
 -- Each line is not accepted, and the steps give what it says.
 pub steps-lack : map (λ k. k .gives) lacking ≡ map (λ k. k .says) lacking
 unfolding
+    odd ofFields ofBits
     le16
     listed formOf
     when headerBy delimiterBy levelBy definedBy longBy typedAt taggedAt sizedBy memberAt
@@ -57,6 +59,6 @@ unfolding
     fullWindow levelOf shadeOf
     leBytes isFrame sampleAt sumAt averageOf maskAt placeOf restOf neighbourOf areInside blendOf blendedAt
     collect
-    geometryOf pixelsOf groupFor rangeHolds firstHolding applyingTo averageFrames offsetOf tidFrame shiftFor movesFor maskBy maskFor windowIn windowFor inverseOf nativeCell maskedCell areFrames pictureBy stepsOf
+    geometryOf pixelsOf groupFor rangeHolds firstHolding applyingTo averageFrames offsetOf tidFrame naming shiftFor movesFor maskBy maskFor windowIn windowFor inverseOf nativeCell maskedCell areFrames pictureBy stepsOf
     pictureOf acceptedAnswer showOf imageOf
 steps-lack = refl

@@ -152,7 +152,7 @@ lacking =
     ∷ lacks (ended (shared [] ++ (perFrame ++ long 0x7FE0 0x0010 "UN" (10 ∷ 20 ∷ 30 ∷ 40 ∷ [])))) 2
     ∷ lacks (started (number ++ (height ++ cells 2 8))) 2
     ∷ lacks (started (short 0x0028 0x0004 "LO" (ascii "MONOCHROME2 ") ++ (number ++ (height ++ cells 2 8)))) 2
-    ∷ lacks (started (short 0x0028 0x0004 "CS" (ascii "MONOCHROME2\\X") ++ (number ++ (height ++ cells 2 8)))) 2
+    ∷ lacks (started (short 0x0028 0x0004 "CS" (ascii "MONOCHROME\\X") ++ (number ++ (height ++ cells 2 8)))) 2
     -- the mask items, their ranges, operations, frames and offsets,
     ∷ lacks (withMask (long 0x0028 0x6100 "UN" [])) 2
     ∷ lacks (withMask (average (short 0x0028 0x6102 "US" (two 1 ++ (two 2 ++ two 2)) ++ firstFrame))) 2
