@@ -276,11 +276,18 @@ module _ (ns : List Node) where
       let a = group-filled g e in
       rw (q, of-vr ns SQ g (a .0)) (a .1)
 
+  item-first : (f i : ℕ) → frameItem ns f ≡ Is i → first (drop (f - 1) (frameItems ns)) ≡ Is i
+  item-first f i = go (leb 1 f)
+    where
+      go : (t : Bool) → cond t (first (drop (f - 1) (frameItems ns))) Lacks ≡ Is i → first (drop (f - 1) (frameItems ns)) ≡ Is i
+      go true e = e
+      go false e = let z : _≡_ {A = ℕ} 0 1 = cc in absurd (omega arith)
+
   pub shift-ids : rule36 ns ≡ true → (f s i g : ℕ) → sharedItem ns ≡ Is s → frameItem ns f ≡ Is i → groupOf ns Tags.FramePixelShiftSequence s i ≡ Is g
       → isShiftGroup ns g ≡ true → every (hasId ns) (maskItems ns) ≡ true
   unfolding rule36 anyShift masksHaveIds
   shift-ids r f s i g p q h e =
-      let t : anyShift ns s ≡ true = some-at (hasShiftGroup ns s) (first-among (f - 1) i (frameItems ns) q) (has-group s i g h e) in
+      let t : anyShift ns s ≡ true = some-at (hasShiftGroup ns s) (first-among (f - 1) i (frameItems ns) (item-first f i q)) (has-group s i g h e) in
       let u : cond (anyShift ns s) (masksHaveIds ns) true ≡ true = held (sharedItem ns) _ s p r in
       and-both (every (hasId ns) (maskItems ns)) _ (where-true _ _ t u) .0
 
