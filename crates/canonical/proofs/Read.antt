@@ -13,8 +13,8 @@ use Rattle.dataset.specs.declared.Head.{Head}
 use Rattle.dataset.specs.declared.Head.the-variants as head
 use Rattle.dataset.specs.Bytes.{le16, le32, tagAt, vrAt}
 use Rattle.dataset.specs.Vr.{formOf, SQ}
-use Rattle.dataset.specs.Header.{when, undefined, itemTag, cursor, headerBy, delimiterBy, levelBy, definedBy, longBy, typedAt, taggedAt, sizedBy, memberAt, elementAt, itemAt}
-use Rattle.dataset.specs.Reading.{Row, row, Run, done, refused, onHead, onRun, level, moved, valueAt, elementsAt, itemsAt, largest, Reading, tooLarge, refusedAt, read, whole, readingOf}
+use Rattle.dataset.specs.Header.{when, undefined, itemTag, cursor, moved, headerBy, delimiterBy, levelBy, definedBy, longBy, typedAt, taggedAt, sizedBy, memberAt, elementAt, itemAt}
+use Rattle.dataset.specs.Reading.{Row, row, Run, done, refused, onHead, onRun, level, valueAt, elementsAt, itemsAt, largest, Reading, tooLarge, refusedAt, read, whole, readingOf}
 use Rattle.dataset.specs.Tree.{Kind, elements, items, rowsOf}
 use Rattle.dataset.proofs.Level.{value-plain}
 use Rattle.node.specs.Nodes.{Node, nodeOf, nodesOf, holdsNodes}

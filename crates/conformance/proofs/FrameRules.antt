@@ -8,7 +8,7 @@ use mathlib.Core.Bool.{Bool, true, false, cond, not, _&&_, _||_}
 use mathlib.Core.Logic.{_⊎_, inl, inr}
 use lib.ListN.{drop}
 use lib.Dec.{eqb, leb}
-use borrow.Author.Tests.{eq-eqb, ne-eqb, eqb-true, eqb-false, leb-true, leb-false}
+use borrow.Author.Tests.{le-leb, eq-eqb, ne-eqb, eqb-true, eqb-false, leb-true, leb-false}
 use Rattle.value.specs.declared.Num.{Num}
 use Rattle.value.specs.declared.Num.the-variants.{Is, Lacks}
 use Rattle.verdict.specs.Verdict.{perFrame}
@@ -157,9 +157,9 @@ module _ (ns : List Node) (f : ℕ) where
 
 -- ---- The frame's item is the first of those that are left
 
-module _ (ns : List Node) (f : ℕ) (c : Items) (w : Along ns (drop (f - 1) (frameItems ns)) c) where
+module _ (ns : List Node) (f : ℕ) (c : Items) (some : 1 ≤ f) (w : Along ns (drop (f - 1) (frameItems ns)) c) where
   pub item-here : c .at < c .end → frameItem ns f ≡ Is (c .at)
-  item-here h = ap first (sym (w .ahead) ∙ members-next ns (c .at) (c .end) h)
+  item-here h = rw (le-leb 1 f some) (ap first (sym (w .ahead) ∙ members-next ns (c .at) (c .end) h))
 
   pub item-none : c .end ≤ c .at → frameItem ns f ≡ Lacks
-  item-none h = ap first (sym (w .ahead) ∙ members-end ns (c .at) (c .end) h)
+  item-none h = rw (le-leb 1 f some) (ap first (sym (w .ahead) ∙ members-end ns (c .at) (c .end) h))

@@ -107,6 +107,7 @@ module _ (ns : List Node) where
         low = a;
         high = omega arith;
         once = λ q. zero-frame (perFrame rule) q e;
+        from = λ q. rw (ap {B = ℕ} (λ (t : Bool). cond t 1 0) q) at f;
         along = λ q. rw (ap (λ (t : Bool). frame - cond t 1 0) q) at w;
       }
     where

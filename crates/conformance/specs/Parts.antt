@@ -32,4 +32,5 @@ pub record Asked (ns : List Node) (rule frame : ℕ) (items : Items) : Type 0 wh
   pub low : 1 ≤ rule
   pub high : rule ≤ lastRule
   pub once : perFrame rule ≡ false → frame ≡ 0
+  pub from : perFrame rule ≡ true → 1 ≤ frame
   pub along : perFrame rule ≡ true → Along ns (drop (frame - 1) (frameItems ns)) items

@@ -64,7 +64,7 @@ fn frame_holds(
     items: Items,
     frame: usize,
 ) -> bool
-    requires { ⌜ Table (now bytes) (now rows) × (Below (length (nodesOf (now bytes))) shared × ((shared ≡ sharedItem (nodesOf (now bytes))) × ((part ≡ okFor (nodesOf (now bytes)) rule shared) × ((perFrame rule ≡ true) × Along (nodesOf (now bytes)) (drop (frame - 1) (frameItems (nodesOf (now bytes)))) items)))) ⌝ }
+    requires { ⌜ Table (now bytes) (now rows) × (Below (length (nodesOf (now bytes))) shared × ((shared ≡ sharedItem (nodesOf (now bytes))) × ((part ≡ okFor (nodesOf (now bytes)) rule shared) × ((perFrame rule ≡ true) × ((1 ≤ frame) × Along (nodesOf (now bytes)) (drop (frame - 1) (frameItems (nodesOf (now bytes)))) items))))) ⌝ }
     ensures { λ r. ⌜ r ≡ ruleAt (nodesOf (now (bytes .entry))) rule frame ⌝ }
 {
     match shared {

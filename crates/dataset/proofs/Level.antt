@@ -15,6 +15,7 @@ use Rattle.dataset.specs.declared.Head.the-variants as heads
 use Rattle.dataset.specs.declared.Walk.{Walk}
 use Rattle.dataset.specs.declared.Walk.the-variants as walk
 use Rattle.dataset.specs.declared.Leaf.{Leaf}
+use Rattle.dataset.specs.Header.{moved}
 use Rattle.dataset.specs.Reading.{Row, row, Run, done, refused, onHead, onRun, level, valueAt, itemsAt}
 use Rattle.dataset.specs.Answer.{flat}
 use Rattle.dataset.specs.Walk.{Within, RunWithin, Walked, Replaced, LeafWalked}
@@ -28,6 +29,9 @@ within c e w = subst (λ (x : Head). Within c x) e w
 pub walked : {o : Run} {c : Cursor} {first : ℕ} {buffer after : List ℕ} {r q : Walk} → r ≡ q → Walked o c first buffer after r → Walked o c first buffer after q
 walked {o} {c} {first} {buffer} {after} e w = subst (λ (x : Walk). Walked o c first buffer after x) e w
 
+pub of-run : {o p : Run} {c : Cursor} {first : ℕ} {buffer after : List ℕ} {r : Walk} → o ≡ p → Walked o c first buffer after r → Walked p c first buffer after r
+of-run {o} {p} {c} {first} {buffer} {after} {r} e w = subst (λ (x : Run). Walked x c first buffer after r) e w
+
 pub leaf-walked : (o : Run) (c : Cursor) (first : ℕ) (buffer after : List ℕ) {r q : Leaf} → r ≡ q → LeafWalked o c first buffer after r → LeafWalked o c first buffer after q
 leaf-walked o c first buffer after e w = subst (λ (x : Leaf). LeafWalked o c first buffer after x) e w
 
@@ -36,6 +40,16 @@ pub over : (o : Run) {c : Cursor} {first : ℕ} {buffer after last : List ℕ} {
     → Walked o c first after last r → Walked o c first buffer last r
 over (done stop next rows) l p w = record { is = w .is; within = w .within; wrote = λ h. w .wrote (omega arith) ∙ p h }
 over (refused code offset) l p w = record { is = w .is; within = w .within; wrote = tt }
+
+-- What stands at a cursor that was moved along its level.
+pub stands : (c here : Cursor) (f : Cursor → Head) {h g : Head} → here ≡ moved c (here .at) → (h ≡ f here) × Within here h → h ≡ g
+    → (f (moved c (here .at)) ≡ g) × Within (moved c (here .at)) g
+stands c here f {h} {g} e p q = (sym (ap f e) ∙ sym (p .0) ∙ q, subst (λ (x : Cursor). Within x g) e (within here q (p .1)))
+
+pub moved-along : (c here r : Cursor) {next : ℕ} → here ≡ moved c (here .at) → r ≡ moved here next → (r ≡ moved c (r .at)) × (r .at ≡ next)
+moved-along c here r {next} e p =
+    let a : r .at ≡ next = ap (λ (x : Cursor). x .at) p in
+    (p ∙ ap (λ (x : Cursor). moved x next) e ∙ ap (λ (x : ℕ). moved c x) (sym a), a)
 
 -- What a walk that was done says of its run.
 pub record Below (o : Run) (v : Cursor) (first : ℕ) (buffer after : List ℕ) (stop next m : ℕ) : Type 0 where
@@ -153,6 +167,15 @@ pub record Inv (head : ℕ → ℕ → Head) (inside : ℕ → ℕ → Cursor �
 module _ (head : ℕ → ℕ → Head) (inside : ℕ → ℕ → Cursor → Run) (depth : ℕ) (o : Run) (c : Cursor) (first : ℕ) (buffer₀ : List ℕ) where
   abbrev pub Here : List ℕ → ℕ → ℕ → ℕ → Type 0
   Here buffer at n least = Inv head inside depth o (c .at) (c .end) first buffer₀ buffer at n least
+
+  -- The same of the cursor that the loop carries.
+  abbrev pub Along : List ℕ → Cursor → ℕ → ℕ → Type 0
+  Along buffer here n least = (here ≡ moved c (here .at)) × Here buffer (here .at) n least
+
+  pub along : {buffer : List ℕ} (here r : Cursor) {next n least : ℕ} → here ≡ moved c (here .at) → r ≡ moved here next → Here buffer next n least → Along buffer r n least
+  along {buffer} here r {next} {n} {least} e p i =
+      let m = moved-along c here r e p in
+      (m .0, subst (λ (x : ℕ). Here buffer x n least) (sym (m .1)) i)
 
   -- There is a turn left.
   turn : (at least : ℕ) (rows : List Row) (turns : ℕ) → at ≤ c .end → level head inside depth first turns at least rows ≡ o → c .end < at + turns

@@ -1,5 +1,5 @@
 -- What stands at a cursor (document 01, "Checks at a header"): a header with the cursor moved onto its value, the end
--- of what is read, or a refusal's code. The checks stand in their order; the first that applies decides.
+-- of what is read with the offset after it, or a refusal's code. The checks stand in their order; the first that applies decides.
 --
 -- A cursor is an offset, the innermost known end (data set or defined length), and whether what is read there has an
 -- undefined length, so that a delimiter (the paper's end mark) closes it.
@@ -36,6 +36,10 @@ sequenceDelimiter = 0xFFFE_E0DD
 
 abbrev pub cursor : ℕ → ℕ → Bool → Cursor
 cursor at end delimited = record { at = at; end = end; delimited = delimited }
+
+-- The cursor at another offset of the same level.
+abbrev pub moved : Cursor → ℕ → Cursor
+moved c at = cursor at (c .end) (c .delimited)
 
 -- A known end reached exactly has no header: it closes a defined length, and an undefined length still open there is
 -- code 1. Check 1: fewer than 8 bytes.

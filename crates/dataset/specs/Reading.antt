@@ -9,7 +9,7 @@ use Rattle.dataset.specs.declared.Cursor.{Cursor}
 use Rattle.dataset.specs.declared.Head.{Head}
 use Rattle.dataset.specs.declared.Head.the-variants.{Header, End, Refused}
 use Rattle.dataset.specs.Vr.{SQ}
-use Rattle.dataset.specs.Header.{cursor, elementAt, itemAt}
+use Rattle.dataset.specs.Header.{cursor, moved, elementAt, itemAt}
 
 -- The seven numbers of an element or item; `descendants` is the paper's number of rows below it, and `parent` the row number,
 -- counted from 1, of the item or sequence it stands directly in, 0 at the root.
@@ -55,9 +55,6 @@ level head inside depth first (suc turns) at least rows =
     (λ tag vr value. onRun (inside (first + length rows + 1) vr value) (λ stop next below.
     level head inside depth first turns next (tag + 1)
     (rows ++ (row tag vr depth (value .at) (stop - value .at) (length below) first ∷ below))))
-
-abbrev pub moved : Cursor → ℕ → Cursor
-moved c at = cursor at (c .end) (c .delimited)
 
 -- Depths go up to 8: `levels` is how many more are permitted, and 8 less it is the depth.
 abbrev pub depths : ℕ

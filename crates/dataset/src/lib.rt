@@ -7,8 +7,8 @@ ghost use lib.ListN.{length};
 ghost use lib.Seq.{sets};
 ghost use Rattle.dataset.specs.Bytes.{le16, le32, tagAt, vrAt};
 ghost use Rattle.dataset.specs.Vr.{formOf};
-ghost use Rattle.dataset.specs.Header.{delimiterBy, levelBy, definedBy, longBy, typedAt, taggedAt, sizedBy, memberAt, elementAt, itemAt};
-ghost use Rattle.dataset.specs.Reading.{elementsAt, valueAt, readingOf, row};
+ghost use Rattle.dataset.specs.Header.{moved, delimiterBy, levelBy, definedBy, longBy, typedAt, taggedAt, sizedBy, memberAt, elementAt, itemAt};
+ghost use Rattle.dataset.specs.Reading.{elementsAt, itemsAt, readingOf, row};
 ghost use Rattle.dataset.specs.Answer.{answerOf, bufferOf, flat};
 ghost use Rattle.dataset.specs.Walk.{FormsAfter, Within, Walked, LeafWalked, Ready};
 
@@ -140,6 +140,17 @@ pub fn vr_form(vr: usize) -> usize
 }
 
 impl Cursor {
+    // The cursor at another offset of the same level.
+    fn moved(self, at: usize) -> Cursor
+        ensures { λ r. ⌜ r ≡ moved self at ⌝ }
+    {
+        Cursor {
+            at,
+            end: self.end,
+            delimited: self.delimited,
+        }
+    }
+
     // The delimiter `due`, where one is due.
     fn delimiter(self, tag: usize, due: usize, len: usize) -> Head
         requires { ⌜ self .at + 8 ≤ self .end ⌝ }
@@ -367,13 +378,11 @@ fn read_leaf(s: &[u8], c: Cursor, levels: usize, rows: &mut [u32], first: usize)
     requires { ⌜ Ready (now s) c levels first ⌝ }
     ensures { λ r. ⌜ LeafWalked (elementsAt levels (now (s .entry)) first c) c first (now (rows .entry)) (now (rows .exit)) r ⌝ }
 {
-    let end = c.end;
-    let delimited = c.delimited;
-    let mut at = c.at;
+    let mut here = c;
     let mut n = first;
     let mut least: usize = 0;
     loop {
-        let here = Cursor { at, end, delimited };
+        let at = here.at;
         match here.element(s, least, levels) {
             Head::Refused(code) => {
                 return Leaf::Refused(code, at);
@@ -388,7 +397,7 @@ fn read_leaf(s: &[u8], c: Cursor, levels: usize, rows: &mut [u32], first: usize)
                 let start = value.at;
                 let stop = value.end;
                 put_row(rows, n, tag, vr, levels, start, stop, n + 1, first);
-                at = stop;
+                here = here.moved(stop);
                 n = n + 1;
                 least = tag + 1;
             }
@@ -396,30 +405,20 @@ fn read_leaf(s: &[u8], c: Cursor, levels: usize, rows: &mut [u32], first: usize)
     }
 }
 
-// An item of a sequence.
-fn read_member(s: &[u8], c: Cursor, levels: usize, rows: &mut [u32], first: usize) -> Walk
-    requires { ⌜ Ready (now s) c levels first ⌝ }
-    ensures { λ r. ⌜ Walked (elementsAt levels (now (s .entry)) first c) c first (now (rows .entry)) (now (rows .exit)) r ⌝ }
-{
-    match read_leaf(s, c, levels, rows, first) {
-        Leaf::Refused(code, offset) => Walk::Refused(code, offset),
-        Leaf::Done(stop, next, m) => Walk::Done(stop, next, m),
-        Leaf::Nested => read_item(s, c, levels, rows, first),
-    }
-}
+// The two readers call each other: the item reader for a sequence that stands in the item, the sequence reader for an
+// item that has sequences in it. At each call the bytes that the cursor has left (`end - at`) fall, by a header at least;
+// and no more than 8 levels are permitted.
 
 // An item, or the whole data set, element by element.
 fn read_item(s: &[u8], c: Cursor, levels: usize, rows: &mut [u32], first: usize) -> Walk
     requires { ⌜ Ready (now s) c levels first ⌝ }
     ensures { λ r. ⌜ Walked (elementsAt levels (now (s .entry)) first c) c first (now (rows .entry)) (now (rows .exit)) r ⌝ }
 {
-    let end = c.end;
-    let delimited = c.delimited;
-    let mut at = c.at;
+    let mut here = c;
     let mut n = first;
     let mut least: usize = 0;
     loop {
-        let here = Cursor { at, end, delimited };
+        let at = here.at;
         match here.element(s, least, levels) {
             Head::Refused(code) => {
                 return Walk::Refused(code, at);
@@ -432,18 +431,18 @@ fn read_item(s: &[u8], c: Cursor, levels: usize, rows: &mut [u32], first: usize)
                 if vr != SQ {
                     let stop = value.end;
                     put_row(rows, n, tag, vr, levels, start, stop, n + 1, first);
-                    at = stop;
+                    here = here.moved(stop);
                     n = n + 1;
                     least = tag + 1;
                     continue;
                 }
-                match read_sequence(s, vr, value, levels, rows, n + 1) {
+                match read_sequence(s, value, levels - 1, rows, n + 1) {
                     Walk::Refused(code, offset) => {
                         return Walk::Refused(code, offset);
                     }
                     Walk::Done(stop, next, m) => {
                         put_row(rows, n, tag, vr, levels, start, stop, m, first);
-                        at = next;
+                        here = here.moved(next);
                         n = m;
                         least = tag + 1;
                     }
@@ -453,31 +452,15 @@ fn read_item(s: &[u8], c: Cursor, levels: usize, rows: &mut [u32], first: usize)
     }
 }
 
-// The value of an element of the VR: a sequence, item by item; any other value has no rows.
-fn read_sequence(
-    s: &[u8],
-    vr: usize,
-    value: Cursor,
-    levels: usize,
-    rows: &mut [u32],
-    first: usize,
-) -> Walk
-    requires { ⌜ Ready (now s) value levels first ⌝ }
-    ensures { λ r. ⌜ Walked (valueAt levels (now (s .entry)) first vr value) value first (now (rows .entry)) (now (rows .exit)) r ⌝ }
+// A sequence, item by item; `levels` more levels are permitted below its items. An item without sequences is read at once.
+fn read_sequence(s: &[u8], c: Cursor, levels: usize, rows: &mut [u32], first: usize) -> Walk
+    requires { ⌜ Ready (now s) c levels first ⌝ }
+    ensures { λ r. ⌜ Walked (itemsAt levels (now (s .entry)) first c) c first (now (rows .entry)) (now (rows .exit)) r ⌝ }
 {
-    let end = value.end;
-    let delimited = value.delimited;
-    if vr != SQ {
-        return Walk::Done(end, end, first);
-    }
-    if levels == 0 {
-        return Walk::Done(end, end, first);
-    }
-    let inner = levels - 1;
-    let mut at = value.at;
+    let mut here = c;
     let mut n = first;
     loop {
-        let here = Cursor { at, end, delimited };
+        let at = here.at;
         match here.item(s) {
             Head::Refused(code) => {
                 return Walk::Refused(code, at);
@@ -485,17 +468,27 @@ fn read_sequence(
             Head::End(next) => {
                 return Walk::Done(at, next, n);
             }
-            Head::Header(tag, kind, item) => {
+            Head::Header(tag, vr, item) => {
                 let start = item.at;
-                match read_member(s, item, inner, rows, n + 1) {
-                    Walk::Refused(code, offset) => {
+                match read_leaf(s, item, levels, rows, n + 1) {
+                    Leaf::Refused(code, offset) => {
                         return Walk::Refused(code, offset);
                     }
-                    Walk::Done(stop, next, m) => {
-                        put_row(rows, n, tag, kind, inner, start, stop, m, first);
-                        at = next;
+                    Leaf::Done(stop, next, m) => {
+                        put_row(rows, n, tag, vr, levels, start, stop, m, first);
+                        here = here.moved(next);
                         n = m;
                     }
+                    Leaf::Nested => match read_item(s, item, levels, rows, n + 1) {
+                        Walk::Refused(code, offset) => {
+                            return Walk::Refused(code, offset);
+                        }
+                        Walk::Done(stop, next, m) => {
+                            put_row(rows, n, tag, vr, levels, start, stop, m, first);
+                            here = here.moved(next);
+                            n = m;
+                        }
+                    },
                 }
             }
         }

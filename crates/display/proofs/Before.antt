@@ -20,9 +20,9 @@ use Rattle.value.specs.Number.{isNumber}
 use Rattle.shift.specs.declared.Shift.{Shift}
 use Rattle.shift.specs.declared.Shift.the-variants as shift
 use Rattle.shift.specs.declared.Moves.{Moves}
-use Rattle.shift.specs.Shift.{itemShift, frameShift, movesOf, isShift}
+use Rattle.shift.specs.Shift.{itemShift, frameShift, movesOf}
 use Rattle.shift.specs.Whole.{isShortWhole, wholeMovesOf, isWholeShiftOf, isWholeShift, movesInQuarters}
-use Rattle.shift.proofs.Laws.{shift-length}
+use Rattle.shift.proofs.Laws.{as-item, shift-length}
 use Rattle.shift.proofs.Agree.{whole-moves, whole-shift, whole-item, whole-frame, whole-both, whole-numbers}
 use Rattle.verdict.specs.Verdict.{perFrame}
 use Rattle.verdict.proofs.Tests.{false-is-true, and-both}
@@ -31,9 +31,9 @@ use Rattle.node.specs.Find.{holds, ifPresent, find, findVr}
 use Rattle.element.specs.Tags
 use Rattle.element.specs.Tags.{FL}
 use Rattle.element.specs.Elements.{valueAt, every}
-use Rattle.element.specs.Frames.{framesOf, frameItem, sharedItem, groupOf, maskItems}
-use Rattle.rules.specs.Frame.{idIn, hasId, uniqueIds, isShiftItem, isShiftGroup, item37, rule37}
-use Rattle.rules.specs.Mask.{operationIs, isShiftAt, shiftFits, rule35, rule36}
+use Rattle.element.specs.Frames.{framesOf, frameItem, sharedItem, groupOf, maskItems, idIn, operationIs}
+use Rattle.rules.specs.Frame.{hasId, uniqueIds, isShiftItem, isShiftGroup, item37, rule37}
+use Rattle.rules.specs.Mask.{isShiftAt, shiftFits, rule35, rule36}
 use Rattle.rules.specs.All.{ruleList, ruleAt}
 use Rattle.conformance.specs.declared.Finding.the-variants.{Accepted}
 use Rattle.conformance.specs.Judging.{numberOf, firstFrame, frameCount, findingOf}
@@ -93,7 +93,7 @@ module _ (ns : List Node) where
   unfolding wasShiftItem isShiftItem
   item j e =
       let a = and-both (hasId ns j) _ e in
-      rw (a .0) (holds-more (findVr ns Tags.MaskSubPixelShift FL (inside ns j)) _ _ (λ k. whole-shift (valueAt ns k)) (a .1))
+      rw (a .0) (holds-more (findVr ns Tags.MaskSubPixelShift FL (inside ns j)) _ _ (λ k w. as-item (valueAt ns k) ∙ whole-shift (valueAt ns k) w) (a .1))
 
   group : (g : ℕ) → wasShiftGroup ns g ≡ true → isShiftGroup ns g ≡ true
   unfolding wasShiftGroup isShiftGroup

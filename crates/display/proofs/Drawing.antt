@@ -79,16 +79,16 @@ module _ (s : List ℕ) (f : ℕ) (buffer image : List ℕ) where
   unfolding imageOf
   image-is a i r = rw (shows a i r)
 
-  handed : (a : IsAccepted s) → IsFrame s f → HasRoom s buffer image → (w : Whole (nodesOf s) f) (p : Picture) → stepsOf (nodesOf s) f ≡ some p → HandsBack s f buffer image p
-  handed a i r w p e =
-      let q = picture-is p e in
-      let same : some (w .p) ≡ some p = sym (w .is) ∙ e in
-      let v : w .p ≡ p = cc in
+  handed : (a : IsAccepted s) → IsFrame s f → HasRoom s buffer image → Whole (nodesOf s) f → HandsBack s f buffer image
+  handed a i r w =
+      let q = picture-is (w .p) (w .is) in
       record {
+        p = w .p;
+        is = w .is;
         rows = ap rowCountOf (shows a i r);
         masked = ap maskedOf (shows a i r) ∙ ap (λ (x : Picture). cond (x .masked) 1 0) q;
         cells =
-            subst (λ (n : ℕ). imageOf s f buffer image ≡ p .samples ++ drop n image) (ap (λ (x : Picture). length (x .samples)) (sym v) ∙ w .size)
+            subst (λ (n : ℕ). imageOf s f buffer image ≡ w .p .samples ++ drop n image) (w .size)
             (subst (λ (x : Picture). imageOf s f buffer image ≡ x .samples ++ drop (length (x .samples)) image) q (image-is a i r));
       }
 
@@ -100,9 +100,9 @@ drawing s b f =
       drawable = whole;
       drawn = λ buffer image a i r. ap codeOf (shows s f buffer image a i r);
       nothing-else = was-accepted s f;
-      as-stepped = λ buffer image e p q.
+      as-stepped = λ buffer image e.
           let w = was-accepted s f buffer image e in
-          handed s f buffer image (w .0) (w .1 .0) (w .1 .1) (whole (w .0) (w .1 .0)) p q;
+          handed s f buffer image (w .0) (w .1 .0) (w .1 .1) (whole (w .0) (w .1 .0));
     }
   where
     whole : IsAccepted s → IsFrame s f → Whole (nodesOf s) f

@@ -20,8 +20,8 @@ use Rattle.value.specs.Said.{SizeBelow}
 use Rattle.shift.specs.declared.Shift.{Shift}
 use Rattle.shift.specs.declared.Shift.the-variants as shift
 use Rattle.shift.specs.declared.Moves.{Moves}
-use Rattle.shift.specs.Shift.{largestMove, isShort, itemShift, frameShift, movesOf, isShiftOf, isShift}
-use Rattle.shift.proofs.Laws.{moves-both, shift-length, item-is, frame-is}
+use Rattle.shift.specs.Shift.{largestMove, isShort, itemShift, frameShift, movesOf, isShiftOf, isFrameShift}
+use Rattle.shift.proofs.Laws.{moves-both, as-item, shift-length, item-is, frame-is}
 use Rattle.verdict.specs.Verdict.{lastRule, perFrame}
 use Rattle.verdict.proofs.Tests.{false-is-true, and-both}
 use Rattle.node.specs.Nodes.{Node, nodeAt, nextNode, root, inside}
@@ -31,9 +31,9 @@ use Rattle.element.specs.Tags
 use Rattle.element.specs.Tags.{US, FL}
 use Rattle.element.specs.Elements as elements
 use Rattle.element.specs.Elements.{valueAt, first, insideOf, itemsIn, every}
-use Rattle.element.specs.Frames.{framesOf, frameItems, frameItem, sharedItem, groupOf, maskItems}
-use Rattle.rules.specs.Frame.{idIn, hasId, uniqueIds, isShiftItem, isShiftGroup, item37, rule37}
-use Rattle.rules.specs.Mask.{operationIs, isOperation, isMask, rule31, isRange, rangeFits, rule32, allFrames, areMaskFrames, averageFits, averagesFit, rule33, isOffset, offsetFits, rule34, isShiftAt, shiftFits, rule35, hasShiftGroup, anyShift, masksHaveIds, rule36}
+use Rattle.element.specs.Frames.{framesOf, frameItems, frameItem, sharedItem, groupOf, maskItems, idIn, operationIs}
+use Rattle.rules.specs.Frame.{hasId, uniqueIds, isShiftItem, isShiftGroup, item37, rule37}
+use Rattle.rules.specs.Mask.{isOperation, isMask, rule31, isRange, rangeFits, rule32, allFrames, areMaskFrames, averageFits, averagesFit, rule33, isOffset, offsetFits, rule34, isShiftAt, shiftFits, rule35, hasShiftGroup, anyShift, masksHaveIds, rule36}
 use Rattle.rules.specs.All.{ruleList, ruleAt}
 use Rattle.conformance.specs.declared.Finding.the-variants.{Accepted}
 use Rattle.conformance.specs.Judging.{firstFrame, frameCount, findingOf}
@@ -203,10 +203,13 @@ module _ (ns : List Node) where
         (checked _ _ (both-true _ _ (a .0) (eq-eqb _ _ (shift-length (valueAt ns k) (a .1)))), item-is (valueAt ns k) (a .1)),
       )
 
-  frame-at : (o : Num) → holds o (λ x. isShift (valueAt ns x)) ≡ true
+  frame-at : (o : Num) → holds o (λ x. isFrameShift (valueAt ns x)) ≡ true
       → Shifted (need o (λ x. check (eqb (length (valueAt ns x)) 8) (some (frameShift (valueAt ns x)))))
   frame-at Lacks e = absurd (false-is-true e)
-  frame-at (Is x) e = (frameShift (valueAt ns x), (checked _ _ (eq-eqb _ _ (shift-length (valueAt ns x) e)), frame-is (valueAt ns x) e))
+  frame-at (Is x) e =
+      let v = valueAt ns x in
+      let a = sym (as-item v) ∙ e in
+      (frameShift v, (checked _ _ (eq-eqb _ _ (shift-length v a)), frame-is v a))
 
   frame-shift : (k : ℕ) → isShiftItem ns k ≡ true → (j : ℕ) → Shifted (shiftFrom ns j (Is k))
   unfolding isShiftItem
@@ -273,11 +276,18 @@ module _ (ns : List Node) where
       let a = group-filled g e in
       rw (q, of-vr ns SQ g (a .0)) (a .1)
 
+  item-first : (f i : ℕ) → frameItem ns f ≡ Is i → first (drop (f - 1) (frameItems ns)) ≡ Is i
+  item-first f i = go (leb 1 f)
+    where
+      go : (t : Bool) → cond t (first (drop (f - 1) (frameItems ns))) Lacks ≡ Is i → first (drop (f - 1) (frameItems ns)) ≡ Is i
+      go true e = e
+      go false e = let z : _≡_ {A = ℕ} 0 1 = cc in absurd (omega arith)
+
   pub shift-ids : rule36 ns ≡ true → (f s i g : ℕ) → sharedItem ns ≡ Is s → frameItem ns f ≡ Is i → groupOf ns Tags.FramePixelShiftSequence s i ≡ Is g
       → isShiftGroup ns g ≡ true → every (hasId ns) (maskItems ns) ≡ true
   unfolding rule36 anyShift masksHaveIds
   shift-ids r f s i g p q h e =
-      let t : anyShift ns s ≡ true = some-at (hasShiftGroup ns s) (first-among (f - 1) i (frameItems ns) q) (has-group s i g h e) in
+      let t : anyShift ns s ≡ true = some-at (hasShiftGroup ns s) (first-among (f - 1) i (frameItems ns) (item-first f i q)) (has-group s i g h e) in
       let u : cond (anyShift ns s) (masksHaveIds ns) true ≡ true = held (sharedItem ns) _ s p r in
       and-both (every (hasId ns) (maskItems ns)) _ (where-true _ _ t u) .0
 

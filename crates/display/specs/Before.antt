@@ -26,9 +26,8 @@ use Rattle.node.specs.Find.{holds, ifPresent, find, findVr}
 use Rattle.element.specs.Tags
 use Rattle.element.specs.Tags.{FL}
 use Rattle.element.specs.Elements.{valueAt, every}
-use Rattle.element.specs.Frames.{framesOf, groupOf, maskItems}
+use Rattle.element.specs.Frames.{framesOf, groupOf, maskItems, operationIs}
 use Rattle.rules.specs.Frame.{atFrame, hasId, uniqueIds}
-use Rattle.rules.specs.Mask.{operationIs}
 use Rattle.rules.specs.All.{ruleAt}
 use Rattle.conformance.specs.declared.Finding.the-variants.{Accepted}
 use Rattle.conformance.specs.Judging.{numberOf, firstFrame, frameCount, findingOf}

@@ -56,8 +56,10 @@ pub record Whole (ns : List Node) (f : ℕ) : Type 0 where
   pub size : length (p .samples) ≡ imageSize ns
   pub levels : AllLevels (p .samples)
 
--- What `show` hands back is the picture p.
-pub record HandsBack (s : List ℕ) (f : ℕ) (buffer image : List ℕ) (p : Picture) : Type 0 where
+-- The steps give a picture p, and `show` hands back p.
+pub record HandsBack (s : List ℕ) (f : ℕ) (buffer image : List ℕ) : Type 0 where
+  pub p : Picture
+  pub is : stepsOf (nodesOf s) f ≡ some p
   pub rows : rowCountOf (showOf s f buffer image) ≡ length (rowsOf s)
   pub masked : maskedOf (showOf s f buffer image) ≡ cond (p .masked) 1 0
   pub cells : imageOf s f buffer image ≡ p .samples ++ drop (imageSize (nodesOf s)) image
@@ -70,5 +72,4 @@ pub record Drawing (s : List ℕ) (f : ℕ) : Type 0 where
   -- and nothing else is.
   pub nothing-else : (buffer image : List ℕ) → codeOf (showOf s f buffer image) ≡ 0 → IsAccepted s × (IsFrame s f × HasRoom s buffer image)
   -- What is drawn is what the steps give.
-  pub as-stepped : (buffer image : List ℕ) → codeOf (showOf s f buffer image) ≡ 0 → (p : Picture) → stepsOf (nodesOf s) f ≡ some p
-      → HandsBack s f buffer image p
+  pub as-stepped : (buffer image : List ℕ) → codeOf (showOf s f buffer image) ≡ 0 → HandsBack s f buffer image

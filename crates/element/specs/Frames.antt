@@ -1,8 +1,9 @@
 -- Frames and their functional groups (the paper's groups), and the mask items.
 use Prim.Native.Nat.{ℕ, _-_}
 use mathlib.Core.List.{List}
-use mathlib.Core.Bool.{Bool}
+use mathlib.Core.Bool.{Bool, cond}
 use lib.ListN.{drop}
+use lib.Dec.{leb}
 use Rattle.value.specs.declared.Num.{Num}
 use Rattle.value.specs.declared.Num.the-variants.{Is, Lacks}
 use Rattle.value.specs.declared.Signed.{Signed}
@@ -10,8 +11,8 @@ use Rattle.value.specs.declared.Signed.the-variants as signed
 use Rattle.value.specs.Number.{isOf}
 use Rattle.node.specs.Nodes.{Node, root, inside}
 use Rattle.node.specs.Find.{holds, andThen, orElse, find, findVr}
-use Rattle.element.specs.Tags.{IS, NumberOfFrames, SharedFunctionalGroupsSequence, PerFrameFunctionalGroupsSequence, MaskSubtractionSequence}
-use Rattle.element.specs.Elements.{valueAt, theItem, itemsIn, first}
+use Rattle.element.specs.Tags.{IS, NumberOfFrames, SharedFunctionalGroupsSequence, PerFrameFunctionalGroupsSequence, MaskSubtractionSequence, MaskOperation, SubtractionItemID}
+use Rattle.element.specs.Elements.{valueAt, usIn, csIs, theItem, itemsIn, first}
 
 -- A signed number that counts: what is below zero counts nothing.
 abbrev pub counted : Signed → Num
@@ -27,12 +28,12 @@ framesOf ns = andThen (findVr ns NumberOfFrames IS (root ns)) (λ i. counted (is
 unfoldable pub sharedItem : List Node → Num
 sharedItem ns = andThen (find ns SharedFunctionalGroupsSequence (root ns)) (theItem ns)
 
--- The items of the per-frame functional groups, and item f, counted from 1.
+-- The items of the per-frame functional groups, and item f, counted from 1: there is no item 0.
 unfoldable pub frameItems : List Node → List ℕ
 frameItems ns = itemsIn ns PerFrameFunctionalGroupsSequence (root ns)
 
 abbrev pub frameItem : List Node → ℕ → Num
-frameItem ns f = first (drop (f - 1) (frameItems ns))
+frameItem ns f = cond (leb 1 f) (first (drop (f - 1) (frameItems ns))) Lacks
 
 -- "A frame's group is that in item f, of any VR, else the shared one": of the tag, for item i and the shared item s.
 abbrev pub groupOf : List Node → ℕ → ℕ → ℕ → Num
@@ -41,3 +42,11 @@ groupOf ns tag s i = orElse (find ns tag (inside ns i)) (find ns tag (inside ns 
 -- The mask items, in their order.
 unfoldable pub maskItems : List Node → List ℕ
 maskItems ns = itemsIn ns MaskSubtractionSequence (root ns)
+
+-- A mask item's operation is the word.
+unfoldable pub operationIs : List Node → List ℕ → ℕ → Bool
+operationIs ns word j = csIs ns MaskOperation word (inside ns j)
+
+-- The Subtraction Item ID of a mask item, or of an item of a frame's own shifts.
+abbrev pub idIn : List Node → ℕ → Num
+idIn ns j = usIn ns SubtractionItemID (inside ns j)

@@ -4,7 +4,8 @@ use Prim.Native.Nat.{ℕ}
 use mathlib.Core.List.{List, map}
 use lib.ListN.{length, getD}
 use Rattle.node.specs.Nodes.{Node}
-use Rattle.rules.specs.Frame.{idIn, numberOr0}
+use Rattle.element.specs.Frames.{idIn}
+use Rattle.rules.specs.Frame.{numberOr0}
 
 -- The ID of an item, 0 where it has none; the IDs of items.
 abbrev pub idOf : List Node → ℕ → ℕ

@@ -93,17 +93,15 @@ module _ (s : List ℕ) (f : ℕ) (buffer values : List ℕ) where
   unfolding valuesOf
   values-is a i m r = rw (maps-to a i m r)
 
-  handed : (a : IsAccepted s) → IsFrame s f → isMapped (nodesOf s) f ≡ true → HasRoom s buffer values → (w : Mapped (nodesOf s) f) (l : List ℕ) → mappingOf (nodesOf s) f ≡ some l
-      → Measured s f buffer values l
-  handed a i m r w l e =
-      let q = entries-is l e in
-      let same : some (w .l) ≡ some l = sym (w .is) ∙ e in
-      let v : w .l ≡ l = cc in
+  handed : (a : IsAccepted s) → IsFrame s f → isMapped (nodesOf s) f ≡ true → HasRoom s buffer values → Mapped (nodesOf s) f → Measured s f buffer values
+  handed a i m r w =
       record {
+        l = w .l;
+        is = w .is;
         rows = ap rowCountOf (maps-to a i m r);
         numbers =
-            subst (λ (n : ℕ). valuesOf s f buffer values ≡ l ++ drop n values) (ap length (sym v) ∙ w .size)
-            (subst (λ (x : List ℕ). valuesOf s f buffer values ≡ x ++ drop (length x) values) q (values-is a i m r));
+            subst (λ (n : ℕ). valuesOf s f buffer values ≡ w .l ++ drop n values) (w .size)
+            (subst (λ (x : List ℕ). valuesOf s f buffer values ≡ x ++ drop (length x) values) (entries-is (w .l) (w .is)) (values-is a i m r));
       }
 
 -- ---- The mapping lacks nothing
@@ -138,7 +136,7 @@ demand-3 s b f =
       mappable = whole s b f;
       mapped = λ buffer values a i m r. ap codeOf (maps-to s f buffer values a i m r);
       nothing-else = was-accepted s f;
-      as-mapped = λ buffer values e l q.
+      as-mapped = λ buffer values e.
           let w = was-accepted s f buffer values e in
-          handed s f buffer values (w .0) (w .1 .0) (w .1 .1 .0) (w .1 .1 .1) (whole s b f (w .0) (w .1 .0) (w .1 .1 .0)) l q;
+          handed s f buffer values (w .0) (w .1 .0) (w .1 .1 .0) (w .1 .1 .1) (whole s b f (w .0) (w .1 .0) (w .1 .1 .0));
     }

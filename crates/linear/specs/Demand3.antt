@@ -26,8 +26,10 @@ pub record Mapped (ns : List Node) (f : ℕ) : Type 0 where
   pub is : mappingOf ns f ≡ some l
   pub size : length l ≡ imageSize ns
 
--- What `linear` hands back is the numbers l.
-pub record Measured (s : List ℕ) (f : ℕ) (buffer values l : List ℕ) : Type 0 where
+-- The mapping gives numbers l, and `linear` hands back l.
+pub record Measured (s : List ℕ) (f : ℕ) (buffer values : List ℕ) : Type 0 where
+  pub l : List ℕ
+  pub is : mappingOf (nodesOf s) f ≡ some l
   pub rows : rowCountOf (linearOf s f buffer values) ≡ length (rowsOf s)
   pub numbers : valuesOf s f buffer values ≡ l ++ drop (imageSize (nodesOf s)) values
 
@@ -43,8 +45,7 @@ pub record Promise (s : List ℕ) (f : ℕ) : Type 0 where
   pub nothing-else : (buffer values : List ℕ) → codeOf (linearOf s f buffer values) ≡ 0
       → IsAccepted s × (IsFrame s f × ((isMapped (nodesOf s) f ≡ true) × HasRoom s buffer values))
   -- What is handed back is what the mapping gives.
-  pub as-mapped : (buffer values : List ℕ) → codeOf (linearOf s f buffer values) ≡ 0 → (l : List ℕ) → mappingOf (nodesOf s) f ≡ some l
-      → Measured s f buffer values l
+  pub as-mapped : (buffer values : List ℕ) → codeOf (linearOf s f buffer values) ≡ 0 → Measured s f buffer values
 
 -- For every data set, given as bytes, and every frame number.
 abbrev pub Demand3 : Type 0

@@ -12,13 +12,13 @@ use Rattle.value.specs.Text.{valuesOf}
 use Rattle.value.specs.declared.Function.{Function}
 use Rattle.value.specs.Words.{isFunction}
 use Rattle.value.specs.Number.{allDecimals, leastWidth, allWidths}
-use Rattle.shift.specs.Shift.{isShift}
+use Rattle.shift.specs.Shift.{isFrameShift}
 use Rattle.node.specs.Nodes.{Node, nodeAt, inside}
 use Rattle.node.specs.Find.{holds, ifPresent, absent, find, findVr}
 use Rattle.element.specs.Tags
 use Rattle.element.specs.Tags.{DS, FL}
-use Rattle.element.specs.Elements.{valueAt, usIn, oneItem, theItem, functionIn, every, some}
-use Rattle.element.specs.Frames.{frameItem, sharedItem, groupOf}
+use Rattle.element.specs.Elements.{valueAt, oneItem, theItem, functionIn, every, some}
+use Rattle.element.specs.Frames.{frameItem, sharedItem, groupOf, idIn}
 
 -- At frame f: what is asked of the shared item s and item f, whose node is i.
 abbrev pub atFrame : List Node → ℕ → (ℕ → ℕ → Bool) → Bool
@@ -74,9 +74,6 @@ rule30 ns f = atFrame ns f (item30 ns)
 
 -- Rule 37. Frame Pixel Shift (0028,9415), if present, at least one item; each has an ID (US), none twice, and has a shift
 -- as in rule 35.
-abbrev pub idIn : List Node → ℕ → Num
-idIn ns j = usIn ns Tags.SubtractionItemID (inside ns j)
-
 abbrev pub numberOr0 : Num → ℕ
 numberOr0 (Is n) = n
 numberOr0 Lacks = 0
@@ -97,7 +94,7 @@ unfoldable pub hasId : List Node → ℕ → Bool
 hasId ns j = holds (idIn ns j) (λ n. true)
 
 unfoldable pub isShiftItem : List Node → ℕ → Bool
-isShiftItem ns j = hasId ns j && holds (findVr ns Tags.MaskSubPixelShift FL (inside ns j)) (λ k. isShift (valueAt ns k))
+isShiftItem ns j = hasId ns j && holds (findVr ns Tags.MaskSubPixelShift FL (inside ns j)) (λ k. isFrameShift (valueAt ns k))
 
 unfoldable pub isShiftGroup : List Node → ℕ → Bool
 isShiftGroup ns g =

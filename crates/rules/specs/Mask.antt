@@ -13,13 +13,9 @@ use Rattle.node.specs.Nodes.{Node, nodeAt, root, inside}
 use Rattle.node.specs.Find.{holds, ifPresent, andThen, find, findVr, ofVr, filled}
 use Rattle.element.specs.Tags
 use Rattle.element.specs.Tags.{US, SS, FL}
-use Rattle.element.specs.Elements.{valueAt, csIs, every, some}
-use Rattle.element.specs.Frames.{framesOf, frameItems, sharedItem, groupOf, maskItems}
+use Rattle.element.specs.Elements.{valueAt, every, some}
+use Rattle.element.specs.Frames.{framesOf, frameItems, sharedItem, groupOf, maskItems, operationIs}
 use Rattle.rules.specs.Frame.{hasId, uniqueIds}
-
--- A mask item's operation is the word.
-unfoldable pub operationIs : List Node → List ℕ → ℕ → Bool
-operationIs ns word j = csIs ns Tags.MaskOperation word (inside ns j)
 
 -- Rule 31. Mask Subtraction Sequence (0028,6100), if present, 1 to 16 (local rule) items; each Mask Operation (0028,6101) CS
 -- NONE, AVG_SUB or TID (local rule).

@@ -176,7 +176,7 @@ fn is_shift_item(bytes: &[u8], rows: &[u32], item: usize) -> bool
             element::tags::FL,
         ) {
             Num::Lacks => false,
-            Num::Is(k) => shift::is_shift(node::value(bytes, rows, k)),
+            Num::Is(k) => shift::is_frame_shift(node::value(bytes, rows, k)),
         }
     } else {
         false

@@ -13,12 +13,12 @@ use Rattle.value.specs.Number.{usOf, usValues, ssOf, digitsOf, signedBy, wholeO
 use Rattle.node.specs.Nodes.{nodesOf, members, membersBy}
 use Rattle.node.specs.Find.{find, ofVr, filled, has}
 use Rattle.element.specs.Elements.{oneItem, theItem, itemsIn, every, some, functionIn}
-use Rattle.element.specs.Frames.{framesOf, sharedItem, frameItems, maskItems}
+use Rattle.element.specs.Frames.{framesOf, sharedItem, frameItems, maskItems, operationIs}
 use Rattle.shift.specs.Shift.{movesOf}
 use Rattle.verdict.specs.Verdict.{perFrame}
 use Rattle.rules.specs.Root.{isXa, isXrf, imageTypeIs, isImageType, planesAre, photometricIs, bitsFit, lossyIs, isOriginal, rule1, rule2, rule3, rule4, rule5, rule6, rule7, rule8, rule9, rule10, rule11, rule12, rule13, rule14, rule15, rule16, rule17, rule18, rule19, rule20, rule21, rule22, rule23, rule24, rule25, rule26}
 use Rattle.rules.specs.Frame.{isShared, repeatsShared, item27, item28, item29, isWindow, hasWindow, isVoi, item30, item37, rule27, rule28, rule29, rule30, rule37}
-use Rattle.rules.specs.Mask.{operationIs, isOperation, isMask, rangeFits, allFrames, areMaskFrames, averageFits, averagesFit, isOffset, offsetFits, shiftFits, hasShiftGroup, anyShift, rule31, rule32, rule33, rule34, rule35, rule36}
+use Rattle.rules.specs.Mask.{isOperation, isMask, rangeFits, allFrames, areMaskFrames, averageFits, averagesFit, isOffset, offsetFits, shiftFits, hasShiftGroup, anyShift, rule31, rule32, rule33, rule34, rule35, rule36}
 use Rattle.rules.specs.Pixels.{isPixelVr, isPixelData, rule38}
 use Rattle.rules.specs.Intensity.{item39, rule39}
 use Rattle.rules.specs.All.{ruleList, ruleAt}

@@ -1,3 +1,4 @@
 pub mod Starred
 pub mod Later
 pub mod Mapped
+pub mod Lacking

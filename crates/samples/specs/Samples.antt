@@ -192,8 +192,9 @@ shows bytes frame image numbers after =
 
 -- ---- The samples
 
-abbrev pub samples : List Sample
-samples =
+-- Reading and windows.
+abbrev pub windowSamples : List Sample
+windowSamples =
     -- "No bytes: 0 rows; judged: 9, rule 1, frame 0."
     reads [] lent (done 0) lent
     ∷ judges [] [] (broken 0 1 0) []
@@ -211,6 +212,7 @@ samples =
     -- "Width 1, centre 50: 49 gives 0, 50 gives 255."
     ∷ levels monochrome2 (window 50 1) 49 0
     ∷ levels monochrome2 (window 50 1) 50 255
+    ∷ shows (oneFrame "MONOCHROME2 " "IDENTITY" (voi "50" "1 ") (49 ∷ 50 ∷ [])) 1 lent (shownNative 29) (0 ∷ 255 ∷ 9 ∷ 9 ∷ 9 ∷ 9 ∷ 9 ∷ 9 ∷ [])
     -- "Width 10, centre 40: 35, 36, 40, 44, 45 give 0, 28, 142, 255, 255; MONOCHROME1 makes 142 into 113."
     ∷ levels monochrome2 (window 40 10) 35 0
     ∷ levels monochrome2 (window 40 10) 36 28
@@ -225,8 +227,13 @@ samples =
     ∷ levels monochrome2 (fullWindow 8) 128 128
     ∷ levels monochrome2 (fullWindow 8) 255 255
     ∷ shows (oneFrame "MONOCHROME2 " "IDENTITY" noWindow (0 ∷ 128 ∷ 255 ∷ [])) 1 lent (shownNative 25) (0 ∷ 128 ∷ 255 ∷ 9 ∷ 9 ∷ 9 ∷ 9 ∷ 9 ∷ [])
+    ∷ []
+
+-- Masks.
+abbrev pub maskSamples : List Sample
+maskSamples =
     -- "Masks 90 and 91: 91; contrast 100, 8 bits: x = 137."
-    ∷ averages (90 ∷ 91 ∷ 100 ∷ []) (1 ∷ 2 ∷ []) 91
+    averages (90 ∷ 91 ∷ 100 ∷ []) (1 ∷ 2 ∷ []) 91
     ∷ subtracts (90 ∷ 91 ∷ 100 ∷ []) (1 ∷ 2 ∷ []) 3 137
     ∷ takes (threeFrames averageOfTwo 90 91 100) 3 (masked (1 ∷ 2 ∷ []) unmoved)
     ∷ shows (threeFrames averageOfTwo 90 91 100) 3 lent (shownMasked 35) (137 ∷ 9 ∷ 9 ∷ 9 ∷ 9 ∷ 9 ∷ 9 ∷ 9 ∷ [])
@@ -242,6 +249,9 @@ samples =
     ∷ takes (threeFrames (tid minusOne) 10 30 60) 2 (masked (3 ∷ []) unmoved)
     ∷ shows (threeFrames (tid minusOne) 10 30 60) 3 lent (shownNative 35) (60 ∷ 9 ∷ 9 ∷ 9 ∷ 9 ∷ 9 ∷ 9 ∷ 9 ∷ [])
     ∷ []
+
+abbrev pub samples : List Sample
+samples = windowSamples ++ maskSamples
 
 -- Cases of later requests, of our own.
 abbrev pub later : List Sample

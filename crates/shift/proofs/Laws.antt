@@ -1,5 +1,5 @@
 -- For callers: what a value in rule 35's form has, so that its shift moves the mask by quarters from -64 to 64.
-use mathlib.Core.Path.{_≡_, refl, sym, _∙_, subst}
+use mathlib.Core.Path.{_≡_, refl, sym, ap, _∙_, subst}
 use mathlib.Core.Bool.{Bool, true, false, _&&_, cond}
 use mathlib.Core.List.{List}
 use Prim.Native.Nat.{ℕ, _<_}
@@ -14,7 +14,7 @@ use Rattle.value.specs.Number.{isNumber}
 use Rattle.value.specs.Said.{SizeBelow}
 use Rattle.shift.specs.declared.Shift.{Shift}
 use Rattle.shift.specs.declared.Shift.the-variants as shift
-use Rattle.shift.specs.Shift.{floatAt, quartersOf, largestMove, isShort, shortOf, movesOf, shortMovesOf, isShiftOf, itemShift, frameShift, isShift}
+use Rattle.shift.specs.Shift.{floatAt, quartersOf, largestMove, isShort, shortOf, movesOf, shortMovesOf, isShiftOf, itemShift, frameShift, isShift, isFrameShift}
 use Rattle.shift.specs.Said.{ShortMoves}
 
 both : (p q : Bool) → p && q ≡ true → (p ≡ true) × (q ≡ true)
@@ -103,6 +103,11 @@ same-short-moves = same-of shortMovesOf (λ a b. refl)
 pub same-test : (v : List ℕ) → isShiftOf (itemShift v) ≡ isShiftOf (frameShift v)
 unfolding isShiftOf movesOf
 same-test = same-of isShiftOf (λ a b. refl)
+
+-- A frame's own numbers are tested as the item's are.
+pub as-item : (v : List ℕ) → isFrameShift v ≡ isShift v
+unfolding isShift isFrameShift
+as-item v = ap (λ (t : Bool). eqb (length v) 8 && t) (sym (same-test v))
 
 module _ (v : List ℕ) (is : isShift v ≡ true) where
   pub shift-length : length v ≡ 8

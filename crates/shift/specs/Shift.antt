@@ -78,3 +78,7 @@ frameShift v = cond (eqb (length v) 8) (shift.Frame (floatAt v 0) (floatAt v 4))
 -- Rule 35's form of a value: two numbers from -64 to 64, each a whole multiple of 1/4.
 unfoldable pub isShift : List ℕ → Bool
 isShift v = eqb (length v) 8 && isShiftOf (itemShift v)
+
+-- Rule 37's, of a frame's own numbers: as in rule 35.
+unfoldable pub isFrameShift : List ℕ → Bool
+isFrameShift v = eqb (length v) 8 && isShiftOf (frameShift v)

@@ -7,7 +7,7 @@ ghost use lib.ListN.{length};
 ghost use lib.Ieee.{ofBits, binary32, lt};
 ghost use Rattle.value.specs.Said.{Below, SizeBelow};
 ghost use Rattle.value.specs.Number.{isNumber};
-ghost use Rattle.shift.specs.Shift.{floatAt, shortOf, shortMovesOf, isShiftOf, itemShift, frameShift, isShift};
+ghost use Rattle.shift.specs.Shift.{floatAt, shortOf, shortMovesOf, isShiftOf, itemShift, frameShift, isShift, isFrameShift};
 ghost use Rattle.shift.specs.Said.{shortSize, tooFar, ShortMoves};
 use dataset::u32_at;
 use value::Num;
@@ -161,6 +161,17 @@ pub fn is_shift(v: &[u8]) -> bool
 {
     if v.len() == 8 {
         is_shift_of(item_shift(v))
+    } else {
+        false
+    }
+}
+
+// A value has rule 37's form.
+pub fn is_frame_shift(v: &[u8]) -> bool
+    ensures { λ r. ⌜ r ≡ isFrameShift (now (v .entry)) ⌝ }
+{
+    if v.len() == 8 {
+        is_shift_of(frame_shift(v))
     } else {
         false
     }

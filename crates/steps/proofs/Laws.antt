@@ -22,7 +22,7 @@ use Rattle.node.proofs.Walks.{members-end, members-next}
 use Rattle.shift.specs.declared.Shift.{Shift}
 use Rattle.element.specs.Tags
 use Rattle.element.specs.Elements.{first}
-use Rattle.rules.specs.Frame.{idIn}
+use Rattle.element.specs.Frames.{idIn}
 use Rattle.steps.specs.declared.Applying.the-variants.{Item, Nothing}
 use Rattle.steps.specs.declared.Found.{Found}
 use Rattle.steps.specs.declared.Found.the-variants as found

@@ -25,9 +25,7 @@ use Rattle.node.specs.Find.{find, findVr}
 use Rattle.element.specs.Tags
 use Rattle.element.specs.Tags.{CS, DS, FL, OB, OW, SS, US}
 use Rattle.element.specs.Elements.{valueAt, usIn, csIs, theItem, functionIn}
-use Rattle.element.specs.Frames.{framesOf, sharedItem, frameItem}
-use Rattle.rules.specs.Frame.{idIn}
-use Rattle.rules.specs.Mask.{operationIs}
+use Rattle.element.specs.Frames.{framesOf, sharedItem, frameItem, idIn, operationIs}
 use Rattle.pixel.specs.declared.Geometry.{Geometry}
 use Rattle.pixel.specs.Pixel.{samplesOf, isFrame, sampleAt, areInside, blendedAt}
 use Rattle.window.specs.declared.Window.{Window}

@@ -84,6 +84,9 @@ pub fn item_at(bytes: &[u8], rows: &[u32], frame: usize) -> Num
     ensures { λ r. ⌜ r ≡ frameItem (nodesOf (now (bytes .entry))) frame ⌝ }
     ensures { λ r. ⌜ Below (length (nodesOf (now (bytes .entry)))) r ⌝ }
 {
+    if frame < 1 {
+        return Num::Lacks;
+    }
     let items = element::frame_items(bytes, rows);
     let end = items.end;
     let mut at = items.at;

@@ -29,7 +29,7 @@ item-rule-requires c κs =
       (
         node-laws.within _ (c .before .before .shared .given .1) (p .1 .0),
         (
-          omega (arith, c .if1 .taken, p .1 .1 .1 .1 .1 .inner),
+          omega (arith, c .if1 .taken, p .1 .1 .1 .1 .1 .1 .inner),
           p .1 .1 .1 .0 ∙ ap (λ (x : Num). okFor (nodesOf (c .before .before .before .before .before .before .args .bytes .now)) (c .before .before .before .before .before .before .args .rule) x) (c .before .before .shared .given .1),
         ),
       ),
@@ -47,14 +47,14 @@ returns-2 : tie.Need-returns-2
 returns-2 c =
     let p = c .before .before .before .before .before .before .before .pre in
     let a = c .before .before .before .before .before .before .before .args in
-    rw (frames.asked (nodesOf (a .bytes .now)) (a .frame) (a .rule) (p .1 .1 .1 .1 .0), sym (p .1 .1 .0) ∙ c .before .before .before .shared .given .1, frames.item-here (nodesOf (a .bytes .now)) (a .frame) (a .items) (p .1 .1 .1 .1 .1) (c .before .if1 .taken)) (c .item-rule .ensures)
+    rw (frames.asked (nodesOf (a .bytes .now)) (a .frame) (a .rule) (p .1 .1 .1 .1 .0), sym (p .1 .1 .0) ∙ c .before .before .before .shared .given .1, frames.item-here (nodesOf (a .bytes .now)) (a .frame) (a .items) (p .1 .1 .1 .1 .1 .0) (p .1 .1 .1 .1 .1 .1) (c .before .if1 .taken)) (c .item-rule .ensures)
 
 -- src/lib.rt:50:1
 returns-3 : tie.Need-returns-3
 returns-3 c =
     let p = c .before .before .before .before .before .before .pre in
     let a = c .before .before .before .before .before .before .args in
-    rw (frames.asked (nodesOf (a .bytes .now)) (a .frame) (a .rule) (p .1 .1 .1 .1 .0), sym (p .1 .1 .0) ∙ c .before .before .shared .given .1, frames.item-none (nodesOf (a .bytes .now)) (a .frame) (a .items) (p .1 .1 .1 .1 .1) (c .if1 .left))
+    rw (frames.asked (nodesOf (a .bytes .now)) (a .frame) (a .rule) (p .1 .1 .1 .1 .0), sym (p .1 .1 .0) ∙ c .before .before .shared .given .1, frames.item-none (nodesOf (a .bytes .now)) (a .frame) (a .items) (p .1 .1 .1 .1 .1 .0) (p .1 .1 .1 .1 .1 .1) (c .if1 .left))
 
 pub frame-holds-spec : {M : Type 1} → statement M
 frame-holds-spec =

@@ -20,7 +20,7 @@ frame-holds-requires : tie.Need-frame-holds-requires
 frame-holds-requires c κs =
     let p = c .before .before .before .before .pre in
     let q = sym (c .before .per-frame .ensures) ∙ c .if1 .taken in
-    (p .0, (p .1 .0, (p .1 .1 .0, (p .1 .1 .1 .0, (q, p .1 .1 .1 .1 .along q)))))
+    (p .0, (p .1 .0, (p .1 .1 .0, (p .1 .1 .1 .0, (q, (p .1 .1 .1 .1 .from q, p .1 .1 .1 .1 .along q))))))
 
 -- src/lib.rt:108:9
 once-holds-requires : tie.Need-once-holds-requires

@@ -1,119 +1,134 @@
--- The loop keeps `Level.Here`, as that of the item reader does: each element that is read here is a value without rows.
 use Prim.Native.Nat.{_-_}
 use native.Mathlib.Omega.{arith}
 use borrow.Author.Needs.{needs}
-use mathlib.Core.Path.{refl, sym, _∙_}
+use mathlib.Core.Path.{refl, ap}
 use Rattle.dataset.specs.declared.Cursor.{Cursor}
-use Rattle.dataset.specs.Header.{cursor, elementAt}
-use Rattle.dataset.specs.Reading.{elementsAt, valueAt, moved}
+use Rattle.dataset.specs.Header.{moved, elementAt}
+use Rattle.dataset.specs.Reading.{elementsAt, valueAt}
 use Rattle.dataset.proofs.Level as level
 use Rattle.dataset.proofs.read_leaf.Statement.{statement}
 use Rattle.dataset.proofs.read_leaf.Tie as tie
+use Rattle.dataset.proofs.read_leaf.Reads as reads
+use Rattle.dataset.proofs.read_leaf.Lts as lts
+use Rattle.dataset.proofs.Cursor.element.Reads as element-reads
+use Rattle.dataset.proofs.Cursor.moved.Reads as moved-reads
+use Rattle.dataset.proofs.put_row.Reads as put-row-reads
 
 abbrev Inv-loop : tie.InvT-loop
-Inv-loop s levels rows₀ first end delimited at₀ n₀ least₀ rows at n least =
-    let c : Cursor = cursor at₀ end delimited in
-    level.Here (λ a l. elementAt s (moved c a) l levels) (valueAt levels s) (8 - levels) (elementsAt levels s first c) c first rows₀ rows at n least
+Inv-loop s levels rows₀ first here₀ n₀ least₀ rows here n least =
+    level.Along (λ a l. elementAt s (moved here₀ a) l levels) (valueAt levels s) (8 - levels) (elementsAt levels s first here₀) here₀ first rows₀ rows here n least
 
 abbrev μ-loop : tie.MeasureT-loop
-μ-loop s levels rows₀ first end delimited at₀ n₀ least₀ rows at n least = end - at
+μ-loop s levels rows₀ first here₀ n₀ least₀ rows here n least =
+    here .end - here .at
 
+-- src/lib.rt:384:5
 loop-holds : tie.Need-loop-holds Inv-loop μ-loop
 loop-holds c =
-    let start = c .before .before in
-    level.started _ _ _ _ (start .args .c) _ _ (start .args .s .now) (start .pre .start) (start .pre .stop) refl
+    (refl, level.started _ _ _ _ (c .before .before .args .c) _ _ (c .before .before .args .s .now) (c .before .before .pre .start) (c .before .before .pre .stop) refl)
 
+-- src/lib.rt:386:15
 element-requires : tie.Need-element-requires Inv-loop μ-loop
-element-requires c κs = omega (arith, c .loop .inv .high, c .before .before .before .pre .stop)
+element-requires c κs =
+    omega (arith, c .loop .inv .1 .high, ap (λ (x : Cursor). x .end) (c .loop .inv .0), c .before .before .before .pre .stop)
 
+-- src/lib.rt:387:27
 enum-known-code : tie.Need-enum-known-code Inv-loop μ-loop
-enum-known-code c = search needs
+enum-known-code c =
+    search needs
 
+-- src/lib.rt:388:17
 same-length : tie.Need-same-length Inv-loop μ-loop
-same-length c = c .before .before .before .before .loop .inv .kept
+same-length c =
+    c .before .before .before .before .loop .inv .1 .kept
 
+-- src/lib.rt:388:17
 returns : tie.Need-returns Inv-loop μ-loop
 returns c =
-    let turn = c .before .before .before .before in
-    let v = turn .before .before .before .args .c in
-    let q = c .before .code .given .1 in
-    let found = c .before .before .before .element .ensures in
-    level.refuses _ _ _ _ v _ _ (turn .loop .inv) (sym (found .0) ∙ q) (level.within (moved v (turn .loop .at)) q (found .1))
+    let a = c .before .before .before .before .before .before .before .args in
+    let there = level.stands (a .c) (c .before .before .before .before .loop .here) (λ (x : Cursor). elementAt (a .s .now) x (c .before .before .before .before .loop .least) (a .levels)) (c .before .before .before .before .loop .inv .0) (c .before .before .before .element .ensures) (c .before .code .given .1) in
+    level.refuses _ _ _ _ (a .c) _ _ (c .before .before .before .before .loop .inv .1) (there .0) (there .1)
 
+-- src/lib.rt:390:23
 enum-known-next : tie.Need-enum-known-next Inv-loop μ-loop
-enum-known-next c = search needs
+enum-known-next c =
+    search needs
 
+-- src/lib.rt:391:17
 same-length-2 : tie.Need-same-length-2 Inv-loop μ-loop
-same-length-2 c = c .before .before .before .before .loop .inv .kept
+same-length-2 c =
+    c .before .before .before .before .loop .inv .1 .kept
 
+-- src/lib.rt:391:17
 returns-2 : tie.Need-returns-2 Inv-loop μ-loop
 returns-2 c =
-    let turn = c .before .before .before .before in
-    let v = turn .before .before .before .args .c in
-    let q = c .before .next .given .1 in
-    let found = c .before .before .before .element .ensures in
-    let w = level.within (moved v (turn .loop .at)) q (found .1) in
-    level.ended _ _ _ _ v _ _ (turn .loop .inv) (sym (found .0) ∙ q) (w .0) (w .1)
+    let a = c .before .before .before .before .before .before .before .args in
+    let there = level.stands (a .c) (c .before .before .before .before .loop .here) (λ (x : Cursor). elementAt (a .s .now) x (c .before .before .before .before .loop .least) (a .levels)) (c .before .before .before .before .loop .inv .0) (c .before .before .before .element .ensures) (c .before .next .given .1) in
+    level.ended _ _ _ _ (a .c) _ _ (c .before .before .before .before .loop .inv .1) (there .0) (there .1 .0) (there .1 .1)
 
+-- src/lib.rt:393:26
 enum-known-tag : tie.Need-enum-known-tag Inv-loop μ-loop
-enum-known-tag c = search needs
+enum-known-tag c =
+    search needs
 
+-- src/lib.rt:395:21
 same-length-3 : tie.Need-same-length-3 Inv-loop μ-loop
-same-length-3 c = c .before .before .before .before .before .loop .inv .kept
+same-length-3 c =
+    c .before .before .before .before .before .loop .inv .1 .kept
 
+-- src/lib.rt:395:21
 returns-3 : tie.Need-returns-3 Inv-loop μ-loop
 returns-3 c =
-    let turn = c .before .before .before .before .before in
-    level.given-up _ _ _ _ (turn .before .before .before .args .c) _ _ (turn .loop .inv)
+    level.given-up _ _ _ _ (c .before .before .before .before .before .before .before .before .args .c) _ _ (c .before .before .before .before .before .loop .inv .1)
 
+-- src/lib.rt:399:64
 add-put-row : tie.Need-add-put-row Inv-loop μ-loop
 add-put-row c =
-    let turn = c .before .before .before .before .before .before in
-    let start = turn .before .before .before in
-    let i = turn .loop .inv in
-    let w = level.within (moved (start .args .c) (turn .loop .at)) (c .before .before .before .tag .given .1) (c .before .before .before .before .before .element .ensures .1) in
-    omega (arith, i .count, i .few, w, start .pre, start .good)
+    let a = c .before .before .before .before .before .before .before .before .before .args in
+    let there = level.stands (a .c) (c .before .before .before .before .before .before .loop .here) (λ (x : Cursor). elementAt (a .s .now) x (c .before .before .before .before .before .before .loop .least) (a .levels)) (c .before .before .before .before .before .before .loop .inv .0) (c .before .before .before .before .before .element .ensures) (c .before .before .before .tag .given .1) in
+    omega (arith, c .before .before .before .before .before .before .loop .inv .1 .count, c .before .before .before .before .before .before .loop .inv .1 .few, there .1, c .before .before .before .before .before .before .before .before .before .pre, c .before .before .before .before .before .before .before .before .before .good)
 
+-- src/lib.rt:399:17
 put-row-requires : tie.Need-put-row-requires Inv-loop μ-loop
 put-row-requires c κs =
-    let turn = c .before .before .before .before .before .before in
-    let start = turn .before .before .before in
-    let i = turn .loop .inv in
-    let w = level.within (moved (start .args .c) (turn .loop .at)) (c .before .before .before .tag .given .1) (c .before .before .before .before .before .element .ensures .1) in
-    omega (arith, w, i .count, i .few, start .pre)
+    let a = c .before .before .before .before .before .before .before .before .before .args in
+    let there = level.stands (a .c) (c .before .before .before .before .before .before .loop .here) (λ (x : Cursor). elementAt (a .s .now) x (c .before .before .before .before .before .before .loop .least) (a .levels)) (c .before .before .before .before .before .before .loop .inv .0) (c .before .before .before .before .before .element .ensures) (c .before .before .before .tag .given .1) in
+    omega (arith, c .before .before .before .before .before .before .loop .inv .1 .count, c .before .before .before .before .before .before .loop .inv .1 .few, there .1, c .before .before .before .before .before .before .before .before .before .pre)
 
+-- src/lib.rt:400:17
+moved-requires : tie.Need-moved-requires Inv-loop μ-loop
+moved-requires c κs =
+    search needs
+
+-- src/lib.rt:401:21
 add-n : tie.Need-add-n Inv-loop μ-loop
 add-n c =
-    let turn = c .before .before .before .before .before .before .before .before .before in
-    let start = turn .before .before .before in
-    let i = turn .loop .inv in
-    let w = level.within (moved (start .args .c) (turn .loop .at)) (c .before .before .before .before .before .before .tag .given .1) (c .before .before .before .before .before .before .before .before .element .ensures .1) in
-    omega (arith, i .count, i .few, w, start .pre, start .good)
+    let a = c .before .before .before .before .before .before .before .before .before .before .before .before .before .args in
+    let there = level.stands (a .c) (c .before .before .before .before .before .before .before .before .before .before .loop .here) (λ (x : Cursor). elementAt (a .s .now) x (c .before .before .before .before .before .before .before .before .before .before .loop .least) (a .levels)) (c .before .before .before .before .before .before .before .before .before .before .loop .inv .0) (c .before .before .before .before .before .before .before .before .before .element .ensures) (c .before .before .before .before .before .before .before .tag .given .1) in
+    omega (arith, c .before .before .before .before .before .before .before .before .before .before .loop .inv .1 .count, c .before .before .before .before .before .before .before .before .before .before .loop .inv .1 .few, there .1, c .before .before .before .before .before .before .before .before .before .before .before .before .before .pre, c .before .before .before .before .before .before .before .before .before .before .before .before .before .good)
 
+-- src/lib.rt:402:25
 add-least : tie.Need-add-least Inv-loop μ-loop
 add-least c =
-    let turn = c .before .before .before .before .before .before .before .before .before in
-    let start = turn .before .before .before in
-    let w = level.within (moved (start .args .c) (turn .loop .at)) (c .before .before .before .before .before .before .tag .given .1) (c .before .before .before .before .before .before .before .before .element .ensures .1) in
-    omega (arith, w)
+    let a = c .before .before .before .before .before .before .before .before .before .before .before .before .before .args in
+    let there = level.stands (a .c) (c .before .before .before .before .before .before .before .before .before .before .loop .here) (λ (x : Cursor). elementAt (a .s .now) x (c .before .before .before .before .before .before .before .before .before .before .loop .least) (a .levels)) (c .before .before .before .before .before .before .before .before .before .before .loop .inv .0) (c .before .before .before .before .before .before .before .before .before .element .ensures) (c .before .before .before .before .before .before .before .tag .given .1) in
+    omega (arith, there .1)
 
+-- src/lib.rt:384:5
 loop-less : tie.Need-loop-less Inv-loop μ-loop
 loop-less c =
-    let turn = c .before .before .before .before .before .before .before .before .before in
-    let start = turn .before .before .before in
-    let w = level.within (moved (start .args .c) (turn .loop .at)) (c .before .before .before .before .before .before .tag .given .1) (c .before .before .before .before .before .before .before .before .element .ensures .1) in
-    omega (arith, w, turn .loop .inv .high)
+    let a = c .before .before .before .before .before .before .before .before .before .before .before .before .before .args in
+    let there = level.stands (a .c) (c .before .before .before .before .before .before .before .before .before .before .loop .here) (λ (x : Cursor). elementAt (a .s .now) x (c .before .before .before .before .before .before .before .before .before .before .loop .least) (a .levels)) (c .before .before .before .before .before .before .before .before .before .before .loop .inv .0) (c .before .before .before .before .before .before .before .before .before .element .ensures) (c .before .before .before .before .before .before .before .tag .given .1) in
+    omega (arith, there .1, c .before .before .before .before .before .before .before .before .before .before .loop .inv .1 .high, ap (λ (x : Cursor). x .end) (c .moved .ensures), ap (λ (x : Cursor). x .at) (c .moved .ensures), ap (λ (x : Cursor). x .end) (c .before .before .before .before .before .before .before .before .before .before .loop .inv .0))
 
+-- src/lib.rt:384:5
 loop-again : tie.Need-loop-again Inv-loop μ-loop
 loop-again c =
-    let turn = c .before .before .before .before .before .before .before .before .before in
-    let v = turn .before .before .before .args .c in
-    let q = c .before .before .before .before .before .before .tag .given .1 in
-    let found = c .before .before .before .before .before .before .before .before .element .ensures in
-    let w = level.within (moved v (turn .loop .at)) q (found .1) in
-    let put = c .before .before .put-row in
-    level.again _ _ _ _ v _ _ (turn .loop .inv) (sym (found .0) ∙ q) w refl (put .kept .0)
-    (level.leaf _ _ _ _ (w .1 .0) (level.value-plain _ _ _ _ _ (c .before .before .before .before .if1 .left))) (put .ensures)
+    let a = c .before .before .before .before .before .before .before .before .before .before .before .before .before .args in
+    let there = level.stands (a .c) (c .before .before .before .before .before .before .before .before .before .before .loop .here) (λ (x : Cursor). elementAt (a .s .now) x (c .before .before .before .before .before .before .before .before .before .before .loop .least) (a .levels)) (c .before .before .before .before .before .before .before .before .before .before .loop .inv .0) (c .before .before .before .before .before .before .before .before .before .element .ensures) (c .before .before .before .before .before .before .before .tag .given .1) in
+    level.along _ _ _ _ (a .c) _ _ (c .before .before .before .before .before .before .before .before .before .before .loop .here) _ (c .before .before .before .before .before .before .before .before .before .before .loop .inv .0) (c .moved .ensures)
+    (level.again _ _ _ _ (a .c) _ _ (c .before .before .before .before .before .before .before .before .before .before .loop .inv .1) (there .0) (there .1) refl (c .before .before .before .put-row .kept .0)
+    (level.leaf _ _ _ _ (there .1 .1 .0) (level.value-plain _ _ _ _ _ (c .before .before .before .before .before .if1 .left))) (c .before .before .before .put-row .ensures))
 
 pub read-leaf-spec : {M : Type 1} → statement M
 read-leaf-spec =
@@ -134,6 +149,7 @@ read-leaf-spec =
     returns-3
     add-put-row
     put-row-requires
+    moved-requires
     add-n
     add-least
     loop-less

@@ -2,7 +2,6 @@ use mathlib.Core.Path.{_≡_, refl, sym, ap, _∙_, subst}
 use Rattle.display.proofs.Plan as plan
 use Rattle.node.specs.Nodes.{nodesOf}
 use mathlib.Core.Bool.{Bool}
-use Rattle.rules.specs.Mask.{operationIs}
 use Rattle.steps.specs.Steps.{maskBy}
 use borrow.Author.Needs.{needs}
 use Rattle.display.proofs.mask_by.Statement.{statement}
@@ -12,6 +11,7 @@ use Rattle.display.proofs.mask_by.Lts as lts
 use Rattle.display.proofs.average_by.Reads as average-by-reads
 use Rattle.display.proofs.tid_by.Reads as tid-by-reads
 use Rattle.element.proofs.cs_item.Reads as cs-item-reads
+use Rattle.element.specs.Frames.{operationIs}
 
 -- src/lib.rt:99:63
 slice-aggregate-cs-item : tie.Need-slice-aggregate-cs-item

@@ -9,7 +9,7 @@ use Rattle.rules_frame.proofs.is_shift_item.Lts as lts
 use Rattle.element.proofs.find_vr_item.Reads as find-vr-item-reads
 use Rattle.ids.proofs.has_id.Reads as has-id-reads
 use Rattle.node.proofs.value.Reads as value-reads
-use Rattle.shift.proofs.is_shift.Reads as is-shift-reads
+use Rattle.shift.proofs.is_frame_shift.Reads as is-frame-shift-reads
 
 -- src/lib.rt:131:8
 has-id-requires : tie.Need-has-id-requires
@@ -33,8 +33,8 @@ value-requires c κs =
     (c .before .before .before .before .before .before .before .before .pre .0, node-laws.within _ (c .before .k .given .1) (c .before .before .before .find-vr-item .ensures .1))
 
 -- src/lib.rt:134:27
-is-shift-requires : tie.Need-is-shift-requires
-is-shift-requires c κs = search needs
+is-frame-shift-requires : tie.Need-is-frame-shift-requires
+is-frame-shift-requires c κs = search needs
 
 -- src/lib.rt:127:1
 returns : tie.Need-returns
@@ -46,7 +46,7 @@ returns c =
 returns-2 : tie.Need-returns-2
 unfolding isShiftItem
 returns-2 c =
-    rw (← c .before .before .before .before .before .before .before .has-id .ensures, c .before .before .before .before .before .before .if1 .taken, node-laws.had (c .before .before .before .k .given .1) (c .before .before .before .before .before .find-vr-item .ensures .0), ← c .before .value .ensures) (c .is-shift .ensures)
+    rw (← c .before .before .before .before .before .before .before .has-id .ensures, c .before .before .before .before .before .before .if1 .taken, node-laws.had (c .before .before .before .k .given .1) (c .before .before .before .before .before .find-vr-item .ensures .0), ← c .before .value .ensures) (c .is-frame-shift .ensures)
 
 -- src/lib.rt:127:1
 returns-3 : tie.Need-returns-3
@@ -63,7 +63,7 @@ is-shift-item-spec =
     enum-told
     enum-known-k
     value-requires
-    is-shift-requires
+    is-frame-shift-requires
     returns
     returns-2
     returns-3)

@@ -1,9 +1,10 @@
 use mathlib.Core.Path.{refl, sym, _∙_}
 use Rattle.rules_mask.proofs.Laws as laws
-use Rattle.rules.specs.Mask.{averagesFit, operationIs}
+use Rattle.rules.specs.Mask.{averagesFit}
 use borrow.Author.Needs.{needs}
 use Rattle.rules_mask.proofs.averages_fit.Statement.{statement}
 use Rattle.rules_mask.proofs.averages_fit.Tie as tie
+use Rattle.element.specs.Frames.{operationIs}
 
 slice-aggregate-cs-item : tie.Need-slice-aggregate-cs-item
 slice-aggregate-cs-item c = search needs

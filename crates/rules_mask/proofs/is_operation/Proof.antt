@@ -1,9 +1,10 @@
 use mathlib.Core.Path.{sym, _∙_}
 use Rattle.rules_mask.proofs.Laws as laws
-use Rattle.rules.specs.Mask.{isOperation, operationIs}
+use Rattle.rules.specs.Mask.{isOperation}
 use borrow.Author.Needs.{needs}
 use Rattle.rules_mask.proofs.is_operation.Statement.{statement}
 use Rattle.rules_mask.proofs.is_operation.Tie as tie
+use Rattle.element.specs.Frames.{operationIs}
 
 slice-aggregate-cs-item : tie.Need-slice-aggregate-cs-item
 slice-aggregate-cs-item c = search needs

@@ -1,7 +1,8 @@
 use mathlib.Core.Path.{refl, sym, _∙_}
 use Rattle.rules_mask.proofs.Laws as laws
 use Rattle.node.proofs.Laws as node-laws
-use Rattle.rules.specs.Mask.{offsetFits, operationIs}
+use Rattle.element.specs.Frames.{operationIs}
+use Rattle.rules.specs.Mask.{offsetFits}
 use borrow.Author.Needs.{needs}
 use Rattle.rules_mask.proofs.offset_fits.Statement.{statement}
 use Rattle.rules_mask.proofs.offset_fits.Tie as tie

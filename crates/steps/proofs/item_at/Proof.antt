@@ -6,6 +6,7 @@ use Rattle.element.specs.Frames.{frameItem}
 use borrow.Author.Needs.{needs}
 use mathlib.Core.Path.{_≡_, sym, _∙_}
 use native.Mathlib.Omega.{arith}
+use borrow.Author.Tests.{le-leb, lt-leb}
 use Rattle.steps.proofs.Laws as laws
 use Rattle.steps.proofs.item_at.Statement.{statement}
 use Rattle.steps.proofs.item_at.Tie as tie
@@ -18,16 +19,20 @@ abbrev μ-loop : tie.MeasureT-loop
 μ-loop bytes rows frame end at₀ k₀ at k =
     frame - k
 
+returns : tie.Need-returns Inv-loop μ-loop
+returns c =
+    (rw (lt-leb 1 _ (c .if1 .taken)), tt)
+
 frame-items-requires : tie.Need-frame-items-requires Inv-loop μ-loop
 frame-items-requires c κs = search needs
 
 loop-holds : tie.Need-loop-holds Inv-loop μ-loop
 loop-holds c =
-    (rw (← c .frame-items .ensures .ahead), (c .frame-items .ensures .inner, omega arith))
+    (rw (le-leb 1 _ (c .before .if1 .left), ← c .frame-items .ensures .ahead), (c .frame-items .ensures .inner, omega arith))
 
 next-requires : tie.Need-next-requires Inv-loop μ-loop
 next-requires c κs =
-    (c .before .before .before .before .before .before .pre, omega (arith, c .if1 .taken, c .before .before .loop .inv .1 .0))
+    (c .before .before .before .before .before .before .before .pre, omega (arith, c .if2 .taken, c .before .before .loop .inv .1 .0))
 
 add-k : tie.Need-add-k Inv-loop μ-loop
 add-k c = search needs
@@ -37,19 +42,19 @@ loop-less c = search needs
 
 loop-again : tie.Need-loop-again Inv-loop μ-loop
 loop-again c =
-    (sym (laws.first-later _ _ _ _ _ _ (c .next .ensures .0) (c .before .before .loop-test .taken) (c .before .if1 .taken)) ∙ c .before .before .before .loop .inv .0, (c .before .before .before .loop .inv .1 .0, omega arith))
-
-returns : tie.Need-returns Inv-loop μ-loop
-returns c =
-    (sym (laws.first-none (nodesOf (c .before .before .before .before .before .before .args .bytes .now)) _ _ (c .before .before .before .before .before .before .args .frame - c .before .before .loop .k) (c .if1 .left)) ∙ c .before .before .loop .inv .0, tt)
+    (sym (laws.first-later _ _ _ _ _ _ (c .next .ensures .0) (c .before .before .loop-test .taken) (c .before .if2 .taken)) ∙ c .before .before .before .loop .inv .0, (c .before .before .before .loop .inv .1 .0, omega arith))
 
 returns-2 : tie.Need-returns-2 Inv-loop μ-loop
 returns-2 c =
-    (sym (laws.first-at _ _ _ _ _ (c .before .loop-test .left) (c .if2 .taken)) ∙ c .before .before .loop .inv .0, omega (arith, c .if2 .taken, c .before .before .loop .inv .1 .0))
+    (sym (laws.first-none (nodesOf (c .before .before .before .before .before .before .before .args .bytes .now)) _ _ (c .before .before .before .before .before .before .before .args .frame - c .before .before .loop .k) (c .if2 .left)) ∙ c .before .before .loop .inv .0, tt)
 
 returns-3 : tie.Need-returns-3 Inv-loop μ-loop
 returns-3 c =
-    (sym (laws.first-none (nodesOf (c .before .before .before .before .before .before .args .bytes .now)) _ _ (c .before .before .before .before .before .before .args .frame - c .before .before .loop .k) (c .if2 .left)) ∙ c .before .before .loop .inv .0, tt)
+    (sym (laws.first-at _ _ _ _ _ (c .before .loop-test .left) (c .if3 .taken)) ∙ c .before .before .loop .inv .0, omega (arith, c .if3 .taken, c .before .before .loop .inv .1 .0))
+
+returns-4 : tie.Need-returns-4 Inv-loop μ-loop
+returns-4 c =
+    (sym (laws.first-none (nodesOf (c .before .before .before .before .before .before .before .args .bytes .now)) _ _ (c .before .before .before .before .before .before .before .args .frame - c .before .before .loop .k) (c .if3 .left)) ∙ c .before .before .loop .inv .0, tt)
 
 pub item-at-spec : {M : Type 1} → statement M
-item-at-spec = tie.close (tie.spec Inv-loop μ-loop frame-items-requires loop-holds next-requires add-k loop-less loop-again returns returns-2 returns-3)
+item-at-spec = tie.close (tie.spec Inv-loop μ-loop returns frame-items-requires loop-holds next-requires add-k loop-less loop-again returns-2 returns-3 returns-4)
