@@ -88,4 +88,6 @@ class StandIn:
 
     def xa_read_slip(self, slip, slip_length):
         code, verdict = self.read_slip(ctypes.string_at(slip, slip_length))
-        return SlipStruct(code, AnswerStruct(*verdict))
+        if verdict.rows is None:
+            return SlipStruct(code, 0, AnswerStruct(*verdict._replace(rows=ROWS_NOT_KNOWN)))
+        return SlipStruct(code, 1 if code == 0 else 0, AnswerStruct(*verdict))

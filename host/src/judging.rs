@@ -74,7 +74,7 @@ impl Report {
                     fields.push_str(&format!(",\"hint\":{}", json_text(head::HINT)));
                 }
             }
-            Err(trouble) => fields.push_str(&format!(",\"verdict\":\"none\",\"error\":{}", json_text(trouble))),
+            Err(trouble) => fields.push_str(&trouble_fields(trouble)),
         }
         match &self.slip {
             Some((slip, None)) => fields.push_str(&format!(",{}", path_fields("slip", slip))),

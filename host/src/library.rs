@@ -26,6 +26,7 @@ pub struct Answer {
 #[derive(Clone, Copy, Debug, PartialEq, Eq)]
 pub struct Slip {
     pub code: u32,
+    rows_known: u32,
     pub verdict: Answer,
 }
 
@@ -133,7 +134,7 @@ pub fn linear(data: &[u8], frame: u64, rows: &mut [u32], values: &mut [u16]) -> 
 /// Writes the slip of a verdict; answers the code.
 pub fn write_slip(verdict: Answer, slip: &mut [u8]) -> u32 {
     // Sound: the verdict goes by value, and the call writes within `slip` alone.
-    unsafe { xa_write_slip(verdict, slip.as_mut_ptr(), slip.len()) }
+    unsafe { xa_write_slip(verdict, 1, slip.as_mut_ptr(), slip.len()) }
 }
 
 /// The verdict that a slip records.

@@ -98,19 +98,24 @@ fn tree(table: Table, out: &mut dyn Write) -> io::Result<()> {
 pub fn read_slips(paths: &[PathBuf], out: &mut dyn Write) -> io::Result<Status> {
     let mut status = Status::Fine;
     for path in paths {
-        let read = Opened::open(path).and_then(|opened| {
-            let slip = library::read_slip(opened.bytes());
-            opened.unchanged().map(|()| slip)
-        });
-        let (text, end) = match read {
-            Ok(slip) if slip.code != 0 => {
-                (format!("code {}: {}", slip.code, sentences::code(slip.code)), Status::Refused)
+        let (text, fields, end) = match slip_in(path) {
+            Ok(slip) => {
+                let (verdict, rows) = (&slip.verdict, slip.rows());
+                let end = if verdict.code == 0 { Status::Fine } else { Status::Refused };
+                (sentences::slip(verdict, rows), answer_fields(verdict, rows), end)
+            }
+            Err((trouble, end)) => {
+                let fields = trouble_fields(&trouble);
+                (trouble, fields, end)
             }
             Ok(slip) if slip.verdict.code != 0 => (sentences::answer(&slip.verdict, 0), Status::Refused),
             Ok(slip) => (sentences::answer(&slip.verdict, 0), Status::Fine),
             Err(trouble) => (trouble, Status::Failed),
         };
-        line(out, path, &text)?;
+        match json {
+            true => writeln!(out, "{{{}{fields}}}", path_fields("path", path))?,
+            false => line(out, path, &text)?,
+        }
         status = status.max(end);
     }
     Ok(status)
