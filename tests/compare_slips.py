@@ -61,28 +61,38 @@ def check_read(comparison, slip):
 
 
 def compare_writing(comparison, rng):
-    """Every boundary of every field, in all combinations; the buffer 13 bytes or another length."""
+    """Every boundary of every field, in all combinations; the buffer 17 bytes or another length."""
     for code, rule, frame, offset in itertools.product(CODES, RULES, FRAMES, OFFSETS):
         interesting = slips.possible(code, rule, frame, offset) or rng.random() < 0.1
         if interesting:
-            verdict = Answer(code, offset, 0, rule, frame, 0)
-            written = check_write(comparison, verdict, rng.choice((13, 13, 14, 20)))
+            verdict = Answer(code, offset, rng.choice(ROWS) if code in (0, 9) else 0, rule, frame, 0)
+            written = check_write(comparison, verdict, rng.choice((17, 17, 18, 24)))
             if written:
                 comparison.must_equal(f"written and read back {verdict}", comparison.library.read_slip(written), (0, verdict, None))
             if rng.random() < 0.2:
-                check_write(comparison, verdict, rng.randrange(13))
-    for length in range(21):
-        for verdict in (Answer(0), Answer(2, offset=10), Answer(9, rule=26), Answer(9, rule=37, frame=812), Answer(9, rule=37),
-                        Answer(9, rule=39, frame=812), Answer(9, rule=39), Answer(10)):
+                check_write(comparison, verdict, rng.randrange(17))
+    for code, rule, frame, offset in one_field_changed():
+        check_write(comparison, Answer(code, offset, 0, rule, frame, 0), 17)
+    for length in range(25):
+        for verdict in (Answer(0, rows=57), Answer(2, offset=10), Answer(9, rule=26), Answer(9, rule=37, frame=812, rows=57), Answer(9, rule=37),
+                        Answer(9, rule=39, frame=812, rows=57), Answer(9, rule=39), Answer(10), Answer(3, rows=1), Answer(0, rows=2 ** 27 + 1)):
             check_write(comparison, verdict, length)
+            check_write(comparison, verdict._replace(rows=None), length)
+    # Every boundary of the row count with each verdict, known by each flag; masked or native plays no part.
+    for (code, rule, frame, offset), rows in itertools.product(((10, 0, 0, 0), *VERDICTS), ROWS):
+        for masked in (0, 1, 2 ** 32 - 1):
+            verdict = Answer(code, offset, rows, rule, frame, masked)
+            check_write(comparison, verdict, 17, flag=rng.choice(KNOWN_FLAGS))
+            check_write(comparison, verdict._replace(rows=None), 17, unknown=rows)
+            check_write(comparison, verdict._replace(rows=None), rng.randrange(17), unknown=rows)
 
 
 def compare_reading(comparison, rng, count):
-    good = [slips.slip_bytes(*fields) for fields in
-            ((0, 0, 0, 0), (7, 0, 0, 0), (2, 0, 0, 10), (6, 0, 0, 2 ** 30), (9, 26, 0, 0), (9, 27, 1, 0), (9, 37, 65535, 0), (9, 38, 0, 0), (9, 39, 1, 0))]
+    good = [slips.slip_bytes(*fields, rows) for fields in VERDICTS
+            for rows in (None, *((0, 57, 2 ** 27) if fields[0] in (0, 9) else (0,)))]
     for slip in good:
-        for length in range(21):
-            check_read(comparison, (slip + bytes(8))[:length])
+        for length in range(25):
+            check_read(comparison, (slip + bytes(12))[:length])
             check_read(comparison, (slip + slip)[:length])
         for position in range(len(slip)):
             for value in range(256):

@@ -38,7 +38,6 @@ class SlipStruct(ctypes.Structure):
 
 ROWS_NOT_KNOWN = 0xFFFFFFFF  # XA_ROWS_NOT_KNOWN of the header
 
-
 SIGNATURES = {
     "xa_read": (AnswerStruct, [ctypes.c_void_p, ctypes.c_size_t, ctypes.c_void_p, ctypes.c_size_t]),
     "xa_judge": (AnswerStruct, [ctypes.c_void_p, ctypes.c_size_t, ctypes.c_void_p, ctypes.c_size_t]),
@@ -50,7 +49,7 @@ SIGNATURES = {
                                  ctypes.c_void_p, ctypes.c_size_t]),
     "xa_root_level": (ctypes.c_uint8, [ctypes.c_uint64]),
     "xa_root_entry": (ctypes.c_uint16, [ctypes.c_uint8]),
-    "xa_write_slip": (ctypes.c_uint32, [AnswerStruct, ctypes.c_void_p, ctypes.c_size_t]),
+    "xa_write_slip": (ctypes.c_uint32, [AnswerStruct, ctypes.c_uint32, ctypes.c_void_p, ctypes.c_size_t]),
     "xa_read_slip": (SlipStruct, [ctypes.c_void_p, ctypes.c_size_t]),
 }
 

@@ -232,12 +232,12 @@ class Rules(unittest.TestCase):
 
 class Slips(unittest.TestCase):
     def test_written_bytes(self):
-        cases = [(Answer(0, rows=57), "58 41 56 01 00 00 00 00 00 00 00 00 00"),
-                 (Answer(2, offset=10), "58 41 56 01 00 02 00 00 00 0A 00 00 00"),
-                 (Answer(9, rule=37, frame=812, rows=5), "58 41 56 01 00 09 25 2C 03 00 00 00 00"),
-                 (Answer(9, rule=26), "58 41 56 01 00 09 1A 00 00 00 00 00 00"),
-                 (Answer(9, rule=39, frame=2), "58 41 56 01 00 09 27 02 00 00 00 00 00"),
-                 (Answer(6, offset=2 ** 30), "58 41 56 01 00 06 00 00 00 00 00 00 40")]
+        cases = [(Answer(0, rows=57), "58 41 56 02 00 00 00 00 00 00 00 00 00 39 00 00 00"),
+                 (Answer(2, offset=10), "58 41 56 02 00 02 00 00 00 0A 00 00 00 00 00 00 00"),
+                 (Answer(9, rule=37, frame=812, rows=258), "58 41 56 02 00 09 25 2C 03 00 00 00 00 02 01 00 00"),
+                 (Answer(9, rule=26), "58 41 56 02 00 09 1A 00 00 00 00 00 00 00 00 00 00"),
+                 (Answer(9, rule=39, frame=2, rows=2 ** 27), "58 41 56 02 00 09 27 02 00 00 00 00 00 00 00 00 08"),
+                 (Answer(6, offset=2 ** 30), "58 41 56 02 00 06 00 00 00 00 00 00 40 00 00 00 00")]
         for answer, text in cases:
             for length in (17, 30):
                 self.assertEqual(slips.write_slip(answer, length), (0, bytes.fromhex(text)))
@@ -248,8 +248,9 @@ class Slips(unittest.TestCase):
         for answer in (Answer(10), Answer(0, rule=1), Answer(0, offset=1), Answer(7, frame=1), Answer(2, offset=2 ** 30 + 1),
                        Answer(3, rule=1), Answer(9), Answer(9, rule=39), Answer(9, rule=40), Answer(9, rule=40, frame=1), Answer(9, rule=26, frame=1), Answer(9, rule=27),
                        Answer(9, rule=31, frame=1), Answer(9, rule=30, frame=65536), Answer(9, rule=1, offset=4), Answer(256),
-                       Answer(265, rule=1), Answer(9, rule=257)):
-            for length in (0, 13, 20):
+                       Answer(265, rule=1), Answer(9, rule=257), Answer(0, rows=None), Answer(2, rows=None), Answer(9, rule=26, rows=None),
+                       Answer(0, rows=2 ** 27 + 1), Answer(9, rule=26, rows=2 ** 27 + 1), Answer(1, rows=1), Answer(7, rows=1), Answer(8, rows=57)):
+            for length in (0, 13, 17, 20):
                 self.assertEqual(slips.write_slip(answer, length), (14, b""), answer)
 
     def test_refused_slips(self):

@@ -5,7 +5,7 @@ With no fault it must pass every comparison; with a fault it must fail one. So i
 
 import ctypes
 
-from library import AnswerStruct, RewrittenStruct, SlipStruct, answer_of
+from library import ROWS_NOT_KNOWN, AnswerStruct, RewrittenStruct, SlipStruct, answer_of
 from reference import canonical, drawing, intensity, reading, rules, slips
 
 
@@ -81,8 +81,9 @@ class StandIn:
         self.after(outcome, data, rows, rows_length)
         return AnswerStruct(*outcome.answer)
 
-    def xa_write_slip(self, verdict, slip, slip_length):
-        code, written = self.write_slip(answer_of(verdict), slip_length)
+    def xa_write_slip(self, verdict, rows_known, slip, slip_length):
+        verdict = answer_of(verdict)
+        code, written = self.write_slip(verdict if rows_known else verdict._replace(rows=None), slip_length)
         write(slip, written)
         return code
 

@@ -215,7 +215,7 @@ fn run(command: Command, out: &mut dyn Write) -> io::Result<Status> {
             check_picture(output.as_deref());
             picture::linear(&file, frame, output.as_deref(), out)
         }
-        Command::Slip { command: SlipCommand::Read { files } } => listing::read_slips(&files, out),
+        Command::Slip { command: SlipCommand::Read { files, json } } => listing::read_slips(&files, json, out),
         Command::Demo { folder } => demo::run(&folder, processors(), out),
     }
 }

@@ -41,16 +41,6 @@ pub fn note_of(path: &Path, text: &str) {
     let _ = io::stderr().write_all(&whole);
 }
 
-/// A path as a JSON field. Where it is not UTF-8, its bytes follow in hexadecimal, since no JSON string can hold them.
-pub fn path_fields(name: &str, path: &Path) -> String {
-    let mut fields = format!("\"{name}\":{}", json_text(&path.to_string_lossy()));
-    if path.to_str().is_none() {
-        let digits: String = path.as_os_str().as_bytes().iter().map(|byte| format!("{byte:02x}")).collect();
-        fields.push_str(&format!(",\"{name}_hex\":\"{digits}\""));
-    }
-    fields
-}
-
 /// An answer as JSON fields: `verdict`, its numbers and its sentence. A row count that is not known is `null`.
 pub fn answer_fields(answer: &Answer, rows: Option<u32>) -> String {
     let verdict = if answer.code == 0 { "accepted" } else { "refused" };

@@ -19,8 +19,8 @@ MOST_ROWS = 134_217_728
 def possible(code, rule, frame, offset):
     """Whether the fields are those of a verdict.
 
-    "Possible: code 0, 7 or 8, rest 0; 1-6 with place up to 1,073,741,824, rest 0; 9 with rule 1-39, place 0, frame 1 to
-    65,535 for rules 27-30 and 37, else 0."
+    "Possible: code 0, 7 or 8, rest 0; 1-6 with place up to 1,073,741,824, rest 0; 9 with rule 1-38, place 0, frame 1 to
+    65,535 for rules 27-30 and 37, else 0." Q-8: "Slips take rule 39, with a frame of at least 1."
     """
     if code in (0, 7, 8):
         return rule == 0 and frame == 0 and offset == 0

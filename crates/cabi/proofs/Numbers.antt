@@ -12,7 +12,7 @@ use Rattle.dataset.specs.declared.ReadAnswer.{ReadAnswer}
 use Rattle.dataset.specs.Reading.{readingOf}
 use Rattle.dataset.specs.Answer.{answerOf}
 use Rattle.dataset.proofs.Laws.{Small as SmallAnswer, answer-small}
-use Rattle.verdict.specs.Verdict.{possible}
+use Rattle.verdict.specs.Verdict.{possible, writable}
 use Rattle.verdict.specs.declared.RowCount.{RowCount}
 use Rattle.verdict.specs.declared.RowCount.the-variants.{Known, NotKnown}
 use Rattle.verdict.specs.declared.Verdict.{Verdict}
@@ -37,7 +37,7 @@ use Rattle.slip.specs.declared.SlipAnswer.{SlipAnswer}
 use Rattle.slip.specs.declared.SlipAnswer.the-variants as read
 use Rattle.slip.specs.declared.WriteAnswer.{WriteAnswer}
 use Rattle.slip.specs.declared.WriteAnswer.the-variants as write
-use Rattle.slip.specs.Slip.{mark, version, oldVersion, versionAt, rowsAt, headSize, oldSize, slipSize, number, equal, fieldsOf, ifPossible, readSized, readVersion, readOf, writable, writeOf}
+use Rattle.slip.specs.Slip.{mark, version, oldVersion, versionAt, rowsAt, headSize, oldSize, slipSize, number, equal, fieldsOf, ifPossible, readSized, readVersion, readOf, writeOf}
 use Rattle.slip.proofs.Slips.{slips}
 use Rattle.cabi.specs.Host.{writeCode, rowsNumber, slipAnswer, Narrow, Fits32, LinearFits32}
 

@@ -17,7 +17,7 @@ use Rattle.dataset.proofs.Laws.{answer-small}
 use Rattle.dataset.proofs.Laws.{Small as SmallAnswer}
 use Rattle.value.specs.declared.Num.{Num}
 use Rattle.value.specs.declared.Num.the-variants.{Is, Lacks}
-use Rattle.verdict.specs.Verdict.{lastRule, lastFrame, perFrame, frameFits, mostRows, fieldsFit, countFits, possible}
+use Rattle.verdict.specs.Verdict.{lastRule, lastFrame, perFrame, frameFits, mostRows, fieldsFit, countFits, possible, writable}
 use Rattle.verdict.proofs.Tests.{false-is-true, and-both, or-either}
 use Rattle.verdict.proofs.Bounds.{Small, possible-small}
 use Rattle.node.specs.Nodes.{Node, nodesOf}
@@ -100,6 +100,7 @@ possible-answer s buffer =
 
 -- The claim.
 pub judge-possible : JudgePossible
+unfolding writable
 judge-possible s buffer = rw (possible-answer s buffer)
 
 -- ---- The numbers of an answer are small

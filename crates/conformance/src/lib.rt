@@ -201,12 +201,12 @@ pub fn verdict_of(answer: JudgeAnswer) -> Verdict
             offset: 0,
             rows: RowCount::Known(n),
         },
-        JudgeAnswer::Broken(n, rule, frame) => Verdict {
+        JudgeAnswer::Broken(rows, rule, frame) => Verdict {
             code: 9,
             rule,
             frame,
             offset: 0,
-            rows: RowCount::Known(n),
+            rows: RowCount::Known(rows),
         },
         JudgeAnswer::Refused(code, offset) => Verdict {
             code,

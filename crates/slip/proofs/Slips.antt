@@ -12,15 +12,15 @@ use mathlib.Core.List.{List, [], _∷_, _++_}
 use lib.ListN.{length, take, drop, getD}
 use lib.Seq.{take-at}
 use lib.Dec.{eqb, leb}
-use Rattle.verdict.specs.Verdict.{fieldsFit, possible, isKnown, withoutCount}
+use Rattle.verdict.specs.Verdict.{fieldsFit, possible, isKnown, writable, withoutCount}
 use Rattle.verdict.specs.declared.RowCount.{RowCount}
 use Rattle.verdict.specs.declared.RowCount.the-variants.{Known, NotKnown}
 use Rattle.verdict.specs.declared.Verdict.{Verdict}
 use Rattle.verdict.proofs.Tests.{false-is-true, and-both}
-use Rattle.verdict.proofs.Bounds.{Small, possible-parts, possible-small, possible-rows}
+use Rattle.verdict.proofs.Bounds.{Small, possible-small, possible-rows}
 use Rattle.slip.specs.declared.SlipAnswer.{SlipAnswer}
 use Rattle.slip.specs.declared.SlipAnswer.the-variants as read
-use Rattle.slip.specs.Slip.{mark, version, oldVersion, versionAt, codeAt, ruleAt, frameAt, offsetAt, rowsAt, headSize, oldSize, slipSize, le, number, fieldBytes, slipWith, slipBy, slipOf, equal, fieldsOf, ifPossible, readSized, readVersion, readOf, writable, bufferOf}
+use Rattle.slip.specs.Slip.{mark, version, oldVersion, versionAt, codeAt, ruleAt, frameAt, offsetAt, rowsAt, headSize, oldSize, slipSize, le, number, fieldBytes, slipWith, slipBy, slipOf, equal, fieldsOf, ifPossible, readSized, readVersion, readOf, bufferOf}
 use Rattle.slip.specs.Version1.{oldSlipOf}
 use Rattle.slip.specs.Slips.{Bytes, Slips}
 use Rattle.slip.proofs.Laws.{length-slip}
@@ -129,13 +129,13 @@ buffer-back v buffer h room =
     (rw (take-at (slipOf v) (drop slipSize buffer) slipSize (slip-length v h)) (read-back v h))
 
 -- The bytes of version 1 read as the verdict without its count.
-old-read : (v : Verdict) → possible v ≡ true → readOf (oldSlipOf v) ≡ read.Read (withoutCount v)
+old-read : (v : Verdict) → fieldsFit v ≡ true → readOf (oldSlipOf v) ≡ read.Read (withoutCount v)
 unfolding possible fieldsFit fieldBytes le
 old-read v h =
     let w : Verdict = withoutCount v in
     let s : List ℕ = oldSlipOf v in
     let l = old-length v in
-    let p : possible w ≡ true = rw (possible-parts v h .0) in
+    let p : possible w ≡ true = rw h in
     begins s (omega arith) (mark-back oldVersion v [])
     ∙ as-old s (old-version-back v [])
     ∙ sized oldSize NotKnown s w l (fields-back oldVersion w (possible-small w p) [] NotKnown refl) p

@@ -5,7 +5,7 @@ use mathlib.Core.Bool.{Bool, true, false, cond, not, _&&_}
 use mathlib.Core.List.{List, [], _∷_, _++_}
 use lib.ListN.{length, take, drop, getD}
 use lib.Dec.{eqb, leb}
-use Rattle.verdict.specs.Verdict.{possible, isKnown}
+use Rattle.verdict.specs.Verdict.{possible, writable}
 use Rattle.verdict.specs.declared.RowCount.{RowCount}
 use Rattle.verdict.specs.declared.RowCount.the-variants.{Known, NotKnown}
 use Rattle.verdict.specs.declared.Verdict.{Verdict}
@@ -120,10 +120,6 @@ readOf s =
     (readVersion (number 2 s versionAt) s)
 
 -- ---- Writing: 14, for a count that is not known too; then 11
-
--- What a slip can record: a possible verdict whose row count is known.
-unfoldable pub writable : Verdict → Bool
-writable v = possible v && isKnown (v .rows)
 
 unfoldable pub writeOf : Verdict → List ℕ → WriteAnswer
 writeOf v buffer =

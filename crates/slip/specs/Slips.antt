@@ -1,18 +1,18 @@
 -- What slips are good for, as one statement. A verdict that a slip can record, written and read back, is the same verdict with
 -- the same row count, also from the first 17 bytes of the buffer that it was written to. Two different ones never share
 -- their bytes. Whatever reads well is a possible verdict. Bytes that read as version 2 are what writing that verdict gives.
--- The bytes that version 1 wrote for a possible verdict read as the same verdict with the row count not known; and bytes that
--- read as version 1 are such bytes, and say no row count.
+-- The bytes that version 1 wrote for a verdict that it could record read as the same verdict with the row count not known; and
+-- bytes that read as version 1 are such bytes, and say no row count.
 use mathlib.Core.Path.{_≡_}
 use mathlib.Core.Bool.{true}
 use mathlib.Core.List.{List}
 use Prim.Native.Nat.{ℕ, _≤_, _<_}
 use lib.ListN.{length, take, getD}
-use Rattle.verdict.specs.Verdict.{possible, withoutCount}
+use Rattle.verdict.specs.Verdict.{fieldsFit, possible, writable, withoutCount}
 use Rattle.verdict.specs.declared.RowCount.the-variants.{NotKnown}
 use Rattle.verdict.specs.declared.Verdict.{Verdict}
 use Rattle.slip.specs.declared.SlipAnswer.the-variants as read
-use Rattle.slip.specs.Slip.{version, oldVersion, versionAt, slipSize, number, slipOf, readOf, writable, bufferOf}
+use Rattle.slip.specs.Slip.{version, oldVersion, versionAt, slipSize, number, slipOf, readOf, bufferOf}
 use Rattle.slip.specs.Version1.{oldSlipOf}
 
 -- Every element is a byte.
@@ -27,6 +27,6 @@ pub record Slips : Type 0 where
   pub read-possible : (s : List ℕ) (v : Verdict) → readOf s ≡ read.Read v → possible v ≡ true
   pub write-back : (s : List ℕ) (v : Verdict) → Bytes s → readOf s ≡ read.Read v → number 2 s versionAt ≡ version
       → (writable v ≡ true) × (s ≡ slipOf v)
-  pub old-read : (v : Verdict) → possible v ≡ true → readOf (oldSlipOf v) ≡ read.Read (withoutCount v)
+  pub old-read : (v : Verdict) → fieldsFit v ≡ true → readOf (oldSlipOf v) ≡ read.Read (withoutCount v)
   pub old-back : (s : List ℕ) (v : Verdict) → Bytes s → readOf s ≡ read.Read v → number 2 s versionAt ≡ oldVersion
       → (v .rows ≡ NotKnown) × (s ≡ oldSlipOf v)

@@ -67,6 +67,10 @@ abbrev pub isKnown : RowCount → Bool
 isKnown (Known n) = true
 isKnown NotKnown = false
 
+-- What a slip can record: a possible verdict whose row count is known.
+unfoldable pub writable : Verdict → Bool
+writable v = possible v && isKnown (v .rows)
+
 -- The same verdict with a row count that is not known.
 abbrev pub withoutCount : Verdict → Verdict
 withoutCount v = record { code = v .code; rule = v .rule; frame = v .frame; offset = v .offset; rows = NotKnown }

@@ -1,7 +1,8 @@
 -- `write_slip` answers `writeOf` and leaves `bufferOf`: it tests in the order 14, 11, and stores only after all tests.
 use mathlib.Core.Path.{refl, sym, _∙_}
 use borrow.Author.Tests.{le-leb, lt-leb}
-use Rattle.slip.specs.Slip.{writable, writeOf, bufferOf}
+use Rattle.verdict.specs.Verdict.{writable}
+use Rattle.slip.specs.Slip.{writeOf, bufferOf}
 use borrow.Author.Needs.{needs}
 use Rattle.slip.proofs.write_slip.Statement.{statement}
 use Rattle.slip.proofs.write_slip.Tie as tie

@@ -1,7 +1,8 @@
 -- Every answer of the judge is a possible verdict, and its row count is known.
 use mathlib.Core.Path.{ap, _∙_}
 use borrow.Author.Needs.{needs}
-use Rattle.slip.specs.Slip.{slipOf, writable}
+use Rattle.verdict.specs.Verdict.{writable}
+use Rattle.slip.specs.Slip.{slipOf}
 use Rattle.conformance.specs.Judging.{verdictOf}
 use Rattle.conformance.proofs.Possible.{judge-possible}
 use Rattle.slip_one.proofs.slip_for.Statement.{statement}
@@ -14,7 +15,6 @@ verdict-of-requires : tie.Need-verdict-of-requires
 verdict-of-requires c κs = search needs
 
 slip-of-requires : tie.Need-slip-of-requires
-unfolding writable
 slip-of-requires c κs =
     ap writable (c .verdict-of .ensures ∙ ap verdictOf (c .before .judge-small .ensures)) ∙ judge-possible _ _
 
