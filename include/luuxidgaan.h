@@ -25,6 +25,9 @@ extern "C" {
 /* The number of rules. */
 #define XA_RULES 39
 
+/* The `rows` of a verdict that was read from a slip without a row count. No verdict has as many. */
+#define XA_ROWS_NOT_KNOWN 0xFFFFFFFF
+
 /* What a call answers. Fields that the code does not name are 0.
  *
  *   code  meaning                                                              fields named
@@ -146,7 +149,8 @@ uint8_t xa_root_level(uint64_t cell);
  */
 uint16_t xa_root_entry(uint8_t level);
 
-/* A slip is 13 bytes that record a verdict: what `xa_judge` answers, without the number of rows. */
+/* A slip is 17 bytes that record a verdict: what `xa_judge` answers, with the number of rows. Slips of version 1 had 13 bytes and
+ * no number of rows; they are read, and no longer written. */
 
 /* What `xa_read_slip` answers.
  *
