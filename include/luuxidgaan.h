@@ -25,6 +25,9 @@ extern "C" {
 /* The number of rules. */
 #define XA_RULES 39
 
+/* The `rows` of a verdict that was read from a slip without a row count. No verdict has as many. */
+#define XA_ROWS_NOT_KNOWN 0xFFFFFFFF
+
 /* What a call answers. Fields that the code does not name are 0.
  *
  *   code  meaning                                                              fields named
@@ -146,30 +149,35 @@ uint8_t xa_root_level(uint64_t cell);
  */
 uint16_t xa_root_entry(uint8_t level);
 
-/* A slip is 13 bytes that record a verdict: what `xa_judge` answers, without the number of rows. */
+/* A slip is 17 bytes that record a verdict: what `xa_judge` answers, with the number of rows. Slips of version 1 had 13 bytes and
+ * no number of rows; they are read, and no longer written. */
 
 /* What `xa_read_slip` answers.
  *
  *   code  meaning
- *      0  read: `verdict` holds the verdict's code, offset, rule and frame; its other fields are 0
- *     12  not a slip: not 13 bytes, or another mark
- *     13  a version that is not 1
+ *      0  read: `verdict` holds the verdict's code, offset, rows, rule and frame; its other fields are 0. `rows_known` is 1;
+ *         of a slip of version 1 it is 0, and `verdict.rows` is XA_ROWS_NOT_KNOWN
+ *     12  not a slip: fewer than 5 bytes or another mark; after 13, a length that is not its version's
+ *     13  a version that is neither 1 nor 2
  *     14  fields that no verdict has
  *
- * With codes 12 to 14 every field of `verdict` is 0. They are tested in that order.
+ * With codes 12 to 14 `rows_known` and every field of `verdict` are 0.
  */
 typedef struct {
     uint32_t code;
+    uint32_t rows_known;
     xa_answer verdict;
 } xa_slip;
 
-/* Writes the slip of a verdict over the first 13 of the `slip_len` bytes at `slip`, and nothing beyond them.
+/* Writes the slip of a verdict over the first 17 of the `slip_len` bytes at `slip`, and nothing beyond them.
  *
- * Answers 0 where it is written; 14 where no judge answers so; then 11 where there is room for fewer than 13 bytes. With
- * 14 and 11 nothing is written. The verdict's code, offset, rule and frame are recorded; `rows` and `masked` are not
- * looked at.
+ * Any `rows_known` but 0 says that `verdict.rows` is the verdict's number of rows, as in every answer of `xa_judge`.
+ *
+ * Answers 0 where it is written; 14 where no verdict has these fields, or the number of rows is not known; then 11 where there
+ * is room for fewer than 17 bytes. With 14 and 11 nothing is written. The verdict's code, offset, rows, rule and frame are
+ * recorded; `masked` is not looked at.
  */
-uint32_t xa_write_slip(xa_answer verdict, uint8_t *slip, size_t slip_len);
+uint32_t xa_write_slip(xa_answer verdict, uint32_t rows_known, uint8_t *slip, size_t slip_len);
 
 /* Reads the slip that the `slip_len` bytes at `slip` are. */
 xa_slip xa_read_slip(const uint8_t *slip, size_t slip_len);

@@ -202,7 +202,7 @@ def slip_written(change):
 
 def buffer_first(answer, length):
     """Looks at the buffer before the verdict."""
-    return (11, b"") if length < 13 else slips.write_slip(answer, length)
+    return (11, b"") if length < 17 else slips.write_slip(answer, length)
 
 
 def wrapped(answer, length):
@@ -211,30 +211,86 @@ def wrapped(answer, length):
     return slips.write_slip(cut, length)
 
 
-def refuses_with_count(answer, length):
-    return (14, b"") if answer.rows else slips.write_slip(answer, length)
+def one_row_more(answer, length):
+    """Takes 134,217,729 rows, too."""
+    if answer.rows == 2 ** 27 + 1:
+        code, written = slips.write_slip(answer._replace(rows=0), length)
+        return code, written[:13] + answer.rows.to_bytes(4, "little") if written else written
+    return slips.write_slip(answer, length)
+
+
+def count_for_every_code(answer, length):
+    """Writes a row count with codes 1 to 8, too."""
+    code, written = slips.write_slip(answer._replace(rows=0) if answer.rows is not None else answer, length)
+    return code, written[:13] + answer.rows.to_bytes(4, "little") if written else written
+
+
+def unknown_as(rows):
+    """A writer that takes a row count that is not known for a number."""
+    return StandIn(write_slip=lambda answer, length: slips.write_slip(
+        answer._replace(rows=rows) if answer.rows is None else answer, length))
 
 
 def frame_let_through(slip):
     """Lets rule 26 with a frame through."""
     code, verdict = slips.read_slip(slip)
-    if code == 14 and slip[5] == 9 and slip[6] == 26 and slip[9:] == bytes(4):
+    if code == 14 and len(slip) == 17 and slip[5] == 9 and slip[6] == 26 and slip[9:] == bytes(8):
         return 0, Answer(9, rule=26, frame=int.from_bytes(slip[7:9], "little"))
     return code, verdict
 
 
+def old_count(rows):
+    """A reader that answers the row count of a slip of version 1 as a number."""
+
+    def read_slip(slip):
+        code, verdict = slips.read_slip(slip)
+        return code, verdict._replace(rows=rows) if verdict.rows is None else verdict
+
+    return StandIn(read_slip=read_slip)
+
+
+def length_first(slip):
+    """Tests the length before the version."""
+    return slips.read_slip(slip) if len(slip) in (13, 17) else (12, Answer(0))
+
+
+def either_length(slip):
+    """Takes both lengths for both versions."""
+    if slip[:5] == b"XAV\1\0" and len(slip) == 17:
+        return slips.read_slip(slip[:13])
+    if slip[:5] == b"XAV\2\0" and len(slip) == 13:
+        return slips.read_slip(slip + bytes(4))
+    return slips.read_slip(slip)
+
+
+def as_version_1(slip):
+    return slip[:3] + b"\1\0" + slip[5:13]
+
+
 SLIP_FAULTS = {
-    "one slip for all": slip_written(lambda slip: slips.slip_bytes(0, 0, 0, 0)),
+    "one slip for all": slip_written(lambda slip: slips.slip_bytes(0, 0, 0, 0, 0)),
+    "version 1 written": slip_written(as_version_1),
+    "version 1 in 17 bytes": slip_written(lambda slip: as_version_1(slip) + slip[13:]),
     "bytes of the frame swapped": slip_written(lambda slip: slip[:7] + slip[8:9] + slip[7:8] + slip[9:]),
-    "bytes of the place swapped": slip_written(lambda slip: slip[:9] + slip[9:][::-1]),
-    "a 14th byte touched": slip_written(lambda slip: slip + b"\0"),
-    "12 bytes written": slip_written(lambda slip: slip[:12]),
+    "bytes of the place swapped": slip_written(lambda slip: slip[:9] + slip[9:13][::-1] + slip[13:]),
+    "bytes of the row count swapped": slip_written(lambda slip: slip[:13] + slip[13:][::-1]),
+    "row count before the place": slip_written(lambda slip: slip[:9] + slip[13:] + slip[9:13]),
+    "an 18th byte touched": slip_written(lambda slip: slip + b"\0"),
+    "16 bytes written": slip_written(lambda slip: slip[:16]),
     "the buffer before the verdict": StandIn(write_slip=buffer_first),
     "fields wrapped": StandIn(write_slip=wrapped),
-    "the row count plays a part": StandIn(write_slip=refuses_with_count),
+    "134,217,729 rows": StandIn(write_slip=one_row_more),
+    "a row count for every code": StandIn(write_slip=count_for_every_code),
+    "not known written as 0": unknown_as(0),
+    "not known written as a number": unknown_as(57),
     "a frame let through": StandIn(read_slip=frame_let_through),
-    "14 bytes taken": StandIn(read_slip=lambda slip: slips.read_slip(slip[:13])),
-    "version not looked at": StandIn(read_slip=lambda slip: slips.read_slip(slip[:3] + b"\1\0" + slip[5:])),
+    "18 bytes taken": StandIn(read_slip=lambda slip: slips.read_slip(slip[:17])),
+    "the count of version 1 as 0": old_count(0),
+    "the count of version 1 as a number": old_count(57),
+    "length before version": StandIn(read_slip=length_first),
+    "either length for either version": StandIn(read_slip=either_length),
+    "version 1 no longer read": StandIn(read_slip=lambda slip: (13, Answer(0)) if slip[:5] == b"XAV\1\0" else slips.read_slip(slip)),
+    "version not looked at": StandIn(read_slip=lambda slip: slips.read_slip(slip[:3] + b"\2\0" + slip[5:])),
     "mark not looked at": StandIn(read_slip=lambda slip: slips.read_slip(b"XAV" + slip[3:])),
     "fields told with 14": StandIn(read_slip=lambda slip: (14, Answer(slip[5])) if slips.read_slip(slip)[0] == 14
                                    else slips.read_slip(slip)),

@@ -33,8 +33,10 @@ class RewrittenStruct(ctypes.Structure):
 class SlipStruct(ctypes.Structure):
     """xa_slip of include/luuxidgaan.h."""
 
-    _fields_ = [("code", ctypes.c_uint32), ("verdict", AnswerStruct)]
+    _fields_ = [("code", ctypes.c_uint32), ("rows_known", ctypes.c_uint32), ("verdict", AnswerStruct)]
 
+
+ROWS_NOT_KNOWN = 0xFFFFFFFF  # XA_ROWS_NOT_KNOWN of the header
 
 SIGNATURES = {
     "xa_read": (AnswerStruct, [ctypes.c_void_p, ctypes.c_size_t, ctypes.c_void_p, ctypes.c_size_t]),
@@ -47,7 +49,7 @@ SIGNATURES = {
                                  ctypes.c_void_p, ctypes.c_size_t]),
     "xa_root_level": (ctypes.c_uint8, [ctypes.c_uint64]),
     "xa_root_entry": (ctypes.c_uint16, [ctypes.c_uint8]),
-    "xa_write_slip": (ctypes.c_uint32, [AnswerStruct, ctypes.c_void_p, ctypes.c_size_t]),
+    "xa_write_slip": (ctypes.c_uint32, [AnswerStruct, ctypes.c_uint32, ctypes.c_void_p, ctypes.c_size_t]),
     "xa_read_slip": (SlipStruct, [ctypes.c_void_p, ctypes.c_size_t]),
 }
 
@@ -215,17 +217,26 @@ class Library:
         result = self.functions[name](address, len(memory), *between, rows.address, row_buffer_length, *behind)
         return Observation(answer_of(result), rows, image, None)
 
-    def write_slip(self, verdict, slip_buffer_length):
-        """The code answered, and the slip buffer."""
+    def write_slip(self, verdict, slip_buffer_length, flag=1, unknown=ROWS_NOT_KNOWN):
+        """The code answered, and the slip buffer. `flag` says that the rows are known; where they are None, the flag handed
+        over is 0 and `unknown` stands in their place."""
         slip = GuardedBuffer(slip_buffer_length)
-        code = self.functions["xa_write_slip"](AnswerStruct(*verdict), slip.address, slip_buffer_length)
+        if verdict.rows is None:
+            verdict, flag = verdict._replace(rows=unknown), 0
+        code = self.functions["xa_write_slip"](AnswerStruct(*verdict), flag, slip.address, slip_buffer_length)
         return int(code), slip
 
     def read_slip(self, slip):
-        """The code answered, the verdict, and what is wrong with the input afterwards (None: nothing)."""
+        """The code answered, the verdict, and what is wrong with the row count or the input afterwards (None: nothing)."""
         address = self._place(slip)
         result = self.functions["xa_read_slip"](address, len(slip))
-        return int(result.code), answer_of(result.verdict), self.input.fault()
+        code, known, verdict = int(result.code), int(result.rows_known), answer_of(result.verdict)
+        fault = self.input.fault()
+        if known != (1 if code == 0 and verdict.rows != ROWS_NOT_KNOWN else 0):
+            fault = f"rows_known {known} with code {code} and {verdict.rows} rows"
+        if code == 0 and known == 0:
+            verdict = verdict._replace(rows=None)
+        return code, verdict, fault
 
 
 def difference_in(buffers, answer, expected_answer, input_memory):

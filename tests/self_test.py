@@ -8,6 +8,7 @@ import sys
 import unittest
 from fractions import Fraction
 
+import compare_slips
 import enhanced_xa as xa
 import objects
 import parents
@@ -231,31 +232,48 @@ class Rules(unittest.TestCase):
 
 class Slips(unittest.TestCase):
     def test_written_bytes(self):
-        cases = [(Answer(0, rows=57), "58 41 56 01 00 00 00 00 00 00 00 00 00"),
-                 (Answer(2, offset=10), "58 41 56 01 00 02 00 00 00 0A 00 00 00"),
-                 (Answer(9, rule=37, frame=812, rows=5), "58 41 56 01 00 09 25 2C 03 00 00 00 00"),
-                 (Answer(9, rule=26), "58 41 56 01 00 09 1A 00 00 00 00 00 00"),
-                 (Answer(9, rule=39, frame=2), "58 41 56 01 00 09 27 02 00 00 00 00 00"),
-                 (Answer(6, offset=2 ** 30), "58 41 56 01 00 06 00 00 00 00 00 00 40")]
+        cases = [(Answer(0, rows=57), "58 41 56 02 00 00 00 00 00 00 00 00 00 39 00 00 00"),
+                 (Answer(2, offset=10), "58 41 56 02 00 02 00 00 00 0A 00 00 00 00 00 00 00"),
+                 (Answer(9, rule=37, frame=812, rows=258), "58 41 56 02 00 09 25 2C 03 00 00 00 00 02 01 00 00"),
+                 (Answer(9, rule=26), "58 41 56 02 00 09 1A 00 00 00 00 00 00 00 00 00 00"),
+                 (Answer(9, rule=39, frame=2, rows=2 ** 27), "58 41 56 02 00 09 27 02 00 00 00 00 00 00 00 00 08"),
+                 (Answer(6, offset=2 ** 30), "58 41 56 02 00 06 00 00 00 00 00 00 40 00 00 00 00")]
         for answer, text in cases:
-            self.assertEqual(slips.write_slip(answer, 13), (0, bytes.fromhex(text)))
-            self.assertEqual(slips.read_slip(bytes.fromhex(text)), (0, answer._replace(rows=0)))
-            self.assertEqual(slips.write_slip(answer, 12), (11, b""))
+            for length in (17, 30):
+                self.assertEqual(slips.write_slip(answer, length), (0, bytes.fromhex(text)))
+            self.assertEqual(slips.read_slip(bytes.fromhex(text)), (0, answer))
+            self.assertEqual(slips.write_slip(answer, 16), (11, b""))
 
     def test_impossible(self):
         for answer in (Answer(10), Answer(0, rule=1), Answer(0, offset=1), Answer(7, frame=1), Answer(2, offset=2 ** 30 + 1),
                        Answer(3, rule=1), Answer(9), Answer(9, rule=39), Answer(9, rule=40), Answer(9, rule=40, frame=1), Answer(9, rule=26, frame=1), Answer(9, rule=27),
                        Answer(9, rule=31, frame=1), Answer(9, rule=30, frame=65536), Answer(9, rule=1, offset=4), Answer(256),
-                       Answer(265, rule=1), Answer(9, rule=257)):
-            for length in (0, 13, 20):
+                       Answer(265, rule=1), Answer(9, rule=257), Answer(0, rows=None), Answer(2, rows=None), Answer(9, rule=26, rows=None),
+                       Answer(0, rows=2 ** 27 + 1), Answer(9, rule=26, rows=2 ** 27 + 1), Answer(1, rows=1), Answer(7, rows=1), Answer(8, rows=57)):
+            for length in (0, 13, 17, 20):
                 self.assertEqual(slips.write_slip(answer, length), (14, b""), answer)
 
     def test_refused_slips(self):
-        good = bytes.fromhex("58 41 56 01 00 02 00 00 00 0A 00 00 00")
-        for slip, code in ((good, 0), (good[:12], 12), (good + b"\0", 12), (b"", 12), (b"XAW" + good[3:], 12),
-                           (b"XAW\2" + good[4:], 12), (b"XAV\2" + good[4:], 13), (b"XAV\1\1" + good[5:], 13),
-                           (good[:5] + b"\x0A" + good[6:], 14), (good[:12] + b"\x41", 14), (good[:6] + b"\1" + good[7:], 14)):
+        old = bytes.fromhex("58 41 56 01 00 02 00 00 00 0A 00 00 00")
+        new = bytes.fromhex("58 41 56 02 00 00 00 00 00 00 00 00 00 39 00 00 00")
+        for slip, code in ((old, 0), (new, 0), (b"", 12), (b"XAV", 12), (b"XAV\3", 12), (b"XAV\3\0", 13), (b"XAV\1\0", 12),
+                           (b"XAV\2\0", 12), (old[:12], 12), (old + b"\0", 12), (old + bytes(4), 12), (new[:13], 12), (new[:16], 12),
+                           (new + b"\0", 12), (b"XAW" + old[3:], 12), (b"XAW\3" + old[4:], 12), (b"XAV\3" + old[4:], 13),
+                           (b"XAV\1\1" + old[5:], 13), (b"XAV\0" + new[4:], 13), (b"XAV\3" + bytes(40), 13),
+                           (old[:5] + b"\x0A" + old[6:], 14), (old[:12] + b"\x41", 14), (old[:6] + b"\1" + old[7:], 14),
+                           (new[:5] + b"\1" + new[6:], 14), (new[:16] + b"\x09", 14), (new[:13] + b"\1\0\0\x08", 14),
+                           (new[:13] + b"\0\0\0\x08", 0)):
             self.assertEqual(slips.read_slip(slip)[0], code, slip)
+
+    def test_version_1(self):
+        """What the library wrote before Q-13 still reads, and its row count is not known."""
+        kept = list(compare_slips.version_1_slips())
+        self.assertGreater(len(kept), 50)
+        self.assertEqual({verdict.code for verdict, _ in kept}, set(range(10)))
+        for verdict, slip in kept:
+            self.assertEqual(slips.read_slip(slip), (0, verdict))
+            self.assertIsNone(verdict.rows)
+            self.assertEqual(slips.write_slip(verdict, 17), (14, b""))
 
 
 def small_object(pixels, frames, rows, columns, **fixed):

@@ -5,7 +5,7 @@ With no fault it must pass every comparison; with a fault it must fail one. So i
 
 import ctypes
 
-from library import AnswerStruct, RewrittenStruct, SlipStruct, answer_of
+from library import ROWS_NOT_KNOWN, AnswerStruct, RewrittenStruct, SlipStruct, answer_of
 from reference import canonical, drawing, intensity, reading, rules, slips
 
 
@@ -81,11 +81,14 @@ class StandIn:
         self.after(outcome, data, rows, rows_length)
         return AnswerStruct(*outcome.answer)
 
-    def xa_write_slip(self, verdict, slip, slip_length):
-        code, written = self.write_slip(answer_of(verdict), slip_length)
+    def xa_write_slip(self, verdict, rows_known, slip, slip_length):
+        verdict = answer_of(verdict)
+        code, written = self.write_slip(verdict if rows_known else verdict._replace(rows=None), slip_length)
         write(slip, written)
         return code
 
     def xa_read_slip(self, slip, slip_length):
         code, verdict = self.read_slip(ctypes.string_at(slip, slip_length))
-        return SlipStruct(code, AnswerStruct(*verdict))
+        if verdict.rows is None:
+            return SlipStruct(code, 0, AnswerStruct(*verdict._replace(rows=ROWS_NOT_KNOWN)))
+        return SlipStruct(code, 1 if code == 0 else 0, AnswerStruct(*verdict))

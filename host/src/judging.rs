@@ -13,7 +13,7 @@ use crate::buffer::RowBuffer;
 use crate::files::{self, Finding, Found, Opened};
 use crate::head::{self, Judged};
 use crate::library::{self, Answer, SLIP_SIZE};
-use crate::output::{json_text, line, note, note_of, path_fields, Status};
+use crate::output::{answer_fields, json_text, line, note, note_of, path_fields, trouble_fields, Status};
 use crate::sentences;
 
 /// What `luux judge` was asked.
@@ -58,23 +58,13 @@ impl Report {
         let mut fields = path_fields("path", path);
         match &self.verdict {
             Ok(Judged { answer, item_row, has_head }) => {
-                let verdict = if answer.code == 0 { "accepted" } else { "refused" };
-                let sentence =
-                    if answer.code == 9 { sentences::rule(answer.rule) } else { sentences::code(answer.code) };
-                fields.push_str(&format!(
-                    ",\"verdict\":\"{verdict}\",\"code\":{},\"offset\":{},\"rows\":{},\"rule\":{},\"frame\":{},\"item_row\":{item_row},\"sentence\":{}",
-                    answer.code,
-                    answer.offset,
-                    answer.rows,
-                    answer.rule,
-                    answer.frame,
-                    json_text(sentence)
-                ));
+                fields.push_str(&answer_fields(answer, Some(answer.rows)));
+                fields.push_str(&format!(",\"item_row\":{item_row}"));
                 if *has_head {
                     fields.push_str(&format!(",\"hint\":{}", json_text(head::HINT)));
                 }
             }
-            Err(trouble) => fields.push_str(&format!(",\"verdict\":\"none\",\"error\":{}", json_text(trouble))),
+            Err(trouble) => fields.push_str(&trouble_fields(trouble)),
         }
         match &self.slip {
             Some((slip, None)) => fields.push_str(&format!(",{}", path_fields("slip", slip))),

@@ -26,7 +26,15 @@ pub struct Answer {
 #[derive(Clone, Copy, Debug, PartialEq, Eq)]
 pub struct Slip {
     pub code: u32,
+    rows_known: u32,
     pub verdict: Answer,
+}
+
+impl Slip {
+    /// The row count, where the slip says it.
+    pub fn rows(&self) -> Option<u32> {
+        (self.rows_known != 0).then_some(self.verdict.rows)
+    }
 }
 
 /// `xa_rewritten` of the header: fields that the code does not name are 0.
@@ -57,7 +65,7 @@ impl Coded for Rewritten {
 }
 
 /// The bytes of a slip.
-pub const SLIP_SIZE: usize = 13;
+pub const SLIP_SIZE: usize = 17;
 
 /// `XA_ROW_NUMBERS` of the header.
 pub const ROW_WIDTH: usize = 7;
@@ -91,7 +99,7 @@ extern "C" {
         values: *mut u16,
         values_len: usize,
     ) -> Answer;
-    fn xa_write_slip(verdict: Answer, slip: *mut u8, slip_len: usize) -> u32;
+    fn xa_write_slip(verdict: Answer, rows_known: u32, slip: *mut u8, slip_len: usize) -> u32;
     fn xa_read_slip(slip: *const u8, slip_len: usize) -> Slip;
 }
 
@@ -130,10 +138,10 @@ pub fn linear(data: &[u8], frame: u64, rows: &mut [u32], values: &mut [u16]) -> 
     }
 }
 
-/// Writes the slip of a verdict; answers the code.
+/// Writes the slip of a verdict whose row count is known; answers the code.
 pub fn write_slip(verdict: Answer, slip: &mut [u8]) -> u32 {
     // Sound: the verdict goes by value, and the call writes within `slip` alone.
-    unsafe { xa_write_slip(verdict, slip.as_mut_ptr(), slip.len()) }
+    unsafe { xa_write_slip(verdict, 1, slip.as_mut_ptr(), slip.len()) }
 }
 
 /// The verdict that a slip records.

@@ -6,8 +6,8 @@ use std::path::{Path, PathBuf};
 use crate::buffer::RowBuffer;
 use crate::files::Opened;
 use crate::head::Judged;
-use crate::library;
-use crate::output::{line, note_of, Status};
+use crate::library::{self, Slip};
+use crate::output::{answer_fields, line, note_of, path_fields, trouble_fields, Status};
 use crate::sentences;
 use crate::table::{Row, Table};
 
@@ -94,23 +94,40 @@ fn tree(table: Table, out: &mut dyn Write) -> io::Result<()> {
     Ok(())
 }
 
-/// Prints the verdicts that slips record.
-pub fn read_slips(paths: &[PathBuf], out: &mut dyn Write) -> io::Result<Status> {
+/// The slip in a file; or why there is none, and how bad that is.
+fn slip_in(path: &Path) -> Result<Slip, (String, Status)> {
+    let read = Opened::open(path).and_then(|opened| {
+        let slip = library::read_slip(opened.bytes());
+        opened.unchanged().map(|()| slip)
+    });
+    match read {
+        Ok(slip) if slip.code != 0 => {
+            Err((format!("code {}: {}", slip.code, sentences::code(slip.code)), Status::Refused))
+        }
+        Ok(slip) => Ok(slip),
+        Err(trouble) => Err((trouble, Status::Failed)),
+    }
+}
+
+/// Prints the verdicts that slips record, in words or as JSON.
+pub fn read_slips(paths: &[PathBuf], json: bool, out: &mut dyn Write) -> io::Result<Status> {
     let mut status = Status::Fine;
     for path in paths {
-        let read = Opened::open(path).and_then(|opened| {
-            let slip = library::read_slip(opened.bytes());
-            opened.unchanged().map(|()| slip)
-        });
-        let (text, end) = match read {
-            Ok(slip) if slip.code != 0 => {
-                (format!("code {}: {}", slip.code, sentences::code(slip.code)), Status::Refused)
+        let (text, fields, end) = match slip_in(path) {
+            Ok(slip) => {
+                let (verdict, rows) = (&slip.verdict, slip.rows());
+                let end = if verdict.code == 0 { Status::Fine } else { Status::Refused };
+                (sentences::slip(verdict, rows), answer_fields(verdict, rows), end)
             }
-            Ok(slip) if slip.verdict.code != 0 => (sentences::answer(&slip.verdict, 0), Status::Refused),
-            Ok(slip) => (sentences::answer(&slip.verdict, 0), Status::Fine),
-            Err(trouble) => (trouble, Status::Failed),
+            Err((trouble, end)) => {
+                let fields = trouble_fields(&trouble);
+                (trouble, fields, end)
+            }
         };
-        line(out, path, &text)?;
+        match json {
+            true => writeln!(out, "{{{}{fields}}}", path_fields("path", path))?,
+            false => line(out, path, &text)?,
+        }
         status = status.max(end);
     }
     Ok(status)

@@ -160,11 +160,16 @@ enum Command {
 
 #[derive(Subcommand)]
 enum SlipCommand {
-    /// Print the verdict that each slip records
+    /// Print the verdict that each slip records, with its row count
+    ///
+    /// Slips of version 1 do not say the row count: it is printed as `rows not known`, and with --json as null.
     Read {
-        /// Slips, as luux judge --slips writes them
+        /// Slips, as luux judge --slips writes them or once wrote them
         #[arg(required = true, value_name = "FILE")]
         files: Vec<PathBuf>,
+        /// Print one JSON object a line
+        #[arg(long)]
+        json: bool,
     },
 }
 
@@ -210,7 +215,7 @@ fn run(command: Command, out: &mut dyn Write) -> io::Result<Status> {
             check_picture(output.as_deref());
             picture::linear(&file, frame, output.as_deref(), out)
         }
-        Command::Slip { command: SlipCommand::Read { files } } => listing::read_slips(&files, out),
+        Command::Slip { command: SlipCommand::Read { files, json } } => listing::read_slips(&files, json, out),
         Command::Demo { folder } => demo::run(&folder, processors(), out),
     }
 }

@@ -5,6 +5,8 @@ use std::os::unix::ffi::OsStrExt;
 use std::path::Path;
 
 use crate::files;
+use crate::library::Answer;
+use crate::sentences;
 
 /// How a command ends. The worst of its parts counts.
 #[derive(Clone, Copy, Debug, PartialEq, Eq, PartialOrd, Ord)]
@@ -37,6 +39,25 @@ pub fn note_of(path: &Path, text: &str) {
     whole.extend(files::printed(path));
     whole.extend_from_slice(format!(": {text}\n").as_bytes());
     let _ = io::stderr().write_all(&whole);
+}
+
+/// An answer as JSON fields: `verdict`, its numbers and its sentence. A row count that is not known is `null`.
+pub fn answer_fields(answer: &Answer, rows: Option<u32>) -> String {
+    let verdict = if answer.code == 0 { "accepted" } else { "refused" };
+    let rows = rows.map_or_else(|| String::from("null"), |count| count.to_string());
+    format!(
+        ",\"verdict\":\"{verdict}\",\"code\":{},\"offset\":{},\"rows\":{rows},\"rule\":{},\"frame\":{},\"sentence\":{}",
+        answer.code,
+        answer.offset,
+        answer.rule,
+        answer.frame,
+        json_text(sentences::meaning(answer))
+    )
+}
+
+/// What stands in place of an answer where there is none.
+pub fn trouble_fields(trouble: &str) -> String {
+    format!(",\"verdict\":\"none\",\"error\":{}", json_text(trouble))
 }
 
 /// A text as a JSON string, with its quotes.

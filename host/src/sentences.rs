@@ -66,8 +66,8 @@ pub fn code(number: u32) -> &'static str {
         9 => "a rule is broken",
         10 => "no such frame",
         11 => "too little room for the picture, the numbers or the slip",
-        12 => "not a slip: not 13 bytes, or another mark",
-        13 => "a slip of a version that is not 1",
+        12 => "not a slip: another mark, or another length than its version has",
+        13 => "a slip of a version that is neither 1 nor 2",
         14 => "a slip with fields that no verdict has",
         20 => "the frame has no TO_LINEAR item",
         21 => "too little room for the canonical form",
@@ -75,15 +75,35 @@ pub fn code(number: u32) -> &'static str {
     }
 }
 
+/// What an answer means: its rule's sentence, or its code's.
+pub fn meaning(given: &Answer) -> &'static str {
+    match given.code {
+        9 => rule(given.rule),
+        other => code(other),
+    }
+}
+
 /// An answer in a line: accepted, or the rule, frame and sentence, or the code and place and what it means. Where the row of the
 /// frame's item is known, and not 0, it is told too.
 pub fn answer(given: &Answer, item_row: u32) -> String {
-    match given.code {
-        0 => String::from("accepted"),
-        1..=6 => format!("code {} at byte {}: {}", given.code, given.offset, code(given.code)),
-        9 => format!("rule {}, frame {}{}: {}", given.rule, given.frame, item(given.frame, item_row), rule(given.rule)),
-        _ => format!("code {}: {}", given.code, code(given.code)),
-    }
+    told(given, &item(given.frame, item_row))
+}
+
+/// The verdict that a slip records, in a line, with its row count.
+pub fn slip(verdict: &Answer, rows: Option<u32>) -> String {
+    let count = rows.map_or_else(|| String::from("not known"), |count| count.to_string());
+    told(verdict, &format!(", rows {count}"))
+}
+
+/// An answer in a line: its numbers, what else there is to tell, and what it means.
+fn told(given: &Answer, more: &str) -> String {
+    let numbers = match given.code {
+        0 => return format!("accepted{more}"),
+        1..=6 => format!("code {} at byte {}", given.code, given.offset),
+        9 => format!("rule {}, frame {}", given.rule, given.frame),
+        other => format!("code {other}"),
+    };
+    format!("{numbers}{more}: {}", meaning(given))
 }
 
 /// Which item of the data set is a frame's.

@@ -12,9 +12,11 @@ use Rattle.dataset.specs.declared.ReadAnswer.{ReadAnswer}
 use Rattle.dataset.specs.Reading.{readingOf}
 use Rattle.dataset.specs.Answer.{answerOf}
 use Rattle.dataset.proofs.Laws.{Small as SmallAnswer, answer-small}
-use Rattle.verdict.specs.Verdict.{possible}
+use Rattle.verdict.specs.Verdict.{possible, writable}
+use Rattle.verdict.specs.declared.RowCount.{RowCount}
+use Rattle.verdict.specs.declared.RowCount.the-variants.{Known, NotKnown}
 use Rattle.verdict.specs.declared.Verdict.{Verdict}
-use Rattle.verdict.proofs.Bounds.{Small, possible-small}
+use Rattle.verdict.proofs.Bounds.{Small, possible-small, possible-rows}
 use Rattle.conformance.specs.declared.JudgeAnswer.{JudgeAnswer}
 use Rattle.conformance.specs.Judging.{judgeOf, verdictOf, rowCountOf}
 use Rattle.conformance.proofs.Possible.{judge-small, judge-rows}
@@ -35,9 +37,9 @@ use Rattle.slip.specs.declared.SlipAnswer.{SlipAnswer}
 use Rattle.slip.specs.declared.SlipAnswer.the-variants as read
 use Rattle.slip.specs.declared.WriteAnswer.{WriteAnswer}
 use Rattle.slip.specs.declared.WriteAnswer.the-variants as write
-use Rattle.slip.specs.Slip.{mark, version, versionAt, slipSize, number, equal, fieldsOf, readOf, writeOf}
-use Rattle.slip.proofs.Theorems.{read-possible}
-use Rattle.cabi.specs.Host.{writeCode, slipAnswer, Narrow, Fits32, LinearFits32}
+use Rattle.slip.specs.Slip.{mark, version, oldVersion, versionAt, rowsAt, headSize, oldSize, slipSize, number, equal, fieldsOf, ifPossible, readSized, readVersion, readOf, writeOf}
+use Rattle.slip.proofs.Slips.{slips}
+use Rattle.cabi.specs.Host.{writeCode, rowsNumber, slipAnswer, Narrow, Fits32, LinearFits32}
 
 -- ---- What a match found a reader's answer to be
 
@@ -121,7 +123,7 @@ linear-narrow s f buffer values e g = subst LinearFits32 (sym e ∙ g) (linear-a
 
 write-code : (v : Verdict) (buffer : List ℕ) → writeCode (writeOf v buffer) ≤ 14
 unfolding writeOf
-write-code v buffer = go (possible v) (leb slipSize (length buffer))
+write-code v buffer = go (writable v) (leb slipSize (length buffer))
   where
     go : (a b : Bool) → writeCode (cond (not a) (write.Refused 14) (cond (not b) (write.Refused 11) write.Written)) ≤ 14
     go false b = omega arith
@@ -131,27 +133,46 @@ write-code v buffer = go (possible v) (leb slipSize (length buffer))
 pub written-code : {a b : WriteAnswer} (v : Verdict) (buffer : List ℕ) → a ≡ writeOf v buffer → a ≡ b → writeCode b ≤ 14
 written-code v buffer e f = subst (λ (a : WriteAnswer). writeCode a ≤ 14) (sym e ∙ f) (write-code v buffer)
 
+sized-code : (size : ℕ) (rows : RowCount) (s : List ℕ) → slipAnswer (readSized size rows s) .code ≤ 14
+unfolding readSized ifPossible
+sized-code size rows s = go (eqb (length s) size) (possible (fieldsOf s rows))
+  where
+    go : (a d : Bool) → slipAnswer (cond (not a) (read.Refused 12) (cond (not d) (read.Refused 14) (read.Read (fieldsOf s rows)))) .code ≤ 14
+    go false d = omega arith
+    go true false = omega arith
+    go true true = omega arith
+
 read-code : (s : List ℕ) → slipAnswer (readOf s) .code ≤ 14
-unfolding readOf
+unfolding readOf readVersion
 read-code s =
-    go (eqb (length s) slipSize && equal (take 3 s) mark) (eqb (number 2 s versionAt) version) (possible (fieldsOf s))
+    go (leb headSize (length s) && equal (take 3 s) mark) (eqb (number 2 s versionAt) oldVersion) (eqb (number 2 s versionAt) version)
   where
     go : (a b d : Bool)
-        → slipAnswer (cond (not a) (read.Refused 12) (cond (not b) (read.Refused 13) (cond (not d) (read.Refused 14) (read.Read (fieldsOf s))))) .code ≤ 14
+        → slipAnswer (cond (not a) (read.Refused 12) (cond b (readSized oldSize NotKnown s) (cond d (readSized slipSize (Known (number 4 s rowsAt)) s) (read.Refused 13)))) .code ≤ 14
     go false b d = omega arith
-    go true false d = omega arith
-    go true true false = omega arith
-    go true true true = omega arith
+    go true true d = sized-code oldSize NotKnown s
+    go true false true = sized-code slipSize (Known (number 4 s rowsAt)) s
+    go true false false = omega arith
 
 pub slip-code : {a b : SlipAnswer} (s : List ℕ) → a ≡ readOf s → a ≡ b → slipAnswer b .code ≤ 14
 slip-code s e f = subst (λ (a : SlipAnswer). slipAnswer a .code ≤ 14) (sym e ∙ f) (read-code s)
 
+-- A count that is not known is handed over as the greatest number of 32 bits.
+rows-narrow : (v : Verdict) → possible v ≡ true → rowsNumber (v .rows) < 4294967296
+rows-narrow v h = go (v .rows) refl
+  where
+    go : (r : RowCount) → v .rows ≡ r → rowsNumber r < 4294967296
+    go (Known n) e = omega (arith, possible-rows v n h e)
+    go NotKnown e = omega arith
+
 pub slip-narrow : {a : SlipAnswer} {v : Verdict} (s : List ℕ) → a ≡ readOf s → a ≡ read.Read v → Narrow v
 slip-narrow {a} {v} s e f =
-    let m = possible-small v (read-possible s v (sym e ∙ f)) in
+    let can = slips .read-possible s v (sym e ∙ f) in
+    let m = possible-small v can in
     record {
       code = omega (arith, m .code);
       rule = omega (arith, m .rule);
       frame = omega (arith, m .frame);
       offset = m .offset;
+      rows = rows-narrow v can;
     }

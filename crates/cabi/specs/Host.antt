@@ -1,8 +1,12 @@
 -- What a host is handed for each answer. Reading, judging and drawing answer with one struct of six numbers. Fields that a code does not name
 -- are 0.
 use Prim.Native.Nat.{ℕ, _<_}
+use mathlib.Core.Bool.{cond}
+use lib.Dec.{eqb}
 use Rattle.dataset.specs.declared.ReadAnswer.{ReadAnswer}
 use Rattle.dataset.specs.Answer.{codeOf, offsetOf, rowCountOf}
+use Rattle.verdict.specs.declared.RowCount.{RowCount}
+use Rattle.verdict.specs.declared.RowCount.the-variants.{Known, NotKnown}
 use Rattle.verdict.specs.declared.Verdict.{Verdict}
 use Rattle.conformance.specs.declared.JudgeAnswer.{JudgeAnswer}
 use Rattle.conformance.specs.Judging as judging
@@ -103,16 +107,29 @@ pub record LinearFits32 (a : LinearAnswer) : Type 0 where
 
 -- ---- Slips
 
--- The verdict that an answer holds; its row count and whether it was masked play no part.
-abbrev pub verdictIn : Answer → Verdict
-verdictIn a = record { code = a .code; rule = a .rule; frame = a .frame; offset = a .offset }
+-- The row count that a host hands over: any flag but 0 says that it is known.
+abbrev pub countIn : ℕ → ℕ → RowCount
+countIn flag rows = cond (eqb flag 0) NotKnown (Known rows)
+
+-- The verdict that an answer holds; whether it was masked plays no part.
+unfoldable pub verdictIn : Answer → ℕ → Verdict
+verdictIn a flag = record { code = a .code; rule = a .rule; frame = a .frame; offset = a .offset; rows = countIn flag (a .rows) }
+
+-- The row count that a host is handed: 1 and the number, or 0 and a number that no verdict has.
+abbrev pub knownNumber : RowCount → ℕ
+knownNumber (Known n) = 1
+knownNumber NotKnown = 0
+
+abbrev pub rowsNumber : RowCount → ℕ
+rowsNumber (Known n) = n
+rowsNumber NotKnown = 0xFFFFFFFF
 
 -- A verdict as an answer.
 abbrev pub verdictAnswer : Verdict → Answer
 verdictAnswer v = record {
   code = v .code;
   offset = v .offset;
-  rows = 0;
+  rows = rowsNumber (v .rows);
   rule = v .rule;
   frame = v .frame;
   masked = 0;
@@ -123,11 +140,12 @@ abbrev pub writeCode : WriteAnswer → ℕ
 writeCode write.Written = 0
 writeCode (write.Refused code) = code
 
--- The answer of `xa_read_slip`: 0 and the verdict, or the refusal's code and a verdict of which every field is 0.
+-- The answer of `xa_read_slip`: 0 and the verdict, or the refusal's code, all else being 0.
 abbrev pub slipAnswer : SlipAnswer → Slip
-slipAnswer (read.Read v) = record { code = 0; verdict = verdictAnswer v }
+slipAnswer (read.Read v) = record { code = 0; known = knownNumber (v .rows); verdict = verdictAnswer v }
 slipAnswer (read.Refused code) = record {
   code = code;
+  known = 0;
   verdict = record { code = 0; offset = 0; rows = 0; rule = 0; frame = 0; masked = 0 };
 }
 
@@ -137,3 +155,4 @@ pub record Narrow (v : Verdict) : Type 0 where
   pub rule : v .rule < 4294967296
   pub frame : v .frame < 4294967296
   pub offset : v .offset < 4294967296
+  pub rows : rowsNumber (v .rows) < 4294967296

@@ -2,35 +2,77 @@
 use crate::Answer;
 use slip::SlipAnswer;
 use slip::WriteAnswer;
+use verdict::RowCount;
 use verdict::Verdict;
 ghost use mathlib.Core.Path.{_≡_};
+ghost use Prim.Native.Nat.{_<_};
 ghost use Rattle.slip.specs.Slip.{readOf, writeOf, bufferOf};
-ghost use Rattle.verdict.specs.Verdict.{possible};
-ghost use Rattle.cabi.specs.Host.{verdictIn, writeCode, slipAnswer, verdictAnswer, Narrow};
+ghost use Rattle.cabi.specs.Host.{countIn, verdictIn, writeCode, knownNumber, rowsNumber, slipAnswer, verdictAnswer, Narrow};
 
-// What `xa_read_slip` answers: code 0 and the verdict, or a refusal's code and a verdict of which every field is 0.
+// The row count of a verdict that does not know it: no verdict has as many rows.
+const NOT_KNOWN: u32 = 4_294_967_295;
+
+// What `xa_read_slip` answers: code 0 and the verdict, with whether its row count is known (`rows_known` in C); or a refusal's
+// code, all else being 0.
 #[repr(C)]
 pub struct Slip {
     pub code: u32,
+    pub known: u32,
     pub verdict: Answer,
 }
 
-// Writes the slip of the verdict that an answer holds over the first 13 bytes of the buffer, and answers the code: 0, 14
-// or 11. A refusal leaves the buffer as it was.
-#[no_mangle]
-pub extern "C" fn xa_write_slip(verdict: Answer, slip: &mut [u8]) -> u32
-    ensures { λ r. ⌜ r ≡ writeCode (writeOf (verdictIn verdict) (now (slip .entry))) ⌝ }
-    ensures { λ _. ⌜ now (slip .exit) ≡ bufferOf (verdictIn verdict) (now (slip .entry)) ⌝ }
+fn count_in(known: u32, rows: u32) -> RowCount
+    ensures { λ r. ⌜ r ≡ countIn known rows ⌝ }
 {
-    let v = Verdict {
+    if known == 0 {
+        RowCount::NotKnown
+    } else {
+        RowCount::Known(rows as usize)
+    }
+}
+
+fn verdict_in(verdict: Answer, known: u32) -> Verdict
+    ensures { λ r. ⌜ r ≡ verdictIn verdict known ⌝ }
+{
+    let rows = count_in(known, verdict.rows);
+    Verdict {
         code: verdict.code as usize,
         rule: verdict.rule as usize,
         frame: verdict.frame as usize,
         offset: verdict.offset as usize,
-    };
-    match slip::write_slip(v, slip) {
+        rows,
+    }
+}
+
+// Writes the slip of the verdict that an answer holds over the first 17 bytes of the buffer, and answers the code: 0, 14
+// or 11. A refusal leaves the buffer as it was.
+#[no_mangle]
+pub extern "C" fn xa_write_slip(verdict: Answer, known: u32, slip: &mut [u8]) -> u32
+    ensures { λ r. ⌜ r ≡ writeCode (writeOf (verdictIn verdict known) (now (slip .entry))) ⌝ }
+    ensures { λ _. ⌜ now (slip .exit) ≡ bufferOf (verdictIn verdict known) (now (slip .entry)) ⌝ }
+{
+    match slip::write_slip(verdict_in(verdict, known), slip) {
         WriteAnswer::Written => 0,
         WriteAnswer::Refused(code) => code as u32,
+    }
+}
+
+fn known_number(rows: RowCount) -> u32
+    ensures { λ r. ⌜ r ≡ knownNumber rows ⌝ }
+{
+    match rows {
+        RowCount::Known(_) => 1,
+        RowCount::NotKnown => 0,
+    }
+}
+
+fn rows_number(rows: RowCount) -> u32
+    requires { ⌜ rowsNumber rows < 4294967296 ⌝ }
+    ensures { λ r. ⌜ r ≡ rowsNumber rows ⌝ }
+{
+    match rows {
+        RowCount::Known(n) => n as u32,
+        RowCount::NotKnown => NOT_KNOWN,
     }
 }
 
@@ -39,13 +81,27 @@ fn answer_of(v: Verdict) -> Answer
     requires { ⌜ Narrow v ⌝ }
     ensures { λ r. ⌜ r ≡ verdictAnswer v ⌝ }
 {
+    let rows = v.rows;
     Answer {
         code: v.code as u32,
         offset: v.offset as u32,
-        rows: 0,
+        rows: rows_number(rows),
         rule: v.rule as u32,
         frame: v.frame as u32,
         masked: 0,
+    }
+}
+
+// A slip that reads well.
+fn slip_of(v: Verdict) -> Slip
+    requires { ⌜ Narrow v ⌝ }
+    ensures { λ r. ⌜ r ≡ slipAnswer (SlipAnswer.Read v) ⌝ }
+{
+    let rows = v.rows;
+    Slip {
+        code: 0,
+        known: known_number(rows),
+        verdict: answer_of(v),
     }
 }
 
@@ -55,12 +111,10 @@ pub extern "C" fn xa_read_slip(slip: &[u8]) -> Slip
     ensures { λ r. ⌜ r ≡ slipAnswer (readOf (now (slip .entry))) ⌝ }
 {
     match slip::read_slip(slip) {
-        SlipAnswer::Read(v) => Slip {
-            code: 0,
-            verdict: answer_of(v),
-        },
+        SlipAnswer::Read(v) => slip_of(v),
         SlipAnswer::Refused(code) => Slip {
             code: code as u32,
+            known: 0,
             verdict: Answer {
                 code: 0,
                 offset: 0,

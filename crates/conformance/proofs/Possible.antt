@@ -1,6 +1,6 @@
--- Every answer of the judge is a possible verdict. A refusal's numbers are small. A broken rule's frame is 0 where the
--- rule is asked once; else it is 1 to N, and N is at most 65,535, since rule 15 stands before every rule that is asked at
--- each frame and holds where a later one is named.
+-- Every answer of the judge is a possible verdict. A refusal's numbers are small, and a data set has few rows. A broken
+-- rule's frame is 0 where the rule is asked once; else it is 1 to N, and N is at most 65,535, since rule 15 stands before
+-- every rule that is asked at each frame and holds where a later one is named.
 use mathlib.Core.Path.{_≡_, refl, sym, subst}
 use mathlib.Core.Bool.{Bool, true, false, cond, _&&_, _||_}
 use mathlib.Core.List.{List}
@@ -17,7 +17,7 @@ use Rattle.dataset.proofs.Laws.{answer-small}
 use Rattle.dataset.proofs.Laws.{Small as SmallAnswer}
 use Rattle.value.specs.declared.Num.{Num}
 use Rattle.value.specs.declared.Num.the-variants.{Is, Lacks}
-use Rattle.verdict.specs.Verdict.{lastRule, lastFrame, perFrame, frameFits, possible}
+use Rattle.verdict.specs.Verdict.{lastRule, lastFrame, perFrame, frameFits, mostRows, fieldsFit, countFits, possible, writable}
 use Rattle.verdict.proofs.Tests.{false-is-true, and-both, or-either}
 use Rattle.verdict.proofs.Bounds.{Small, possible-small}
 use Rattle.node.specs.Nodes.{Node, nodesOf}
@@ -29,6 +29,7 @@ use Rattle.conformance.specs.declared.Finding.{Finding}
 use Rattle.conformance.specs.declared.Finding.the-variants as finding
 use Rattle.conformance.specs.declared.JudgeAnswer.{JudgeAnswer}
 use Rattle.conformance.specs.Judging.{numberOf, firstFrame, frameCount, findingOf, answerFor, judgeOf, rowCountOf, verdictOf}
+use Rattle.conformance.specs.Possible.{JudgePossible}
 use Rattle.conformance.proofs.First.{Holds, Broke, broken-first}
 
 -- ---- The frame of a broken rule
@@ -75,14 +76,16 @@ finding-fits ns (finding.Broken rule frame) e =
     (b .low, (b .high, frame-fits ns rule frame b))
 
 answer-possible : (f : Finding) (a : ReadAnswer) → Fits f → SmallAnswer a → possible (verdictOf (answerFor f a)) ≡ true
-unfolding possible
-answer-possible finding.Accepted (read.Done n) w h = refl
-answer-possible (finding.Broken rule frame) (read.Done n) w h = rw (le-leb 1 rule (w .0), le-leb rule lastRule (w .1 .0), w .1 .1)
+unfolding possible fieldsFit countFits
+answer-possible finding.Accepted (read.Done n) w h = le-leb n mostRows h
+answer-possible (finding.Broken rule frame) (read.Done n) w h =
+    rw (le-leb 1 rule (w .0), le-leb rule lastRule (w .1 .0), w .1 .1, le-leb n mostRows h)
 answer-possible f (read.Refused code offset) w h =
     rw (
       ne-eqb code 0 (λ e. omega (arith, e, h .0)),
       ne-eqb code 7 (λ e. omega (arith, e, h .1 .0)),
       ne-eqb code 8 (λ e. omega (arith, e, h .1 .0)),
+      ne-eqb code 9 (λ e. omega (arith, e, h .1 .0)),
       le-leb 1 code (h .0),
       le-leb code 6 (h .1 .0),
       le-leb offset 1073741824 (h .1 .1),
@@ -90,16 +93,20 @@ answer-possible f (read.Refused code offset) w h =
 answer-possible f read.TooLarge w h = refl
 answer-possible f read.NoRoom w h = refl
 
--- The claim, for every data set and every buffer.
-pub judge-possible : (s buffer : List ℕ) → possible (verdictOf (judgeOf s buffer)) ≡ true
+possible-answer : (s buffer : List ℕ) → possible (verdictOf (judgeOf s buffer)) ≡ true
 unfolding judgeOf
-judge-possible s buffer =
+possible-answer s buffer =
     answer-possible (findingOf (nodesOf s)) (answerOf (readingOf s) buffer) (finding-fits (nodesOf s) (findingOf (nodesOf s)) refl) (answer-small s buffer)
+
+-- The claim.
+pub judge-possible : JudgePossible
+unfolding writable
+judge-possible s buffer = rw (possible-answer s buffer)
 
 -- ---- The numbers of an answer are small
 
 pub judge-small : (s buffer : List ℕ) → Small (verdictOf (judgeOf s buffer))
-judge-small s buffer = possible-small (verdictOf (judgeOf s buffer)) (judge-possible s buffer)
+judge-small s buffer = possible-small (verdictOf (judgeOf s buffer)) (possible-answer s buffer)
 
 rows-few : (f : Finding) (a : ReadAnswer) → SmallAnswer a → rowCountOf (answerFor f a) ≤ 134217728
 rows-few finding.Accepted (read.Done n) h = h

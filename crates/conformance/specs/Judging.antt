@@ -11,6 +11,7 @@ use Rattle.dataset.specs.declared.ReadAnswer.the-variants as read
 use Rattle.value.specs.declared.Num.{Num}
 use Rattle.value.specs.declared.Num.the-variants.{Is, Lacks}
 use Rattle.verdict.specs.Verdict.{lastRule, perFrame}
+use Rattle.verdict.specs.declared.RowCount.the-variants.{Known}
 use Rattle.verdict.specs.declared.Verdict.{Verdict}
 use Rattle.node.specs.Nodes.{Node, nodesOf}
 use Rattle.element.specs.Frames.{framesOf}
@@ -100,6 +101,6 @@ offsetOf (judged.Refused code offset) = offset
 offsetOf judged.TooLarge = 0
 offsetOf judged.NoRoom = 0
 
--- The verdict of an answer: the answer without its row count.
+-- The verdict of an answer, with its row count.
 abbrev pub verdictOf : JudgeAnswer → Verdict
-verdictOf a = record { code = codeOf a; rule = ruleOf a; frame = frameOf a; offset = offsetOf a }
+verdictOf a = record { code = codeOf a; rule = ruleOf a; frame = frameOf a; offset = offsetOf a; rows = Known (rowCountOf a) }

@@ -18,6 +18,7 @@ use dataset::ReadAnswer;
 use element::Items;
 use rules_frame::SharedPart;
 use value::Num;
+use verdict::RowCount;
 use verdict::Verdict;
 
 // The number after the last rule's.
@@ -188,40 +189,45 @@ pub fn judge(bytes: &[u8], rows: &mut [u32]) -> JudgeAnswer
     }
 }
 
-// The verdict of an answer: the answer without its row count.
+// The verdict of an answer, with its row count.
 pub fn verdict_of(answer: JudgeAnswer) -> Verdict
     ensures { λ r. ⌜ r ≡ verdictOf answer ⌝ }
 {
     match answer {
-        JudgeAnswer::Accepted(_) => Verdict {
+        JudgeAnswer::Accepted(n) => Verdict {
             code: 0,
             rule: 0,
             frame: 0,
             offset: 0,
+            rows: RowCount::Known(n),
         },
-        JudgeAnswer::Broken(_, rule, frame) => Verdict {
+        JudgeAnswer::Broken(rows, rule, frame) => Verdict {
             code: 9,
             rule,
             frame,
             offset: 0,
+            rows: RowCount::Known(rows),
         },
         JudgeAnswer::Refused(code, offset) => Verdict {
             code,
             rule: 0,
             frame: 0,
             offset,
+            rows: RowCount::Known(0),
         },
         JudgeAnswer::TooLarge => Verdict {
             code: 7,
             rule: 0,
             frame: 0,
             offset: 0,
+            rows: RowCount::Known(0),
         },
         JudgeAnswer::NoRoom => Verdict {
             code: 8,
             rule: 0,
             frame: 0,
             offset: 0,
+            rows: RowCount::Known(0),
         },
     }
 }

@@ -8,7 +8,7 @@ use lib.ListN.{length, take, drop, getD}
 use lib.Dec.{eqb}
 use lib.Seq.{sets, sets-eq}
 use Rattle.verdict.specs.declared.Verdict.{Verdict}
-use Rattle.slip.specs.Slip.{mark, slipSize, le, number, slipOf, equal}
+use Rattle.slip.specs.Slip.{mark, slipSize, le, number, fieldBytes, slipWith, equal}
 
 pub number-one : (s : List ℕ) (p : ℕ) → number 1 s p ≡ getD s p 0
 unfolding number
@@ -33,10 +33,10 @@ marked (x ∷ []) h = absurd (omega arith)
 marked (x ∷ y ∷ []) h = absurd (omega arith)
 marked (x ∷ y ∷ z ∷ s) h = simp and-true
 
-pub length-slip : (v : Verdict) → length (slipOf v) ≡ slipSize
-unfolding slipOf le
-length-slip v = refl
+pub length-slip : (v : Verdict) (n : ℕ) → length (slipWith v n) ≡ slipSize
+unfolding slipWith fieldBytes le
+length-slip v n = refl
 
-pub written : (v : Verdict) (s : List ℕ) → slipSize ≤ length s → sets s 0 (slipOf v) ≡ slipOf v ++ drop slipSize s
-unfolding slipOf le
-written v s h = sets-eq (slipOf v) s 0 h
+pub written : (v : Verdict) (n : ℕ) (s : List ℕ) → slipSize ≤ length s → sets s 0 (slipWith v n) ≡ slipWith v n ++ drop slipSize s
+unfolding slipWith fieldBytes le
+written v n s h = sets-eq (slipWith v n) s 0 h

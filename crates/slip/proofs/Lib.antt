@@ -1,3 +1,3 @@
 -- What the proofs of several functions use, and the theorems.
 pub mod Laws
-pub mod Theorems
+pub mod Slips

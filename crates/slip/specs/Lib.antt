@@ -1,1 +1,3 @@
 pub mod Slip
+pub mod Version1
+pub mod Slips

@@ -1,25 +1,33 @@
--- Verdict slips (document 01, "A slip records a verdict"): the bytes of a slip, and what reading and writing one answer.
+-- Verdict slips (document 01, "A slip records a verdict"; document 02, Q-13): the bytes of a slip, and what reading and
+-- writing one answer. Slips of version 2 are written; those of versions 1 and 2 are read.
 use Prim.Native.Nat.{ℕ, zero, suc, _+_, _*_, _/_, _%_}
 use mathlib.Core.Bool.{Bool, true, false, cond, not, _&&_}
 use mathlib.Core.List.{List, [], _∷_, _++_}
 use lib.ListN.{length, take, drop, getD}
 use lib.Dec.{eqb, leb}
-use Rattle.verdict.specs.Verdict.{possible}
+use Rattle.verdict.specs.Verdict.{possible, writable}
+use Rattle.verdict.specs.declared.RowCount.{RowCount}
+use Rattle.verdict.specs.declared.RowCount.the-variants.{Known, NotKnown}
 use Rattle.verdict.specs.declared.Verdict.{Verdict}
 use Rattle.slip.specs.declared.SlipAnswer.{SlipAnswer}
 use Rattle.slip.specs.declared.SlipAnswer.the-variants as read
 use Rattle.slip.specs.declared.WriteAnswer.{WriteAnswer}
 use Rattle.slip.specs.declared.WriteAnswer.the-variants as write
 
--- ---- The layout: "XAV", version (16 bits, 1), code (8), rule (8), frame (16), offset (32), little-endian
+-- ---- The layout: "XAV", version (16 bits), code (8), rule (8), frame (16), offset (32); in version 2 also the row count
+-- (32); little-endian
 
 abbrev pub mark : List ℕ
 mark = 0x58 ∷ 0x41 ∷ 0x56 ∷ []
 
+-- The version that is written, and the one that is only read.
 abbrev pub version : ℕ
-version = 1
+version = 2
 
--- Where each field stands, and how long a slip is.
+abbrev pub oldVersion : ℕ
+oldVersion = 1
+
+-- Where each field stands, and how long a slip of each version is.
 abbrev pub versionAt : ℕ
 versionAt = 3
 
@@ -35,8 +43,14 @@ frameAt = 7
 abbrev pub offsetAt : ℕ
 offsetAt = 9
 
+abbrev pub rowsAt : ℕ
+rowsAt = 13
+
+abbrev pub oldSize : ℕ
+oldSize = 13
+
 abbrev pub slipSize : ℕ
-slipSize = 13
+slipSize = 17
 
 -- The lowest n bytes of a number, little-endian.
 unfoldable pub le : ℕ → ℕ → List ℕ
@@ -48,11 +62,23 @@ unfoldable pub number : ℕ → List ℕ → ℕ → ℕ
 number zero s p = 0
 number (suc n) s p = getD s p 0 + 256 * number n s (p + 1)
 
--- The bytes of a verdict's slip.
-unfoldable pub slipOf : Verdict → List ℕ
-slipOf v = mark ++ (le 2 version ++ (le 1 (v .code) ++ (le 1 (v .rule) ++ (le 2 (v .frame) ++ le 4 (v .offset)))))
+-- The bytes that slips of both versions have, each with its version.
+unfoldable pub fieldBytes : ℕ → Verdict → List ℕ
+fieldBytes k v = mark ++ (le 2 k ++ (le 1 (v .code) ++ (le 1 (v .rule) ++ (le 2 (v .frame) ++ le 4 (v .offset)))))
 
--- ---- Reading: 12, then 13, then 14
+-- The bytes of a verdict's slip with n rows.
+unfoldable pub slipWith : Verdict → ℕ → List ℕ
+slipWith v n = fieldBytes version v ++ le 4 n
+
+-- The bytes of a verdict's slip. A verdict whose row count is not known has none.
+abbrev pub slipBy : Verdict → RowCount → List ℕ
+slipBy v (Known n) = slipWith v n
+slipBy v NotKnown = []
+
+abbrev pub slipOf : Verdict → List ℕ
+slipOf v = slipBy v (v .rows)
+
+-- ---- Reading: 12 for fewer than 5 bytes or a wrong mark; 13; 12 where the length is not the version's; 14
 
 unfoldable pub equal : List ℕ → List ℕ → Bool
 equal [] [] = true
@@ -60,25 +86,47 @@ equal [] (y ∷ ys) = false
 equal (x ∷ xs) [] = false
 equal (x ∷ xs) (y ∷ ys) = eqb x y && equal xs ys
 
--- The fields of a slip as they stand.
-abbrev pub fieldsOf : List ℕ → Verdict
-fieldsOf s = record { code = number 1 s codeAt; rule = number 1 s ruleAt; frame = number 2 s frameAt; offset = number 4 s offsetAt }
+-- Mark and version.
+abbrev pub headSize : ℕ
+headSize = 5
+
+-- The fields of a slip as they stand, with a row count.
+abbrev pub fieldsOf : List ℕ → RowCount → Verdict
+fieldsOf s rows = record {
+  code = number 1 s codeAt;
+  rule = number 1 s ruleAt;
+  frame = number 2 s frameAt;
+  offset = number 4 s offsetAt;
+  rows = rows;
+}
+
+unfoldable pub ifPossible : Verdict → SlipAnswer
+ifPossible v = cond (not (possible v)) (read.Refused 14) (read.Read v)
+
+-- A slip of a version whose slips have `size` bytes.
+unfoldable pub readSized : ℕ → RowCount → List ℕ → SlipAnswer
+readSized size rows s = cond (not (eqb (length s) size)) (read.Refused 12) (ifPossible (fieldsOf s rows))
+
+-- Version 1 does not say the row count.
+unfoldable pub readVersion : ℕ → List ℕ → SlipAnswer
+readVersion k s =
+    cond (eqb k oldVersion) (readSized oldSize NotKnown s)
+    (cond (eqb k version) (readSized slipSize (Known (number 4 s rowsAt)) s)
+    (read.Refused 13))
 
 unfoldable pub readOf : List ℕ → SlipAnswer
 readOf s =
-    cond (not (eqb (length s) slipSize && equal (take 3 s) mark)) (read.Refused 12)
-    (cond (not (eqb (number 2 s versionAt) version)) (read.Refused 13)
-    (cond (not (possible (fieldsOf s))) (read.Refused 14)
-    (read.Read (fieldsOf s))))
+    cond (not (leb headSize (length s) && equal (take 3 s) mark)) (read.Refused 12)
+    (readVersion (number 2 s versionAt) s)
 
--- ---- Writing: 14, then 11
+-- ---- Writing: 14, for a count that is not known too; then 11
 
 unfoldable pub writeOf : Verdict → List ℕ → WriteAnswer
 writeOf v buffer =
-    cond (not (possible v)) (write.Refused 14)
+    cond (not (writable v)) (write.Refused 14)
     (cond (not (leb slipSize (length buffer))) (write.Refused 11)
     write.Written)
 
 -- The buffer afterwards: the slip, and untouched beyond it; untouched by a refusal.
 unfoldable pub bufferOf : Verdict → List ℕ → List ℕ
-bufferOf v buffer = cond (possible v && leb slipSize (length buffer)) (slipOf v ++ drop slipSize buffer) buffer
+bufferOf v buffer = cond (writable v && leb slipSize (length buffer)) (slipOf v ++ drop slipSize buffer) buffer

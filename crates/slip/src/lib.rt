@@ -1,17 +1,25 @@
-// Verdict slips: 13 bytes that record a verdict. specs/ says what a slip is; `write_slip` and `read_slip` are the public
-// calls. A slip's bytes: the mark from 0, the version from 3, the code at 5, the rule at 6, the frame from 7, the offset
-// from 9.
+// Verdict slips: 17 bytes that record a verdict with its row count. specs/ says what a slip is; `write_slip` and
+// `read_slip` are the public calls. A slip's bytes: the mark from 0, the version from 3, the code at 5, the rule at 6, the
+// frame from 7, the offset from 9, the row count from 13. Slips of version 1, which are read too, end before the row count.
 ghost use mathlib.Core.Path.{_≡_};
 ghost use mathlib.Core.List.{_++_};
 ghost use Prim.Native.Nat.{_+_, _≤_, _<_};
 ghost use lib.ListN.{length, take, drop};
-ghost use Rattle.slip.specs.Slip.{slipSize, mark, number, equal, fieldsOf, slipOf, readOf, writeOf, bufferOf};
+ghost use Rattle.verdict.specs.declared.RowCount.the-variants.{Known, NotKnown};
+ghost use Rattle.slip.specs.Slip.{headSize, oldSize, slipSize, rowsAt, versionAt, mark, number, equal, fieldsOf, ifPossible, readSized, readVersion, slipWith, readOf, writeOf, bufferOf};
+use verdict::RowCount;
 use verdict::Verdict;
 
-// How many bytes a slip has.
-pub const SIZE: usize = 13;
+// How many bytes a slip has: those of its mark and version; of version 1; as written.
+const HEAD: usize = 5;
 
-const VERSION: usize = 1;
+const OLD_SIZE: usize = 13;
+
+pub const SIZE: usize = 17;
+
+const OLD_VERSION: usize = 1;
+
+const VERSION: usize = 2;
 
 // The answer of `read_slip`: the verdict, or a refusal's code.
 pub enum SlipAnswer {
@@ -59,10 +67,10 @@ fn is_marked(s: &[u8]) -> bool
     }
 }
 
-// The fields of a slip as they stand.
-fn fields(s: &[u8]) -> Verdict
-    requires { ⌜ slipSize ≤ length (now s) ⌝ }
-    ensures { λ r. ⌜ r ≡ fieldsOf (now (s .entry)) ⌝ }
+// The fields of a slip as they stand, with a row count.
+fn fields(s: &[u8], rows: RowCount) -> Verdict
+    requires { ⌜ oldSize ≤ length (now s) ⌝ }
+    ensures { λ r. ⌜ r ≡ fieldsOf (now (s .entry)) rows ⌝ }
 {
     let code = wide(s[5]);
     let rule = wide(s[6]);
@@ -73,26 +81,67 @@ fn fields(s: &[u8]) -> Verdict
         rule,
         frame,
         offset,
+        rows,
     }
 }
 
-// The verdict that a slip records; code 12 where it is not 13 bytes or has another mark, 13 where its version is not 1,
-// 14 where its fields are not possible.
+fn if_possible(v: Verdict) -> SlipAnswer
+    ensures { λ r. ⌜ r ≡ ifPossible v ⌝ }
+{
+    if verdict::is_possible(v) {
+        SlipAnswer::Read(v)
+    } else {
+        SlipAnswer::Refused(14)
+    }
+}
+
+// A slip of version 1: its row count is not known.
+fn read_old(slip: &[u8]) -> SlipAnswer
+    ensures { λ r. ⌜ r ≡ readSized oldSize NotKnown (now (slip .entry)) ⌝ }
+{
+    if slip.len() == OLD_SIZE {
+        if_possible(fields(slip, RowCount::NotKnown))
+    } else {
+        SlipAnswer::Refused(12)
+    }
+}
+
+// A slip of version 2.
+fn read_new(slip: &[u8]) -> SlipAnswer
+    ensures { λ r. ⌜ r ≡ readSized slipSize (Known (number 4 (now (slip .entry)) rowsAt)) (now (slip .entry)) ⌝ }
+{
+    if slip.len() == SIZE {
+        let n = u32_at(slip, 13);
+        if_possible(fields(slip, RowCount::Known(n)))
+    } else {
+        SlipAnswer::Refused(12)
+    }
+}
+
+// A slip whose mark is right, by its version.
+fn read_version(slip: &[u8]) -> SlipAnswer
+    requires { ⌜ headSize ≤ length (now slip) ⌝ }
+    ensures { λ r. ⌜ r ≡ readVersion (number 2 (now (slip .entry)) versionAt) (now (slip .entry)) ⌝ }
+{
+    let version = u16_at(slip, 3);
+    if version == OLD_VERSION {
+        return read_old(slip);
+    }
+    if version == VERSION {
+        read_new(slip)
+    } else {
+        SlipAnswer::Refused(13)
+    }
+}
+
+// The verdict that a slip records; code 12 where it has fewer than 5 bytes or another mark, 13 where its version is
+// neither 1 nor 2, 12 where it is not as long as its version's slips, 14 where its fields are not possible.
 pub fn read_slip(slip: &[u8]) -> SlipAnswer
     ensures { λ r. ⌜ r ≡ readOf (now (slip .entry)) ⌝ }
 {
-    if slip.len() == SIZE {
+    if HEAD <= slip.len() {
         if is_marked(slip) {
-            if u16_at(slip, 3) == VERSION {
-                let v = fields(slip);
-                if verdict::is_possible(v) {
-                    SlipAnswer::Read(v)
-                } else {
-                    SlipAnswer::Refused(14)
-                }
-            } else {
-                SlipAnswer::Refused(13)
-            }
+            read_version(slip)
         } else {
             SlipAnswer::Refused(12)
         }
@@ -103,11 +152,11 @@ pub fn read_slip(slip: &[u8]) -> SlipAnswer
 
 // ---- Writing
 
-// Writes a verdict's slip over the first 13 bytes. A field too wide for its bytes would be cut: `write_slip` has the
-// verdict tested first.
-fn put_slip(v: Verdict, slip: &mut [u8])
+// Writes a verdict's slip with n rows over the first 17 bytes. A field too wide for its bytes would be cut: `write_slip`
+// has the verdict tested first.
+fn put_slip(v: Verdict, n: usize, slip: &mut [u8])
     requires { ⌜ slipSize ≤ length (now slip) ⌝ }
-    ensures { λ _. ⌜ now (slip .exit) ≡ slipOf v ++ drop slipSize (now (slip .entry)) ⌝ }
+    ensures { λ _. ⌜ now (slip .exit) ≡ slipWith v n ++ drop slipSize (now (slip .entry)) ⌝ }
 {
     let code = v.code;
     let rule = v.rule;
@@ -126,20 +175,30 @@ fn put_slip(v: Verdict, slip: &mut [u8])
     slip[10] = (offset / 256 % 256) as u8;
     slip[11] = (offset / 256 / 256 % 256) as u8;
     slip[12] = (offset / 256 / 256 / 256 % 256) as u8;
+    slip[13] = (n % 256) as u8;
+    slip[14] = (n / 256 % 256) as u8;
+    slip[15] = (n / 256 / 256 % 256) as u8;
+    slip[16] = (n / 256 / 256 / 256 % 256) as u8;
 }
 
-// Writes a verdict's slip over the first 13 bytes of the buffer; code 14 where the verdict is not possible, then 11
-// where the buffer has fewer than 13 bytes. A refusal leaves the buffer as it was.
+// Writes a verdict's slip over the first 17 bytes of the buffer; code 14 where the verdict is not possible or its row count
+// not known, then 11 where the buffer has fewer than 17 bytes. A refusal leaves the buffer as it was.
 pub fn write_slip(verdict: Verdict, slip: &mut [u8]) -> WriteAnswer
     ensures { λ r. ⌜ r ≡ writeOf verdict (now (slip .entry)) ⌝ }
     ensures { λ _. ⌜ now (slip .exit) ≡ bufferOf verdict (now (slip .entry)) ⌝ }
 {
     if verdict::is_possible(verdict) {
-        if SIZE <= slip.len() {
-            put_slip(verdict, slip);
-            WriteAnswer::Written
-        } else {
-            WriteAnswer::Refused(11)
+        let rows = verdict.rows;
+        match rows {
+            RowCount::Known(n) => {
+                if SIZE <= slip.len() {
+                    put_slip(verdict, n, slip);
+                    WriteAnswer::Written
+                } else {
+                    WriteAnswer::Refused(11)
+                }
+            }
+            RowCount::NotKnown => WriteAnswer::Refused(14),
         }
     } else {
         WriteAnswer::Refused(14)

@@ -1,10 +1,10 @@
-// Writes the slip of the verdict on the data set on standard input to standard output: 13 bytes. An input that is too long
+// Writes the slip of the verdict on the data set on standard input to standard output: 17 bytes. An input that is too long
 // has none, and is said to be on standard error.
 ghost use mathlib.Core.Path.{_≡_};
 ghost use mathlib.Core.Bool.{true};
 ghost use Prim.Native.Nat.{_≤_};
 ghost use lib.ListN.{length};
-ghost use Rattle.verdict.specs.Verdict.{possible};
+ghost use Rattle.verdict.specs.Verdict.{writable};
 ghost use Rattle.slip.specs.Slip.{slipOf};
 ghost use Rattle.conformance.specs.Judging.{verdictOf};
 ghost use Rattle.judge_small.specs.Roomy.{roomyOf};
@@ -17,17 +17,17 @@ fn input() -> [u8; 65_537]
     [0; 65_537]
 }
 
-fn slip_of(v: Verdict) -> [u8; 13]
-    requires { ⌜ possible v ≡ true ⌝ }
+fn slip_of(v: Verdict) -> [u8; 17]
+    requires { ⌜ writable v ≡ true ⌝ }
     ensures { λ r. ⌜ r ≡ slipOf v ⌝ }
 {
-    let mut slip = [0u8; 13];
+    let mut slip = [0u8; 17];
     slip::write_slip(v, &mut slip);
     slip
 }
 
 // The slip of a data set's verdict.
-fn slip_for(bytes: &[u8]) -> [u8; 13]
+fn slip_for(bytes: &[u8]) -> [u8; 17]
     requires { ⌜ length (now bytes) ≤ 65536 ⌝ }
     ensures { λ r. ⌜ r ≡ slipOf (verdictOf (roomyOf (now (bytes .entry)))) ⌝ }
 {

@@ -1,6 +1,11 @@
 // Prints the slip on standard input: a line of numbers, then what it means in words.
 use slip::SlipAnswer;
+use verdict::RowCount;
 use verdict::Verdict;
+
+fn print_words(words: &[u8]) {
+    io::write_all(1, words);
+}
 
 // A name and its number.
 fn print_field(name: &[u8], n: usize) {
@@ -9,11 +14,22 @@ fn print_field(name: &[u8], n: usize) {
     io::print_decimal(1, n as u64);
 }
 
+// Ends the line of numbers.
+fn print_rows(rows: RowCount) {
+    match rows {
+        RowCount::Known(n) => print_field(b" rows", n),
+        RowCount::NotKnown => print_words(b" rows not known"),
+    }
+    io::write_all(1, b"\n");
+}
+
 fn print_breach(v: Verdict) {
+    let rows = v.rows;
     print_field(b"code", v.code);
     print_field(b" rule", v.rule);
     print_field(b" frame", v.frame);
-    print_field(b"\na rule is broken: rule", v.rule);
+    print_rows(rows);
+    print_field(b"a rule is broken: rule", v.rule);
     if 0 < v.frame {
         print_field(b" at frame", v.frame);
     }
@@ -21,28 +37,32 @@ fn print_breach(v: Verdict) {
 }
 
 fn print_unread(v: Verdict) {
+    let rows = v.rows;
     print_field(b"code", v.code);
     print_field(b" place", v.offset);
-    print_field(b"\nthe data set could not be read: code", v.code);
+    print_rows(rows);
+    print_field(b"the data set could not be read: code", v.code);
     print_field(b" at byte", v.offset);
     io::write_all(1, b"\n");
 }
 
-fn print_alone(code: usize) {
-    print_field(b"code", code);
+fn print_alone(v: Verdict) {
+    let rows = v.rows;
+    print_field(b"code", v.code);
+    print_rows(rows);
+    let code = v.code;
     match code {
-        0 => io::write_all(1, b"\naccepted\n"),
-        7 => io::write_all(1, b"\nthe data set is too large\n"),
-        _ => io::write_all(1, b"\ntoo little room for the rows\n"),
+        0 => print_words(b"accepted\n"),
+        7 => print_words(b"the data set is too large\n"),
+        _ => print_words(b"too little room for the rows\n"),
     }
-    ;
 }
 
 fn print_verdict(v: Verdict) {
     let code = v.code;
     match code {
-        0 => print_alone(code),
-        7 | 8 => print_alone(code),
+        0 => print_alone(v),
+        7 | 8 => print_alone(v),
         9 => print_breach(v),
         _ => print_unread(v),
     }
@@ -51,15 +71,14 @@ fn print_verdict(v: Verdict) {
 fn print_refusal(code: usize) {
     print_field(b"refused: code", code);
     match code {
-        12 => io::write_all(1, b"\nnot a slip: wrong length or mark\n"),
-        13 => io::write_all(1, b"\nunknown slip version\n"),
-        _ => io::write_all(1, b"\nimpossible fields\n"),
+        12 => print_words(b"\nnot a slip: wrong length or mark\n"),
+        13 => print_words(b"\nunknown slip version\n"),
+        _ => print_words(b"\nimpossible fields\n"),
     }
-    ;
 }
 
 fn main() {
-    // A slip has 13 bytes; the rest of the array tells a longer input from one.
+    // A slip has at most 17 bytes; the rest of the array tells a longer input from one.
     let mut buffer = [0u8; 64];
     let n = io::read_full(0, &mut buffer);
     match slip::read_slip(&buffer[..n]) {

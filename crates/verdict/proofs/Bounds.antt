@@ -1,14 +1,16 @@
--- A possible verdict's fields are small: code and rule take 8 bits, the frame 16, the offset 32. Each of the three kinds
--- of possible verdict bounds every field.
-use mathlib.Core.Path.{_≡_}
+-- A possible verdict's fields are small: code and rule take 8 bits, the frame 16, the offset and the row count 32. Each of
+-- the three kinds of possible verdict bounds every field, and the code bounds the count.
+use mathlib.Core.Path.{_≡_, subst}
 use mathlib.Core.Bool.{Bool, true, false, cond, _&&_, _||_}
 use mathlib.Core.Logic.{⊎-elim}
 use Prim.Native.Nat.{ℕ, _<_, _≤_}
 use native.Mathlib.Omega.{arith}
 use borrow.Author.Tests.{eqb-true, leb-true}
 use lib.Dec.{eqb, leb}
+use Rattle.verdict.specs.declared.RowCount.{RowCount}
+use Rattle.verdict.specs.declared.RowCount.the-variants.{Known, NotKnown}
 use Rattle.verdict.specs.declared.Verdict.{Verdict}
-use Rattle.verdict.specs.Verdict.{perFrame, frameFits, lastFrame, lastRule, lastOffset, alone, possiblePlain, possibleRefusal, possibleBreach, possible}
+use Rattle.verdict.specs.Verdict.{perFrame, frameFits, lastFrame, lastRule, lastOffset, alone, possiblePlain, possibleRefusal, possibleBreach, fieldsFit, mostRows, countFits, rowsFit, possible}
 use Rattle.verdict.proofs.Tests.{and-both, or-either}
 
 pub record Small (v : Verdict) : Type 0 where
@@ -66,9 +68,27 @@ breach v e =
       offset = omega (arith, eqb-true (v .offset) 0 (d .1));
     }
 
-pub possible-small : (v : Verdict) → possible v ≡ true → Small v
-unfolding possible
-possible-small v e =
+fields-small : (v : Verdict) → fieldsFit v ≡ true → Small v
+unfolding fieldsFit
+fields-small v e =
     ⊎-elim (plain v)
     (λ r. ⊎-elim (refusal v) (breach v) (or-either (possibleRefusal v) (possibleBreach v) r))
     (or-either (possiblePlain v) (possibleRefusal v || possibleBreach v) e)
+
+count-small : (b : Bool) (n : ℕ) → cond b (leb n mostRows) (eqb n 0) ≡ true → n ≤ mostRows
+count-small true n e = leb-true n mostRows e
+count-small false n e = omega (arith, eqb-true n 0 e)
+
+-- The two parts of being possible.
+pub possible-parts : (v : Verdict) → possible v ≡ true → (fieldsFit v ≡ true) × (rowsFit (v .code) (v .rows) ≡ true)
+unfolding possible
+possible-parts v e = and-both (fieldsFit v) (rowsFit (v .code) (v .rows)) e
+
+pub possible-small : (v : Verdict) → possible v ≡ true → Small v
+possible-small v e = fields-small v (possible-parts v e .0)
+
+-- A possible verdict's count, where it is known, is at most 134,217,728.
+pub possible-rows : (v : Verdict) (n : ℕ) → possible v ≡ true → v .rows ≡ Known n → n ≤ mostRows
+unfolding countFits
+possible-rows v n e k =
+    count-small (eqb (v .code) 0 || eqb (v .code) 9) n (subst (λ (r : RowCount). rowsFit (v .code) r ≡ true) k (possible-parts v e .1))

@@ -1,6 +1,6 @@
-// Verdicts: the code, rule, frame and offset of a judge's answer.
+// Verdicts: the code, rule, frame, offset and row count of a judge's answer.
 ghost use mathlib.Core.Path.{_≡_};
-ghost use Rattle.verdict.specs.Verdict.{perFrame, frameFits, alone, possiblePlain, possibleRefusal, possibleBreach, possible};
+ghost use Rattle.verdict.specs.Verdict.{perFrame, frameFits, alone, possiblePlain, possibleRefusal, possibleBreach, fieldsFit, countFits, rowsFit, possible};
 
 // The number of the last rule.
 pub const LAST_RULE: usize = 39;
@@ -11,12 +11,22 @@ pub const LAST_FRAME: usize = 65_535;
 // The largest offset of a refusal.
 const LAST_OFFSET: usize = 1_073_741_824;
 
+// The most rows that a data set has.
+const MOST_ROWS: usize = 134_217_728;
+
+// A row count, known or not: a slip of version 1 does not say it.
+pub enum RowCount {
+    Known(usize),
+    NotKnown,
+}
+
 // The numbers are wide enough to hold verdicts that are not possible.
 pub struct Verdict {
     pub code: usize,
     pub rule: usize,
     pub frame: usize,
     pub offset: usize,
+    pub rows: RowCount,
 }
 
 // Whether a rule is asked at each frame.
@@ -99,9 +109,9 @@ fn is_breach(v: Verdict) -> bool
     false
 }
 
-// Whether a verdict is possible.
-pub fn is_possible(v: Verdict) -> bool
-    ensures { λ r. ⌜ r ≡ possible v ⌝ }
+// Whether code, rule, frame and offset go together.
+fn fields_fit(v: Verdict) -> bool
+    ensures { λ r. ⌜ r ≡ fieldsFit v ⌝ }
 {
     if is_plain(v) {
         return true;
@@ -110,4 +120,35 @@ pub fn is_possible(v: Verdict) -> bool
         return true;
     }
     is_breach(v)
+}
+
+// Whether a number of rows goes with a code.
+fn count_fits(code: usize, n: usize) -> bool
+    ensures { λ r. ⌜ r ≡ countFits code n ⌝ }
+{
+    if code == 0 {
+        return n <= MOST_ROWS;
+    }
+    if code == 9 { n <= MOST_ROWS } else { n == 0 }
+}
+
+fn rows_fit(code: usize, rows: RowCount) -> bool
+    ensures { λ r. ⌜ r ≡ rowsFit code rows ⌝ }
+{
+    match rows {
+        RowCount::Known(n) => count_fits(code, n),
+        RowCount::NotKnown => true,
+    }
+}
+
+// Whether a verdict is possible.
+pub fn is_possible(v: Verdict) -> bool
+    ensures { λ r. ⌜ r ≡ possible v ⌝ }
+{
+    if fields_fit(v) {
+        let rows = v.rows;
+        rows_fit(v.code, rows)
+    } else {
+        false
+    }
 }

@@ -1,6 +1,6 @@
--- `put_slip` leaves the slip and, beyond it, the buffer as it was: thirteen stores in a row are the list of what they store.
+-- `put_slip` leaves the slip and, beyond it, the buffer as it was: seventeen stores in a row are the list of what they store.
 use Rattle.slip.proofs.Laws.{written}
-use Rattle.slip.specs.Slip.{slipOf, le}
+use Rattle.slip.specs.Slip.{fieldBytes, slipWith, le}
 use lib.ListN.{length-set}
 use native.Mathlib.Omega.{arith}
 use borrow.Author.Needs.{needs}
@@ -76,13 +76,37 @@ cast-slip-10 c = search needs
 slice-write-slip-13 : tie.Need-slice-write-slip-13
 slice-write-slip-13 c = simp length-set (omega arith)
 
+cast-slip-11 : tie.Need-cast-slip-11
+cast-slip-11 c = search needs
+
+slice-write-slip-14 : tie.Need-slice-write-slip-14
+slice-write-slip-14 c = simp length-set (omega arith)
+
+cast-slip-12 : tie.Need-cast-slip-12
+cast-slip-12 c = search needs
+
+slice-write-slip-15 : tie.Need-slice-write-slip-15
+slice-write-slip-15 c = simp length-set (omega arith)
+
+cast-slip-13 : tie.Need-cast-slip-13
+cast-slip-13 c = search needs
+
+slice-write-slip-16 : tie.Need-slice-write-slip-16
+slice-write-slip-16 c = simp length-set (omega arith)
+
+cast-slip-14 : tie.Need-cast-slip-14
+cast-slip-14 c = search needs
+
+slice-write-slip-17 : tie.Need-slice-write-slip-17
+slice-write-slip-17 c = simp length-set (omega arith)
+
 same-length : tie.Need-same-length
 same-length c = simp length-set (omega arith)
 
 returns : tie.Need-returns
-unfolding slipOf le
+unfolding slipWith fieldBytes le
 returns c =
-    written (c .args .v) (c .args .slip .now) (c .pre)
+    written (c .args .v) (c .args .n) (c .args .slip .now) (c .pre)
 
 pub put-slip-spec : {M : Type 1} → statement M
 put-slip-spec =
@@ -111,5 +135,13 @@ put-slip-spec =
     slice-write-slip-12
     cast-slip-10
     slice-write-slip-13
+    cast-slip-11
+    slice-write-slip-14
+    cast-slip-12
+    slice-write-slip-15
+    cast-slip-13
+    slice-write-slip-16
+    cast-slip-14
+    slice-write-slip-17
     same-length
     returns)

@@ -1,6 +1,7 @@
--- `write_slip` answers `writeOf` and leaves `bufferOf`: it tests in the order 14, 11, and stores only after both.
+-- `write_slip` answers `writeOf` and leaves `bufferOf`: it tests in the order 14, 11, and stores only after all tests.
 use mathlib.Core.Path.{refl, sym, _∙_}
 use borrow.Author.Tests.{le-leb, lt-leb}
+use Rattle.verdict.specs.Verdict.{writable}
 use Rattle.slip.specs.Slip.{writeOf, bufferOf}
 use borrow.Author.Needs.{needs}
 use Rattle.slip.proofs.write_slip.Statement.{statement}
@@ -9,28 +10,48 @@ use Rattle.slip.proofs.write_slip.Tie as tie
 is-possible-requires : tie.Need-is-possible-requires
 is-possible-requires c κs = search needs
 
+enum-known-rows : tie.Need-enum-known-rows
+enum-known-rows c = search needs
+
 put-slip-requires : tie.Need-put-slip-requires
 put-slip-requires c κs = search needs
+
+enum-told : tie.Need-enum-told
+enum-told c = search needs
 
 same-length : tie.Need-same-length
 same-length c = search needs
 
 returns : tie.Need-returns
-unfolding writeOf bufferOf
+unfolding writable writeOf bufferOf
 returns c =
-    simp (sym (c .before .before .before .before .before .before .is-possible .ensures) ∙ c .before .before .before .before .before .if1 .taken, le-leb _ _ (c .before .before .before .before .if2 .taken)) (refl, c .before .before .put-slip .ensures)
+    simp (sym (c .before .before .before .before .before .before .before .before .before .is-possible .ensures) ∙ c .before .before .before .before .before .before .before .before .if1 .taken, c .before .before .before .before .before .before .rows .given .1, le-leb _ _ (c .before .before .before .before .if2 .taken)) (refl, c .before .before .put-slip .ensures)
 
 returns-2 : tie.Need-returns-2
-unfolding writeOf bufferOf
+unfolding writable writeOf bufferOf
 returns-2 c =
-    simp (sym (c .before .before .is-possible .ensures) ∙ c .before .if1 .taken, lt-leb _ _ (c .if2 .left)) (refl, refl)
+    simp (sym (c .before .before .before .before .before .is-possible .ensures) ∙ c .before .before .before .before .if1 .taken, c .before .before .rows .given .1, lt-leb _ _ (c .if2 .left)) (refl, refl)
 
 returns-3 : tie.Need-returns-3
-unfolding writeOf bufferOf
+unfolding writable writeOf bufferOf
 returns-3 c =
+    simp (sym (c .before .before .before .is-possible .ensures) ∙ c .before .before .if1 .taken, c .enum-told .given .1) (refl, refl)
+
+returns-4 : tie.Need-returns-4
+unfolding writable writeOf bufferOf
+returns-4 c =
     simp (sym (c .before .is-possible .ensures) ∙ c .if1 .left) (refl, refl)
 
 pub write-slip-spec : {M : Type 1} → statement M
 write-slip-spec =
     tie.close
-    (tie.spec is-possible-requires put-slip-requires same-length returns returns-2 returns-3)
+    (tie.spec
+    is-possible-requires
+    enum-known-rows
+    put-slip-requires
+    enum-told
+    same-length
+    returns
+    returns-2
+    returns-3
+    returns-4)

@@ -1,7 +1,7 @@
--- Every answer of the judge is a possible verdict.
+-- Every answer of the judge is a possible verdict, and its row count is known.
 use mathlib.Core.Path.{ap, _∙_}
 use borrow.Author.Needs.{needs}
-use Rattle.verdict.specs.Verdict.{possible}
+use Rattle.verdict.specs.Verdict.{writable}
 use Rattle.slip.specs.Slip.{slipOf}
 use Rattle.conformance.specs.Judging.{verdictOf}
 use Rattle.conformance.proofs.Possible.{judge-possible}
@@ -16,7 +16,7 @@ verdict-of-requires c κs = search needs
 
 slip-of-requires : tie.Need-slip-of-requires
 slip-of-requires c κs =
-    ap possible (c .verdict-of .ensures ∙ ap verdictOf (c .before .judge-small .ensures)) ∙ judge-possible _ _
+    ap writable (c .verdict-of .ensures ∙ ap verdictOf (c .before .judge-small .ensures)) ∙ judge-possible _ _
 
 returns : tie.Need-returns
 returns c =

@@ -1,7 +1,8 @@
--- A possible verdict is written, and its slip fills the 13 bytes.
+-- A verdict that a slip can record is written, and its slip fills the 17 bytes.
 use mathlib.Core.Path.{_∙_}
+use mathlib.Core.List.{append-nil}
 use borrow.Author.Needs.{needs}
-use Rattle.slip.specs.Slip.{le, slipOf, bufferOf}
+use Rattle.slip.specs.Slip.{bufferOf}
 use Rattle.slip_one.proofs.slip_of.Statement.{statement}
 use Rattle.slip_one.proofs.slip_of.Tie as tie
 
@@ -12,8 +13,8 @@ write-slip-requires : tie.Need-write-slip-requires
 write-slip-requires c κs = search needs
 
 returns : tie.Need-returns
-unfolding bufferOf slipOf le
-returns c = c .before .write-slip .ensures .1 ∙ rw (c .before .before .before .pre)
+unfolding bufferOf
+returns c = c .before .write-slip .ensures .1 ∙ rw (c .before .before .before .pre, append-nil)
 
 pub slip-of-spec : {M : Type 1} → statement M
 slip-of-spec = tie.close (tie.spec slice-aggregate-write-slip write-slip-requires returns)

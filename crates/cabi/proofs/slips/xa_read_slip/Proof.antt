@@ -13,20 +13,20 @@ read-slip-requires c κs = search needs
 enum-known-v : tie.Need-enum-known-v
 enum-known-v c = search needs
 
-answer-of-requires : tie.Need-answer-of-requires
-answer-of-requires c κs =
+slip-of-requires : tie.Need-slip-of-requires
+slip-of-requires c κs =
     slip-narrow _ (c .before .before .before .read-slip .ensures) (c .before .v .given .1)
 
 enum-known-code : tie.Need-enum-known-code
 enum-known-code c = search needs
 
-cast-t7 : tie.Need-cast-t7
-cast-t7 c =
+cast-t6 : tie.Need-cast-t6
+cast-t6 c =
     record { fits = omega (arith, slip-code _ (c .before .before .before .read-slip .ensures) (c .before .code .given .1)) }
 
 returns : tie.Need-returns
 returns c =
-    rw (← c .before .before .before .before .read-slip .ensures, c .before .before .v .given .1, c .answer-of .ensures)
+    c .slip-of .ensures ∙ ap slipAnswer (sym (c .before .before .v .given .1) ∙ c .before .before .before .before .read-slip .ensures)
 
 returns-2 : tie.Need-returns-2
 returns-2 c =
@@ -38,8 +38,8 @@ xa-read-slip-spec =
     (tie.spec
     read-slip-requires
     enum-known-v
-    answer-of-requires
+    slip-of-requires
     enum-known-code
-    cast-t7
+    cast-t6
     returns
     returns-2)

@@ -7,17 +7,8 @@ use borrow.Author.Needs.{needs}
 use Rattle.cabi.proofs.slips.xa_write_slip.Statement.{statement}
 use Rattle.cabi.proofs.slips.xa_write_slip.Tie as tie
 
-cast-t5 : tie.Need-cast-t5
-cast-t5 c = search needs
-
-cast-t6 : tie.Need-cast-t6
-cast-t6 c = search needs
-
-cast-t7 : tie.Need-cast-t7
-cast-t7 c = search needs
-
-cast-t8 : tie.Need-cast-t8
-cast-t8 c = search needs
+verdict-in-requires : tie.Need-verdict-in-requires
+verdict-in-requires c κs = search needs
 
 write-slip-requires : tie.Need-write-slip-requires
 write-slip-requires c κs = search needs
@@ -37,23 +28,20 @@ same-length c = search needs
 
 returns : tie.Need-returns
 returns c =
-    (ap writeCode (sym (c .enum-told .given .1) ∙ c .before .before .before .before .write-slip .ensures .0), c .before .before .before .before .write-slip .ensures .1)
+    rw (← c .before .before .before .before .before .before .verdict-in .ensures) (ap writeCode (sym (c .enum-told .given .1) ∙ c .before .before .before .before .write-slip .ensures .0), c .before .before .before .before .write-slip .ensures .1)
 
 same-length-2 : tie.Need-same-length-2
 same-length-2 c = search needs
 
 returns-2 : tie.Need-returns-2
 returns-2 c =
-    (ap writeCode (sym (c .before .code .given .1) ∙ c .before .before .before .before .before .write-slip .ensures .0), c .before .before .before .before .before .write-slip .ensures .1)
+    rw (← c .before .before .before .before .before .before .before .verdict-in .ensures) (ap writeCode (sym (c .before .code .given .1) ∙ c .before .before .before .before .before .write-slip .ensures .0), c .before .before .before .before .before .write-slip .ensures .1)
 
 pub xa-write-slip-spec : {M : Type 1} → statement M
 xa-write-slip-spec =
     tie.close
     (tie.spec
-    cast-t5
-    cast-t6
-    cast-t7
-    cast-t8
+    verdict-in-requires
     write-slip-requires
     enum-told
     enum-known-code

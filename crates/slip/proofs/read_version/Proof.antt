@@ -1,0 +1,36 @@
+-- `read_version` answers `readVersion`: at each return the tests on the version say which of its cases holds.
+use mathlib.Core.Path.{sym, _∙_}
+use borrow.Author.Tests.{eq-eqb, ne-eqb}
+use Rattle.slip.specs.Slip.{readVersion}
+use borrow.Author.Needs.{needs}
+use Rattle.slip.proofs.read_version.Statement.{statement}
+use Rattle.slip.proofs.read_version.Tie as tie
+
+u16-at-requires : tie.Need-u16-at-requires
+u16-at-requires c κs = search needs
+
+read-old-requires : tie.Need-read-old-requires
+read-old-requires c κs = search needs
+
+returns : tie.Need-returns
+unfolding readVersion
+returns c =
+    simp (eq-eqb _ _ (sym (c .before .before .u16-at .ensures .0) ∙ c .before .if1 .taken)) (c .read-old .ensures)
+
+read-new-requires : tie.Need-read-new-requires
+read-new-requires c κs = search needs
+
+returns-2 : tie.Need-returns-2
+unfolding readVersion
+returns-2 c =
+    simp (ne-eqb _ _ (λ e. c .before .before .if1 .left (c .before .before .before .u16-at .ensures .0 ∙ e)), eq-eqb _ _ (sym (c .before .before .before .u16-at .ensures .0) ∙ c .before .if2 .taken)) (c .read-new .ensures)
+
+returns-3 : tie.Need-returns-3
+unfolding readVersion
+returns-3 c =
+    simp (ne-eqb _ _ (λ e. c .before .if1 .left (c .before .before .u16-at .ensures .0 ∙ e)), ne-eqb _ _ (λ e. c .if2 .left (c .before .before .u16-at .ensures .0 ∙ e)))
+
+pub read-version-spec : {M : Type 1} → statement M
+read-version-spec =
+    tie.close
+    (tie.spec u16-at-requires read-old-requires returns read-new-requires returns-2 returns-3)
