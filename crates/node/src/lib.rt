@@ -188,6 +188,9 @@ fn first_from(bytes: &[u8], rows: &[u32], holder: usize, wanted: usize) -> usize
 // How many members a search passes one after the other before it goes by halves.
 const STEPS: usize = 16;
 
+// Among so few nodes no halves are wanted.
+const FEW: usize = 32;
+
 // The first member from `from` up to `to` whose tag is not below the tag, or what follows them, where it is not far.
 fn near(bytes: &[u8], rows: &[u32], from: usize, to: usize, wanted: usize) -> Num
     requires { ⌜ Table (now bytes) (now rows) × (to ≤ length (nodesOf (now bytes))) ⌝ }
@@ -252,6 +255,9 @@ pub fn find_inside(bytes: &[u8], rows: &[u32], holder: usize, wanted: usize) -> 
     ensures { λ r. ⌜ Below (length (nodesOf (now (bytes .entry)))) r ⌝ }
 {
     let to = next(bytes, rows, holder);
+    if to - holder <= FEW {
+        return find_tag(bytes, rows, holder + 1, to, wanted);
+    }
     let i = reach(bytes, rows, holder, holder + 1, to, wanted);
     first_is(bytes, rows, i, to, wanted)
 }

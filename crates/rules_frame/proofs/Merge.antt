@@ -13,7 +13,9 @@ use Rattle.value.specs.declared.Num.the-variants.{Is, Lacks}
 use Rattle.node.specs.Nodes.{Node, nodeAt, nextNode, members, inside}
 use Rattle.node.specs.Find.{holds, andThen, ofVr}
 use Rattle.node.specs.Halves.{Ascends, fromTag, firstIs}
+use Rattle.node.proofs.Walks.{members-end, members-next}
 use Rattle.node.proofs.Halves.{ascends-here, ascends-next, find-first}
+use Rattle.element.specs.Elements.{some}
 use Rattle.rules.specs.Frame.{isShared}
 use Rattle.rules_frame.specs.Merge.{isRepeated}
 
@@ -37,6 +39,19 @@ of-vr ns (Is k) = go (eqb (nodeAt ns k .vr) SQ)
     go true = refl
     go false = refl
 
+and-false : (b : Bool) → (b && false) ≡ false
+and-false true = refl
+and-false false = refl
+
+-- No element repeats a sequence of the shared node, if no tag there is as high as its own.
+none-left : (ns : List Node) (shared : ℕ) → Ascends ns 0 (inside ns shared) → (least : ℕ) (ks : List ℕ) → Ascends ns least ks
+    → ((tag : ℕ) → least ≤ tag → fromTag ns tag (inside ns shared) ≡ []) → some (isShared ns shared) ks ≡ false
+unfolding Ascends some isShared firstIs
+none-left ns shared r least [] a f = refl
+none-left ns shared r least (k ∷ ks) a f =
+    rw (find-first ns (nodeAt ns k .tag) 0 (inside ns shared) r, f (nodeAt ns k .tag) (a .0), and-false (eqb (nodeAt ns k .vr) SQ))
+    (none-left ns shared r (nodeAt ns k .tag) ks (a .1) (λ tag l. f tag (omega (arith, l, a .0))))
+
 -- The walk is at j among the members up to `end`, and at k among those of the shared node, which end at `to`.
 pub record Ahead (ns : List Node) (shared j end k to : ℕ) : Type 0 where
   pub least : ℕ
@@ -58,6 +73,15 @@ module _ (ns : List Node) (shared j end k to : ℕ) (h : j < end) (a : Ahead ns 
         ap (λ (f : Num). eqb (nodeAt ns j .vr) SQ && holds (andThen f (ofVr ns SQ)) (λ k. true))
         (find-first ns (nodeAt ns j .tag) 0 (inside ns shared) r ∙ ap (firstIs ns (nodeAt ns j .tag)) (sym e))
         ∙ ap (λ (b : Bool). eqb (nodeAt ns j .vr) SQ && b) (of-vr ns (firstIs ns (nodeAt ns j .tag) (members ns n to)))
+
+    -- Where the shared item has ended, nothing that is left is repeated.
+    pub ahead-none : to ≤ n → Ascends ns 0 (inside ns shared) → some (isShared ns shared) (members ns j end) ≡ false
+    unfolding Ascends fromTag
+    ahead-none l r =
+        rw (members-next ns j end h)
+        (none-left ns shared r (nodeAt ns j .tag) (j ∷ members ns (nextNode ns j) end)
+        (omega arith, ascends-next ns j end (a .least) h (a .ascends))
+        (λ tag m. sym (from-twice ns (nodeAt ns j .tag) tag (inside ns shared) m) ∙ ap (λ (x : List ℕ). fromTag ns tag x) (sym e ∙ members-end ns n to l)))
 
     pub ahead-next : Ahead ns shared (nextNode ns j) end n to
     ahead-next =

@@ -42,7 +42,7 @@ fn is_repeated(bytes: &[u8], rows: &[u32], j: usize, k: usize, to: usize) -> boo
     }
 }
 
-// Tags ascend in an item, so one walk goes along both items; neither j nor k goes back.
+// Tags ascend in an item, so one walk goes along both items; neither j nor k goes back, and the end of the shared one ends it.
 fn repeats_shared(bytes: &[u8], rows: &[u32], shared: usize, item: usize) -> bool
     requires { ⌜ Table (now bytes) (now rows) × ((shared < length (nodesOf (now bytes))) × (item < length (nodesOf (now bytes)))) ⌝ }
     ensures { λ r. ⌜ r ≡ repeatsShared (nodesOf (now (bytes .entry))) shared item ⌝ }
@@ -53,6 +53,9 @@ fn repeats_shared(bytes: &[u8], rows: &[u32], shared: usize, item: usize) -> boo
     let mut k = shared + 1;
     while j < end {
         k = node::reach(bytes, rows, shared, k, to, node::tag(bytes, rows, j));
+        if to <= k {
+            return false;
+        }
         if is_repeated(bytes, rows, j, k, to) {
             return true;
         }

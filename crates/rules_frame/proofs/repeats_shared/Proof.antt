@@ -9,7 +9,7 @@ use Rattle.node.proofs.Halves.{inside-ascends}
 use Rattle.element.specs.Elements.{some}
 use Rattle.element.proofs.Every.{some-end, some-here, some-later}
 use Rattle.rules.specs.Frame.{isShared, repeatsShared}
-use Rattle.rules_frame.proofs.Merge.{Ahead, ahead-start, ahead-asks, ahead-here, ahead-next}
+use Rattle.rules_frame.proofs.Merge.{Ahead, ahead-start, ahead-asks, ahead-here, ahead-none, ahead-next}
 use Rattle.rules_frame.proofs.repeats_shared.Statement.{statement}
 use Rattle.rules_frame.proofs.repeats_shared.Tie as tie
 
@@ -57,32 +57,24 @@ reach-requires c κs =
     let p = start .pre in
     (p .0, (p .1 .0, (c .before .before .before .next2 .ensures .0, rw (c .tag .ensures) (ahead-asks _ _ _ _ _ _ (c .before .loop-test .taken) (c .before .before .loop .inv .1)))))
 
-is-repeated-requires : tie.Need-is-repeated-requires Inv-loop μ-loop
-is-repeated-requires c κs =
-    let start = c .before .before .before .before .before .before .before .before in
-    (start .pre .0, (omega (arith, c .before .before .loop-test .taken, c .before .before .before .before .before .next .ensures .1), c .before .before .before .before .next2 .ensures .1))
-
 returns : tie.Need-returns Inv-loop μ-loop
 returns c =
-    let start = c .before .before .before .before .before .before .before .before .before .before in
+    let start = c .before .before .before .before .before .before .before .before .before in
     let a = start .args in
     let p = start .pre in
-    let inside-j = c .before .before .before .before .loop-test .taken in
-    let inv = c .before .before .before .before .before .loop .inv in
-    let from = c .before .before .reach .ensures ∙ ap (λ (t : ℕ). fromTag (nodesOf (a .bytes .now)) t (inside (nodesOf (a .bytes .now)) (a .shared))) (c .before .before .before .tag .ensures) in
-    let here = ahead-here _ _ _ _ _ _ inside-j (inv .1) (c .before .before .reach .result) from (inside-ascends _ _ (p .0) (a .shared) (p .1 .0)) in
-    sym (some-here _ _ _ _ inside-j (here ∙ sym (c .before .is-repeated .ensures) ∙ c .if1 .taken)) ∙ inv .0
+    let inside-j = c .before .before .before .loop-test .taken in
+    let inv = c .before .before .before .before .loop .inv in
+    let from = c .before .reach .ensures ∙ ap (λ (t : ℕ). fromTag (nodesOf (a .bytes .now)) t (inside (nodesOf (a .bytes .now)) (a .shared))) (c .before .before .tag .ensures) in
+    let none = ahead-none _ _ _ _ _ _ inside-j (inv .1) (c .before .reach .result) from (c .if1 .taken) (inside-ascends _ _ (p .0) (a .shared) (p .1 .0)) in
+    sym none ∙ inv .0
 
-next-requires-3 : tie.Need-next-requires-3 Inv-loop μ-loop
-next-requires-3 c κs =
-    let start = c .before .before .before .before .before .before .before .before .before .before in
-    (start .pre .0, omega (arith, c .before .before .before .before .loop-test .taken, c .before .before .before .before .before .before .before .next .ensures .1))
+is-repeated-requires : tie.Need-is-repeated-requires Inv-loop μ-loop
+is-repeated-requires c κs =
+    let start = c .before .before .before .before .before .before .before .before .before in
+    (start .pre .0, (omega (arith, c .before .before .before .loop-test .taken, c .before .before .before .before .before .before .next .ensures .1), c .before .before .before .before .before .next2 .ensures .1))
 
-loop-less : tie.Need-loop-less Inv-loop μ-loop
-loop-less c = omega (arith, c .next3 .ensures .0, c .before .before .before .before .before .loop-test .taken)
-
-loop-again : tie.Need-loop-again Inv-loop μ-loop
-loop-again c =
+returns-2 : tie.Need-returns-2 Inv-loop μ-loop
+returns-2 c =
     let start = c .before .before .before .before .before .before .before .before .before .before .before in
     let a = start .args in
     let p = start .pre in
@@ -90,13 +82,32 @@ loop-again c =
     let inv = c .before .before .before .before .before .before .loop .inv in
     let from = c .before .before .before .reach .ensures ∙ ap (λ (t : ℕ). fromTag (nodesOf (a .bytes .now)) t (inside (nodesOf (a .bytes .now)) (a .shared))) (c .before .before .before .before .tag .ensures) in
     let here = ahead-here _ _ _ _ _ _ inside-j (inv .1) (c .before .before .before .reach .result) from (inside-ascends _ _ (p .0) (a .shared) (p .1 .0)) in
+    sym (some-here _ _ _ _ inside-j (here ∙ sym (c .before .is-repeated .ensures) ∙ c .if2 .taken)) ∙ inv .0
+
+next-requires-3 : tie.Need-next-requires-3 Inv-loop μ-loop
+next-requires-3 c κs =
+    let start = c .before .before .before .before .before .before .before .before .before .before .before in
+    (start .pre .0, omega (arith, c .before .before .before .before .before .loop-test .taken, c .before .before .before .before .before .before .before .before .next .ensures .1))
+
+loop-less : tie.Need-loop-less Inv-loop μ-loop
+loop-less c = omega (arith, c .next3 .ensures .0, c .before .before .before .before .before .before .loop-test .taken)
+
+loop-again : tie.Need-loop-again Inv-loop μ-loop
+loop-again c =
+    let start = c .before .before .before .before .before .before .before .before .before .before .before .before in
+    let a = start .args in
+    let p = start .pre in
+    let inside-j = c .before .before .before .before .before .before .loop-test .taken in
+    let inv = c .before .before .before .before .before .before .before .loop .inv in
+    let from = c .before .before .before .before .reach .ensures ∙ ap (λ (t : ℕ). fromTag (nodesOf (a .bytes .now)) t (inside (nodesOf (a .bytes .now)) (a .shared))) (c .before .before .before .before .before .tag .ensures) in
+    let here = ahead-here _ _ _ _ _ _ inside-j (inv .1) (c .before .before .before .before .reach .result) from (inside-ascends _ _ (p .0) (a .shared) (p .1 .0)) in
     rw (c .next3 .ensures .0) (
-      sym (some-later _ _ _ _ inside-j (here ∙ sym (c .before .before .is-repeated .ensures) ∙ c .before .if1 .left)) ∙ inv .0,
-      ahead-next _ _ _ _ _ _ inside-j (inv .1) (c .before .before .before .reach .result) from,
+      sym (some-later _ _ _ _ inside-j (here ∙ sym (c .before .before .is-repeated .ensures) ∙ c .before .if2 .left)) ∙ inv .0,
+      ahead-next _ _ _ _ _ _ inside-j (inv .1) (c .before .before .before .before .reach .result) from,
     )
 
-returns-2 : tie.Need-returns-2 Inv-loop μ-loop
-returns-2 c = sym (some-end _ _ _ _ (omega (arith, c .loop-test .left))) ∙ c .before .loop .inv .0
+returns-3 : tie.Need-returns-3 Inv-loop μ-loop
+returns-3 c = sym (some-end _ _ _ _ (omega (arith, c .loop-test .left))) ∙ c .before .loop .inv .0
 
 pub repeats-shared-spec : {M : Type 1} → statement M
 repeats-shared-spec =
@@ -111,9 +122,10 @@ repeats-shared-spec =
     loop-holds
     tag-requires
     reach-requires
-    is-repeated-requires
     returns
+    is-repeated-requires
+    returns-2
     next-requires-3
     loop-less
     loop-again
-    returns-2)
+    returns-3)
