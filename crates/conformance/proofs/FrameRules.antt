@@ -13,7 +13,7 @@ use Rattle.value.specs.declared.Num.{Num}
 use Rattle.value.specs.declared.Num.the-variants.{Is, Lacks}
 use Rattle.verdict.specs.Verdict.{perFrame}
 use Rattle.node.specs.Nodes.{Node, inside}
-use Rattle.node.specs.Find.{holds, ifPresent, orElse, find}
+use Rattle.node.specs.Find.{holds, ifPresent, orElse, find, holdsOr}
 use Rattle.node.proofs.Walks.{members-end, members-next}
 use Rattle.element.specs.declared.Items.{Items}
 use Rattle.element.specs.Tags
@@ -24,7 +24,7 @@ use Rattle.rules.specs.Frame.{atFrame, item27, item28, item29, item30, item37, 
 use Rattle.rules.specs.Intensity.{isLutGroup, hasLinear, isLog, item39, rule39}
 use Rattle.rules.specs.All.{ruleList, ruleAt}
 use Rattle.intensity.specs.Grades.{grade, gradeOn, agree, relationOf, tableOf, relationIn, tableIn}
-use Rattle.rules_frame.specs.Parts.{groupTag, groupFits, onGroup, groupIn, itemBy, itemGrades, itemRule}
+use Rattle.rules_frame.specs.Parts.{groupTag, groupFits, groupIn, itemBy, itemGrades, itemRule}
 
 true-not-false : true ≡ false → ⊥
 true-not-false w = let u : _≡_ {A = ℕ} 0 1 = cc in omega arith
@@ -39,7 +39,7 @@ at-same ns f p q e = go (sharedItem ns) (frameItem ns f)
     go (Is s) (Is i) = e s i
 
 -- The group in the item, else the shared one.
-group-join : (a b : Num) (p : ℕ → Bool) → onGroup a p (onGroup b p true) ≡ ifPresent (orElse a b) p
+group-join : (a b : Num) (p : ℕ → Bool) → holdsOr a p (holdsOr b p true) ≡ ifPresent (orElse a b) p
 group-join Lacks Lacks p = refl
 group-join Lacks (Is s) p = refl
 group-join (Is g) b p = refl

@@ -14,10 +14,14 @@ use Rattle.element.specs.Frames.{frameItems}
 use Rattle.rules_frame.specs.declared.SharedPart.{SharedPart}
 use Rattle.rules_frame.specs.Parts.{sharedPart}
 
--- What a rule that is asked at each frame comes to in the shared item.
+-- What a rule comes to that asks nothing of a shared item.
+abbrev pub noPart : SharedPart
+noPart = record { ok = true; relation = 1; table = 1 }
+
+-- What a rule that is asked at each frame comes to in the shared item; of any other rule nothing is asked there.
 abbrev pub okFor : List Node → ℕ → Num → SharedPart
-okFor ns rule Lacks = record { ok = true; relation = 1; table = 1 }
-okFor ns rule (Is s) = sharedPart ns rule s
+okFor ns rule Lacks = noPart
+okFor ns rule (Is s) = cond (perFrame rule) (sharedPart ns rule s) noPart
 
 -- The number after the last rule's.
 abbrev pub endRule : ℕ

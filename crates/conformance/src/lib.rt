@@ -13,7 +13,7 @@ ghost use Rattle.element.specs.Frames.{framesOf, sharedItem, frameItems};
 ghost use Rattle.element.specs.Along.{Along};
 ghost use Rattle.rules.specs.All.{ruleAt};
 ghost use Rattle.conformance.specs.Judging.{numberOf, firstFrame, findingOf, judgeOf, verdictOf};
-ghost use Rattle.conformance.specs.Parts.{okFor, Asked, endFrame};
+ghost use Rattle.conformance.specs.Parts.{noPart, okFor, Asked, endFrame};
 use dataset::ReadAnswer;
 use element::Items;
 use rules_frame::SharedPart;
@@ -40,18 +40,32 @@ pub enum JudgeAnswer {
     NoRoom,
 }
 
-// What a rule that is asked at each frame comes to in the shared item, worked out once for the rule.
+// What a rule comes to that asks nothing of a shared item.
+fn no_part() -> SharedPart
+    ensures { λ r. ⌜ r ≡ noPart ⌝ }
+{
+    SharedPart {
+        ok: true,
+        relation: 1,
+        table: 1,
+    }
+}
+
+// What a rule that is asked at each frame comes to in the shared item, worked out once for the rule. Any other rule asks nothing
+// there.
 fn shared_ok(bytes: &[u8], rows: &[u32], rule: usize, shared: Num) -> SharedPart
     requires { ⌜ Table (now bytes) (now rows) × Below (length (nodesOf (now bytes))) shared ⌝ }
     ensures { λ r. ⌜ r ≡ okFor (nodesOf (now (bytes .entry))) rule shared ⌝ }
 {
     match shared {
-        Num::Lacks => SharedPart {
-            ok: true,
-            relation: 1,
-            table: 1,
-        },
-        Num::Is(s) => rules_frame::shared_part(bytes, rows, rule, s),
+        Num::Lacks => no_part(),
+        Num::Is(s) => {
+            if verdict::per_frame(rule) {
+                rules_frame::shared_part(bytes, rows, rule, s)
+            } else {
+                no_part()
+            }
+        }
     }
 }
 

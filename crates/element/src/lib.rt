@@ -7,10 +7,12 @@ ghost use Prim.Native.Nat.{ℕ, _+_, _-_, _*_, _≤_, _<_};
 ghost use mathlib.Core.Bool.{Bool};
 ghost use lib.ListN.{length, drop};
 ghost use Rattle.node.specs.Nodes.{Node, nodesOf, nodeAt, nextNode, members, root, inside};
-ghost use Rattle.node.specs.Find.{absent, find, findVr, has};
+ghost use Rattle.node.specs.Find.{absent, andThen, holds, find, findVr, has};
 ghost use Rattle.node.specs.Table.{Table};
 ghost use Rattle.value.specs.Said.{Below, SizeBelow};
-ghost use Rattle.element.specs.Elements.{usIn, csIs, uiIs, oneItem, theItem, insideOf, itemsIn, functionOn, functionIn};
+ghost use Rattle.value.specs.Number.{usOf};
+ghost use Rattle.value.specs.Words.{isWord};
+ghost use Rattle.element.specs.Elements.{valueAt, usIn, csIs, uiIs, oneItem, theItem, insideOf, itemsIn, functionOn, functionIn};
 ghost use Rattle.value.specs.declared.Num.the-variants as num;
 ghost use Rattle.element.specs.Frames.{counted, framesOf, sharedItem, frameItems, groupOf, maskItems};
 ghost use Rattle.element.specs.Along.{Along};
@@ -26,26 +28,26 @@ pub struct Items {
     pub end: usize,
 }
 
-// ---- Among the members from `from` up to `to`
+// ---- At what a search found
 
 // A single US.
-pub fn us_in(bytes: &[u8], rows: &[u32], from: usize, to: usize, tag: usize) -> Num
-    requires { ⌜ Table (now bytes) (now rows) × (to ≤ length (nodesOf (now bytes))) ⌝ }
-    ensures { λ r. ⌜ r ≡ usIn (nodesOf (now (bytes .entry))) tag (members (nodesOf (now (bytes .entry))) from to) ⌝ }
+fn us_at(bytes: &[u8], rows: &[u32], found: Num) -> Num
+    requires { ⌜ Table (now bytes) (now rows) × Below (length (nodesOf (now bytes))) found ⌝ }
+    ensures { λ r. ⌜ r ≡ andThen found (λ i. usOf (valueAt (nodesOf (now (bytes .entry))) i)) ⌝ }
     ensures { λ r. ⌜ Below 65536 r ⌝ }
 {
-    match node::find_vr(bytes, rows, from, to, tag, tags::US) {
+    match found {
         Num::Lacks => Num::Lacks,
         Num::Is(i) => value::us_of(node::value(bytes, rows, i)),
     }
 }
 
 // A CS that is the word.
-pub fn cs_in(bytes: &[u8], rows: &[u32], from: usize, to: usize, tag: usize, word: &[u8]) -> bool
-    requires { ⌜ Table (now bytes) (now rows) × (to ≤ length (nodesOf (now bytes))) ⌝ }
-    ensures { λ r. ⌜ r ≡ csIs (nodesOf (now (bytes .entry))) tag (now (word .entry)) (members (nodesOf (now (bytes .entry))) from to) ⌝ }
+fn cs_at(bytes: &[u8], rows: &[u32], found: Num, word: &[u8]) -> bool
+    requires { ⌜ Table (now bytes) (now rows) × Below (length (nodesOf (now bytes))) found ⌝ }
+    ensures { λ r. ⌜ r ≡ holds found (λ i. isWord (valueAt (nodesOf (now (bytes .entry))) i) (now (word .entry))) ⌝ }
 {
-    match node::find_vr(bytes, rows, from, to, tag, tags::CS) {
+    match found {
         Num::Lacks => false,
         Num::Is(i) => value::is_word(node::value(bytes, rows, i), word),
     }
@@ -92,14 +94,14 @@ pub fn us_root(bytes: &[u8], rows: &[u32], tag: usize) -> Num
     ensures { λ r. ⌜ r ≡ usIn (nodesOf (now (bytes .entry))) tag (root (nodesOf (now (bytes .entry)))) ⌝ }
     ensures { λ r. ⌜ Below 65536 r ⌝ }
 {
-    us_in(bytes, rows, 0, node::count(bytes, rows), tag)
+    us_at(bytes, rows, find_vr_root(bytes, rows, tag, tags::US))
 }
 
 pub fn cs_root(bytes: &[u8], rows: &[u32], tag: usize, word: &[u8]) -> bool
     requires { ⌜ Table (now bytes) (now rows) ⌝ }
     ensures { λ r. ⌜ r ≡ csIs (nodesOf (now (bytes .entry))) tag (now (word .entry)) (root (nodesOf (now (bytes .entry)))) ⌝ }
 {
-    cs_in(bytes, rows, 0, node::count(bytes, rows), tag, word)
+    cs_at(bytes, rows, find_vr_root(bytes, rows, tag, tags::CS), word)
 }
 
 // A UI that is the UID.
@@ -115,19 +117,12 @@ pub fn ui_root(bytes: &[u8], rows: &[u32], tag: usize, uid: &[u8]) -> bool
 
 // ---- In an item, or directly in another node
 
-// Up to so many nodes one step after another finds an element sooner than halves do.
-const FEW: usize = 32;
-
 pub fn find_item(bytes: &[u8], rows: &[u32], item: usize, tag: usize) -> Num
     requires { ⌜ Table (now bytes) (now rows) × (item < length (nodesOf (now bytes))) ⌝ }
     ensures { λ r. ⌜ r ≡ find (nodesOf (now (bytes .entry))) tag (inside (nodesOf (now (bytes .entry))) item) ⌝ }
     ensures { λ r. ⌜ Below (length (nodesOf (now (bytes .entry)))) r ⌝ }
 {
-    let to = node::next(bytes, rows, item);
-    if to - item <= FEW {
-        return node::find_tag(bytes, rows, item + 1, to, tag);
-    }
-    node::find_wide(bytes, rows, item, tag)
+    node::find_inside(bytes, rows, item, tag)
 }
 
 pub fn find_vr_item(bytes: &[u8], rows: &[u32], item: usize, tag: usize, vr: usize) -> Num
@@ -152,19 +147,17 @@ pub fn us_item(bytes: &[u8], rows: &[u32], item: usize, tag: usize) -> Num
     ensures { λ r. ⌜ r ≡ usIn (nodesOf (now (bytes .entry))) tag (inside (nodesOf (now (bytes .entry))) item) ⌝ }
     ensures { λ r. ⌜ Below 65536 r ⌝ }
 {
-    us_in(bytes, rows, item + 1, node::next(bytes, rows, item), tag)
+    us_at(bytes, rows, find_vr_item(bytes, rows, item, tag, tags::US))
 }
 
 pub fn cs_item(bytes: &[u8], rows: &[u32], item: usize, tag: usize, word: &[u8]) -> bool
     requires { ⌜ Table (now bytes) (now rows) × (item < length (nodesOf (now bytes))) ⌝ }
     ensures { λ r. ⌜ r ≡ csIs (nodesOf (now (bytes .entry))) tag (now (word .entry)) (inside (nodesOf (now (bytes .entry))) item) ⌝ }
 {
-    cs_in(
+    cs_at(
         bytes,
         rows,
-        item + 1,
-        node::next(bytes, rows, item),
-        tag,
+        find_vr_item(bytes, rows, item, tag, tags::CS),
         word,
     )
 }

@@ -9,7 +9,7 @@ use mathlib.Core.Logic.{inl, inr}
 use mathlib.Core.Bool.{Bool, true, false, cond}
 use lib.ListN.{length}
 use lib.Dec.{eqb, ltb}
-use borrow.Author.Tests.{lt-ltb, le-ltb, ne-eqb, ltb-true, ltb-false}
+use borrow.Author.Tests.{lt-ltb, le-ltb, eq-eqb, ne-eqb, ltb-true, ltb-false, eqb-false}
 use Rattle.dataset.specs.Header.{itemTag}
 use Rattle.dataset.specs.Reading.{Row}
 use Rattle.dataset.specs.Tree.{rowsOf, rowAt, nextRow, Kind, elements, items, insideOf, depthInside, Member, Members}
@@ -17,12 +17,12 @@ use Rattle.dataset.proofs.Tree.{rows-members}
 use Rattle.dataset.proofs.Laws.{Found, row-found, row-next, row-nested}
 use Rattle.dataset.proofs.Parents.{Placed, placed}
 use Rattle.value.specs.declared.Num.the-variants.{Is, Lacks}
-use Rattle.node.specs.Nodes.{Node, nodesOf, nodeAt, nextNode, members, inside}
+use Rattle.node.specs.Nodes.{Node, nodesOf, nodeAt, nextNode, members, root, inside}
 use Rattle.node.specs.Find.{find}
 use Rattle.node.specs.Table.{Table}
-use Rattle.node.specs.Halves.{lower, MemberAbove}
+use Rattle.node.specs.Halves.{Ascends, fromTag, firstIs, lower, MemberAbove}
 use Rattle.node.proofs.Laws.{nodes-count, node-is}
-use Rattle.node.proofs.Walks.{members-end, members-next, find-end, find-here, find-later}
+use Rattle.node.proofs.Walks.{members-end, members-next, find-later}
 
 -- ---- Tags that never descend
 
@@ -43,6 +43,49 @@ member-on : (size : ℕ) (kind : Kind) (depth holder least : ℕ) (r : Row) → 
 member-on size elements depth holder least r m = omega arith
 member-on size items depth holder least r m = omega (arith, m .is .0)
 
+-- What is sought among members whose tags are all above it is not there.
+pub find-above : (ns : List Node) (tag least : ℕ) (is : List ℕ) → Ascends ns least is → tag < least → find ns tag is ≡ Lacks
+unfolding Ascends find
+find-above ns tag least [] a l = refl
+find-above ns tag least (k ∷ ks) a l =
+    rw (ne-eqb (nodeAt ns k .tag) tag (λ e. omega (arith, a .0)))
+    (find-above ns tag (nodeAt ns k .tag) ks (a .1) (omega (arith, a .0)))
+
+pub ascends-here : (ns : List Node) (i to least : ℕ) → i < to → Ascends ns least (members ns i to) → least ≤ nodeAt ns i .tag
+unfolding Ascends
+ascends-here ns i to least h a =
+    let b : Ascends ns least (i ∷ members ns (nextNode ns i) to) = subst (λ (l : List ℕ). Ascends ns least l) (members-next ns i to h) a in
+    b .0
+
+-- The members after one that is passed.
+pub ascends-next : (ns : List Node) (i to least : ℕ) → i < to → Ascends ns least (members ns i to)
+    → Ascends ns (nodeAt ns i .tag) (members ns (nextNode ns i) to)
+unfolding Ascends
+ascends-next ns i to least h a =
+    let b : Ascends ns least (i ∷ members ns (nextNode ns i) to) = subst (λ (l : List ℕ). Ascends ns least l) (members-next ns i to h) a in
+    b .1
+
+-- The search may stop at a member whose tag is above the one sought.
+pub find-past : (ns : List Node) (tag i to least : ℕ) → i < to → Ascends ns least (members ns i to) → tag < nodeAt ns i .tag
+    → find ns tag (members ns i to) ≡ Lacks
+find-past ns tag i to least h a l =
+    find-later ns tag i to h (λ e. omega arith) ∙ find-above ns tag (nodeAt ns i .tag) (members ns (nextNode ns i) to) (ascends-next ns i to least h a) l
+
+-- What is found is the first member whose tag is not below the one sought, if it has that tag.
+pub find-first : (ns : List Node) (tag least : ℕ) (is : List ℕ) → Ascends ns least is → find ns tag is ≡ firstIs ns tag (fromTag ns tag is)
+unfolding Ascends find fromTag firstIs
+find-first ns tag least [] a = refl
+find-first ns tag least (k ∷ ks) a =
+    go (find-first ns tag (nodeAt ns k .tag) ks (a .1)) (ltb (nodeAt ns k .tag) tag) refl (eqb (nodeAt ns k .tag) tag) refl
+  where
+    go : find ns tag ks ≡ firstIs ns tag (fromTag ns tag ks) → (t : Bool) → ltb (nodeAt ns k .tag) tag ≡ t → (u : Bool) → eqb (nodeAt ns k .tag) tag ≡ u
+        → find ns tag (k ∷ ks) ≡ firstIs ns tag (fromTag ns tag (k ∷ ks))
+    go x true d u e = rw (d, ne-eqb (nodeAt ns k .tag) tag (λ z. omega (arith, ltb-true (nodeAt ns k .tag) tag d))) x
+    go x false d true e = rw (d, e)
+    go x false d false e =
+        let n = eqb-false (nodeAt ns k .tag) tag e in
+        rw (d, e) (find-above ns tag (nodeAt ns k .tag) ks (a .1) (omega (arith, ltb-false (nodeAt ns k .tag) tag d)))
+
 -- ---- One member
 
 module _ (ns : List Node) (tag i to : ℕ) where
@@ -57,6 +100,31 @@ module _ (ns : List Node) (tag i to : ℕ) where
   lower-later : i < to → nodeAt ns i .tag < tag → lower ns tag (members ns i to) to ≡ lower ns tag (members ns (nextNode ns i) to) to
   unfolding lower
   lower-later h l = rw (members-next ns i to h, lt-ltb (nodeAt ns i .tag) tag l)
+
+module _ (ns : List Node) (tag k to : ℕ) where
+  pub from-end : to ≤ k → members ns k to ≡ fromTag ns tag (members ns k to)
+  unfolding fromTag
+  from-end h = rw (members-end ns k to h)
+
+  pub from-here : k < to → tag ≤ nodeAt ns k .tag → members ns k to ≡ fromTag ns tag (members ns k to)
+  unfolding fromTag
+  from-here h l = rw (members-next ns k to h, le-ltb (nodeAt ns k .tag) tag l)
+
+  pub from-later : k < to → nodeAt ns k .tag < tag → fromTag ns tag (members ns (nextNode ns k) to) ≡ fromTag ns tag (members ns k to)
+  unfolding fromTag
+  from-later h l = rw (members-next ns k to h, lt-ltb (nodeAt ns k .tag) tag l)
+
+  pub first-none : to ≤ k → firstIs ns tag (members ns k to) ≡ Lacks
+  unfolding firstIs
+  first-none h = rw (members-end ns k to h)
+
+  pub first-here : k < to → nodeAt ns k .tag ≡ tag → firstIs ns tag (members ns k to) ≡ Is k
+  unfolding firstIs
+  first-here h e = rw (members-next ns k to h, eq-eqb (nodeAt ns k .tag) tag e)
+
+  pub first-other : k < to → (nodeAt ns k .tag ≡ tag → ⊥) → firstIs ns tag (members ns k to) ≡ Lacks
+  unfolding firstIs
+  first-other h n = rw (members-next ns k to h, ne-eqb (nodeAt ns k .tag) tag n)
 
 -- ---- The side of a member on which the first one stands whose tag is not below the tag
 
@@ -151,59 +219,40 @@ module _ (s rows : List ℕ) (t : Table s rows) where
       go z true a true c v e = below (ltb-true i m a) (ltb-true m (nextRow (rowsOf s) i) c)
       go z true a false c v e = on (z (ltb-false m (nextRow (rowsOf s) i) c)) v e
 
-  -- ---- That member is the one that is found, or there is none
+  -- ---- The members of a container ascend, and go on from that member
 
-  find-low : {kind : Kind} {depth holder least i to : ℕ} → Members (rowsOf s) (length s) kind depth holder least i to → to ≤ length (nodesOf s)
-      → (tag x : ℕ) → Starts kind least x → tag < x → find (nodesOf s) tag (members (nodesOf s) i to) ≡ Lacks
-  find-low (Members.end {i} {to} e) h tag x y l = find-end (nodesOf s) tag i to (omega arith)
-  find-low (Members.member {kind} {depth} {holder} {least} {i} {to} f k b r) h tag x y l =
-      let a : x ≤ rowAt (rowsOf s) i .tag = member-from (length s) kind depth holder least x (rowAt (rowsOf s) i) k y in
-      find-later (nodesOf s) tag i to (omega arith) (λ e. omega (arith, tag-row i (omega arith)))
-      ∙ rw (next-row i (omega arith))
-      (find-low r h tag (rowAt (rowsOf s) i .tag) (member-on (length s) kind depth holder least (rowAt (rowsOf s) i) k) (omega arith))
+  members-ascend : {kind : Kind} {depth holder least i to : ℕ} → Members (rowsOf s) (length s) kind depth holder least i to → to ≤ length (nodesOf s)
+      → (x : ℕ) → Starts kind least x → Ascends (nodesOf s) x (members (nodesOf s) i to)
+  unfolding Ascends
+  members-ascend (Members.end {i} {to} e) h x y = rw (members-end (nodesOf s) i to (omega arith)) tt
+  members-ascend (Members.member {kind} {depth} {holder} {least} {i} {to} f k b r) h x y =
+      rw (members-next (nodesOf s) i to (omega arith), tag-row i (omega arith), next-row i (omega arith)) (
+        member-from (length s) kind depth holder least x (rowAt (rowsOf s) i) k y,
+        members-ascend r h (rowAt (rowsOf s) i .tag) (member-on (length s) kind depth holder least (rowAt (rowsOf s) i) k),
+      )
 
-  pub record Finds (tag : ℕ) (is : List ℕ) (to first : ℕ) : Type 0 where
-    pub none : to ≤ first → find (nodesOf s) tag is ≡ Lacks
-    pub here : first < to → nodeAt (nodesOf s) first .tag ≡ tag → find (nodesOf s) tag is ≡ Is first
-    pub other : first < to → (nodeAt (nodesOf s) first .tag ≡ tag → ⊥) → find (nodesOf s) tag is ≡ Lacks
-
-  finds : {kind : Kind} {depth holder least i to : ℕ} → Members (rowsOf s) (length s) kind depth holder least i to → to ≤ length (nodesOf s)
-      → (tag : ℕ) → Finds tag (members (nodesOf s) i to) to (lower (nodesOf s) tag (members (nodesOf s) i to) to)
-  finds (Members.end {i} {to} e) h tag =
-      let a = find-end (nodesOf s) tag i to (omega arith) in
-      let z = lower-end (nodesOf s) tag i to (omega arith) in
-      record { none = λ _. a; here = λ u v. absurd (omega arith); other = λ u v. a }
-  finds (Members.member {kind} {depth} {holder} {least} {i} {to} f k b r) h tag = go (finds r h tag) (ltb (nodeAt (nodesOf s) i .tag) tag) refl
+  lower-from : {kind : Kind} {depth holder least i to : ℕ} → Members (rowsOf s) (length s) kind depth holder least i to → to ≤ length (nodesOf s)
+      → (tag : ℕ) → members (nodesOf s) (lower (nodesOf s) tag (members (nodesOf s) i to) to) to ≡ fromTag (nodesOf s) tag (members (nodesOf s) i to)
+  lower-from (Members.end {i} {to} e) h tag =
+      rw (lower-end (nodesOf s) tag i to (omega arith), ← from-end (nodesOf s) tag i to (omega arith))
+      (members-end (nodesOf s) to to (omega arith) ∙ sym (members-end (nodesOf s) i to (omega arith)))
+  lower-from (Members.member {i} {to} f m b r) h tag = go (lower-from r h tag) (ltb (nodeAt (nodesOf s) i .tag) tag) refl
     where
-      At : ℕ → ℕ → Type 0
-      At n first = Finds tag (members (nodesOf s) n to) to first
+      Claim : ℕ → Type 0
+      Claim j = members (nodesOf s) (lower (nodesOf s) tag (members (nodesOf s) j to) to) to ≡ fromTag (nodesOf s) tag (members (nodesOf s) j to)
 
-      go : At (nextRow (rowsOf s) i) (lower (nodesOf s) tag (members (nodesOf s) (nextRow (rowsOf s) i) to) to)
-          → (u : Bool) → ltb (nodeAt (nodesOf s) i .tag) tag ≡ u → At i (lower (nodesOf s) tag (members (nodesOf s) i to) to)
-      go z true e =
-          let l = ltb-true (nodeAt (nodesOf s) i .tag) tag e in
-          let a : lower (nodesOf s) tag (members (nodesOf s) i to) to ≡ lower (nodesOf s) tag (members (nodesOf s) (nextRow (rowsOf s) i) to) to =
-          rw (← next-row i (omega arith)) (lower-later (nodesOf s) tag i to (omega arith) l) in
-          let c : find (nodesOf s) tag (members (nodesOf s) i to) ≡ find (nodesOf s) tag (members (nodesOf s) (nextRow (rowsOf s) i) to) =
-          rw (← next-row i (omega arith)) (find-later (nodesOf s) tag i to (omega arith) (λ q. omega arith)) in
-          subst (λ (n : ℕ). At i n) (sym a) (record { none = λ u. c ∙ z .none u; here = λ u v. c ∙ z .here u v; other = λ u v. c ∙ z .other u v })
-      go z false e =
-          let l = ltb-false (nodeAt (nodesOf s) i .tag) tag e in
-          subst (λ (n : ℕ). At i n) (sym (lower-here (nodesOf s) tag i to (omega arith) l))
-          (record {
-            none = λ u. absurd (omega arith);
-            here = λ u v. find-here (nodesOf s) tag i to u v;
-            other = λ u v.
-                find-later (nodesOf s) tag i to u v
-                ∙ rw (next-row i (omega arith))
-                (find-low r h tag (rowAt (rowsOf s) i .tag) (member-on (length s) kind depth holder least (rowAt (rowsOf s) i) k)
-                (omega (arith, tag-row i (omega arith), different (nodeAt (nodesOf s) i .tag) tag l v)));
-          })
-        where
-          different : (a c : ℕ) → c ≤ a → (a ≡ c → ⊥) → c < a
-          different a c p q = omega arith
+      go : Claim (nextRow (rowsOf s) i) → (u : Bool) → ltb (nodeAt (nodesOf s) i .tag) tag ≡ u → Claim i
+      go x true d =
+          let l = ltb-true (nodeAt (nodesOf s) i .tag) tag d in
+          rw (lower-later (nodesOf s) tag i to (omega arith) l, ← from-later (nodesOf s) tag i to (omega arith) l, next-row i (omega arith)) x
+      go x false d =
+          let l = ltb-false (nodeAt (nodesOf s) i .tag) tag d in
+          rw (lower-here (nodesOf s) tag i to (omega arith) l) (from-here (nodesOf s) tag i to (omega arith) l)
 
   -- ---- In one container
+
+  pub root-ascends : Ascends (nodesOf s) 0 (root (nodesOf s))
+  root-ascends = rw (nodes-count s) (members-ascend (rows-members s) (omega (arith, nodes-count s)) 0 (omega arith))
 
   module _ (holder : ℕ) (h : holder < length (nodesOf s)) where
     row-known : holder < length (rowsOf s)
@@ -215,6 +264,9 @@ module _ (s rows : List ℕ) (t : Table s rows) where
     around : Found (rowsOf s) (length s) 0 holder (length (rowsOf s))
     around = row-found (rows-members s) holder (omega arith) row-known
 
+    pub inside-ascends : Ascends (nodesOf s) 0 (inside (nodesOf s) holder)
+    inside-ascends = rw (next-row holder h) (members-ascend (around .first .below) ends 0 (starts-low (insideOf (around .kind))))
+
     -- The first member whose tag is not below the tag, by its number.
     abbrev pub First : ℕ → ℕ
     First tag = lower (nodesOf s) tag (inside (nodesOf s) holder) (nextNode (nodesOf s) holder)
@@ -222,8 +274,8 @@ module _ (s rows : List ℕ) (t : Table s rows) where
     pub first-within : (tag : ℕ) → (holder + 1 ≤ First tag) × (First tag ≤ nextNode (nodesOf s) holder)
     first-within tag = rw (next-row holder h) (lower-within (around .first .below) ends tag)
 
-    pub first-finds : (tag n : ℕ) → n ≡ First tag → Finds tag (inside (nodesOf s) holder) (nextNode (nodesOf s) holder) n
-    first-finds tag n e = rw (e, next-row holder h) (finds (around .first .below) ends tag)
+    pub first-goes-on : (tag n : ℕ) → n ≡ First tag → members (nodesOf s) n (nextNode (nodesOf s) holder) ≡ fromTag (nodesOf s) tag (inside (nodesOf s) holder)
+    first-goes-on tag n e = rw (e, next-row holder h) (lower-from (around .first .below) ends tag)
 
     module _ (i m : ℕ) (a : MemberAbove s holder i m) (l : i < nextNode (nodesOf s) holder) where
       pub member-known : m < length (nodesOf s)

@@ -22,6 +22,11 @@ abbrev pub ifPresent : Num → (ℕ → Bool) → Bool
 ifPresent Lacks p = true
 ifPresent (Is n) p = p n
 
+-- What p says of it; `otherwise` where nothing is there.
+abbrev pub holdsOr : Num → (ℕ → Bool) → Bool → Bool
+holdsOr Lacks p otherwise = otherwise
+holdsOr (Is n) p otherwise = p n
+
 abbrev pub absent : Num → Bool
 absent Lacks = true
 absent (Is n) = false

@@ -1,13 +1,36 @@
--- How the code finds an element among many members: by halves, since tags never descend among them. No paragraph of document 01 stands here.
+-- How the code finds an element among members: tags never descend among them, so that a search stops at the first tag not below the one
+-- sought, and goes by halves where that is far. No paragraph of document 01 stands here.
 use mathlib.Core.Path.{_≡_}
 use Prim.Native.Nat.{ℕ, _+_, _≤_, _<_}
 use mathlib.Core.List.{List, [], _∷_}
 use mathlib.Core.Bool.{cond}
-use lib.Dec.{ltb}
+use lib.Dec.{eqb, ltb}
+use Rattle.value.specs.declared.Num.{Num}
+use Rattle.value.specs.declared.Num.the-variants.{Is, Lacks}
 use Rattle.dataset.specs.Tree.{rowsOf, rowAt}
-use Rattle.node.specs.Nodes.{Node, nodesOf, nodeAt, nextNode}
+use Rattle.node.specs.Nodes.{Node, nodesOf, nodeAt, nextNode, members}
 
--- The first of the members whose tag is not below the tag; where there is none, `to`.
+-- No tag of the members is below `least` or below one before it.
+unfoldable pub Ascends : List Node → ℕ → List ℕ → Type 0
+Ascends ns least [] = Unit {0}
+Ascends ns least (k ∷ ks) = (least ≤ nodeAt ns k .tag) × Ascends ns (nodeAt ns k .tag) ks
+
+-- The members from the first on whose tag is not below the tag.
+unfoldable pub fromTag : List Node → ℕ → List ℕ → List ℕ
+fromTag ns tag [] = []
+fromTag ns tag (k ∷ ks) = cond (ltb (nodeAt ns k .tag) tag) (fromTag ns tag ks) (k ∷ ks)
+
+-- The first of the members, if it has the tag.
+unfoldable pub firstIs : List Node → ℕ → List ℕ → Num
+firstIs ns tag [] = Lacks
+firstIs ns tag (k ∷ ks) = cond (eqb (nodeAt ns k .tag) tag) (Is k) Lacks
+
+-- Where the members from `from` up to `to` go on from the first on whose tag is not below the tag, if that is told.
+abbrev pub Nearby : List Node → ℕ → ℕ → ℕ → Num → Type 0
+Nearby ns tag from to (Is n) = members ns n to ≡ fromTag ns tag (members ns from to)
+Nearby ns tag from to Lacks = Unit {0}
+
+-- The first of the members whose tag is not below the tag, by its number; where there is none, `to`.
 unfoldable pub lower : List Node → ℕ → List ℕ → ℕ → ℕ
 lower ns tag [] to = to
 lower ns tag (k ∷ ks) to = cond (ltb (nodeAt ns k .tag) tag) (lower ns tag ks to) k

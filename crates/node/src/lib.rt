@@ -5,7 +5,7 @@ ghost use lib.ListN.{length};
 ghost use Rattle.node.specs.Nodes.{Node, nodesOf, nodeAt, nextNode, members, inside};
 ghost use Rattle.node.specs.Find.{find, findVr, filled, has};
 ghost use Rattle.node.specs.Table.{Table};
-ghost use Rattle.node.specs.Halves.{lower, MemberAbove};
+ghost use Rattle.node.specs.Halves.{Ascends, fromTag, firstIs, Nearby, lower, MemberAbove};
 ghost use Rattle.dataset.specs.Tree.{rowsOf, rowAt};
 ghost use Rattle.value.specs.Said.{Below};
 use value::Num;
@@ -65,16 +65,21 @@ pub fn value<'a, 'b>(bytes: &'a [u8], rows: &'b [u32], i: usize) -> &'a [u8]
     &bytes[start..end]
 }
 
-// The element of the tag among the members from `from` up to `to`.
+// The element of the tag among the members from `from` up to `to`. The search stops at the first tag not below the one sought.
 pub fn find_tag(bytes: &[u8], rows: &[u32], from: usize, to: usize, wanted: usize) -> Num
-    requires { ⌜ Table (now bytes) (now rows) × (to ≤ length (nodesOf (now bytes))) ⌝ }
+    requires { ⌜ Table (now bytes) (now rows) × ((to ≤ length (nodesOf (now bytes))) × Ascends (nodesOf (now bytes)) 0 (members (nodesOf (now bytes)) from to)) ⌝ }
     ensures { λ r. ⌜ r ≡ find (nodesOf (now (bytes .entry))) wanted (members (nodesOf (now (bytes .entry))) from to) ⌝ }
     ensures { λ r. ⌜ Below to r ⌝ }
 {
     let mut i = from;
     while i < to {
-        if tag(bytes, rows, i) == wanted {
-            return Num::Is(i);
+        let here = tag(bytes, rows, i);
+        if wanted <= here {
+            return if here == wanted {
+                Num::Is(i)
+            } else {
+                Num::Lacks
+            };
         }
         i = next(bytes, rows, i);
     }
@@ -90,7 +95,7 @@ pub fn find_vr(
     wanted: usize,
     kind: usize,
 ) -> Num
-    requires { ⌜ Table (now bytes) (now rows) × (to ≤ length (nodesOf (now bytes))) ⌝ }
+    requires { ⌜ Table (now bytes) (now rows) × ((to ≤ length (nodesOf (now bytes))) × Ascends (nodesOf (now bytes)) 0 (members (nodesOf (now bytes)) from to)) ⌝ }
     ensures { λ r. ⌜ r ≡ findVr (nodesOf (now (bytes .entry))) wanted kind (members (nodesOf (now (bytes .entry))) from to) ⌝ }
     ensures { λ r. ⌜ Below to r ⌝ }
 {
@@ -127,7 +132,7 @@ pub fn has_vr(
     wanted: usize,
     kind: usize,
 ) -> bool
-    requires { ⌜ Table (now bytes) (now rows) × (to ≤ length (nodesOf (now bytes))) ⌝ }
+    requires { ⌜ Table (now bytes) (now rows) × ((to ≤ length (nodesOf (now bytes))) × Ascends (nodesOf (now bytes)) 0 (members (nodesOf (now bytes)) from to)) ⌝ }
     ensures { λ r. ⌜ r ≡ has (nodesOf (now (bytes .entry))) wanted kind (members (nodesOf (now (bytes .entry))) from to) ⌝ }
 {
     match find_vr(bytes, rows, from, to, wanted, kind) {
@@ -163,7 +168,7 @@ fn member_above(bytes: &[u8], rows: &[u32], holder: usize, i: usize) -> usize
 
 // The first member of the node `holder` whose tag is not below the tag, or what follows them. Tags never descend among members,
 // so that each step leaves at most half of the nodes.
-pub fn first_from(bytes: &[u8], rows: &[u32], holder: usize, wanted: usize) -> usize
+fn first_from(bytes: &[u8], rows: &[u32], holder: usize, wanted: usize) -> usize
     requires { ⌜ Table (now bytes) (now rows) × (holder < length (nodesOf (now bytes))) ⌝ }
     ensures { λ r. ⌜ r ≡ lower (nodesOf (now (bytes .entry))) wanted (inside (nodesOf (now (bytes .entry))) holder) (nextNode (nodesOf (now (bytes .entry))) holder) ⌝ }
 {
@@ -180,18 +185,79 @@ pub fn first_from(bytes: &[u8], rows: &[u32], holder: usize, wanted: usize) -> u
     low
 }
 
+// How many members a search passes one after the other before it goes by halves.
+const STEPS: usize = 16;
+
+// Among so few nodes no halves are wanted.
+const FEW: usize = 32;
+
+// The first member from `from` up to `to` whose tag is not below the tag, or what follows them, where it is not far.
+fn near(bytes: &[u8], rows: &[u32], from: usize, to: usize, wanted: usize) -> Num
+    requires { ⌜ Table (now bytes) (now rows) × (to ≤ length (nodesOf (now bytes))) ⌝ }
+    ensures { λ r. ⌜ Nearby (nodesOf (now (bytes .entry))) wanted from to r ⌝ }
+{
+    let mut k = from;
+    let mut left = STEPS;
+    while 0 < left {
+        if k < to {
+            if tag(bytes, rows, k) < wanted {
+                k = next(bytes, rows, k);
+                left -= 1;
+            } else {
+                return Num::Is(k);
+            }
+        } else {
+            return Num::Is(k);
+        }
+    }
+    Num::Lacks
+}
+
+// The same among the members of the node `holder`, which `to` follows, however far it is: the search starts at `from`, at or before it.
+pub fn reach(
+    bytes: &[u8],
+    rows: &[u32],
+    holder: usize,
+    from: usize,
+    to: usize,
+    wanted: usize,
+) -> usize
+    requires { ⌜ Table (now bytes) (now rows) × ((holder < length (nodesOf (now bytes))) × ((to ≡ nextNode (nodesOf (now bytes)) holder) × (fromTag (nodesOf (now bytes)) wanted (members (nodesOf (now bytes)) from to) ≡ fromTag (nodesOf (now bytes)) wanted (inside (nodesOf (now bytes)) holder)))) ⌝ }
+    ensures { λ r. ⌜ members (nodesOf (now (bytes .entry))) r to ≡ fromTag (nodesOf (now (bytes .entry))) wanted (inside (nodesOf (now (bytes .entry))) holder) ⌝ }
+{
+    match near(bytes, rows, from, to, wanted) {
+        Num::Is(n) => n,
+        Num::Lacks => first_from(bytes, rows, holder, wanted),
+    }
+}
+
+// The first of the members from `i` up to `to`, if it has the tag.
+pub fn first_is(bytes: &[u8], rows: &[u32], i: usize, to: usize, wanted: usize) -> Num
+    requires { ⌜ Table (now bytes) (now rows) × (to ≤ length (nodesOf (now bytes))) ⌝ }
+    ensures { λ r. ⌜ r ≡ firstIs (nodesOf (now (bytes .entry))) wanted (members (nodesOf (now (bytes .entry))) i to) ⌝ }
+    ensures { λ r. ⌜ Below to r ⌝ }
+{
+    if i < to {
+        if tag(bytes, rows, i) == wanted {
+            Num::Is(i)
+        } else {
+            Num::Lacks
+        }
+    } else {
+        Num::Lacks
+    }
+}
+
 // The element of the tag in the node `holder`, as `find_tag` finds it.
-pub fn find_wide(bytes: &[u8], rows: &[u32], holder: usize, wanted: usize) -> Num
+pub fn find_inside(bytes: &[u8], rows: &[u32], holder: usize, wanted: usize) -> Num
     requires { ⌜ Table (now bytes) (now rows) × (holder < length (nodesOf (now bytes))) ⌝ }
     ensures { λ r. ⌜ r ≡ find (nodesOf (now (bytes .entry))) wanted (inside (nodesOf (now (bytes .entry))) holder) ⌝ }
     ensures { λ r. ⌜ Below (length (nodesOf (now (bytes .entry)))) r ⌝ }
 {
-    let i = first_from(bytes, rows, holder, wanted);
-    if i < next(bytes, rows, holder) {
-        if tag(bytes, rows, i) == wanted {
-            return Num::Is(i);
-        }
-        return Num::Lacks;
+    let to = next(bytes, rows, holder);
+    if to - holder <= FEW {
+        return find_tag(bytes, rows, holder + 1, to, wanted);
     }
-    Num::Lacks
+    let i = reach(bytes, rows, holder, holder + 1, to, wanted);
+    first_is(bytes, rows, i, to, wanted)
 }

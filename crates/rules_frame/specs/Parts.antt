@@ -5,9 +5,7 @@ use mathlib.Core.List.{List}
 use mathlib.Core.Bool.{Bool, true, cond}
 use lib.Dec.{eqb}
 use Rattle.node.specs.Nodes.{Node, inside}
-use Rattle.value.specs.declared.Num.{Num}
-use Rattle.value.specs.declared.Num.the-variants.{Is, Lacks}
-use Rattle.node.specs.Find.{absent, find}
+use Rattle.node.specs.Find.{holdsOr, absent, find}
 use Rattle.element.specs.Tags
 use Rattle.element.specs.Elements.{oneItem}
 use Rattle.intensity.specs.Grades.{relationIn, tableIn, agree}
@@ -22,12 +20,8 @@ unfoldable pub groupFits : List Node → ℕ → ℕ → Bool
 groupFits ns rule g = cond (eqb rule 29) (oneItem ns g) (cond (eqb rule 30) (isVoi ns g) (isShiftGroup ns g))
 
 -- What rule 29, 30 or 37 asks of an item alone; `otherwise` where the item has no such group.
-abbrev pub onGroup : Num → (ℕ → Bool) → Bool → Bool
-onGroup Lacks fits otherwise = otherwise
-onGroup (Is g) fits otherwise = fits g
-
 unfoldable pub groupIn : List Node → ℕ → ℕ → Bool → Bool
-groupIn ns rule i otherwise = onGroup (find ns (groupTag rule) (inside ns i)) (groupFits ns rule) otherwise
+groupIn ns rule i otherwise = holdsOr (find ns (groupTag rule) (inside ns i)) (groupFits ns rule) otherwise
 
 -- What rules 27 to 30 and 37 ask of the shared item s alone.
 unfoldable pub sharedOk : List Node → ℕ → ℕ → Bool

@@ -10,7 +10,8 @@ ghost use Rattle.node.specs.Nodes.{Node, nodesOf, nodeAt, members, inside};
 ghost use Rattle.node.specs.Find.{absent, ifPresent, find};
 ghost use Rattle.node.specs.Table.{Table};
 ghost use Rattle.element.specs.Elements.{every};
-ghost use Rattle.rules.specs.Frame.{isShared, repeatsShared, item27, item28, isWindow, hasWindow, isVoi, isShiftItem, isShiftGroup};
+ghost use Rattle.rules.specs.Frame.{repeatsShared, item27, item28, isWindow, hasWindow, isVoi, isShiftItem, isShiftGroup};
+ghost use Rattle.rules_frame.specs.Merge.{isRepeated};
 ghost use Rattle.rules_frame.specs.Parts.{groupTag, groupFits, groupIn, sharedOk, itemBy, sharedPart, itemGrades, itemRule};
 use value::Function;
 use value::Num;
@@ -26,30 +27,36 @@ pub struct SharedPart {
 
 // ---- Rule 27: no sequence stands both in the shared item and in the frame's item
 
-// Whether node j is a sequence, and one of its tag stands in the shared node.
-fn is_shared(bytes: &[u8], rows: &[u32], shared: usize, j: usize) -> bool
-    requires { ⌜ Table (now bytes) (now rows) × ((shared < length (nodesOf (now bytes))) × (j < length (nodesOf (now bytes)))) ⌝ }
-    ensures { λ r. ⌜ r ≡ isShared (nodesOf (now (bytes .entry))) shared j ⌝ }
+// Whether node j is a sequence, and the first member from `k` up to `to` one of its tag.
+fn is_repeated(bytes: &[u8], rows: &[u32], j: usize, k: usize, to: usize) -> bool
+    requires { ⌜ Table (now bytes) (now rows) × ((j < length (nodesOf (now bytes))) × (to ≤ length (nodesOf (now bytes)))) ⌝ }
+    ensures { λ r. ⌜ r ≡ isRepeated (nodesOf (now (bytes .entry))) j (members (nodesOf (now (bytes .entry))) k to) ⌝ }
 {
     if node::vr(bytes, rows, j) == SQ {
-        match element::find_vr_item(bytes, rows, shared, node::tag(bytes, rows, j), SQ) {
+        match node::first_is(bytes, rows, k, to, node::tag(bytes, rows, j)) {
             Num::Lacks => false,
-            Num::Is(_) => true,
+            Num::Is(i) => node::vr(bytes, rows, i) == SQ,
         }
     } else {
         false
     }
 }
 
-// Goes along the frame's item, and looks for each of its sequences in the shared one.
+// Tags ascend in an item, so one walk goes along both items; neither j nor k goes back, and the end of the shared one ends it.
 fn repeats_shared(bytes: &[u8], rows: &[u32], shared: usize, item: usize) -> bool
     requires { ⌜ Table (now bytes) (now rows) × ((shared < length (nodesOf (now bytes))) × (item < length (nodesOf (now bytes)))) ⌝ }
     ensures { λ r. ⌜ r ≡ repeatsShared (nodesOf (now (bytes .entry))) shared item ⌝ }
 {
     let end = node::next(bytes, rows, item);
+    let to = node::next(bytes, rows, shared);
     let mut j = item + 1;
+    let mut k = shared + 1;
     while j < end {
-        if is_shared(bytes, rows, shared, j) {
+        k = node::reach(bytes, rows, shared, k, to, node::tag(bytes, rows, j));
+        if to <= k {
+            return false;
+        }
+        if is_repeated(bytes, rows, j, k, to) {
             return true;
         }
         j = node::next(bytes, rows, j);

@@ -1,5 +1,5 @@
 -- Every member and some member along a walk, and values of a US one after the other.
-use mathlib.Core.Path.{_≡_, sym, _∙_}
+use mathlib.Core.Path.{_≡_, refl, sym, ap, _∙_}
 use Prim.Native.Nat.{ℕ, _+_, _*_, _/_, _≤_, _<_}
 use native.Mathlib.Omega.{arith}
 use native.Mathlib.Numerals.{add-one}
@@ -9,12 +9,18 @@ use lib.ListN.{length, getD, drop}
 use lib.Seq.{drop-cons, drop-length}
 use lib.Dec.{eqb, leb}
 use borrow.Author.Tests.{eq-eqb, ne-eqb, le-leb, lt-leb}
+use Rattle.dataset.specs.Vr.{SQ}
+use Rattle.value.specs.declared.Num.{Num}
+use Rattle.value.specs.declared.Num.the-variants.{Is, Lacks}
 use Rattle.value.specs.Number.{usValues}
 use Rattle.value.proofs.Laws.{usValues-length}
 use Rattle.node.specs.Nodes.{Node, nextNode, members, inside}
+use Rattle.node.specs.Find.{holds, holdsOr, andThen, orElse, find, ofVr, filled}
 use Rattle.node.proofs.Walks.{members-end, members-next}
 use Rattle.element.specs.Elements.{every, some}
-use Rattle.rules.specs.Mask.{pairsFit, allFrames}
+use Rattle.element.specs.Tags.{FramePixelShiftSequence}
+use Rattle.rules.specs.Mask.{pairsFit, allFrames, hasShiftGroup}
+use Rattle.rules_mask.specs.Parts.{shiftIn}
 
 -- ---- Tests one after the other
 
@@ -130,3 +136,17 @@ module _ (n : ℕ) (v : List ℕ) (k : ℕ) where
 
 pub last-rule : (rule : ℕ) → 31 ≤ rule → rule ≤ 36 → (rule ≡ 31 → ⊥) → (rule ≡ 32 → ⊥) → (rule ≡ 33 → ⊥) → (rule ≡ 34 → ⊥) → (rule ≡ 35 → ⊥) → rule ≡ 36
 last-rule rule l h a b c d e = omega arith
+
+-- ---- The shared group, looked up once
+
+group-shift : (a b : Num) (p : ℕ → Num) (q : ℕ → Bool) → holds (andThen (orElse a b) p) q ≡ holdsOr a (λ g. holds (p g) q) (holdsOr b (λ g. holds (p g) q) false)
+group-shift (Is k) b p q = refl
+group-shift Lacks (Is k) p q = refl
+group-shift Lacks Lacks p q = refl
+
+pub shift-apart : (ns : List Node) (s i : ℕ) → hasShiftGroup ns s i ≡ shiftIn ns i (shiftIn ns s false)
+unfolding hasShiftGroup shiftIn
+shift-apart ns s i = group-shift (find ns FramePixelShiftSequence (inside ns i)) (find ns FramePixelShiftSequence (inside ns s)) (ofVr ns SQ) (filled ns)
+
+pub shift-found : (ns : List Node) (s i : ℕ) (o r t : Bool) → o ≡ shiftIn ns s false → r ≡ shiftIn ns i o → r ≡ t → hasShiftGroup ns s i ≡ t
+shift-found ns s i o r t a b e = shift-apart ns s i ∙ (ap (shiftIn ns i) (sym a) ∙ (sym b ∙ e))

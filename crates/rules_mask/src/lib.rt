@@ -11,8 +11,9 @@ ghost use Rattle.node.specs.Table.{Table};
 ghost use Rattle.element.specs.Tags.{ContrastFrameAveraging};
 ghost use Rattle.element.specs.Elements.{every, some};
 ghost use Rattle.rules.specs.Frame.{hasId};
-ghost use Rattle.rules.specs.Mask.{isOperation, isMask, rule31, pairsFit, isRange, rangeFits, rule32, allFrames, areMaskFrames, isOne, averageFits, averagesFit, rule33, isOffset, offsetFits, rule34, isShiftAt, shiftFits, rule35, hasShiftGroup, anyShift, masksHaveIds, rule36};
+ghost use Rattle.rules.specs.Mask.{isOperation, isMask, rule31, pairsFit, isRange, rangeFits, rule32, allFrames, areMaskFrames, isOne, averageFits, averagesFit, rule33, isOffset, offsetFits, rule34, isShiftAt, shiftFits, rule35, anyShift, masksHaveIds, rule36};
 ghost use Rattle.rules.specs.All.{ruleAt};
+ghost use Rattle.rules_mask.specs.Parts.{shiftIn};
 use element::tags;
 use value::Num;
 use value::Signed;
@@ -408,13 +409,13 @@ fn rule_35(bytes: &[u8], rows: &[u32]) -> bool
 
 // ---- Rule 36
 
-// Whether a frame has a Frame Pixel Shift group: in its item, or in the shared one.
-fn has_shift_group(bytes: &[u8], rows: &[u32], shared: usize, item: usize) -> bool
-    requires { ⌜ Table (now bytes) (now rows) × ((shared < length (nodesOf (now bytes))) × (item < length (nodesOf (now bytes)))) ⌝ }
-    ensures { λ r. ⌜ r ≡ hasShiftGroup (nodesOf (now (bytes .entry))) shared item ⌝ }
+// Whether an item has a Frame Pixel Shift group with items; `otherwise` where it has no such group at all.
+fn shift_in(bytes: &[u8], rows: &[u32], item: usize, otherwise: bool) -> bool
+    requires { ⌜ Table (now bytes) (now rows) × (item < length (nodesOf (now bytes))) ⌝ }
+    ensures { λ r. ⌜ r ≡ shiftIn (nodesOf (now (bytes .entry))) item otherwise ⌝ }
 {
-    match element::group_of(bytes, rows, tags::FRAME_PIXEL_SHIFT_SEQUENCE, shared, item) {
-        Num::Lacks => false,
+    match element::find_item(bytes, rows, item, tags::FRAME_PIXEL_SHIFT_SEQUENCE) {
+        Num::Lacks => otherwise,
         Num::Is(g) => {
             if node::vr(bytes, rows, g) == node::SQ {
                 node::is_filled(bytes, rows, g)
@@ -425,16 +426,17 @@ fn has_shift_group(bytes: &[u8], rows: &[u32], shared: usize, item: usize) -> bo
     }
 }
 
-// Whether any frame has such a group: the first that has one ends the search.
+// Whether any frame has such a group: the first that has one ends the search. The shared group is looked up once.
 fn any_shift(bytes: &[u8], rows: &[u32], shared: usize) -> bool
     requires { ⌜ Table (now bytes) (now rows) × (shared < length (nodesOf (now bytes))) ⌝ }
     ensures { λ r. ⌜ r ≡ anyShift (nodesOf (now (bytes .entry))) shared ⌝ }
 {
+    let shared_has = shift_in(bytes, rows, shared, false);
     let items = element::frame_items(bytes, rows);
     let end = items.end;
     let mut at = items.at;
     while at < end {
-        if has_shift_group(bytes, rows, shared, at) {
+        if shift_in(bytes, rows, at, shared_has) {
             return true;
         }
         at = node::next(bytes, rows, at);

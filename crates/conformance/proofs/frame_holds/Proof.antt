@@ -2,10 +2,11 @@ use mathlib.Core.Path.{_≡_, refl, sym, ap, _∙_, subst}
 use Rattle.node.proofs.Laws as node-laws
 use Rattle.conformance.proofs.FrameRules as frames
 use native.Mathlib.Omega.{arith}
-use mathlib.Core.Bool.{Bool}
+use mathlib.Core.Bool.{Bool, cond}
 use Rattle.node.specs.Nodes.{nodesOf}
 use Rattle.value.specs.declared.Num.{Num}
-use Rattle.conformance.specs.Parts.{okFor}
+use Rattle.rules_frame.specs.Parts.{sharedPart}
+use Rattle.conformance.specs.Parts.{noPart, okFor}
 use borrow.Author.Needs.{needs}
 use Rattle.conformance.proofs.frame_holds.Statement.{statement}
 use Rattle.conformance.proofs.frame_holds.Tie as tie
@@ -24,13 +25,15 @@ enum-known-shared c = search needs
 -- src/lib.rt:68:17
 item-rule-requires : tie.Need-item-rule-requires
 item-rule-requires c κs =
-    let p = c .before .before .before .before .before .before .pre in (
+    let p = c .before .before .before .before .before .before .pre in
+    let a = c .before .before .before .before .before .before .args in (
       p .0,
       (
         node-laws.within _ (c .before .before .shared .given .1) (p .1 .0),
         (
           omega (arith, c .if1 .taken, p .1 .1 .1 .1 .1 .1 .inner),
-          p .1 .1 .1 .0 ∙ ap (λ (x : Num). okFor (nodesOf (c .before .before .before .before .before .before .args .bytes .now)) (c .before .before .before .before .before .before .args .rule) x) (c .before .before .shared .given .1),
+          p .1 .1 .1 .0 ∙ ap (λ (x : Num). okFor (nodesOf (a .bytes .now)) (a .rule) x) (c .before .before .shared .given .1)
+              ∙ ap (λ (t : Bool). cond t (sharedPart (nodesOf (a .bytes .now)) (a .rule) (c .before .before .shared .given .0 .0)) noPart) (p .1 .1 .1 .1 .0),
         ),
       ),
     )

@@ -1,38 +1,51 @@
-use mathlib.Core.Path.{_≡_, refl, sym, ap, _∙_, subst}
+-- Only a rule that is asked at each frame asks something of the shared item.
+use mathlib.Core.Path.{sym, _∙_}
 use Rattle.node.proofs.Laws as node-laws
-use Rattle.node.specs.Nodes.{nodesOf}
-use Rattle.value.specs.declared.Num.{Num}
-use Rattle.conformance.specs.Parts.{okFor}
 use borrow.Author.Needs.{needs}
 use Rattle.conformance.proofs.shared_ok.Statement.{statement}
 use Rattle.conformance.proofs.shared_ok.Tie as tie
-use Rattle.conformance.proofs.shared_ok.Reads as reads
-use Rattle.conformance.proofs.shared_ok.Lts as lts
-use Rattle.rules_frame.proofs.shared_part.Reads as shared-part-reads
 
--- src/lib.rt:44:23
 enum-told : tie.Need-enum-told
 enum-told c = search needs
 
--- src/lib.rt:45:17
+no-part-requires : tie.Need-no-part-requires
+no-part-requires c κs = search needs
+
 enum-known-shared : tie.Need-enum-known-shared
 enum-known-shared c = search needs
 
--- src/lib.rt:45:23
+per-frame-requires : tie.Need-per-frame-requires
+per-frame-requires c κs = search needs
+
 shared-part-requires : tie.Need-shared-part-requires
 shared-part-requires c κs =
-    (c .before .before .before .before .before .pre .0, node-laws.within _ (c .before .shared .given .1) (c .before .before .before .before .before .pre .1))
+    let start = c .before .before .before .before .before .before .before in
+    (start .pre .0, node-laws.within _ (c .before .before .before .shared .given .1) (start .pre .1))
 
--- src/lib.rt:39:1
+no-part-requires-2 : tie.Need-no-part-requires-2
+no-part-requires-2 c κs = search needs
+
 returns : tie.Need-returns
-returns c =
-    ap (λ (x : Num). okFor (nodesOf (c .before .before .before .before .args .bytes .now)) (c .before .before .before .before .args .rule) x) (sym (c .enum-told .given .1))
+returns c = rw (c .before .enum-told .given .1) (c .no-part .ensures)
 
--- src/lib.rt:39:1
 returns-2 : tie.Need-returns-2
 returns-2 c =
-    c .shared-part .ensures ∙ ap (λ (x : Num). okFor (nodesOf (c .before .before .before .before .before .before .args .bytes .now)) (c .before .before .before .before .before .before .args .rule) x) (sym (c .before .before .shared .given .1))
+    rw (c .before .before .before .before .shared .given .1, sym (c .before .before .per-frame .ensures) ∙ c .before .if1 .taken) (c .shared-part .ensures)
+
+returns-3 : tie.Need-returns-3
+returns-3 c =
+    rw (c .before .before .before .before .shared .given .1, sym (c .before .before .per-frame .ensures) ∙ c .before .if1 .left) (c .no-part2 .ensures)
 
 pub shared-ok-spec : {M : Type 1} → statement M
 shared-ok-spec =
-    tie.close (tie.spec enum-told enum-known-shared shared-part-requires returns returns-2)
+    tie.close
+    (tie.spec
+    enum-told
+    no-part-requires
+    enum-known-shared
+    per-frame-requires
+    shared-part-requires
+    no-part-requires-2
+    returns
+    returns-2
+    returns-3)

@@ -1,5 +1,6 @@
 use mathlib.Core.Path.{_≡_, refl, sym, ap, _∙_}
 use borrow.Author.Needs.{needs}
+use Rattle.element.proofs.Ascending.{root-searched}
 use Rattle.element.proofs.has_root.Statement.{statement}
 use Rattle.element.proofs.has_root.Tie as tie
 use Rattle.element.proofs.has_root.Reads as reads
@@ -13,7 +14,7 @@ count-requires c κs = search needs
 
 -- src/lib.rt:72:5
 has-vr-requires : tie.Need-has-vr-requires
-has-vr-requires c κs = search needs
+has-vr-requires c κs = root-searched (c .before .before .before .pre) (c .count .ensures .0)
 
 -- src/lib.rt:68:1
 returns : tie.Need-returns

@@ -26,7 +26,7 @@ enum-known-i c = search needs
 -- src/lib.rt:90:16
 vr-requires : tie.Need-vr-requires
 vr-requires c κs =
-    (c .before .before .before .before .before .before .pre .0, omega (arith, laws.within (c .before .before .before .before .before .before .args .to) (c .before .i .given .1) (c .before .before .before .find-tag .ensures .1), c .before .before .before .before .before .before .pre .1))
+    (c .before .before .before .before .before .before .pre .0, omega (arith, laws.within (c .before .before .before .before .before .before .args .to) (c .before .i .given .1) (c .before .before .before .find-tag .ensures .1), c .before .before .before .before .before .before .pre .1 .0))
 
 -- src/lib.rt:82:1
 returns : tie.Need-returns

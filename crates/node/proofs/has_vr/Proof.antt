@@ -25,7 +25,7 @@ enum-known-i c = search needs
 -- src/lib.rt:118:23
 is-filled-requires : tie.Need-is-filled-requires
 is-filled-requires c κs =
-    (c .before .before .before .before .before .before .pre .0, omega (arith, laws.within (c .before .before .before .before .before .before .args .to) (c .before .i .given .1) (c .before .before .before .find-vr .ensures .1), c .before .before .before .before .before .before .pre .1))
+    (c .before .before .before .before .before .before .pre .0, omega (arith, laws.within (c .before .before .before .before .before .before .args .to) (c .before .i .given .1) (c .before .before .before .find-vr .ensures .1), c .before .before .before .before .before .before .pre .1 .0))
 
 -- src/lib.rt:112:1
 returns : tie.Need-returns

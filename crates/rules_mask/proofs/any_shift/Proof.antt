@@ -1,6 +1,8 @@
+-- What is left to look for among the frames' items is what was to be looked for among all of them.
 use borrow.Author.Needs.{needs}
 use mathlib.Core.Path.{_≡_, sym, _∙_}
 use Prim.Native.Nat.{_-_, _≤_}
+use native.Mathlib.Omega.{arith}
 use lib.ListN.{length}
 use Rattle.node.specs.Nodes.{nodesOf, members}
 use Rattle.element.specs.Elements.{some}
@@ -10,11 +12,14 @@ use Rattle.rules_mask.proofs.any_shift.Statement.{statement}
 use Rattle.rules_mask.proofs.any_shift.Tie as tie
 
 abbrev Inv-loop : tie.InvT-loop
-Inv-loop bytes rows shared end at₀ at =
+Inv-loop bytes rows shared shared-has end at₀ at =
     (some (hasShiftGroup (nodesOf bytes) shared) (members (nodesOf bytes) at end) ≡ anyShift (nodesOf bytes) shared) × (end ≤ length (nodesOf bytes))
 
 abbrev μ-loop : tie.MeasureT-loop
-μ-loop bytes rows shared end at₀ at = end - at
+μ-loop bytes rows shared shared-has end at₀ at = end - at
+
+shift-in-requires : tie.Need-shift-in-requires Inv-loop μ-loop
+shift-in-requires c κs = search needs
 
 frame-items-requires : tie.Need-frame-items-requires Inv-loop μ-loop
 frame-items-requires c κs = search needs
@@ -24,22 +29,23 @@ unfolding anyShift
 loop-holds c =
     (rw (← c .frame-items .ensures .ahead), c .frame-items .ensures .inner)
 
-has-shift-group-requires : tie.Need-has-shift-group-requires Inv-loop μ-loop
-has-shift-group-requires c κs = search needs
+shift-in-requires-2 : tie.Need-shift-in-requires-2 Inv-loop μ-loop
+shift-in-requires-2 c κs = search needs
 
 returns : tie.Need-returns Inv-loop μ-loop
 returns c =
-    sym (laws.some-here _ _ _ _ (c .before .before .loop-test .taken) (sym (c .before .has-shift-group .ensures) ∙ c .if1 .taken)) ∙ c .before .before .before .loop .inv .0
+    sym (laws.some-here _ _ _ _ (c .before .before .loop-test .taken) (laws.shift-found _ _ _ _ _ _ (c .before .before .before .before .before .shift-in .ensures) (c .before .shift-in2 .ensures) (c .if1 .taken))) ∙ c .before .before .before .loop .inv .0
 
 next-requires : tie.Need-next-requires Inv-loop μ-loop
-next-requires c κs = search needs
+next-requires c κs =
+    (c .before .before .before .before .before .before .before .before .pre .0, omega (arith, c .before .before .loop-test .taken, c .before .before .before .loop .inv .1))
 
 loop-less : tie.Need-loop-less Inv-loop μ-loop
 loop-less c = search needs
 
 loop-again : tie.Need-loop-again Inv-loop μ-loop
 loop-again c =
-    (sym (laws.some-next _ _ _ _ _ (c .next .ensures .0) (c .before .before .before .loop-test .taken) (sym (c .before .before .has-shift-group .ensures) ∙ c .before .if1 .left)) ∙ c .before .before .before .before .loop .inv .0, c .before .before .before .before .loop .inv .1)
+    (sym (laws.some-next _ _ _ _ _ (c .next .ensures .0) (c .before .before .before .loop-test .taken) (laws.shift-found _ _ _ _ _ _ (c .before .before .before .before .before .before .shift-in .ensures) (c .before .before .shift-in2 .ensures) (c .before .if1 .left))) ∙ c .before .before .before .before .loop .inv .0, c .before .before .before .before .loop .inv .1)
 
 returns-2 : tie.Need-returns-2 Inv-loop μ-loop
 returns-2 c =
@@ -51,9 +57,10 @@ any-shift-spec =
     (tie.spec
     Inv-loop
     μ-loop
+    shift-in-requires
     frame-items-requires
     loop-holds
-    has-shift-group-requires
+    shift-in-requires-2
     returns
     next-requires
     loop-less

@@ -1,0 +1,53 @@
+-- The group that is found in the item, if there is one, decides.
+use Rattle.rules_mask.proofs.Laws as laws
+use Rattle.node.proofs.Laws as node-laws
+use Rattle.node.specs.Find.{ofVr}
+use Rattle.rules_mask.specs.Parts.{shiftIn}
+use borrow.Author.Needs.{needs}
+use Rattle.rules_mask.proofs.shift_in.Statement.{statement}
+use Rattle.rules_mask.proofs.shift_in.Tie as tie
+
+find-item-requires : tie.Need-find-item-requires
+find-item-requires c κs = search needs
+
+enum-told : tie.Need-enum-told
+enum-told c = search needs
+
+enum-known-g : tie.Need-enum-known-g
+enum-known-g c = search needs
+
+vr-requires : tie.Need-vr-requires
+vr-requires c κs =
+    (c .before .before .before .before .before .before .pre .0, node-laws.within _ (c .before .g .given .1) (c .before .before .before .find-item .ensures .1))
+
+is-filled-requires : tie.Need-is-filled-requires
+is-filled-requires c κs =
+    (c .before .before .before .before .before .before .before .before .pre .0, node-laws.within _ (c .before .before .before .g .given .1) (c .before .before .before .before .before .find-item .ensures .1))
+
+returns : tie.Need-returns
+unfolding shiftIn
+returns c =
+    rw (node-laws.lacked (c .enum-told .given .1) (c .before .before .find-item .ensures .0))
+
+returns-2 : tie.Need-returns-2
+unfolding shiftIn ofVr
+returns-2 c =
+    rw (node-laws.had (c .before .before .before .before .g .given .1) (c .before .before .before .before .before .before .find-item .ensures .0), laws.same _ (c .before .before .vr .ensures) (c .before .if1 .taken)) (c .is-filled .ensures)
+
+returns-3 : tie.Need-returns-3
+unfolding shiftIn ofVr
+returns-3 c =
+    rw (node-laws.had (c .before .before .before .g .given .1) (c .before .before .before .before .before .find-item .ensures .0), laws.different _ (c .before .vr .ensures) (c .if1 .left))
+
+pub shift-in-spec : {M : Type 1} → statement M
+shift-in-spec =
+    tie.close
+    (tie.spec
+    find-item-requires
+    enum-told
+    enum-known-g
+    vr-requires
+    is-filled-requires
+    returns
+    returns-2
+    returns-3)
