@@ -13,19 +13,8 @@ use Rattle.verdict.specs.Verdict.{lastRule}
 use Rattle.rules.specs.All.{ruleAt}
 use Rattle.conformance.specs.declared.Finding.{Finding}
 use Rattle.conformance.specs.declared.Finding.the-variants.{Accepted, Broken}
+use Rattle.conformance.specs.Demand2.{HoldsAt, Holds, AllHold, Broke}
 use Rattle.conformance.specs.Judging.{firstFrame, frameCount, lowest, firstBroken, findingOf}
-
--- The rule holds at the frames from f up to, and without, e.
-abbrev pub HoldsAt : List Node → ℕ → ℕ → ℕ → Type 0
-HoldsAt ns rule f e = (g : ℕ) → f ≤ g → g < e → ruleAt ns rule g ≡ true
-
--- The rule holds at every frame at which it is asked.
-abbrev pub Holds : List Node → ℕ → Type 0
-Holds ns rule = HoldsAt ns rule (firstFrame rule) (firstFrame rule + frameCount ns rule)
-
--- Every rule from q up to, and without, r holds at all its frames.
-abbrev pub AllHold : List Node → ℕ → ℕ → Type 0
-AllHold ns q r = (p : ℕ) → q ≤ p → p < r → Holds ns p
 
 module _ (ns : List Node) where
   nothing : (rule f e : ℕ) → e ≤ f → HoldsAt ns rule f e
@@ -58,17 +47,17 @@ module _ (ns : List Node) where
       ⊎-elim (λ (s : q ≡ p). subst (λ (x : ℕ). Holds ns x) s h) (λ (l : q < p). w p (omega arith) b) (eq-or-lt-of-le a)
 
 -- A finding over the rules from q up to e.
-pub data Judged (ns : List Node) (found : Finding) (q e : ℕ) : Type 0 where
+pub data Found (ns : List Node) (found : Finding) (q e : ℕ) : Type 0 where
   broken : (rule frame : ℕ) → q ≤ rule → rule < e → firstFrame rule ≤ frame → frame < firstFrame rule + frameCount ns rule
-      → ruleAt ns rule frame ≡ false → HoldsAt ns rule (firstFrame rule) frame → AllHold ns q rule → found ≡ Broken rule frame → Judged ns found q e
-  sound : AllHold ns q e → found ≡ Accepted → Judged ns found q e
+      → ruleAt ns rule frame ≡ false → HoldsAt ns rule (firstFrame rule) frame → AllHold ns q rule → found ≡ Broken rule frame → Found ns found q e
+  sound : AllHold ns q e → found ≡ Accepted → Found ns found q e
 
-judged-from : (ns : List Node) (k q : ℕ) → Judged ns (firstBroken ns k q) q (q + k)
+judged-from : (ns : List Node) (k q : ℕ) → Found ns (firstBroken ns k q) q (q + k)
 unfolding firstBroken
 judged-from ns zero q = sound (λ p a b. absurd (omega arith)) refl
 judged-from ns (suc k) q = go (frames ns (firstBroken ns k (q + 1)) q (frameCount ns q) (firstFrame q)) (judged-from ns k (q + 1))
   where
-    go : {v : Finding} → Frames ns (firstBroken ns k (q + 1)) v q (firstFrame q) (firstFrame q + frameCount ns q) → Judged ns (firstBroken ns k (q + 1)) (q + 1) (q + 1 + k) → Judged ns v q (q + suc k)
+    go : {v : Finding} → Frames ns (firstBroken ns k (q + 1)) v q (firstFrame q) (firstFrame q + frameCount ns q) → Found ns (firstBroken ns k (q + 1)) (q + 1) (q + 1 + k) → Found ns v q (q + suc k)
     go (hit g a b h w e) r = broken q g (omega arith) (omega arith) a b h w (λ p u v. absurd (omega arith)) e
     go (miss w e) (broken r g a b c d h u z s) = broken r g (omega arith) (omega arith) c d h u (next-rule ns q r w z) (e ∙ s)
     go (miss w e) (sound z s) =
@@ -76,14 +65,14 @@ judged-from ns (suc k) q = go (frames ns (firstBroken ns k (q + 1)) q (frameCoun
         sound (subst (λ (x : ℕ). AllHold ns q x) same (next-rule ns q (q + 1 + k) w z)) (e ∙ s)
 
 -- The claim, of all rules.
-pub judged : (ns : List Node) → Judged ns (findingOf ns) 1 (1 + lastRule)
+pub judged : (ns : List Node) → Found ns (findingOf ns) 1 (1 + lastRule)
 judged ns = judged-from ns lastRule 1
 
 -- Accepted: every rule holds at all its frames.
 pub accepted-holds : (ns : List Node) → findingOf ns ≡ Accepted → AllHold ns 1 (1 + lastRule)
 accepted-holds ns e = go (judged ns)
   where
-    go : Judged ns (findingOf ns) 1 (1 + lastRule) → AllHold ns 1 (1 + lastRule)
+    go : Found ns (findingOf ns) 1 (1 + lastRule) → AllHold ns 1 (1 + lastRule)
     go (sound z s) = z
     go (broken r g a b c d h u z s) = let x : _≡_ {A = ℕ} 0 1 = cc in absurd (omega arith)
 
@@ -94,25 +83,16 @@ holds-accepted ns w = go (judged ns)
     clash : true ≡ false → findingOf ns ≡ Accepted
     clash e = let x : _≡_ {A = ℕ} 0 1 = cc in absurd (omega arith)
 
-    go : Judged ns (findingOf ns) 1 (1 + lastRule) → findingOf ns ≡ Accepted
+    go : Found ns (findingOf ns) 1 (1 + lastRule) → findingOf ns ≡ Accepted
     go (sound z s) = s
     go (broken r g a b c d h u z s) = clash (sym (w r a b g c d) ∙ h)
 
 -- Refused: the rule that is named is broken at the frame that is named, it holds at every lower frame, and every earlier rule
 -- holds everywhere.
-pub record Broke (ns : List Node) (rule frame : ℕ) : Type 0 where
-  pub low : 1 ≤ rule
-  pub high : rule ≤ lastRule
-  pub from : firstFrame rule ≤ frame
-  pub below : frame < firstFrame rule + frameCount ns rule
-  pub fails : ruleAt ns rule frame ≡ false
-  pub lower : HoldsAt ns rule (firstFrame rule) frame
-  pub earlier : AllHold ns 1 rule
-
 pub broken-first : (ns : List Node) (rule frame : ℕ) → findingOf ns ≡ Broken rule frame → Broke ns rule frame
 broken-first ns rule frame e = go (judged ns)
   where
-    go : Judged ns (findingOf ns) 1 (1 + lastRule) → Broke ns rule frame
+    go : Found ns (findingOf ns) 1 (1 + lastRule) → Broke ns rule frame
     go (sound z s) = let x : _≡_ {A = ℕ} 0 1 = cc in absurd (omega arith)
     go (broken r g a b c d h u z s) =
         let p : rule ≡ r = cc in

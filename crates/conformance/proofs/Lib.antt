@@ -3,3 +3,4 @@ pub mod FrameRules
 pub mod First
 pub mod Loops
 pub mod Possible
+pub mod Demand2

@@ -30,7 +30,8 @@ use Rattle.conformance.specs.declared.Finding.the-variants as finding
 use Rattle.conformance.specs.declared.JudgeAnswer.{JudgeAnswer}
 use Rattle.conformance.specs.Judging.{numberOf, firstFrame, frameCount, findingOf, answerFor, judgeOf, rowCountOf, verdictOf}
 use Rattle.conformance.specs.Possible.{JudgePossible}
-use Rattle.conformance.proofs.First.{Holds, Broke, broken-first}
+use Rattle.conformance.specs.Demand2.{Holds, Broke}
+use Rattle.conformance.proofs.First.{broken-first}
 
 -- ---- The frame of a broken rule
 

@@ -1,3 +1,4 @@
 pub mod Judging
 pub mod Parts
 pub mod Possible
+pub mod Demand2
