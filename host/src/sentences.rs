@@ -69,6 +69,10 @@ pub fn code(number: u32) -> &'static str {
         12 => "not a slip: not 13 bytes, or another mark",
         13 => "a slip of a version that is not 1",
         14 => "a slip with fields that no verdict has",
+        15 => "not a DICOM file: no DICM at byte 128",
+        16 => "the file's head is not as it must be: its group length first, its elements whole and all of group 0002, both UIDs there and single",
+        17 => "another transfer syntax than Explicit VR Little Endian",
+        18 => "the file's head and its data set name different SOP classes, or the data set names none",
         20 => "the frame has no TO_LINEAR item",
         21 => "too little room for the canonical form",
         _ => "unknown code",
@@ -76,11 +80,17 @@ pub fn code(number: u32) -> &'static str {
 }
 
 /// An answer in a line: accepted, or the rule, frame and sentence, or the code and place and what it means. Where the row of the
-/// frame's item is known, and not 0, it is told too.
-pub fn answer(given: &Answer, item_row: u32) -> String {
+/// frame's item is known, and not 0, it is told too. With `start`, where a file's data set starts, a place is told from the file's start as well.
+pub fn answer(given: &Answer, item_row: u32, start: Option<usize>) -> String {
     match given.code {
         0 => String::from("accepted"),
-        1..=6 => format!("code {} at byte {}: {}", given.code, given.offset, code(given.code)),
+        1..=6 => {
+            let place = match start {
+                Some(start) => format!(" of the data set, byte {} of the file", start + given.offset as usize),
+                None => String::new(),
+            };
+            format!("code {} at byte {}{place}: {}", given.code, given.offset, code(given.code))
+        }
         9 => format!("rule {}, frame {}{}: {}", given.rule, given.frame, item(given.frame, item_row), rule(given.rule)),
         _ => format!("code {}: {}", given.code, code(given.code)),
     }
