@@ -1,5 +1,5 @@
-/* Reads, judges and draws X-ray angiographic (XA, XRF) data sets in Explicit VR Little Endian, without a file head, maps
- * their frames back to beam intensity, and keeps verdicts on slips.
+/* Reads, judges and draws X-ray angiographic (XA, XRF) data sets in Explicit VR Little Endian, in DICOM files or without a
+ * file head, maps their frames back to beam intensity, and keeps verdicts on slips.
  *
  * Every call takes any bytes and any buffers; nothing is asked of the caller but that each pointer has as many
  * elements behind it as the size that follows it says, and that no two buffers overlap. A pointer whose size is 0 is
@@ -49,12 +49,20 @@ extern "C" {
  *     10  no such frame: the number is not in 1 to Number of Frames            none
  *     11  the image buffer holds fewer than Rows x Columns bytes, or the       none
  *         values buffer fewer than Rows x Columns numbers
+ *     15  not a DICOM file: no "DICM" at byte 128                              none
+ *     16  a bad file head: its group length is not first, or ends past the     none
+ *         file; its elements break a reading check, or one at depth 0 is of
+ *         another group; or a UID lacks, is empty, not UI or not single
+ *     17  another transfer syntax than Explicit VR Little Endian               none
+ *     18  the head and the data set name different SOP classes, or the data    none
+ *         set names none
  *     20  the frame has no TO_LINEAR item to be mapped by                      none
  *
  * `offset` counts bytes from 0: where the refused header starts, or the end at which an undefined length is still
  * open. `rule` is 1 to XA_RULES; `frame` counts from 1, and is 0 for a rule that is not asked at each frame. The size (7)
  * is tested first, then 1 to 6 header by header, then the row buffer (8), then the rules (9), then the frame (10), then by
- * xa_linear the item (20), then the image or values buffer (11).
+ * xa_linear the item (20), then the image or values buffer (11). The calls for files test 15, 16 and 17 before all others,
+ * and 18 between 8 and 9.
  */
 typedef struct {
     uint32_t code;
@@ -99,6 +107,29 @@ xa_answer xa_judge(const uint8_t *data, size_t size, uint32_t *rows, size_t rows
  */
 xa_answer xa_show(const uint8_t *data, size_t size, uint64_t frame, uint32_t *rows, size_t rows_len, uint8_t *image,
                   size_t image_len);
+
+/* Where the data set of a DICOM file starts: code 0 and `start`, or code 15, 16 or 17 and start 0. The data set is all of the
+ * file from there on.
+ */
+typedef struct {
+    uint32_t code;
+    size_t start;
+} xa_part;
+
+xa_part xa_data_set(const uint8_t *file, size_t size);
+
+/* The calls for DICOM files: `file` is a whole file, 128 bytes of anything, "DICM", a head of group 0002, then the data set. Each
+ * does with the data set, as the part of the file that it is, what the call of the same name does with a bare one, and answers
+ * the same; offsets count from the data set's start. Codes 15 to 18 come on top: with 15 to 17 no buffer is written; with 18 the
+ * rows are, and nothing else. XA_LARGEST limits the data set and not the file, and no room is needed for the head. No slip
+ * takes 15 to 18: writing one answers 14.
+ */
+xa_answer xa_read_file(const uint8_t *file, size_t size, uint32_t *rows, size_t rows_len);
+
+xa_answer xa_judge_file(const uint8_t *file, size_t size, uint32_t *rows, size_t rows_len);
+
+xa_answer xa_show_file(const uint8_t *file, size_t size, uint64_t frame, uint32_t *rows, size_t rows_len, uint8_t *image,
+                       size_t image_len);
 
 /* What `xa_canonical` answers. Fields that the code does not name are 0.
  *

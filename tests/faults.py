@@ -3,7 +3,7 @@
 import ctypes
 
 from parents import table_of
-from reference import canonical, drawing, intensity, reading, rules, slips
+from reference import canonical, drawing, files, intensity, reading, rules, slips
 from reference.answers import Answer
 from reference.reading import ITEM, NUMBERS_IN_A_ROW
 from reference.values import UNIT
@@ -612,5 +612,77 @@ LINEAR_FAULTS = {
     "the last entry changed": StandIn(root_entry=lambda level: intensity.root_entry(level) - (level == 255)),
 }
 
+def files_with(**functions):
+    """The calls for files with some functions of the reference's files changed."""
+
+    def call(name):
+        def changed(*arguments):
+            kept = {function: getattr(files, function) for function in functions}
+            for function, other in functions.items():
+                setattr(files, function, other)
+            try:
+                return FILE_CALLS[name](*arguments)
+            finally:
+                for function, other in kept.items():
+                    setattr(files, function, other)
+        return changed
+
+    return StandIn(**{name: call(name) for name in FILE_CALLS})
+
+
+FILE_CALLS = {"data_set": files.data_set, "read_file": files.read_file, "judge_file": files.judge_file, "show_file": files.show_file}
+READ_HEAD, HEAD_ELEMENTS, INSIDE, SINGLE_UID = files.read_head, files.head_elements, files.inside, files.single_uid
+
+
+def any_syntax(file):
+    elements, end = files.head_elements(file)
+    sop_class = files.single_uid(file, elements, files.MEDIA_STORAGE_SOP_CLASS_UID)
+    if sop_class is None or files.single_uid(file, elements, files.TRANSFER_SYNTAX_UID) is None:
+        raise files.HeadRefusal(16)
+    return end, sop_class
+
+
+def length_ignored(file):
+    """The head up to the last element of group 0002, whatever its group length says."""
+    elements, end = HEAD_ELEMENTS(file)
+    while file[end:end + 2] == b"\2\0" and len(file) - end >= 8:
+        end += 8 + reading.number(file, end + 6, 2)
+    return elements, end
+
+
+def class_first(file, row_buffer_length, call):
+    """18 before 8."""
+    outcome = INSIDE(file, row_buffer_length, call)
+    enough = INSIDE(file, 1 << 40, call)
+    return outcome._replace(answer=enough.answer) if outcome.answer.code == 8 and enough.answer.code == 18 else outcome
+
+
+def any_values(data, elements, tag):
+    """The first of several UIDs taken."""
+    for element in elements:
+        if element.tag == tag and element.vr == "UI" and element.value_length > 0:
+            return bytes(data[element.value_offset:element.value_offset + element.value_length]).split(b"\\")[0].rstrip(b"\0")
+    return None
+
+
+FILE_FAULTS = {
+    "the group length ignored": files_with(head_elements=length_ignored),
+    "the transfer syntax not compared": files_with(read_head=any_syntax),
+    "18 before 8": files_with(inside=class_first),
+    "the data set's start off by the group length element": files_with(read_head=lambda file: (READ_HEAD(file)[0] - 12, READ_HEAD(file)[1])),
+    "several UIDs": files_with(single_uid=any_values),
+    "18 not told": files_with(inside=lambda file, length, call: call(file[files.read_head(file)[0]:]) if files.data_set(file)[0] == 0
+                              else INSIDE(file, length, call)),
+    "15 told as 16": StandIn(answer_changed(code=lambda a: 16 if a.code == 15 else a.code), data_set=lambda file: (
+        files.data_set(file)[0], files.data_set(file)[1])),
+    "start told with 16": StandIn(data_set=lambda file: (files.data_set(file)[0], files.data_set(file)[1] or 144)),
+    "rows not written at code 18": StandIn(lambda o, data: o._replace(rows=()) if o.answer.code == 18 else o),
+    "row count told with code 18": StandIn(answer_changed(rows=lambda a: 5 if a.code == 18 else a.rows)),
+    "a picture at code 18": StandIn(lambda o, data: o._replace(image=b"\0") if o.answer.code == 18 else o),
+    "rows touched at code 16": StandIn(lambda o, data: o._replace(rows=(0,)) if o.answer.code == 16 else o),
+    "places from the file's start": StandIn(lambda o, data: o._replace(answer=o.answer._replace(offset=o.answer.offset + files.data_set(data)[1]))
+                                            if 1 <= o.answer.code <= 6 else o),
+}
+
 FAULTS = {"read": READ_FAULTS, "judge": JUDGE_FAULTS, "slips": SLIP_FAULTS, "decimals": DECIMAL_FAULTS, "windows": WINDOW_FAULTS,
-          "show": SHOW_FAULTS, "canonical": CANONICAL_FAULTS, "linear": LINEAR_FAULTS}
+          "show": SHOW_FAULTS, "canonical": CANONICAL_FAULTS, "linear": LINEAR_FAULTS, "files": FILE_FAULTS}

@@ -36,6 +36,12 @@ class SlipStruct(ctypes.Structure):
     _fields_ = [("code", ctypes.c_uint32), ("rows_known", ctypes.c_uint32), ("verdict", AnswerStruct)]
 
 
+class PartStruct(ctypes.Structure):
+    """xa_part of include/luuxidgaan.h."""
+
+    _fields_ = [("code", ctypes.c_uint32), ("start", ctypes.c_size_t)]
+
+
 ROWS_NOT_KNOWN = 0xFFFFFFFF  # XA_ROWS_NOT_KNOWN of the header
 
 SIGNATURES = {
@@ -43,6 +49,11 @@ SIGNATURES = {
     "xa_judge": (AnswerStruct, [ctypes.c_void_p, ctypes.c_size_t, ctypes.c_void_p, ctypes.c_size_t]),
     "xa_show": (AnswerStruct, [ctypes.c_void_p, ctypes.c_size_t, ctypes.c_uint64, ctypes.c_void_p, ctypes.c_size_t,
                                ctypes.c_void_p, ctypes.c_size_t]),
+    "xa_data_set": (PartStruct, [ctypes.c_void_p, ctypes.c_size_t]),
+    "xa_read_file": (AnswerStruct, [ctypes.c_void_p, ctypes.c_size_t, ctypes.c_void_p, ctypes.c_size_t]),
+    "xa_judge_file": (AnswerStruct, [ctypes.c_void_p, ctypes.c_size_t, ctypes.c_void_p, ctypes.c_size_t]),
+    "xa_show_file": (AnswerStruct, [ctypes.c_void_p, ctypes.c_size_t, ctypes.c_uint64, ctypes.c_void_p, ctypes.c_size_t,
+                                    ctypes.c_void_p, ctypes.c_size_t]),
     "xa_canonical": (RewrittenStruct, [ctypes.c_void_p, ctypes.c_size_t, ctypes.c_void_p, ctypes.c_size_t, ctypes.c_void_p,
                                        ctypes.c_size_t]),
     "xa_linear": (AnswerStruct, [ctypes.c_void_p, ctypes.c_size_t, ctypes.c_uint64, ctypes.c_void_p, ctypes.c_size_t,
@@ -161,18 +172,18 @@ class Library:
         return self.input.place(data)
 
     def call_with_rows(self, name, data, row_buffer_length):
-        """xa_read or xa_judge: the answer, and the buffers to look at."""
+        """xa_read, xa_judge, or one of these of a file: the answer, and the buffers to look at."""
         address = self._place(data)
         rows = GuardedBuffer(4 * row_buffer_length)
         result = self.functions[name](address, len(data), rows.address, row_buffer_length)
         return Observation(answer_of(result), rows, GuardedBuffer(0), self.input)
 
-    def show(self, data, frame, row_buffer_length, image_buffer_length):
+    def show(self, data, frame, row_buffer_length, image_buffer_length, name="xa_show"):
         address = self._place(data)
         rows = GuardedBuffer(4 * row_buffer_length)
         image = GuardedBuffer(image_buffer_length)
-        result = self.functions["xa_show"](address, len(data), frame, rows.address, row_buffer_length, image.address,
-                                           image_buffer_length)
+        result = self.functions[name](address, len(data), frame, rows.address, row_buffer_length, image.address,
+                                      image_buffer_length)
         return Observation(answer_of(result), rows, image, self.input)
 
     def canonical(self, data, row_buffer_length, target_length):
@@ -211,11 +222,17 @@ class Library:
         address = ctypes.addressof(ctypes.c_char.from_buffer(memory))
         rows = GuardedBuffer(4 * row_buffer_length)
         image = GuardedBuffer(16)
-        lent = {"xa_show": image.length, "xa_linear": image.length // 2}.get(name)
+        lent = {"xa_show": image.length, "xa_show_file": image.length, "xa_linear": image.length // 2}.get(name)
         between = () if lent is None else (1,)
         behind = () if lent is None else (image.address, lent)
         result = self.functions[name](address, len(memory), *between, rows.address, row_buffer_length, *behind)
         return Observation(answer_of(result), rows, image, None)
+
+    def data_set(self, file):
+        """The code and start that xa_data_set answers, and what is wrong with the input afterwards (None: nothing)."""
+        address = self._place(file)
+        result = self.functions["xa_data_set"](address, len(file))
+        return (int(result.code), int(result.start)), self.input.fault()
 
     def write_slip(self, verdict, slip_buffer_length, flag=1, unknown=ROWS_NOT_KNOWN):
         """The code answered, and the slip buffer. `flag` says that the rows are known; where they are None, the flag handed

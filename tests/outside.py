@@ -1,5 +1,5 @@
-"""Objects made by others: the test files of Debian's python3-pydicom, and files made with dcmtk's and pydicom's writers; and
-images drawn by dcmtk."""
+"""Objects made by others: the test files of Debian's python3-pydicom and dcmtk, whole and without their heads; what dcmtk's and
+pydicom's writers make of ours; and images drawn by dcmtk."""
 
 import os
 import shutil
@@ -9,6 +9,7 @@ import subprocess
 from reference.reading import LONG_VRS
 
 PYDICOM_PACKAGE = "python3-pydicom"
+DCMTK_PACKAGE = "dcmtk"
 EXPLICIT_LITTLE_ENDIAN = "1.2.840.10008.1.2.1"
 ENCAPSULATED_PREFIXES = ("1.2.840.10008.1.2.4.", "1.2.840.10008.1.2.5")
 
@@ -62,6 +63,20 @@ def pydicom_data_sets():
             found.append((os.path.basename(path), "no head", content))
         if parts and (parts[0] == EXPLICIT_LITTLE_ENDIAN or parts[0].startswith(ENCAPSULATED_PREFIXES)):
             found.append((os.path.basename(path), parts[0], parts[1]))
+    return found
+
+
+def package_dicom_files():
+    """(name, transfer syntax, content) of each DICOM file of the packages, whole; the syntax is None where no head names one."""
+    found = []
+    for path in package_files(PYDICOM_PACKAGE) + package_files(DCMTK_PACKAGE):
+        if path.endswith((".py", ".pyc")):
+            continue
+        with open(path, "rb") as file:
+            content = file.read()
+        if content[128:132] == b"DICM" or path.endswith(".dcm"):
+            parts = split_file(content)
+            found.append((os.path.basename(path), parts[0] if parts else None, content))
     return found
 
 
@@ -192,6 +207,63 @@ def written_defined(folder, data_set):
         if subprocess.run(command, capture_output=True).returncode == 0:
             with open(target, "rb") as file:
                 yield name, file.read()
+
+
+# Writes the data set of a bare file into a file of its own, with a head.
+PYDICOM_WRITES = """
+import sys, pydicom
+from pydicom.dataset import FileMetaDataset
+data_set = pydicom.dcmread(sys.argv[1], force=True)
+for element in data_set.iterall():
+    element.value
+data_set.file_meta = FileMetaDataset()
+data_set.file_meta.MediaStorageSOPClassUID = data_set.SOPClassUID
+data_set.file_meta.MediaStorageSOPInstanceUID = "1.2.3.4"
+data_set.file_meta.TransferSyntaxUID = "1.2.840.10008.1.2.1"
+data_set.is_little_endian = True
+data_set.is_implicit_VR = False
+pydicom.dcmwrite(sys.argv[2], data_set, write_like_original=False)
+"""
+
+
+def written_files(folder, data_set):
+    """(writer, content): files of an object, each with a head, as other programs write them. A writer that refuses the object is left out."""
+    source = os.path.join(folder, "bare.xa")
+    target = os.path.join(folder, "written.dcm")
+    with open(source, "wb") as file:
+        file.write(data_set)
+    writers = []
+    if has_dcmtk():
+        writers += [(f"dcmconv, {name}", [["dcmconv", "-f", "-te", "+te", "+F", *switches, source, target]])
+                    for name, switches in (("defined lengths", ("+e",)), ("undefined lengths", ("-e",)), ("other group lengths", ("+e", "+g")))]
+        writers.append(("dcmodify", [["dcmconv", "-f", "-te", "+te", "+F", source, target],
+                                     ["dcmodify", "-nb", "-i", "(0010,0010)=Other^Name", target]]))
+    if has_pydicom():
+        writers.append(("pydicom", [[PYTHON, "-W", "ignore", "-c", PYDICOM_WRITES, source, target]]))
+    if shutil.which("gdcmconv"):
+        writers.append(("gdcm", [["dcmconv", "-f", "-te", "+te", "+F", source, target + ".in"], ["gdcmconv", "--raw", target + ".in", target]]))
+    for name, commands in writers:
+        if all(subprocess.run(command, capture_output=True).returncode == 0 for command in commands):
+            with open(target, "rb") as file:
+                yield name, file.read()
+
+
+# A grey picture of 2 x 2 in JPEG's plainest form would be encapsulated; a BMP becomes plain pixels.
+BITMAP = (b"BM" + struct.pack("<IHHI", 54 + 16, 0, 0, 54) + struct.pack("<IiiHHIIiiII", 40, 2, 2, 1, 24, 0, 16, 0, 0, 0, 0)
+          + bytes(range(16)))
+
+
+def other_files(folder):
+    """(writer, content): files of objects that are no runs, by programs that make files of pictures."""
+    if not shutil.which("img2dcm"):
+        return
+    source = os.path.join(folder, "picture.bmp")
+    target = os.path.join(folder, "picture.dcm")
+    with open(source, "wb") as file:
+        file.write(BITMAP)
+    if subprocess.run(["img2dcm", "-i", "BMP", source, target], capture_output=True).returncode == 0:
+        with open(target, "rb") as file:
+            yield "img2dcm", file.read()
 
 
 def windowed_by_dcmtk(folder, data_set, frame, center, width):

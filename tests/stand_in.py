@@ -5,8 +5,8 @@ With no fault it must pass every comparison; with a fault it must fail one. So i
 
 import ctypes
 
-from library import ROWS_NOT_KNOWN, AnswerStruct, RewrittenStruct, SlipStruct, answer_of
-from reference import canonical, drawing, intensity, reading, rules, slips
+from library import ROWS_NOT_KNOWN, AnswerStruct, PartStruct, RewrittenStruct, SlipStruct, answer_of
+from reference import canonical, drawing, files, intensity, reading, rules, slips
 
 
 def write(address, content):
@@ -30,10 +30,15 @@ class StandIn:
 
     def __init__(self, change=None, after=None, read=reading.read, judge=rules.judge, show=drawing.show,
                  write_slip=slips.write_slip, read_slip=slips.read_slip, write_canonical=canonical.write_canonical,
+                 data_set=files.data_set, read_file=files.read_file, judge_file=files.judge_file, show_file=files.show_file,
                  linear=intensity.linear, root_level=intensity.root_level, root_entry=intensity.root_entry):
         self.read = read
         self.judge = judge
         self.show = show
+        self.data_set = data_set
+        self.read_file = read_file
+        self.judge_file = judge_file
+        self.show_file = show_file
         self.write_slip = write_slip
         self.read_slip = read_slip
         self.write_canonical = write_canonical
@@ -43,27 +48,41 @@ class StandIn:
         self.change = change or (lambda outcome, data: outcome)
         self.after = after or (lambda outcome, data, rows, rows_length: None)
 
-    def xa_read(self, data, size, rows, rows_length):
+    def with_rows(self, call, data, size, rows, rows_length):
         content = view(data, size)
-        outcome = self.change(self.read(content, rows_length), content)
+        outcome = self.change(call(content, rows_length), content)
         write_rows(rows, outcome.rows)
         self.after(outcome, data, rows, rows_length)
         return AnswerStruct(*outcome.answer)
 
-    def xa_judge(self, data, size, rows, rows_length):
+    def with_image(self, call, data, size, frame, rows, rows_length, image, image_length):
         content = view(data, size)
-        outcome = self.change(self.judge(content, rows_length), content)
-        write_rows(rows, outcome.rows)
-        self.after(outcome, data, rows, rows_length)
-        return AnswerStruct(*outcome.answer)
-
-    def xa_show(self, data, size, frame, rows, rows_length, image, image_length):
-        content = view(data, size)
-        outcome = self.change(self.show(content, frame, rows_length, image_length), content)
+        outcome = self.change(call(content, frame, rows_length, image_length), content)
         write_rows(rows, outcome.rows)
         write(image, outcome.image)
         self.after(outcome, data, rows, rows_length)
         return AnswerStruct(*outcome.answer)
+
+    def xa_read(self, *given):
+        return self.with_rows(self.read, *given)
+
+    def xa_judge(self, *given):
+        return self.with_rows(self.judge, *given)
+
+    def xa_show(self, *given):
+        return self.with_image(self.show, *given)
+
+    def xa_data_set(self, file, size):
+        return PartStruct(*self.data_set(view(file, size)))
+
+    def xa_read_file(self, *given):
+        return self.with_rows(self.read_file, *given)
+
+    def xa_judge_file(self, *given):
+        return self.with_rows(self.judge_file, *given)
+
+    def xa_show_file(self, *given):
+        return self.with_image(self.show_file, *given)
 
     def xa_canonical(self, data, size, rows, rows_length, target, target_length):
         content = view(data, size)

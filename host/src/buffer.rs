@@ -4,6 +4,7 @@
 //! but most bytes are pixels, and a run of 900 frames has 22,598 rows. So the buffer starts small and is doubled each time
 //! the library answers that it is too small.
 
+use crate::head::Form;
 use crate::library::{self, Answer, Coded, Rewritten, ROW_WIDTH};
 use crate::table::Table;
 
@@ -24,18 +25,27 @@ pub struct RowBuffer {
 
 impl RowBuffer {
     /// The rows of a data set, or its refusal.
-    pub fn read(&mut self, data: &[u8]) -> Result<Answer, String> {
-        self.lend(data, library::read)
+    pub fn read(&mut self, form: Form, data: &[u8]) -> Result<Answer, String> {
+        match form {
+            Form::File => self.lend(data, library::read_file),
+            Form::Bare => self.lend(data, library::read),
+        }
     }
 
     /// The verdict on a data set.
-    pub fn judge(&mut self, data: &[u8]) -> Result<Answer, String> {
-        self.lend(data, library::judge)
+    pub fn judge(&mut self, form: Form, data: &[u8]) -> Result<Answer, String> {
+        match form {
+            Form::File => self.lend(data, library::judge_file),
+            Form::Bare => self.lend(data, library::judge),
+        }
     }
 
     /// Draws a frame into the image.
-    pub fn show(&mut self, data: &[u8], frame: u64, image: &mut [u8]) -> Result<Answer, String> {
-        self.lend(data, |data, rows| library::show(data, frame, rows, image))
+    pub fn show(&mut self, form: Form, data: &[u8], frame: u64, image: &mut [u8]) -> Result<Answer, String> {
+        match form {
+            Form::File => self.lend(data, |data, rows| library::show_file(data, frame, rows, image)),
+            Form::Bare => self.lend(data, |data, rows| library::show(data, frame, rows, image)),
+        }
     }
 
     /// Writes the canonical form of a data set into the target, which suffices if it is as long as the data set.

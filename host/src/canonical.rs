@@ -12,7 +12,7 @@ use sha2::{Digest, Sha256};
 
 use crate::buffer::RowBuffer;
 use crate::files::{self, Finding, Opened};
-use crate::head::Judged;
+use crate::head::{Form, Judged};
 use crate::library::Answer;
 use crate::output::{line, note, note_of, path_fields, Status};
 
@@ -39,10 +39,26 @@ impl Failure {
     }
 }
 
-/// The canonical form of a file's data set, and whether the file is in that form already.
-fn form_of(path: &Path, buffer: &mut RowBuffer) -> Result<(Vec<u8>, bool), Failure> {
+/// A data set in its canonical form.
+struct Canonical {
+    /// What stands before the data set: a file's head, byte for byte.
+    head: Vec<u8>,
+    form: Vec<u8>,
+    /// Whether the data set is in that form already.
+    same: bool,
+}
+
+/// The canonical form of a file's data set. A file that reading refuses is refused here by the same code.
+fn form_of(path: &Path, kind: Form, buffer: &mut RowBuffer) -> Result<Canonical, Failure> {
     let opened = Opened::open(path)?;
-    let data = opened.bytes();
+    let content = opened.bytes();
+    if kind == Form::File {
+        let answer = buffer.read(kind, content)?;
+        if answer.code != 0 {
+            return Err(Failure::Refused(Judged::of(kind, content, answer, buffer.table(0)).line()));
+        }
+    }
+    let (head, data) = content.split_at(kind.start(content));
     let mut form = Vec::new();
     if form.try_reserve_exact(data.len()).is_err() {
         return Err(Failure::Trouble(format!("there is no memory for {} bytes", data.len())));
@@ -52,22 +68,22 @@ fn form_of(path: &Path, buffer: &mut RowBuffer) -> Result<(Vec<u8>, bool), Failu
     let written = buffer.canonical(data, &mut form)?;
     if written.code != 0 {
         let answer = Answer { code: written.code, offset: written.offset, ..Answer::default() };
-        return Err(Failure::Refused(Judged::of(data, answer, buffer.table(0)).line()));
+        return Err(Failure::Refused(Judged::of(kind, content, answer, buffer.table(0)).line()));
     }
     buffer.let_go();
     form.truncate(written.length as usize);
-    let same = form == data;
+    let canonical = Canonical { head: head.to_vec(), same: form == data, form };
     opened.unchanged()?;
-    Ok((form, same))
+    Ok(canonical)
 }
 
-/// Writes the canonical form of a file to another.
-pub fn write(path: &Path, output: &Path, out: &mut dyn Write) -> io::Result<Status> {
+/// Writes a file in canonical form to another: its head as it is, then the canonical form of its data set.
+pub fn write(path: &Path, kind: Form, output: &Path, out: &mut dyn Write) -> io::Result<Status> {
     if files::is_same(path, output) {
         note_of(output, "it is the data set itself; name another file");
         return Ok(Status::Failed);
     }
-    let (form, same) = match form_of(path, &mut RowBuffer::default()) {
+    let Canonical { head: mut content, form, same } = match form_of(path, kind, &mut RowBuffer::default()) {
         Ok(found) => found,
         Err(failure) => {
             let (status, text) = failure.parts();
@@ -78,11 +94,12 @@ pub fn write(path: &Path, output: &Path, out: &mut dyn Write) -> io::Result<Stat
             return Ok(status);
         }
     };
-    if let Err(error) = files::write_whole(output, &form, false) {
+    content.extend(form);
+    if let Err(error) = files::write_whole(output, &content, false) {
         note_of(output, &format!("cannot be written: {}", files::trouble(&error)));
         return Ok(Status::Failed);
     }
-    let text = format!("{} bytes, {}", form.len(), if same { "as they were" } else { "in canonical form" });
+    let text = format!("{} bytes, {}", content.len(), if same { "as they were" } else { "in canonical form" });
     line(out, output, &text)?;
     Ok(Status::Fine)
 }
@@ -127,8 +144,8 @@ impl Group {
 }
 
 /// What is known so far: the groups in the order of their first files, and which of them have a hash.
-#[derive(Default)]
 struct Search {
+    kind: Form,
     groups: Vec<Group>,
     by_hash: HashMap<[u8; 32], Vec<usize>>,
     buffer: RowBuffer,
@@ -138,8 +155,20 @@ struct Search {
 }
 
 impl Search {
+    fn of(kind: Form) -> Search {
+        Search {
+            kind,
+            groups: Vec::new(),
+            by_hash: HashMap::new(),
+            buffer: RowBuffer::default(),
+            status: None,
+            refused: 0,
+            unread: 0,
+        }
+    }
+
     fn add(&mut self, path: &Path) {
-        let found = form_of(path, &mut self.buffer).and_then(|(form, canonical)| self.place(path, &form, canonical));
+        let found = form_of(path, self.kind, &mut self.buffer).and_then(|found| self.place(path, &found.form, found.same));
         if let Err(failure) = found {
             let (status, text) = failure.parts();
             self.fail(path, status, &text);
@@ -161,7 +190,7 @@ impl Search {
         let member = Member { path: path.to_path_buf(), canonical };
         for &number in self.by_hash.get(&hash).map_or(&[][..], Vec::as_slice) {
             let first = self.groups[number].members[0].path.clone();
-            if form_of(&first, &mut self.buffer)?.0 == form {
+            if form_of(&first, self.kind, &mut self.buffer)?.form == form {
                 self.groups[number].members.push(member);
                 return Ok(());
             }
@@ -173,7 +202,7 @@ impl Search {
 }
 
 /// Finds files whose data sets have the same canonical form.
-pub fn duplicates(named: &[PathBuf], json: bool, out: &mut dyn Write) -> io::Result<Status> {
+pub fn duplicates(named: &[PathBuf], kind: Form, json: bool, out: &mut dyn Write) -> io::Result<Status> {
     let finding = Finding::of(named, None);
     for (path, reason) in &finding.skipped {
         note_of(path, &format!("skipped: {reason}"));
@@ -182,7 +211,7 @@ pub fn duplicates(named: &[PathBuf], json: bool, out: &mut dyn Write) -> io::Res
         note("nothing was compared: there is no file in what was named");
         return Ok(Status::Failed);
     }
-    let mut search = Search::default();
+    let mut search = Search::of(kind);
     let mut seen = HashSet::new();
     for one in &finding.found {
         // A file is no duplicate of itself, by whatever name it was found again.

@@ -8,6 +8,7 @@ use std::io::{self, Write};
 use std::path::Path;
 
 use crate::files;
+use crate::head::Form;
 use crate::judging;
 use crate::output::{note_of, Status};
 use crate::picture;
@@ -31,7 +32,7 @@ fn element(tag: u32, vr: &str, value: &[u8]) -> Vec<u8> {
     }
     let mut bytes = tag_bytes(tag);
     bytes.extend(vr.as_bytes());
-    if matches!(vr, "SQ" | "OW") {
+    if matches!(vr, "SQ" | "OB" | "OW") {
         bytes.extend([0, 0]);
         bytes.extend((value.len() as u32).to_le_bytes());
     } else {
@@ -101,6 +102,23 @@ fn frame_item(frame: usize, with_window: bool) -> Vec<u8> {
     item(&groups)
 }
 
+const ENHANCED_XA: &str = "1.2.840.10008.5.1.4.1.1.12.1.1";
+/// A UID made from a number that was drawn once (PS3.5, annex B.2).
+const INSTANCE: &str = "2.25.208136041254977261925360311254630151267";
+
+/// A file: 128 bytes, the mark, the head with its length first, the data set.
+fn file(data_set: &[u8]) -> Vec<u8> {
+    let head = [
+        element(0x0002_0001, "OB", &[0, 1]),               // File Meta Information Version
+        text(0x0002_0002, "UI", ENHANCED_XA),              // Media Storage SOP Class UID
+        text(0x0002_0003, "UI", INSTANCE),                 // Media Storage SOP Instance UID
+        text(0x0002_0010, "UI", "1.2.840.10008.1.2.1"),    // Transfer Syntax UID: Explicit VR Little Endian
+        text(0x0002_0012, "UI", "2.25.83027144017286054"), // Implementation Class UID
+    ]
+    .concat();
+    [&[0; 128], &b"DICM"[..], &element(0x0002_0000, "UL", &(head.len() as u32).to_le_bytes()), &head, data_set].concat()
+}
+
 /// A data set around pixel bytes. Frame `left_out` has no item, frame `windowless` no Window Width.
 fn data_set(pixels: &[u8], left_out: Option<usize>, windowless: Option<usize>) -> Vec<u8> {
     let frames = (1..=FRAMES).filter(|&frame| Some(frame) != left_out);
@@ -108,7 +126,7 @@ fn data_set(pixels: &[u8], left_out: Option<usize>, windowless: Option<usize>) -
     let masks: Vec<u16> = (1..=MASKS as u16).collect();
     [
         text(0x0008_0008, "CS", "ORIGINAL\\PRIMARY\\\\NONE"), // Image Type
-        text(0x0008_0016, "UI", "1.2.840.10008.5.1.4.1.1.12.1.1"), // SOP Class UID: Enhanced XA
+        text(0x0008_0016, "UI", ENHANCED_XA),                 // SOP Class UID
         text(0x0008_002A, "DT", "20240305050000"),            // Acquisition DateTime
         text(0x0008_0060, "CS", "XA"),                        // Modality
         text(0x0010_0010, "PN", "Sample^Run"),
@@ -275,12 +293,12 @@ fn typed(out: &mut dyn Write, words: &[&str], path: &Path) -> io::Result<()> {
 
 pub fn run(folder: &Path, jobs: usize, out: &mut dyn Write) -> io::Result<Status> {
     let pixels = pixels();
-    let good = data_set(&pixels, None, None);
+    let good = file(&data_set(&pixels, None, None));
     let samples: [(&str, &[u8], &str); 4] = [
         ("cut-short.xa", &good[..good.len() / 2], "the first half of the good run"),
         ("good.xa", &good, "24 frames of 256 x 256, a mask of the first two, moved by quarters of a pixel"),
-        ("item-left-out.xa", &data_set(&pixels, Some(LEFT_OUT), None), "without the per-frame item of frame 13"),
-        ("window-lost.xa", &data_set(&pixels, None, Some(WINDOWLESS)), "no Window Width in frame 17"),
+        ("item-left-out.xa", &file(&data_set(&pixels, Some(LEFT_OUT), None)), "without the per-frame item of frame 13"),
+        ("window-lost.xa", &file(&data_set(&pixels, None, Some(WINDOWLESS))), "no Window Width in frame 17"),
     ];
     let runs = folder.join("runs");
     writeln!(out, "Sample runs:")?;
@@ -295,7 +313,7 @@ pub fn run(folder: &Path, jobs: usize, out: &mut dyn Write) -> io::Result<Status
     }
 
     typed(out, &["judge"], &runs)?;
-    let wanted = judging::Wanted { named: vec![runs.clone()], slips: None, json: false, jobs };
+    let wanted = judging::Wanted { named: vec![runs.clone()], form: Form::File, slips: None, json: false, jobs };
     let mut status = match judging::run(&wanted, out)? {
         // Three of the runs are made to be refused.
         Status::Refused => Status::Fine,
@@ -306,10 +324,10 @@ pub fn run(folder: &Path, jobs: usize, out: &mut dyn Write) -> io::Result<Status
     for frame in [1, 7, 11, 19] {
         let to = folder.join(format!("frame-{frame}.png"));
         typed(out, &["show", &path.to_string_lossy(), &frame.to_string(), "-o"], &to)?;
-        status = status.max(picture::show(&path, frame, Some(&to), out)?);
+        status = status.max(picture::show(&path, Form::File, frame, Some(&to), out)?);
     }
     let to = folder.join("contact.png");
     typed(out, &["contact", &path.to_string_lossy(), "-o"], &to)?;
-    status = status.max(picture::contact(&path, Some(&to), out)?);
+    status = status.max(picture::contact(&path, Form::File, Some(&to), out)?);
     Ok(status)
 }

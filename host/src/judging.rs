@@ -11,14 +11,18 @@ use indicatif::{ProgressBar, ProgressDrawTarget, ProgressStyle};
 
 use crate::buffer::RowBuffer;
 use crate::files::{self, Finding, Found, Opened};
-use crate::head::{self, Judged};
+use crate::head::{Form, Judged};
 use crate::library::{self, Answer, SLIP_SIZE};
 use crate::output::{answer_fields, json_text, line, note, note_of, path_fields, trouble_fields, Status};
 use crate::sentences;
 
+/// The codes of a file that no verdict on a data set is given of.
+const FILE_CODES: std::ops::RangeInclusive<u32> = 15..=18;
+
 /// What `luux judge` was asked.
 pub struct Wanted {
     pub named: Vec<PathBuf>,
+    pub form: Form,
     pub slips: Option<PathBuf>,
     pub json: bool,
     pub jobs: usize,
@@ -57,11 +61,14 @@ impl Report {
     fn json(&self, path: &Path) -> String {
         let mut fields = path_fields("path", path);
         match &self.verdict {
-            Ok(Judged { answer, item_row, has_head }) => {
+            Ok(Judged { answer, item_row, start, hint }) => {
                 fields.push_str(&answer_fields(answer, Some(answer.rows)));
                 fields.push_str(&format!(",\"item_row\":{item_row}"));
-                if *has_head {
-                    fields.push_str(&format!(",\"hint\":{}", json_text(head::HINT)));
+                if let Some(start) = start {
+                    fields.push_str(&format!(",\"start\":{start}"));
+                }
+                if let Some(hint) = hint {
+                    fields.push_str(&format!(",\"hint\":{}", json_text(hint)));
                 }
             }
             Err(trouble) => fields.push_str(&trouble_fields(trouble)),
@@ -75,10 +82,10 @@ impl Report {
     }
 }
 
-fn judge_file(path: &Path, buffer: &mut RowBuffer) -> Result<Judged, String> {
+fn judge_file(path: &Path, form: Form, buffer: &mut RowBuffer) -> Result<Judged, String> {
     let opened = Opened::open(path)?;
-    let answer = buffer.judge(opened.bytes())?;
-    let judged = Judged::of(opened.bytes(), answer, buffer.table(answer.rows));
+    let answer = buffer.judge(form, opened.bytes())?;
+    let judged = Judged::of(form, opened.bytes(), answer, buffer.table(answer.rows));
     opened.unchanged().map(|()| judged)
 }
 
@@ -91,14 +98,15 @@ fn write_slip(path: &Path, answer: Answer) -> Option<String> {
     files::write_whole(path, &slip, true).err().map(|error| files::trouble(&error))
 }
 
-fn report(found: &Found, slips: Option<&Path>, buffer: &mut RowBuffer) -> Report {
+fn report(found: &Found, form: Form, slips: Option<&Path>, buffer: &mut RowBuffer) -> Report {
     if let Some(trouble) = &found.unreadable {
         return Report { verdict: Err(trouble.clone()), slip: None };
     }
-    let verdict = judge_file(&found.path, buffer);
+    let verdict = judge_file(&found.path, form, buffer);
     buffer.let_go();
     let slip = match (slips, &verdict) {
-        (Some(folder), Ok(judged)) => {
+        // A slip records a verdict on a data set; a file that none is taken from gets none.
+        (Some(folder), Ok(judged)) if !FILE_CODES.contains(&judged.answer.code) => {
             let path = files::slip_path(folder, &found.path);
             let trouble = write_slip(&path, judged.answer);
             Some((path, trouble))
@@ -111,6 +119,7 @@ fn report(found: &Found, slips: Option<&Path>, buffer: &mut RowBuffer) -> Report
 /// Takes one file after another until there is none left, or nobody listens.
 fn work(
     found: &[Found],
+    form: Form,
     slips: Option<&Path>,
     next: &AtomicUsize,
     stop: &AtomicBool,
@@ -118,7 +127,7 @@ fn work(
 ) {
     let mut buffer = RowBuffer::default();
     while let Some((number, one)) = take(found, next) {
-        let sent = reports.send((number, report(one, slips, &mut buffer)));
+        let sent = reports.send((number, report(one, form, slips, &mut buffer)));
         if sent.is_err() || stop.load(Ordering::Relaxed) {
             return;
         }
@@ -231,19 +240,19 @@ impl Printing<'_> {
 
 /// Judges on several threads, and prints on this one. With an error of standard output the threads stop too.
 fn judge_all(wanted: &Wanted, printing: &mut Printing) -> io::Result<()> {
-    let (found, slips) = (printing.found, wanted.slips.as_deref());
+    let (found, form, slips) = (printing.found, wanted.form, wanted.slips.as_deref());
     let (next, stop) = (AtomicUsize::new(0), AtomicBool::new(false));
     thread::scope(|scope| {
         let (reports, arriving) = channel();
         let mut workers = 0;
         for _ in 0..wanted.jobs.min(found.len()) {
             let (reports, next, stop) = (reports.clone(), &next, &stop);
-            let job = move || work(found, slips, next, stop, reports);
+            let job = move || work(found, form, slips, next, stop, reports);
             // Fewer threads than asked for do the same work.
             workers += usize::from(thread::Builder::new().spawn_scoped(scope, job).is_ok());
         }
         if workers == 0 {
-            work(found, slips, &next, &stop, reports.clone());
+            work(found, form, slips, &next, &stop, reports.clone());
         }
         drop(reports);
         let printed = arriving.iter().try_for_each(|(number, report)| printing.add(number, report));

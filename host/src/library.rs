@@ -37,6 +37,14 @@ impl Slip {
     }
 }
 
+/// `xa_part` of the header: where a file's data set starts, or code 15 to 17 and 0.
+#[repr(C)]
+#[derive(Clone, Copy, Debug, Default, PartialEq, Eq)]
+pub struct Part {
+    pub code: u32,
+    pub start: usize,
+}
+
 /// `xa_rewritten` of the header: fields that the code does not name are 0.
 #[repr(C)]
 #[derive(Clone, Copy, Debug, Default, PartialEq, Eq)]
@@ -82,6 +90,18 @@ extern "C" {
         image: *mut u8,
         image_len: usize,
     ) -> Answer;
+    fn xa_data_set(file: *const u8, size: usize) -> Part;
+    fn xa_read_file(file: *const u8, size: usize, rows: *mut u32, rows_len: usize) -> Answer;
+    fn xa_judge_file(file: *const u8, size: usize, rows: *mut u32, rows_len: usize) -> Answer;
+    fn xa_show_file(
+        file: *const u8,
+        size: usize,
+        frame: u64,
+        rows: *mut u32,
+        rows_len: usize,
+        image: *mut u8,
+        image_len: usize,
+    ) -> Answer;
     fn xa_canonical(
         data: *const u8,
         size: usize,
@@ -120,6 +140,32 @@ pub fn judge(data: &[u8], rows: &mut [u32]) -> Answer {
 pub fn show(data: &[u8], frame: u64, rows: &mut [u32], image: &mut [u8]) -> Answer {
     // Sound: as in `read`; two mutable slices never overlap, and the call writes within these two alone.
     unsafe { xa_show(data.as_ptr(), data.len(), frame, rows.as_mut_ptr(), rows.len(), image.as_mut_ptr(), image.len()) }
+}
+
+/// Where a file's data set starts.
+pub fn data_set(file: &[u8]) -> Part {
+    // Sound: the call reads within `file` alone and writes nothing.
+    unsafe { xa_data_set(file.as_ptr(), file.len()) }
+}
+
+/// The rows of a file's data set.
+pub fn read_file(file: &[u8], rows: &mut [u32]) -> Answer {
+    // Sound: as in `read`.
+    unsafe { xa_read_file(file.as_ptr(), file.len(), rows.as_mut_ptr(), rows.len()) }
+}
+
+/// The verdict on a file's data set, and its rows.
+pub fn judge_file(file: &[u8], rows: &mut [u32]) -> Answer {
+    // Sound: as in `read`.
+    unsafe { xa_judge_file(file.as_ptr(), file.len(), rows.as_mut_ptr(), rows.len()) }
+}
+
+/// Draws a frame of an accepted file.
+pub fn show_file(file: &[u8], frame: u64, rows: &mut [u32], image: &mut [u8]) -> Answer {
+    // Sound: as in `show`.
+    unsafe {
+        xa_show_file(file.as_ptr(), file.len(), frame, rows.as_mut_ptr(), rows.len(), image.as_mut_ptr(), image.len())
+    }
 }
 
 /// Writes the canonical form of a data set.

@@ -5,7 +5,7 @@ use std::path::{Path, PathBuf};
 
 use crate::buffer::RowBuffer;
 use crate::files::Opened;
-use crate::head::Judged;
+use crate::head::{self, Judged};
 use crate::library::{self, Slip};
 use crate::output::{answer_fields, line, note_of, path_fields, trouble_fields, Status};
 use crate::sentences;
@@ -20,12 +20,12 @@ pub enum Form {
     Tree,
 }
 
-/// Lists the rows of a data set.
-pub fn rows(path: &Path, form: Form, out: &mut dyn Write) -> io::Result<Status> {
+/// Lists the rows of a data set. Offsets count from its start.
+pub fn rows(path: &Path, kind: head::Form, form: Form, out: &mut dyn Write) -> io::Result<Status> {
     let mut buffer = RowBuffer::default();
     let read = Opened::open(path).and_then(|opened| {
-        let answer = buffer.read(opened.bytes())?;
-        opened.unchanged().map(|()| Judged::of(opened.bytes(), answer, buffer.table(0)))
+        let answer = buffer.read(kind, opened.bytes())?;
+        opened.unchanged().map(|()| Judged::of(kind, opened.bytes(), answer, buffer.table(0)))
     });
     let table = match read {
         Ok(Judged { answer, .. }) if answer.code == 0 => buffer.table(answer.rows),

@@ -24,6 +24,7 @@ use std::process::ExitCode;
 use clap::error::ErrorKind;
 use clap::{CommandFactory, Parser, Subcommand};
 
+use head::Form;
 use output::{note, Status};
 
 const STATUSES: &str = "\
@@ -40,8 +41,8 @@ Run luux COMMAND --help for what a command takes.";
     version,
     about = "Reads, judges and draws runs of X-ray angiography (Enhanced XA and XRF)",
     long_about = "Reads, judges and draws runs of X-ray angiography (Enhanced XA and XRF).\n\n\
-        A run is one file: a bare DICOM data set in Explicit VR Little Endian. Every verdict, row and picture comes \
-        from a library that is proved to give what its rules and drawing steps say, whatever bytes it gets.",
+        A run is one DICOM file in Explicit VR Little Endian; with --bare, a data set without a file head. Every verdict, row and \
+        picture comes from a library that is proved to give what its rules and drawing steps say, whatever bytes it gets.",
     after_help = STATUSES
 )]
 struct Arguments {
@@ -57,8 +58,11 @@ enum Command {
     /// length of the value, number of rows below, and the parent: the row, counted from 1, of the item or sequence that it
     /// stands directly in, 0 at the root.
     Rows {
-        /// A data set
+        /// A DICOM file
         file: PathBuf,
+        /// FILE is a data set without a head, whatever stands in it
+        #[arg(long)]
+        bare: bool,
         /// Draw what stands in what: the row's number, its tag and VR or which item it is, length and offset of the value
         #[arg(long)]
         tree: bool,
@@ -72,6 +76,9 @@ enum Command {
         /// Files, or folders whose files are judged
         #[arg(required = true, value_name = "FILE|DIR")]
         paths: Vec<PathBuf>,
+        /// The files are data sets without a head, whatever stands in them
+        #[arg(long)]
+        bare: bool,
         /// Write the verdict on each FILE to DIR/FILE.slip, folders as in FILE
         #[arg(long, value_name = "DIR")]
         slips: Option<PathBuf>,
@@ -86,8 +93,11 @@ enum Command {
     ///
     /// The frame is drawn as the run's own mask, shifts and window say.
     Show {
-        /// A data set
+        /// A DICOM file
         file: PathBuf,
+        /// FILE is a data set without a head, whatever stands in it
+        #[arg(long)]
+        bare: bool,
         /// The frame, from 1 on
         #[arg(value_parser = frame_number)]
         frame: u64,
@@ -100,8 +110,11 @@ enum Command {
     /// The frames are spread evenly over the run, the first and the last among them; their numbers stand below them. A frame
     /// that is larger than 192 x 192 is shown by every second, third, ... pixel of it.
     Contact {
-        /// A data set
+        /// A DICOM file
         file: PathBuf,
+        /// FILE is a data set without a head, whatever stands in it
+        #[arg(long)]
+        bare: bool,
         /// The picture, .png or .pgm [default: FILE.contact.png in the working folder]
         #[arg(short, long, value_name = "PICTURE")]
         output: Option<PathBuf>,
@@ -109,10 +122,14 @@ enum Command {
     /// Write a data set in its canonical form
     ///
     /// The same elements and items in the same order, with defined lengths throughout and no delimiters. Data sets that differ in nothing
-    /// but their lengths have the same canonical form, byte for byte; it is judged and drawn as the data set is.
+    /// but their lengths have the same canonical form, byte for byte; it is judged and drawn as the data set is. A file keeps its head, byte for
+    /// byte.
     Canonical {
-        /// A data set
+        /// A DICOM file
         file: PathBuf,
+        /// FILE is a data set without a head, whatever stands in it
+        #[arg(long)]
+        bare: bool,
         /// The file to write
         #[arg(short, long, value_name = "OUT")]
         output: PathBuf,
@@ -125,6 +142,9 @@ enum Command {
         /// Files, or folders whose files are compared
         #[arg(required = true, value_name = "FILE|DIR")]
         paths: Vec<PathBuf>,
+        /// The files are data sets without a head, whatever stands in them
+        #[arg(long)]
+        bare: bool,
         /// Print one JSON object for each group, and the summary on standard error
         #[arg(long)]
         json: bool,
@@ -133,8 +153,11 @@ enum Command {
     ///
     /// Each stored pixel, neither masked nor windowed, becomes its entry in the frame's TO_LINEAR table: a number of 16 bits.
     Linear {
-        /// A data set
+        /// A DICOM file
         file: PathBuf,
+        /// FILE is a data set without a head, whatever stands in it
+        #[arg(long)]
+        bare: bool,
         /// The frame, from 1 on
         #[arg(value_parser = frame_number)]
         frame: u64,
@@ -192,28 +215,28 @@ fn processors() -> usize {
 
 fn run(command: Command, out: &mut dyn Write) -> io::Result<Status> {
     match command {
-        Command::Rows { file, tree } => {
+        Command::Rows { file, bare, tree } => {
             let form = if tree { listing::Form::Tree } else { listing::Form::Numbers };
-            listing::rows(&file, form, out)
+            listing::rows(&file, Form::of(bare), form, out)
         }
-        Command::Judge { paths, slips, json, jobs } => {
+        Command::Judge { paths, bare, slips, json, jobs } => {
             let jobs = jobs.map_or_else(processors, usize::from);
-            judging::run(&judging::Wanted { named: paths, slips, json, jobs }, out)
+            judging::run(&judging::Wanted { named: paths, form: Form::of(bare), slips, json, jobs }, out)
         }
-        Command::Show { file, frame, output } => {
+        Command::Show { file, bare, frame, output } => {
             check_picture(output.as_deref());
-            picture::show(&file, frame, output.as_deref(), out)
+            picture::show(&file, Form::of(bare), frame, output.as_deref(), out)
         }
-        Command::Contact { file, output } => {
+        Command::Contact { file, bare, output } => {
             check_picture(output.as_deref());
-            picture::contact(&file, output.as_deref(), out)
+            picture::contact(&file, Form::of(bare), output.as_deref(), out)
         }
-        Command::Canonical { file, output } => canonical::write(&file, &output, out),
-        Command::Duplicates { paths, json } => canonical::duplicates(&paths, json, out),
-        Command::Linear { file, frame, csv: true, .. } => picture::linear_text(&file, frame, out),
-        Command::Linear { file, frame, output, .. } => {
+        Command::Canonical { file, bare, output } => canonical::write(&file, Form::of(bare), &output, out),
+        Command::Duplicates { paths, bare, json } => canonical::duplicates(&paths, Form::of(bare), json, out),
+        Command::Linear { file, bare, frame, csv: true, .. } => picture::linear_text(&file, Form::of(bare), frame, out),
+        Command::Linear { file, bare, frame, output, .. } => {
             check_picture(output.as_deref());
-            picture::linear(&file, frame, output.as_deref(), out)
+            picture::linear(&file, Form::of(bare), frame, output.as_deref(), out)
         }
         Command::Slip { command: SlipCommand::Read { files, json } } => listing::read_slips(&files, json, out),
         Command::Demo { folder } => demo::run(&folder, processors(), out),

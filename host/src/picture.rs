@@ -8,7 +8,7 @@ use std::path::{Path, PathBuf};
 
 use crate::buffer::RowBuffer;
 use crate::files::{self, Opened};
-use crate::head::Judged;
+use crate::head::{self, Judged};
 use crate::library::Answer;
 use crate::output::{line, note_of, Status};
 use crate::sentences;
@@ -127,6 +127,9 @@ fn form_of(path: &Path) -> Option<Form> {
 /// An accepted run, ready to be drawn from.
 struct Run {
     opened: Opened,
+    form: head::Form,
+    /// Where the data set starts in the file.
+    start: usize,
     buffer: RowBuffer,
     width: usize,
     height: usize,
@@ -135,19 +138,21 @@ struct Run {
 
 impl Run {
     /// Width, height and the number of frames are taken from the rows of an accepted data set.
-    fn open(path: &Path) -> Result<Run, Failure> {
+    fn open(path: &Path, form: head::Form) -> Result<Run, Failure> {
         let opened = Opened::open(path)?;
         let mut buffer = RowBuffer::default();
-        let data = opened.bytes();
-        let answer = buffer.judge(data)?;
+        let content = opened.bytes();
+        let answer = buffer.judge(form, content)?;
         let table = buffer.table(answer.rows);
         if answer.code != 0 {
-            return Err(Failure::Refused(Judged::of(data, answer, table).line()));
+            return Err(Failure::Refused(Judged::of(form, content, answer, table).line()));
         }
+        let start = form.start(content);
+        let data = &content[start..];
         // Of an accepted run the per-frame groups have one item for each frame.
         let frames = table.frame_items().count() as u64;
         match (number_of(data, table, ROWS), number_of(data, table, COLUMNS)) {
-            (Some(height), Some(width)) => Ok(Run { opened, buffer, width, height, frames }),
+            (Some(height), Some(width)) => Ok(Run { opened, form, start, buffer, width, height, frames }),
             _ => Err(Failure::Trouble(String::from("its rows do not say how large a frame is"))),
         }
     }
@@ -155,14 +160,14 @@ impl Run {
     /// A frame, and whether it is masked.
     fn draw(&mut self, frame: u64) -> Result<(Image<u8>, bool), Failure> {
         let mut image = Image::new(self.width, self.height, 0)?;
-        let answer = self.buffer.show(self.opened.bytes(), frame, &mut image.cells)?;
+        let answer = self.buffer.show(self.form, self.opened.bytes(), frame, &mut image.cells)?;
         self.done(answer).map(|()| (image, answer.masked == 1))
     }
 
     /// A frame in numbers that are linear to beam intensity.
     fn map(&mut self, frame: u64) -> Result<Image<u16>, Failure> {
         let mut image = Image::new(self.width, self.height, 0)?;
-        let answer = self.buffer.linear(self.opened.bytes(), frame, &mut image.cells)?;
+        let answer = self.buffer.linear(&self.opened.bytes()[self.start..], frame, &mut image.cells)?;
         self.done(answer).map(|()| image)
     }
 
@@ -172,10 +177,10 @@ impl Run {
         match answer.code {
             0 => Ok(()),
             NO_SUCH_FRAME => {
-                let text = format!("{}; it has frames 1 to {}", sentences::answer(&answer, 0), self.frames);
+                let text = format!("{}; it has frames 1 to {}", sentences::answer(&answer, 0, None), self.frames);
                 Err(Failure::Refused(text))
             }
-            _ => Err(Failure::Refused(sentences::answer(&answer, 0))),
+            _ => Err(Failure::Refused(sentences::answer(&answer, 0, None))),
         }
     }
 }
@@ -292,9 +297,9 @@ fn write<C: Cell>(image: &Image<C>, from: &Path, to: &Path, about: &str, out: &m
 }
 
 /// Draws one frame.
-pub fn show(path: &Path, frame: u64, to: Option<&Path>, out: &mut dyn Write) -> io::Result<Status> {
+pub fn show(path: &Path, form: head::Form, frame: u64, to: Option<&Path>, out: &mut dyn Write) -> io::Result<Status> {
     let to = to.map_or_else(|| files::beside(path, &format!(".frame-{frame}.png")), PathBuf::from);
-    match Run::open(path).and_then(|mut run| run.draw(frame)) {
+    match Run::open(path, form).and_then(|mut run| run.draw(frame)) {
         Ok((image, masked)) => {
             let about = format!("frame {frame}, {}", if masked { "masked" } else { "native" });
             write(&image, path, &to, &about, out)
@@ -304,9 +309,9 @@ pub fn show(path: &Path, frame: u64, to: Option<&Path>, out: &mut dyn Write) -> 
 }
 
 /// Draws a contact sheet.
-pub fn contact(path: &Path, to: Option<&Path>, out: &mut dyn Write) -> io::Result<Status> {
+pub fn contact(path: &Path, form: head::Form, to: Option<&Path>, out: &mut dyn Write) -> io::Result<Status> {
     let to = to.map_or_else(|| files::beside(path, ".contact.png"), PathBuf::from);
-    match Run::open(path).and_then(|mut run| sheet_of(&mut run).map(|sheet| (sheet, run.frames))) {
+    match Run::open(path, form).and_then(|mut run| sheet_of(&mut run).map(|sheet| (sheet, run.frames))) {
         Ok(((sheet, frames), all)) => {
             let named: Vec<String> = frames.iter().map(u64::to_string).collect();
             let about = format!("{} of {all} frames: {}", frames.len(), named.join(" "));
@@ -317,17 +322,17 @@ pub fn contact(path: &Path, to: Option<&Path>, out: &mut dyn Write) -> io::Resul
 }
 
 /// Maps one frame back to beam intensity.
-pub fn linear(path: &Path, frame: u64, to: Option<&Path>, out: &mut dyn Write) -> io::Result<Status> {
+pub fn linear(path: &Path, form: head::Form, frame: u64, to: Option<&Path>, out: &mut dyn Write) -> io::Result<Status> {
     let to = to.map_or_else(|| files::beside(path, &format!(".linear-{frame}.png")), PathBuf::from);
-    match Run::open(path).and_then(|mut run| run.map(frame)) {
+    match Run::open(path, form).and_then(|mut run| run.map(frame)) {
         Ok(image) => write(&image, path, &to, &format!("frame {frame}, linear"), out),
         Err(failure) => explain(path, failure, out),
     }
 }
 
 /// Prints one frame's numbers, a line for each row with commas between them. Nothing but numbers goes to standard output.
-pub fn linear_text(path: &Path, frame: u64, out: &mut dyn Write) -> io::Result<Status> {
-    match Run::open(path).and_then(|mut run| run.map(frame)) {
+pub fn linear_text(path: &Path, form: head::Form, frame: u64, out: &mut dyn Write) -> io::Result<Status> {
+    match Run::open(path, form).and_then(|mut run| run.map(frame)) {
         Ok(image) => {
             for row in image.cells.chunks(image.width.max(1)) {
                 let numbers: Vec<String> = row.iter().map(u16::to_string).collect();

@@ -69,6 +69,10 @@ pub fn code(number: u32) -> &'static str {
         12 => "not a slip: another mark, or another length than its version has",
         13 => "a slip of a version that is neither 1 nor 2",
         14 => "a slip with fields that no verdict has",
+        15 => "not a DICOM file: no DICM at byte 128",
+        16 => "the file's head is not as it must be: its group length first, its elements whole and all of group 0002, both UIDs there and single",
+        17 => "another transfer syntax than Explicit VR Little Endian",
+        18 => "the file's head and its data set name different SOP classes, or the data set names none",
         20 => "the frame has no TO_LINEAR item",
         21 => "too little room for the canonical form",
         _ => "unknown code",
@@ -84,22 +88,28 @@ pub fn meaning(given: &Answer) -> &'static str {
 }
 
 /// An answer in a line: accepted, or the rule, frame and sentence, or the code and place and what it means. Where the row of the
-/// frame's item is known, and not 0, it is told too.
-pub fn answer(given: &Answer, item_row: u32) -> String {
-    told(given, &item(given.frame, item_row))
+/// frame's item is known, and not 0, it is told too. With `start`, where a file's data set starts, a place is told from the file's start as well.
+pub fn answer(given: &Answer, item_row: u32, start: Option<usize>) -> String {
+    told(given, &item(given.frame, item_row), start)
 }
 
 /// The verdict that a slip records, in a line, with its row count.
 pub fn slip(verdict: &Answer, rows: Option<u32>) -> String {
     let count = rows.map_or_else(|| String::from("not known"), |count| count.to_string());
-    told(verdict, &format!(", rows {count}"))
+    told(verdict, &format!(", rows {count}"), None)
 }
 
 /// An answer in a line: its numbers, what else there is to tell, and what it means.
-fn told(given: &Answer, more: &str) -> String {
+fn told(given: &Answer, more: &str, start: Option<usize>) -> String {
     let numbers = match given.code {
         0 => return format!("accepted{more}"),
-        1..=6 => format!("code {} at byte {}", given.code, given.offset),
+        1..=6 => {
+            let place = match start {
+                Some(start) => format!(" of the data set, byte {} of the file", start + given.offset as usize),
+                None => String::new(),
+            };
+            format!("code {} at byte {}{place}", given.code, given.offset)
+        }
         9 => format!("rule {}, frame {}", given.rule, given.frame),
         other => format!("code {other}"),
     };

@@ -9,6 +9,7 @@ use native.Mathlib.Omega.{arith}
 use lib.Dec.{eqb, leb}
 use lib.ListN.{length, take}
 use Rattle.dataset.specs.declared.ReadAnswer.{ReadAnswer}
+use Rattle.dataset.specs.declared.ReadAnswer.the-variants as readAnswer
 use Rattle.dataset.specs.Reading.{readingOf}
 use Rattle.dataset.specs.Answer.{answerOf}
 use Rattle.dataset.proofs.Laws.{Small as SmallAnswer, answer-small}
@@ -39,22 +40,29 @@ use Rattle.slip.specs.declared.WriteAnswer.{WriteAnswer}
 use Rattle.slip.specs.declared.WriteAnswer.the-variants as write
 use Rattle.slip.specs.Slip.{mark, version, oldVersion, versionAt, rowsAt, headSize, oldSize, slipSize, number, equal, fieldsOf, ifPossible, readSized, readVersion, readOf, writeOf}
 use Rattle.slip.proofs.Slips.{slips}
-use Rattle.cabi.specs.Host.{writeCode, rowsNumber, slipAnswer, Narrow, Fits32, LinearFits32}
+use Rattle.cabi.specs.Host.{writeCode, rowsNumber, slipAnswer, Narrow, ReadFits32, JudgeFits32, Fits32, LinearFits32}
 
--- ---- What a match found a reader's answer to be
+-- ---- A reader's answer
 
-pub read-small : {a b : ReadAnswer} (s buffer : List ℕ) → a ≡ answerOf (readingOf s) buffer → a ≡ b → SmallAnswer b
-read-small s buffer e f = subst SmallAnswer (sym e ∙ f) (answer-small s buffer)
+small-fits : (a : ReadAnswer) → SmallAnswer a → ReadFits32 a
+small-fits (readAnswer.Done n) m = record { code = omega arith; offset = omega arith; rows = omega (arith, m) }
+small-fits (readAnswer.Refused code offset) m = record { code = omega (arith, m); offset = omega (arith, m); rows = omega arith }
+small-fits readAnswer.TooLarge m = record { code = omega arith; offset = omega arith; rows = omega arith }
+small-fits readAnswer.NoRoom m = record { code = omega arith; offset = omega arith; rows = omega arith }
 
--- ---- What a match found a judge's answer to be
+pub read-fits : (s buffer : List ℕ) → ReadFits32 (answerOf (readingOf s) buffer)
+read-fits s buffer = small-fits (answerOf (readingOf s) buffer) (answer-small s buffer)
 
-pub judged-small : {a b : JudgeAnswer} (s buffer : List ℕ) → a ≡ judgeOf s buffer → a ≡ b → Small (verdictOf b)
-judged-small s buffer e f = subst (λ (a : JudgeAnswer). Small (verdictOf a)) (sym e ∙ f) (judge-small s buffer)
+-- ---- A judge's answer
 
-pub judged-rows : {a b : JudgeAnswer} (s buffer : List ℕ) → a ≡ judgeOf s buffer → a ≡ b → rowCountOf b ≤ 134217728
-judged-rows s buffer e f = subst (λ (a : JudgeAnswer). rowCountOf a ≤ 134217728) (sym e ∙ f) (judge-rows s buffer)
+judged-fits : (a : JudgeAnswer) → Small (verdictOf a) → rowCountOf a ≤ 134217728 → JudgeFits32 a
+judged-fits a m h =
+    record { code = omega (arith, m .code); offset = omega (arith, m .offset); rows = omega arith; rule = omega (arith, m .rule); frame = omega (arith, m .frame) }
 
--- ---- What a match found an answer of `show` to be
+pub judge-fits : (s buffer : List ℕ) → JudgeFits32 (judgeOf s buffer)
+judge-fits s buffer = judged-fits (judgeOf s buffer) (judge-small s buffer) (judge-rows s buffer)
+
+-- ---- An answer of `show`
 
 -- The judge's numbers, or none.
 accepted-narrow : (ns : List Node) (f : ℕ) (image : List ℕ) (n : ℕ) → n ≤ 134217728 → Fits32 (acceptedAnswer ns f image n)
@@ -77,12 +85,9 @@ answer-narrow ns f image judged.TooLarge m h =
 answer-narrow ns f image judged.NoRoom m h =
     record { code = omega arith; offset = omega arith; rows = omega arith; rule = omega arith; frame = omega arith }
 
-show-narrow : (s : List ℕ) (f : ℕ) (buffer image : List ℕ) → Fits32 (showOf s f buffer image)
+pub show-narrow : (s : List ℕ) (f : ℕ) (buffer image : List ℕ) → Fits32 (showOf s f buffer image)
 unfolding showOf
 show-narrow s f buffer image = answer-narrow (nodesOf s) f image (judgeOf s buffer) (judge-small s buffer) (judge-rows s buffer)
-
-pub shown-narrow : {a b : ShowAnswer} (s : List ℕ) (f : ℕ) (buffer image : List ℕ) → a ≡ showOf s f buffer image → a ≡ b → Fits32 b
-shown-narrow s f buffer image e g = subst Fits32 (sym e ∙ g) (show-narrow s f buffer image)
 
 -- ---- What a match found an answer of `write_canonical` to be
 

@@ -14,6 +14,14 @@ use Rattle.display.specs.declared.ShowAnswer.{ShowAnswer}
 use Rattle.display.specs.Show as showing
 use Rattle.linear.specs.declared.LinearAnswer.{LinearAnswer}
 use Rattle.linear.specs.Answer as mapping
+use Rattle.file.specs.File as filing
+use Rattle.file.specs.declared.Start.{Start}
+use Rattle.file.specs.declared.ReadFileAnswer.{ReadFileAnswer}
+use Rattle.file.specs.declared.ReadFileAnswer.the-variants as readFile
+use Rattle.file.specs.declared.JudgeFileAnswer.{JudgeFileAnswer}
+use Rattle.file.specs.declared.JudgeFileAnswer.the-variants as judgeFile
+use Rattle.file.specs.declared.ShowFileAnswer.{ShowFileAnswer}
+use Rattle.file.specs.declared.ShowFileAnswer.the-variants as showFile
 use Rattle.slip.specs.declared.SlipAnswer.{SlipAnswer}
 use Rattle.slip.specs.declared.SlipAnswer.the-variants as read
 use Rattle.slip.specs.declared.WriteAnswer.{WriteAnswer}
@@ -21,6 +29,7 @@ use Rattle.slip.specs.declared.WriteAnswer.the-variants as write
 use Rattle.canonical.specs.declared.CanonicalAnswer.{CanonicalAnswer}
 use Rattle.canonical.specs.Answer as canonical
 use Rattle.cabi.specs.declared.Answer.{Answer}
+use Rattle.cabi.specs.declared.files.Part.{Part}
 use Rattle.cabi.specs.declared.rewritten.Rewritten.{Rewritten}
 use Rattle.cabi.specs.declared.slips.Slip.{Slip}
 
@@ -41,6 +50,12 @@ readAnswer a = record {
   masked = 0;
 }
 
+-- The numbers of an answer fit 32 bits.
+pub record ReadFits32 (a : ReadAnswer) : Type 0 where
+  pub code : codeOf a < 4294967296
+  pub offset : offsetOf a < 4294967296
+  pub rows : rowCountOf a < 4294967296
+
 -- The answer of `xa_judge`: as `xa_read` for codes 1 to 8; with code 9 also the rule and the frame.
 abbrev pub judgeAnswer : JudgeAnswer → Answer
 judgeAnswer a = record {
@@ -51,6 +66,13 @@ judgeAnswer a = record {
   frame = judging.frameOf a;
   masked = 0;
 }
+
+pub record JudgeFits32 (a : JudgeAnswer) : Type 0 where
+  pub code : judging.codeOf a < 4294967296
+  pub offset : judging.offsetOf a < 4294967296
+  pub rows : judging.rowCountOf a < 4294967296
+  pub rule : judging.ruleOf a < 4294967296
+  pub frame : judging.frameOf a < 4294967296
 
 -- The answer of `xa_show`: as `xa_judge` for codes 1 to 9; with code 0 also whether the picture is masked; codes 10 and 11
 -- name nothing else.
@@ -64,13 +86,40 @@ showAnswer a = record {
   masked = showing.maskedOf a;
 }
 
--- The numbers of an answer fit 32 bits.
 pub record Fits32 (a : ShowAnswer) : Type 0 where
   pub code : showing.codeOf a < 4294967296
   pub offset : showing.offsetOf a < 4294967296
   pub rows : showing.rowCountOf a < 4294967296
   pub rule : showing.ruleOf a < 4294967296
   pub frame : showing.frameOf a < 4294967296
+
+-- ---- Files
+
+-- The answer of `xa_data_set`: code 0 and where the data set starts; 15, 16 or 17 and 0.
+abbrev pub partAnswer : Start → Part
+partAnswer a = record { code = filing.startCode a; start = filing.startOffset a }
+
+-- The answers of the calls for files: those of the bare calls; 15 to 18 name nothing else.
+abbrev pub readFileAnswer : ReadFileAnswer → Answer
+readFileAnswer (readFile.Read a) = readAnswer a
+readFileAnswer readFile.NoMark = codeAlone 15
+readFileAnswer readFile.BadHead = codeAlone 16
+readFileAnswer readFile.OtherSyntax = codeAlone 17
+readFileAnswer readFile.OtherClass = codeAlone 18
+
+abbrev pub judgeFileAnswer : JudgeFileAnswer → Answer
+judgeFileAnswer (judgeFile.Judged a) = judgeAnswer a
+judgeFileAnswer judgeFile.NoMark = codeAlone 15
+judgeFileAnswer judgeFile.BadHead = codeAlone 16
+judgeFileAnswer judgeFile.OtherSyntax = codeAlone 17
+judgeFileAnswer judgeFile.OtherClass = codeAlone 18
+
+abbrev pub showFileAnswer : ShowFileAnswer → Answer
+showFileAnswer (showFile.Shown a) = showAnswer a
+showFileAnswer showFile.NoMark = codeAlone 15
+showFileAnswer showFile.BadHead = codeAlone 16
+showFileAnswer showFile.OtherSyntax = codeAlone 17
+showFileAnswer showFile.OtherClass = codeAlone 18
 
 -- ---- The canonical form
 

@@ -6,15 +6,14 @@ ghost use mathlib.Core.Path.{_≡_};
 ghost use Rattle.dataset.specs.Reading.{readingOf};
 ghost use Rattle.dataset.specs.Answer.{bufferOf};
 ghost use Rattle.conformance.specs.Judging.{judgeOf};
-ghost use Rattle.cabi.specs.Host.{judgeAnswer};
+ghost use Rattle.cabi.specs.Host.{judgeAnswer, JudgeFits32};
 
-// Reads a data set into rows of seven numbers and judges it. With codes 1 to 8 the buffer stays as it was.
-#[no_mangle]
-pub extern "C" fn xa_judge(bytes: &[u8], rows: &mut [u32]) -> Answer
-    ensures { λ r. ⌜ r ≡ judgeAnswer (judgeOf (now (bytes .entry)) (now (rows .entry))) ⌝ }
-    ensures { λ _. ⌜ now (rows .exit) ≡ bufferOf (readingOf (now (bytes .entry))) (now (rows .entry)) ⌝ }
+// The answer as the struct for hosts.
+pub fn judge_numbers(answer: JudgeAnswer) -> Answer
+    requires { ⌜ JudgeFits32 answer ⌝ }
+    ensures { λ r. ⌜ r ≡ judgeAnswer answer ⌝ }
 {
-    match conformance::judge(bytes, rows) {
+    match answer {
         JudgeAnswer::Accepted(n) => Answer {
             code: 0,
             offset: 0,
@@ -42,4 +41,13 @@ pub extern "C" fn xa_judge(bytes: &[u8], rows: &mut [u32]) -> Answer
         JudgeAnswer::TooLarge => code_alone(7),
         JudgeAnswer::NoRoom => code_alone(8),
     }
+}
+
+// Reads a data set into rows of seven numbers and judges it. With codes 1 to 8 the buffer stays as it was.
+#[no_mangle]
+pub extern "C" fn xa_judge(bytes: &[u8], rows: &mut [u32]) -> Answer
+    ensures { λ r. ⌜ r ≡ judgeAnswer (judgeOf (now (bytes .entry)) (now (rows .entry))) ⌝ }
+    ensures { λ _. ⌜ now (rows .exit) ≡ bufferOf (readingOf (now (bytes .entry))) (now (rows .entry)) ⌝ }
+{
+    judge_numbers(conformance::judge(bytes, rows))
 }

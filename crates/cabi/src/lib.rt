@@ -1,5 +1,6 @@
 // The library's calls for hosts in C and whatever calls C; include/luuxidgaan.h declares them. None has a `requires`:
 // any bytes and any buffers may be handed in.
+mod files;
 mod judge;
 mod measure;
 mod read;
@@ -9,6 +10,11 @@ mod slips;
 
 ghost use mathlib.Core.Path.{_≡_};
 ghost use Rattle.cabi.specs.Host.{codeAlone};
+pub use files::Part;
+pub use files::xa_data_set;
+pub use files::xa_judge_file;
+pub use files::xa_read_file;
+pub use files::xa_show_file;
 pub use judge::xa_judge;
 pub use measure::xa_linear;
 pub use measure::xa_root_entry;

@@ -5,15 +5,14 @@ use dataset::ReadAnswer;
 ghost use mathlib.Core.Path.{_≡_};
 ghost use Rattle.dataset.specs.Reading.{readingOf};
 ghost use Rattle.dataset.specs.Answer.{answerOf, bufferOf};
-ghost use Rattle.cabi.specs.Host.{readAnswer};
+ghost use Rattle.cabi.specs.Host.{readAnswer, ReadFits32};
 
-// Reads a data set into rows of seven numbers. With codes 1 to 8 the buffer stays as it was.
-#[no_mangle]
-pub extern "C" fn xa_read(bytes: &[u8], rows: &mut [u32]) -> Answer
-    ensures { λ r. ⌜ r ≡ readAnswer (answerOf (readingOf (now (bytes .entry))) (now (rows .entry))) ⌝ }
-    ensures { λ _. ⌜ now (rows .exit) ≡ bufferOf (readingOf (now (bytes .entry))) (now (rows .entry)) ⌝ }
+// The answer as the struct for hosts.
+pub fn read_numbers(answer: ReadAnswer) -> Answer
+    requires { ⌜ ReadFits32 answer ⌝ }
+    ensures { λ r. ⌜ r ≡ readAnswer answer ⌝ }
 {
-    match dataset::read(bytes, rows) {
+    match answer {
         ReadAnswer::Done(n) => Answer {
             code: 0,
             offset: 0,
@@ -33,4 +32,13 @@ pub extern "C" fn xa_read(bytes: &[u8], rows: &mut [u32]) -> Answer
         ReadAnswer::TooLarge => code_alone(7),
         ReadAnswer::NoRoom => code_alone(8),
     }
+}
+
+// Reads a data set into rows of seven numbers. With codes 1 to 8 the buffer stays as it was.
+#[no_mangle]
+pub extern "C" fn xa_read(bytes: &[u8], rows: &mut [u32]) -> Answer
+    ensures { λ r. ⌜ r ≡ readAnswer (answerOf (readingOf (now (bytes .entry))) (now (rows .entry))) ⌝ }
+    ensures { λ _. ⌜ now (rows .exit) ≡ bufferOf (readingOf (now (bytes .entry))) (now (rows .entry)) ⌝ }
+{
+    read_numbers(dataset::read(bytes, rows))
 }

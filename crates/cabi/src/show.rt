@@ -7,7 +7,7 @@ ghost use mathlib.Core.Bool.{cond};
 ghost use Rattle.dataset.specs.Reading.{readingOf};
 ghost use Rattle.dataset.specs.Answer.{bufferOf};
 ghost use Rattle.display.specs.Show.{showOf, imageOf};
-ghost use Rattle.cabi.specs.Host.{showAnswer};
+ghost use Rattle.cabi.specs.Host.{showAnswer, Fits32};
 
 // 1 for a masked frame, 0 for a native one.
 fn masked_number(masked: bool) -> u32
@@ -16,15 +16,12 @@ fn masked_number(masked: bool) -> u32
     if masked { 1 } else { 0 }
 }
 
-// Reads a data set into rows of seven numbers, judges it and draws a frame of it, a byte for each sample. With codes 1 to 8
-// the row buffer stays as it was, with every code but 0 the image buffer.
-#[no_mangle]
-pub extern "C" fn xa_show(bytes: &[u8], frame: u64, rows: &mut [u32], image: &mut [u8]) -> Answer
-    ensures { λ r. ⌜ r ≡ showAnswer (showOf (now (bytes .entry)) frame (now (rows .entry)) (now (image .entry))) ⌝ }
-    ensures { λ _. ⌜ now (rows .exit) ≡ bufferOf (readingOf (now (bytes .entry))) (now (rows .entry)) ⌝ }
-    ensures { λ _. ⌜ now (image .exit) ≡ imageOf (now (bytes .entry)) frame (now (rows .entry)) (now (image .entry)) ⌝ }
+// The answer as the struct for hosts.
+pub fn show_numbers(answer: ShowAnswer) -> Answer
+    requires { ⌜ Fits32 answer ⌝ }
+    ensures { λ r. ⌜ r ≡ showAnswer answer ⌝ }
 {
-    match display::show(bytes, frame, rows, image) {
+    match answer {
         ShowAnswer::Drawn(n, masked) => Answer {
             code: 0,
             offset: 0,
@@ -54,4 +51,15 @@ pub extern "C" fn xa_show(bytes: &[u8], frame: u64, rows: &mut [u32], image: &mu
         ShowAnswer::NoFrame => code_alone(10),
         ShowAnswer::NoImageRoom => code_alone(11),
     }
+}
+
+// Reads a data set into rows of seven numbers, judges it and draws a frame of it, a byte for each sample. With codes 1 to 8
+// the row buffer stays as it was, with every code but 0 the image buffer.
+#[no_mangle]
+pub extern "C" fn xa_show(bytes: &[u8], frame: u64, rows: &mut [u32], image: &mut [u8]) -> Answer
+    ensures { λ r. ⌜ r ≡ showAnswer (showOf (now (bytes .entry)) frame (now (rows .entry)) (now (image .entry))) ⌝ }
+    ensures { λ _. ⌜ now (rows .exit) ≡ bufferOf (readingOf (now (bytes .entry))) (now (rows .entry)) ⌝ }
+    ensures { λ _. ⌜ now (image .exit) ≡ imageOf (now (bytes .entry)) frame (now (rows .entry)) (now (image .entry)) ⌝ }
+{
+    show_numbers(display::show(bytes, frame, rows, image))
 }

@@ -200,10 +200,14 @@ module _ (head : ℕ → ℕ → Head) (inside : ℕ → ℕ → Cursor → Run)
       }
 
   module _ {buffer : List ℕ} {at n least : ℕ} (i : Here buffer at n least) where
+    pub ended-run : {next : ℕ} → head at least ≡ heads.End next → done at next (i .rows) ≡ o
+    ended-run {next} e =
+        let m = turn at least (i .rows) (i .turns) (i .high) (i .rest) (i .enough) in
+        sym (level-end head inside depth first (m .0) at least (i .rows) next e) ∙ m .1 .0
+
     pub ended : {next : ℕ} → head at least ≡ heads.End next → at ≤ next → next ≤ c .end → Walked o c first buffer₀ buffer (walk.Done at next n)
     ended {next} e p q =
-        let m = turn at least (i .rows) (i .turns) (i .high) (i .rest) (i .enough) in
-        let d : done at next (i .rows) ≡ o = sym (level-end head inside depth first (m .0) at least (i .rows) next e) ∙ m .1 .0 in
+        let d : done at next (i .rows) ≡ o = ended-run e in
         subst (λ (x : Run). Walked x c first buffer₀ buffer (walk.Done at next n)) d
         (record { is = ap (λ (k : ℕ). walk.Done at next k) (i .count); within = omega (arith, i .low, i .few); wrote = λ h. i .wrote (omega (arith, i .count)) })
 
@@ -224,6 +228,13 @@ module _ (head : ℕ → ℕ → Head) (inside : ℕ → ℕ → Cursor → Run)
             ap (λ (b : List ℕ). sets b (7 * first) (flat all)) (i .wrote (omega (arith, i .count)))
             ∙ sets-over (flat (i .rows)) (flat all) buffer₀ (7 * first) (omega (arith, length-flat (i .rows), length-flat all))
 
+    -- The next turn, and the rows that it has more.
+    pub record Next (tag vr : ℕ) (v : Cursor) (after : List ℕ) (stop next m : ℕ) : Type 0 where
+      pub inner : List Row
+      pub is : inside (n + 1) vr v ≡ done stop next inner
+      pub here : Here after next m (tag + 1)
+      pub more : here .rows ≡ i .rows ++ (row tag vr depth (v .at) (stop - v .at) (length inner) first ∷ inner)
+
     module _ {tag vr : ℕ} {v : Cursor} (e : head at least ≡ heads.Header tag vr v) (w : Within (record { at = at; end = c .end; delimited = c .delimited }) (heads.Header tag vr v)) {buffer₁ : List ℕ} where
       pub fails : {code offset : ℕ} → Walked (inside (n + 1) vr v) v (n + 1) buffer buffer₁ (walk.Refused code offset)
           → Walked o c first buffer₀ buffer₁ (walk.Refused code offset)
@@ -233,39 +244,51 @@ module _ (head : ℕ → ℕ → Head) (inside : ℕ → ℕ → Cursor → Run)
           let d : refused code offset ≡ o = sym (level-stop head inside depth first (m .0) at least (i .rows) tag vr code offset v e (ap (λ (x : ℕ). inside x vr v) (omega (arith, i .count)) ∙ k .0)) ∙ m .1 .0 in
           subst (λ (x : Run). Walked x c first buffer₀ buffer₁ (walk.Refused code offset)) d (record { is = refl; within = omega (arith, k .1, i .low, w); wrote = tt })
 
-      pub again : {stop next m : ℕ} {buffer₂ : List ℕ} → length buffer₁ ≡ length buffer → length buffer₂ ≡ length buffer₁
+      pub onward : {stop next m : ℕ} {buffer₂ : List ℕ} → length buffer₁ ≡ length buffer → length buffer₂ ≡ length buffer₁
           → Walked (inside (n + 1) vr v) v (n + 1) buffer buffer₁ (walk.Done stop next m)
           → (7 * n + 7 ≤ length buffer₁ → buffer₂ ≡ sets buffer₁ (7 * n) (flat (row tag vr depth (v .at) (stop - v .at) (m - n - 1) first ∷ [])))
-          → Here buffer₂ next m (tag + 1)
-      again {stop} {next} {m} {buffer₂} l₁ l₂ u put =
+          → Next tag vr v buffer₂ stop next m
+      onward {stop} {next} {m} {buffer₂} l₁ l₂ u put =
           let b = below (inside (n + 1) vr v) u in
           let k = turn at least (i .rows) (i .turns) (i .high) (i .rest) (i .enough) in
           let r : Row = row tag vr depth (v .at) (stop - v .at) (length (b .rows)) first in
           let size : length (b .rows) ≡ m - n - 1 = omega (arith, b .count) in
           record {
-            rows = i .rows ++ (r ∷ b .rows);
-            turns = k .0;
-            rest = sym (level-on head inside depth first (k .0) at least (i .rows) tag vr stop next v (b .rows) e (ap (λ (x : ℕ). inside x vr v) (omega (arith, i .count)) ∙ b .is)) ∙ k .1 .0;
-            enough = omega (arith, k .1 .1, b .within, w);
-            low = omega (arith, i .low, b .within, w);
-            high = omega (arith, b .within, w);
-            count = simp length-append (omega (arith, i .count, b .count));
-            few = simp length-append (omega (arith, i .few, b .within, w));
-            kept = l₂ ∙ l₁ ∙ i .kept;
-            wrote = λ h.
-                let e₀ : buffer ≡ sets buffer₀ (7 * first) (flat (i .rows)) = i .wrote (omega (arith, b .count)) in
-                let e₁ : buffer₁ ≡ sets buffer (7 * (n + 1)) (flat (b .rows)) = b .wrote (omega (arith, i .kept)) in
-                let e₂ : buffer₂ ≡ sets buffer₁ (7 * n) (flat (row tag vr depth (v .at) (stop - v .at) (m - n - 1) first ∷ [])) = put (omega (arith, i .kept, b .count)) in
-                let f : 7 * n ≡ 7 * first + length (flat (i .rows)) = omega (arith, length-flat (i .rows), i .count) in
-                e₂
-                ∙ ap (λ (x : ℕ). sets buffer₁ (7 * n) (flat (row tag vr depth (v .at) (stop - v .at) x first ∷ []))) (sym size)
-                ∙ ap (λ (x : List ℕ). sets x (7 * n) (flat (r ∷ []))) e₁
-                ∙ row-over buffer n r (b .rows)
-                ∙ ap (λ (x : List ℕ). sets x (7 * n) (flat (r ∷ b .rows))) e₀
-                ∙ ap (λ (x : ℕ). sets (sets buffer₀ (7 * first) (flat (i .rows))) x (flat (r ∷ b .rows))) f
-                ∙ sym (sets-append (flat (i .rows)) buffer₀ (7 * first) (flat (r ∷ b .rows)))
-                ∙ ap (λ (x : List ℕ). sets buffer₀ (7 * first) x) (sym (flat-append (i .rows) (r ∷ b .rows)));
+            inner = b .rows;
+            is = b .is;
+            here =
+                record {
+                  rows = i .rows ++ (r ∷ b .rows);
+                  turns = k .0;
+                  rest = sym (level-on head inside depth first (k .0) at least (i .rows) tag vr stop next v (b .rows) e (ap (λ (x : ℕ). inside x vr v) (omega (arith, i .count)) ∙ b .is)) ∙ k .1 .0;
+                  enough = omega (arith, k .1 .1, b .within, w);
+                  low = omega (arith, i .low, b .within, w);
+                  high = omega (arith, b .within, w);
+                  count = simp length-append (omega (arith, i .count, b .count));
+                  few = simp length-append (omega (arith, i .few, b .within, w));
+                  kept = l₂ ∙ l₁ ∙ i .kept;
+                  wrote = λ h.
+                      let e₀ : buffer ≡ sets buffer₀ (7 * first) (flat (i .rows)) = i .wrote (omega (arith, b .count)) in
+                      let e₁ : buffer₁ ≡ sets buffer (7 * (n + 1)) (flat (b .rows)) = b .wrote (omega (arith, i .kept)) in
+                      let e₂ : buffer₂ ≡ sets buffer₁ (7 * n) (flat (row tag vr depth (v .at) (stop - v .at) (m - n - 1) first ∷ [])) = put (omega (arith, i .kept, b .count)) in
+                      let f : 7 * n ≡ 7 * first + length (flat (i .rows)) = omega (arith, length-flat (i .rows), i .count) in
+                      e₂
+                      ∙ ap (λ (x : ℕ). sets buffer₁ (7 * n) (flat (row tag vr depth (v .at) (stop - v .at) x first ∷ []))) (sym size)
+                      ∙ ap (λ (x : List ℕ). sets x (7 * n) (flat (r ∷ []))) e₁
+                      ∙ row-over buffer n r (b .rows)
+                      ∙ ap (λ (x : List ℕ). sets x (7 * n) (flat (r ∷ b .rows))) e₀
+                      ∙ ap (λ (x : ℕ). sets (sets buffer₀ (7 * first) (flat (i .rows))) x (flat (r ∷ b .rows))) f
+                      ∙ sym (sets-append (flat (i .rows)) buffer₀ (7 * first) (flat (r ∷ b .rows)))
+                      ∙ ap (λ (x : List ℕ). sets buffer₀ (7 * first) x) (sym (flat-append (i .rows) (r ∷ b .rows)));
+                };
+            more = refl;
           }
+
+      pub again : {stop next m : ℕ} {buffer₂ : List ℕ} → length buffer₁ ≡ length buffer → length buffer₂ ≡ length buffer₁
+          → Walked (inside (n + 1) vr v) v (n + 1) buffer buffer₁ (walk.Done stop next m)
+          → (7 * n + 7 ≤ length buffer₁ → buffer₂ ≡ sets buffer₁ (7 * n) (flat (row tag vr depth (v .at) (stop - v .at) (m - n - 1) first ∷ [])))
+          → Here buffer₂ next m (tag + 1)
+      again l₁ l₂ u put = onward l₁ l₂ u put .here
 
 -- ---- The value of an element
 

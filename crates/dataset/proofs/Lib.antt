@@ -3,6 +3,7 @@ pub mod Checks
 pub mod Forms
 pub mod Buffer
 pub mod Level
+pub mod Depths
 pub mod Levels
 pub mod Whole
 pub mod Tree

@@ -55,10 +55,11 @@ LeafWalked run c first buffer after (leaf.Done stop next m) = Walked run c first
 LeafWalked run c first buffer after (leaf.Refused code offset) = Walked run c first buffer after (walk.Refused code offset)
 LeafWalked run c first buffer after leaf.Nested = Replaced first run buffer after
 
--- What a walk needs: a cursor within the data set, and row numbers that its bytes leave room for.
-pub record Ready (s : List ℕ) (c : Cursor) (levels first : ℕ) : Type 0 where
+-- What a walk needs: a cursor within the data set, and at least 8 bytes before it for each row before. The size of a data set is
+-- limited only where there is room for a row, since a row holds numbers of 32 bits.
+pub record Ready (s : List ℕ) (c : Cursor) (levels first room : ℕ) : Type 0 where
   pub start : c .at ≤ c .end
   pub stop : c .end ≤ length s
-  pub small : length s ≤ largest
+  pub small : width ≤ room → length s ≤ largest
   pub deep : levels ≤ depths
-  pub count : first + (c .end - c .at) ≤ length s
+  pub count : 8 * first ≤ c .at

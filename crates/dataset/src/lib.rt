@@ -88,14 +88,14 @@ pub fn u32_at(s: &[u8], p: usize) -> usize
     u16_at(s, p) + 65536 * u16_at(s, p + 2)
 }
 
-fn tag_at(s: &[u8], p: usize) -> usize
+pub fn tag_at(s: &[u8], p: usize) -> usize
     requires { ⌜ p + 4 ≤ length (now s) ⌝ }
     ensures { λ r. ⌜ (r ≡ tagAt (now (s .entry)) p) × (r < 4294967296) ⌝ }
 {
     65536 * u16_at(s, p) + u16_at(s, p + 2)
 }
 
-fn vr_at(s: &[u8], p: usize) -> usize
+pub fn vr_at(s: &[u8], p: usize) -> usize
     requires { ⌜ p + 2 ≤ length (now s) ⌝ }
     ensures { λ r. ⌜ (r ≡ vrAt (now (s .entry)) p) × (r < 65536) ⌝ }
 {
@@ -141,7 +141,7 @@ pub fn vr_form(vr: usize) -> usize
 
 impl Cursor {
     // The cursor at another offset of the same level.
-    fn moved(self, at: usize) -> Cursor
+    pub fn moved(self, at: usize) -> Cursor
         ensures { λ r. ⌜ r ≡ moved self at ⌝ }
     {
         Cursor {
@@ -357,7 +357,8 @@ fn put_row(
     m: usize,
     first: usize,
 )
-    requires { ⌜ (levels ≤ 8) × ((start ≤ stop) × ((stop ≤ 1073741824) × ((n < m) × ((first ≤ n) × ((m ≤ 1073741824) × ((tag < 4294967296) × (vr < 65536))))))) ⌝ }
+    requires { ⌜ (levels ≤ 8) × ((8 * n + 8 ≤ start) × ((start ≤ stop) × ((n < m) × ((first ≤ n) × ((tag < 4294967296) × (vr < 65536)))))) ⌝ }
+    requires { ⌜ (7 * n + 7 ≤ length (now rows) → (stop ≤ 1073741824) × (m ≤ 1073741824)) ⌝ }
     ensures { λ _. ⌜ (7 * n + 7 ≤ length (now (rows .entry)) → now (rows .exit) ≡ sets (now (rows .entry)) (7 * n) (flat (row tag vr (8 - levels) start (stop - start) (m - n - 1) first ∷ []))) ⌝ }
 {
     let i = WIDTH * n;
@@ -375,7 +376,7 @@ fn put_row(
 // An item without sequences, element by element: the readers below call each other only for an item that has one. Where
 // a sequence stands it is given up, and what was written so far is written again.
 fn read_leaf(s: &[u8], c: Cursor, levels: usize, rows: &mut [u32], first: usize) -> Leaf
-    requires { ⌜ Ready (now s) c levels first ⌝ }
+    requires { ⌜ Ready (now s) c levels first (length (now rows)) ⌝ }
     ensures { λ r. ⌜ LeafWalked (elementsAt levels (now (s .entry)) first c) c first (now (rows .entry)) (now (rows .exit)) r ⌝ }
 {
     let mut here = c;
@@ -411,7 +412,7 @@ fn read_leaf(s: &[u8], c: Cursor, levels: usize, rows: &mut [u32], first: usize)
 
 // An item, or the whole data set, element by element.
 fn read_item(s: &[u8], c: Cursor, levels: usize, rows: &mut [u32], first: usize) -> Walk
-    requires { ⌜ Ready (now s) c levels first ⌝ }
+    requires { ⌜ Ready (now s) c levels first (length (now rows)) ⌝ }
     ensures { λ r. ⌜ Walked (elementsAt levels (now (s .entry)) first c) c first (now (rows .entry)) (now (rows .exit)) r ⌝ }
 {
     let mut here = c;
@@ -453,8 +454,8 @@ fn read_item(s: &[u8], c: Cursor, levels: usize, rows: &mut [u32], first: usize)
 }
 
 // A sequence, item by item; `levels` more levels are permitted below its items. An item without sequences is read at once.
-fn read_sequence(s: &[u8], c: Cursor, levels: usize, rows: &mut [u32], first: usize) -> Walk
-    requires { ⌜ Ready (now s) c levels first ⌝ }
+pub fn read_sequence(s: &[u8], c: Cursor, levels: usize, rows: &mut [u32], first: usize) -> Walk
+    requires { ⌜ Ready (now s) c levels first (length (now rows)) ⌝ }
     ensures { λ r. ⌜ Walked (itemsAt levels (now (s .entry)) first c) c first (now (rows .entry)) (now (rows .exit)) r ⌝ }
 {
     let mut here = c;

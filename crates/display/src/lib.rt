@@ -244,7 +244,7 @@ pub fn image_size(bytes: &[u8], rows: &[u32]) -> usize
 }
 
 // Shows a frame of an accepted object with so many rows: codes 10 and 11, or the picture.
-fn show_table(
+pub fn show_table(
     bytes: &[u8],
     rows: &[u32],
     frame: usize,

@@ -117,8 +117,10 @@ item-add-put-row t c =
 item-put-row-requires : (t : ℕ) → Item item-lts.Need-put-row-requires t
 item-put-row-requires t c κs =
     let a = c .before .before .before .before .before .before .before .before .before .args in
-    let there = level.stands (a .c) (c .before .before .before .before .before .before .loop .here) (λ (x : Cursor). elementAt (a .s .now) x (c .before .before .before .before .before .before .loop .least) (a .levels)) (c .before .before .before .before .before .before .loop .inv .0) (c .before .before .before .before .before .element .ensures) (c .before .before .before .tag .given .1) in
-    omega (arith, c .before .before .before .before .before .before .loop .inv .1 .count, c .before .before .before .before .before .before .loop .inv .1 .few, there .1, c .before .before .before .before .before .before .before .before .before .pre .1)
+    let there = level.stands (a .c) (c .before .before .before .before .before .before .loop .here) (λ (x : Cursor). elementAt (a .s .now) x (c .before .before .before .before .before .before .loop .least) (a .levels)) (c .before .before .before .before .before .before .loop .inv .0) (c .before .before .before .before .before .element .ensures) (c .before .before .before .tag .given .1) in (
+      omega (arith, c .before .before .before .before .before .before .loop .inv .1 .count, c .before .before .before .before .before .before .loop .inv .1 .few, there .1, c .before .before .before .before .before .before .before .before .before .pre .1),
+      λ h. omega (arith, c .before .before .before .before .before .before .loop .inv .1 .count, c .before .before .before .before .before .before .loop .inv .1 .few, there .1, c .before .before .before .before .before .before .before .before .before .pre .1, c .before .before .before .before .before .before .before .before .before .pre .1 .small (omega (arith, h, c .before .before .before .before .before .before .loop .inv .1 .kept))),
+    )
 
 item-moved-requires : (t : ℕ) → Item item-lts.Need-moved-requires t
 item-moved-requires t c κs = search needs
@@ -165,7 +167,7 @@ item-read-sequence-requires : (t : ℕ) → Item item-lts.Need-read-sequence-req
 item-read-sequence-requires t c κs =
     let a = c .before .before .before .before .before .before .before .before .before .args in
     let there = level.stands (a .c) (c .before .before .before .before .before .before .loop .here) (λ (x : Cursor). elementAt (a .s .now) x (c .before .before .before .before .before .before .loop .least) (a .levels)) (c .before .before .before .before .before .before .loop .inv .0) (c .before .before .before .before .before .element .ensures) (c .before .before .before .tag .given .1) in
-    (omega (arith, c .before .before .before .before .before .before .before .before .before .pre .0, there .1, c .before .before .before .before .before .before .loop .inv .1 .low, c .before .before .before .before .before .before .loop .inv .1 .high), record { start = there .1 .1 .0; stop = omega (arith, there .1, c .before .before .before .before .before .before .before .before .before .pre .1); small = c .before .before .before .before .before .before .before .before .before .pre .1 .small; deep = omega (arith, c .before .before .before .before .before .before .before .before .before .pre .1); count = omega (arith, c .before .before .before .before .before .before .loop .inv .1 .count, c .before .before .before .before .before .before .loop .inv .1 .few, c .before .before .before .before .before .before .loop .inv .1 .low, there .1, c .before .before .before .before .before .before .before .before .before .pre .1) })
+    (omega (arith, c .before .before .before .before .before .before .before .before .before .pre .0, there .1, c .before .before .before .before .before .before .loop .inv .1 .low, c .before .before .before .before .before .before .loop .inv .1 .high), record { start = there .1 .1 .0; stop = omega (arith, there .1, c .before .before .before .before .before .before .before .before .before .pre .1); small = λ h. c .before .before .before .before .before .before .before .before .before .pre .1 .small (omega (arith, h, c .before .before .before .before .before .before .loop .inv .1 .kept)); deep = omega (arith, c .before .before .before .before .before .before .before .before .before .pre .1); count = omega (arith, c .before .before .before .before .before .before .loop .inv .1 .count, c .before .before .before .before .before .before .loop .inv .1 .few, c .before .before .before .before .before .before .loop .inv .1 .low, there .1, c .before .before .before .before .before .before .before .before .before .pre .1) })
 
 item-enum-known-code-2 : (t : ℕ) → Item item-lts.Need-enum-known-code-2 t
 item-enum-known-code-2 t c = search needs
@@ -188,8 +190,10 @@ item-put-row-requires-2 : (t : ℕ) → Item item-lts.Need-put-row-requires-2 t
 item-put-row-requires-2 t c κs =
     let a = c .before .before .before .before .before .before .before .before .before .before .before .before .before .before .before .before .args in
     let there = level.stands (a .c) (c .before .before .before .before .before .before .before .before .before .before .before .before .before .loop .here) (λ (x : Cursor). elementAt (a .s .now) x (c .before .before .before .before .before .before .before .before .before .before .before .before .before .loop .least) (a .levels)) (c .before .before .before .before .before .before .before .before .before .before .before .before .before .loop .inv .0) (c .before .before .before .before .before .before .before .before .before .before .before .before .element .ensures) (c .before .before .before .before .before .before .before .before .before .before .tag .given .1) in
-    let d = level.below _ (level.walked (c .before .before .stop .given .1) (c .before .before .before .before .before .before .read-sequence .ensures)) in
-    omega (arith, d .within, d .count, there .1, c .before .before .before .before .before .before .before .before .before .before .before .before .before .loop .inv .1 .count, c .before .before .before .before .before .before .before .before .before .before .before .before .before .loop .inv .1 .few, c .before .before .before .before .before .before .before .before .before .before .before .before .before .before .before .before .pre .1)
+    let d = level.below _ (level.walked (c .before .before .stop .given .1) (c .before .before .before .before .before .before .read-sequence .ensures)) in (
+      omega (arith, d .within, d .count, there .1, c .before .before .before .before .before .before .before .before .before .before .before .before .before .loop .inv .1 .count, c .before .before .before .before .before .before .before .before .before .before .before .before .before .loop .inv .1 .few, c .before .before .before .before .before .before .before .before .before .before .before .before .before .before .before .before .pre .1),
+      λ h. omega (arith, d .within, d .count, there .1, c .before .before .before .before .before .before .before .before .before .before .before .before .before .loop .inv .1 .count, c .before .before .before .before .before .before .before .before .before .before .before .before .before .loop .inv .1 .few, c .before .before .before .before .before .before .before .before .before .before .before .before .before .before .before .before .pre .1, c .before .before .before .before .before .before .before .before .before .before .before .before .before .before .before .before .pre .1 .small (omega (arith, h, c .before .before .before .before .before .before .before .before .before .before .before .before .before .loop .inv .1 .kept, c .before .before .before .before .before .before .read-sequence .kept .1 .1 .1 .0))),
+    )
 
 item-moved-requires-2 : (t : ℕ) → Item item-lts.Need-moved-requires-2 t
 item-moved-requires-2 t c κs = search needs
@@ -261,7 +265,7 @@ sequence-read-leaf-requires : (t : ℕ) → Sequence sequence-lts.Need-read-leaf
 sequence-read-leaf-requires t c κs =
     let a = c .before .before .before .before .before .before .before .before .args in
     let there = level.stands (a .c) (c .before .before .before .before .before .loop .here) (λ (x : Cursor). itemAt (a .s .now) x) (c .before .before .before .before .before .loop .inv .1 .0) (c .before .before .before .before .item .ensures) (c .before .before .tag .given .1) in
-    record { start = there .1 .1 .0; stop = omega (arith, there .1, c .before .before .before .before .before .before .before .before .pre .1); small = c .before .before .before .before .before .before .before .before .pre .1 .small; deep = omega (arith, c .before .before .before .before .before .before .before .before .pre .1); count = omega (arith, c .before .before .before .before .before .loop .inv .1 .1 .count, c .before .before .before .before .before .loop .inv .1 .1 .few, c .before .before .before .before .before .loop .inv .1 .1 .low, there .1, c .before .before .before .before .before .before .before .before .pre .1) }
+    record { start = there .1 .1 .0; stop = omega (arith, there .1, c .before .before .before .before .before .before .before .before .pre .1); small = λ h. c .before .before .before .before .before .before .before .before .pre .1 .small (omega (arith, h, c .before .before .before .before .before .loop .inv .1 .1 .kept)); deep = omega (arith, c .before .before .before .before .before .before .before .before .pre .1); count = omega (arith, c .before .before .before .before .before .loop .inv .1 .1 .count, c .before .before .before .before .before .loop .inv .1 .1 .few, c .before .before .before .before .before .loop .inv .1 .1 .low, there .1, c .before .before .before .before .before .before .before .before .pre .1) }
 
 sequence-enum-known-code-2 : (t : ℕ) → Sequence sequence-lts.Need-enum-known-code-2 t
 sequence-enum-known-code-2 t c = search needs
@@ -283,8 +287,10 @@ sequence-put-row-requires : (t : ℕ) → Sequence sequence-lts.Need-put-row-req
 sequence-put-row-requires t c κs =
     let a = c .before .before .before .before .before .before .before .before .before .before .before .before .before .before .before .args in
     let there = level.stands (a .c) (c .before .before .before .before .before .before .before .before .before .before .before .before .loop .here) (λ (x : Cursor). itemAt (a .s .now) x) (c .before .before .before .before .before .before .before .before .before .before .before .before .loop .inv .1 .0) (c .before .before .before .before .before .before .before .before .before .before .before .item .ensures) (c .before .before .before .before .before .before .before .before .before .tag .given .1) in
-    let d = level.below _ (level.leaf-walked _ _ _ _ _ (c .before .before .stop .given .1) (c .before .before .before .before .before .before .read-leaf .ensures)) in
-    omega (arith, d .within, d .count, there .1, c .before .before .before .before .before .before .before .before .before .before .before .before .loop .inv .1 .1 .count, c .before .before .before .before .before .before .before .before .before .before .before .before .loop .inv .1 .1 .few, c .before .before .before .before .before .before .before .before .before .before .before .before .before .before .before .pre .1)
+    let d = level.below _ (level.leaf-walked _ _ _ _ _ (c .before .before .stop .given .1) (c .before .before .before .before .before .before .read-leaf .ensures)) in (
+      omega (arith, d .within, d .count, there .1, c .before .before .before .before .before .before .before .before .before .before .before .before .loop .inv .1 .1 .count, c .before .before .before .before .before .before .before .before .before .before .before .before .loop .inv .1 .1 .few, c .before .before .before .before .before .before .before .before .before .before .before .before .before .before .before .pre .1),
+      λ h. omega (arith, d .within, d .count, there .1, c .before .before .before .before .before .before .before .before .before .before .before .before .loop .inv .1 .1 .count, c .before .before .before .before .before .before .before .before .before .before .before .before .loop .inv .1 .1 .few, c .before .before .before .before .before .before .before .before .before .before .before .before .before .before .before .pre .1, c .before .before .before .before .before .before .before .before .before .before .before .before .before .before .before .pre .1 .small (omega (arith, h, c .before .before .before .before .before .before .before .before .before .before .before .before .loop .inv .1 .1 .kept, c .before .before .before .before .before .before .read-leaf .kept .1 .1 .1 .0))),
+    )
 
 sequence-moved-requires : (t : ℕ) → Sequence sequence-lts.Need-moved-requires t
 sequence-moved-requires t c κs = search needs
@@ -318,7 +324,7 @@ sequence-read-item-requires : (t : ℕ) → Sequence sequence-lts.Need-read-item
 sequence-read-item-requires t c κs =
     let a = c .before .before .before .before .before .before .before .before .before .before .before .before .before .before .args in
     let there = level.stands (a .c) (c .before .before .before .before .before .before .before .before .before .before .before .loop .here) (λ (x : Cursor). itemAt (a .s .now) x) (c .before .before .before .before .before .before .before .before .before .before .before .loop .inv .1 .0) (c .before .before .before .before .before .before .before .before .before .before .item .ensures) (c .before .before .before .before .before .before .before .before .tag .given .1) in
-    (omega (arith, c .before .before .before .before .before .before .before .before .before .before .before .before .before .before .pre .0, there .1, c .before .before .before .before .before .before .before .before .before .before .before .loop .inv .1 .1 .low, c .before .before .before .before .before .before .before .before .before .before .before .loop .inv .1 .1 .high), record { start = there .1 .1 .0; stop = omega (arith, there .1, c .before .before .before .before .before .before .before .before .before .before .before .before .before .before .pre .1); small = c .before .before .before .before .before .before .before .before .before .before .before .before .before .before .pre .1 .small; deep = omega (arith, c .before .before .before .before .before .before .before .before .before .before .before .before .before .before .pre .1); count = omega (arith, c .before .before .before .before .before .before .before .before .before .before .before .loop .inv .1 .1 .count, c .before .before .before .before .before .before .before .before .before .before .before .loop .inv .1 .1 .few, c .before .before .before .before .before .before .before .before .before .before .before .loop .inv .1 .1 .low, there .1, c .before .before .before .before .before .before .before .before .before .before .before .before .before .before .pre .1) })
+    (omega (arith, c .before .before .before .before .before .before .before .before .before .before .before .before .before .before .pre .0, there .1, c .before .before .before .before .before .before .before .before .before .before .before .loop .inv .1 .1 .low, c .before .before .before .before .before .before .before .before .before .before .before .loop .inv .1 .1 .high), record { start = there .1 .1 .0; stop = omega (arith, there .1, c .before .before .before .before .before .before .before .before .before .before .before .before .before .before .pre .1); small = λ h. c .before .before .before .before .before .before .before .before .before .before .before .before .before .before .pre .1 .small (omega (arith, h, c .before .before .before .before .before .before .before .before .before .before .before .loop .inv .1 .1 .kept, c .before .before .before .before .before .read-leaf .kept .1 .1 .1 .0)); deep = omega (arith, c .before .before .before .before .before .before .before .before .before .before .before .before .before .before .pre .1); count = omega (arith, c .before .before .before .before .before .before .before .before .before .before .before .loop .inv .1 .1 .count, c .before .before .before .before .before .before .before .before .before .before .before .loop .inv .1 .1 .few, c .before .before .before .before .before .before .before .before .before .before .before .loop .inv .1 .1 .low, there .1, c .before .before .before .before .before .before .before .before .before .before .before .before .before .before .pre .1) })
 
 sequence-enum-known-code-3 : (t : ℕ) → Sequence sequence-lts.Need-enum-known-code-3 t
 sequence-enum-known-code-3 t c = search needs
@@ -340,8 +346,10 @@ sequence-put-row-requires-2 : (t : ℕ) → Sequence sequence-lts.Need-put-row-r
 sequence-put-row-requires-2 t c κs =
     let a = c .before .before .before .before .before .before .before .before .before .before .before .before .before .before .before .before .before .before .before .before .before .args in
     let there = level.stands (a .c) (c .before .before .before .before .before .before .before .before .before .before .before .before .before .before .before .before .before .before .loop .here) (λ (x : Cursor). itemAt (a .s .now) x) (c .before .before .before .before .before .before .before .before .before .before .before .before .before .before .before .before .before .before .loop .inv .1 .0) (c .before .before .before .before .before .before .before .before .before .before .before .before .before .before .before .before .before .item .ensures) (c .before .before .before .before .before .before .before .before .before .before .before .before .before .before .before .tag .given .1) in
-    let d = level.below _ (level.over _ (c .before .before .before .before .before .before .before .before .before .before .before .before .read-leaf .kept .1 .1 .1 .0) (level.leaf-walked _ _ _ _ _ (c .before .before .before .before .before .before .before .before .enum-told .given .1) (c .before .before .before .before .before .before .before .before .before .before .before .before .read-leaf .ensures)) (level.walked (c .before .before .stop2 .given .1) (c .before .before .before .before .before .before .read-item .ensures))) in
-    omega (arith, d .within, d .count, there .1, c .before .before .before .before .before .before .before .before .before .before .before .before .before .before .before .before .before .before .loop .inv .1 .1 .count, c .before .before .before .before .before .before .before .before .before .before .before .before .before .before .before .before .before .before .loop .inv .1 .1 .few, c .before .before .before .before .before .before .before .before .before .before .before .before .before .before .before .before .before .before .before .before .before .pre .1)
+    let d = level.below _ (level.over _ (c .before .before .before .before .before .before .before .before .before .before .before .before .read-leaf .kept .1 .1 .1 .0) (level.leaf-walked _ _ _ _ _ (c .before .before .before .before .before .before .before .before .enum-told .given .1) (c .before .before .before .before .before .before .before .before .before .before .before .before .read-leaf .ensures)) (level.walked (c .before .before .stop2 .given .1) (c .before .before .before .before .before .before .read-item .ensures))) in (
+      omega (arith, d .within, d .count, there .1, c .before .before .before .before .before .before .before .before .before .before .before .before .before .before .before .before .before .before .loop .inv .1 .1 .count, c .before .before .before .before .before .before .before .before .before .before .before .before .before .before .before .before .before .before .loop .inv .1 .1 .few, c .before .before .before .before .before .before .before .before .before .before .before .before .before .before .before .before .before .before .before .before .before .pre .1),
+      λ h. omega (arith, d .within, d .count, there .1, c .before .before .before .before .before .before .before .before .before .before .before .before .before .before .before .before .before .before .loop .inv .1 .1 .count, c .before .before .before .before .before .before .before .before .before .before .before .before .before .before .before .before .before .before .loop .inv .1 .1 .few, c .before .before .before .before .before .before .before .before .before .before .before .before .before .before .before .before .before .before .before .before .before .pre .1, c .before .before .before .before .before .before .before .before .before .before .before .before .before .before .before .before .before .before .before .before .before .pre .1 .small (omega (arith, h, c .before .before .before .before .before .before .before .before .before .before .before .before .before .before .before .before .before .before .loop .inv .1 .1 .kept, c .before .before .before .before .before .before .before .before .before .before .before .before .read-leaf .kept .1 .1 .1 .0, c .before .before .before .before .before .before .read-item .kept .1 .1 .1 .0))),
+    )
 
 sequence-moved-requires-2 : (t : ℕ) → Sequence sequence-lts.Need-moved-requires-2 t
 sequence-moved-requires-2 t c κs = search needs

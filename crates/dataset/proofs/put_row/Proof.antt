@@ -65,7 +65,7 @@ slice-write-rows-3 c = simp length-set (omega arith)
 
 -- src/lib.rt:346:23
 cast-rows-4 : tie.Need-cast-rows-4
-cast-rows-4 c = search needs
+cast-rows-4 c = omega (arith, c .before .pre, c .before .pre .1 (c .if1 .taken))
 
 -- src/lib.rt:346:14
 add-rows-3 : tie.Need-add-rows-3
@@ -85,7 +85,7 @@ sub-rows-2 c = search needs
 
 -- src/lib.rt:347:23
 cast-rows-5 : tie.Need-cast-rows-5
-cast-rows-5 c = search needs
+cast-rows-5 c = omega (arith, c .before .pre, c .before .pre .1 (c .if1 .taken))
 
 -- src/lib.rt:347:14
 add-rows-4 : tie.Need-add-rows-4
@@ -109,7 +109,7 @@ sub-rows-4 c = search needs
 
 -- src/lib.rt:348:23
 cast-rows-6 : tie.Need-cast-rows-6
-cast-rows-6 c = search needs
+cast-rows-6 c = omega (arith, c .before .pre, c .before .pre .1 (c .if1 .taken))
 
 -- src/lib.rt:348:14
 add-rows-5 : tie.Need-add-rows-5
@@ -124,7 +124,7 @@ slice-write-rows-6 : tie.Need-slice-write-rows-6
 slice-write-rows-6 c = simp length-set (omega arith)
 
 cast-rows-7 : tie.Need-cast-rows-7
-cast-rows-7 c = search needs
+cast-rows-7 c = omega (arith, c .before .pre, c .before .pre .1 (c .if1 .taken))
 
 add-rows-6 : tie.Need-add-rows-6
 add-rows-6 c = search needs

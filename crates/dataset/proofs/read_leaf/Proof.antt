@@ -92,8 +92,10 @@ add-put-row c =
 put-row-requires : tie.Need-put-row-requires Inv-loop μ-loop
 put-row-requires c κs =
     let a = c .before .before .before .before .before .before .before .before .before .args in
-    let there = level.stands (a .c) (c .before .before .before .before .before .before .loop .here) (λ (x : Cursor). elementAt (a .s .now) x (c .before .before .before .before .before .before .loop .least) (a .levels)) (c .before .before .before .before .before .before .loop .inv .0) (c .before .before .before .before .before .element .ensures) (c .before .before .before .tag .given .1) in
-    omega (arith, c .before .before .before .before .before .before .loop .inv .1 .count, c .before .before .before .before .before .before .loop .inv .1 .few, there .1, c .before .before .before .before .before .before .before .before .before .pre)
+    let there = level.stands (a .c) (c .before .before .before .before .before .before .loop .here) (λ (x : Cursor). elementAt (a .s .now) x (c .before .before .before .before .before .before .loop .least) (a .levels)) (c .before .before .before .before .before .before .loop .inv .0) (c .before .before .before .before .before .element .ensures) (c .before .before .before .tag .given .1) in (
+      omega (arith, c .before .before .before .before .before .before .loop .inv .1 .count, c .before .before .before .before .before .before .loop .inv .1 .few, there .1, c .before .before .before .before .before .before .before .before .before .pre),
+      λ h. omega (arith, c .before .before .before .before .before .before .loop .inv .1 .count, c .before .before .before .before .before .before .loop .inv .1 .few, there .1, c .before .before .before .before .before .before .before .before .before .pre, c .before .before .before .before .before .before .before .before .before .pre .small (omega (arith, h, c .before .before .before .before .before .before .loop .inv .1 .kept))),
+    )
 
 -- src/lib.rt:400:17
 moved-requires : tie.Need-moved-requires Inv-loop μ-loop

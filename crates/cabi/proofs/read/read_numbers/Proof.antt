@@ -1,0 +1,89 @@
+use mathlib.Core.Path.{ap, sym, subst}
+use native.Mathlib.Omega.{arith}
+use Rattle.cabi.specs.Host.{readAnswer, ReadFits32}
+use borrow.Author.Needs.{needs}
+use Rattle.cabi.proofs.read.read_numbers.Statement.{statement}
+use Rattle.cabi.proofs.read.read_numbers.Tie as tie
+use Rattle.cabi.proofs.read.read_numbers.Reads as reads
+use Rattle.cabi.proofs.read.read_numbers.Lts as lts
+use Rattle.cabi.proofs.code_alone.Reads as code-alone-reads
+
+-- src/read.rt:16:26
+enum-known-answer : tie.Need-enum-known-answer
+enum-known-answer c = search needs
+
+-- src/read.rt:19:19
+cast-t6 : tie.Need-cast-t6
+cast-t6 c =
+    let m = subst ReadFits32 (c .before .answer .given .1) (c .before .before .before .pre) in
+    record { fits = omega (arith, m .rows) }
+
+-- src/read.rt:24:29
+enum-known-answer-2 : tie.Need-enum-known-answer-2
+enum-known-answer-2 c = search needs
+
+-- src/read.rt:25:19
+cast-t7 : tie.Need-cast-t7
+cast-t7 c =
+    let m = subst ReadFits32 (c .before .answer2 .given .1) (c .before .before .before .pre) in
+    record { fits = omega (arith, m .code) }
+
+-- src/read.rt:26:21
+cast-t8 : tie.Need-cast-t8
+cast-t8 c =
+    let m = subst ReadFits32 (c .before .answer2 .given .1) (c .before .before .before .pre) in
+    record { fits = omega (arith, m .offset) }
+
+-- src/read.rt:32:33
+enum-told : tie.Need-enum-told
+enum-told c = search needs
+
+-- src/read.rt:32:33
+code-alone-requires : tie.Need-code-alone-requires
+code-alone-requires c κs = search needs
+
+-- src/read.rt:33:31
+enum-told-2 : tie.Need-enum-told-2
+enum-told-2 c = search needs
+
+-- src/read.rt:33:31
+code-alone-requires-2 : tie.Need-code-alone-requires-2
+code-alone-requires-2 c κs = search needs
+
+-- src/read.rt:11:1
+returns : tie.Need-returns
+returns c =
+    ap readAnswer (sym (c .before .answer .given .1))
+
+-- src/read.rt:11:1
+returns-2 : tie.Need-returns-2
+returns-2 c =
+    ap readAnswer (sym (c .before .answer2 .given .1))
+
+-- src/read.rt:11:1
+returns-3 : tie.Need-returns-3
+returns-3 c =
+    rw (c .code-alone .ensures) (ap readAnswer (sym (c .before .enum-told .given .1)))
+
+-- src/read.rt:11:1
+returns-4 : tie.Need-returns-4
+returns-4 c =
+    rw (c .code-alone2 .ensures) (ap readAnswer (sym (c .before .enum-told2 .given .1)))
+
+pub read-numbers-spec : {M : Type 1} → statement M
+read-numbers-spec =
+    tie.close
+    (tie.spec
+    enum-known-answer
+    cast-t6
+    enum-known-answer-2
+    cast-t7
+    cast-t8
+    enum-told
+    code-alone-requires
+    enum-told-2
+    code-alone-requires-2
+    returns
+    returns-2
+    returns-3
+    returns-4)

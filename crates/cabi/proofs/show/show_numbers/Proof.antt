@@ -1,0 +1,159 @@
+use mathlib.Core.Path.{ap, sym, subst}
+use native.Mathlib.Omega.{arith}
+use Rattle.cabi.specs.Host.{showAnswer, Fits32}
+use borrow.Author.Needs.{needs}
+use Rattle.cabi.proofs.show.show_numbers.Statement.{statement}
+use Rattle.cabi.proofs.show.show_numbers.Tie as tie
+use Rattle.cabi.proofs.show.show_numbers.Reads as reads
+use Rattle.cabi.proofs.show.show_numbers.Lts as lts
+use Rattle.cabi.proofs.code_alone.Reads as code-alone-reads
+use Rattle.cabi.proofs.show.masked_number.Reads as masked-number-reads
+
+-- src/show.rt:25:27
+enum-known-answer : tie.Need-enum-known-answer
+enum-known-answer c = search needs
+
+-- src/show.rt:28:19
+cast-t10 : tie.Need-cast-t10
+cast-t10 c =
+    let m = subst Fits32 (c .before .answer .given .1) (c .before .before .before .pre) in
+    record { fits = omega (arith, m .rows) }
+
+-- src/show.rt:31:21
+masked-number-requires : tie.Need-masked-number-requires
+masked-number-requires c κs = search needs
+
+-- src/show.rt:33:28
+enum-known-answer-2 : tie.Need-enum-known-answer-2
+enum-known-answer-2 c = search needs
+
+-- src/show.rt:36:19
+cast-t12 : tie.Need-cast-t12
+cast-t12 c =
+    let m = subst Fits32 (c .before .answer2 .given .1) (c .before .before .before .pre) in
+    record { fits = omega (arith, m .rows) }
+
+-- src/show.rt:37:19
+cast-t13 : tie.Need-cast-t13
+cast-t13 c =
+    let m = subst Fits32 (c .before .answer2 .given .1) (c .before .before .before .pre) in
+    record { fits = omega (arith, m .rule) }
+
+-- src/show.rt:38:20
+cast-t14 : tie.Need-cast-t14
+cast-t14 c =
+    let m = subst Fits32 (c .before .answer2 .given .1) (c .before .before .before .pre) in
+    record { fits = omega (arith, m .frame) }
+
+-- src/show.rt:41:29
+enum-known-answer-3 : tie.Need-enum-known-answer-3
+enum-known-answer-3 c = search needs
+
+-- src/show.rt:42:19
+cast-t15 : tie.Need-cast-t15
+cast-t15 c =
+    let m = subst Fits32 (c .before .answer3 .given .1) (c .before .before .before .pre) in
+    record { fits = omega (arith, m .code) }
+
+-- src/show.rt:43:21
+cast-t16 : tie.Need-cast-t16
+cast-t16 c =
+    let m = subst Fits32 (c .before .answer3 .given .1) (c .before .before .before .pre) in
+    record { fits = omega (arith, m .offset) }
+
+-- src/show.rt:49:33
+enum-told : tie.Need-enum-told
+enum-told c = search needs
+
+-- src/show.rt:49:33
+code-alone-requires : tie.Need-code-alone-requires
+code-alone-requires c κs = search needs
+
+-- src/show.rt:50:31
+enum-told-2 : tie.Need-enum-told-2
+enum-told-2 c = search needs
+
+-- src/show.rt:50:31
+code-alone-requires-2 : tie.Need-code-alone-requires-2
+code-alone-requires-2 c κs = search needs
+
+-- src/show.rt:51:32
+enum-told-3 : tie.Need-enum-told-3
+enum-told-3 c = search needs
+
+-- src/show.rt:51:32
+code-alone-requires-3 : tie.Need-code-alone-requires-3
+code-alone-requires-3 c κs = search needs
+
+-- src/show.rt:52:36
+enum-told-4 : tie.Need-enum-told-4
+enum-told-4 c = search needs
+
+-- src/show.rt:52:36
+code-alone-requires-4 : tie.Need-code-alone-requires-4
+code-alone-requires-4 c κs = search needs
+
+-- src/show.rt:20:1
+returns : tie.Need-returns
+returns c =
+    rw (c .masked-number .ensures) (ap showAnswer (sym (c .before .before .answer .given .1)))
+
+-- src/show.rt:20:1
+returns-2 : tie.Need-returns-2
+returns-2 c =
+    ap showAnswer (sym (c .before .answer2 .given .1))
+
+-- src/show.rt:20:1
+returns-3 : tie.Need-returns-3
+returns-3 c =
+    ap showAnswer (sym (c .before .answer3 .given .1))
+
+-- src/show.rt:20:1
+returns-4 : tie.Need-returns-4
+returns-4 c =
+    rw (c .code-alone .ensures) (ap showAnswer (sym (c .before .enum-told .given .1)))
+
+-- src/show.rt:20:1
+returns-5 : tie.Need-returns-5
+returns-5 c =
+    rw (c .code-alone2 .ensures) (ap showAnswer (sym (c .before .enum-told2 .given .1)))
+
+-- src/show.rt:20:1
+returns-6 : tie.Need-returns-6
+returns-6 c =
+    rw (c .code-alone3 .ensures) (ap showAnswer (sym (c .before .enum-told3 .given .1)))
+
+-- src/show.rt:20:1
+returns-7 : tie.Need-returns-7
+returns-7 c =
+    rw (c .code-alone4 .ensures) (ap showAnswer (sym (c .before .enum-told4 .given .1)))
+
+pub show-numbers-spec : {M : Type 1} → statement M
+show-numbers-spec =
+    tie.close
+    (tie.spec
+    enum-known-answer
+    cast-t10
+    masked-number-requires
+    enum-known-answer-2
+    cast-t12
+    cast-t13
+    cast-t14
+    enum-known-answer-3
+    cast-t15
+    cast-t16
+    enum-told
+    code-alone-requires
+    enum-told-2
+    code-alone-requires-2
+    enum-told-3
+    code-alone-requires-3
+    enum-told-4
+    code-alone-requires-4
+    returns
+    returns-2
+    returns-3
+    returns-4
+    returns-5
+    returns-6
+    returns-7)

@@ -1,0 +1,3 @@
+-- What the proofs of several functions use, and the theorem on files.
+pub mod After
+pub mod Files

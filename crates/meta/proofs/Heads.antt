@@ -1,0 +1,148 @@
+-- What is found in the head's elements: each element notes itself, and what stands in its value notes nothing, since it stands
+-- deeper. So the loop along the elements keeps what the rows so far come to.
+use mathlib.Core.Path.{_≡_, refl, sym, ap, _∙_, subst}
+use Prim.Native.Nat.{ℕ, _+_, _-_, _*_, _≤_}
+use native.Mathlib.Omega.{arith}
+use borrow.Author.Tests.{ne-eqb}
+use mathlib.Core.Bool.{Bool, true, false, cond}
+use mathlib.Core.List.{List, [], _∷_, _++_}
+use lib.ListN.{length}
+use lib.Dec.{eqb}
+use Rattle.dataset.specs.declared.Cursor.{Cursor}
+use Rattle.dataset.specs.declared.Head.{Head}
+use Rattle.dataset.specs.declared.Head.the-variants as heads
+use Rattle.dataset.specs.declared.Walk.the-variants as walk
+use Rattle.dataset.specs.Header.{cursor, moved, elementAt}
+use Rattle.dataset.specs.Reading.{Row, row, Run, done, refused, elementsAt, valueAt}
+use Rattle.dataset.specs.Walk.{Within, Walked}
+use Rattle.dataset.proofs.Level as level
+use Rattle.dataset.proofs.Depths.{Deep, RunDeep, value-deep}
+use Rattle.meta.specs.declared.Uid.{Uid}
+use Rattle.meta.specs.declared.Found.{Found}
+use Rattle.meta.specs.declared.Elements.{Elements}
+use Rattle.meta.specs.declared.Elements.the-variants as elements
+use Rattle.meta.specs.Meta.{MediaStorageSOPClassUID, TransferSyntaxUID, UI, uidAt, nothing, noted, foundIn}
+use Rattle.meta.specs.Said.{UidWithin, FoundWithin, walkOf}
+
+-- ---- Rows one after another
+
+found-append : (f : Found) (a b : List Row) → foundIn f (a ++ b) ≡ foundIn (foundIn f a) b
+unfolding foundIn
+found-append f [] b = refl
+found-append f (r ∷ rs) b = found-append (cond (eqb (r .depth) 0) (noted f (r .tag) (r .vr) (r .offset) (r .size)) f) rs b
+
+found-deep : (f : Found) (rows : List Row) → Deep 1 rows → foundIn f rows ≡ f
+unfolding foundIn
+found-deep f [] d = refl
+found-deep f (r ∷ rs) d = rw (ne-eqb (r .depth) 0 (λ e. omega (arith, e, d .0))) (found-deep f rs (d .1))
+
+found-first : (f : Found) (tag vr offset size descendants parent : ℕ) (rows : List Row)
+    → foundIn f (row tag vr 0 offset size descendants parent ∷ rows) ≡ foundIn (noted f tag vr offset size) rows
+unfolding foundIn
+found-first f tag vr offset size descendants parent rows = refl
+
+pub found-next : (f : Found) (rows below : List Row) (tag vr offset size descendants parent : ℕ) → Deep 1 below
+    → foundIn f (rows ++ (row tag vr 0 offset size descendants parent ∷ below)) ≡ noted (foundIn f rows) tag vr offset size
+found-next f rows below tag vr offset size descendants parent d =
+    found-append f rows (row tag vr 0 offset size descendants parent ∷ below)
+    ∙ found-first (foundIn f rows) tag vr offset size descendants parent below
+    ∙ found-deep (noted (foundIn f rows) tag vr offset size) below d
+
+found-none : foundIn nothing [] ≡ nothing
+unfolding foundIn
+found-none = refl
+
+-- ---- Values within the file
+
+either : (size : ℕ) (b : Bool) (x y : Uid) → UidWithin size x → UidWithin size y → UidWithin size (cond b x y)
+either size true x y p q = p
+either size false x y p q = q
+
+uid-within : (size vr offset length : ℕ) → offset + length ≤ size → UidWithin size (uidAt vr offset length)
+unfolding uidAt
+uid-within size vr offset length h = either size (eqb vr UI) _ _ (either size (eqb length 0) _ _ tt (omega arith, h)) tt
+
+pub noted-within : (size : ℕ) (f : Found) (tag vr offset length : ℕ) → FoundWithin size f → offset + length ≤ size
+    → FoundWithin size (noted f tag vr offset length)
+unfolding noted
+noted-within size f tag vr offset length w h =
+    record {
+      class-in = either size (eqb tag MediaStorageSOPClassUID) _ _ (uid-within size vr offset length h) (w .class-in);
+      syntax-in = either size (eqb tag TransferSyntaxUID) _ _ (uid-within size vr offset length h) (w .syntax-in);
+    }
+
+-- ---- The loop along the elements, from byte 132 up to `end`
+
+module _ (s : List ℕ) (end : ℕ) where
+  abbrev pub from : Cursor
+  from = cursor 132 end false
+
+  abbrev pub stands : ℕ → ℕ → Head
+  stands a least = elementAt s (moved from a) least 8
+
+  abbrev pub Here : List ℕ → List ℕ → ℕ → ℕ → ℕ → Type 0
+  Here none₀ none at n least = level.Here stands (valueAt 8 s) 0 (elementsAt 8 s 0 from) from 0 none₀ none at n least
+
+  -- The rows so far come to what was found, which lies within the file.
+  abbrev Keeps : List ℕ → List ℕ → ℕ → ℕ → ℕ → Found → Type 0
+  Keeps none₀ none at n least found = (i : Here none₀ none at n least) × ((foundIn nothing (i .rows) ≡ found) × FoundWithin (length s) found)
+
+  abbrev pub Kept : List ℕ → List ℕ → Cursor → ℕ → ℕ → Found → Type 0
+  Kept none₀ none here n least found = (here ≡ moved from (here .at)) × Keeps none₀ none (here .at) n least found
+
+  module _ (none₀ : List ℕ) where
+    pub begun : 132 ≤ end → end ≤ length s → Kept none₀ none₀ from 0 0 nothing
+    begun p q = (
+      refl,
+      (
+        record {
+          rows = [];
+          turns = length s + 1;
+          rest = refl;
+          enough = omega arith;
+          low = omega arith;
+          high = omega arith;
+          count = omega arith;
+          few = omega arith;
+          kept = refl;
+          wrote = λ _. refl;
+        },
+        (found-none, record { class-in = tt; syntax-in = tt }),
+      ),
+    )
+
+    module _ {none : List ℕ} {here : Cursor} {n least : ℕ} {found : Found} (k : Kept none₀ none here n least found) where
+      pub ended : {next : ℕ} → stands (here .at) least ≡ heads.End next → elements.Good found ≡ walkOf (elementsAt 8 s 0 from)
+      ended e =
+          sym (ap elements.Good (k .1 .1 .0))
+          ∙ ap walkOf (level.ended-run stands (valueAt 8 s) 0 (elementsAt 8 s 0 from) from 0 none₀ (k .1 .0) e)
+
+      refused-by : {buffer after : List ℕ} {code offset : ℕ} → Walked (elementsAt 8 s 0 from) from 0 buffer after (walk.Refused code offset)
+          → elements.Refused ≡ walkOf (elementsAt 8 s 0 from)
+      refused-by w = sym (ap walkOf (level.stopped (elementsAt 8 s 0 from) w .0))
+
+      pub refuses : {code : ℕ} → stands (here .at) least ≡ heads.Refused code → (1 ≤ code) × (code ≤ 6) → elements.Refused ≡ walkOf (elementsAt 8 s 0 from)
+      refuses e p = refused-by (level.refuses stands (valueAt 8 s) 0 (elementsAt 8 s 0 from) from 0 none₀ (k .1 .0) e p)
+
+      module _ {tag vr : ℕ} {v : Cursor} (e : stands (here .at) least ≡ heads.Header tag vr v) (w : Within (moved from (here .at)) (heads.Header tag vr v)) {none₁ : List ℕ} where
+        pub fails : {code offset : ℕ} → Walked (valueAt 8 s (n + 1) vr v) v (n + 1) none none₁ (walk.Refused code offset)
+            → elements.Refused ≡ walkOf (elementsAt 8 s 0 from)
+        fails u = refused-by (level.fails stands (valueAt 8 s) 0 (elementsAt 8 s 0 from) from 0 none₀ (k .1 .0) e w u)
+
+        pub goes-on : {stop next m : ℕ} {r : Cursor} {more : Found} → end ≤ length s → length none₀ ≡ 0 → length none₁ ≡ length none
+            → Walked (valueAt 8 s (n + 1) vr v) v (n + 1) none none₁ (walk.Done stop next m)
+            → more ≡ noted found tag vr (v .at) (stop - v .at) → r ≡ moved here next → Kept none₀ none₁ r m (tag + 1) more
+        goes-on {stop} {next} {m} {r} {more} q z l u f p =
+            let x = level.onward stands (valueAt 8 s) 0 (elementsAt 8 s 0 from) from 0 none₀ (k .1 .0) e w l refl u (λ h. absurd (omega (arith, h, l, z, k .1 .0 .kept))) in
+            let d : Deep 1 (x .inner) = subst (λ (o : Run). RunDeep 1 o) (x .is) (value-deep 8 1 (omega arith) s (n + 1) vr v) in
+            let b = level.below (valueAt 8 s (n + 1) vr v) u in
+            let g : foundIn nothing (x .here .rows) ≡ more =
+            ap (foundIn nothing) (x .more)
+            ∙ found-next nothing (k .1 .0 .rows) (x .inner) tag vr (v .at) (stop - v .at) (length (x .inner)) 0 d
+            ∙ ap (λ (y : Found). noted y tag vr (v .at) (stop - v .at)) (k .1 .1 .0)
+            ∙ sym f in
+            let within : FoundWithin (length s) more =
+            subst (λ (y : Found). FoundWithin (length s) y) (sym f)
+            (noted-within (length s) found tag vr (v .at) (stop - v .at) (k .1 .1 .1) (omega (arith, b .within, w, q))) in
+            let a = level.moved-along from here r (k .0) p in
+            (a .0, subst (λ (y : ℕ). Keeps none₀ none₁ y m (tag + 1) more) (sym (a .1)) (x .here, (g, within)))

@@ -1,0 +1,90 @@
+-- What each test of the head comes to, and what the tests come to together.
+use mathlib.Core.Path.{_≡_, refl, ap, _∙_}
+use Prim.Native.Nat.{ℕ, _+_, _-_, _≤_, _<_}
+use native.Mathlib.Omega.{arith}
+use borrow.Author.Tests.{le-leb, lt-leb, leb-true, eq-eqb, ne-eqb}
+use mathlib.Core.Bool.{Bool, true, false, cond, _&&_}
+use mathlib.Core.List.{List}
+use lib.ListN.{length, take, drop, length-take, length-drop}
+use lib.Dec.{eqb, leb}
+use Rattle.dataset.specs.Bytes.{le16, le32, tagAt, vrAt}
+use Rattle.dataset.specs.Header.{cursor}
+use Rattle.dataset.specs.Reading.{Run, done, refused, elementsAt}
+use Rattle.value.specs.Text.{ascii}
+use Rattle.value.proofs.Lists.{equal-lengths}
+use Rattle.meta.specs.declared.Found.{Found}
+use Rattle.meta.specs.declared.Elements.{Elements}
+use Rattle.meta.specs.declared.Elements.the-variants as elements
+use Rattle.meta.specs.declared.Meta.{Meta}
+use Rattle.meta.specs.declared.Meta.the-variants.{BadHead}
+use Rattle.meta.specs.Meta.{isMarked, hasGroupLength, endOf, headOf, named, ofFound, ofRun, headedOf}
+use Rattle.meta.specs.Said.{walkOf}
+
+-- ---- The mark
+
+pub unmarked : (s : List ℕ) → length s < 132 → isMarked s ≡ false
+unfolding isMarked
+unmarked s h = equal-lengths (take 4 (drop 128 s)) (ascii "DICM") (λ e. omega (arith, e, length-take 4 (drop 128 s), length-drop 128 s))
+
+-- ---- The group length
+
+module _ (s : List ℕ) where
+  pub too-short : length s < 144 → hasGroupLength s ≡ false
+  unfolding hasGroupLength
+  too-short h = rw (lt-leb 144 (length s) h)
+
+  pub other-tag : 144 ≤ length s → (tagAt s 132 ≡ 0x0002_0000 → ⊥) → hasGroupLength s ≡ false
+  unfolding hasGroupLength
+  other-tag h t = rw (le-leb 144 (length s) h, ne-eqb (tagAt s 132) 0x0002_0000 t)
+
+  pub other-vr : 144 ≤ length s → tagAt s 132 ≡ 0x0002_0000 → (vrAt s 136 ≡ 0x554C → ⊥) → hasGroupLength s ≡ false
+  unfolding hasGroupLength
+  other-vr h t v = rw (le-leb 144 (length s) h, eq-eqb (tagAt s 132) 0x0002_0000 t, ne-eqb (vrAt s 136) 0x554C v)
+
+  pub of-length : 144 ≤ length s → tagAt s 132 ≡ 0x0002_0000 → vrAt s 136 ≡ 0x554C → eqb (le16 s 138) 4 ≡ hasGroupLength s
+  unfolding hasGroupLength
+  of-length h t v = rw (le-leb 144 (length s) h, eq-eqb (tagAt s 132) 0x0002_0000 t, eq-eqb (vrAt s 136) 0x554C v)
+
+  pub long-enough : hasGroupLength s ≡ true → 144 ≤ length s
+  unfolding hasGroupLength
+  long-enough e = leb-true 144 (length s) (first (leb 144 (length s)) _ e)
+    where
+      first : (a b : Bool) → a && b ≡ true → a ≡ true
+      first true b q = refl
+      first false b q = q
+
+  -- ---- The head
+
+  pub ends : (x : ℕ) → x ≡ le32 s 140 → 132 + 12 + x ≡ endOf s
+  unfolding endOf
+  ends x e = ap (λ (k : ℕ). 132 + 12 + k) e
+
+  pub past-the-file : length s < endOf s → BadHead ≡ headedOf s
+  unfolding headedOf
+  past-the-file h = rw (lt-leb (endOf s) (length s) h)
+
+  -- What the walk along the elements comes to.
+  abbrev pub ofElements : Elements → Meta
+  ofElements (elements.Good f) = ofFound s f
+  ofElements elements.Refused = BadHead
+
+  of-run : (o : Run) → ofElements (walkOf o) ≡ ofRun s o
+  of-run (done stop next rows) = refl
+  of-run (refused code offset) = refl
+
+  headed : endOf s ≤ length s → ofRun s (headOf s) ≡ headedOf s
+  unfolding headedOf
+  headed h = rw (le-leb (endOf s) (length s) h)
+
+  head-is : (end : ℕ) → end ≡ endOf s → elementsAt 8 s 0 (cursor 132 end false) ≡ headOf s
+  unfolding headOf
+  head-is end e = ap (λ (k : ℕ). elementsAt 8 s 0 (cursor 132 k false)) e
+
+  pub walked : (end : ℕ) → end ≡ endOf s → end ≤ length s → (w : Elements) → w ≡ walkOf (elementsAt 8 s 0 (cursor 132 end false)) → ofElements w ≡ headedOf s
+  walked end e h w q = ap ofElements (q ∙ ap walkOf (head-is end e)) ∙ of-run (headOf s) ∙ headed (omega (arith, e))
+
+  pub only-these : (f : Found) → f .only ≡ true → named s (f .class) (f .syntax) ≡ ofFound s f
+  only-these f e = rw e
+
+  pub not-only : (f : Found) → f .only ≡ false → BadHead ≡ ofFound s f
+  not-only f e = rw e

@@ -1,0 +1,265 @@
+// The head of a file: where the data set starts, and where the SOP class stands that the head names; or why it is refused.
+// specs/Meta says what a head is, in the order of the paper; `read_head`, at the end, is the public call. The head's rows are stored
+// nowhere: its elements are walked along, and what is looked for is noted on the way.
+use dataset::Cursor;
+use dataset::Head;
+use dataset::Walk;
+ghost use mathlib.Core.Path.{_≡_};
+ghost use Prim.Native.Nat.{_+_, _-_, _/_, _≤_};
+ghost use mathlib.Core.Bool.{cond, false};
+ghost use lib.ListN.{length};
+ghost use lib.Dec.{eqb};
+ghost use Rattle.dataset.specs.Reading.{elementsAt, valueAt};
+ghost use Rattle.dataset.specs.Header.{cursor};
+ghost use Rattle.dataset.specs.Walk.{Walked, Ready};
+ghost use Rattle.meta.specs.Meta.{isMarked, hasGroupLength, endOf, headOf, uidAt, noted, named, headedOf, metaOf};
+ghost use Rattle.meta.specs.declared.Uid.the-variants.{At};
+ghost use Rattle.meta.specs.Said.{UidWithin, FoundWithin, walkOf, ElementsWithin, MetaWithin};
+
+const SQ: usize = 0x5351;
+
+const UI: usize = 0x5549;
+
+const UL: usize = 0x554C;
+
+const GROUP_LENGTH: usize = 0x0002_0000;
+
+const MEDIA_STORAGE_SOP_CLASS_UID: usize = 0x0002_0002;
+
+const TRANSFER_SYNTAX_UID: usize = 0x0002_0010;
+
+// How deep sequences may stand.
+const DEPTHS: usize = 8;
+
+// Where the head's elements start: after 128 bytes of anything and "DICM".
+const START: usize = 132;
+
+// Where the value of a UID starts and stops.
+pub enum Uid {
+    At(usize, usize),
+    Lacks,
+}
+
+// What the head's elements at depth 0 come to: whether all are of group 0002, and where the two UIDs stand.
+pub struct Found {
+    pub only: bool,
+    pub class: Uid,
+    pub syntax: Uid,
+}
+
+// What the head's elements come to: what was found in them, or that they break a reading check.
+pub enum Elements {
+    Good(Found),
+    Refused,
+}
+
+// What a head says: where the data set starts, and where the SOP class that the head names starts and stops; codes 15, 16, 17.
+pub enum Meta {
+    Good(usize, usize, usize),
+    NoMark,
+    BadHead,
+    OtherSyntax,
+}
+
+fn is_marked(file: &[u8]) -> bool
+    ensures { λ r. ⌜ r ≡ isMarked (now (file .entry)) ⌝ }
+{
+    if file.len() < START {
+        return false;
+    }
+    value::equal(&file[128..132], b"DICM")
+}
+
+fn has_group_length(file: &[u8]) -> bool
+    ensures { λ r. ⌜ r ≡ hasGroupLength (now (file .entry)) ⌝ }
+{
+    if file.len() < START + 12 {
+        return false;
+    }
+    if dataset::tag_at(file, START) != GROUP_LENGTH {
+        return false;
+    }
+    if dataset::vr_at(file, START + 4) != UL {
+        return false;
+    }
+    dataset::u16_at(file, START + 6) == 4
+}
+
+fn uid_at(vr: usize, start: usize, stop: usize) -> Uid
+    requires { ⌜ start ≤ stop ⌝ }
+    ensures { λ r. ⌜ r ≡ uidAt vr start (stop - start) ⌝ }
+    ensures { λ r. ⌜ UidWithin stop r ⌝ }
+{
+    if vr == UI {
+        if stop == start {
+            Uid::Lacks
+        } else {
+            Uid::At(start, stop)
+        }
+    } else {
+        Uid::Lacks
+    }
+}
+
+// The first UID for an element of the tag, else the second.
+fn chosen(tag: usize, due: usize, here: Uid, before: Uid) -> Uid
+    ensures { λ r. ⌜ r ≡ cond (eqb tag due) here before ⌝ }
+{
+    if tag == due { here } else { before }
+}
+
+// Whether all elements are of group 0002, with one more.
+fn only_group_2(tag: usize, before: bool) -> bool
+    ensures { λ r. ⌜ r ≡ cond (eqb (tag / 65536) 2) before false ⌝ }
+{
+    if tag / 65536 == 2 { before } else { false }
+}
+
+// What is found with one more element.
+fn note(found: Found, tag: usize, vr: usize, start: usize, stop: usize) -> Found
+    requires { ⌜ start ≤ stop ⌝ }
+    ensures { λ r. ⌜ r ≡ noted found tag vr start (stop - start) ⌝ }
+{
+    let here = uid_at(vr, start, stop);
+    let class = found.class;
+    let syntax = found.syntax;
+    Found {
+        only: only_group_2(tag, found.only),
+        class: chosen(tag, MEDIA_STORAGE_SOP_CLASS_UID, here, class),
+        syntax: chosen(tag, TRANSFER_SYNTAX_UID, here, syntax),
+    }
+}
+
+// What a value comes to whose rows are numbered from `first`, and stored only where there is room.
+fn past(file: &[u8], vr: usize, value: Cursor, rows: &mut [u32], first: usize) -> Walk
+    requires { ⌜ Ready (now file) value 7 first (length (now rows)) ⌝ }
+    ensures { λ r. ⌜ Walked (valueAt 8 (now (file .entry)) first vr value) value first (now (rows .entry)) (now (rows .exit)) r ⌝ }
+{
+    if vr == SQ {
+        dataset::read_sequence(file, value, DEPTHS - 1, rows, first)
+    } else {
+        Walk::Done(value.end, value.end, first)
+    }
+}
+
+// The head's elements up to `end`, one after another. No room is lent for their rows.
+fn along(file: &[u8], end: usize, none: &mut [u32]) -> Elements
+    requires { ⌜ (132 ≤ end) × ((end ≤ length (now file)) × (length (now none) ≡ 0)) ⌝ }
+    ensures { λ r. ⌜ r ≡ walkOf (elementsAt 8 (now (file .entry)) 0 (cursor 132 end false)) ⌝ }
+    ensures { λ r. ⌜ ElementsWithin (length (now (file .entry))) r ⌝ }
+{
+    let mut here = Cursor {
+        at: START,
+        end,
+        delimited: false,
+    };
+    let mut n: usize = 0;
+    let mut least: usize = 0;
+    let mut found = Found {
+        only: true,
+        class: Uid::Lacks,
+        syntax: Uid::Lacks,
+    };
+    loop {
+        match here.element(file, least, DEPTHS) {
+            Head::Refused(_) => {
+                return Elements::Refused;
+            }
+            Head::End(_) => {
+                return Elements::Good(found);
+            }
+            Head::Header(tag, vr, value) => {
+                let start = value.at;
+                match past(file, vr, value, none, n + 1) {
+                    Walk::Refused(_, _) => {
+                        return Elements::Refused;
+                    }
+                    Walk::Done(stop, next, m) => {
+                        found = note(found, tag, vr, start, stop);
+                        here = here.moved(next);
+                        n = m;
+                        least = tag + 1;
+                    }
+                }
+            }
+        }
+    }
+}
+
+// The two UIDs that stand from a to b and from c to d: both single, and the second Explicit VR Little Endian.
+fn checked(file: &[u8], end: usize, a: usize, b: usize, c: usize, d: usize) -> Meta
+    requires { ⌜ ((end ≡ endOf (now file)) × (end ≤ length (now file))) × (((a ≤ b) × (b ≤ length (now file))) × ((c ≤ d) × (d ≤ length (now file)))) ⌝ }
+    ensures { λ r. ⌜ r ≡ named (now (file .entry)) (At a b) (At c d) ⌝ }
+    ensures { λ r. ⌜ MetaWithin (length (now (file .entry))) r ⌝ }
+{
+    if value::is_single(&file[a..b]) {
+        let syntax = &file[c..d];
+        if value::is_single(syntax) {
+            if value::is_uid(syntax, b"1.2.840.10008.1.2.1") {
+                Meta::Good(end, a, b)
+            } else {
+                Meta::OtherSyntax
+            }
+        } else {
+            Meta::BadHead
+        }
+    } else {
+        Meta::BadHead
+    }
+}
+
+fn names(file: &[u8], end: usize, class: Uid, syntax: Uid) -> Meta
+    requires { ⌜ ((end ≡ endOf (now file)) × (end ≤ length (now file))) × (UidWithin (length (now file)) class × UidWithin (length (now file)) syntax) ⌝ }
+    ensures { λ r. ⌜ r ≡ named (now (file .entry)) class syntax ⌝ }
+    ensures { λ r. ⌜ MetaWithin (length (now (file .entry))) r ⌝ }
+{
+    match class {
+        Uid::Lacks => Meta::BadHead,
+        Uid::At(a, b) => match syntax {
+            Uid::Lacks => Meta::BadHead,
+            Uid::At(c, d) => checked(file, end, a, b, c, d),
+        },
+    }
+}
+
+// The head of a file with a mark and a group length.
+fn headed(file: &[u8]) -> Meta
+    requires { ⌜ 144 ≤ length (now file) ⌝ }
+    ensures { λ r. ⌜ r ≡ headedOf (now (file .entry)) ⌝ }
+    ensures { λ r. ⌜ MetaWithin (length (now (file .entry))) r ⌝ }
+{
+    let end = START + 12 + dataset::u32_at(file, START + 8);
+    if file.len() < end {
+        return Meta::BadHead;
+    }
+    let mut room = [0u32; 1];
+    let none: usize = 0;
+    match along(file, end, &mut room[none..none]) {
+        Elements::Refused => Meta::BadHead,
+        Elements::Good(found) => {
+            let class = found.class;
+            let syntax = found.syntax;
+            if found.only {
+                names(file, end, class, syntax)
+            } else {
+                Meta::BadHead
+            }
+        }
+    }
+}
+
+// What the head of a file says.
+pub fn read_head(file: &[u8]) -> Meta
+    ensures { λ r. ⌜ r ≡ metaOf (now (file .entry)) ⌝ }
+    ensures { λ r. ⌜ MetaWithin (length (now (file .entry))) r ⌝ }
+{
+    if is_marked(file) {
+        if has_group_length(file) {
+            headed(file)
+        } else {
+            Meta::BadHead
+        }
+    } else {
+        Meta::NoMark
+    }
+}
