@@ -1,22 +1,21 @@
 -- What the counting functions ask and say. No paragraph of a paper stands here.
 use mathlib.Core.Path.{_≡_}
-use mathlib.Core.Bool.{Bool, true, false, cond}
+use mathlib.Core.Bool.{Bool, true}
 use mathlib.Core.Logic.{_⊎_}
 use mathlib.Core.List.{List, [], _∷_}
 use mathlib.Core.Option.{some}
 use Prim.Native.Nat.{ℕ, _+_, _-_, _*_, _≤_, _<_, _^_}
-use lib.ListN.{length, getD, set}
+use lib.ListN.{length, getD, set, replicate}
 use Rattle.value.specs.declared.Num.{Num}
 use Rattle.value.specs.declared.Num.the-variants.{Is}
 use Rattle.value.specs.Said.{Below}
-use Rattle.node.specs.Nodes.{Node, nodesOf, root}
+use Rattle.node.specs.Nodes.{Node, nodesOf, nodeAt, root}
 use Rattle.node.specs.Find.{find}
 use Rattle.element.specs.Tags
-use Rattle.element.specs.Elements.{valueAt}
+use Rattle.element.specs.Tags.{OB, OW}
 use Rattle.element.specs.Frames.{framesOf, frameItem}
 use Rattle.conformance.specs.declared.Finding.the-variants as finding
 use Rattle.conformance.specs.Judging.{findingOf}
-use Rattle.window.specs.declared.Window.{Window}
 use Rattle.window.specs.Said.{Drawable}
 use Rattle.pixel.specs.declared.Geometry.{Geometry}
 use Rattle.pixel.specs.Pixel.{isFrame}
@@ -24,7 +23,6 @@ use Rattle.pixel.specs.Said.{Shaped, longestRow}
 use Rattle.lines.specs.Lines.{Shaded}
 use Rattle.steps.specs.Steps.{geometryOf, maskFor, windowFor, inverseOf}
 use Rattle.display.specs.Said.{maskingOf, MaskingBelow}
-use Rattle.display.specs.Show.{pictureOf}
 use Rattle.display.specs.Drawing.{Bytes}
 use Rattle.sheet.specs.declared.Scene.{Scene}
 use Rattle.sheet.specs.declared.Plan.{Plan}
@@ -41,6 +39,11 @@ tallied (y ∷ ys) counts = tallied ys (set counts y (getD counts y 0 + 1))
 -- No count passes 64 bits within n more cells.
 pub record Room (counts : List ℕ) (n : ℕ) : Type 0 where
   pub below : (y : ℕ) → getD counts y 0 + n < 2 ^ 64
+
+-- No sum of 256 of them, times their places, passes 64 bits.
+pub record Few (counts : List ℕ) : Type 0 where
+  pub size : length counts ≡ 256
+  pub below : (y : ℕ) → getD counts y 0 ≤ 281474976710656
 
 -- The first and the last place with a count above 0, or the end of the search.
 pub record First (counts : List ℕ) (r : ℕ) : Type 0 where
@@ -69,6 +72,11 @@ pub record IsScene (ns : List Node) (c : Scene) : Type 0 where
   pub below : c .p < length ns
   pub inverse-is : inverseOf ns ≡ some (c .inverse)
 
+-- Row p is that of the pixel bytes: no sequence and no item.
+pub record IsPixels (ns : List Node) (p : ℕ) : Type 0 where
+  pub below : p < length ns
+  pub is : (nodeAt ns p .vr ≡ OW) ⊎ (nodeAt ns p .vr ≡ OB)
+
 -- The item of frame f.
 pub record IsItem (ns : List Node) (f : ℕ) (item : Num) : Type 0 where
   pub is : item ≡ frameItem ns f
@@ -83,14 +91,13 @@ pub record IsPlan (ns : List Node) (f stored : ℕ) (p : Plan) : Type 0 where
 
 -- ---- Rooms
 
--- The pixel bytes hold the frame, and there is room for two rows and their edges and for a line.
-pub record FrameReady (v : List ℕ) (g : Geometry) (f : ℕ) (upper lower line : List ℕ) : Type 0 where
+-- The pixel bytes hold the frame, and there is room for a line.
+pub record FrameReady (v : List ℕ) (g : Geometry) (f : ℕ) (line : List ℕ) : Type 0 where
   pub shape : Shaped g
   pub inside : isFrame g v f ≡ true
-  pub above : longestRow ≤ length upper
-  pub below : longestRow ≤ length lower
   pub wide : 65535 ≤ length line
 
+-- The lengths of all rooms.
 pub record Rooms (table upper lower line : List ℕ) : Type 0 where
   pub shades : length table ≡ 131072
   pub above : longestRow ≤ length upper
@@ -102,3 +109,9 @@ pub record IsHeld (stored : ℕ) (inverse : Bool) (h : Held) (table : List ℕ) 
   pub shaded : Shaded (h .shades) stored table
   pub inverse-is : h .shades .inverse ≡ inverse
   pub spent-few : h .spent < 131072
+
+-- Nothing counted yet.
+pub record IsNothing (stored : ℕ) (inverse : Bool) (c : Counted) : Type 0 where
+  pub counts-are : c .counts ≡ replicate 256 0
+  pub natives-are : c .natives ≡ 0
+  pub held-is : (table : List ℕ) → IsHeld stored inverse (c .held) table

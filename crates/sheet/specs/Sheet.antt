@@ -7,6 +7,7 @@ use mathlib.Core.List.{List, [], _∷_, _++_}
 use lib.ListN.{replicate}
 use lib.Dec.{eqb}
 use Rattle.node.specs.Nodes.{Node}
+use Rattle.lines.specs.Lines.{upTo}
 use Rattle.display.specs.Show.{pictureOf}
 use Rattle.sheet.specs.declared.Sheet.{Sheet}
 
@@ -29,12 +30,7 @@ unfoldable pub times : ℕ → List ℕ → ℕ
 times y [] = 0
 times y (x ∷ xs) = cond (eqb x y) 1 0 + times y xs
 
--- f 0, f 1, .. up to f (n - 1).
-unfoldable pub upTo : (ℕ → ℕ) → ℕ → List ℕ
-upTo f zero = []
-upTo f (suc n) = upTo f n ++ (f n ∷ [])
-
--- The count of each level, from 0 to 255.
+-- The count of each level, from 0 to 255 (`upTo f n` is f 0, f 1, .. up to f (n - 1)).
 abbrev pub countsOf : List ℕ → List ℕ
 countsOf levels = upTo (λ y. times y levels) 256
 
