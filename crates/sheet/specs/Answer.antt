@@ -9,7 +9,7 @@ use Rattle.conformance.specs.Judging.{judgeOf}
 use Rattle.conformance.specs.declared.JudgeAnswer.{JudgeAnswer}
 use Rattle.conformance.specs.declared.JudgeAnswer.the-variants as judged
 use Rattle.display.specs.Show.{isFrameOf}
-use Rattle.sheet.specs.declared.Sheet.{Sheet}
+use Rattle.sheet.specs.declared.Numbers.{Numbers}
 use Rattle.sheet.specs.declared.SheetAnswer.{SheetAnswer}
 use Rattle.sheet.specs.declared.SheetAnswer.the-variants as answer
 use Rattle.sheet.specs.declared.Sampled.{Sampled}
@@ -30,7 +30,7 @@ answerFor ns a b judged.TooLarge = answer.TooLarge
 answerFor ns a b judged.NoRoom = answer.NoRoom
 
 -- The sheet that comes with an answer.
-abbrev pub sheetFor : List Node → ℕ → ℕ → SheetAnswer → Sheet
+abbrev pub sheetFor : List Node → ℕ → ℕ → SheetAnswer → Numbers
 sheetFor ns a b (answer.Done n) = framesSheet ns a b
 sheetFor ns a b (answer.Broken n rule frame) = noSheet
 sheetFor ns a b (answer.Refused code offset) = noSheet

@@ -13,7 +13,7 @@ use Rattle.dataset.specs.Tree.{rowsOf}
 use Rattle.node.specs.Nodes.{nodesOf}
 use Rattle.display.specs.Show.{imageSize}
 use Rattle.display.specs.Drawing.{Bytes, IsAccepted, IsFrame, Whole}
-use Rattle.sheet.specs.declared.Sheet.{Sheet}
+use Rattle.sheet.specs.declared.Numbers.{Numbers}
 use Rattle.sheet.specs.Sheet.{sumOf, framesSheet, noSheet}
 use Rattle.sheet.specs.Answer.{sheetOf, codeOf, rowCountOf}
 
@@ -29,11 +29,11 @@ total f zero = 0
 total f (suc n) = total f n + f n
 
 -- How often level y was drawn.
-abbrev pub count : Sheet → ℕ → ℕ
+abbrev pub count : Numbers → ℕ → ℕ
 count t y = getD (t .counts) y 0
 
 -- What the numbers of a sheet are to each other, for n frames of so many cells.
-pub record Consistent (t : Sheet) (n cells : ℕ) : Type 0 where
+pub record Consistent (t : Numbers) (n cells : ℕ) : Type 0 where
   pub levels : length (t .counts) ≡ 256
   -- The counts add up.
   pub adds-up : sumOf (t .counts) ≡ n * cells
@@ -43,7 +43,7 @@ pub record Consistent (t : Sheet) (n cells : ℕ) : Type 0 where
   pub lowest-drawn : 1 ≤ count t (t .lowest)
   pub none-below : (y : ℕ) → y < t .lowest → count t y ≡ 0
   pub highest-drawn : 1 ≤ count t (t .highest)
-  pub none-above : (y : ℕ) → t .highest < y → count t y ≡ 0
+  pub none-above : (y : ℕ) → t .highest < y → y < 256 → count t y ≡ 0
   pub natives-few : t .natives ≤ n
 
 -- What `sheet` hands back with code 0.

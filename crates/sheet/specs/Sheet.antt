@@ -9,7 +9,7 @@ use lib.Dec.{eqb}
 use Rattle.node.specs.Nodes.{Node}
 use Rattle.lines.specs.Lines.{upTo}
 use Rattle.display.specs.Show.{pictureOf}
-use Rattle.sheet.specs.declared.Sheet.{Sheet}
+use Rattle.sheet.specs.declared.Numbers.{Numbers}
 
 -- ---- The pictures of n frames from frame a on
 
@@ -49,14 +49,14 @@ sumOf (y ∷ ys) = y + sumOf ys
 
 -- ---- The sheet
 
-abbrev pub sheetBy : List ℕ → ℕ → Sheet
+abbrev pub sheetBy : List ℕ → ℕ → Numbers
 sheetBy levels natives =
     record { counts = countsOf levels; natives = natives; lowest = lowestOf levels; highest = highestOf levels; sum = sumOf levels }
 
 -- The sheet of frames a to b.
-unfoldable pub framesSheet : List Node → ℕ → ℕ → Sheet
+unfoldable pub framesSheet : List Node → ℕ → ℕ → Numbers
 framesSheet ns a b = sheetBy (levelsOf ns a (b - a + 1)) (nativesOf ns a (b - a + 1))
 
 -- The sheet of zeros, which comes with a refusal.
-abbrev pub noSheet : Sheet
+abbrev pub noSheet : Numbers
 noSheet = record { counts = replicate 256 0; natives = 0; lowest = 0; highest = 0; sum = 0 }

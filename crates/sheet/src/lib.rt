@@ -53,7 +53,7 @@ pub enum SheetAnswer {
 }
 
 // 256 counts of levels, the number of native frames, the lowest and the highest level, and the sum of all levels.
-pub struct Sheet {
+pub struct Numbers {
     pub counts: [u64; 256],
     pub natives: usize,
     pub lowest: usize,
@@ -64,7 +64,7 @@ pub struct Sheet {
 // An answer and the sheet that comes with it.
 pub struct Sampled {
     pub answer: SheetAnswer,
-    pub sheet: Sheet,
+    pub sheet: Numbers,
 }
 
 // ---- Counting levels
@@ -336,7 +336,7 @@ fn item_here(bytes: &[u8], rows: &[u32], items: Items, frame: usize) -> Num
 // ---- The table of levels
 
 fn same_signed(a: Signed, b: Signed) -> bool
-    ensures { λ r. ⌜ r ≡ true → a ≡ b ⌝ }
+    ensures { λ r. ⌜ (r ≡ true → a ≡ b) ⌝ }
 {
     match a {
         Signed::Plus(m) => match b {
@@ -354,7 +354,7 @@ fn same_signed(a: Signed, b: Signed) -> bool
 }
 
 fn same_function(a: Function, b: Function) -> bool
-    ensures { λ r. ⌜ r ≡ true → a ≡ b ⌝ }
+    ensures { λ r. ⌜ (r ≡ true → a ≡ b) ⌝ }
 {
     match a {
         Function::Linear => match b {
@@ -372,11 +372,17 @@ fn same_function(a: Function, b: Function) -> bool
 }
 
 fn same_window(a: Window, b: Window) -> bool
-    ensures { λ r. ⌜ r ≡ true → a ≡ b ⌝ }
+    ensures { λ r. ⌜ (r ≡ true → a ≡ b) ⌝ }
 {
-    if same_signed(a.center, b.center) {
-        if same_signed(a.width, b.width) {
-            same_function(a.function, b.function)
+    let center = a.center;
+    let other = b.center;
+    let width = a.width;
+    let otherwidth = b.width;
+    let function = a.function;
+    let otherfunction = b.function;
+    if same_signed(center, other) {
+        if same_signed(width, otherwidth) {
+            same_function(function, otherfunction)
         } else {
             false
         }
@@ -402,14 +408,13 @@ fn shades_by(
     requires { ⌜ Drawable window × ((1 ≤ stored) × ((stored ≤ 16) × (length (now table) ≡ 131072))) ⌝ }
     ensures { λ r. ⌜ (r .shades .window ≡ window) × IsHeld stored inverse r (now (table .exit)) ⌝ }
 {
-    let filled = window::power(stored + 1) <= spent;
-    if filled {
+    if window::power(stored + 1) <= spent {
         lines::fill(window, stored, inverse, table);
         Held {
             shades: Shades {
                 window,
                 inverse,
-                filled,
+                filled: true,
             },
             spent: 0,
         }
@@ -418,7 +423,7 @@ fn shades_by(
             shades: Shades {
                 window,
                 inverse,
-                filled,
+                filled: false,
             },
             spent,
         }
@@ -437,10 +442,11 @@ fn shades_for(
     requires { ⌜ Drawable window × ((1 ≤ stored) × ((stored ≤ 16) × ((length (now table) ≡ 131072) × ((cells ≤ 4294836225) × IsHeld stored inverse held (now table))))) ⌝ }
     ensures { λ r. ⌜ (r .shades .window ≡ window) × IsHeld stored inverse r (now (table .exit)) ⌝ }
 {
-    let before = held.shades;
+    let last = held.shades;
     let spent = held.spent;
-    if same_window(window, before.window) {
-        if before.filled {
+    let old = last.window;
+    if same_window(window, old) {
+        if last.filled {
             held
         } else {
             shades_by(window, stored, inverse, spent + cells, table)
@@ -516,42 +522,31 @@ fn count_picture(
     frame: usize,
     n: usize,
     item: Num,
-    so_far: Counted,
+    sofar: Counted,
     table: &mut [u8],
     upper: &mut [u32],
     lower: &mut [u32],
     line: &mut [u8],
 ) -> Counted
-    requires { ⌜ Table (now bytes) (now rows) × (IsObject (now bytes) n × (IsScene (nodesOf (now bytes)) c × (IsItem (nodesOf (now bytes)) frame item × ((1 ≤ frame) × ((frame ≤ n) × (Rooms (now table) (now upper) (now lower) (now line) × (IsHeld (c .g .stored) (c .inverse) (so_far .held) (now table) × ((so_far .natives < 65536) × Room (so_far .counts) (imageSize (nodesOf (now bytes))))))))))) ⌝ }
-    ensures { λ r. ⌜ (r .counts ≡ tallied (pictureOf (nodesOf (now (bytes .entry))) frame .samples) (so_far .counts)) × ((r .natives ≡ cond (pictureOf (nodesOf (now (bytes .entry))) frame .masked) 0 1 + so_far .natives) × IsHeld (c .g .stored) (c .inverse) (r .held) (now (table .exit))) ⌝ }
+    requires { ⌜ Table (now bytes) (now rows) × (IsObject (now bytes) n × (IsScene (nodesOf (now bytes)) c × (IsItem (nodesOf (now bytes)) frame item × ((1 ≤ frame) × ((frame ≤ n) × (Rooms (now table) (now upper) (now lower) (now line) × (IsHeld (c .g .stored) (c .inverse) (sofar .held) (now table) × ((sofar .natives < 65536) × Room (sofar .counts) (imageSize (nodesOf (now bytes))))))))))) ⌝ }
+    ensures { λ r. ⌜ (r .counts ≡ tallied (pictureOf (nodesOf (now (bytes .entry))) frame .samples) (sofar .counts)) × ((r .natives ≡ cond (pictureOf (nodesOf (now (bytes .entry))) frame .masked) 0 1 + sofar .natives) × IsHeld (c .g .stored) (c .inverse) (r .held) (now (table .exit))) ⌝ }
 {
     let g = c.g;
     let stored = g.stored;
+    let inverse = c.inverse;
+    let cells = g.rows * g.columns;
+    let old = sofar.counts;
+    let some = sofar.natives;
+    let last = sofar.held;
     let own = plan_of(bytes, rows, c, frame, n, item);
+    let window = own.window;
     let masking = own.masking;
-    let held = shades_for(
-        own.window,
-        stored,
-        c.inverse,
-        g.rows * g.columns,
-        so_far.held,
-        table,
-    );
+    let held = shades_for(window, stored, inverse, cells, last, table);
     let shades = held.shades;
     let counts = count_frame(
-        bytes,
-        rows,
-        c,
-        frame,
-        masking,
-        shades,
-        table,
-        upper,
-        lower,
-        line,
-        so_far.counts,
+        bytes, rows, c, frame, masking, shades, table, upper, lower, line, old,
     );
-    let natives = native_number(masking) + so_far.natives;
+    let natives = native_number(masking) + some;
     Counted {
         counts,
         natives,
@@ -597,17 +592,17 @@ fn count_frames(
 {
     let mut items = start;
     let g = c.g;
-    let mut so_far = nothing(g.stored, c.inverse);
+    let mut sofar = nothing(g.stored, c.inverse);
     let end = b + 1;
     for frame in a..end {
         let item = item_here(bytes, rows, items, frame);
         let next = count_picture(
-            bytes, rows, c, frame, n, item, so_far, table, upper, lower, line,
+            bytes, rows, c, frame, n, item, sofar, table, upper, lower, line,
         );
-        so_far = next;
+        sofar = next;
         items = element::advance(bytes, rows, items);
     }
-    so_far
+    sofar
 }
 
 // The items from frame a's on.
@@ -667,7 +662,7 @@ fn last_drawn(counts: [u64; 256]) -> usize
 }
 
 // The sheet of frames a to b of an accepted object of n frames. All rooms are made here, once.
-fn sample_frames(bytes: &[u8], rows: &[u32], n: usize, a: usize, b: usize) -> Sheet
+fn sample_frames(bytes: &[u8], rows: &[u32], n: usize, a: usize, b: usize) -> Numbers
     requires { ⌜ Table (now bytes) (now rows) × (IsObject (now bytes) n × ((1 ≤ a) × ((a ≤ b) × (b ≤ n)))) ⌝ }
     ensures { λ r. ⌜ r ≡ framesSheet (nodesOf (now (bytes .entry))) a b ⌝ }
 {
@@ -681,7 +676,7 @@ fn sample_frames(bytes: &[u8], rows: &[u32], n: usize, a: usize, b: usize) -> Sh
         bytes, rows, c, n, start, a, b, &mut table, &mut upper, &mut lower, &mut line,
     );
     let counts = done.counts;
-    Sheet {
+    Numbers {
         counts,
         natives: done.natives,
         lowest: first_drawn(counts),
@@ -698,7 +693,7 @@ fn refused(answer: SheetAnswer) -> Sampled
 {
     Sampled {
         answer,
-        sheet: Sheet {
+        sheet: Numbers {
             counts: [0; 256],
             natives: 0,
             lowest: 0,
