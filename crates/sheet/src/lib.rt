@@ -11,9 +11,9 @@ ghost use Rattle.node.specs.Nodes.{nodesOf};
 ghost use Rattle.node.specs.Table.{Table};
 ghost use Rattle.element.specs.Along.{Along};
 ghost use Rattle.element.specs.Elements.{valueAt};
-ghost use Rattle.element.specs.Frames.{frameItems};
+ghost use Rattle.element.specs.Frames.{framesOf, frameItems};
 ghost use Rattle.conformance.specs.declared.Finding.the-variants as finding;
-ghost use Rattle.conformance.specs.Judging.{findingOf};
+ghost use Rattle.conformance.specs.Judging.{numberOf, findingOf};
 ghost use Rattle.window.specs.Said.{Drawable};
 ghost use Rattle.pixel.specs.Pixel.{samplesOf};
 ghost use Rattle.pixel.specs.Painted.{nativeShade, maskedShade};
@@ -21,7 +21,7 @@ ghost use Rattle.pixel.specs.Said.{longestRow, Masks, shifted, Averaged, quarte
 ghost use Rattle.lines.specs.Lines.{upTo, shadesOf, Shaded, MaskedBy};
 ghost use Rattle.display.specs.Said.{isMasked, shadeBy, MasksReady};
 ghost use Rattle.display.specs.Show.{imageSize, pictureOf};
-ghost use Rattle.sheet.specs.Sheet.{levelsOf, nativesOf, countsOf, framesSheet, noSheet};
+ghost use Rattle.sheet.specs.Sheet.{levelsOf, nativesOf, countsOf, framesSheet, noSheet, numbersIn};
 ghost use Rattle.sheet.specs.Answer.{acceptedAnswer, withSheet, sheetOf};
 ghost use Rattle.sheet.specs.Sampling.{total};
 ghost use Rattle.sheet.specs.Said.{tallied, Room, Few, First, Last, IsObject, IsScene, IsPixels, IsItem, IsPlan, FrameReady, Rooms, IsHeld, IsNothing};
@@ -742,6 +742,63 @@ pub fn sheet(bytes: &[u8], first: u64, last: u64, rows: &mut [u32]) -> Sampled
         JudgeAnswer::Accepted(count) => {
             let end = dataset::WIDTH * count;
             sheet_table(bytes, &rows[..end], first as usize, last as usize, count)
+        }
+    }
+}
+
+// The number of frames, which an accepted object has.
+fn last_frame(bytes: &[u8], rows: &[u32]) -> usize
+    requires { ⌜ Table (now bytes) (now rows) ⌝ }
+    ensures { λ r. ⌜ r ≡ numberOf (framesOf (nodesOf (now (bytes .entry)))) ⌝ }
+{
+    match element::frame_count(bytes, rows) {
+        Num::Is(n) => n,
+        Num::Lacks => 0,
+    }
+}
+
+// The sheet of all frames, from 1 to the number of frames.
+pub fn whole(bytes: &[u8], rows: &mut [u32]) -> Sampled
+    ensures { λ r. ⌜ r ≡ sheetOf (now (bytes .entry)) 1 (numberOf (framesOf (nodesOf (now (bytes .entry))))) (now (rows .entry)) ⌝ }
+    ensures { λ _. ⌜ now (rows .exit) ≡ bufferOf (readingOf (now (bytes .entry))) (now (rows .entry)) ⌝ }
+{
+    match conformance::judge(bytes, rows) {
+        JudgeAnswer::TooLarge => refused(SheetAnswer::TooLarge),
+        JudgeAnswer::Refused(code, offset) => refused(SheetAnswer::Refused(code, offset)),
+        JudgeAnswer::NoRoom => refused(SheetAnswer::NoRoom),
+        JudgeAnswer::Broken(count, rule, broken) => {
+            refused(SheetAnswer::Broken(count, rule, broken))
+        }
+        JudgeAnswer::Accepted(count) => {
+            let end = dataset::WIDTH * count;
+            let table = &rows[..end];
+            let last = last_frame(bytes, table);
+            sheet_table(bytes, table, 1, last, count)
+        }
+    }
+}
+
+// Number k of a sheet, in the order named.
+pub fn number_at(t: Numbers, k: usize) -> u64
+    requires { ⌜ (length (t .counts) ≡ 256) × (k < 260) ⌝ }
+    ensures { λ r. ⌜ r ≡ getD (numbersIn t) k 0 ⌝ }
+{
+    let counts = t.counts;
+    if k < 256 {
+        counts[k]
+    } else {
+        if k == 256 {
+            t.natives as u64
+        } else {
+            if k == 257 {
+                t.lowest as u64
+            } else {
+                if k == 258 {
+                    t.highest as u64
+                } else {
+                    t.sum as u64
+                }
+            }
         }
     }
 }
