@@ -6,6 +6,7 @@ use mathlib.Core.Option.{Option, some}
 use Prim.Native.Nat.{ℕ, zero, suc, _+_, _-_, _*_, _^_, _≤_, _<_}
 use native.Mathlib.Omega.{arith}
 use lib.ListN.{length, getD, drop}
+use borrow.Author.Tests.{le-leb}
 use Rattle.value.specs.declared.Num.{Num}
 use Rattle.value.specs.declared.Num.the-variants.{Is, Lacks}
 use Rattle.node.specs.Nodes.{Node, nodesOf, members}
@@ -26,12 +27,12 @@ use Rattle.sheet.proofs.Runs.{tallied-most}
 
 -- ---- Items
 
-module _ (ns : List Node) (f : ℕ) (c : Items) (w : Along ns (drop (f - 1) (frameItems ns)) c) where
+module _ (ns : List Node) (f : ℕ) (c : Items) (w : Along ns (drop (f - 1) (frameItems ns)) c) (low : 1 ≤ f) where
   pub item-some : c .at < c .end → IsItem ns f (Is (c .at))
-  item-some h = record { is = sym (ap first (sym (w .ahead) ∙ members-next ns (c .at) (c .end) h)); below = omega (arith, w .inner) }
+  item-some h = record { is = rw (le-leb 1 f low) (sym (ap first (sym (w .ahead) ∙ members-next ns (c .at) (c .end) h))); below = omega (arith, w .inner) }
 
   pub item-none : c .end ≤ c .at → IsItem ns f Lacks
-  item-none h = record { is = sym (ap first (sym (w .ahead) ∙ members-end ns (c .at) (c .end) h)); below = tt }
+  item-none h = record { is = rw (le-leb 1 f low) (sym (ap first (sym (w .ahead) ∙ members-end ns (c .at) (c .end) h))); below = tt }
 
 -- ---- Levels and room
 

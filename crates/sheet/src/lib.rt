@@ -389,7 +389,7 @@ fn plan_of(bytes: &[u8], rows: &[u32], c: Scene, frame: usize, n: usize, item: N
 
 // The item of a frame, at a cursor that is stepped along the items with the frames.
 fn item_here(bytes: &[u8], rows: &[u32], items: Items, frame: usize) -> Num
-    requires { ⌜ Table (now bytes) (now rows) × Along (nodesOf (now bytes)) (drop (frame - 1) (frameItems (nodesOf (now bytes)))) items ⌝ }
+    requires { ⌜ Table (now bytes) (now rows) × (Along (nodesOf (now bytes)) (drop (frame - 1) (frameItems (nodesOf (now bytes)))) items × (1 ≤ frame)) ⌝ }
     ensures { λ r. ⌜ IsItem (nodesOf (now (bytes .entry))) frame r ⌝ }
 {
     let at = items.at;

@@ -39,7 +39,7 @@ loop-holds c =
 
 item-here-requires : tie.Need-item-here-requires Inv-loop μ-loop
 item-here-requires c κs =
-    (c .before .before .before .before .before .before .before .before .before .before .pre .0, c .before .loop .inv .1 .1 .0)
+    (c .before .before .before .before .before .before .before .before .before .before .pre .0, (c .before .loop .inv .1 .1 .0, omega (arith, c .before .loop .inv .0, c .before .before .before .before .before .before .before .before .before .before .pre .1 .1 .1 .1 .0)))
 
 count-picture-requires : tie.Need-count-picture-requires Inv-loop μ-loop
 count-picture-requires c κs =
