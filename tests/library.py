@@ -58,6 +58,8 @@ SIGNATURES = {
                                        ctypes.c_size_t]),
     "xa_linear": (AnswerStruct, [ctypes.c_void_p, ctypes.c_size_t, ctypes.c_uint64, ctypes.c_void_p, ctypes.c_size_t,
                                  ctypes.c_void_p, ctypes.c_size_t]),
+    "xa_sheet": (AnswerStruct, [ctypes.c_void_p, ctypes.c_size_t, ctypes.c_uint64, ctypes.c_uint64, ctypes.c_void_p, ctypes.c_size_t,
+                                ctypes.c_void_p, ctypes.c_size_t]),
     "xa_root_level": (ctypes.c_uint8, [ctypes.c_uint64]),
     "xa_root_entry": (ctypes.c_uint16, [ctypes.c_uint8]),
     "xa_write_slip": (ctypes.c_uint32, [AnswerStruct, ctypes.c_uint32, ctypes.c_void_p, ctypes.c_size_t]),
@@ -211,6 +213,21 @@ class Library:
                                              values_buffer_length)
         return Observation(answer_of(result), rows, GuardedBuffer(0), self.input, values)
 
+    def sheet(self, data, first, last, row_buffer_length, sheet_length):
+        address = self._place(data)
+        rows = GuardedBuffer(4 * row_buffer_length)
+        sheet = GuardedBuffer(8 * sheet_length)
+        result = self.functions["xa_sheet"](address, len(data), first, last, rows.address, row_buffer_length, sheet.address, sheet_length)
+        return Observation(answer_of(result), rows, GuardedBuffer(0), self.input, sheet=sheet)
+
+    def sheet_on_mapping(self, memory, row_buffer_length, sheet_length):
+        """The call on a large mapping (for the size limit), frames 1 to 1; whether it changed is not looked at."""
+        address = ctypes.addressof(ctypes.c_char.from_buffer(memory))
+        rows = GuardedBuffer(4 * row_buffer_length)
+        sheet = GuardedBuffer(8 * sheet_length)
+        result = self.functions["xa_sheet"](address, len(memory), 1, 1, rows.address, row_buffer_length, sheet.address, sheet_length)
+        return Observation(answer_of(result), rows, GuardedBuffer(0), None, sheet=sheet)
+
     def root_level(self, cell):
         return int(self.functions["xa_root_level"](cell))
 
@@ -275,18 +292,21 @@ def packed(numbers):
 class Observation:
     """What a call answered, with the buffers that it was given."""
 
-    def __init__(self, answer, rows, image, input_memory, values=None):
+    def __init__(self, answer, rows, image, input_memory, values=None, sheet=None):
         self.answer = answer
         self.rows = rows
         self.image = image
         self.input = input_memory
         self.values = values
+        self.sheet = sheet
 
     def difference(self, expected):
         """None if the call did what the outcome `expected` says; else the first thing that differs, in words."""
         buffers = [("row buffer", self.rows, packed(expected.rows)), ("image buffer", self.image, expected.image)]
         if self.values:
             buffers.append(("values buffer", self.values, struct.pack(f"<{len(expected.values)}H", *expected.values)))
+        if self.sheet:
+            buffers.append(("sheet", self.sheet, struct.pack(f"<{len(expected.sheet)}Q", *expected.sheet)))
         return difference_in(buffers, self.answer, expected.answer, self.input)
 
 

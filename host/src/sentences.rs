@@ -73,6 +73,7 @@ pub fn code(number: u32) -> &'static str {
         16 => "the file's head is not as it must be: its group length first, its elements whole and all of group 0002, both UIDs there and single",
         17 => "another transfer syntax than Explicit VR Little Endian",
         18 => "the file's head and its data set name different SOP classes, or the data set names none",
+        19 => "the first frame is above the last",
         20 => "the frame has no TO_LINEAR item",
         21 => "too little room for the canonical form",
         _ => "unknown code",

@@ -18,13 +18,15 @@ class Outcome(NamedTuple):
     """An answer together with what the call writes.
 
     `rows` are the numbers written to the front of the row buffer, `image` the bytes written to the front of the image
-    buffer, `values` the 16-bit numbers written to the front of the values buffer. What lies behind them keeps what it had.
+    buffer, `values` the 16-bit numbers written to the front of the values buffer, `sheet` the 64-bit numbers written to the front of the
+    sheet's buffer. What lies behind them keeps what it had.
     """
 
     answer: Answer
     rows: tuple = ()
     image: bytes = b""
     values: tuple = ()
+    sheet: tuple = ()
 
 
 DONE = 0
@@ -46,5 +48,6 @@ NO_MARK = 15  # Q-1
 BAD_HEAD = 16
 OTHER_TRANSFER_SYNTAX = 17
 SOP_CLASSES_DIFFER = 18
+FIRST_ABOVE_LAST = 19  # Q-5
 NO_TO_LINEAR_ITEM = 20
 TARGET_TOO_SMALL = 21  # Q-10

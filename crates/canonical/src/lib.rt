@@ -129,7 +129,8 @@ fn lacks_room(bytes: &[u8], rows: &[u32], room: usize) -> bool
 // ---- Nodes into the target
 
 // Writes the nodes from `from` up to `to`, and answers where the next one goes. What is below a node is written before its header, since its
-// length is then known: each node is written once, and gone down to at most 16 deep.
+// length is then known, and each node is written once. The calls are at most 17 deep: one for each of the 16 levels of sequences and items,
+// and one for a node with nothing below it.
 fn put_members(
     bytes: &[u8],
     rows: &[u32],

@@ -134,7 +134,7 @@ fn applying(bytes: &[u8], rows: &[u32], frame: usize, n: usize) -> Applying
 }
 
 // Steps 2 to 4: what masks the frame. Where no mask item applies the frame is native.
-fn mask_for(bytes: &[u8], rows: &[u32], frame: usize, item: Num, n: usize) -> Masking
+pub fn mask_for(bytes: &[u8], rows: &[u32], frame: usize, item: Num, n: usize) -> Masking
     requires { ⌜ Table (now bytes) (now rows) × ((item ≡ frameItem (nodesOf (now bytes)) frame) × (Below (length (nodesOf (now bytes))) item × ((frame < 4294967296) × Gives n (maskFor (nodesOf (now bytes)) frame)))) ⌝ }
     ensures { λ r. ⌜ maskingOf (nodesOf (now (bytes .entry))) r ≡ maskFor (nodesOf (now (bytes .entry))) frame ⌝ }
     ensures { λ r. ⌜ MaskingBelow (length (nodesOf (now (bytes .entry)))) r ⌝ }
@@ -188,7 +188,7 @@ fn paint(
 }
 
 // Step 7: whether the picture is inverted.
-fn is_inverse(bytes: &[u8], rows: &[u32]) -> bool
+pub fn is_inverse(bytes: &[u8], rows: &[u32]) -> bool
     requires { ⌜ Table (now bytes) (now rows) × GivesInverse (inverseOf (nodesOf (now bytes))) ⌝ }
     ensures { λ r. ⌜ inverseOf (nodesOf (now (bytes .entry))) ≡ some r ⌝ }
 {

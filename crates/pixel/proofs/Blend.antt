@@ -180,7 +180,7 @@ blend-shade g v table upper lower w from right c s p a h k o = rw (h, k, o)
 -- A row's shades are those of its samples.
 module _ (table v : List ℕ) (g : Geometry) (f : ℕ) (ks upper lower : List ℕ) (down right r : ℕ) (most : right ≤ 512)
     (u : Averaged v g ks (shifted (down / 4) (g .rows) r) upper) (l : Averaged v g ks (shifted (down / 4 + 1) (g .rows) r) lower) where
-  blend-offset : (c : ℕ) → c < g .columns → blendShade table g v ((f - 1) * samplesOf g + r * g .columns) upper lower (weightsOf (down % 4) (right % 4)) (right / 4) c ≡ quarterShade table g v f ks down right (r * g .columns + c)
+  pub blend-offset : (c : ℕ) → c < g .columns → blendShade table g v ((f - 1) * samplesOf g + r * g .columns) upper lower (weightsOf (down % 4) (right % 4)) (right / 4) c ≡ quarterShade table g v f ks down right (r * g .columns + c)
   unfolding blendShade quarterShade
   blend-offset c hc =
       let s : right / 4 ≤ 128 = omega (arith, div-add-mod' right 4) in

@@ -30,16 +30,16 @@ const SCALE: usize = 4294967296;
 const MARGIN: usize = 64;
 
 // Moves and offsets count quarters of a pixel.
-const UNIT: usize = 4;
+pub const UNIT: usize = 4;
 
 // The largest move in quarters.
 const MOST: usize = UNIT * MARGIN;
 
 // A row's room beside its columns: the two edges, and one place more for the right neighbour.
-const EDGES: usize = 2 * MARGIN + 1;
+pub const EDGES: usize = 2 * MARGIN + 1;
 
 // The longest row with its edges.
-const LONGEST: usize = 65535 + EDGES;
+pub const LONGEST: usize = 65535 + EDGES;
 
 // ---- Frames
 
@@ -105,7 +105,7 @@ fn at_most(i: usize, most: usize) -> usize
 }
 
 // The offset of a move, in quarters: the largest move less it, since a move down or to the right takes samples from above or from the left.
-fn offset_of(m: Signed) -> usize
+pub fn offset_of(m: Signed) -> usize
     requires { ⌜ SizeBelow tooFar m ⌝ }
     ensures { λ r. ⌜ OffsetOf m r ⌝ }
 {
@@ -117,7 +117,7 @@ fn offset_of(m: Signed) -> usize
 }
 
 // Where place i comes to by an offset, of `size` places.
-fn moved(s: usize, size: usize, i: usize) -> usize
+pub fn moved(s: usize, size: usize, i: usize) -> usize
     requires { ⌜ (i < size) × ((size ≤ 65535) × (s ≤ edges)) ⌝ }
     ensures { λ r. ⌜ (r ≡ shifted s size i) × (r < size) ⌝ }
 {
@@ -177,7 +177,7 @@ fn spread(columns: usize, sums: &mut [u32])
 }
 
 // The sums of the mask frames' samples in a row, with its edges.
-fn mask_row(pixels: &[u8], g: Geometry, masks: &[u8], row: usize, sums: &mut [u32])
+pub fn mask_row(pixels: &[u8], g: Geometry, masks: &[u8], row: usize, sums: &mut [u32])
     requires { ⌜ Shaped g × (Masks (now pixels) g (now masks) × ((row < g .rows) × (g .columns + edges ≤ length (now sums)))) ⌝ }
     ensures { λ _. ⌜ Spread (now (pixels .entry)) g (usValues (now (masks .entry))) row (now (sums .exit)) ⌝ }
 {
@@ -189,21 +189,21 @@ fn mask_row(pixels: &[u8], g: Geometry, masks: &[u8], row: usize, sums: &mut [u3
 // ---- Masked frames
 
 // floor((2 sum + n) / 2n), by a multiplication.
-fn average(sum: usize, n: usize, factor: usize) -> usize
+pub fn average(sum: usize, n: usize, factor: usize) -> usize
     requires { ⌜ (1 ≤ n) × ((n ≤ 64) × ((sum ≤ 4194240) × (factor ≡ 4294967296 / (2 * n) + 1))) ⌝ }
     ensures { λ r. ⌜ r ≡ averageOf sum n ⌝ }
 {
     (2 * sum + n) * factor / SCALE
 }
 
-fn wider(x: u32) -> usize
+pub fn wider(x: u32) -> usize
     ensures { λ r. ⌜ r ≡ x ⌝ }
 {
     x as usize
 }
 
 // Draws a row of a frame from the sums of a row of n mask frames and the offset to the right.
-fn draw_row(
+pub fn draw_row(
     pixels: &[u8],
     g: Geometry,
     from: usize,
@@ -266,7 +266,7 @@ fn average_all(n: usize, count: usize, sums: &mut [u32])
 }
 
 // The averages of the mask frames' samples in a row, with its edges.
-fn average_row(pixels: &[u8], g: Geometry, masks: &[u8], row: usize, cells: &mut [u32])
+pub fn average_row(pixels: &[u8], g: Geometry, masks: &[u8], row: usize, cells: &mut [u32])
     requires { ⌜ Shaped g × (Masks (now pixels) g (now masks) × ((row < g .rows) × (g .columns + edges ≤ length (now cells)))) ⌝ }
     ensures { λ _. ⌜ Averaged (now (pixels .entry)) g (usValues (now (masks .entry))) row (now (cells .exit)) ⌝ }
 {
@@ -275,7 +275,7 @@ fn average_row(pixels: &[u8], g: Geometry, masks: &[u8], row: usize, cells: &mut
     average_all(masks.len() / 2, columns + EDGES, cells);
 }
 
-fn copy(count: usize, from: &[u32], to: &mut [u32])
+pub fn copy(count: usize, from: &[u32], to: &mut [u32])
     requires { ⌜ (count ≤ length (now from)) × (count ≤ length (now to)) ⌝ }
     ensures { λ _. ⌜ now (to .exit) ≡ painted (λ j. getD (now (from .entry)) j 0) count (now (to .entry)) ⌝ }
 {
@@ -285,7 +285,7 @@ fn copy(count: usize, from: &[u32], to: &mut [u32])
 }
 
 // The four weights, in reading order, for a quarters down and b to the right.
-fn weights(a: u32, b: u32) -> [u32; 4]
+pub fn weights(a: u32, b: u32) -> [u32; 4]
     requires { ⌜ (a < 4) × (b < 4) ⌝ }
     ensures { λ r. ⌜ r ≡ weightsOf a b ⌝ }
 {
@@ -293,7 +293,7 @@ fn weights(a: u32, b: u32) -> [u32; 4]
 }
 
 // The four neighbouring mask cells, two by two, by the four weights, in sixteenths, rounded.
-fn blended(block: [[u32; 2]; 2], weights: [u32; 4]) -> u32
+pub fn blended(block: [[u32; 2]; 2], weights: [u32; 4]) -> u32
     requires { ⌜ Cells 65535 block × Weights weights ⌝ }
     ensures { λ r. ⌜ r ≡ blendOf block weights ⌝ }
 {
@@ -306,7 +306,7 @@ fn blended(block: [[u32; 2]; 2], weights: [u32; 4]) -> u32
 }
 
 // Draws a row of a frame from two rows of averages, the offset to the right and the weights.
-fn blend_row(
+pub fn blend_row(
     pixels: &[u8],
     g: Geometry,
     from: usize,

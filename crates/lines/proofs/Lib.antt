@@ -1,0 +1,3 @@
+-- What the proofs of the lines use.
+pub mod Lists
+pub mod Laws

@@ -1,0 +1,196 @@
+// Lines of a frame's picture, each drawn by itself from the frame's own bytes.
+ghost use mathlib.Core.Path.{_≡_};
+ghost use mathlib.Core.Bool.{true};
+ghost use Prim.Native.Nat.{ℕ, _+_, _-_, _*_, _/_, _%_, _^_, _≤_, _<_};
+ghost use lib.ListN.{length};
+ghost use Rattle.value.specs.Number.{usValues};
+ghost use Rattle.window.specs.Said.{Drawable, shadeAt, Filled};
+ghost use Rattle.pixel.specs.Painted.{painted, nativeShade};
+ghost use Rattle.pixel.specs.Said.{longestRow, Row, shifted, Averaged, quarterShade};
+ghost use Rattle.lines.specs.Lines.{plainPlace, blendPlace, Shaded, shadesOf, LineReady, MaskedBy, Blends};
+use pixel::Geometry;
+use window::Window;
+
+// How cells become levels: by a window, inverted or not, and whether a table is filled with its levels.
+pub struct Shades {
+    pub window: Window,
+    pub inverse: bool,
+    pub filled: bool,
+}
+
+// Fills a table with the level of every place.
+pub fn fill(window: Window, stored: usize, inverse: bool, table: &mut [u8])
+    requires { ⌜ Drawable window × ((1 ≤ stored) × ((stored ≤ 16) × (length (now table) ≡ 131072))) ⌝ }
+    ensures { λ _. ⌜ Filled (shadeAt window stored inverse) (2 ^ (stored + 1) - 1) (now (table .exit)) ⌝ }
+{
+    let half = window::power(stored - 1);
+    let least = window::power(stored) - 1;
+    let n = window::power(stored + 1) - 1;
+    for i in 0..n {
+        table[i] = window::shade(window, i + half, least, inverse);
+    }
+}
+
+// ---- Lines that take no mask
+
+// The levels of a line, each worked out from the window.
+fn plain_by_window(line: &[u8], g: Geometry, window: Window, inverse: bool, levels: &mut [u8])
+    requires { ⌜ Row (now line) g 0 × (Drawable window × (g .columns ≤ length (now levels))) ⌝ }
+    ensures { λ _. ⌜ now (levels .exit) ≡ painted (λ c. shadeAt window (g .stored) inverse (plainPlace g (now (line .entry)) c)) (g .columns) (now (levels .entry)) ⌝ }
+{
+    let columns = g.columns;
+    let half = pixel::power(g.stored - 1);
+    let low = pixel::power(g.stored) - 1;
+    let middle = low - half;
+    for c in 0..columns {
+        let place = pixel::sample(line, g, low, c) + middle;
+        levels[c] = window::shade(window, place + half, low, inverse);
+    }
+}
+
+// A line of a frame that takes no mask.
+pub fn native_line(
+    pixels: &[u8],
+    g: Geometry,
+    frame: usize,
+    row: usize,
+    shades: Shades,
+    table: &[u8],
+    levels: &mut [u8],
+)
+    requires { ⌜ LineReady (now pixels) g frame row (now levels) × Shaded shades (g .stored) (now table) ⌝ }
+    ensures { λ _. ⌜ now (levels .exit) ≡ painted (λ c. nativeShade (shadesOf shades (g .stored)) g (now (pixels .entry)) frame (row * g .columns + c)) (g .columns) (now (levels .entry)) ⌝ }
+{
+    let columns = g.columns;
+    let width = g.width;
+    let stored = g.stored;
+    let line = frame::frame_line(pixels, g.rows, columns, width, frame, row);
+    if shades.filled {
+        let one = Geometry {
+            rows: 1,
+            columns,
+            width,
+            stored,
+        };
+        pixel::paint_native(line, one, 1, table, levels);
+    } else {
+        plain_by_window(line, g, shades.window, shades.inverse, levels);
+    }
+}
+
+// ---- Lines that take a mask
+
+// A line of a frame whose mask is moved by whole pixels; `sums` is room for a row and its edges.
+pub fn whole_line(
+    pixels: &[u8],
+    g: Geometry,
+    frame: usize,
+    masks: &[u8],
+    down: usize,
+    right: usize,
+    row: usize,
+    shades: Shades,
+    table: &[u8],
+    sums: &mut [u32],
+    levels: &mut [u8],
+)
+    requires { ⌜ LineReady (now pixels) g frame row (now levels) × (MaskedBy (now pixels) g (now masks) down right × (Shaded shades (g .stored) (now table) × ((shades .filled ≡ true) × ((down % 4 ≡ 0) × ((right % 4 ≡ 0) × (longestRow ≤ length (now sums))))))) ⌝ }
+    ensures { λ _. ⌜ now (levels .exit) ≡ painted (λ c. quarterShade (shadesOf shades (g .stored)) g (now (pixels .entry)) frame (usValues (now (masks .entry))) down right (row * g .columns + c)) (g .columns) (now (levels .entry)) ⌝ }
+{
+    let rows = g.rows;
+    let line = frame::frame_line(pixels, rows, g.columns, g.width, frame, row);
+    pixel::mask_row(
+        pixels,
+        g,
+        masks,
+        pixel::moved(down / pixel::UNIT, rows, row),
+        sums,
+    );
+    pixel::draw_row(
+        line,
+        g,
+        0,
+        0,
+        masks.len() / 2,
+        right / pixel::UNIT,
+        table,
+        sums,
+        levels,
+    );
+}
+
+// The levels of a line from two rows of averages and their weights, each worked out from the window.
+fn blend_by_window(
+    line: &[u8],
+    g: Geometry,
+    s: usize,
+    w: [u32; 4],
+    window: Window,
+    inverse: bool,
+    upper: &[u32],
+    lower: &[u32],
+    levels: &mut [u8],
+)
+    requires { ⌜ Blends (now line) g s w (now upper) (now lower) (now levels) × Drawable window ⌝ }
+    ensures { λ _. ⌜ now (levels .exit) ≡ painted (λ c. shadeAt window (g .stored) inverse (blendPlace g (now (line .entry)) (now (upper .entry)) (now (lower .entry)) w s c)) (g .columns) (now (levels .entry)) ⌝ }
+{
+    let columns = g.columns;
+    let half = pixel::power(g.stored - 1);
+    let low = pixel::power(g.stored) - 1;
+    for c in 0..columns {
+        let j = c + s;
+        let mask = pixel::blended([[upper[j], upper[j + 1]], [lower[j], lower[j + 1]]], w);
+        let place = pixel::sample(line, g, low, c) + low - pixel::wider(mask);
+        levels[c] = window::shade(window, place + half, low, inverse);
+    }
+}
+
+// A line of a frame from two mask rows, blended. `lower` holds the row that the line takes as its upper one, and
+// afterwards the one that the next line does.
+pub fn quarter_line(
+    pixels: &[u8],
+    g: Geometry,
+    frame: usize,
+    masks: &[u8],
+    down: usize,
+    right: usize,
+    row: usize,
+    shades: Shades,
+    table: &[u8],
+    upper: &mut [u32],
+    lower: &mut [u32],
+    levels: &mut [u8],
+)
+    requires { ⌜ LineReady (now pixels) g frame row (now levels) × (MaskedBy (now pixels) g (now masks) down right × (Shaded shades (g .stored) (now table) × ((longestRow ≤ length (now upper)) × ((longestRow ≤ length (now lower)) × Averaged (now pixels) g (usValues (now masks)) (shifted (down / 4) (g .rows) row) (now lower))))) ⌝ }
+    ensures { λ _. ⌜ now (levels .exit) ≡ painted (λ c. quarterShade (shadesOf shades (g .stored)) g (now (pixels .entry)) frame (usValues (now (masks .entry))) down right (row * g .columns + c)) (g .columns) (now (levels .entry)) ⌝ }
+    ensures { λ _. ⌜ Averaged (now (pixels .entry)) g (usValues (now (masks .entry))) (shifted (down / 4) (g .rows) (row + 1)) (now (lower .exit)) ⌝ }
+{
+    let rows = g.rows;
+    let columns = g.columns;
+    let s = right / pixel::UNIT;
+    let w = pixel::weights((down % pixel::UNIT) as u32, (right % pixel::UNIT) as u32);
+    let line = frame::frame_line(pixels, rows, columns, g.width, frame, row);
+    pixel::copy(columns + pixel::EDGES, lower, upper);
+    pixel::average_row(
+        pixels,
+        g,
+        masks,
+        pixel::moved(down / pixel::UNIT + 1, rows, row),
+        lower,
+    );
+    if shades.filled {
+        pixel::blend_row(line, g, 0, 0, s, w, table, upper, lower, levels);
+    } else {
+        blend_by_window(
+            line,
+            g,
+            s,
+            w,
+            shades.window,
+            shades.inverse,
+            upper,
+            lower,
+            levels,
+        );
+    }
+}

@@ -1,0 +1,84 @@
+use Rattle.node.specs.Nodes.{nodesOf}
+use Rattle.node.proofs.Laws as node-laws
+use Rattle.steps.specs.Said.{sizedOf}
+use Rattle.steps.proofs.Laws as steps-laws
+use Rattle.display.proofs.Given.{never}
+use Rattle.sheet.proofs.Scenes as scenes
+use mathlib.Core.Path.{_≡_, refl, sym, ap, _∙_, subst}
+use native.Mathlib.Omega.{arith}
+use borrow.Author.Needs.{needs}
+use Rattle.sheet.proofs.scene_of.Statement.{statement}
+use Rattle.sheet.proofs.scene_of.Tie as tie
+
+geometry-of-requires : tie.Need-geometry-of-requires
+geometry-of-requires c κs =
+    search needs
+
+enum-known-g : tie.Need-enum-known-g
+enum-known-g c =
+    search needs
+
+enum-told : tie.Need-enum-told
+enum-told c =
+    search needs
+
+no-scene-requires : tie.Need-no-scene-requires
+no-scene-requires c κs =
+    search needs
+
+returns : tie.Need-returns
+returns c =
+    let all = scenes.objects (c .before .before .before .before .before .before .args .bytes .now) (c .before .before .before .before .before .before .args .n) 1 (c .before .before .before .before .before .before .pre .1) (omega arith) (c .before .before .before .before .before .before .pre .1 .some-frame) in
+    absurd (never (sym (steps-laws.said sizedOf (c .before .enum-told .given .1) (c .before .before .before .geometry-of .ensures .0)) ∙ all .o .geometry))
+
+find-root-requires : tie.Need-find-root-requires
+find-root-requires c κs =
+    search needs
+
+enum-known-p : tie.Need-enum-known-p
+enum-known-p c =
+    search needs
+
+enum-told-2 : tie.Need-enum-told-2
+enum-told-2 c =
+    search needs
+
+no-scene-requires-2 : tie.Need-no-scene-requires-2
+no-scene-requires-2 c κs =
+    search needs
+
+returns-2 : tie.Need-returns-2
+returns-2 c =
+    let all = scenes.objects (c .before .before .before .before .before .before .before .before .before .before .args .bytes .now) (c .before .before .before .before .before .before .before .before .before .before .args .n) 1 (c .before .before .before .before .before .before .before .before .before .before .pre .1) (omega arith) (c .before .before .before .before .before .before .before .before .before .before .pre .1 .some-frame) in
+    absurd (scenes.no-pixels (nodesOf (c .before .before .before .before .before .before .before .before .before .before .args .bytes .now)) (all .o .v) (node-laws.lacked (c .before .enum-told2 .given .1) (c .before .before .before .find-root .ensures .0)) (all .o .pixels))
+
+is-inverse-requires : tie.Need-is-inverse-requires
+is-inverse-requires c κs =
+    let all = scenes.objects (c .before .before .before .before .before .before .before .before .before .before .args .bytes .now) (c .before .before .before .before .before .before .before .before .before .before .args .n) 1 (c .before .before .before .before .before .before .before .before .before .before .pre .1) (omega arith) (c .before .before .before .before .before .before .before .before .before .before .pre .1 .some-frame) in
+    (c .before .before .before .before .before .before .before .before .before .before .pre .0, record { b = all .o .inverse; is = all .o .photometric })
+
+returns-3 : tie.Need-returns-3
+returns-3 c =
+    record {
+      geometry = steps-laws.said sizedOf (c .before .before .before .before .before .before .g .given .1) (c .before .before .before .before .before .before .before .before .geometry-of .ensures .0);
+      pixels = node-laws.had (c .before .before .p .given .1) (c .before .before .before .before .find-root .ensures .0);
+      below = node-laws.within _ (c .before .before .p .given .1) (c .before .before .before .before .find-root .ensures .1);
+      inverse-is = c .is-inverse .ensures;
+    }
+
+pub scene-of-spec : {M : Type 1} → statement M
+scene-of-spec =
+    tie.close
+    (tie.spec
+    geometry-of-requires
+    enum-known-g
+    enum-told
+    no-scene-requires
+    returns
+    find-root-requires
+    enum-known-p
+    enum-told-2
+    no-scene-requires-2
+    returns-2
+    is-inverse-requires
+    returns-3)

@@ -1,0 +1,80 @@
+use Prim.Native.Nat.{ℕ, _+_, _-_, _≤_, _<_, _^_}
+use lib.ListN.{length, getD, drop}
+use Rattle.sheet.specs.Said.{tallied}
+use Rattle.sheet.proofs.Counts.{tallied-next, tallied-all, room-next}
+use mathlib.Core.Path.{_≡_, refl, sym, ap, _∙_, subst}
+use native.Mathlib.Omega.{arith}
+use borrow.Author.Needs.{needs}
+use Rattle.sheet.proofs.tally.Statement.{statement}
+use Rattle.sheet.proofs.tally.Tie as tie
+
+abbrev Inv-loop : tie.InvT-loop
+Inv-loop line now₀ i₀ i-end now i =
+    (i ≤ i-end) × ((i-end ≡ length line) × ((tallied (drop i line) now ≡ tallied line now₀) × ((y : ℕ) → getD now y 0 + (length line - i) < 2 ^ 64)))
+
+abbrev μ-loop : tie.MeasureT-loop
+μ-loop line now₀ i₀ i-end now i =
+    i-end - i
+
+loop-holds : tie.Need-loop-holds Inv-loop μ-loop
+loop-holds c =
+    (omega arith, (refl, (refl, λ y. omega (arith, c .before .pre .below y))))
+
+shared-slice-read-wide : tie.Need-shared-slice-read-wide Inv-loop μ-loop
+shared-slice-read-wide c =
+    search needs
+
+wide-requires : tie.Need-wide-requires Inv-loop μ-loop
+wide-requires c κs =
+    search needs
+
+mul-now : tie.Need-mul-now Inv-loop μ-loop
+mul-now c =
+    omega (arith, c .wide .ensures .1)
+
+array-read-now : tie.Need-array-read-now Inv-loop μ-loop
+array-read-now c =
+    omega (arith, c .wide .ensures .1)
+
+add-now : tie.Need-add-now Inv-loop μ-loop
+add-now c =
+    record { fits = omega (arith, c .before .before .before .loop .inv .1 .1 .1 (c .wide .result)) }
+
+array-write-now : tie.Need-array-write-now Inv-loop μ-loop
+array-write-now c =
+    omega (arith, c .wide .ensures .1)
+
+add-i : tie.Need-add-i Inv-loop μ-loop
+add-i c =
+    search needs
+
+loop-less : tie.Need-loop-less Inv-loop μ-loop
+loop-less c =
+    search needs
+
+loop-again : tie.Need-loop-again Inv-loop μ-loop
+loop-again c =
+    let h : c .before .before .before .loop .i < length (c .before .before .before .before .before .args .line .now) = omega arith in
+    (omega arith, (refl, (rw (c .wide .ensures .0) (sym (tallied-next (c .before .before .before .before .before .args .line .now) (c .before .before .before .loop .now) (c .before .before .before .loop .i) h) ∙ c .before .before .before .loop .inv .1 .1 .0), room-next (c .before .before .before .loop .now) (c .wide .result) (length (c .before .before .before .before .before .args .line .now)) (c .before .before .before .loop .i) h (c .before .before .before .loop .inv .1 .1 .1))))
+
+returns : tie.Need-returns Inv-loop μ-loop
+returns c =
+    sym (tallied-all (c .before .before .before .args .line .now) (c .before .loop .now) (c .before .loop .i) (omega arith)) ∙ c .before .loop .inv .1 .1 .0
+
+pub tally-spec : {M : Type 1} → statement M
+tally-spec =
+    tie.close
+    (tie.spec
+    Inv-loop
+    μ-loop
+    loop-holds
+    shared-slice-read-wide
+    wide-requires
+    mul-now
+    array-read-now
+    add-now
+    array-write-now
+    add-i
+    loop-less
+    loop-again
+    returns)

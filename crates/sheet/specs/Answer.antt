@@ -1,0 +1,93 @@
+-- What `sheet` answers (document 02, Q-5): as judging up to code 9, then 19 where a is above b, then 10 where either is not a
+-- frame of 1..N, then 0. The sheet that comes with it is that of frames a to b, or zeros.
+use Prim.Native.Nat.{ℕ}
+use mathlib.Core.Bool.{Bool, cond, _&&_}
+use mathlib.Core.List.{List}
+use lib.Dec.{leb}
+use Rattle.node.specs.Nodes.{Node, nodesOf}
+use Rattle.conformance.specs.Judging.{judgeOf}
+use Rattle.conformance.specs.declared.JudgeAnswer.{JudgeAnswer}
+use Rattle.conformance.specs.declared.JudgeAnswer.the-variants as judged
+use Rattle.display.specs.Show.{isFrameOf}
+use Rattle.sheet.specs.declared.Numbers.{Numbers}
+use Rattle.sheet.specs.declared.SheetAnswer.{SheetAnswer}
+use Rattle.sheet.specs.declared.SheetAnswer.the-variants as answer
+use Rattle.sheet.specs.declared.Sampled.{Sampled}
+use Rattle.sheet.specs.Sheet.{framesSheet, noSheet}
+
+-- The answer for an accepted object with n rows.
+unfoldable pub acceptedAnswer : List Node → ℕ → ℕ → ℕ → SheetAnswer
+acceptedAnswer ns a b n =
+    cond (leb a b)
+    (cond (isFrameOf ns a && isFrameOf ns b) (answer.Done n) answer.NoFrame)
+    answer.WrongOrder
+
+abbrev pub answerFor : List Node → ℕ → ℕ → JudgeAnswer → SheetAnswer
+answerFor ns a b (judged.Accepted n) = acceptedAnswer ns a b n
+answerFor ns a b (judged.Broken n rule frame) = answer.Broken n rule frame
+answerFor ns a b (judged.Refused code offset) = answer.Refused code offset
+answerFor ns a b judged.TooLarge = answer.TooLarge
+answerFor ns a b judged.NoRoom = answer.NoRoom
+
+-- The sheet that comes with an answer.
+abbrev pub sheetFor : List Node → ℕ → ℕ → SheetAnswer → Numbers
+sheetFor ns a b (answer.Done n) = framesSheet ns a b
+sheetFor ns a b (answer.Broken n rule frame) = noSheet
+sheetFor ns a b (answer.Refused code offset) = noSheet
+sheetFor ns a b answer.TooLarge = noSheet
+sheetFor ns a b answer.NoRoom = noSheet
+sheetFor ns a b answer.WrongOrder = noSheet
+sheetFor ns a b answer.NoFrame = noSheet
+
+abbrev pub withSheet : List Node → ℕ → ℕ → SheetAnswer → Sampled
+withSheet ns a b r = record { answer = r; sheet = sheetFor ns a b r }
+
+-- What `sheet` hands back for the data set s, frames a to b and a row buffer.
+unfoldable pub sheetOf : List ℕ → ℕ → ℕ → List ℕ → Sampled
+sheetOf s a b buffer = withSheet (nodesOf s) a b (answerFor (nodesOf s) a b (judgeOf s buffer))
+
+-- The papers' numbers of each case; fields not named are 0.
+abbrev pub codeOf : SheetAnswer → ℕ
+codeOf (answer.Done n) = 0
+codeOf (answer.Broken n rule frame) = 9
+codeOf (answer.Refused code offset) = code
+codeOf answer.TooLarge = 7
+codeOf answer.NoRoom = 8
+codeOf answer.WrongOrder = 19
+codeOf answer.NoFrame = 10
+
+abbrev pub rowCountOf : SheetAnswer → ℕ
+rowCountOf (answer.Done n) = n
+rowCountOf (answer.Broken n rule frame) = n
+rowCountOf (answer.Refused code offset) = 0
+rowCountOf answer.TooLarge = 0
+rowCountOf answer.NoRoom = 0
+rowCountOf answer.WrongOrder = 0
+rowCountOf answer.NoFrame = 0
+
+abbrev pub ruleOf : SheetAnswer → ℕ
+ruleOf (answer.Done n) = 0
+ruleOf (answer.Broken n rule frame) = rule
+ruleOf (answer.Refused code offset) = 0
+ruleOf answer.TooLarge = 0
+ruleOf answer.NoRoom = 0
+ruleOf answer.WrongOrder = 0
+ruleOf answer.NoFrame = 0
+
+abbrev pub frameOf : SheetAnswer → ℕ
+frameOf (answer.Done n) = 0
+frameOf (answer.Broken n rule frame) = frame
+frameOf (answer.Refused code offset) = 0
+frameOf answer.TooLarge = 0
+frameOf answer.NoRoom = 0
+frameOf answer.WrongOrder = 0
+frameOf answer.NoFrame = 0
+
+abbrev pub offsetOf : SheetAnswer → ℕ
+offsetOf (answer.Done n) = 0
+offsetOf (answer.Broken n rule frame) = 0
+offsetOf (answer.Refused code offset) = offset
+offsetOf answer.TooLarge = 0
+offsetOf answer.NoRoom = 0
+offsetOf answer.WrongOrder = 0
+offsetOf answer.NoFrame = 0

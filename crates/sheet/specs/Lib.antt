@@ -1,0 +1,4 @@
+pub mod Sheet
+pub mod Answer
+pub mod Sampling
+pub mod Said

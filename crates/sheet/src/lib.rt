@@ -1,0 +1,912 @@
+// The sampling sheet: how often each grey level was drawn over frames a to b of an accepted object.
+ghost use mathlib.Core.Path.{_≡_};
+ghost use mathlib.Core.Bool.{true, cond};
+ghost use Prim.Native.Nat.{ℕ, _+_, _-_, _*_, _/_, _%_, _^_, _≤_, _<_};
+ghost use lib.ListN.{length, getD, drop};
+ghost use Rattle.dataset.specs.Reading.{readingOf};
+ghost use Rattle.dataset.specs.Answer.{bufferOf};
+ghost use Rattle.value.specs.Number.{usValues};
+ghost use Rattle.shift.specs.Said.{ShortMoves};
+ghost use Rattle.node.specs.Nodes.{nodesOf};
+ghost use Rattle.node.specs.Table.{Table};
+ghost use Rattle.element.specs.Along.{Along};
+ghost use Rattle.element.specs.Elements.{valueAt};
+ghost use Rattle.element.specs.Frames.{framesOf, frameItems};
+ghost use Rattle.conformance.specs.declared.Finding.the-variants as finding;
+ghost use Rattle.conformance.specs.Judging.{numberOf, findingOf};
+ghost use Rattle.window.specs.Said.{Drawable};
+ghost use Rattle.pixel.specs.Pixel.{samplesOf};
+ghost use Rattle.pixel.specs.Painted.{nativeShade, maskedShade};
+ghost use Rattle.pixel.specs.Said.{longestRow, Masks, shifted, Averaged, quarterShade};
+ghost use Rattle.lines.specs.Lines.{upTo, shadesOf, Shaded, MaskedBy};
+ghost use Rattle.display.specs.Said.{isMasked, shadeBy, MasksReady};
+ghost use Rattle.display.specs.Show.{imageSize, pictureOf};
+ghost use Rattle.sheet.specs.Sheet.{levelsOf, nativesOf, countsOf, framesSheet, noSheet, numbersIn};
+ghost use Rattle.sheet.specs.Answer.{acceptedAnswer, withSheet, sheetOf};
+ghost use Rattle.sheet.specs.Sampling.{total};
+ghost use Rattle.sheet.specs.Said.{tallied, Room, Few, First, Last, IsObject, IsScene, IsPixels, IsItem, IsPlan, FrameReady, Rooms, IsHeld, IsNothing};
+use conformance::JudgeAnswer;
+use dataset::wide;
+use display::Masking;
+use element::Items;
+use element::tags;
+use lines::Shades;
+use pixel::Geometry;
+use shift::Moves;
+use steps::Sized;
+use steps::Windowed;
+use value::Function;
+use value::Num;
+use value::Signed;
+use window::Window;
+
+// The answer of `sheet`: done, with the number of rows; code 9, with the number of rows, rule and frame; code and offset of a
+// refusal; codes 7, 8, 19 and 10.
+pub enum SheetAnswer {
+    Done(usize),
+    Broken(usize, usize, usize),
+    Refused(usize, usize),
+    TooLarge,
+    NoRoom,
+    WrongOrder,
+    NoFrame,
+}
+
+// 256 counts of levels, the number of native frames, the lowest and the highest level, and the sum of all levels.
+pub struct Numbers {
+    pub counts: [u64; 256],
+    pub natives: usize,
+    pub lowest: usize,
+    pub highest: usize,
+    pub sum: usize,
+}
+
+// An answer and the sheet that comes with it.
+pub struct Sampled {
+    pub answer: SheetAnswer,
+    pub sheet: Numbers,
+}
+
+// ---- Counting levels
+
+// The counts with the levels of a line: handed on by value, one place changed for each cell.
+fn tally(counts: [u64; 256], line: &[u8]) -> [u64; 256]
+    requires { ⌜ Room counts (length (now line)) ⌝ }
+    ensures { λ r. ⌜ r ≡ tallied (now (line .entry)) counts ⌝ }
+{
+    let mut now = counts;
+    for i in 0..line.len() {
+        let y = wide(line[i]);
+        now[y] += 1;
+    }
+    now
+}
+
+// The counts with the levels of a frame that takes no mask.
+fn count_native(
+    pixels: &[u8],
+    g: Geometry,
+    frame: usize,
+    shades: Shades,
+    table: &[u8],
+    line: &mut [u8],
+    counts: [u64; 256],
+) -> [u64; 256]
+    requires { ⌜ FrameReady (now pixels) g frame (now line) × (Shaded shades (g .stored) (now table) × Room counts (samplesOf g)) ⌝ }
+    ensures { λ r. ⌜ r ≡ tallied (upTo (nativeShade (shadesOf shades (g .stored)) g (now (pixels .entry)) frame) (samplesOf g)) counts ⌝ }
+{
+    let height = g.rows;
+    let columns = g.columns;
+    let mut now = counts;
+    for row in 0..height {
+        lines::native_line(pixels, g, frame, row, shades, table, line);
+        let next = tally(now, &line[..columns]);
+        now = next;
+    }
+    now
+}
+
+// The counts with the levels of a frame whose mask is moved by whole pixels.
+fn count_whole(
+    pixels: &[u8],
+    g: Geometry,
+    frame: usize,
+    masks: &[u8],
+    down: usize,
+    right: usize,
+    shades: Shades,
+    table: &[u8],
+    sums: &mut [u32],
+    line: &mut [u8],
+    counts: [u64; 256],
+) -> [u64; 256]
+    requires { ⌜ FrameReady (now pixels) g frame (now line) × (MaskedBy (now pixels) g (now masks) down right × (Shaded shades (g .stored) (now table) × ((shades .filled ≡ true) × ((down % 4 ≡ 0) × ((right % 4 ≡ 0) × ((longestRow ≤ length (now sums)) × Room counts (samplesOf g))))))) ⌝ }
+    ensures { λ r. ⌜ r ≡ tallied (upTo (quarterShade (shadesOf shades (g .stored)) g (now (pixels .entry)) frame (usValues (now (masks .entry))) down right) (samplesOf g)) counts ⌝ }
+{
+    let height = g.rows;
+    let columns = g.columns;
+    let mut now = counts;
+    for row in 0..height {
+        lines::whole_line(
+            pixels,
+            g,
+            frame,
+            masks,
+            down,
+            right,
+            row,
+            shades,
+            table,
+            sums,
+            line,
+        );
+        let next = tally(now, &line[..columns]);
+        now = next;
+    }
+    now
+}
+
+// The counts with the levels of a frame whose mask rows are blended two at a time. `lower` holds the first line's upper row.
+fn count_quarters(
+    pixels: &[u8],
+    g: Geometry,
+    frame: usize,
+    masks: &[u8],
+    down: usize,
+    right: usize,
+    shades: Shades,
+    table: &[u8],
+    upper: &mut [u32],
+    lower: &mut [u32],
+    line: &mut [u8],
+    counts: [u64; 256],
+) -> [u64; 256]
+    requires { ⌜ FrameReady (now pixels) g frame (now line) × (MaskedBy (now pixels) g (now masks) down right × (Shaded shades (g .stored) (now table) × ((longestRow ≤ length (now upper)) × ((longestRow ≤ length (now lower)) × (Averaged (now pixels) g (usValues (now masks)) (shifted (down / 4) (g .rows) 0) (now lower) × Room counts (samplesOf g)))))) ⌝ }
+    ensures { λ r. ⌜ r ≡ tallied (upTo (quarterShade (shadesOf shades (g .stored)) g (now (pixels .entry)) frame (usValues (now (masks .entry))) down right) (samplesOf g)) counts ⌝ }
+{
+    let height = g.rows;
+    let columns = g.columns;
+    let mut now = counts;
+    for row in 0..height {
+        lines::quarter_line(
+            pixels,
+            g,
+            frame,
+            masks,
+            down,
+            right,
+            row,
+            shades,
+            table,
+            upper,
+            lower,
+            line,
+        );
+        let next = tally(now, &line[..columns]);
+        now = next;
+    }
+    now
+}
+
+// The same, with the first line's upper row made here.
+fn count_blended(
+    pixels: &[u8],
+    g: Geometry,
+    frame: usize,
+    masks: &[u8],
+    down: usize,
+    right: usize,
+    shades: Shades,
+    table: &[u8],
+    upper: &mut [u32],
+    lower: &mut [u32],
+    line: &mut [u8],
+    counts: [u64; 256],
+) -> [u64; 256]
+    requires { ⌜ FrameReady (now pixels) g frame (now line) × (MaskedBy (now pixels) g (now masks) down right × (Shaded shades (g .stored) (now table) × ((longestRow ≤ length (now upper)) × ((longestRow ≤ length (now lower)) × Room counts (samplesOf g))))) ⌝ }
+    ensures { λ r. ⌜ r ≡ tallied (upTo (quarterShade (shadesOf shades (g .stored)) g (now (pixels .entry)) frame (usValues (now (masks .entry))) down right) (samplesOf g)) counts ⌝ }
+{
+    pixel::average_row(
+        pixels,
+        g,
+        masks,
+        pixel::moved(down / pixel::UNIT, g.rows, 0),
+        lower,
+    );
+    count_quarters(
+        pixels,
+        g,
+        frame,
+        masks,
+        down,
+        right,
+        shades,
+        table,
+        upper,
+        lower,
+        line,
+        counts,
+    )
+}
+
+// The counts with the levels of a masked frame, by two offsets in quarters. A whole shift takes one mask row for each line
+// where a table is filled; every other frame takes two.
+fn count_masked(
+    pixels: &[u8],
+    g: Geometry,
+    frame: usize,
+    masks: &[u8],
+    down: usize,
+    right: usize,
+    shades: Shades,
+    table: &[u8],
+    upper: &mut [u32],
+    lower: &mut [u32],
+    line: &mut [u8],
+    counts: [u64; 256],
+) -> [u64; 256]
+    requires { ⌜ FrameReady (now pixels) g frame (now line) × (MaskedBy (now pixels) g (now masks) down right × (Shaded shades (g .stored) (now table) × ((longestRow ≤ length (now upper)) × ((longestRow ≤ length (now lower)) × Room counts (samplesOf g))))) ⌝ }
+    ensures { λ r. ⌜ r ≡ tallied (upTo (quarterShade (shadesOf shades (g .stored)) g (now (pixels .entry)) frame (usValues (now (masks .entry))) down right) (samplesOf g)) counts ⌝ }
+{
+    if shades.filled {
+        if down % pixel::UNIT == 0 {
+            if right % pixel::UNIT == 0 {
+                return count_whole(
+                    pixels,
+                    g,
+                    frame,
+                    masks,
+                    down,
+                    right,
+                    shades,
+                    table,
+                    upper,
+                    line,
+                    counts,
+                );
+            }
+        }
+    }
+    count_blended(
+        pixels,
+        g,
+        frame,
+        masks,
+        down,
+        right,
+        shades,
+        table,
+        upper,
+        lower,
+        line,
+        counts,
+    )
+}
+
+// The same, by the moves of a shift.
+fn count_moved(
+    pixels: &[u8],
+    g: Geometry,
+    frame: usize,
+    masks: &[u8],
+    moves: Moves,
+    shades: Shades,
+    table: &[u8],
+    upper: &mut [u32],
+    lower: &mut [u32],
+    line: &mut [u8],
+    counts: [u64; 256],
+) -> [u64; 256]
+    requires { ⌜ FrameReady (now pixels) g frame (now line) × (Masks (now pixels) g (now masks) × (ShortMoves moves × (Shaded shades (g .stored) (now table) × ((longestRow ≤ length (now upper)) × ((longestRow ≤ length (now lower)) × Room counts (samplesOf g)))))) ⌝ }
+    ensures { λ r. ⌜ r ≡ tallied (upTo (maskedShade (shadesOf shades (g .stored)) g (now (pixels .entry)) frame (usValues (now (masks .entry))) moves) (samplesOf g)) counts ⌝ }
+{
+    let vertical = moves.vertical;
+    let horizontal = moves.horizontal;
+    let down = pixel::offset_of(vertical);
+    let right = pixel::offset_of(horizontal);
+    count_masked(
+        pixels,
+        g,
+        frame,
+        masks,
+        down,
+        right,
+        shades,
+        table,
+        upper,
+        lower,
+        line,
+        counts,
+    )
+}
+
+// ---- What is worked out once for an object, and once for a frame
+
+// What all frames of an object share: the size of a frame, the pixel bytes' row, and whether pictures are inverted.
+pub struct Scene {
+    pub g: Geometry,
+    pub p: usize,
+    pub inverse: bool,
+}
+
+// What a frame has of its own: its window, and what masks it.
+pub struct Plan {
+    pub window: Window,
+    pub masking: Masking,
+}
+
+// What stands where a step lacks something, which it does in no accepted object.
+fn no_scene() -> Scene {
+    Scene {
+        g: Geometry {
+            rows: 0,
+            columns: 0,
+            width: 0,
+            stored: 0,
+        },
+        p: 0,
+        inverse: false,
+    }
+}
+
+fn no_window() -> Window {
+    Window {
+        center: Signed::Plus(0),
+        width: Signed::Plus(0),
+        function: Function::Linear,
+    }
+}
+
+fn scene_of(bytes: &[u8], rows: &[u32], n: usize) -> Scene
+    requires { ⌜ Table (now bytes) (now rows) × IsObject (now bytes) n ⌝ }
+    ensures { λ r. ⌜ IsScene (nodesOf (now (bytes .entry))) r ⌝ }
+{
+    let Sized::Is(g) = steps::geometry_of(bytes, rows) else {
+        return no_scene();
+    };
+    let Num::Is(p) = element::find_root(bytes, rows, tags::PIXEL_DATA) else {
+        return no_scene();
+    };
+    let inverse = display::is_inverse(bytes, rows);
+    Scene { g, p, inverse }
+}
+
+fn plan_of(bytes: &[u8], rows: &[u32], c: Scene, frame: usize, n: usize, item: Num) -> Plan
+    requires { ⌜ Table (now bytes) (now rows) × (IsObject (now bytes) n × (IsScene (nodesOf (now bytes)) c × (IsItem (nodesOf (now bytes)) frame item × ((1 ≤ frame) × (frame ≤ n))))) ⌝ }
+    ensures { λ r. ⌜ IsPlan (nodesOf (now (bytes .entry))) frame (c .g .stored) r ⌝ }
+{
+    let g = c.g;
+    let stored = g.stored;
+    let masking = display::mask_for(bytes, rows, frame, item, n);
+    let Windowed::Is(window) = steps::window_for(bytes, rows, frame, item, stored) else {
+        return Plan {
+            window: no_window(),
+            masking,
+        };
+    };
+    Plan { window, masking }
+}
+
+// The item of a frame, at a cursor that is stepped along the items with the frames.
+fn item_here(bytes: &[u8], rows: &[u32], items: Items, frame: usize) -> Num
+    requires { ⌜ Table (now bytes) (now rows) × (Along (nodesOf (now bytes)) (drop (frame - 1) (frameItems (nodesOf (now bytes)))) items × (1 ≤ frame)) ⌝ }
+    ensures { λ r. ⌜ IsItem (nodesOf (now (bytes .entry))) frame r ⌝ }
+{
+    let at = items.at;
+    let end = items.end;
+    if at < end { Num::Is(at) } else { Num::Lacks }
+}
+
+// ---- The table of levels
+
+fn same_signed(a: Signed, b: Signed) -> bool
+    ensures { λ r. ⌜ (r ≡ true → a ≡ b) ⌝ }
+{
+    match a {
+        Signed::Plus(m) => match b {
+            Signed::Plus(n) => m == n,
+            Signed::Minus(_) => false,
+            Signed::Lacks => false,
+        },
+        Signed::Minus(m) => match b {
+            Signed::Plus(_) => false,
+            Signed::Minus(n) => m == n,
+            Signed::Lacks => false,
+        },
+        Signed::Lacks => false,
+    }
+}
+
+fn same_function(a: Function, b: Function) -> bool
+    ensures { λ r. ⌜ (r ≡ true → a ≡ b) ⌝ }
+{
+    match a {
+        Function::Linear => match b {
+            Function::Linear => true,
+            Function::Exact => false,
+            Function::Lacks => false,
+        },
+        Function::Exact => match b {
+            Function::Linear => false,
+            Function::Exact => true,
+            Function::Lacks => false,
+        },
+        Function::Lacks => false,
+    }
+}
+
+fn same_window(a: Window, b: Window) -> bool
+    ensures { λ r. ⌜ (r ≡ true → a ≡ b) ⌝ }
+{
+    let center = a.center;
+    let other = b.center;
+    let width = a.width;
+    let otherwidth = b.width;
+    let function = a.function;
+    let otherfunction = b.function;
+    if same_signed(center, other) {
+        if same_signed(width, otherwidth) {
+            same_function(function, otherfunction)
+        } else {
+            false
+        }
+    } else {
+        false
+    }
+}
+
+// The shades of the frame before, and how many cells were worked out from its window since it came.
+pub struct Held {
+    pub shades: Shades,
+    pub spent: usize,
+}
+
+// Shades for a window by which so many cells will have been drawn. A table is filled only once they are as many as its places.
+fn shades_by(window: Window, stored: usize, inverse: bool, spent: usize, table: &mut [u8]) -> Held
+    requires { ⌜ Drawable window × ((1 ≤ stored) × ((stored ≤ 16) × (length (now table) ≡ 131072))) ⌝ }
+    ensures { λ r. ⌜ (r .shades .window ≡ window) × IsHeld stored inverse r (now (table .exit)) ⌝ }
+{
+    if window::power(stored + 1) <= spent {
+        lines::fill(window, stored, inverse, table);
+        Held {
+            shades: Shades {
+                window,
+                inverse,
+                filled: true,
+            },
+            spent: 0,
+        }
+    } else {
+        Held {
+            shades: Shades {
+                window,
+                inverse,
+                filled: false,
+            },
+            spent,
+        }
+    }
+}
+
+// The shades of a frame of so many cells: those of the frame before, where its window is the same.
+fn shades_for(
+    window: Window,
+    stored: usize,
+    inverse: bool,
+    cells: usize,
+    held: Held,
+    table: &mut [u8],
+) -> Held
+    requires { ⌜ Drawable window × ((1 ≤ stored) × ((stored ≤ 16) × ((length (now table) ≡ 131072) × ((cells ≤ 4294836225) × IsHeld stored inverse held (now table))))) ⌝ }
+    ensures { λ r. ⌜ (r .shades .window ≡ window) × IsHeld stored inverse r (now (table .exit)) ⌝ }
+{
+    let last = held.shades;
+    let spent = held.spent;
+    let old = last.window;
+    if same_window(window, old) {
+        if last.filled {
+            held
+        } else {
+            shades_by(window, stored, inverse, spent + cells, table)
+        }
+    } else {
+        shades_by(window, stored, inverse, cells, table)
+    }
+}
+
+// ---- Frames
+
+// The counts with the levels of a frame, whatever masks it.
+fn count_frame(
+    bytes: &[u8],
+    rows: &[u32],
+    c: Scene,
+    frame: usize,
+    masking: Masking,
+    shades: Shades,
+    table: &[u8],
+    upper: &mut [u32],
+    lower: &mut [u32],
+    line: &mut [u8],
+    counts: [u64; 256],
+) -> [u64; 256]
+    requires { ⌜ Table (now bytes) (now rows) × (IsPixels (nodesOf (now bytes)) (c .p) × (FrameReady (valueAt (nodesOf (now bytes)) (c .p)) (c .g) frame (now line) × (MasksReady (nodesOf (now bytes)) (valueAt (nodesOf (now bytes)) (c .p)) (c .g) masking × (Shaded shades (c .g .stored) (now table) × ((longestRow ≤ length (now upper)) × ((longestRow ≤ length (now lower)) × Room counts (samplesOf (c .g)))))))) ⌝ }
+    ensures { λ r. ⌜ r ≡ tallied (upTo (shadeBy (nodesOf (now (bytes .entry))) (shadesOf shades (c .g .stored)) (c .g) (valueAt (nodesOf (now (bytes .entry))) (c .p)) frame masking) (samplesOf (c .g))) counts ⌝ }
+{
+    let g = c.g;
+    let pixels = frame::value_part(bytes, rows, c.p);
+    match masking {
+        Masking::Native => count_native(pixels, g, frame, shades, table, line, counts),
+        Masking::Average(k, m) => {
+            let masks = node::value(bytes, rows, k);
+            count_moved(
+                pixels,
+                g,
+                frame,
+                masks,
+                m,
+                shades,
+                table,
+                upper,
+                lower,
+                line,
+                counts,
+            )
+        }
+        Masking::One(t, m) => {
+            let one = [(t % 256) as u8, (t / 256 % 256) as u8];
+            count_moved(
+                pixels,
+                g,
+                frame,
+                &one,
+                m,
+                shades,
+                table,
+                upper,
+                lower,
+                line,
+                counts,
+            )
+        }
+        Masking::Lacks => counts,
+    }
+}
+
+// 1 for a frame that takes no mask, else 0.
+fn native_number(masking: Masking) -> usize
+    ensures { λ r. ⌜ r ≡ cond (isMasked masking) 0 1 ⌝ }
+{
+    match masking {
+        Masking::Native => 1,
+        Masking::Average(_, _) => 0,
+        Masking::One(_, _) => 0,
+        Masking::Lacks => 1,
+    }
+}
+
+// What was counted so far, and the shades of the last frame.
+pub struct Counted {
+    pub counts: [u64; 256],
+    pub natives: usize,
+    pub held: Held,
+}
+
+// Counts a frame of an accepted object, whose item is known.
+fn count_picture(
+    bytes: &[u8],
+    rows: &[u32],
+    c: Scene,
+    frame: usize,
+    n: usize,
+    item: Num,
+    sofar: Counted,
+    table: &mut [u8],
+    upper: &mut [u32],
+    lower: &mut [u32],
+    line: &mut [u8],
+) -> Counted
+    requires { ⌜ Table (now bytes) (now rows) × (IsObject (now bytes) n × (IsScene (nodesOf (now bytes)) c × (IsItem (nodesOf (now bytes)) frame item × ((1 ≤ frame) × ((frame ≤ n) × (Rooms (now table) (now upper) (now lower) (now line) × (IsHeld (c .g .stored) (c .inverse) (sofar .held) (now table) × ((sofar .natives < 65536) × Room (sofar .counts) (imageSize (nodesOf (now bytes))))))))))) ⌝ }
+    ensures { λ r. ⌜ (r .counts ≡ tallied (pictureOf (nodesOf (now (bytes .entry))) frame .samples) (sofar .counts)) × ((r .natives ≡ cond (pictureOf (nodesOf (now (bytes .entry))) frame .masked) 0 1 + sofar .natives) × IsHeld (c .g .stored) (c .inverse) (r .held) (now (table .exit))) ⌝ }
+{
+    let g = c.g;
+    let stored = g.stored;
+    let inverse = c.inverse;
+    let cells = g.rows * g.columns;
+    let old = sofar.counts;
+    let some = sofar.natives;
+    let last = sofar.held;
+    let own = plan_of(bytes, rows, c, frame, n, item);
+    let window = own.window;
+    let masking = own.masking;
+    let held = shades_for(window, stored, inverse, cells, last, table);
+    let shades = held.shades;
+    let counts = count_frame(
+        bytes,
+        rows,
+        c,
+        frame,
+        masking,
+        shades,
+        table,
+        upper,
+        lower,
+        line,
+        old,
+    );
+    let natives = native_number(masking) + some;
+    Counted {
+        counts,
+        natives,
+        held,
+    }
+}
+
+// Nothing counted, and no table filled.
+fn nothing(stored: usize, inverse: bool) -> Counted
+    requires { ⌜ stored ≤ 16 ⌝ }
+    ensures { λ r. ⌜ IsNothing stored inverse r ⌝ }
+{
+    Counted {
+        counts: [0; 256],
+        natives: 0,
+        held: Held {
+            shades: Shades {
+                window: window::full_window(stored),
+                inverse,
+                filled: false,
+            },
+            spent: 0,
+        },
+    }
+}
+
+// Counts frames a to b: each item is stepped to once, and the rooms are lent to every frame.
+fn count_frames(
+    bytes: &[u8],
+    rows: &[u32],
+    c: Scene,
+    n: usize,
+    start: Items,
+    a: usize,
+    b: usize,
+    table: &mut [u8],
+    upper: &mut [u32],
+    lower: &mut [u32],
+    line: &mut [u8],
+) -> Counted
+    requires { ⌜ Table (now bytes) (now rows) × (IsObject (now bytes) n × (IsScene (nodesOf (now bytes)) c × (Along (nodesOf (now bytes)) (drop (a - 1) (frameItems (nodesOf (now bytes)))) start × ((1 ≤ a) × ((a ≤ b) × ((b ≤ n) × Rooms (now table) (now upper) (now lower) (now line))))))) ⌝ }
+    ensures { λ r. ⌜ (r .counts ≡ countsOf (levelsOf (nodesOf (now (bytes .entry))) a (b + 1 - a))) × (r .natives ≡ nativesOf (nodesOf (now (bytes .entry))) a (b + 1 - a)) ⌝ }
+{
+    let mut items = start;
+    let g = c.g;
+    let mut sofar = nothing(g.stored, c.inverse);
+    let end = b + 1;
+    for frame in a..end {
+        let item = item_here(bytes, rows, items, frame);
+        let next = count_picture(
+            bytes,
+            rows,
+            c,
+            frame,
+            n,
+            item,
+            sofar,
+            table,
+            upper,
+            lower,
+            line,
+        );
+        sofar = next;
+        items = element::advance(bytes, rows, items);
+    }
+    sofar
+}
+
+// The items from frame a's on.
+fn items_from(bytes: &[u8], rows: &[u32], a: usize) -> Items
+    requires { ⌜ Table (now bytes) (now rows) × (1 ≤ a) ⌝ }
+    ensures { λ r. ⌜ Along (nodesOf (now (bytes .entry))) (drop (a - 1) (frameItems (nodesOf (now (bytes .entry))))) r ⌝ }
+{
+    let mut items = element::frame_items(bytes, rows);
+    for frame in 1..a {
+        items = element::advance(bytes, rows, items);
+    }
+    items
+}
+
+// ---- The other numbers, from the counts
+
+// The sum of level times count.
+fn weighted(counts: [u64; 256]) -> usize
+    requires { ⌜ Few counts ⌝ }
+    ensures { λ r. ⌜ r ≡ total (λ y. y * getD counts y 0) 256 ⌝ }
+{
+    let mut sum: usize = 0;
+    for y in 0..256 {
+        sum += y * (counts[y] as usize);
+    }
+    sum
+}
+
+// The first level with a count above 0.
+fn first_drawn(counts: [u64; 256]) -> usize
+    ensures { λ r. ⌜ First counts r ⌝ }
+{
+    let mut y: usize = 0;
+    while y < 255 {
+        if 0 < counts[y] {
+            return y;
+        } else {
+            y += 1;
+        }
+    }
+    y
+}
+
+// The last one.
+fn last_drawn(counts: [u64; 256]) -> usize
+    ensures { λ r. ⌜ Last counts r ⌝ }
+{
+    let mut y: usize = 255;
+    while 0 < y {
+        if 0 < counts[y] {
+            return y;
+        } else {
+            y -= 1;
+        }
+    }
+    y
+}
+
+// The sheet of frames a to b of an accepted object of n frames. All rooms are made here, once.
+fn sample_frames(bytes: &[u8], rows: &[u32], n: usize, a: usize, b: usize) -> Numbers
+    requires { ⌜ Table (now bytes) (now rows) × (IsObject (now bytes) n × ((1 ≤ a) × ((a ≤ b) × (b ≤ n)))) ⌝ }
+    ensures { λ r. ⌜ r ≡ framesSheet (nodesOf (now (bytes .entry))) a b ⌝ }
+{
+    let mut table: [u8; 131072] = [0; 131072];
+    let mut upper: [u32; pixel::LONGEST] = [0; pixel::LONGEST];
+    let mut lower: [u32; pixel::LONGEST] = [0; pixel::LONGEST];
+    let mut line: [u8; 65535] = [0; 65535];
+    let c = scene_of(bytes, rows, n);
+    let start = items_from(bytes, rows, a);
+    let done = count_frames(
+        bytes,
+        rows,
+        c,
+        n,
+        start,
+        a,
+        b,
+        &mut table,
+        &mut upper,
+        &mut lower,
+        &mut line,
+    );
+    let counts = done.counts;
+    Numbers {
+        counts,
+        natives: done.natives,
+        lowest: first_drawn(counts),
+        highest: last_drawn(counts),
+        sum: weighted(counts),
+    }
+}
+
+// ---- The call
+
+// A sheet of zeros with an answer that refuses.
+fn refused(answer: SheetAnswer) -> Sampled
+    ensures { λ r. ⌜ r ≡ record { answer = answer; sheet = noSheet } ⌝ }
+{
+    Sampled {
+        answer,
+        sheet: Numbers {
+            counts: [0; 256],
+            natives: 0,
+            lowest: 0,
+            highest: 0,
+            sum: 0,
+        },
+    }
+}
+
+// The sheet of frames of an accepted object with so many rows: codes 19 and 10, or the sheet.
+fn sheet_table(bytes: &[u8], rows: &[u32], first: usize, last: usize, count: usize) -> Sampled
+    requires { ⌜ Table (now bytes) (now rows) × (((i : ℕ) → getD (now bytes) i 0 < 256) × (findingOf (nodesOf (now bytes)) ≡ finding.Accepted)) ⌝ }
+    ensures { λ r. ⌜ r ≡ withSheet (nodesOf (now (bytes .entry))) first last (acceptedAnswer (nodesOf (now (bytes .entry))) first last count) ⌝ }
+{
+    if last < first {
+        return refused(SheetAnswer::WrongOrder);
+    }
+    let Num::Is(n) = element::frame_count(bytes, rows) else {
+        return refused(SheetAnswer::NoFrame);
+    };
+    if first < 1 {
+        return refused(SheetAnswer::NoFrame);
+    }
+    if n < last {
+        return refused(SheetAnswer::NoFrame);
+    }
+    let sheet = sample_frames(bytes, rows, n, first, last);
+    Sampled {
+        answer: SheetAnswer::Done(count),
+        sheet,
+    }
+}
+
+// Judges the data set afresh and counts the levels of frames `first` to `last`.
+pub fn sheet(bytes: &[u8], first: u64, last: u64, rows: &mut [u32]) -> Sampled
+    ensures { λ r. ⌜ r ≡ sheetOf (now (bytes .entry)) first last (now (rows .entry)) ⌝ }
+    ensures { λ _. ⌜ now (rows .exit) ≡ bufferOf (readingOf (now (bytes .entry))) (now (rows .entry)) ⌝ }
+{
+    match conformance::judge(bytes, rows) {
+        JudgeAnswer::TooLarge => refused(SheetAnswer::TooLarge),
+        JudgeAnswer::Refused(code, offset) => refused(SheetAnswer::Refused(code, offset)),
+        JudgeAnswer::NoRoom => refused(SheetAnswer::NoRoom),
+        JudgeAnswer::Broken(count, rule, broken) => {
+            refused(SheetAnswer::Broken(count, rule, broken))
+        }
+        JudgeAnswer::Accepted(count) => {
+            let end = dataset::WIDTH * count;
+            sheet_table(bytes, &rows[..end], first as usize, last as usize, count)
+        }
+    }
+}
+
+// The number of frames, which an accepted object has.
+fn last_frame(bytes: &[u8], rows: &[u32]) -> usize
+    requires { ⌜ Table (now bytes) (now rows) ⌝ }
+    ensures { λ r. ⌜ r ≡ numberOf (framesOf (nodesOf (now (bytes .entry)))) ⌝ }
+{
+    match element::frame_count(bytes, rows) {
+        Num::Is(n) => n,
+        Num::Lacks => 0,
+    }
+}
+
+// The sheet of all frames, from 1 to the number of frames.
+pub fn whole(bytes: &[u8], rows: &mut [u32]) -> Sampled
+    ensures { λ r. ⌜ r ≡ sheetOf (now (bytes .entry)) 1 (numberOf (framesOf (nodesOf (now (bytes .entry))))) (now (rows .entry)) ⌝ }
+    ensures { λ _. ⌜ now (rows .exit) ≡ bufferOf (readingOf (now (bytes .entry))) (now (rows .entry)) ⌝ }
+{
+    match conformance::judge(bytes, rows) {
+        JudgeAnswer::TooLarge => refused(SheetAnswer::TooLarge),
+        JudgeAnswer::Refused(code, offset) => refused(SheetAnswer::Refused(code, offset)),
+        JudgeAnswer::NoRoom => refused(SheetAnswer::NoRoom),
+        JudgeAnswer::Broken(count, rule, broken) => {
+            refused(SheetAnswer::Broken(count, rule, broken))
+        }
+        JudgeAnswer::Accepted(count) => {
+            let end = dataset::WIDTH * count;
+            let table = &rows[..end];
+            let last = last_frame(bytes, table);
+            sheet_table(bytes, table, 1, last, count)
+        }
+    }
+}
+
+// Number k of a sheet, in the order named.
+pub fn number_at(t: Numbers, k: usize) -> u64
+    requires { ⌜ (length (t .counts) ≡ 256) × (k < 260) ⌝ }
+    ensures { λ r. ⌜ r ≡ getD (numbersIn t) k 0 ⌝ }
+{
+    let counts = t.counts;
+    if k < 256 {
+        counts[k]
+    } else {
+        if k == 256 {
+            t.natives as u64
+        } else {
+            if k == 257 {
+                t.lowest as u64
+            } else {
+                if k == 258 {
+                    t.highest as u64
+                } else {
+                    t.sum as u64
+                }
+            }
+        }
+    }
+}
