@@ -1,1 +1,4 @@
 pub mod Alike
+pub mod Rows
+pub mod Privacy
+pub mod Unread
