@@ -10,3 +10,4 @@ pub mod Sampled
 pub mod Mapped
 pub mod Privacy
 pub mod Unread
+pub mod Pair

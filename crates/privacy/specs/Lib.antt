@@ -2,3 +2,4 @@ pub mod Alike
 pub mod Rows
 pub mod Privacy
 pub mod Unread
+pub mod Pair
