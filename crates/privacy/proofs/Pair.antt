@@ -8,28 +8,26 @@ use Rattle.dataset.specs.Header.{when, headerBy, delimiterBy, levelBy, definedB
 use Rattle.dataset.specs.Reading.{level, valueAt, readingOf}
 use Rattle.dataset.specs.Tree.{rowsOf}
 use Rattle.value.specs.Text.{equal, valuesOf, trimStart, trimEnd}
-use Rattle.value.specs.Words.{wordAt, isWord, isUid, functionOf}
-use Rattle.value.specs.Number.{usOf, usValues, ssOf, digitsOf, signedBy, wholeOf, isOf, exactOf, exponentOf, endOf, sizeOf, decimalOf, all, allDecimals, allWidths}
+use Rattle.value.specs.Words.{wordAt, isWord, isUid}
+use Rattle.value.specs.Number.{usOf, digitsOf, signedBy, wholeOf, isOf}
 use Rattle.node.specs.Nodes.{nodesOf, members, membersBy}
 use Rattle.node.specs.Find.{find, ofVr, filled, has}
-use Rattle.element.specs.Elements.{oneItem, theItem, itemsIn, every, some, functionIn}
-use Rattle.element.specs.Frames.{framesOf, sharedItem, frameItems, maskItems, operationIs}
-use Rattle.shift.specs.Shift.{movesOf}
+use Rattle.element.specs.Elements.{oneItem, theItem, itemsIn, every, some}
+use Rattle.element.specs.Frames.{framesOf, sharedItem, frameItems, maskItems}
 use Rattle.verdict.specs.Verdict.{perFrame}
 use Rattle.rules.specs.Root.{isXa, isXrf, imageTypeIs, isImageType, planesAre, photometricIs, bitsFit, lossyIs, isOriginal, rule1, rule2, rule3, rule4, rule5, rule6, rule7, rule8, rule9, rule10, rule11, rule12, rule13, rule14, rule15, rule16, rule17, rule18, rule19, rule20, rule21, rule22, rule23, rule24, rule25, rule26}
-use Rattle.rules.specs.Frame.{isShared, repeatsShared, item27, item28, item29, isWindow, hasWindow, isVoi, item30, item37, rule27, rule28, rule29, rule30, rule37}
-use Rattle.rules.specs.Mask.{isOperation, isMask, rangeFits, allFrames, areMaskFrames, averageFits, averagesFit, isOffset, offsetFits, shiftFits, hasShiftGroup, anyShift, rule31, rule32, rule33, rule34, rule35, rule36}
+use Rattle.rules.specs.Frame.{isShared, repeatsShared, item27, item28, item29, item30, item37, rule27, rule28, rule29, rule30, rule37}
+use Rattle.rules.specs.Mask.{hasShiftGroup, anyShift, rule31, rule32, rule33, rule34, rule35, rule36}
 use Rattle.rules.specs.Pixels.{isPixelVr, isPixelData, rule38}
 use Rattle.rules.specs.Intensity.{item39, rule39}
 use Rattle.rules.specs.All.{ruleList, ruleAt}
 use Rattle.conformance.specs.Judging.{firstFrame, frameCount, lowest, firstBroken, judgeOf}
 use Rattle.window.specs.Window.{fullWindow, levelOf, shadeOf}
-use Rattle.pixel.specs.Pixel.{leBytes, isFrame, sampleAt, sumAt, averageOf, maskAt, placeOf, restOf, neighbourOf, areInside, blendOf, blendedAt}
+use Rattle.pixel.specs.Pixel.{leBytes, isFrame, sampleAt}
 use Rattle.steps.specs.Given.{collect}
-use Rattle.steps.specs.Steps.{geometryOf, pixelsOf, groupFor, rangeHolds, firstHolding, applyingTo, averageFrames, offsetOf, tidFrame, shiftFor, movesFor, maskBy, maskFor, windowIn, windowFor, inverseOf, nativeCell, maskedCell, areFrames, pictureBy, stepsOf}
+use Rattle.steps.specs.Steps.{geometryOf, pixelsOf, groupFor, applyingTo, maskFor, windowFor, inverseOf, nativeCell, pictureBy, stepsOf}
 use Rattle.display.specs.Show.{pictureOf, acceptedAnswer, showOf, imageOf}
 use Rattle.conformance.specs.Judging.{codeOf}
-use Rattle.conformance.specs.declared.JudgeAnswer.{JudgeAnswer}
 use Rattle.display.specs.Show as show
 use Rattle.privacy.specs.Privacy.{isPatient, SameButPatient, SameAnswers}
 use Rattle.privacy.specs.Pair.{one, other, patientSizes, buffer, image, Pair}
@@ -67,25 +65,24 @@ unfolding
     level valueAt readingOf
     rowsOf
     equal valuesOf trimStart trimEnd
-    wordAt isWord isUid functionOf
-    usOf usValues ssOf digitsOf signedBy wholeOf isOf exactOf exponentOf endOf sizeOf decimalOf all allDecimals allWidths
+    wordAt isWord isUid
+    usOf digitsOf signedBy wholeOf isOf
     nodesOf members membersBy
     find ofVr filled has
-    oneItem theItem itemsIn every some functionIn
+    oneItem theItem itemsIn every some
     framesOf sharedItem frameItems maskItems
-    movesOf
     perFrame
     isXa isXrf imageTypeIs isImageType planesAre photometricIs bitsFit lossyIs isOriginal rule1 rule2 rule3 rule4 rule5 rule6 rule7 rule8 rule9 rule10 rule11 rule12 rule13 rule14 rule15 rule16 rule17 rule18 rule19 rule20 rule21 rule22 rule23 rule24 rule25 rule26
-    isShared repeatsShared item27 item28 item29 isWindow hasWindow isVoi item30 item37 rule27 rule28 rule29 rule30 rule37
-    operationIs isOperation isMask rangeFits allFrames areMaskFrames averageFits averagesFit isOffset offsetFits shiftFits hasShiftGroup anyShift rule31 rule32 rule33 rule34 rule35 rule36
+    isShared repeatsShared item27 item28 item29 item30 item37 rule27 rule28 rule29 rule30 rule37
+    hasShiftGroup anyShift rule31 rule32 rule33 rule34 rule35 rule36
     isPixelVr isPixelData rule38
     item39 rule39
     ruleList ruleAt
     firstFrame frameCount lowest firstBroken judgeOf
     fullWindow levelOf shadeOf
-    leBytes isFrame sampleAt sumAt averageOf maskAt placeOf restOf neighbourOf areInside blendOf blendedAt
+    leBytes isFrame sampleAt
     collect
-    geometryOf pixelsOf groupFor rangeHolds firstHolding applyingTo averageFrames offsetOf tidFrame shiftFor movesFor maskBy maskFor windowIn windowFor inverseOf nativeCell maskedCell areFrames pictureBy stepsOf
+    geometryOf pixelsOf groupFor applyingTo maskFor windowFor inverseOf nativeCell pictureBy stepsOf
     pictureOf acceptedAnswer showOf imageOf
 drawn = (refl, (refl, refl))
 
