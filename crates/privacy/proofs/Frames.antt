@@ -20,7 +20,8 @@ use Rattle.element.specs.Frames.{framesOf, sharedItem, frameItems, frameItem, g
 use Rattle.rules.specs.Frame.{atFrame, isShared, repeatsShared, item27, rule27, item28, rule28, item29, rule29, hasWindow, isVoi, item30, rule30, numberOr0, unique, uniqueIds, hasId, isShiftItem, isShiftGroup, item37, rule37}
 use Rattle.rules.specs.Mask.{isOperation, isMask, rule31, isRange, rangeFits, rule32, areMaskFrames, isOne, averageFits, averagesFit, rule33, isOffset, offsetFits, rule34, isShiftAt, shiftFits, rule35, hasShiftGroup, anyShift, masksHaveIds, rule36}
 use Rattle.rules.specs.Intensity.{isLinear, linearAmong, isLut, hasLut, areLuts, isLutGroup, hasLinear, isLog, item39, rule39}
-use Rattle.privacy.specs.Alike.{isRead, Alike}
+use Rattle.privacy.specs.Read.{isRead}
+use Rattle.privacy.specs.Alike.{Alike}
 use Rattle.privacy.proofs.Words.{holds-same, if-same, every-same, some-same, map-same, inside-same, find-same, find-root, vr-same, value-same, value-vr-same, test-same, cs-same, one-same, the-same, frames-same, shared-same, frame-items-same, item-same, mask-items-same, group-same, operation-same, id-same, function-same}
 
 module _ {ns ms : List Node} (a : Alike ns ms) where

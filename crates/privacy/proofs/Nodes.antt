@@ -8,7 +8,8 @@ use Rattle.dataset.specs.Reading.{Row, readingOf, read}
 use Rattle.dataset.specs.Tree.{rowsOf, rowAt, noRow}
 use Rattle.node.specs.Nodes.{Node, nodeOf, nodesOf, nodeAt, noNode, valueIn}
 use Rattle.element.specs.Tags
-use Rattle.privacy.specs.Alike.{isRead, Alike, SamePixels}
+use Rattle.privacy.specs.Read.{isRead}
+use Rattle.privacy.specs.Alike.{Alike, SamePixels}
 use Rattle.privacy.specs.Rows.{outline, SameRows}
 
 -- What a list of rows is mapped to, row by row.

@@ -19,7 +19,8 @@ use Rattle.conformance.specs.declared.JudgeAnswer.{JudgeAnswer}
 use Rattle.display.specs.Show.{showOf, imageOf}
 use Rattle.linear.specs.Answer.{linearOf, valuesOf}
 use Rattle.sheet.specs.Answer.{sheetOf}
-use Rattle.privacy.specs.Alike.{readTags, isRead, Alike, SamePixels}
+use Rattle.privacy.specs.Read.{readTags, isRead}
+use Rattle.privacy.specs.Alike.{Alike, SamePixels}
 use Rattle.privacy.specs.Privacy.{patientTags, isPatient, keptValue, SameButPatient, SameAnswers, Privacy}
 use Rattle.privacy.proofs.Nodes.{both-at, tag-at, alike, same-pixels}
 use Rattle.privacy.proofs.Answers.{judge-same}

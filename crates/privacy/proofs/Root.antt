@@ -18,7 +18,8 @@ use Rattle.element.specs.Elements.{usIn, oneItem}
 use Rattle.element.specs.Frames.{framesOf, sharedItem}
 use Rattle.rules.specs.Root.{isXa, isXrf, imageTypeIs, isImageType, planesAre, isOtherPlane, photometricIs, lossyIs, isOriginal, hasRadiation, hasExposure, rule1, rule2, rule3, rule4, rule5, rule6, rule7, rule8, rule9, rule10, rule11, rule12, rule13, rule14, rule15, rule16, rule17, rule18, rule19, rule20, rule21, rule22, rule23, rule24, rule25, rule26}
 use Rattle.rules.specs.Pixels.{isPixelData, rule38}
-use Rattle.privacy.specs.Alike.{isRead, Alike}
+use Rattle.privacy.specs.Read.{isRead}
+use Rattle.privacy.specs.Alike.{Alike}
 use Rattle.privacy.proofs.Words.{holds-same, inside-same, root-same, find-root, find-tag, vr-root, cs-root, ui-root, us-root, has-root, test-root, one-same, frames-same, shared-same}
 
 module _ {ns ms : List Node} (a : Alike ns ms) where

@@ -7,7 +7,8 @@ use Rattle.element.specs.Tags
 use Rattle.conformance.specs.declared.JudgeAnswer.{JudgeAnswer}
 use Rattle.conformance.specs.declared.JudgeAnswer.the-variants as judged
 use Rattle.display.specs.Show.{isFrameOf, imageSize, pictureOf, acceptedAnswer, answerFor}
-use Rattle.privacy.specs.Alike.{isRead, Alike, SamePixels}
+use Rattle.privacy.specs.Read.{isRead}
+use Rattle.privacy.specs.Alike.{Alike, SamePixels}
 use Rattle.privacy.proofs.Words.{us-root, frames-same}
 use Rattle.privacy.proofs.Steps.{steps-same}
 

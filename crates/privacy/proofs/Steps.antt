@@ -22,7 +22,8 @@ use Rattle.steps.specs.declared.Applying.the-variants.{Item, Nothing}
 use Rattle.steps.specs.Given.{need, check, then}
 use Rattle.steps.specs.Steps.{Mask, native, masked, geometryOf, pixelsOf, orShared, groupFor, rangeHas, rangeHolds, firstHolding, onMask, applyingTo, averageFrames, offsetAt, offsetOf, tidFrame, naming, ownIn, itemAt, shiftFrom, shiftFor, movesFor, onTid, maskBy, maskOn, maskFor, windowIn, windowOn, windowFor, inverseOf, stepsOf}
 use Rattle.linear.specs.Mapping.{linearOn, linearFor, mappingBy, mappingOf, isMapped}
-use Rattle.privacy.specs.Alike.{isRead, Alike, SamePixels}
+use Rattle.privacy.specs.Read.{isRead}
+use Rattle.privacy.specs.Alike.{Alike, SamePixels}
 use Rattle.privacy.proofs.Words.{inside-same, find-same, find-root, find-tag, vr-same, vr-root, value-same, value-vr-same, us-root, the-same, frames-same, shared-same, item-same, operation-same, id-same, function-same}
 use Rattle.privacy.proofs.Frames.{among-same}
 

@@ -9,7 +9,8 @@ use borrow.Author.Tests.{eq-eqb}
 use Rattle.dataset.specs.Tree.{rowAt}
 use Rattle.node.specs.Nodes.{nodesOf, valueIn}
 use Rattle.element.specs.Tags
-use Rattle.privacy.specs.Alike.{isRead, Alike}
+use Rattle.privacy.specs.Read.{isRead}
+use Rattle.privacy.specs.Alike.{Alike}
 use Rattle.privacy.specs.Unread.{readValue, pixelLength, SameWhereRead, Unread}
 use Rattle.privacy.proofs.Nodes.{both-at, tag-at, alike}
 use Rattle.privacy.proofs.Answers.{judge-same}

@@ -20,7 +20,8 @@ use Rattle.element.specs.Tags
 use Rattle.element.specs.Tags.{CS, UI, US, IS}
 use Rattle.element.specs.Elements.{valueAt, usIn, csIs, uiIs, oneItem, theItem, insideOf, itemsIn, every, some, first, functionOn, functionIn}
 use Rattle.element.specs.Frames.{counted, framesOf, sharedItem, frameItems, frameItem, groupOf, maskItems, operationIs, idIn}
-use Rattle.privacy.specs.Alike.{isRead, Alike}
+use Rattle.privacy.specs.Read.{isRead}
+use Rattle.privacy.specs.Alike.{Alike}
 
 -- ---- Tests that agree where something is there
 

@@ -1,3 +1,4 @@
+pub mod Read
 pub mod Alike
 pub mod Rows
 pub mod Privacy

@@ -9,7 +9,7 @@
 -- Not promised: the row table, offsets and the canonical form, which do depend on these values.
 --
 -- Proved in proofs/Privacy.antt. A rule or drawing step that reads one of the four items makes that proof fail: its tag would have to stand among
--- the tags that are read (specs/Alike.antt), and none of the four may. specs/Pair.antt has two such data sets, accepted.
+-- the tags that are read (specs/Read.antt), and none of the four may. specs/Pair.antt has two such data sets, accepted.
 use mathlib.Core.Path.{_≡_}
 use Prim.Native.Nat.{ℕ}
 use mathlib.Core.Bool.{Bool, cond, _&&_}

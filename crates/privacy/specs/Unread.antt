@@ -1,5 +1,5 @@
 -- A verdict depends on no value but those that a rule reads. Take two data sets within the size limit that both read, with the same rows but
--- for places and lengths, the same values at the tags that are read (specs/Alike.antt), and Pixel Data of the same length. With the same
+-- for places and lengths, the same values at the tags that are read (specs/Read.antt), and Pixel Data of the same length. With the same
 -- row buffer, `judge` gives the same code, rule, frame and row count. So the bytes of Pixel Data do not count for the verdict, nor do the values of
 -- private elements or of any other element that no rule names. Proved in proofs/Unread.antt.
 use mathlib.Core.Path.{_≡_}
@@ -12,7 +12,7 @@ use Rattle.dataset.specs.Reading.{Row}
 use Rattle.node.specs.Nodes.{valueIn}
 use Rattle.element.specs.Tags
 use Rattle.conformance.specs.Judging.{judgeOf}
-use Rattle.privacy.specs.Alike.{isRead}
+use Rattle.privacy.specs.Read.{isRead}
 use Rattle.privacy.specs.Rows.{SameRows}
 
 -- The bytes of a row's value, if its tag is read, and the length of Pixel Data.
