@@ -83,6 +83,11 @@ class GuardedBuffer:
 
     _count = 0
 
+    @classmethod
+    def start_at(cls, count):
+        """So that buffers made from now on hold the same as buffers made after an earlier such call."""
+        cls._count = count
+
     def __init__(self, length):
         GuardedBuffer._count += 1
         shift = GuardedBuffer._count % 241

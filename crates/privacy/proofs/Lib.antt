@@ -1,0 +1,13 @@
+pub mod Words
+pub mod Root
+pub mod Frames
+pub mod Judged
+pub mod Steps
+pub mod Nodes
+pub mod Answers
+pub mod Shown
+pub mod Sampled
+pub mod Mapped
+pub mod Privacy
+pub mod Unread
+pub mod Pair

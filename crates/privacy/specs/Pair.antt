@@ -1,0 +1,57 @@
+-- Two small data sets as `Privacy` has them, so that it speaks of something: they are accepted and drawn, and differ in all four items and in
+-- the lengths of all four. Proved by computing, in proofs/Pair.antt.
+use mathlib.Core.Path.{_≡_}
+use Prim.Native.Nat.{ℕ}
+use mathlib.Core.Bool.{cond}
+use mathlib.Core.List.{List, [], _∷_, _++_}
+use lib.ListN.{take, drop, replicate}
+use Rattle.dataset.specs.Reading.{Row}
+use Rattle.dataset.specs.Tree.{rowsOf}
+use Rattle.value.specs.Text.{ascii}
+use Rattle.conformance.specs.Judging.{judgeOf, codeOf}
+use Rattle.display.specs.Show as show
+use Rattle.samples.specs.Objects.{short, oneFrame, noWindow}
+use Rattle.privacy.specs.Privacy.{isPatient, SameButPatient}
+
+-- An object of one frame of two cells, as the samples have it, and the same with the four items where their tags belong: after Modality, which ends
+-- at byte 94, and after Planes in Acquisition, which ends at byte 128.
+abbrev pub plain : List ℕ
+plain = oneFrame "MONOCHROME2 " "IDENTITY" noWindow (7 ∷ 200 ∷ [])
+
+abbrev pub withPatient : List ℕ → List ℕ → List ℕ → List ℕ → List ℕ
+withPatient name id birth comments =
+    take 94 plain
+    ++ (short 0x0010 0x0010 "PN" name
+    ++ (short 0x0010 0x0020 "LO" id
+    ++ (short 0x0010 0x0030 "DA" birth
+    ++ (take 34 (drop 94 plain)
+    ++ (short 0x0020 0x4000 "LT" comments
+    ++ drop 128 plain)))))
+
+abbrev pub one : List ℕ
+one = withPatient (ascii "Doe^Jane") (ascii "4711") (ascii "19700101") (ascii "ok")
+
+abbrev pub other : List ℕ
+other = withPatient (ascii "Roe^Richard ") (ascii "A-0815") [] (ascii "left arm")
+
+-- The lengths of the patient items among rows.
+unfoldable pub patientSizes : List Row → List ℕ
+patientSizes [] = []
+patientSizes (r ∷ rs) = cond (isPatient r) (r .size ∷ patientSizes rs) (patientSizes rs)
+
+-- A row buffer for 40 rows, and an image buffer.
+abbrev pub buffer : List ℕ
+buffer = replicate 280 0
+
+abbrev pub image : List ℕ
+image = replicate 2 0
+
+pub record Pair : Type 0 where
+  pub premise : SameButPatient one other
+  pub sizes : patientSizes (rowsOf one) ≡ 8 ∷ 4 ∷ 8 ∷ 2 ∷ []
+  pub other-sizes : patientSizes (rowsOf other) ≡ 12 ∷ 6 ∷ 0 ∷ 8 ∷ []
+  pub accepted : codeOf (judgeOf one buffer) ≡ 0
+  pub other-accepted : codeOf (judgeOf other buffer) ≡ 0
+  pub drawn : show.codeOf (show.showOf one 1 buffer image) ≡ 0
+  pub picture : show.imageOf one 1 buffer image ≡ 7 ∷ 200 ∷ []
+  pub other-picture : show.imageOf other 1 buffer image ≡ 7 ∷ 200 ∷ []

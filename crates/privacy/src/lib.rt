@@ -1,0 +1,1 @@
+// What the values of four patient items do not reach: specs/Privacy.antt. No code.
