@@ -23,6 +23,7 @@ use Rattle.node.specs.Nodes.{Node, nodeOf, nodesOf, nodeAt, noNode}
 use Rattle.node.proofs.Laws.{table, nodes-count, node-is}
 use Rattle.conformance.specs.Judging.{judgeOf}
 use Rattle.display.specs.Show.{showOf, imageOf}
+use Rattle.sheet.specs.Answer.{sheetOf}
 use Rattle.canonical.specs.Written.{writtenOf}
 use Rattle.canonical.specs.Answer.{answerFor, targetBy, canonicalOf, targetOf, codeOf, offsetOf}
 use Rattle.canonical.specs.declared.CanonicalAnswer.{CanonicalAnswer}
@@ -52,8 +53,12 @@ module _ (s t : List ℕ) (a : ReadsWell s) (b : ReadsWell t) (n : nodesOf s ≡
   unfolding imageOf
   image-same frame rows image = rw (n, show-same frame rows image)
 
+  sheet-same : (first last : ℕ) (rows : List ℕ) → sheetOf s first last rows ≡ sheetOf t first last rows
+  unfolding sheetOf
+  sheet-same first last rows = rw (n, judge-same rows)
+
   alike : Alike s t
-  alike = record { judged = judge-same; shown = show-same; picture = image-same }
+  alike = record { judged = judge-same; shown = show-same; picture = image-same; sampled = sheet-same }
 
 -- ---- The same nodes: the rows agree, and the other way round
 
