@@ -60,27 +60,39 @@ pub struct Differing {
 
 // ---- A line against its cells
 
-// One more cell, at a place: our level and theirs.
-fn look(ours: usize, theirs: usize, tolerance: usize, place: usize, sofar: Differing) -> Differing
-    requires { ⌜ (ours < 256) × ((theirs < 256) × ((tolerance ≤ 255) × (sofar .count ≤ place))) ⌝ }
-    ensures { λ r. ⌜ r ≡ seen (not (within tolerance ours theirs)) place sofar ⌝ }
+// Two levels are not within the tolerance of each other.
+fn is_off(ours: usize, theirs: usize, tolerance: usize) -> bool
+    requires { ⌜ (ours < 256) × ((theirs < 256) × (tolerance ≤ 255)) ⌝ }
+    ensures { λ r. ⌜ r ≡ not (within tolerance ours theirs) ⌝ }
 {
-    if ours <= theirs + tolerance {
-        if theirs <= ours + tolerance {
-            return sofar;
-        }
+    if theirs + tolerance < ours {
+        true
+    } else {
+        ours + tolerance < theirs
     }
+}
+
+// One more cell, at a place.
+fn look(off: bool, place: usize, sofar: Differing) -> Differing
+    requires { ⌜ (sofar .count ≤ place) × (place < 18446744073709551615) ⌝ }
+    ensures { λ r. ⌜ r ≡ seen off place sofar ⌝ }
+{
+    let first = sofar.first;
     let count = sofar.count;
-    if count == 0 {
-        Differing {
-            first: place,
-            count: 1,
+    if off {
+        if count == 0 {
+            Differing {
+                first: place,
+                count: count + 1,
+            }
+        } else {
+            Differing {
+                first,
+                count: count + 1,
+            }
         }
     } else {
-        Differing {
-            first: sofar.first,
-            count: count + 1,
-        }
+        sofar
     }
 }
 
@@ -98,7 +110,8 @@ fn compare_line(
     let mut now = sofar;
     for k in 0..line.len() {
         let place = at + k;
-        let next = look(wide(line[k]), wide(cells[place]), tolerance, place, now);
+        let off = is_off(wide(line[k]), wide(cells[place]), tolerance);
+        let next = look(off, place, now);
         now = next;
     }
     now
