@@ -1,5 +1,5 @@
-/* Reads, judges and draws X-ray angiographic (XA, XRF) data sets in Explicit VR Little Endian, without a file head, maps
- * their frames back to beam intensity, and keeps verdicts on slips.
+/* Reads, judges and draws X-ray angiographic (XA, XRF) data sets in Explicit VR Little Endian, without a file head, counts
+ * the grey levels of their frames, maps them back to beam intensity, and keeps verdicts on slips.
  *
  * Every call takes any bytes and any buffers; nothing is asked of the caller but that each pointer has as many
  * elements behind it as the size that follows it says, and that no two buffers overlap. A pointer whose size is 0 is
@@ -25,6 +25,9 @@ extern "C" {
 /* The number of rules. */
 #define XA_RULES 39
 
+/* The numbers of a sampling sheet. */
+#define XA_SHEET_NUMBERS 260
+
 /* What a call answers. Fields that the code does not name are 0.
  *
  *   code  meaning                                                              fields named
@@ -44,14 +47,16 @@ extern "C" {
  *         numbers a row
  *      9  a rule is broken: the first that is, and at it the lowest frame      rows, rule, frame
  *     10  no such frame: the number is not in 1 to Number of Frames            none
- *     11  the image buffer holds fewer than Rows x Columns bytes, or the       none
- *         values buffer fewer than Rows x Columns numbers
+ *     11  the image buffer holds fewer than Rows x Columns bytes, the values   none
+ *         buffer fewer than Rows x Columns numbers, or the sheet's buffer
+ *         fewer than XA_SHEET_NUMBERS
+ *     19  the first frame is above the last                                    none
  *     20  the frame has no TO_LINEAR item to be mapped by                      none
  *
  * `offset` counts bytes from 0: where the refused header starts, or the end at which an undefined length is still
  * open. `rule` is 1 to XA_RULES; `frame` counts from 1, and is 0 for a rule that is not asked at each frame. The size (7)
- * is tested first, then 1 to 6 header by header, then the row buffer (8), then the rules (9), then the frame (10), then by
- * xa_linear the item (20), then the image or values buffer (11).
+ * is tested first, then 1 to 6 header by header, then the row buffer (8), then the rules (9), then by xa_sheet the order of the
+ * frames (19), then the frame (10), then by xa_linear the item (20), then the image, values or sheet's buffer (11).
  */
 typedef struct {
     uint32_t code;
@@ -96,6 +101,24 @@ xa_answer xa_judge(const uint8_t *data, size_t size, uint32_t *rows, size_t rows
  */
 xa_answer xa_show(const uint8_t *data, size_t size, uint64_t frame, uint32_t *rows, size_t rows_len, uint8_t *image,
                   size_t image_len);
+
+/* Judges the data set as `xa_judge` does, afresh, and counts the grey levels of its frames `first` to `last`, counted from 1, as
+ * `xa_show` draws them. The sheet has XA_SHEET_NUMBERS numbers:
+ *
+ *   0..255  how often each level was drawn; together (last - first + 1) x Rows x Columns
+ *      256  how many of the frames are native
+ *      257  the lowest level that was drawn
+ *      258  the highest
+ *      259  the sum of all levels
+ *
+ * `sheet` has room for `sheet_len` numbers. Where it has room for XA_SHEET_NUMBERS, so many are written with every code: with code 0
+ * the sheet, with any other code zeros; nothing is written beyond them. Where it has less room nothing is written, and where the
+ * sheet was else done the code is 11. The rows are written with codes 0, 9, 19, 10 and 11. No image buffer is lent: a line is drawn at
+ * a time. The sheet of frames of a data set that `xa_judge` accepts is always done where there is room. Time goes with the number of
+ * cells and rows. STACK
+ */
+xa_answer xa_sheet(const uint8_t *data, size_t size, uint64_t first, uint64_t last, uint32_t *rows, size_t rows_len,
+                   uint64_t *sheet, size_t sheet_len);
 
 /* What `xa_canonical` answers. Fields that the code does not name are 0.
  *

@@ -3,7 +3,7 @@
 import ctypes
 
 from parents import table_of
-from reference import canonical, drawing, intensity, reading, rules, slips
+from reference import canonical, drawing, intensity, reading, rules, sheet, slips
 from reference.answers import Answer
 from reference.reading import ITEM, NUMBERS_IN_A_ROW
 from reference.values import UNIT
@@ -556,5 +556,81 @@ LINEAR_FAULTS = {
     "the last entry changed": StandIn(root_entry=lambda level: intensity.root_entry(level) - (level == 255)),
 }
 
+def another_sheet(change):
+    """`change(numbers)` answers other numbers of a sheet that was done."""
+    return StandIn(lambda o, data: o._replace(sheet=tuple(change(list(o.sheet)))) if o.answer.code == 0 and o.sheet else o)
+
+
+def moved_number(place, more):
+    def change(numbers):
+        numbers[place] += more
+        return numbers
+
+    return another_sheet(change)
+
+
+def last_cell_left_out(numbers):
+    numbers[numbers[258]] -= 1
+    return numbers
+
+
+def other_frames(first, last):
+    """The sheet of other frames: so many more at either end, kept within what there is."""
+    def sample(data, a, b, *rooms):
+        outcome = sheet.sheet(data, a, b, *rooms)
+        if outcome.answer.code != 0 or not outcome.sheet:
+            return outcome
+        other = sheet.sheet(data, max(1, a + first), b + last, *rooms)
+        return outcome._replace(sheet=other.sheet) if other.answer.code == 0 else outcome
+
+    return StandIn(sample=sample)
+
+
+def native_cells(data, a, b, *rooms):
+    """The counts of native cells for masked ones."""
+    draw = sheet.draw
+    sheet.draw = lambda root, frame: (draw(root, frame)[0], unmasked(root, frame))
+    try:
+        return sheet.sheet(data, a, b, *rooms)
+    finally:
+        sheet.draw = draw
+
+
+def unmasked(root, frame):
+    kept = drawing.mask_samples
+    drawing.mask_samples = lambda *arguments: None
+    try:
+        return drawing.draw(root, frame)[1]
+    finally:
+        drawing.mask_samples = kept
+
+
+def told_as(code, other):
+    return StandIn(answer_changed(code=lambda a: other if a.code == code else a.code))
+
+
+SHEET_FAULTS = {
+    "nothing written": StandIn(lambda o, data: o._replace(sheet=())),
+    "the last cell left out": another_sheet(last_cell_left_out),
+    "native cells for masked ones": StandIn(sample=native_cells),
+    "frame a - 1 too": other_frames(-1, 0),
+    "frame b + 1 too": other_frames(0, 1),
+    "frame b left out": other_frames(0, -1),
+    "a refusal that leaves counts": StandIn(lambda o, data: o._replace(sheet=(1, *o.sheet[1:])) if o.answer.code == 10 and o.sheet else o),
+    "a refusal that writes nothing": StandIn(lambda o, data: o._replace(sheet=()) if o.answer.code == 19 else o),
+    "a number too many written": StandIn(lambda o, data: o._replace(sheet=o.sheet + (0,)) if o.sheet else o),
+    "a small buffer touched": StandIn(lambda o, data: o if o.sheet or o.answer.code != 11 else o._replace(sheet=(0,))),
+    "masked frames counted": another_sheet(lambda n: n[:256] + [max(0, n[256] - 1)] + n[257:]),
+    "lowest off by one": moved_number(257, 1),
+    "highest off by one": moved_number(258, -1),
+    "sum of counts": another_sheet(lambda n: n[:259] + [sum(n[:256])]),
+    "32-bit sum": another_sheet(lambda n: n[:259] + [n[259] % 2 ** 16]),
+    "rows not written at code 19": StandIn(lambda o, data: o._replace(rows=()) if o.answer.code == 19 else o),
+    "row count told with code 19": StandIn(answer_changed(rows=lambda a: 5 if a.code == 19 else a.rows)),
+    "19 told as 10": told_as(19, 10),
+    "10 told as 19": told_as(10, 19),
+    "16-bit frame numbers": StandIn(sample=lambda data, a, b, *rooms: sheet.sheet(data, a % 65536, b % 65536, *rooms)),
+}
+
 FAULTS = {"read": READ_FAULTS, "judge": JUDGE_FAULTS, "slips": SLIP_FAULTS, "decimals": DECIMAL_FAULTS, "windows": WINDOW_FAULTS,
-          "show": SHOW_FAULTS, "canonical": CANONICAL_FAULTS, "linear": LINEAR_FAULTS}
+          "show": SHOW_FAULTS, "canonical": CANONICAL_FAULTS, "linear": LINEAR_FAULTS, "sheet": SHEET_FAULTS}

@@ -215,6 +215,12 @@ MUTATIONS = [
     ("judge", "rules.py", "frame_group(root, frame, tags.FRAME_PIXEL_DATA_PROPERTIES_SEQUENCE)",
      "frame_item(root, frame).find(tags.FRAME_PIXEL_DATA_PROPERTIES_SEQUENCE)"),
     # Mapping and derivation.
+    ("sheet", "sheet.py", "if first > last:", "if first >= last:"),
+    ("sheet", "sheet.py", "1 <= first <= count and 1 <= last <= count", "0 <= first <= count and 1 <= last <= count"),
+    ("sheet", "sheet.py", "1 <= first <= count and 1 <= last <= count", "1 <= first <= count"),
+    ("sheet", "sheet.py", "counts[level] += 1", "counts[255 - level] += 1"),
+    ("sheet", "sheet.py", "sum(not masked for", "sum(masked for"),
+    ("sheet", "sheet.py", "range(first, last + 1)])\n    return", "range(first, last)])\n    return"),
     ("linear", "intensity.py", "limited(cell - self.first, 0, self.count - 1)", "limited(cell - self.first, 0, self.count - 2)"),
     ("linear", "intensity.py", "limited(cell - self.first, 0, self.count - 1)", "limited(cell - self.first, 1, self.count - 1)"),
     ("linear", "intensity.py", "limited(cell - self.first, 0, self.count - 1)", "limited(cell, 0, self.count - 1)"),
@@ -298,7 +304,8 @@ def mutant(folder, number, file, text, other):
     intensity = load("intensity")
     return StandIn(read=load("reading").read, judge=forgiving(load("rules").judge), show=forgiving(load("drawing").show),
                    write_slip=load("slips").write_slip, read_slip=load("slips").read_slip, write_canonical=load("canonical").write_canonical,
-                   linear=forgiving(intensity.linear), root_level=intensity.root_level, root_entry=intensity.root_entry)
+                   linear=forgiving(intensity.linear), root_level=intensity.root_level, root_entry=intensity.root_entry,
+                   sample=forgiving(load("sheet").sheet))
 
 
 def forgiving(call):

@@ -14,7 +14,7 @@ import parents
 import reading_cases
 import sample_cases
 from mutations import CHANGES
-from reference import canonical, drawing, intensity, reading, rules, slips, values
+from reference import canonical, drawing, intensity, reading, rules, sheet, slips, values
 from reference.answers import Answer, Outcome
 
 
@@ -514,6 +514,26 @@ class Drawing(unittest.TestCase):
         # A native frame needs nothing of the shift.
         self.assertTrue(draws(lambda root, mask, own, shared: (mask.update({xa.TID_OFFSET: xa.ss(5)}),
                                                                own[0].update({xa.FRAME_SHIFT: xa.sq()})), 1, **tid))
+
+    def test_sheet(self):
+        """Two frames of four cells, full window at 8 bits: levels are cells."""
+        model = small_object((7, 7, 9, 200, 0, 255, 9, 9), 2, 2, 2)
+        data = objects.encode(model)
+        whole = reading.read(data, 10_000)
+        room = reading.NUMBERS_IN_A_ROW * whole.answer.rows
+        counts = [0] * 256
+        for cell in (7, 7, 9, 200, 0, 255, 9, 9):
+            counts[cell] += 1
+        self.assertEqual(sheet.sheet(data, 1, 2, room), Outcome(whole.answer, whole.rows, sheet=(*counts, 2, 0, 255, 496)))
+        self.assertEqual(sheet.sheet(data, 1, 1, room).sheet[256:], (1, 7, 200, 223))
+        self.assertEqual(sheet.sheet(data, 2, 1, room), Outcome(Answer(19), whole.rows, sheet=(0,) * 260))
+        self.assertEqual(sheet.sheet(data, 3, 1, room).answer.code, 19)
+        self.assertEqual(sheet.sheet(data, 0, 1, room), Outcome(Answer(10), whole.rows, sheet=(0,) * 260))
+        self.assertEqual(sheet.sheet(data, 1, 3, room).answer.code, 10)
+        self.assertEqual(sheet.sheet(data, 1, 2, room, 259), Outcome(Answer(11), whole.rows))
+        self.assertEqual(sheet.sheet(data, 2, 1, room - 1), Outcome(Answer(8), sheet=(0,) * 260))
+        self.assertEqual(sheet.printed(data).split()[256:], [b"2", b"0", b"255", b"496"])
+        self.assertEqual((sheet.printed(data[:-1]), sheet.printed(bytes(65_537)), sheet.printed(b"")), (b"1\n", b"7\n", b"9\n"))
 
     def test_accepted_objects_lack_nothing(self):
         rng = random.Random(4)

@@ -6,7 +6,7 @@ With no fault it must pass every comparison; with a fault it must fail one. So i
 import ctypes
 
 from library import AnswerStruct, RewrittenStruct, SlipStruct, answer_of
-from reference import canonical, drawing, intensity, reading, rules, slips
+from reference import canonical, drawing, intensity, reading, rules, sheet, slips
 
 
 def write(address, content):
@@ -30,7 +30,7 @@ class StandIn:
 
     def __init__(self, change=None, after=None, read=reading.read, judge=rules.judge, show=drawing.show,
                  write_slip=slips.write_slip, read_slip=slips.read_slip, write_canonical=canonical.write_canonical,
-                 linear=intensity.linear, root_level=intensity.root_level, root_entry=intensity.root_entry):
+                 linear=intensity.linear, root_level=intensity.root_level, root_entry=intensity.root_entry, sample=sheet.sheet):
         self.read = read
         self.judge = judge
         self.show = show
@@ -38,6 +38,7 @@ class StandIn:
         self.read_slip = read_slip
         self.write_canonical = write_canonical
         self.linear = linear
+        self.sample = sample
         self.xa_root_level = root_level
         self.xa_root_entry = root_entry
         self.change = change or (lambda outcome, data: outcome)
@@ -78,6 +79,14 @@ class StandIn:
         outcome = self.change(self.linear(content, frame, rows_length, values_length), content)
         write_rows(rows, outcome.rows)
         write(values, b"".join((number & 0xFFFF).to_bytes(2, "little") for number in outcome.values))
+        self.after(outcome, data, rows, rows_length)
+        return AnswerStruct(*outcome.answer)
+
+    def xa_sheet(self, data, size, first, last, rows, rows_length, numbers, numbers_length):
+        content = view(data, size)
+        outcome = self.change(self.sample(content, first, last, rows_length, numbers_length), content)
+        write_rows(rows, outcome.rows)
+        write(numbers, b"".join((number & 0xFFFFFFFFFFFFFFFF).to_bytes(8, "little") for number in outcome.sheet))
         self.after(outcome, data, rows, rows_length)
         return AnswerStruct(*outcome.answer)
 

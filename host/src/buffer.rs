@@ -48,6 +48,11 @@ impl RowBuffer {
         self.lend(data, |data, rows| library::linear(data, frame, rows, values))
     }
 
+    /// The sheet of frames.
+    pub fn sheet(&mut self, data: &[u8], first: u64, last: u64, sheet: &mut [u64]) -> Result<Answer, String> {
+        self.lend(data, |data, rows| library::sheet(data, first, last, rows, sheet))
+    }
+
     /// The first `rows` rows.
     pub fn table(&self, rows: u32) -> Table<'_> {
         let end = (rows as usize).saturating_mul(ROW_WIDTH).min(self.numbers.len());

@@ -62,6 +62,9 @@ pub const SLIP_SIZE: usize = 13;
 /// `XA_ROW_NUMBERS` of the header.
 pub const ROW_WIDTH: usize = 7;
 
+/// `XA_SHEET_NUMBERS` of the header.
+pub const SHEET_NUMBERS: usize = 260;
+
 extern "C" {
     fn xa_read(data: *const u8, size: usize, rows: *mut u32, rows_len: usize) -> Answer;
     fn xa_judge(data: *const u8, size: usize, rows: *mut u32, rows_len: usize) -> Answer;
@@ -90,6 +93,16 @@ extern "C" {
         rows_len: usize,
         values: *mut u16,
         values_len: usize,
+    ) -> Answer;
+    fn xa_sheet(
+        data: *const u8,
+        size: usize,
+        first: u64,
+        last: u64,
+        rows: *mut u32,
+        rows_len: usize,
+        sheet: *mut u64,
+        sheet_len: usize,
     ) -> Answer;
     fn xa_write_slip(verdict: Answer, slip: *mut u8, slip_len: usize) -> u32;
     fn xa_read_slip(slip: *const u8, slip_len: usize) -> Slip;
@@ -127,6 +140,23 @@ pub fn linear(data: &[u8], frame: u64, rows: &mut [u32], values: &mut [u16]) -> 
     // Sound: as in `show`.
     unsafe {
         xa_linear(data.as_ptr(), data.len(), frame, rows.as_mut_ptr(), rows.len(), values.as_mut_ptr(), values.len())
+    }
+}
+
+/// Counts the grey levels of frames of an accepted data set.
+pub fn sheet(data: &[u8], first: u64, last: u64, rows: &mut [u32], sheet: &mut [u64]) -> Answer {
+    // Sound: as in `show`.
+    unsafe {
+        xa_sheet(
+            data.as_ptr(),
+            data.len(),
+            first,
+            last,
+            rows.as_mut_ptr(),
+            rows.len(),
+            sheet.as_mut_ptr(),
+            sheet.len(),
+        )
     }
 }
 

@@ -14,6 +14,7 @@ mod library;
 mod listing;
 mod output;
 mod picture;
+mod sampling;
 mod sentences;
 mod table;
 
@@ -28,7 +29,8 @@ use output::{note, Status};
 
 const STATUSES: &str = "\
 Exit status:
-  0  all was accepted (judge, slip read), read (rows, duplicates), written (canonical), drawn (show, contact) or mapped (linear)
+  0  all was accepted (judge, slip read), read (rows, duplicates), written (canonical), drawn (show, contact), counted (sheet)
+     or mapped (linear)
   1  something was refused; the line says why
   2  wrong usage, nothing to judge, or a file that cannot be read or written
 
@@ -106,6 +108,26 @@ enum Command {
         #[arg(short, long, value_name = "PICTURE")]
         output: Option<PathBuf>,
     },
+    /// Count how often each grey level was drawn, for sampling by numbers
+    ///
+    /// The first line says which frames were drawn, how many of them are native, and the lowest, highest and mean level. A small
+    /// plot of the 256 counts follows, four levels a column.
+    Sheet {
+        /// A data set
+        file: PathBuf,
+        /// The frames, such as 5-12 or 7 [default: all]
+        #[arg(value_name = "A-B", value_parser = frame_range)]
+        frames: Option<(u64, u64)>,
+        /// Print all numbers instead, one a line: 256 counts, native frames, lowest and highest level, sum of all levels
+        #[arg(long, conflicts_with = "json")]
+        numbers: bool,
+        /// Print one JSON object instead
+        #[arg(long)]
+        json: bool,
+        /// Write a plot of the counts too, .png or .pgm, with the lowest and highest level and the mean marked
+        #[arg(short, long, value_name = "PICTURE")]
+        output: Option<PathBuf>,
+    },
     /// Write a data set in its canonical form
     ///
     /// The same elements and items in the same order, with defined lengths throughout and no delimiters. Data sets that differ in nothing
@@ -172,6 +194,12 @@ fn frame_number(text: &str) -> Result<u64, &'static str> {
     text.parse().map_err(|_| "a frame is a whole number, from 1 on")
 }
 
+/// Two frames with a dash between them, or one.
+fn frame_range(text: &str) -> Result<(u64, u64), &'static str> {
+    let (first, last) = text.split_once('-').unwrap_or((text, text));
+    Ok((frame_number(first)?, frame_number(last)?))
+}
+
 /// Ends with a usage message where the picture has another form than we write.
 fn check_picture(path: Option<&Path>) {
     if let Some(path) = path.filter(|path| !picture::is_picture_name(path)) {
@@ -202,6 +230,15 @@ fn run(command: Command, out: &mut dyn Write) -> io::Result<Status> {
         Command::Contact { file, output } => {
             check_picture(output.as_deref());
             picture::contact(&file, output.as_deref(), out)
+        }
+        Command::Sheet { file, frames, numbers, json, output } => {
+            check_picture(output.as_deref());
+            let form = match (numbers, json) {
+                (true, _) => sampling::Form::Numbers,
+                (_, true) => sampling::Form::Json,
+                _ => sampling::Form::Plot,
+            };
+            sampling::run(&file, &sampling::Wanted { frames, form, output: output.as_deref() }, out)
         }
         Command::Canonical { file, output } => canonical::write(&file, &output, out),
         Command::Duplicates { paths, json } => canonical::duplicates(&paths, json, out),

@@ -9,7 +9,7 @@ use std::path::{Path, PathBuf};
 use crate::buffer::RowBuffer;
 use crate::files::{self, Opened};
 use crate::head::Judged;
-use crate::library::Answer;
+use crate::library::{Answer, SHEET_NUMBERS};
 use crate::output::{line, note_of, Status};
 use crate::sentences;
 use crate::table::Table;
@@ -21,7 +21,7 @@ const COLUMNS: u32 = 0x0028_0011;
 const NO_SUCH_FRAME: u32 = 10;
 
 /// Why there is no picture, in words.
-enum Failure {
+pub enum Failure {
     /// The library refused.
     Refused(String),
     /// Something else.
@@ -35,7 +35,7 @@ impl From<String> for Failure {
 }
 
 /// What a cell is: a grey level of 8 bits, or a number of 16.
-trait Cell: Copy {
+pub trait Cell: Copy {
     const DEPTH: png::BitDepth;
     const HIGHEST: u16;
 
@@ -62,14 +62,14 @@ impl Cell for u16 {
 }
 
 /// Cells, row by row.
-struct Image<C> {
+pub struct Image<C> {
     width: usize,
     height: usize,
     cells: Vec<C>,
 }
 
 impl<C: Cell> Image<C> {
-    fn new(width: usize, height: usize, cell: C) -> Result<Image<C>, String> {
+    pub fn new(width: usize, height: usize, cell: C) -> Result<Image<C>, String> {
         let mut cells = Vec::new();
         let size = width.saturating_mul(height);
         if cells.try_reserve_exact(size).is_err() {
@@ -79,7 +79,7 @@ impl<C: Cell> Image<C> {
         Ok(Image { width, height, cells })
     }
 
-    fn put(&mut self, x: usize, y: usize, cell: C) {
+    pub fn put(&mut self, x: usize, y: usize, cell: C) {
         if let Some(place) = self.cells.get_mut(y * self.width + x) {
             *place = cell;
         }
@@ -125,7 +125,7 @@ fn form_of(path: &Path) -> Option<Form> {
 }
 
 /// An accepted run, ready to be drawn from.
-struct Run {
+pub struct Run {
     opened: Opened,
     buffer: RowBuffer,
     width: usize,
@@ -135,7 +135,7 @@ struct Run {
 
 impl Run {
     /// Width, height and the number of frames are taken from the rows of an accepted data set.
-    fn open(path: &Path) -> Result<Run, Failure> {
+    pub fn open(path: &Path) -> Result<Run, Failure> {
         let opened = Opened::open(path)?;
         let mut buffer = RowBuffer::default();
         let data = opened.bytes();
@@ -164,6 +164,18 @@ impl Run {
         let mut image = Image::new(self.width, self.height, 0)?;
         let answer = self.buffer.linear(self.opened.bytes(), frame, &mut image.cells)?;
         self.done(answer).map(|()| image)
+    }
+
+    /// How many frames it has.
+    pub fn frames(&self) -> u64 {
+        self.frames
+    }
+
+    /// The sampling sheet of frames.
+    pub fn sample(&mut self, first: u64, last: u64) -> Result<[u64; SHEET_NUMBERS], Failure> {
+        let mut numbers = [0; SHEET_NUMBERS];
+        let answer = self.buffer.sheet(self.opened.bytes(), first, last, &mut numbers)?;
+        self.done(answer).map(|()| numbers)
     }
 
     /// Whether a call was done, on a file that stayed as it was.
@@ -257,7 +269,7 @@ fn sheet_of(run: &mut Run) -> Result<(Image<u8>, Vec<u64>), Failure> {
 }
 
 /// Says why there is no picture.
-fn explain(path: &Path, failure: Failure, out: &mut dyn Write) -> io::Result<Status> {
+pub fn explain(path: &Path, failure: Failure, out: &mut dyn Write) -> io::Result<Status> {
     match failure {
         Failure::Refused(text) => {
             line(out, path, &text)?;
@@ -271,7 +283,7 @@ fn explain(path: &Path, failure: Failure, out: &mut dyn Write) -> io::Result<Sta
 }
 
 /// Writes an image and says so.
-fn write<C: Cell>(image: &Image<C>, from: &Path, to: &Path, about: &str, out: &mut dyn Write) -> io::Result<Status> {
+pub fn write<C: Cell>(image: &Image<C>, from: &Path, to: &Path, about: &str, out: &mut dyn Write) -> io::Result<Status> {
     let written = match form_of(to) {
         None => Err(String::from("its name must end in .png or .pgm")),
         Some(_) if files::is_same(from, to) => Err(String::from("it is the run itself; name another file")),

@@ -69,6 +69,7 @@ pub fn code(number: u32) -> &'static str {
         12 => "not a slip: not 13 bytes, or another mark",
         13 => "a slip of a version that is not 1",
         14 => "a slip with fields that no verdict has",
+        19 => "the first frame is above the last",
         20 => "the frame has no TO_LINEAR item",
         21 => "too little room for the canonical form",
         _ => "unknown code",

@@ -1,13 +1,15 @@
 -- The numbers of every answer fit 32 bits: a reader's, since they are small; a judge's, since its answer is a possible
 -- verdict and has few rows; those of `show`, since they are the judge's; those of `write_canonical`, since it writes no more than was read; those of a slip that reads well, since it is a
 -- possible verdict; a refusal's code, since it is 11 to 14.
-use mathlib.Core.Path.{_≡_, refl, sym, _∙_, subst}
+use mathlib.Core.Path.{_≡_, refl, sym, ap, _∙_, subst}
 use mathlib.Core.Bool.{Bool, true, false, cond, not, _&&_}
-use mathlib.Core.List.{List}
+use mathlib.Core.List.{List, [], _∷_, _++_}
 use Prim.Native.Nat.{ℕ, _≤_, _<_}
 use native.Mathlib.Omega.{arith}
 use lib.Dec.{eqb, leb}
-use lib.ListN.{length, take}
+use lib.ListN.{length, length-append, getD, take, drop}
+use lib.Seq.{ext-getD}
+use borrow.Author.Tests.{le-leb, lt-leb}
 use Rattle.dataset.specs.declared.ReadAnswer.{ReadAnswer}
 use Rattle.dataset.specs.Reading.{readingOf}
 use Rattle.dataset.specs.Answer.{answerOf}
@@ -31,13 +33,20 @@ use Rattle.linear.specs.declared.LinearAnswer.{LinearAnswer}
 use Rattle.linear.specs.declared.LinearAnswer.the-variants as linear
 use Rattle.linear.specs.Mapping.{isMapped}
 use Rattle.linear.specs.Answer.{acceptedAnswer as acceptedLinear, answerFor as linearFor, linearOf}
+use Rattle.pixel.specs.Painted.{painted}
+use Rattle.lines.specs.Lines.{upTo}
+use Rattle.lines.proofs.Lists.{upTo-length, upTo-at, painted-list}
+use Rattle.sheet.specs.declared.SheetAnswer.the-variants as sampled
+use Rattle.sheet.specs.declared.Numbers.{Numbers}
+use Rattle.sheet.specs.Sheet.{numbersIn}
+use Rattle.sheet.specs.Answer.{acceptedAnswer as acceptedSheet, answerFor as sheetFor, sheetOf}
 use Rattle.slip.specs.declared.SlipAnswer.{SlipAnswer}
 use Rattle.slip.specs.declared.SlipAnswer.the-variants as read
 use Rattle.slip.specs.declared.WriteAnswer.{WriteAnswer}
 use Rattle.slip.specs.declared.WriteAnswer.the-variants as write
 use Rattle.slip.specs.Slip.{mark, version, versionAt, slipSize, number, equal, fieldsOf, readOf, writeOf}
 use Rattle.slip.proofs.Theorems.{read-possible}
-use Rattle.cabi.specs.Host.{writeCode, slipAnswer, Narrow, Fits32, LinearFits32}
+use Rattle.cabi.specs.Host.{writeCode, slipAnswer, sheetAfter, Narrow, Fits32, LinearFits32, SheetFits32}
 
 -- ---- What a match found a reader's answer to be
 
@@ -116,6 +125,48 @@ linear-all s f buffer values = linear-answer (nodesOf s) f values (judgeOf s buf
 
 pub linear-narrow : {a b : LinearAnswer} (s : List ℕ) (f : ℕ) (buffer values : List ℕ) → a ≡ linearOf s f buffer values → a ≡ b → LinearFits32 b
 linear-narrow s f buffer values e g = subst LinearFits32 (sym e ∙ g) (linear-all s f buffer values)
+
+-- ---- Sheets
+
+sheet-accepted : (ns : List Node) (a b n : ℕ) → n ≤ 134217728 → SheetFits32 (acceptedSheet ns a b n)
+unfolding acceptedSheet
+sheet-accepted ns a b n h = go (leb a b) (isFrameOf ns a && isFrameOf ns b)
+  where
+    go : (t u : Bool) → SheetFits32 (cond t (cond u (sampled.Done n) sampled.NoFrame) sampled.WrongOrder)
+    go true true = record { code = omega arith; offset = omega arith; rows = omega arith; rule = omega arith; frame = omega arith }
+    go true false = record { code = omega arith; offset = omega arith; rows = omega arith; rule = omega arith; frame = omega arith }
+    go false u = record { code = omega arith; offset = omega arith; rows = omega arith; rule = omega arith; frame = omega arith }
+
+sheet-answer : (ns : List Node) (a b : ℕ) (j : JudgeAnswer) → Small (verdictOf j) → rowCountOf j ≤ 134217728 → SheetFits32 (sheetFor ns a b j)
+sheet-answer ns a b (judged.Accepted n) m h = sheet-accepted ns a b n h
+sheet-answer ns a b (judged.Broken n rule frame) m h =
+    record { code = omega arith; offset = omega arith; rows = omega arith; rule = omega (arith, m .rule); frame = omega (arith, m .frame) }
+sheet-answer ns a b (judged.Refused code offset) m h =
+    record { code = omega (arith, m .code); offset = omega (arith, m .offset); rows = omega arith; rule = omega arith; frame = omega arith }
+sheet-answer ns a b judged.TooLarge m h =
+    record { code = omega arith; offset = omega arith; rows = omega arith; rule = omega arith; frame = omega arith }
+sheet-answer ns a b judged.NoRoom m h =
+    record { code = omega arith; offset = omega arith; rows = omega arith; rule = omega arith; frame = omega arith }
+
+pub sheet-narrow : (s : List ℕ) (a b : ℕ) (buffer : List ℕ) → SheetFits32 (sheetOf s a b buffer .answer)
+unfolding sheetOf
+sheet-narrow s a b buffer = sheet-answer (nodesOf s) a b (judgeOf s buffer) (judge-small s buffer) (judge-rows s buffer)
+
+-- A list is its own places, one after the other.
+own-places : (l : List ℕ) → upTo (λ k. getD l k 0) (length l) ≡ l
+own-places l = ext-getD 0 (upTo (λ k. getD l k 0) (length l)) l (upTo-length _ _) (λ k h. upTo-at (λ j. getD l j 0) (length l) k (omega (arith, h, upTo-length (λ j. getD l j 0) (length l))))
+
+-- What is put into a buffer that holds a sheet, and what a smaller one keeps.
+module _ (t : Numbers) (buffer : List ℕ) where
+  pub sheet-put : length (t .counts) ≡ 256 → 260 ≤ length buffer → painted (λ k. getD (numbersIn t) k 0) 260 buffer ≡ sheetAfter t buffer
+  sheet-put e h =
+      let n : length (numbersIn t) ≡ 260 = length-append (t .counts) (t .natives ∷ t .lowest ∷ t .highest ∷ t .sum ∷ []) ∙ omega (arith, e) in
+      rw (le-leb 260 (length buffer) h)
+      (painted-list (λ k. getD (numbersIn t) k 0) 260 buffer h
+      ∙ ap (λ (l : List ℕ). l ++ drop 260 buffer) (ap (upTo (λ k. getD (numbersIn t) k 0)) (sym n) ∙ own-places (numbersIn t)))
+
+  pub sheet-kept : length buffer < 260 → buffer ≡ sheetAfter t buffer
+  sheet-kept h = rw (lt-leb 260 (length buffer) h)
 
 -- ---- What a match found a slip's answer to be
 

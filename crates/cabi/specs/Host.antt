@@ -1,6 +1,10 @@
 -- What a host is handed for each answer. Reading, judging and drawing answer with one struct of six numbers. Fields that a code does not name
 -- are 0.
 use Prim.Native.Nat.{ℕ, _<_}
+use mathlib.Core.Bool.{Bool, cond}
+use mathlib.Core.List.{List, _++_}
+use lib.Dec.{leb}
+use lib.ListN.{length, drop}
 use Rattle.dataset.specs.declared.ReadAnswer.{ReadAnswer}
 use Rattle.dataset.specs.Answer.{codeOf, offsetOf, rowCountOf}
 use Rattle.verdict.specs.declared.Verdict.{Verdict}
@@ -10,6 +14,11 @@ use Rattle.display.specs.declared.ShowAnswer.{ShowAnswer}
 use Rattle.display.specs.Show as showing
 use Rattle.linear.specs.declared.LinearAnswer.{LinearAnswer}
 use Rattle.linear.specs.Answer as mapping
+use Rattle.sheet.specs.declared.SheetAnswer.{SheetAnswer}
+use Rattle.sheet.specs.declared.SheetAnswer.the-variants as sampled
+use Rattle.sheet.specs.declared.Numbers.{Numbers}
+use Rattle.sheet.specs.Sheet.{numbersIn}
+use Rattle.sheet.specs.Answer as sampling
 use Rattle.slip.specs.declared.SlipAnswer.{SlipAnswer}
 use Rattle.slip.specs.declared.SlipAnswer.the-variants as read
 use Rattle.slip.specs.declared.WriteAnswer.{WriteAnswer}
@@ -100,6 +109,50 @@ pub record LinearFits32 (a : LinearAnswer) : Type 0 where
   pub rows : mapping.rowCountOf a < 4294967296
   pub rule : mapping.ruleOf a < 4294967296
   pub frame : mapping.frameOf a < 4294967296
+
+-- ---- The sampling sheet
+
+-- How many numbers a sheet has.
+abbrev pub sheetSize : ℕ
+sheetSize = 260
+
+-- The numbers of an answer, whatever the buffer.
+abbrev pub sampledAnswer : SheetAnswer → Answer
+sampledAnswer a = record {
+  code = sampling.codeOf a;
+  offset = sampling.offsetOf a;
+  rows = sampling.rowCountOf a;
+  rule = sampling.ruleOf a;
+  frame = sampling.frameOf a;
+  masked = 0;
+}
+
+-- The answer of `xa_sheet`: as `xa_judge` for codes 0 to 9; codes 19 and 10 name nothing else. `room` says whether the buffer holds
+-- a sheet: only in C can it be too small, and where the sheet was else done the answer is 11.
+abbrev pub sheetAnswer : Bool → SheetAnswer → Answer
+sheetAnswer room (sampled.Done n) = cond room (sampledAnswer (sampled.Done n)) (codeAlone 11)
+sheetAnswer room (sampled.Broken n rule frame) = sampledAnswer (sampled.Broken n rule frame)
+sheetAnswer room (sampled.Refused code offset) = sampledAnswer (sampled.Refused code offset)
+sheetAnswer room sampled.TooLarge = sampledAnswer sampled.TooLarge
+sheetAnswer room sampled.NoRoom = sampledAnswer sampled.NoRoom
+sheetAnswer room sampled.WrongOrder = sampledAnswer sampled.WrongOrder
+sheetAnswer room sampled.NoFrame = sampledAnswer sampled.NoFrame
+
+-- Whether a buffer holds a sheet; and what it holds afterwards: the sheet, or zeros, and untouched beyond; a buffer that is too
+-- small is left alone.
+abbrev pub holdsSheet : List ℕ → Bool
+holdsSheet buffer = leb sheetSize (length buffer)
+
+abbrev pub sheetAfter : Numbers → List ℕ → List ℕ
+sheetAfter t buffer = cond (holdsSheet buffer) (numbersIn t ++ drop sheetSize buffer) buffer
+
+-- The numbers of an answer fit 32 bits.
+pub record SheetFits32 (a : SheetAnswer) : Type 0 where
+  pub code : sampling.codeOf a < 4294967296
+  pub offset : sampling.offsetOf a < 4294967296
+  pub rows : sampling.rowCountOf a < 4294967296
+  pub rule : sampling.ruleOf a < 4294967296
+  pub frame : sampling.frameOf a < 4294967296
 
 -- ---- Slips
 

@@ -4,6 +4,7 @@ mod judge;
 mod measure;
 mod read;
 mod rewritten;
+mod sampling;
 mod show;
 mod slips;
 
@@ -16,6 +17,7 @@ pub use measure::xa_root_level;
 pub use read::xa_read;
 pub use rewritten::Rewritten;
 pub use rewritten::xa_canonical;
+pub use sampling::xa_sheet;
 pub use show::xa_show;
 pub use slips::Slip;
 pub use slips::xa_read_slip;

@@ -73,7 +73,3 @@ pub part-range : (s r : RefT (List ℕ)) (a n at size : ℕ) → a ≡ at → n 
 part-range s r a n at size p q block place bytes inside =
     let e : a + n - a ≡ n = omega arith in
     subst (λ (x : ℕ). Part s at x r) q (subst (λ (x : ℕ). Part s x n r) p (record { inside = inside; block = block; place = place; bytes = rw e at bytes }))
-
--- The same frames fit a part.
-pub fits-part : (rows columns width f : ℕ) (s : RefT (List ℕ)) (at n : ℕ) (r : RefT (List ℕ)) → Part s at n r → Fits rows columns width f n → Fits rows columns width f (length (r .now))
-fits-part rows columns width f s at n r p h = subst (Fits rows columns width f) (sym (part-size s at n r p)) h

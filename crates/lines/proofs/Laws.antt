@@ -8,7 +8,6 @@ use native.Mathlib.Nat.{add-mul, mul-assoc, mul-le-mul-right, pow-suc}
 use native.Mathlib.Omega.{arith}
 use lib.Pow.{pow-pos}
 use lib.ListN.{length, getD, take, drop}
-use lib.Seq.{getD-take, getD-drop}
 use lib.Dec.{leb}
 use borrow.Author.Tests.{le-leb}
 use denote.Ref.{RefT}
@@ -25,25 +24,12 @@ use Rattle.pixel.proofs.Laws.{width-some, frame-facts, sample-cell, sample-most
 use Rattle.pixel.proofs.Blend.{blend-offset, whole-shade}
 use Rattle.frame.specs.View.{Part, Fits, frameSize}
 use Rattle.frame.proofs.Laws.{part-size}
+use Rattle.frame.proofs.Lent.{cell-part}
 use Rattle.lines.specs.declared.Shades.{Shades}
 use Rattle.lines.specs.Lines.{upTo, shadesOf, Shaded, plainPlace, blendPlace}
 use Rattle.lines.proofs.Lists.{upTo-at}
 
 -- ---- The bytes of a line
-
-le-part : (k : ℕ) (v : List ℕ) (at n p : ℕ) → p + k ≤ n → leBytes k (take n (drop at v)) p ≡ leBytes k v (at + p)
-unfolding leBytes
-le-part zero v at n p h = refl
-le-part (suc k) v at n p h =
-    let a : getD (take n (drop at v)) p 0 ≡ getD v (at + p) 0 = getD-take n (drop at v) p 0 (omega arith) ∙ getD-drop at v p 0 in
-    let b : leBytes k (take n (drop at v)) (p + 1) ≡ leBytes k v (at + (p + 1)) = le-part k v at n (p + 1) (omega arith) in
-    let e : at + (p + 1) ≡ at + p + 1 = omega arith in
-    rw (a, b, e)
-
-cell-part : (g : Geometry) (v : List ℕ) (j n c : ℕ) → c * g .width + g .width ≤ n → cellAt g (take n (drop (j * g .width) v)) c ≡ cellAt g v (j + c)
-unfolding cellAt
-cell-part g v j n c h =
-    ap (λ (x : ℕ). x % 2 ^ g .stored) (le-part (g .width) v (j * g .width) n (c * g .width) h ∙ ap (leBytes (g .width) v) (sym (add-mul j c (g .width))))
 
 -- Where a line starts, in bytes and in samples.
 line-start : (m rows columns w row : ℕ) → m * frameSize rows columns w + row * (columns * w) ≡ (m * (rows * columns) + row * columns) * w

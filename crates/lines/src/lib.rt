@@ -99,7 +99,13 @@ pub fn whole_line(
 {
     let rows = g.rows;
     let line = frame::frame_line(pixels, rows, g.columns, g.width, frame, row);
-    pixel::mask_row(pixels, g, masks, pixel::moved(down / pixel::UNIT, rows, row), sums);
+    pixel::mask_row(
+        pixels,
+        g,
+        masks,
+        pixel::moved(down / pixel::UNIT, rows, row),
+        sums,
+    );
     pixel::draw_row(
         line,
         g,

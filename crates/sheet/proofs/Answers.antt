@@ -1,8 +1,9 @@
 -- Which answer an accepted object gets: codes 19 and 10 where their tests say so, and else the sheet.
 use mathlib.Core.Path.{_≡_, refl, sym, ap, _∙_}
 use mathlib.Core.Bool.{Bool, true, false, cond, _&&_, and-false}
-use mathlib.Core.List.{List}
-use Prim.Native.Nat.{ℕ, _+_, _-_, _≤_, _<_}
+use mathlib.Core.List.{List, [], _∷_, _++_}
+use Prim.Native.Nat.{ℕ, suc, _+_, _-_, _≤_, _<_}
+use lib.ListN.{length, getD, length-replicate, List·getD-append}
 use native.Mathlib.Omega.{arith}
 use lib.Dec.{leb}
 use borrow.Author.Tests.{le-leb, lt-leb}
@@ -18,8 +19,9 @@ use Rattle.sheet.specs.declared.Numbers.{Numbers}
 use Rattle.sheet.specs.declared.Sampled.{Sampled}
 use Rattle.sheet.specs.declared.SheetAnswer.{SheetAnswer}
 use Rattle.sheet.specs.declared.SheetAnswer.the-variants as answer
-use Rattle.sheet.specs.Sheet.{framesSheet, noSheet}
-use Rattle.sheet.specs.Answer.{acceptedAnswer, answerFor, withSheet, sheetOf}
+use Rattle.lines.proofs.Lists.{upTo-length}
+use Rattle.sheet.specs.Sheet.{times, levelsOf, framesSheet, noSheet}
+use Rattle.sheet.specs.Answer.{acceptedAnswer, answerFor, sheetFor, withSheet, sheetOf}
 
 -- What `sheet` hands back, by what the judge answered.
 pub sheet-by : (s : List ℕ) (a b : ℕ) (before : List ℕ) (j : JudgeAnswer) → j ≡ judgeOf s before → withSheet (nodesOf s) a b (answerFor (nodesOf s) a b j) ≡ sheetOf s a b before
@@ -70,3 +72,35 @@ module _ (ns : List Node) (a b count : ℕ) where
 
       pub is-done : 1 ≤ a → b ≤ n → (t : Numbers) → t ≡ framesSheet ns a b → record { answer = answer.Done count; sheet = t } ≡ withSheet ns a b (acceptedAnswer ns a b count)
       is-done low high t q = ap (λ (x : Numbers). record { answer = answer.Done count; sheet = x }) q ∙ answered (answer.Done count) (frames-done order n e low high)
+
+-- ---- The 260 numbers
+
+append-at : (l r : List ℕ) (k : ℕ) → getD (l ++ r) (length l + k) 0 ≡ getD r k 0
+append-at [] r k =
+    let e : 0 + k ≡ k = omega arith in
+    ap (λ (x : ℕ). getD r x 0) e
+append-at (x ∷ l) r k =
+    let e : length (x ∷ l) + k ≡ suc (length l + k) = omega arith in
+    ap (λ (y : ℕ). getD (x ∷ (l ++ r)) y 0) e ∙ append-at l r k
+
+pub behind : (l r : List ℕ) (k j : ℕ) → length l ≡ 256 → j ≡ 256 + k → getD r k 0 ≡ getD (l ++ r) j 0
+behind l r k j e h =
+    let q : length l + k ≡ j = omega arith in
+    sym (append-at l r k) ∙ ap (λ (x : ℕ). getD (l ++ r) x 0) q
+
+pub in-front : (l r : List ℕ) (k : ℕ) → length l ≡ 256 → k < 256 → getD l k 0 ≡ getD (l ++ r) k 0
+in-front l r k e h = sym (List·getD-append l r 0 k (omega arith))
+
+-- A sheet has 256 counts, whatever the answer.
+pub counts-many : (s : List ℕ) (a b : ℕ) (buffer : List ℕ) → length (sheetOf s a b buffer .sheet .counts) ≡ 256
+unfolding sheetOf framesSheet
+counts-many s a b buffer = go (answerFor (nodesOf s) a b (judgeOf s buffer))
+  where
+    go : (r : SheetAnswer) → length (sheetFor (nodesOf s) a b r .counts) ≡ 256
+    go (answer.Done n) = upTo-length (λ y. times y (levelsOf (nodesOf s) a (b - a + 1))) 256
+    go (answer.Broken n rule frame) = length-replicate {A = ℕ} 256 0
+    go (answer.Refused code offset) = length-replicate {A = ℕ} 256 0
+    go answer.TooLarge = length-replicate {A = ℕ} 256 0
+    go answer.NoRoom = length-replicate {A = ℕ} 256 0
+    go answer.WrongOrder = length-replicate {A = ℕ} 256 0
+    go answer.NoFrame = length-replicate {A = ℕ} 256 0

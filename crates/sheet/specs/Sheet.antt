@@ -60,3 +60,7 @@ framesSheet ns a b = sheetBy (levelsOf ns a (b - a + 1)) (nativesOf ns a (b - a 
 -- The sheet of zeros, which comes with a refusal.
 abbrev pub noSheet : Numbers
 noSheet = record { counts = replicate 256 0; natives = 0; lowest = 0; highest = 0; sum = 0 }
+
+-- Its 260 numbers, in the order named.
+abbrev pub numbersIn : Numbers → List ℕ
+numbersIn t = t .counts ++ (t .natives ∷ t .lowest ∷ t .highest ∷ t .sum ∷ [])

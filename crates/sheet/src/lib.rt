@@ -11,9 +11,9 @@ ghost use Rattle.node.specs.Nodes.{nodesOf};
 ghost use Rattle.node.specs.Table.{Table};
 ghost use Rattle.element.specs.Along.{Along};
 ghost use Rattle.element.specs.Elements.{valueAt};
-ghost use Rattle.element.specs.Frames.{frameItems};
+ghost use Rattle.element.specs.Frames.{framesOf, frameItems};
 ghost use Rattle.conformance.specs.declared.Finding.the-variants as finding;
-ghost use Rattle.conformance.specs.Judging.{findingOf};
+ghost use Rattle.conformance.specs.Judging.{numberOf, findingOf};
 ghost use Rattle.window.specs.Said.{Drawable};
 ghost use Rattle.pixel.specs.Pixel.{samplesOf};
 ghost use Rattle.pixel.specs.Painted.{nativeShade, maskedShade};
@@ -21,7 +21,7 @@ ghost use Rattle.pixel.specs.Said.{longestRow, Masks, shifted, Averaged, quarte
 ghost use Rattle.lines.specs.Lines.{upTo, shadesOf, Shaded, MaskedBy};
 ghost use Rattle.display.specs.Said.{isMasked, shadeBy, MasksReady};
 ghost use Rattle.display.specs.Show.{imageSize, pictureOf};
-ghost use Rattle.sheet.specs.Sheet.{levelsOf, nativesOf, countsOf, framesSheet, noSheet};
+ghost use Rattle.sheet.specs.Sheet.{levelsOf, nativesOf, countsOf, framesSheet, noSheet, numbersIn};
 ghost use Rattle.sheet.specs.Answer.{acceptedAnswer, withSheet, sheetOf};
 ghost use Rattle.sheet.specs.Sampling.{total};
 ghost use Rattle.sheet.specs.Said.{tallied, Room, Few, First, Last, IsObject, IsScene, IsPixels, IsItem, IsPlan, FrameReady, Rooms, IsHeld, IsNothing};
@@ -128,7 +128,17 @@ fn count_whole(
     let mut now = counts;
     for row in 0..height {
         lines::whole_line(
-            pixels, g, frame, masks, down, right, row, shades, table, sums, line,
+            pixels,
+            g,
+            frame,
+            masks,
+            down,
+            right,
+            row,
+            shades,
+            table,
+            sums,
+            line,
         );
         let next = tally(now, &line[..columns]);
         now = next;
@@ -159,7 +169,18 @@ fn count_quarters(
     let mut now = counts;
     for row in 0..height {
         lines::quarter_line(
-            pixels, g, frame, masks, down, right, row, shades, table, upper, lower, line,
+            pixels,
+            g,
+            frame,
+            masks,
+            down,
+            right,
+            row,
+            shades,
+            table,
+            upper,
+            lower,
+            line,
         );
         let next = tally(now, &line[..columns]);
         now = next;
@@ -193,7 +214,18 @@ fn count_blended(
         lower,
     );
     count_quarters(
-        pixels, g, frame, masks, down, right, shades, table, upper, lower, line, counts,
+        pixels,
+        g,
+        frame,
+        masks,
+        down,
+        right,
+        shades,
+        table,
+        upper,
+        lower,
+        line,
+        counts,
     )
 }
 
@@ -220,13 +252,34 @@ fn count_masked(
         if down % pixel::UNIT == 0 {
             if right % pixel::UNIT == 0 {
                 return count_whole(
-                    pixels, g, frame, masks, down, right, shades, table, upper, line, counts,
+                    pixels,
+                    g,
+                    frame,
+                    masks,
+                    down,
+                    right,
+                    shades,
+                    table,
+                    upper,
+                    line,
+                    counts,
                 );
             }
         }
     }
     count_blended(
-        pixels, g, frame, masks, down, right, shades, table, upper, lower, line, counts,
+        pixels,
+        g,
+        frame,
+        masks,
+        down,
+        right,
+        shades,
+        table,
+        upper,
+        lower,
+        line,
+        counts,
     )
 }
 
@@ -252,7 +305,18 @@ fn count_moved(
     let down = pixel::offset_of(vertical);
     let right = pixel::offset_of(horizontal);
     count_masked(
-        pixels, g, frame, masks, down, right, shades, table, upper, lower, line, counts,
+        pixels,
+        g,
+        frame,
+        masks,
+        down,
+        right,
+        shades,
+        table,
+        upper,
+        lower,
+        line,
+        counts,
     )
 }
 
@@ -398,13 +462,7 @@ pub struct Held {
 }
 
 // Shades for a window by which so many cells will have been drawn. A table is filled only once they are as many as its places.
-fn shades_by(
-    window: Window,
-    stored: usize,
-    inverse: bool,
-    spent: usize,
-    table: &mut [u8],
-) -> Held
+fn shades_by(window: Window, stored: usize, inverse: bool, spent: usize, table: &mut [u8]) -> Held
     requires { ⌜ Drawable window × ((1 ≤ stored) × ((stored ≤ 16) × (length (now table) ≡ 131072))) ⌝ }
     ensures { λ r. ⌜ (r .shades .window ≡ window) × IsHeld stored inverse r (now (table .exit)) ⌝ }
 {
@@ -482,13 +540,33 @@ fn count_frame(
         Masking::Average(k, m) => {
             let masks = node::value(bytes, rows, k);
             count_moved(
-                pixels, g, frame, masks, m, shades, table, upper, lower, line, counts,
+                pixels,
+                g,
+                frame,
+                masks,
+                m,
+                shades,
+                table,
+                upper,
+                lower,
+                line,
+                counts,
             )
         }
         Masking::One(t, m) => {
             let one = [(t % 256) as u8, (t / 256 % 256) as u8];
             count_moved(
-                pixels, g, frame, &one, m, shades, table, upper, lower, line, counts,
+                pixels,
+                g,
+                frame,
+                &one,
+                m,
+                shades,
+                table,
+                upper,
+                lower,
+                line,
+                counts,
             )
         }
         Masking::Lacks => counts,
@@ -544,7 +622,17 @@ fn count_picture(
     let held = shades_for(window, stored, inverse, cells, last, table);
     let shades = held.shades;
     let counts = count_frame(
-        bytes, rows, c, frame, masking, shades, table, upper, lower, line, old,
+        bytes,
+        rows,
+        c,
+        frame,
+        masking,
+        shades,
+        table,
+        upper,
+        lower,
+        line,
+        old,
     );
     let natives = native_number(masking) + some;
     Counted {
@@ -597,7 +685,17 @@ fn count_frames(
     for frame in a..end {
         let item = item_here(bytes, rows, items, frame);
         let next = count_picture(
-            bytes, rows, c, frame, n, item, sofar, table, upper, lower, line,
+            bytes,
+            rows,
+            c,
+            frame,
+            n,
+            item,
+            sofar,
+            table,
+            upper,
+            lower,
+            line,
         );
         sofar = next;
         items = element::advance(bytes, rows, items);
@@ -673,7 +771,17 @@ fn sample_frames(bytes: &[u8], rows: &[u32], n: usize, a: usize, b: usize) -> Nu
     let c = scene_of(bytes, rows, n);
     let start = items_from(bytes, rows, a);
     let done = count_frames(
-        bytes, rows, c, n, start, a, b, &mut table, &mut upper, &mut lower, &mut line,
+        bytes,
+        rows,
+        c,
+        n,
+        start,
+        a,
+        b,
+        &mut table,
+        &mut upper,
+        &mut lower,
+        &mut line,
     );
     let counts = done.counts;
     Numbers {
@@ -742,6 +850,63 @@ pub fn sheet(bytes: &[u8], first: u64, last: u64, rows: &mut [u32]) -> Sampled
         JudgeAnswer::Accepted(count) => {
             let end = dataset::WIDTH * count;
             sheet_table(bytes, &rows[..end], first as usize, last as usize, count)
+        }
+    }
+}
+
+// The number of frames, which an accepted object has.
+fn last_frame(bytes: &[u8], rows: &[u32]) -> usize
+    requires { ⌜ Table (now bytes) (now rows) ⌝ }
+    ensures { λ r. ⌜ r ≡ numberOf (framesOf (nodesOf (now (bytes .entry)))) ⌝ }
+{
+    match element::frame_count(bytes, rows) {
+        Num::Is(n) => n,
+        Num::Lacks => 0,
+    }
+}
+
+// The sheet of all frames, from 1 to the number of frames.
+pub fn whole(bytes: &[u8], rows: &mut [u32]) -> Sampled
+    ensures { λ r. ⌜ r ≡ sheetOf (now (bytes .entry)) 1 (numberOf (framesOf (nodesOf (now (bytes .entry))))) (now (rows .entry)) ⌝ }
+    ensures { λ _. ⌜ now (rows .exit) ≡ bufferOf (readingOf (now (bytes .entry))) (now (rows .entry)) ⌝ }
+{
+    match conformance::judge(bytes, rows) {
+        JudgeAnswer::TooLarge => refused(SheetAnswer::TooLarge),
+        JudgeAnswer::Refused(code, offset) => refused(SheetAnswer::Refused(code, offset)),
+        JudgeAnswer::NoRoom => refused(SheetAnswer::NoRoom),
+        JudgeAnswer::Broken(count, rule, broken) => {
+            refused(SheetAnswer::Broken(count, rule, broken))
+        }
+        JudgeAnswer::Accepted(count) => {
+            let end = dataset::WIDTH * count;
+            let table = &rows[..end];
+            let last = last_frame(bytes, table);
+            sheet_table(bytes, table, 1, last, count)
+        }
+    }
+}
+
+// Number k of a sheet, in the order named.
+pub fn number_at(t: Numbers, k: usize) -> u64
+    requires { ⌜ (length (t .counts) ≡ 256) × (k < 260) ⌝ }
+    ensures { λ r. ⌜ r ≡ getD (numbersIn t) k 0 ⌝ }
+{
+    let counts = t.counts;
+    if k < 256 {
+        counts[k]
+    } else {
+        if k == 256 {
+            t.natives as u64
+        } else {
+            if k == 257 {
+                t.lowest as u64
+            } else {
+                if k == 258 {
+                    t.highest as u64
+                } else {
+                    t.sum as u64
+                }
+            }
         }
     }
 }

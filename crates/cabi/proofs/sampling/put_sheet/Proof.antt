@@ -1,0 +1,33 @@
+use lib.ListN.{length}
+use borrow.Author.Tests.{le-leb, lt-leb}
+use Rattle.cabi.proofs.Numbers.{sheet-put, sheet-kept}
+use mathlib.Core.Path.{_≡_, refl, sym, ap, _∙_, subst}
+use native.Mathlib.Omega.{arith}
+use borrow.Author.Needs.{needs}
+use Rattle.cabi.proofs.sampling.put_sheet.Statement.{statement}
+use Rattle.cabi.proofs.sampling.put_sheet.Tie as tie
+
+put-numbers-requires : tie.Need-put-numbers-requires
+put-numbers-requires c κs =
+    (c .before .before .before .pre, c .before .if1 .taken)
+
+same-length : tie.Need-same-length
+same-length c =
+    search needs
+
+returns : tie.Need-returns
+returns c =
+    (sym (le-leb 260 (length (c .before .before .before .before .before .before .args .buffer .now)) (c .before .before .before .before .if1 .taken)), c .before .before .put-numbers .ensures ∙ sheet-put (c .before .before .before .before .before .before .args .t) (c .before .before .before .before .before .before .args .buffer .now) (c .before .before .before .before .before .before .pre) (c .before .before .before .before .if1 .taken))
+
+returns-2 : tie.Need-returns-2
+returns-2 c =
+    (sym (lt-leb 260 (length (c .before .before .args .buffer .now)) (omega (arith, c .if1 .left))), sheet-kept (c .before .before .args .t) (c .before .before .args .buffer .now) (omega (arith, c .if1 .left)))
+
+pub put-sheet-spec : {M : Type 1} → statement M
+put-sheet-spec =
+    tie.close
+    (tie.spec
+    put-numbers-requires
+    same-length
+    returns
+    returns-2)

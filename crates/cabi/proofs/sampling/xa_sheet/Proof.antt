@@ -1,0 +1,46 @@
+use mathlib.Core.Bool.{Bool}
+use lib.ListN.{length}
+use Rattle.sheet.specs.declared.Sampled.{Sampled}
+use Rattle.sheet.proofs.Answers.{counts-many}
+use Rattle.cabi.specs.Host.{sheetAnswer, holdsSheet, sheetAfter, SheetFits32}
+use Rattle.cabi.proofs.Numbers.{sheet-narrow}
+use mathlib.Core.Path.{_≡_, refl, sym, ap, _∙_, subst}
+use native.Mathlib.Omega.{arith}
+use borrow.Author.Needs.{needs}
+use Rattle.cabi.proofs.sampling.xa_sheet.Statement.{statement}
+use Rattle.cabi.proofs.sampling.xa_sheet.Tie as tie
+
+sheet-requires : tie.Need-sheet-requires
+sheet-requires c κs =
+    search needs
+
+put-sheet-requires : tie.Need-put-sheet-requires
+put-sheet-requires c κs =
+    ap (λ (r : Sampled). length (r .sheet .counts)) (c .before .before .before .before .sheet .ensures .0) ∙ counts-many _ _ _ _
+
+sheet-answer-requires : tie.Need-sheet-answer-requires
+sheet-answer-requires c κs =
+    subst (λ (r : Sampled). SheetFits32 (r .answer)) (sym (c .before .before .before .before .before .before .before .sheet .ensures .0)) (sheet-narrow _ _ _ _)
+
+same-length : tie.Need-same-length
+same-length c =
+    search needs
+
+same-length-2 : tie.Need-same-length-2
+same-length-2 c =
+    search needs
+
+returns : tie.Need-returns
+returns c =
+    (c .sheet-answer .ensures ∙ (ap (λ (x : Bool). sheetAnswer x (c .before .before .before .before .before .before .before .before .sheet .result .answer)) (c .before .before .before .put-sheet .ensures .0) ∙ ap (λ (r : Sampled). sheetAnswer (holdsSheet (c .before .before .before .before .before .before .before .before .before .before .before .before .before .args .buffer .now)) (r .answer)) (c .before .before .before .before .before .before .before .before .sheet .ensures .0)), (c .before .before .before .before .before .before .before .before .sheet .ensures .1, c .before .before .before .put-sheet .ensures .1 ∙ ap (λ (r : Sampled). sheetAfter (r .sheet) (c .before .before .before .before .before .before .before .before .before .before .before .before .before .args .buffer .now)) (c .before .before .before .before .before .before .before .before .sheet .ensures .0)))
+
+pub xa-sheet-spec : {M : Type 1} → statement M
+xa-sheet-spec =
+    tie.close
+    (tie.spec
+    sheet-requires
+    put-sheet-requires
+    sheet-answer-requires
+    same-length
+    same-length-2
+    returns)

@@ -1,0 +1,37 @@
+use Rattle.value.specs.declared.Num.{Num}
+use Rattle.conformance.specs.Judging.{numberOf}
+use mathlib.Core.Path.{_≡_, refl, sym, ap, _∙_, subst}
+use native.Mathlib.Omega.{arith}
+use borrow.Author.Needs.{needs}
+use Rattle.sheet.proofs.last_frame.Statement.{statement}
+use Rattle.sheet.proofs.last_frame.Tie as tie
+
+frame-count-requires : tie.Need-frame-count-requires
+frame-count-requires c κs =
+    search needs
+
+enum-known-n : tie.Need-enum-known-n
+enum-known-n c =
+    search needs
+
+enum-told : tie.Need-enum-told
+enum-told c =
+    search needs
+
+returns : tie.Need-returns
+returns c =
+    ap numberOf (sym (c .before .n .given .1) ∙ c .before .before .before .frame-count .ensures .0)
+
+returns-2 : tie.Need-returns-2
+returns-2 c =
+    ap numberOf (sym (c .enum-told .given .1) ∙ c .before .before .frame-count .ensures .0)
+
+pub last-frame-spec : {M : Type 1} → statement M
+last-frame-spec =
+    tie.close
+    (tie.spec
+    frame-count-requires
+    enum-known-n
+    enum-told
+    returns
+    returns-2)

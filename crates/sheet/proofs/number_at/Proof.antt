@@ -1,0 +1,48 @@
+use Prim.Native.Nat.{ℕ, _+_}
+use mathlib.Core.List.{List, [], _∷_}
+use Rattle.sheet.proofs.Answers as answers
+use mathlib.Core.Path.{_≡_, refl, sym, ap, _∙_, subst}
+use native.Mathlib.Omega.{arith}
+use borrow.Author.Needs.{needs}
+use Rattle.sheet.proofs.number_at.Statement.{statement}
+use Rattle.sheet.proofs.number_at.Tie as tie
+
+mul-result : tie.Need-mul-result
+mul-result c =
+    omega (arith, c .if1 .taken)
+
+array-read-result : tie.Need-array-read-result
+array-read-result c =
+    omega (arith, c .if1 .taken)
+
+returns : tie.Need-returns
+returns c =
+    answers.in-front (c .before .before .args .t .counts) (c .before .before .args .t .natives ∷ c .before .before .args .t .lowest ∷ c .before .before .args .t .highest ∷ c .before .before .args .t .sum ∷ []) (c .before .before .args .k) (c .before .before .pre .0) (c .if1 .taken)
+
+returns-2 : tie.Need-returns-2
+returns-2 c =
+    answers.behind (c .before .before .before .args .t .counts) (c .before .before .before .args .t .natives ∷ c .before .before .before .args .t .lowest ∷ c .before .before .before .args .t .highest ∷ c .before .before .before .args .t .sum ∷ []) 0 (c .before .before .before .args .k) (c .before .before .before .pre .0) (omega (arith, c .if2 .taken))
+
+returns-3 : tie.Need-returns-3
+returns-3 c =
+    answers.behind (c .before .before .before .before .args .t .counts) (c .before .before .before .before .args .t .natives ∷ c .before .before .before .before .args .t .lowest ∷ c .before .before .before .before .args .t .highest ∷ c .before .before .before .before .args .t .sum ∷ []) 1 (c .before .before .before .before .args .k) (c .before .before .before .before .pre .0) (omega (arith, c .if3 .taken))
+
+returns-4 : tie.Need-returns-4
+returns-4 c =
+    answers.behind (c .before .before .before .before .before .args .t .counts) (c .before .before .before .before .before .args .t .natives ∷ c .before .before .before .before .before .args .t .lowest ∷ c .before .before .before .before .before .args .t .highest ∷ c .before .before .before .before .before .args .t .sum ∷ []) 2 (c .before .before .before .before .before .args .k) (c .before .before .before .before .before .pre .0) (omega (arith, c .if4 .taken))
+
+returns-5 : tie.Need-returns-5
+returns-5 c =
+    answers.behind (c .before .before .before .before .before .args .t .counts) (c .before .before .before .before .before .args .t .natives ∷ c .before .before .before .before .before .args .t .lowest ∷ c .before .before .before .before .before .args .t .highest ∷ c .before .before .before .before .before .args .t .sum ∷ []) 3 (c .before .before .before .before .before .args .k) (c .before .before .before .before .before .pre .0) (omega (arith, c .before .before .before .before .before .pre .1, c .before .before .before .if1 .left, c .before .before .if2 .left, c .before .if3 .left, c .if4 .left))
+
+pub number-at-spec : {M : Type 1} → statement M
+number-at-spec =
+    tie.close
+    (tie.spec
+    mul-result
+    array-read-result
+    returns
+    returns-2
+    returns-3
+    returns-4
+    returns-5)

@@ -1,0 +1,146 @@
+use Prim.Native.Nat.{ℕ, _*_}
+use lib.Seq.{length-take-le}
+use Rattle.node.specs.Nodes.{nodesOf}
+use Rattle.element.specs.Frames.{framesOf}
+use Rattle.conformance.specs.Judging.{numberOf}
+use Rattle.conformance.specs.declared.JudgeAnswer.the-variants as judged
+use Rattle.display.proofs.Judged as laws
+use Rattle.sheet.specs.Answer.{acceptedAnswer, withSheet}
+use Rattle.sheet.proofs.Answers as answers
+use mathlib.Core.Path.{_≡_, refl, sym, ap, _∙_, subst}
+use native.Mathlib.Omega.{arith}
+use borrow.Author.Needs.{needs}
+use Rattle.sheet.proofs.whole.Statement.{statement}
+use Rattle.sheet.proofs.whole.Tie as tie
+
+judge-requires : tie.Need-judge-requires
+judge-requires c κs =
+    search needs
+
+enum-told : tie.Need-enum-told
+enum-told c =
+    search needs
+
+refused-requires : tie.Need-refused-requires
+refused-requires c κs =
+    search needs
+
+enum-known-code : tie.Need-enum-known-code
+enum-known-code c =
+    search needs
+
+refused-requires-2 : tie.Need-refused-requires-2
+refused-requires-2 c κs =
+    search needs
+
+enum-told-2 : tie.Need-enum-told-2
+enum-told-2 c =
+    search needs
+
+refused-requires-3 : tie.Need-refused-requires-3
+refused-requires-3 c κs =
+    search needs
+
+enum-known-count : tie.Need-enum-known-count
+enum-known-count c =
+    search needs
+
+refused-requires-4 : tie.Need-refused-requires-4
+refused-requires-4 c κs =
+    search needs
+
+enum-known-count-2 : tie.Need-enum-known-count-2
+enum-known-count-2 c =
+    search needs
+
+mul-end : tie.Need-mul-end
+mul-end c =
+    let t = laws.after-judging (c .before .before .before .before .before .before .before .before .before .args .bytes .now) (c .before .before .before .before .before .before .before .before .before .args .rows .now) (c .before .before .before .before .before .judge .last .1 .0) (c .before .count2 .given .0 .0) (sym (c .before .count2 .given .1) ∙ c .before .before .before .before .before .judge .ensures .0) (c .before .before .before .before .before .judge .ensures .1) .0 in
+    omega (arith, t .1 .size, t .1 .few, length-take-le (7 * c .before .count2 .given .0 .0) (c .before .before .before .before .before .judge .last .1 .0) (t .0))
+
+slice-reshare-prefix-table : tie.Need-slice-reshare-prefix-table
+slice-reshare-prefix-table c =
+    laws.after-judging (c .before .before .before .before .before .before .before .before .before .args .bytes .now) (c .before .before .before .before .before .before .before .before .before .args .rows .now) (c .before .before .before .before .before .judge .last .1 .0) (c .before .count2 .given .0 .0) (sym (c .before .count2 .given .1) ∙ c .before .before .before .before .before .judge .ensures .0) (c .before .before .before .before .before .judge .ensures .1) .0 .0
+
+slice-aggregate-table : tie.Need-slice-aggregate-table
+slice-aggregate-table c =
+    sym (length-take-le _ _ (laws.after-judging (c .before .before .before .before .before .before .before .before .before .before .args .bytes .now) (c .before .before .before .before .before .before .before .before .before .before .args .rows .now) (c .before .before .before .before .before .before .judge .last .1 .0) (c .before .before .count2 .given .0 .0) (sym (c .before .before .count2 .given .1) ∙ c .before .before .before .before .before .before .judge .ensures .0) (c .before .before .before .before .before .before .judge .ensures .1) .0 .0))
+
+last-frame-requires : tie.Need-last-frame-requires
+last-frame-requires c κs =
+    laws.after-judging (c .before .before .before .before .before .before .before .before .before .before .args .bytes .now) (c .before .before .before .before .before .before .before .before .before .before .args .rows .now) (c .before .before .before .before .before .before .judge .last .1 .0) (c .before .before .count2 .given .0 .0) (sym (c .before .before .count2 .given .1) ∙ c .before .before .before .before .before .before .judge .ensures .0) (c .before .before .before .before .before .before .judge .ensures .1) .0 .1
+
+sheet-table-requires : tie.Need-sheet-table-requires
+sheet-table-requires c κs =
+    let t = laws.after-judging (c .before .before .before .before .before .before .before .before .before .before .before .args .bytes .now) (c .before .before .before .before .before .before .before .before .before .before .before .args .rows .now) (c .before .before .before .before .before .before .before .judge .last .1 .0) (c .before .before .before .count2 .given .0 .0) (sym (c .before .before .before .count2 .given .1) ∙ c .before .before .before .before .before .before .before .judge .ensures .0) (c .before .before .before .before .before .before .before .judge .ensures .1) in
+    (t .0 .1, (λ i. omega (arith, c .before .before .before .before .before .before .before .before .before .before .shared-slice-known .given i), t .1))
+
+same-length : tie.Need-same-length
+same-length c =
+    search needs
+
+returns : tie.Need-returns
+returns c =
+    (c .refused .ensures ∙ answers.sheet-by (c .before .before .before .before .before .before .before .before .before .args .bytes .now) 1 (numberOf (framesOf (nodesOf (c .before .before .before .before .before .before .before .before .before .args .bytes .now)))) (c .before .before .before .before .before .before .before .before .before .args .rows .now) (judged.TooLarge) (sym (c .before .enum-told .given .1) ∙ c .before .before .before .before .before .judge .ensures .0), c .before .before .before .before .before .judge .ensures .1)
+
+same-length-2 : tie.Need-same-length-2
+same-length-2 c =
+    search needs
+
+returns-2 : tie.Need-returns-2
+returns-2 c =
+    (c .refused2 .ensures ∙ answers.sheet-by (c .before .before .before .before .before .before .before .before .before .before .args .bytes .now) 1 (numberOf (framesOf (nodesOf (c .before .before .before .before .before .before .before .before .before .before .args .bytes .now)))) (c .before .before .before .before .before .before .before .before .before .before .args .rows .now) (judged.Refused (c .before .before .code .given .0 .0) (c .before .before .code .given .0 .1 .0)) (sym (c .before .before .code .given .1) ∙ c .before .before .before .before .before .before .judge .ensures .0), c .before .before .before .before .before .before .judge .ensures .1)
+
+same-length-3 : tie.Need-same-length-3
+same-length-3 c =
+    search needs
+
+returns-3 : tie.Need-returns-3
+returns-3 c =
+    (c .refused3 .ensures ∙ answers.sheet-by (c .before .before .before .before .before .before .before .before .before .args .bytes .now) 1 (numberOf (framesOf (nodesOf (c .before .before .before .before .before .before .before .before .before .args .bytes .now)))) (c .before .before .before .before .before .before .before .before .before .args .rows .now) (judged.NoRoom) (sym (c .before .enum-told2 .given .1) ∙ c .before .before .before .before .before .judge .ensures .0), c .before .before .before .before .before .judge .ensures .1)
+
+same-length-4 : tie.Need-same-length-4
+same-length-4 c =
+    search needs
+
+returns-4 : tie.Need-returns-4
+returns-4 c =
+    (c .refused4 .ensures ∙ answers.sheet-by (c .before .before .before .before .before .before .before .before .before .before .args .bytes .now) 1 (numberOf (framesOf (nodesOf (c .before .before .before .before .before .before .before .before .before .before .args .bytes .now)))) (c .before .before .before .before .before .before .before .before .before .before .args .rows .now) (judged.Broken (c .before .before .count .given .0 .0) (c .before .before .count .given .0 .1 .0) (c .before .before .count .given .0 .1 .1 .0)) (sym (c .before .before .count .given .1) ∙ c .before .before .before .before .before .before .judge .ensures .0), c .before .before .before .before .before .before .judge .ensures .1)
+
+same-length-5 : tie.Need-same-length-5
+same-length-5 c =
+    search needs
+
+returns-5 : tie.Need-returns-5
+returns-5 c =
+    (c .sheet-table .ensures ∙ (ap (λ (b : ℕ). withSheet (nodesOf (c .before .before .before .before .before .before .before .before .before .before .before .before .args .bytes .now)) 1 b (acceptedAnswer (nodesOf (c .before .before .before .before .before .before .before .before .before .before .before .before .args .bytes .now)) 1 b (c .before .before .before .before .count2 .given .0 .0))) (c .before .last-frame .ensures) ∙ answers.sheet-by (c .before .before .before .before .before .before .before .before .before .before .before .before .args .bytes .now) 1 (numberOf (framesOf (nodesOf (c .before .before .before .before .before .before .before .before .before .before .before .before .args .bytes .now)))) (c .before .before .before .before .before .before .before .before .before .before .before .before .args .rows .now) (judged.Accepted (c .before .before .before .before .count2 .given .0 .0)) (sym (c .before .before .before .before .count2 .given .1) ∙ c .before .before .before .before .before .before .before .before .judge .ensures .0)), c .before .before .before .before .before .before .before .before .judge .ensures .1)
+
+pub whole-spec : {M : Type 1} → statement M
+whole-spec =
+    tie.close
+    (tie.spec
+    judge-requires
+    enum-told
+    refused-requires
+    enum-known-code
+    refused-requires-2
+    enum-told-2
+    refused-requires-3
+    enum-known-count
+    refused-requires-4
+    enum-known-count-2
+    mul-end
+    slice-reshare-prefix-table
+    slice-aggregate-table
+    last-frame-requires
+    sheet-table-requires
+    same-length
+    returns
+    same-length-2
+    returns-2
+    same-length-3
+    returns-3
+    same-length-4
+    returns-4
+    same-length-5
+    returns-5)

@@ -1,0 +1,2 @@
+-- What the proof of `sheet_small` uses.
+pub mod Roomy

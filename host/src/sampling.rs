@@ -1,0 +1,205 @@
+//! `luux sheet`: the sampling sheet of a run, as numbers, as JSON, as a small plot in the terminal, or as a picture.
+//!
+//! Every number comes from the library; the mean is the sum divided by the number of cells.
+
+use std::io::{self, Write};
+use std::path::Path;
+
+use crate::library::SHEET_NUMBERS;
+use crate::output::{line, note_of, path_fields, Status};
+use crate::picture::{self, Failure, Image, Run};
+
+const LEVELS: usize = 256;
+
+/// What was sampled of a run.
+struct Sheet {
+    first: u64,
+    last: u64,
+    numbers: [u64; SHEET_NUMBERS],
+}
+
+impl Sheet {
+    fn counts(&self) -> &[u64] {
+        &self.numbers[..LEVELS]
+    }
+
+    fn natives(&self) -> u64 {
+        self.numbers[LEVELS]
+    }
+
+    fn lowest(&self) -> u64 {
+        self.numbers[LEVELS + 1]
+    }
+
+    fn highest(&self) -> u64 {
+        self.numbers[LEVELS + 2]
+    }
+
+    fn sum(&self) -> u64 {
+        self.numbers[LEVELS + 3]
+    }
+
+    fn cells(&self) -> u64 {
+        self.counts().iter().sum()
+    }
+
+    fn mean(&self) -> f64 {
+        self.sum() as f64 / self.cells().max(1) as f64
+    }
+
+    fn about(&self) -> String {
+        let frames = if self.first == self.last {
+            format!("frame {}", self.first)
+        } else {
+            format!("frames {} to {}", self.first, self.last)
+        };
+        format!(
+            "{frames}, {} native, {} cells, levels {} to {}, mean {:.2}, sum {}",
+            self.natives(),
+            self.cells(),
+            self.lowest(),
+            self.highest(),
+            self.mean(),
+            self.sum()
+        )
+    }
+}
+
+/// How the numbers are printed.
+pub enum Form {
+    /// A line about them, and a small plot.
+    Plot,
+    /// All of them, a number a line, as the program `sheet_one` does.
+    Numbers,
+    /// One JSON object.
+    Json,
+}
+
+/// What is wanted: the frames, all of them where none are named, and how to hand the sheet over.
+pub struct Wanted<'a> {
+    pub frames: Option<(u64, u64)>,
+    pub form: Form,
+    pub output: Option<&'a Path>,
+}
+
+fn sample(path: &Path, frames: Option<(u64, u64)>) -> Result<Sheet, Failure> {
+    let mut run = Run::open(path)?;
+    let (first, last) = frames.unwrap_or((1, run.frames()));
+    let numbers = run.sample(first, last)?;
+    Ok(Sheet { first, last, numbers })
+}
+
+/// The plot in the terminal: its columns and lines, and the eighths of a line.
+const COLUMNS: usize = 64;
+const LINES: usize = 8;
+const EIGHTHS: [char; 9] = [' ', '▁', '▂', '▃', '▄', '▅', '▆', '▇', '█'];
+
+/// Each column is the counts of four levels, the highest as high as the plot. A count above 0 is never an empty column.
+fn print_plot(sheet: &Sheet, out: &mut dyn Write) -> io::Result<()> {
+    let width = LEVELS / COLUMNS;
+    let columns: Vec<u64> = sheet.counts().chunks(width).map(|levels| levels.iter().sum()).collect();
+    let most = columns.iter().copied().max().unwrap_or(1).max(1);
+    let heights: Vec<usize> = columns
+        .iter()
+        .map(|&count| ((count as f64 / most as f64 * (LINES * 8) as f64) as usize).max(usize::from(count > 0)))
+        .collect();
+    for below in (0..LINES).rev() {
+        let text: String = heights.iter().map(|&height| EIGHTHS[height.saturating_sub(8 * below).min(8)]).collect();
+        writeln!(out, "  {}", text.trim_end())?;
+    }
+    writeln!(out, "  {}", "─".repeat(COLUMNS))?;
+    writeln!(out, "  0{:>32}{:>31}", "128", "255")
+}
+
+fn print_json(path: &Path, sheet: &Sheet, out: &mut dyn Write) -> io::Result<()> {
+    let counts: Vec<String> = sheet.counts().iter().map(u64::to_string).collect();
+    writeln!(
+        out,
+        "{{{},\"first\":{},\"last\":{},\"native\":{},\"lowest\":{},\"highest\":{},\"sum\":{},\"counts\":[{}]}}",
+        path_fields("file", path),
+        sheet.first,
+        sheet.last,
+        sheet.natives(),
+        sheet.lowest(),
+        sheet.highest(),
+        sheet.sum(),
+        counts.join(",")
+    )
+}
+
+/// The picture: columns of a level each, three cells wide, in a frame; marks below for the lowest and highest level and the mean.
+const WIDE: usize = 3;
+const HIGH: usize = 320;
+const MARGIN: usize = 12;
+const MARKS: usize = 16;
+const PAPER: u8 = 255;
+const INK: u8 = 40;
+const PALE: u8 = 170;
+
+fn plotted(sheet: &Sheet) -> Result<Image<u8>, String> {
+    let (width, height) = (LEVELS * WIDE + 2 * MARGIN, HIGH + 2 * MARGIN + MARKS);
+    let mut image = Image::new(width, height, PAPER)?;
+    let foot = MARGIN + HIGH;
+    let most = sheet.counts().iter().copied().max().unwrap_or(1).max(1);
+    // The mean stands behind the columns, the lowest and highest level below them.
+    let mean = MARGIN + ((sheet.mean() + 0.5) * WIDE as f64) as usize;
+    for y in (MARGIN..foot).filter(|y| y % 4 < 2) {
+        image.put(mean, y, PALE);
+    }
+    for (level, &count) in sheet.counts().iter().enumerate() {
+        let tall = ((count as f64 / most as f64 * HIGH as f64) as usize).max(usize::from(count > 0));
+        for y in foot - tall..foot {
+            for x in 0..WIDE {
+                image.put(MARGIN + level * WIDE + x, y, INK);
+            }
+        }
+    }
+    for x in MARGIN..MARGIN + LEVELS * WIDE {
+        image.put(x, foot, INK);
+    }
+    for (mark, tall) in [(sheet.lowest(), MARKS), (sheet.highest(), MARKS)] {
+        for y in foot..foot + tall {
+            image.put(MARGIN + mark as usize * WIDE + WIDE / 2, y, INK);
+        }
+    }
+    for y in foot..foot + MARKS / 2 {
+        for x in mean.saturating_sub((foot + MARKS / 2 - y) / 2)..=mean + (foot + MARKS / 2 - y) / 2 {
+            image.put(x, y + MARKS / 2, INK);
+        }
+    }
+    Ok(image)
+}
+
+/// Samples a run.
+pub fn run(path: &Path, wanted: &Wanted, out: &mut dyn Write) -> io::Result<Status> {
+    let sheet = match sample(path, wanted.frames) {
+        Ok(sheet) => sheet,
+        Err(Failure::Refused(text)) if !matches!(wanted.form, Form::Plot) => {
+            note_of(path, &text);
+            return Ok(Status::Refused);
+        }
+        Err(failure) => return picture::explain(path, failure, out),
+    };
+    match wanted.form {
+        Form::Plot => {
+            line(out, path, &sheet.about())?;
+            print_plot(&sheet, out)?;
+        }
+        Form::Numbers => {
+            for number in sheet.numbers {
+                writeln!(out, "{number}")?;
+            }
+        }
+        Form::Json => print_json(path, &sheet, out)?,
+    }
+    let Some(to) = wanted.output else {
+        return Ok(Status::Fine);
+    };
+    match plotted(&sheet) {
+        Ok(image) => picture::write(&image, path, to, "histogram", out),
+        Err(trouble) => {
+            note_of(path, &trouble);
+            Ok(Status::Failed)
+        }
+    }
+}
