@@ -5,8 +5,8 @@ With no fault it must pass every comparison; with a fault it must fail one. So i
 
 import ctypes
 
-from library import AnswerStruct, RewrittenStruct, SlipStruct, answer_of
-from reference import canonical, drawing, intensity, reading, rules, sheet, slips
+from library import AnswerStruct, ComparedStruct, RewrittenStruct, SlipStruct, answer_of
+from reference import canonical, comparing, drawing, intensity, reading, rules, sheet, slips
 
 
 def write(address, content):
@@ -30,7 +30,8 @@ class StandIn:
 
     def __init__(self, change=None, after=None, read=reading.read, judge=rules.judge, show=drawing.show,
                  write_slip=slips.write_slip, read_slip=slips.read_slip, write_canonical=canonical.write_canonical,
-                 linear=intensity.linear, root_level=intensity.root_level, root_entry=intensity.root_entry, sample=sheet.sheet):
+                 linear=intensity.linear, root_level=intensity.root_level, root_entry=intensity.root_entry, sample=sheet.sheet,
+                 compare=comparing.compare):
         self.read = read
         self.judge = judge
         self.show = show
@@ -39,6 +40,7 @@ class StandIn:
         self.write_canonical = write_canonical
         self.linear = linear
         self.sample = sample
+        self.compare = compare
         self.xa_root_level = root_level
         self.xa_root_entry = root_entry
         self.change = change or (lambda outcome, data: outcome)
@@ -89,6 +91,11 @@ class StandIn:
         write(numbers, b"".join((number & 0xFFFFFFFFFFFFFFFF).to_bytes(8, "little") for number in outcome.sheet))
         self.after(outcome, data, rows, rows_length)
         return AnswerStruct(*outcome.answer)
+
+    def xa_compare(self, data, size, frame, cells, cells_length, tolerance, rows, rows_length):
+        answer, written = self.compare(view(data, size), frame, ctypes.string_at(cells, cells_length), tolerance, rows_length)
+        write_rows(rows, written)
+        return ComparedStruct(AnswerStruct(*answer.answer), *answer[1:])
 
     def xa_write_slip(self, verdict, slip, slip_length):
         code, written = self.write_slip(answer_of(verdict), slip_length)

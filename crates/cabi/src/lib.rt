@@ -1,5 +1,6 @@
 // The library's calls for hosts in C and whatever calls C; include/luuxidgaan.h declares them. None has a `requires`:
 // any bytes and any buffers may be handed in.
+mod comparing;
 mod judge;
 mod measure;
 mod read;
@@ -10,6 +11,8 @@ mod slips;
 
 ghost use mathlib.Core.Path.{_≡_};
 ghost use Rattle.cabi.specs.Host.{codeAlone};
+pub use comparing::Compared;
+pub use comparing::xa_compare;
 pub use judge::xa_judge;
 pub use measure::xa_linear;
 pub use measure::xa_root_entry;
