@@ -4,9 +4,12 @@ places, every refusal, and what is promised of tolerances."""
 import mmap
 import random
 import struct
+import tempfile
 
 import enhanced_xa as xa
+import outside
 import reading_cases
+from compare_show import base_shape, every_value
 from comparison import DifferenceFound, exact_numbers, run_as_program
 from mutations import CHANGES
 from reference import comparing, drawing, reading
@@ -124,6 +127,34 @@ def compare_changes(comparison, rng):
         check_picture(comparison, f"small case {name}", data, 1, bytes(4), 256, 1000)
 
 
+def compare_outside(comparison, rng, required):
+    """Native frames with a window as dcmtk's dcm2pnm draws them: it cuts off where step 6 rounds, so they pass at 1, and mostly not at 0.
+    Answers how many were compared, and how many passed at 0."""
+    if not outside.has_dcmtk():
+        if required:
+            raise DifferenceFound("no outside pictures: dcmtk is not installed")
+        return 0, 0
+    compared = exact = 0
+    with tempfile.TemporaryDirectory() as folder:
+        for center, width in (("40", "10"), ("128", "256"), ("2048", "4096"), ("1000", "2500.5"), ("100.25", "30.75"), ("30000", "65535")):
+            for stored in (8, 12, 16):
+                model = xa.build(rng, base_shape(rng, bits_allocated=8 if stored == 8 else 16, bits_stored=stored, frames=2, rows=16, columns=16,
+                                                 photometric=rng.choice(("MONOCHROME1", "MONOCHROME2")), pixel_vr="OW"))
+                values = every_value(stored)
+                model[xa.PIXEL_DATA] = ("OW", values + values[::-1] if stored == 8 else values * 2)
+                model[xa.SHARED][1][0][xa.VOI] = xa.sq({xa.CENTER: xa.text("DS", center), xa.WIDTH: xa.text("DS", width)})
+                data = xa.encode_at_random(rng, model)
+                room = exact_numbers(data)
+                for frame in (1, 2):
+                    cells = bytes(outside.windowed_by_dcmtk(folder, data, frame, center, width))
+                    name = f"window {center}, {width}, {stored} bits, drawn by dcmtk"
+                    exact += check_picture(comparison, name, data, frame, cells, 0, room).same
+                    found = check_picture(comparison, name, data, frame, cells, 1, room)
+                    comparison.must_equal(f"{name}, frame {frame}: within 1 of ours", found.same, 1)
+                    compared += 1
+    return compared, exact
+
+
 def compare_size_limit(comparison):
     memory = mmap.mmap(-1, reading.MAXIMUM_SIZE + 1, flags=mmap.MAP_PRIVATE | mmap.MAP_ANONYMOUS)
     expected = comparing.compare(memory, 1, b"", 256, reading.NUMBERS_IN_A_ROW)
@@ -140,8 +171,10 @@ def run(comparison, arguments):
     compare_changes(comparison, rng)
     compare_random_objects(comparison, rng, comparison.count)
     compare_size_limit(comparison)
+    drawn, exact = compare_outside(comparison, rng, arguments.require_outside)
     comparison.insist([("code", code) for code in (*range(11), 22, 23)] + [("same", 0), ("same", 1), ("edge", -1), ("edge", 0), ("edge", 1)])
-    return f"{comparison.tally[('code', 0)]} pictures compared, {comparison.tally[('same', 0)]} of them answered no"
+    line = f"{comparison.tally[('code', 0)]} pictures compared, {comparison.tally[('same', 0)]} of them answered no"
+    return f"{line}; {drawn} drawn by dcmtk, all within 1, {exact} equal"
 
 
 if __name__ == "__main__":
