@@ -51,7 +51,8 @@ all-on : (off : ℕ → Bool) (n : ℕ) → ((i : ℕ) → i < n → off i ≡ f
 unfolding howMany
 all-on off zero e = refl
 all-on off (suc n) e =
-    let q : _≡_ {A = ℕ} (cond (off n) 1 0) 0 = ap {B = ℕ} (λ (b : Bool). cond b 1 0) (e n (omega arith)) in
+    let one : Bool → ℕ = λ b. cond b 1 0 in
+    let q : _≡_ {A = ℕ} (one (off n)) (one false) = ap one (e n (omega arith)) in
     omega (arith, q, all-on off n (λ i h. e i (omega arith)))
 
 record First (off : ℕ → Bool) (n first : ℕ) : Type 0 where

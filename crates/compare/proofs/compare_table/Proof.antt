@@ -41,7 +41,7 @@ returns-4 c =
 
 returns-5 : tie.Need-returns-5
 returns-5 c =
-    answers.wrong-tolerance (nodesOf (c .before .before .before .before .before .before .before .before .before .before .before .before .args .bytes .now)) (c .before .before .before .before .before .before .before .before .before .before .before .before .args .frame) (c .before .before .before .before .before .before .before .before .before .before .before .before .args .cells .now) (c .before .before .before .before .before .before .before .before .before .before .before .before .args .tolerance) (c .before .before .before .before .before .before .before .before .before .before .before .before .args .count) _ (node-laws.had (c .before .before .before .before .before .before .n .given .1) (c .before .before .before .before .before .before .before .before .frame-count .ensures .0)) (omega (arith, c .before .before .before .before .if1 .left)) (omega (arith, c .before .before .before .if2 .left)) (c .before .if3 .left ∙ c .before .before .image-size .ensures) (c .if4 .taken)
+    answers.wrong-tolerance (nodesOf (c .before .before .before .before .before .before .before .before .before .before .before .before .args .bytes .now)) (c .before .before .before .before .before .before .before .before .before .before .before .before .args .frame) (c .before .before .before .before .before .before .before .before .before .before .before .before .args .cells .now) (c .before .before .before .before .before .before .before .before .before .before .before .before .args .tolerance) (c .before .before .before .before .before .before .before .before .before .before .before .before .args .count) _ (node-laws.had (c .before .before .before .before .before .before .n .given .1) (c .before .before .before .before .before .before .before .before .frame-count .ensures .0)) (omega (arith, c .before .before .before .before .if1 .left)) (omega (arith, c .before .before .before .if2 .left)) (c .before .if3 .left ∙ c .before .before .image-size .ensures) (omega (arith, c .if4 .taken))
 
 compare-picture-requires : tie.Need-compare-picture-requires
 compare-picture-requires c κs =

@@ -15,7 +15,7 @@ add-result c =
 
 returns : tie.Need-returns
 returns c =
-    places.off-above (c .before .args .tolerance) (c .before .args .ours) (c .before .args .theirs) (c .if1 .taken)
+    places.off-above (c .before .args .tolerance) (c .before .args .ours) (c .before .args .theirs) (omega (arith, c .if1 .taken))
 
 returns-2 : tie.Need-returns-2
 returns-2 c =
