@@ -228,9 +228,11 @@ own-cells s b f buffer image e =
     let w = d .nothing-else buffer image e in
     let p : Whole (nodesOf s) f = d .drawable (w .0) (w .1 .0) in
     let h = d .as-stepped buffer image e (p .p) (p .is) in
-    let q : pictureOf (nodesOf s) f .samples ≡ p .p .samples = ap (λ (o : Option Picture). pictureIn o .samples) (p .is) in
-    (ap (take (imageSize (nodesOf s))) (h .cells)
-    ∙ (subst (λ (k : ℕ). take k (p .p .samples ++ drop (imageSize (nodesOf s)) image) ≡ p .p .samples) (p .size) (take-append-seam (p .p .samples) (drop (imageSize (nodesOf s)) image)) ∙ sym q), ap length q ∙ p .size)
+    let q : pictureOf (nodesOf s) f .samples ≡ p .p .samples = ap (λ (o : Option Picture). pictureIn o .samples) (p .is) in (
+      ap (take (imageSize (nodesOf s))) (h .cells)
+          ∙ (subst (λ (k : ℕ). take k (p .p .samples ++ drop (imageSize (nodesOf s)) image) ≡ p .p .samples) (p .size) (take-append-seam (p .p .samples) (drop (imageSize (nodesOf s)) image)) ∙ sym q),
+      ap length q ∙ p .size,
+    )
 
 own : (s : List ℕ) → Bytes s → (f : ℕ) (buffer image : List ℕ) → Own s f buffer image
 own s b f buffer image =

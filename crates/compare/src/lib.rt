@@ -167,7 +167,17 @@ fn compare_whole(
     let mut now = Differing { first: 0, count: 0 };
     for row in 0..height {
         lines::whole_line(
-            pixels, g, frame, masks, down, right, row, shades, table, sums, line,
+            pixels,
+            g,
+            frame,
+            masks,
+            down,
+            right,
+            row,
+            shades,
+            table,
+            sums,
+            line,
         );
         let next = compare_line(&line[..columns], cells, row * columns, tolerance, now);
         now = next;
@@ -199,7 +209,18 @@ fn compare_quarters(
     let mut now = Differing { first: 0, count: 0 };
     for row in 0..height {
         lines::quarter_line(
-            pixels, g, frame, masks, down, right, row, shades, table, upper, lower, line,
+            pixels,
+            g,
+            frame,
+            masks,
+            down,
+            right,
+            row,
+            shades,
+            table,
+            upper,
+            lower,
+            line,
         );
         let next = compare_line(&line[..columns], cells, row * columns, tolerance, now);
         now = next;
@@ -234,7 +255,19 @@ fn compare_blended(
         lower,
     );
     compare_quarters(
-        pixels, g, frame, masks, down, right, shades, table, upper, lower, line, cells, tolerance,
+        pixels,
+        g,
+        frame,
+        masks,
+        down,
+        right,
+        shades,
+        table,
+        upper,
+        lower,
+        line,
+        cells,
+        tolerance,
     )
 }
 
@@ -261,14 +294,36 @@ fn compare_masked(
         if down % pixel::UNIT == 0 {
             if right % pixel::UNIT == 0 {
                 return compare_whole(
-                    pixels, g, frame, masks, down, right, shades, table, upper, line, cells,
+                    pixels,
+                    g,
+                    frame,
+                    masks,
+                    down,
+                    right,
+                    shades,
+                    table,
+                    upper,
+                    line,
+                    cells,
                     tolerance,
                 );
             }
         }
     }
     compare_blended(
-        pixels, g, frame, masks, down, right, shades, table, upper, lower, line, cells, tolerance,
+        pixels,
+        g,
+        frame,
+        masks,
+        down,
+        right,
+        shades,
+        table,
+        upper,
+        lower,
+        line,
+        cells,
+        tolerance,
     )
 }
 
@@ -295,7 +350,19 @@ fn compare_moved(
     let down = pixel::offset_of(vertical);
     let right = pixel::offset_of(horizontal);
     compare_masked(
-        pixels, g, frame, masks, down, right, shades, table, upper, lower, line, cells, tolerance,
+        pixels,
+        g,
+        frame,
+        masks,
+        down,
+        right,
+        shades,
+        table,
+        upper,
+        lower,
+        line,
+        cells,
+        tolerance,
     )
 }
 
@@ -326,13 +393,35 @@ fn compare_frame(
         Masking::Average(k, m) => {
             let masks = node::value(bytes, rows, k);
             compare_moved(
-                pixels, g, frame, masks, m, shades, table, upper, lower, line, cells, tolerance,
+                pixels,
+                g,
+                frame,
+                masks,
+                m,
+                shades,
+                table,
+                upper,
+                lower,
+                line,
+                cells,
+                tolerance,
             )
         }
         Masking::One(t, m) => {
             let one = [(t % 256) as u8, (t / 256 % 256) as u8];
             compare_moved(
-                pixels, g, frame, &one, m, shades, table, upper, lower, line, cells, tolerance,
+                pixels,
+                g,
+                frame,
+                &one,
+                m,
+                shades,
+                table,
+                upper,
+                lower,
+                line,
+                cells,
+                tolerance,
             )
         }
         Masking::Lacks => Differing { first: 0, count: 0 },
@@ -368,7 +457,17 @@ fn compare_planned(
         filled: true,
     };
     compare_frame(
-        bytes, rows, c, frame, masking, shades, &table, &mut upper, &mut lower, &mut line, cells,
+        bytes,
+        rows,
+        c,
+        frame,
+        masking,
+        shades,
+        &table,
+        &mut upper,
+        &mut lower,
+        &mut line,
+        cells,
         tolerance,
     )
 }

@@ -72,9 +72,7 @@ fn print_answer(answer: CompareAnswer) {
 fn compare_parts(bytes: &[u8], frame: u64, cells: &[u8], tolerance: u64)
     requires { ⌜ length (now bytes) ≤ 65536 ⌝ }
 {
-    print_answer(compare_small::compare_small(
-        bytes, frame, cells, tolerance,
-    ));
+    print_answer(compare_small::compare_small(bytes, frame, cells, tolerance));
 }
 
 // Parts the input at the data set's end.
@@ -111,7 +109,10 @@ fn number(k: usize) -> Decimal {
 }
 
 fn wanted() {
-    io::write_all(1, b"frame, tolerance and length of the data set: three numbers up to 18446744073709551615 are wanted\n");
+    io::write_all(
+        1,
+        b"frame, tolerance and length of the data set: three numbers up to 18446744073709551615 are wanted\n",
+    );
 }
 
 fn main() {
