@@ -141,7 +141,7 @@ typedef struct {
  *
  * What `xa_show` draws passes at every tolerance, and what passes at one passes at every larger one. No image buffer is lent: a line is
  * drawn at a time. The rows are written with codes 0, 9, 10, 22 and 23. Every frame of a data set that `xa_judge` accepts is compared
- * where there is room for the rows. STACK
+ * where there is room for the rows. It takes 724 KB of stack.
  */
 xa_compared xa_compare(const uint8_t *data, size_t size, uint64_t frame, const uint8_t *cells, size_t cells_len,
                        uint64_t tolerance, uint32_t *rows, size_t rows_len);
