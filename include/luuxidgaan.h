@@ -1,5 +1,6 @@
 /* Reads, judges and draws X-ray angiographic (XA, XRF) data sets in Explicit VR Little Endian, in DICOM files or without a
- * file head, counts the grey levels of their frames, maps them back to beam intensity, and keeps verdicts on slips.
+ * file head, counts the grey levels of their frames, compares other pictures of them, maps them back to beam intensity, and keeps
+ * verdicts on slips.
  *
  * Every call takes any bytes and any buffers; nothing is asked of the caller but that each pointer has as many
  * elements behind it as the size that follows it says, and that no two buffers overlap. A pointer whose size is 0 is
@@ -30,6 +31,9 @@ extern "C" {
 
 /* The numbers of a sampling sheet. */
 #define XA_SHEET_NUMBERS 260
+
+/* The largest tolerance of `xa_compare`. */
+#define XA_TOLERANCE 255
 
 /* What a call answers. Fields that the code does not name are 0.
  *
@@ -62,12 +66,15 @@ extern "C" {
  *         set names none
  *     19  the first frame is above the last                                    none
  *     20  the frame has no TO_LINEAR item to be mapped by                      none
+ *     22  the number of cells handed in is not Rows x Columns                  none
+ *     23  the tolerance is over XA_TOLERANCE                                   none
  *
  * `offset` counts bytes from 0: where the refused header starts, or the end at which an undefined length is still
  * open. `rule` is 1 to XA_RULES; `frame` counts from 1, and is 0 for a rule that is not asked at each frame. The size (7)
  * is tested first, then 1 to 6 header by header, then the row buffer (8), then the rules (9), then by xa_sheet the order of the
- * frames (19), then the frame (10), then by xa_linear the item (20), then the image, values or sheet's buffer (11). The calls for
- * files test 15, 16 and 17 before all others, and 18 between 8 and 9.
+ * frames (19), then the frame (10), then by xa_linear the item (20), then the image, values or sheet's buffer (11); by xa_compare,
+ * after the frame, the number of cells (22) and the tolerance (23). The calls for files test 15, 16 and 17 before all others, and
+ * 18 between 8 and 9.
  */
 typedef struct {
     uint32_t code;
@@ -153,6 +160,26 @@ xa_answer xa_show_file(const uint8_t *file, size_t size, uint64_t frame, uint32_
  */
 xa_answer xa_sheet(const uint8_t *data, size_t size, uint64_t first, uint64_t last, uint32_t *rows, size_t rows_len,
                    uint64_t *sheet, size_t sheet_len);
+
+/* What `xa_compare` answers. With code 0 `same` is 1 where every cell is within the tolerance, and else 0, with `first`, the first cell
+ * that is not, counted from 0, row by row, and `count`, how many are not. With any other code all three are 0. `answer.masked` is 0.
+ */
+typedef struct {
+    xa_answer answer;
+    uint32_t same;
+    uint32_t first;
+    uint32_t count;
+} xa_compared;
+
+/* Judges the data set as `xa_judge` does, afresh, and compares another workstation's picture of its frame `frame`, counted from 1, with
+ * ours: the `cells_len` grey levels at `cells`, row by row, each of which may be up to `tolerance` away from what `xa_show` draws.
+ *
+ * What `xa_show` draws passes at every tolerance, and what passes at one passes at every larger one. No image buffer is lent: a line is
+ * drawn at a time. The rows are written with codes 0, 9, 10, 22 and 23. Every frame of a data set that `xa_judge` accepts is compared
+ * where there is room for the rows. It takes 724 KB of stack.
+ */
+xa_compared xa_compare(const uint8_t *data, size_t size, uint64_t frame, const uint8_t *cells, size_t cells_len,
+                       uint64_t tolerance, uint32_t *rows, size_t rows_len);
 
 /* What `xa_canonical` answers. Fields that the code does not name are 0.
  *

@@ -3,7 +3,7 @@
 import ctypes
 
 from parents import table_of
-from reference import canonical, drawing, files, intensity, reading, rules, sheet, slips
+from reference import canonical, comparing, drawing, files, intensity, reading, rules, sheet, slips
 from reference.answers import Answer
 from reference.reading import ITEM, NUMBERS_IN_A_ROW
 from reference.values import UNIT
@@ -761,6 +761,65 @@ SHEET_FAULTS = {
     "16-bit frame numbers": StandIn(sample=lambda data, a, b, *rooms: sheet.sheet(data, a % 65536, b % 65536, *rooms)),
 }
 
+def compared_otherwise(change):
+    """`change(compared)` answers another answer of xa_compare."""
+    def compare(data, *arguments):
+        found, rows = comparing.compare(data, *arguments)
+        return change(found), rows
+
+    return StandIn(compare=compare)
+
+
+def with_off_places(named):
+    """`named(places)` answers the place and the count that are named of the places that are off."""
+    def compare(data, frame, cells, tolerance, row_buffer_length):
+        found, rows = comparing.compare(data, frame, cells, tolerance, row_buffer_length)
+        if found.answer.code or found.same:
+            return found, rows
+        ours = drawing.show(data, frame, row_buffer_length, len(cells)).image
+        first, count = named(comparing.places_off(ours, cells, tolerance))
+        return found._replace(first=first, count=count), rows
+
+    return StandIn(compare=compare)
+
+
+def last_cell_not_looked_at(data, frame, cells, tolerance, row_buffer_length):
+    found, rows = comparing.compare(data, frame, cells, tolerance, row_buffer_length)
+    if found.answer.code or found.same:
+        return found, rows
+    ours = drawing.show(data, frame, row_buffer_length, len(cells)).image
+    off = comparing.places_off(ours[:-1], cells[:-1], tolerance)
+    return (found._replace(first=off[0], count=len(off)) if off else found._replace(same=1, first=0, count=0)), rows
+
+
+def tolerance_first(data, frame, cells, tolerance, row_buffer_length):
+    found, rows = comparing.compare(data, frame, cells, tolerance, row_buffer_length)
+    if found.answer.code == 22 and tolerance > comparing.MOST:
+        found = found._replace(answer=found.answer._replace(code=23))
+    return found, rows
+
+
+PICTURE_FAULTS = {
+    "always yes": compared_otherwise(lambda c: c._replace(same=1, first=0, count=0) if c.answer.code == 0 else c),
+    "always no": compared_otherwise(lambda c: c._replace(same=0, count=1) if c.same else c),
+    "one more allowed": StandIn(compare=lambda data, f, cells, t, room: comparing.compare(data, f, cells, t + 1 if t < 255 else t, room)),
+    "one less allowed": StandIn(compare=lambda data, f, cells, t, room: comparing.compare(data, f, cells, t - 1 if 0 < t < 256 else t, room)),
+    "the last place in place of the first": with_off_places(lambda places: (places[-1], len(places))),
+    "places from 1": with_off_places(lambda places: (places[0] + 1, len(places))),
+    "one counted for all": with_off_places(lambda places: (places[0], 1)),
+    "cells that pass counted": with_off_places(lambda places: (places[0], len(places) + 1)),
+    "the last cell not looked at": StandIn(compare=last_cell_not_looked_at),
+    "23 before 22": StandIn(compare=tolerance_first),
+    "a tolerance of 8 bits": StandIn(compare=lambda data, f, cells, t, room: comparing.compare(data, f, cells, t % 256, room)),
+    "a tolerance of 32 bits": StandIn(compare=lambda data, f, cells, t, room: comparing.compare(data, f, cells, t % 2 ** 32, room)),
+    "frame 1 for every frame": StandIn(compare=lambda data, f, cells, t, room: comparing.compare(data, 1 if f in (2, 3) else f, cells, t, room)),
+    "the first place told with yes": compared_otherwise(lambda c: c._replace(first=1) if c.same else c),
+    "row count told with code 22": compared_otherwise(lambda c: c._replace(answer=c.answer._replace(rows=4)) if c.answer.code == 22 else c),
+    "masked told": compared_otherwise(lambda c: c._replace(answer=c.answer._replace(masked=1)) if c.answer.code == 0 else c),
+    "rows not written at code 23": StandIn(compare=lambda *arguments: (lambda found, rows: (found, () if found.answer.code == 23 else rows))(
+        *comparing.compare(*arguments))),
+}
+
 FAULTS = {"read": READ_FAULTS, "judge": JUDGE_FAULTS, "slips": SLIP_FAULTS, "decimals": DECIMAL_FAULTS, "windows": WINDOW_FAULTS,
           "show": SHOW_FAULTS, "canonical": CANONICAL_FAULTS, "linear": LINEAR_FAULTS, "sheet": SHEET_FAULTS,
-          "files": FILE_FAULTS}
+          "pictures": PICTURE_FAULTS, "files": FILE_FAULTS}

@@ -14,6 +14,7 @@ import tempfile
 
 from reference.answers import Answer
 from reference.canonical import CanonicalAnswer
+from reference.comparing import Compared
 
 GUARD = 64  # bytes in front of and behind a buffer
 
@@ -28,6 +29,12 @@ class RewrittenStruct(ctypes.Structure):
     """xa_rewritten of include/luuxidgaan.h."""
 
     _fields_ = [(name, ctypes.c_uint32) for name in ("code", "offset", "rows", "length")]
+
+
+class ComparedStruct(ctypes.Structure):
+    """xa_compared of include/luuxidgaan.h."""
+
+    _fields_ = [("answer", AnswerStruct), *((name, ctypes.c_uint32) for name in ("same", "first", "count"))]
 
 
 class SlipStruct(ctypes.Structure):
@@ -60,6 +67,8 @@ SIGNATURES = {
                                  ctypes.c_void_p, ctypes.c_size_t]),
     "xa_sheet": (AnswerStruct, [ctypes.c_void_p, ctypes.c_size_t, ctypes.c_uint64, ctypes.c_uint64, ctypes.c_void_p, ctypes.c_size_t,
                                 ctypes.c_void_p, ctypes.c_size_t]),
+    "xa_compare": (ComparedStruct, [ctypes.c_void_p, ctypes.c_size_t, ctypes.c_uint64, ctypes.c_void_p, ctypes.c_size_t, ctypes.c_uint64,
+                                    ctypes.c_void_p, ctypes.c_size_t]),
     "xa_root_level": (ctypes.c_uint8, [ctypes.c_uint64]),
     "xa_root_entry": (ctypes.c_uint16, [ctypes.c_uint8]),
     "xa_write_slip": (ctypes.c_uint32, [AnswerStruct, ctypes.c_uint32, ctypes.c_void_p, ctypes.c_size_t]),
@@ -73,6 +82,10 @@ def answer_of(struct_value):
 
 def rewritten_of(struct_value):
     return CanonicalAnswer(*(getattr(struct_value, name) for name in CanonicalAnswer._fields))
+
+
+def compared_of(struct_value):
+    return Compared(answer_of(struct_value.answer), *(getattr(struct_value, name) for name in Compared._fields[1:]))
 
 
 class GuardedBuffer:
@@ -97,6 +110,11 @@ class GuardedBuffer:
         self.length = length
         self.memory = (ctypes.c_ubyte * total).from_buffer_copy(self.before)
         self.address = ctypes.addressof(self.memory) + GUARD
+
+    def fill(self, content):
+        """Puts the whole content there before a call that may not change it."""
+        ctypes.memmove(self.address, content, self.length)
+        self.before = bytes(self.memory)
 
     def fault(self, written):
         """None if the front of the buffer holds `written` and all else is as before; else what is wrong, in words."""
@@ -233,6 +251,23 @@ class Library:
         result = self.functions["xa_sheet"](address, len(memory), 1, 1, rows.address, row_buffer_length, sheet.address, sheet_length)
         return Observation(answer_of(result), rows, GuardedBuffer(0), None, sheet=sheet)
 
+    def compare(self, data, frame, cells, tolerance, row_buffer_length):
+        address = self._place(data)
+        rows = GuardedBuffer(4 * row_buffer_length)
+        lent = GuardedBuffer(len(cells))
+        lent.fill(cells)
+        result = self.functions["xa_compare"](address, len(data), frame, lent.address, len(cells), tolerance, rows.address, row_buffer_length)
+        return ComparedObservation(compared_of(result), rows, lent, self.input)
+
+    def compare_on_mapping(self, memory, cells, tolerance, row_buffer_length):
+        """The call on a large mapping (for the size limit), frame 1; whether it changed is not looked at."""
+        address = ctypes.addressof(ctypes.c_char.from_buffer(memory))
+        rows = GuardedBuffer(4 * row_buffer_length)
+        lent = GuardedBuffer(len(cells))
+        lent.fill(cells)
+        result = self.functions["xa_compare"](address, len(memory), 1, lent.address, len(cells), tolerance, rows.address, row_buffer_length)
+        return ComparedObservation(compared_of(result), rows, lent, None)
+
     def root_level(self, cell):
         return int(self.functions["xa_root_level"](cell))
 
@@ -327,3 +362,17 @@ class CanonicalObservation:
     def difference(self, expected):
         buffers = [("row buffer", self.rows, packed(expected.rows)), ("target", self.target, expected.target)]
         return difference_in(buffers, self.answer, expected.answer, self.input)
+
+
+class ComparedObservation:
+    """What xa_compare answered, with the row buffer and the cells that it was given."""
+
+    def __init__(self, answer, rows, cells, input_memory):
+        self.answer = answer
+        self.rows = rows
+        self.cells = cells
+        self.input = input_memory
+
+    def difference(self, expected):
+        answer, rows = expected
+        return difference_in([("row buffer", self.rows, packed(rows)), ("cells", self.cells, b"")], self.answer, answer, self.input)

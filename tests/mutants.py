@@ -221,6 +221,11 @@ MUTATIONS = [
     ("sheet", "sheet.py", "counts[level] += 1", "counts[255 - level] += 1"),
     ("sheet", "sheet.py", "sum(not masked for", "sum(masked for"),
     ("sheet", "sheet.py", "range(first, last + 1)])\n    return", "range(first, last)])\n    return"),
+    ("pictures", "comparing.py", "abs(our - their) > tolerance", "abs(our - their) >= tolerance"),
+    ("pictures", "comparing.py", "abs(our - their) > tolerance", "our - their > tolerance"),
+    ("pictures", "comparing.py", "tolerance > MOST", "tolerance >= MOST"),
+    ("pictures", "comparing.py", "first=off[0]", "first=off[-1]"),
+    ("pictures", "comparing.py", "count=len(off)", "count=off[-1] - off[0] + 1"),
     ("linear", "intensity.py", "limited(cell - self.first, 0, self.count - 1)", "limited(cell - self.first, 0, self.count - 2)"),
     ("linear", "intensity.py", "limited(cell - self.first, 0, self.count - 1)", "limited(cell - self.first, 1, self.count - 1)"),
     ("linear", "intensity.py", "limited(cell - self.first, 0, self.count - 1)", "limited(cell, 0, self.count - 1)"),
@@ -314,7 +319,7 @@ def mutant(folder, number, file, text, other):
     return StandIn(read=load("reading").read, judge=forgiving(load("rules").judge), show=forgiving(load("drawing").show),
                    write_slip=load("slips").write_slip, read_slip=load("slips").read_slip, write_canonical=load("canonical").write_canonical,
                    linear=forgiving(intensity.linear), root_level=intensity.root_level, root_entry=intensity.root_entry,
-                   sample=forgiving(load("sheet").sheet))
+                   sample=forgiving(load("sheet").sheet), compare=load("comparing").compare)
 
 
 def forgiving(call):

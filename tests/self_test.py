@@ -15,7 +15,7 @@ import parents
 import reading_cases
 import sample_cases
 from mutations import CHANGES
-from reference import canonical, drawing, intensity, reading, rules, sheet, slips, values
+from reference import canonical, comparing, drawing, intensity, reading, rules, sheet, slips, values
 from reference.answers import Answer, Outcome
 
 
@@ -552,6 +552,25 @@ class Drawing(unittest.TestCase):
         self.assertEqual(sheet.sheet(data, 2, 1, room - 1), Outcome(Answer(8), sheet=(0,) * 260))
         self.assertEqual(sheet.printed(data).split()[256:], [b"2", b"0", b"255", b"496"])
         self.assertEqual((sheet.printed(data[:-1]), sheet.printed(bytes(65_537)), sheet.printed(b"")), (b"1\n", b"7\n", b"9\n"))
+
+    def test_comparing(self):
+        """Two frames of four cells, full window at 8 bits: levels are cells."""
+        model = small_object((7, 7, 9, 200, 0, 255, 9, 9), 2, 2, 2)
+        data = objects.encode(model)
+        whole = reading.read(data, 10_000)
+        room = reading.NUMBERS_IN_A_ROW * whole.answer.rows
+        said = lambda frame, cells, t, lent=room: comparing.compare(data, frame, bytes(cells), t, lent)
+        done = lambda *numbers: (comparing.Compared(whole.answer, *numbers), whole.rows)
+        self.assertEqual(said(1, (7, 7, 9, 200), 0), done(1, 0, 0))
+        self.assertEqual(said(1, (7, 8, 9, 199), 0), done(0, 1, 2))
+        self.assertEqual(said(1, (7, 8, 9, 199), 1), done(1, 0, 0))
+        self.assertEqual(said(2, (255, 0, 9, 9), 254), done(0, 0, 2))
+        self.assertEqual(said(2, (255, 0, 9, 9), 255), done(1, 0, 0))
+        refused = lambda code: (comparing.Compared(Answer(code)), whole.rows)
+        self.assertEqual(said(3, (), 256), refused(10))
+        self.assertEqual(said(1, (7, 7, 9), 256), refused(22))
+        self.assertEqual(said(1, (7, 7, 9, 200), 256), refused(23))
+        self.assertEqual(said(0, (), 256, room - 1), (comparing.Compared(Answer(8)), ()))
 
     def test_accepted_objects_lack_nothing(self):
         rng = random.Random(4)

@@ -5,8 +5,8 @@ With no fault it must pass every comparison; with a fault it must fail one. So i
 
 import ctypes
 
-from library import ROWS_NOT_KNOWN, AnswerStruct, PartStruct, RewrittenStruct, SlipStruct, answer_of
-from reference import canonical, drawing, files, intensity, reading, rules, sheet, slips
+from library import ROWS_NOT_KNOWN, AnswerStruct, ComparedStruct, PartStruct, RewrittenStruct, SlipStruct, answer_of
+from reference import canonical, comparing, drawing, files, intensity, reading, rules, sheet, slips
 
 
 def write(address, content):
@@ -32,7 +32,7 @@ class StandIn:
                  write_slip=slips.write_slip, read_slip=slips.read_slip, write_canonical=canonical.write_canonical,
                  data_set=files.data_set, read_file=files.read_file, judge_file=files.judge_file, show_file=files.show_file,
                  linear=intensity.linear, root_level=intensity.root_level, root_entry=intensity.root_entry,
-                 sample=sheet.sheet):
+                 sample=sheet.sheet, compare=comparing.compare):
         self.read = read
         self.judge = judge
         self.show = show
@@ -45,6 +45,7 @@ class StandIn:
         self.write_canonical = write_canonical
         self.linear = linear
         self.sample = sample
+        self.compare = compare
         self.xa_root_level = root_level
         self.xa_root_entry = root_entry
         self.change = change or (lambda outcome, data: outcome)
@@ -109,6 +110,11 @@ class StandIn:
         write(numbers, b"".join((number & 0xFFFFFFFFFFFFFFFF).to_bytes(8, "little") for number in outcome.sheet))
         self.after(outcome, data, rows, rows_length)
         return AnswerStruct(*outcome.answer)
+
+    def xa_compare(self, data, size, frame, cells, cells_length, tolerance, rows, rows_length):
+        answer, written = self.compare(view(data, size), frame, ctypes.string_at(cells, cells_length), tolerance, rows_length)
+        write_rows(rows, written)
+        return ComparedStruct(AnswerStruct(*answer.answer), *answer[1:])
 
     def xa_write_slip(self, verdict, rows_known, slip, slip_length):
         verdict = answer_of(verdict)

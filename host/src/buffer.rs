@@ -5,7 +5,7 @@
 //! the library answers that it is too small.
 
 use crate::head::Form;
-use crate::library::{self, Answer, Coded, Rewritten, ROW_WIDTH};
+use crate::library::{self, Answer, Coded, Compared, Rewritten, ROW_WIDTH};
 use crate::table::Table;
 
 /// Rows of the first buffer: 112 KiB.
@@ -61,6 +61,11 @@ impl RowBuffer {
     /// The sheet of frames.
     pub fn sheet(&mut self, data: &[u8], first: u64, last: u64, sheet: &mut [u64]) -> Result<Answer, String> {
         self.lend(data, |data, rows| library::sheet(data, first, last, rows, sheet))
+    }
+
+    /// Another workstation's picture of a frame.
+    pub fn compare(&mut self, data: &[u8], frame: u64, cells: &[u8], tolerance: u64) -> Result<Compared, String> {
+        self.lend(data, |data, rows| library::compare(data, frame, cells, tolerance, rows))
     }
 
     /// The first `rows` rows.

@@ -55,6 +55,16 @@ pub struct Rewritten {
     pub length: u32,
 }
 
+/// `xa_compared` of the header.
+#[repr(C)]
+#[derive(Clone, Copy, Debug, Default, PartialEq, Eq)]
+pub struct Compared {
+    pub answer: Answer,
+    pub same: u32,
+    pub first: u32,
+    pub count: u32,
+}
+
 /// An answer that may say that the row buffer is too small.
 pub trait Coded {
     fn code(&self) -> u32;
@@ -69,6 +79,12 @@ impl Coded for Answer {
 impl Coded for Rewritten {
     fn code(&self) -> u32 {
         self.code
+    }
+}
+
+impl Coded for Compared {
+    fn code(&self) -> u32 {
+        self.answer.code
     }
 }
 
@@ -132,6 +148,16 @@ extern "C" {
         sheet: *mut u64,
         sheet_len: usize,
     ) -> Answer;
+    fn xa_compare(
+        data: *const u8,
+        size: usize,
+        frame: u64,
+        cells: *const u8,
+        cells_len: usize,
+        tolerance: u64,
+        rows: *mut u32,
+        rows_len: usize,
+    ) -> Compared;
     fn xa_write_slip(verdict: Answer, rows_known: u32, slip: *mut u8, slip_len: usize) -> u32;
     fn xa_read_slip(slip: *const u8, slip_len: usize) -> Slip;
 }
@@ -210,6 +236,23 @@ pub fn sheet(data: &[u8], first: u64, last: u64, rows: &mut [u32], sheet: &mut [
             rows.len(),
             sheet.as_mut_ptr(),
             sheet.len(),
+        )
+    }
+}
+
+/// Compares another workstation's picture with a frame of an accepted data set.
+pub fn compare(data: &[u8], frame: u64, cells: &[u8], tolerance: u64, rows: &mut [u32]) -> Compared {
+    // Sound: as in `read`; the cells are only read.
+    unsafe {
+        xa_compare(
+            data.as_ptr(),
+            data.len(),
+            frame,
+            cells.as_ptr(),
+            cells.len(),
+            tolerance,
+            rows.as_mut_ptr(),
+            rows.len(),
         )
     }
 }

@@ -6,6 +6,7 @@
 
 mod buffer;
 mod canonical;
+mod comparing;
 mod demo;
 mod files;
 mod head;
@@ -30,8 +31,8 @@ use output::{note, Status};
 
 const STATUSES: &str = "\
 Exit status:
-  0  all was accepted (judge, slip read), read (rows, duplicates), written (canonical), drawn (show, contact), counted (sheet)
-     or mapped (linear)
+  0  all was accepted (judge, slip read), read (rows, duplicates), written (canonical), drawn (show, contact), counted (sheet),
+     within the tolerance (compare) or mapped (linear)
   1  something was refused; the line says why
   2  wrong usage, nothing to judge, or a file that cannot be read or written
 
@@ -142,6 +143,29 @@ enum Command {
         json: bool,
         /// Write a plot of the counts too, .png or .pgm, with the lowest and highest level and the mean marked
         #[arg(short, long, value_name = "PICTURE")]
+        output: Option<PathBuf>,
+    },
+    /// Compare another workstation's pictures with ours
+    ///
+    /// Says yes where every cell is within the tolerance, and otherwise the first cell that is not, by row and column from 0, with both
+    /// levels, and how many are not. A picture is a PNG of 8-bit grey (.png), a PGM (.pgm), or under any other name plain cells, one byte
+    /// each, row by row. Of a folder every picture is compared with the frame that the last number in its name says.
+    Compare {
+        /// A DICOM file
+        file: PathBuf,
+        /// FILE is a data set without a head, whatever stands in it
+        #[arg(long)]
+        bare: bool,
+        /// The frame, from 1 on; or a folder of pictures
+        #[arg(value_name = "FRAME|DIR")]
+        what: PathBuf,
+        /// The other workstation's picture of the frame
+        picture: Option<PathBuf>,
+        /// How far a cell may be from ours, 0 to 255
+        #[arg(long, value_name = "T", default_value_t = 0)]
+        tolerance: u64,
+        /// Draw where the pictures differ, .png or .pgm
+        #[arg(short, long, value_name = "PICTURE", requires = "picture")]
         output: Option<PathBuf>,
     },
     /// Write a data set in its canonical form
@@ -271,6 +295,17 @@ fn run(command: Command, out: &mut dyn Write) -> io::Result<Status> {
             };
             let wanted = sampling::Wanted { form: Form::of(bare), frames, print, output: output.as_deref() };
             sampling::run(&file, &wanted, out)
+        }
+        Command::Compare { file, bare, what, picture, tolerance, output } => {
+            check_picture(output.as_deref());
+            let wanted = comparing::Wanted { form: Form::of(bare), tolerance, output: output.as_deref() };
+            let Some(other) = picture else {
+                return comparing::folder(&file, &what, &wanted, out);
+            };
+            match what.to_str().unwrap_or("").parse() {
+                Ok(frame) => comparing::picture(&file, frame, &other, &wanted, out),
+                Err(_) => Arguments::command().error(ErrorKind::ValueValidation, "a frame is a whole number, from 1 on").exit(),
+            }
         }
         Command::Canonical { file, bare, output } => canonical::write(&file, Form::of(bare), &output, out),
         Command::Duplicates { paths, bare, json } => canonical::duplicates(&paths, Form::of(bare), json, out),

@@ -9,7 +9,7 @@ use std::path::{Path, PathBuf};
 use crate::buffer::RowBuffer;
 use crate::files::{self, Opened};
 use crate::head::{self, Judged};
-use crate::library::{Answer, SHEET_NUMBERS};
+use crate::library::{Answer, Compared, SHEET_NUMBERS};
 use crate::output::{line, note_of, Status};
 use crate::sentences;
 use crate::table::Table;
@@ -77,6 +77,18 @@ impl<C: Cell> Image<C> {
         }
         cells.resize(size, cell);
         Ok(Image { width, height, cells })
+    }
+
+    pub fn width(&self) -> usize {
+        self.width
+    }
+
+    pub fn height(&self) -> usize {
+        self.height
+    }
+
+    pub fn cells(&self) -> &[C] {
+        &self.cells
     }
 
     pub fn put(&mut self, x: usize, y: usize, cell: C) {
@@ -158,7 +170,7 @@ impl Run {
     }
 
     /// A frame, and whether it is masked.
-    fn draw(&mut self, frame: u64) -> Result<(Image<u8>, bool), Failure> {
+    pub fn draw(&mut self, frame: u64) -> Result<(Image<u8>, bool), Failure> {
         let mut image = Image::new(self.width, self.height, 0)?;
         let answer = self.buffer.show(self.form, self.opened.bytes(), frame, &mut image.cells)?;
         self.done(answer).map(|()| (image, answer.masked == 1))
@@ -174,6 +186,17 @@ impl Run {
     /// How many frames it has.
     pub fn frames(&self) -> u64 {
         self.frames
+    }
+
+    /// Width and height of a frame.
+    pub fn size(&self) -> (usize, usize) {
+        (self.width, self.height)
+    }
+
+    /// Another workstation's picture of a frame against ours.
+    pub fn compare(&mut self, frame: u64, cells: &[u8], tolerance: u64) -> Result<Compared, Failure> {
+        let found = self.buffer.compare(&self.opened.bytes()[self.start..], frame, cells, tolerance)?;
+        self.done(found.answer).map(|()| found)
     }
 
     /// The sampling sheet of frames.

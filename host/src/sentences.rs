@@ -76,6 +76,8 @@ pub fn code(number: u32) -> &'static str {
         19 => "the first frame is above the last",
         20 => "the frame has no TO_LINEAR item",
         21 => "too little room for the canonical form",
+        22 => "the number of cells is not Rows x Columns",
+        23 => "a tolerance over 255",
         _ => "unknown code",
     }
 }

@@ -29,6 +29,8 @@ use Rattle.sheet.specs.declared.SheetAnswer.the-variants as sampled
 use Rattle.sheet.specs.declared.Numbers.{Numbers}
 use Rattle.sheet.specs.Sheet.{numbersIn}
 use Rattle.sheet.specs.Answer as sampling
+use Rattle.compare.specs.declared.CompareAnswer.{CompareAnswer}
+use Rattle.compare.specs.Answer as comparing
 use Rattle.slip.specs.declared.SlipAnswer.{SlipAnswer}
 use Rattle.slip.specs.declared.SlipAnswer.the-variants as read
 use Rattle.slip.specs.declared.WriteAnswer.{WriteAnswer}
@@ -37,6 +39,7 @@ use Rattle.canonical.specs.declared.CanonicalAnswer.{CanonicalAnswer}
 use Rattle.canonical.specs.Answer as canonical
 use Rattle.cabi.specs.declared.Answer.{Answer}
 use Rattle.cabi.specs.declared.files.Part.{Part}
+use Rattle.cabi.specs.declared.comparing.Compared.{Compared}
 use Rattle.cabi.specs.declared.rewritten.Rewritten.{Rewritten}
 use Rattle.cabi.specs.declared.slips.Slip.{Slip}
 
@@ -204,6 +207,39 @@ pub record SheetFits32 (a : SheetAnswer) : Type 0 where
   pub rows : sampling.rowCountOf a < 4294967296
   pub rule : sampling.ruleOf a < 4294967296
   pub frame : sampling.frameOf a < 4294967296
+
+-- ---- Another workstation's picture
+
+-- A refusal of which nothing but the code is named.
+abbrev pub comparedAlone : ℕ → Compared
+comparedAlone code = record { answer = codeAlone code; same = 0; first = 0; count = 0 }
+
+-- The answer of `xa_compare`: as `xa_judge` for codes 0 to 9; with code 0 also yes, or no with the first cell that is off and how many
+-- are; codes 10, 22 and 23 name nothing else.
+abbrev pub compareAnswer : CompareAnswer → Compared
+compareAnswer a = record {
+  answer = record {
+    code = comparing.codeOf a;
+    offset = comparing.offsetOf a;
+    rows = comparing.rowCountOf a;
+    rule = comparing.ruleOf a;
+    frame = comparing.frameOf a;
+    masked = 0;
+  };
+  same = comparing.sameOf a;
+  first = comparing.firstOf a;
+  count = comparing.countOf a;
+}
+
+-- The numbers of an answer fit 32 bits.
+pub record CompareFits32 (a : CompareAnswer) : Type 0 where
+  pub code : comparing.codeOf a < 4294967296
+  pub offset : comparing.offsetOf a < 4294967296
+  pub rows : comparing.rowCountOf a < 4294967296
+  pub rule : comparing.ruleOf a < 4294967296
+  pub frame : comparing.frameOf a < 4294967296
+  pub first : comparing.firstOf a < 4294967296
+  pub count : comparing.countOf a < 4294967296
 
 -- ---- Slips
 

@@ -1,5 +1,6 @@
 // The library's calls for hosts in C and whatever calls C; include/luuxidgaan.h declares them. None has a `requires`:
 // any bytes and any buffers may be handed in.
+mod comparing;
 mod files;
 mod judge;
 mod measure;
@@ -11,6 +12,8 @@ mod slips;
 
 ghost use mathlib.Core.Path.{_≡_};
 ghost use Rattle.cabi.specs.Host.{codeAlone};
+pub use comparing::Compared;
+pub use comparing::xa_compare;
 pub use files::Part;
 pub use files::xa_data_set;
 pub use files::xa_judge_file;

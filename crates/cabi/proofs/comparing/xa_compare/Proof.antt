@@ -1,0 +1,222 @@
+use Rattle.cabi.specs.Host.{compareAnswer}
+use Rattle.cabi.proofs.Differences.{compare-narrow}
+use mathlib.Core.Path.{_≡_, refl, sym, ap, _∙_, subst}
+use native.Mathlib.Omega.{arith}
+use borrow.Author.Needs.{needs}
+use Rattle.cabi.proofs.comparing.xa_compare.Statement.{statement}
+use Rattle.cabi.proofs.comparing.xa_compare.Tie as tie
+
+compare-requires : tie.Need-compare-requires
+compare-requires c κs =
+    search needs
+
+enum-known-n : tie.Need-enum-known-n
+enum-known-n c =
+    search needs
+
+cast-t19 : tie.Need-cast-t19
+cast-t19 c =
+    record { fits = omega (arith, compare-narrow _ (λ i. omega (arith, c .before .before .before .before .before .before .before .before .before .shared-slice-known .given i)) _ _ _ _ (c .before .before .before .before .before .compare .ensures .0) (c .before .n .given .1) .rows) }
+
+enum-known-n-2 : tie.Need-enum-known-n-2
+enum-known-n-2 c =
+    search needs
+
+cast-t21 : tie.Need-cast-t21
+cast-t21 c =
+    record { fits = omega (arith, compare-narrow _ (λ i. omega (arith, c .before .before .before .before .before .before .before .before .before .shared-slice-known .given i)) _ _ _ _ (c .before .before .before .before .before .compare .ensures .0) (c .before .n2 .given .1) .rows) }
+
+cast-t23 : tie.Need-cast-t23
+cast-t23 c =
+    record { fits = omega (arith, compare-narrow _ (λ i. omega (arith, c .before .before .before .before .before .before .before .before .before .shared-slice-known .given i)) _ _ _ _ (c .before .before .before .before .before .compare .ensures .0) (c .before .n2 .given .1) .first) }
+
+cast-t24 : tie.Need-cast-t24
+cast-t24 c =
+    record { fits = omega (arith, compare-narrow _ (λ i. omega (arith, c .before .before .before .before .before .before .before .before .before .shared-slice-known .given i)) _ _ _ _ (c .before .before .before .before .before .compare .ensures .0) (c .before .n2 .given .1) .count) }
+
+enum-known-n-3 : tie.Need-enum-known-n-3
+enum-known-n-3 c =
+    search needs
+
+cast-t25 : tie.Need-cast-t25
+cast-t25 c =
+    record { fits = omega (arith, compare-narrow _ (λ i. omega (arith, c .before .before .before .before .before .before .before .before .before .shared-slice-known .given i)) _ _ _ _ (c .before .before .before .before .before .compare .ensures .0) (c .before .n3 .given .1) .rows) }
+
+cast-t26 : tie.Need-cast-t26
+cast-t26 c =
+    record { fits = omega (arith, compare-narrow _ (λ i. omega (arith, c .before .before .before .before .before .before .before .before .before .shared-slice-known .given i)) _ _ _ _ (c .before .before .before .before .before .compare .ensures .0) (c .before .n3 .given .1) .rule) }
+
+cast-t27 : tie.Need-cast-t27
+cast-t27 c =
+    record { fits = omega (arith, compare-narrow _ (λ i. omega (arith, c .before .before .before .before .before .before .before .before .before .shared-slice-known .given i)) _ _ _ _ (c .before .before .before .before .before .compare .ensures .0) (c .before .n3 .given .1) .frame) }
+
+enum-known-code : tie.Need-enum-known-code
+enum-known-code c =
+    search needs
+
+cast-t29 : tie.Need-cast-t29
+cast-t29 c =
+    record { fits = omega (arith, compare-narrow _ (λ i. omega (arith, c .before .before .before .before .before .before .before .before .before .shared-slice-known .given i)) _ _ _ _ (c .before .before .before .before .before .compare .ensures .0) (c .before .code .given .1) .code) }
+
+cast-t30 : tie.Need-cast-t30
+cast-t30 c =
+    record { fits = omega (arith, compare-narrow _ (λ i. omega (arith, c .before .before .before .before .before .before .before .before .before .shared-slice-known .given i)) _ _ _ _ (c .before .before .before .before .before .compare .ensures .0) (c .before .code .given .1) .offset) }
+
+enum-told : tie.Need-enum-told
+enum-told c =
+    search needs
+
+refused-alone-requires : tie.Need-refused-alone-requires
+refused-alone-requires c κs =
+    search needs
+
+enum-told-2 : tie.Need-enum-told-2
+enum-told-2 c =
+    search needs
+
+refused-alone-requires-2 : tie.Need-refused-alone-requires-2
+refused-alone-requires-2 c κs =
+    search needs
+
+enum-told-3 : tie.Need-enum-told-3
+enum-told-3 c =
+    search needs
+
+refused-alone-requires-3 : tie.Need-refused-alone-requires-3
+refused-alone-requires-3 c κs =
+    search needs
+
+enum-told-4 : tie.Need-enum-told-4
+enum-told-4 c =
+    search needs
+
+refused-alone-requires-4 : tie.Need-refused-alone-requires-4
+refused-alone-requires-4 c κs =
+    search needs
+
+enum-told-5 : tie.Need-enum-told-5
+enum-told-5 c =
+    search needs
+
+refused-alone-requires-5 : tie.Need-refused-alone-requires-5
+refused-alone-requires-5 c κs =
+    search needs
+
+same-length : tie.Need-same-length
+same-length c =
+    search needs
+
+returns : tie.Need-returns
+returns c =
+    (ap compareAnswer (sym (c .before .n .given .1) ∙ c .before .before .before .before .before .compare .ensures .0), c .before .before .before .before .before .compare .ensures .1)
+
+same-length-2 : tie.Need-same-length-2
+same-length-2 c =
+    search needs
+
+returns-2 : tie.Need-returns-2
+returns-2 c =
+    (ap compareAnswer (sym (c .before .n2 .given .1) ∙ c .before .before .before .before .before .compare .ensures .0), c .before .before .before .before .before .compare .ensures .1)
+
+same-length-3 : tie.Need-same-length-3
+same-length-3 c =
+    search needs
+
+returns-3 : tie.Need-returns-3
+returns-3 c =
+    (ap compareAnswer (sym (c .before .n3 .given .1) ∙ c .before .before .before .before .before .compare .ensures .0), c .before .before .before .before .before .compare .ensures .1)
+
+same-length-4 : tie.Need-same-length-4
+same-length-4 c =
+    search needs
+
+returns-4 : tie.Need-returns-4
+returns-4 c =
+    (ap compareAnswer (sym (c .before .code .given .1) ∙ c .before .before .before .before .before .compare .ensures .0), c .before .before .before .before .before .compare .ensures .1)
+
+same-length-5 : tie.Need-same-length-5
+same-length-5 c =
+    search needs
+
+returns-5 : tie.Need-returns-5
+returns-5 c =
+    (rw (c .refused-alone .ensures) (ap compareAnswer (sym (c .before .enum-told .given .1) ∙ c .before .before .before .before .before .compare .ensures .0)), c .before .before .before .before .before .compare .ensures .1)
+
+same-length-6 : tie.Need-same-length-6
+same-length-6 c =
+    search needs
+
+returns-6 : tie.Need-returns-6
+returns-6 c =
+    (rw (c .refused-alone2 .ensures) (ap compareAnswer (sym (c .before .enum-told2 .given .1) ∙ c .before .before .before .before .before .compare .ensures .0)), c .before .before .before .before .before .compare .ensures .1)
+
+same-length-7 : tie.Need-same-length-7
+same-length-7 c =
+    search needs
+
+returns-7 : tie.Need-returns-7
+returns-7 c =
+    (rw (c .refused-alone3 .ensures) (ap compareAnswer (sym (c .before .enum-told3 .given .1) ∙ c .before .before .before .before .before .compare .ensures .0)), c .before .before .before .before .before .compare .ensures .1)
+
+same-length-8 : tie.Need-same-length-8
+same-length-8 c =
+    search needs
+
+returns-8 : tie.Need-returns-8
+returns-8 c =
+    (rw (c .refused-alone4 .ensures) (ap compareAnswer (sym (c .before .enum-told4 .given .1) ∙ c .before .before .before .before .before .compare .ensures .0)), c .before .before .before .before .before .compare .ensures .1)
+
+same-length-9 : tie.Need-same-length-9
+same-length-9 c =
+    search needs
+
+returns-9 : tie.Need-returns-9
+returns-9 c =
+    (rw (c .refused-alone5 .ensures) (ap compareAnswer (sym (c .before .enum-told5 .given .1) ∙ c .before .before .before .before .before .compare .ensures .0)), c .before .before .before .before .before .compare .ensures .1)
+
+pub xa-compare-spec : {M : Type 1} → statement M
+xa-compare-spec =
+    tie.close
+    (tie.spec
+    compare-requires
+    enum-known-n
+    cast-t19
+    enum-known-n-2
+    cast-t21
+    cast-t23
+    cast-t24
+    enum-known-n-3
+    cast-t25
+    cast-t26
+    cast-t27
+    enum-known-code
+    cast-t29
+    cast-t30
+    enum-told
+    refused-alone-requires
+    enum-told-2
+    refused-alone-requires-2
+    enum-told-3
+    refused-alone-requires-3
+    enum-told-4
+    refused-alone-requires-4
+    enum-told-5
+    refused-alone-requires-5
+    same-length
+    returns
+    same-length-2
+    returns-2
+    same-length-3
+    returns-3
+    same-length-4
+    returns-4
+    same-length-5
+    returns-5
+    same-length-6
+    returns-6
+    same-length-7
+    returns-7
+    same-length-8
+    returns-8
+    same-length-9
+    returns-9)

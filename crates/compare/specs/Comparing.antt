@@ -1,0 +1,63 @@
+-- What is promised of comparing. `compare` answers code 0 exactly when the object is accepted, the number is that of one of its
+-- frames, there are Rows × Columns cells, the tolerance is at most 255, and there is room for the rows. It then says yes exactly
+-- when every cell is within t of the picture that the steps give. Otherwise it names the place, from 0, of a cell that is not within
+-- t, every cell before that place is, and the count it names is that of all cells that are not. Our own picture passes at t = 0:
+-- whatever `show` hands back with code 0, for any accepted object and any of its frames, `compare` takes. And what passes at t
+-- passes at every larger t up to 255. The proof stands in proofs/Comparing.
+use mathlib.Core.Path.{_≡_}
+use mathlib.Core.List.{List}
+use Prim.Native.Nat.{ℕ, _+_, _*_, _≤_, _<_}
+use lib.ListN.{length, getD, take}
+use Rattle.dataset.specs.Answer.{width}
+use Rattle.dataset.specs.Tree.{rowsOf}
+use Rattle.node.specs.Nodes.{nodesOf}
+use Rattle.display.specs.Show as show
+use Rattle.display.specs.Show.{imageSize, pictureOf, showOf, imageOf}
+use Rattle.display.specs.Drawing.{Bytes, IsAccepted, IsFrame}
+use Rattle.compare.specs.Differences.{isOff, howMany}
+use Rattle.compare.specs.Answer.{compareOf, codeOf, rowCountOf, sameOf, firstOf, countOf}
+
+-- What can be compared.
+pub record Comparable (s : List ℕ) (f : ℕ) (cells : List ℕ) (t : ℕ) (buffer : List ℕ) : Type 0 where
+  pub accepted : IsAccepted s
+  pub frame : IsFrame s f
+  pub size : length cells ≡ imageSize (nodesOf s)
+  pub tolerance : t ≤ 255
+  pub room : width * length (rowsOf s) ≤ length buffer
+
+-- Cell i is within t of ours.
+pub record Near (s : List ℕ) (f : ℕ) (cells : List ℕ) (t i : ℕ) : Type 0 where
+  pub below : getD (pictureOf (nodesOf s) f .samples) i 0 ≤ getD cells i 0 + t
+  pub above : getD cells i 0 ≤ getD (pictureOf (nodesOf s) f .samples) i 0 + t
+
+-- What a no says.
+pub record Names (s : List ℕ) (f : ℕ) (cells : List ℕ) (t first count : ℕ) : Type 0 where
+  pub place : first < length cells
+  pub off : Near s f cells t first → ⊥
+  pub none-before : (i : ℕ) → i < first → Near s f cells t i
+  pub all : count ≡ howMany (isOff t (pictureOf (nodesOf s) f .samples) cells) (length cells)
+  pub some : 1 ≤ count
+
+pub record Promise (s : List ℕ) (f : ℕ) (cells : List ℕ) (t : ℕ) (buffer : List ℕ) : Type 0 where
+  -- What can be compared is,
+  pub done : Comparable s f cells t buffer → codeOf (compareOf s f cells t buffer) ≡ 0
+  -- and nothing else is.
+  pub nothing-else : codeOf (compareOf s f cells t buffer) ≡ 0 → Comparable s f cells t buffer
+  pub rows : codeOf (compareOf s f cells t buffer) ≡ 0 → rowCountOf (compareOf s f cells t buffer) ≡ length (rowsOf s)
+  -- Yes exactly when every cell is within t of ours.
+  pub yes : Comparable s f cells t buffer → ((i : ℕ) → i < length cells → Near s f cells t i) → sameOf (compareOf s f cells t buffer) ≡ 1
+  pub only-then : sameOf (compareOf s f cells t buffer) ≡ 1 → Comparable s f cells t buffer × ((i : ℕ) → i < length cells → Near s f cells t i)
+  -- No names the first that isn't, and how many aren't.
+  pub no : codeOf (compareOf s f cells t buffer) ≡ 0 → sameOf (compareOf s f cells t buffer) ≡ 0
+      → Names s f cells t (firstOf (compareOf s f cells t buffer)) (countOf (compareOf s f cells t buffer))
+  -- What passes at t passes at every larger u up to 255.
+  pub larger : (u : ℕ) → t ≤ u → u ≤ 255 → sameOf (compareOf s f cells t buffer) ≡ 1 → sameOf (compareOf s f cells u buffer) ≡ 1
+
+-- Our own picture passes at 0.
+pub record Own (s : List ℕ) (f : ℕ) (buffer image : List ℕ) : Type 0 where
+  pub passes : show.codeOf (showOf s f buffer image) ≡ 0 → sameOf (compareOf s f (take (imageSize (nodesOf s)) (imageOf s f buffer image)) 0 buffer) ≡ 1
+
+-- For every data set, given as bytes, every number, and any cells, tolerance and buffers.
+pub record Comparing : Type 0 where
+  pub promise : (s : List ℕ) → Bytes s → (f : ℕ) (cells : List ℕ) (t : ℕ) (buffer : List ℕ) → Promise s f cells t buffer
+  pub own : (s : List ℕ) → Bytes s → (f : ℕ) (buffer image : List ℕ) → Own s f buffer image

@@ -1,0 +1,571 @@
+// Compares another workstation's picture of a frame with ours, cell by cell. No image is kept: each line is drawn by itself.
+ghost use mathlib.Core.Path.{_≡_};
+ghost use mathlib.Core.Bool.{true, not};
+ghost use Prim.Native.Nat.{ℕ, _+_, _*_, _/_, _%_, _≤_, _<_};
+ghost use lib.ListN.{length, getD};
+ghost use Rattle.dataset.specs.Reading.{readingOf};
+ghost use Rattle.dataset.specs.Answer.{bufferOf};
+ghost use Rattle.value.specs.Number.{usValues};
+ghost use Rattle.shift.specs.Said.{ShortMoves};
+ghost use Rattle.node.specs.Nodes.{nodesOf};
+ghost use Rattle.node.specs.Table.{Table};
+ghost use Rattle.element.specs.Elements.{valueAt};
+ghost use Rattle.conformance.specs.declared.Finding.the-variants as finding;
+ghost use Rattle.conformance.specs.Judging.{findingOf};
+ghost use Rattle.pixel.specs.Pixel.{samplesOf};
+ghost use Rattle.pixel.specs.Painted.{nativeShade, maskedShade};
+ghost use Rattle.pixel.specs.Said.{longestRow, Masks, shifted, Averaged, quarterShade};
+ghost use Rattle.lines.specs.Lines.{shadesOf, Shaded, MaskedBy};
+ghost use Rattle.display.specs.Said.{shadeBy, MasksReady};
+ghost use Rattle.display.specs.Show.{imageSize, pictureOf};
+ghost use Rattle.sheet.specs.Said.{IsObject, IsScene, IsPixels, IsPlan, FrameReady};
+ghost use Rattle.compare.specs.Differences.{within, isOff};
+ghost use Rattle.compare.specs.Answer.{acceptedAnswer, compareOf};
+ghost use Rattle.compare.specs.Said.{seen, along, nothing, met, Against, LineOf};
+use conformance::JudgeAnswer;
+use dataset::wide;
+use display::Masking;
+use element::tags;
+use lines::Shades;
+use pixel::Geometry;
+use sheet::Plan;
+use sheet::Scene;
+use shift::Moves;
+use steps::Sized;
+use steps::Windowed;
+use value::Num;
+
+// The largest tolerance.
+const MOST: usize = 255;
+
+// The answer of `compare`: yes, with the number of rows; no, with the number of rows, the first cell that is off and how many
+// are; code 9, with the number of rows, rule and frame; code and offset of a refusal; codes 7, 8, 10, 22 and 23.
+pub enum CompareAnswer {
+    Same(usize),
+    Differs(usize, usize, usize),
+    Broken(usize, usize, usize),
+    Refused(usize, usize),
+    TooLarge,
+    NoRoom,
+    NoFrame,
+    WrongSize,
+    WrongTolerance,
+}
+
+// How many cells were off so far, and the first of them; 0 where none was.
+pub struct Differing {
+    pub first: usize,
+    pub count: usize,
+}
+
+// ---- A line against its cells
+
+// Two levels are not within the tolerance of each other.
+fn is_off(ours: usize, theirs: usize, tolerance: usize) -> bool
+    requires { ⌜ (ours < 256) × ((theirs < 256) × (tolerance ≤ 255)) ⌝ }
+    ensures { λ r. ⌜ r ≡ not (within tolerance ours theirs) ⌝ }
+{
+    if theirs + tolerance < ours {
+        true
+    } else {
+        ours + tolerance < theirs
+    }
+}
+
+// One more cell, at a place.
+fn look(off: bool, place: usize, sofar: Differing) -> Differing
+    requires { ⌜ (sofar .count ≤ place) × (place < 18446744073709551615) ⌝ }
+    ensures { λ r. ⌜ r ≡ seen off place sofar ⌝ }
+{
+    let first = sofar.first;
+    let count = sofar.count;
+    if off {
+        if count == 0 {
+            Differing {
+                first: place,
+                count: count + 1,
+            }
+        } else {
+            Differing {
+                first,
+                count: count + 1,
+            }
+        }
+    } else {
+        sofar
+    }
+}
+
+// A line of ours against the cells from place `at` on.
+fn compare_line(
+    line: &[u8],
+    cells: &[u8],
+    at: usize,
+    tolerance: usize,
+    sofar: Differing,
+) -> Differing
+    requires { ⌜ LineOf (now line) (now cells) at tolerance sofar ⌝ }
+    ensures { λ r. ⌜ r ≡ along (λ k. not (within tolerance (getD (now (line .entry)) k 0) (getD (now (cells .entry)) (at + k) 0))) at (length (now (line .entry))) sofar ⌝ }
+{
+    let mut now = sofar;
+    for k in 0..line.len() {
+        let place = at + k;
+        let off = is_off(wide(line[k]), wide(cells[place]), tolerance);
+        let next = look(off, place, now);
+        now = next;
+    }
+    now
+}
+
+// ---- A frame, line by line
+
+// A frame that takes no mask.
+fn compare_native(
+    pixels: &[u8],
+    g: Geometry,
+    frame: usize,
+    shades: Shades,
+    table: &[u8],
+    line: &mut [u8],
+    cells: &[u8],
+    tolerance: usize,
+) -> Differing
+    requires { ⌜ FrameReady (now pixels) g frame (now line) × (Shaded shades (g .stored) (now table) × Against (now cells) tolerance (samplesOf g)) ⌝ }
+    ensures { λ r. ⌜ r ≡ met tolerance (nativeShade (shadesOf shades (g .stored)) g (now (pixels .entry)) frame) (now (cells .entry)) (samplesOf g) ⌝ }
+{
+    let height = g.rows;
+    let columns = g.columns;
+    let mut now = Differing { first: 0, count: 0 };
+    for row in 0..height {
+        lines::native_line(pixels, g, frame, row, shades, table, line);
+        let next = compare_line(&line[..columns], cells, row * columns, tolerance, now);
+        now = next;
+    }
+    now
+}
+
+// A frame whose mask is moved by whole pixels.
+fn compare_whole(
+    pixels: &[u8],
+    g: Geometry,
+    frame: usize,
+    masks: &[u8],
+    down: usize,
+    right: usize,
+    shades: Shades,
+    table: &[u8],
+    sums: &mut [u32],
+    line: &mut [u8],
+    cells: &[u8],
+    tolerance: usize,
+) -> Differing
+    requires { ⌜ FrameReady (now pixels) g frame (now line) × (MaskedBy (now pixels) g (now masks) down right × (Shaded shades (g .stored) (now table) × ((shades .filled ≡ true) × ((down % 4 ≡ 0) × ((right % 4 ≡ 0) × ((longestRow ≤ length (now sums)) × Against (now cells) tolerance (samplesOf g))))))) ⌝ }
+    ensures { λ r. ⌜ r ≡ met tolerance (quarterShade (shadesOf shades (g .stored)) g (now (pixels .entry)) frame (usValues (now (masks .entry))) down right) (now (cells .entry)) (samplesOf g) ⌝ }
+{
+    let height = g.rows;
+    let columns = g.columns;
+    let mut now = Differing { first: 0, count: 0 };
+    for row in 0..height {
+        lines::whole_line(
+            pixels,
+            g,
+            frame,
+            masks,
+            down,
+            right,
+            row,
+            shades,
+            table,
+            sums,
+            line,
+        );
+        let next = compare_line(&line[..columns], cells, row * columns, tolerance, now);
+        now = next;
+    }
+    now
+}
+
+// A frame whose mask rows are blended two at a time. `lower` holds the first line's upper row.
+fn compare_quarters(
+    pixels: &[u8],
+    g: Geometry,
+    frame: usize,
+    masks: &[u8],
+    down: usize,
+    right: usize,
+    shades: Shades,
+    table: &[u8],
+    upper: &mut [u32],
+    lower: &mut [u32],
+    line: &mut [u8],
+    cells: &[u8],
+    tolerance: usize,
+) -> Differing
+    requires { ⌜ FrameReady (now pixels) g frame (now line) × (MaskedBy (now pixels) g (now masks) down right × (Shaded shades (g .stored) (now table) × ((longestRow ≤ length (now upper)) × ((longestRow ≤ length (now lower)) × (Averaged (now pixels) g (usValues (now masks)) (shifted (down / 4) (g .rows) 0) (now lower) × Against (now cells) tolerance (samplesOf g)))))) ⌝ }
+    ensures { λ r. ⌜ r ≡ met tolerance (quarterShade (shadesOf shades (g .stored)) g (now (pixels .entry)) frame (usValues (now (masks .entry))) down right) (now (cells .entry)) (samplesOf g) ⌝ }
+{
+    let height = g.rows;
+    let columns = g.columns;
+    let mut now = Differing { first: 0, count: 0 };
+    for row in 0..height {
+        lines::quarter_line(
+            pixels,
+            g,
+            frame,
+            masks,
+            down,
+            right,
+            row,
+            shades,
+            table,
+            upper,
+            lower,
+            line,
+        );
+        let next = compare_line(&line[..columns], cells, row * columns, tolerance, now);
+        now = next;
+    }
+    now
+}
+
+// The same, with the first line's upper row made here.
+fn compare_blended(
+    pixels: &[u8],
+    g: Geometry,
+    frame: usize,
+    masks: &[u8],
+    down: usize,
+    right: usize,
+    shades: Shades,
+    table: &[u8],
+    upper: &mut [u32],
+    lower: &mut [u32],
+    line: &mut [u8],
+    cells: &[u8],
+    tolerance: usize,
+) -> Differing
+    requires { ⌜ FrameReady (now pixels) g frame (now line) × (MaskedBy (now pixels) g (now masks) down right × (Shaded shades (g .stored) (now table) × ((longestRow ≤ length (now upper)) × ((longestRow ≤ length (now lower)) × Against (now cells) tolerance (samplesOf g))))) ⌝ }
+    ensures { λ r. ⌜ r ≡ met tolerance (quarterShade (shadesOf shades (g .stored)) g (now (pixels .entry)) frame (usValues (now (masks .entry))) down right) (now (cells .entry)) (samplesOf g) ⌝ }
+{
+    pixel::average_row(
+        pixels,
+        g,
+        masks,
+        pixel::moved(down / pixel::UNIT, g.rows, 0),
+        lower,
+    );
+    compare_quarters(
+        pixels,
+        g,
+        frame,
+        masks,
+        down,
+        right,
+        shades,
+        table,
+        upper,
+        lower,
+        line,
+        cells,
+        tolerance,
+    )
+}
+
+// A masked frame, by two offsets in quarters. A whole shift takes one mask row for each line; every other takes two.
+fn compare_masked(
+    pixels: &[u8],
+    g: Geometry,
+    frame: usize,
+    masks: &[u8],
+    down: usize,
+    right: usize,
+    shades: Shades,
+    table: &[u8],
+    upper: &mut [u32],
+    lower: &mut [u32],
+    line: &mut [u8],
+    cells: &[u8],
+    tolerance: usize,
+) -> Differing
+    requires { ⌜ FrameReady (now pixels) g frame (now line) × (MaskedBy (now pixels) g (now masks) down right × (Shaded shades (g .stored) (now table) × ((longestRow ≤ length (now upper)) × ((longestRow ≤ length (now lower)) × Against (now cells) tolerance (samplesOf g))))) ⌝ }
+    ensures { λ r. ⌜ r ≡ met tolerance (quarterShade (shadesOf shades (g .stored)) g (now (pixels .entry)) frame (usValues (now (masks .entry))) down right) (now (cells .entry)) (samplesOf g) ⌝ }
+{
+    if shades.filled {
+        if down % pixel::UNIT == 0 {
+            if right % pixel::UNIT == 0 {
+                return compare_whole(
+                    pixels,
+                    g,
+                    frame,
+                    masks,
+                    down,
+                    right,
+                    shades,
+                    table,
+                    upper,
+                    line,
+                    cells,
+                    tolerance,
+                );
+            }
+        }
+    }
+    compare_blended(
+        pixels,
+        g,
+        frame,
+        masks,
+        down,
+        right,
+        shades,
+        table,
+        upper,
+        lower,
+        line,
+        cells,
+        tolerance,
+    )
+}
+
+// The same, by the moves of a shift.
+fn compare_moved(
+    pixels: &[u8],
+    g: Geometry,
+    frame: usize,
+    masks: &[u8],
+    moves: Moves,
+    shades: Shades,
+    table: &[u8],
+    upper: &mut [u32],
+    lower: &mut [u32],
+    line: &mut [u8],
+    cells: &[u8],
+    tolerance: usize,
+) -> Differing
+    requires { ⌜ FrameReady (now pixels) g frame (now line) × (Masks (now pixels) g (now masks) × (ShortMoves moves × (Shaded shades (g .stored) (now table) × ((longestRow ≤ length (now upper)) × ((longestRow ≤ length (now lower)) × Against (now cells) tolerance (samplesOf g)))))) ⌝ }
+    ensures { λ r. ⌜ r ≡ met tolerance (maskedShade (shadesOf shades (g .stored)) g (now (pixels .entry)) frame (usValues (now (masks .entry))) moves) (now (cells .entry)) (samplesOf g) ⌝ }
+{
+    let vertical = moves.vertical;
+    let horizontal = moves.horizontal;
+    let down = pixel::offset_of(vertical);
+    let right = pixel::offset_of(horizontal);
+    compare_masked(
+        pixels,
+        g,
+        frame,
+        masks,
+        down,
+        right,
+        shades,
+        table,
+        upper,
+        lower,
+        line,
+        cells,
+        tolerance,
+    )
+}
+
+// A frame, whatever masks it.
+fn compare_frame(
+    bytes: &[u8],
+    rows: &[u32],
+    c: Scene,
+    frame: usize,
+    masking: Masking,
+    shades: Shades,
+    table: &[u8],
+    upper: &mut [u32],
+    lower: &mut [u32],
+    line: &mut [u8],
+    cells: &[u8],
+    tolerance: usize,
+) -> Differing
+    requires { ⌜ Table (now bytes) (now rows) × (IsPixels (nodesOf (now bytes)) (c .p) × (FrameReady (valueAt (nodesOf (now bytes)) (c .p)) (c .g) frame (now line) × (MasksReady (nodesOf (now bytes)) (valueAt (nodesOf (now bytes)) (c .p)) (c .g) masking × (Shaded shades (c .g .stored) (now table) × ((longestRow ≤ length (now upper)) × ((longestRow ≤ length (now lower)) × Against (now cells) tolerance (samplesOf (c .g)))))))) ⌝ }
+    ensures { λ r. ⌜ r ≡ met tolerance (shadeBy (nodesOf (now (bytes .entry))) (shadesOf shades (c .g .stored)) (c .g) (valueAt (nodesOf (now (bytes .entry))) (c .p)) frame masking) (now (cells .entry)) (samplesOf (c .g)) ⌝ }
+{
+    let g = c.g;
+    let pixels = frame::value_part(bytes, rows, c.p);
+    match masking {
+        Masking::Native => {
+            compare_native(pixels, g, frame, shades, table, line, cells, tolerance)
+        }
+        Masking::Average(k, m) => {
+            let masks = node::value(bytes, rows, k);
+            compare_moved(
+                pixels,
+                g,
+                frame,
+                masks,
+                m,
+                shades,
+                table,
+                upper,
+                lower,
+                line,
+                cells,
+                tolerance,
+            )
+        }
+        Masking::One(t, m) => {
+            let one = [(t % 256) as u8, (t / 256 % 256) as u8];
+            compare_moved(
+                pixels,
+                g,
+                frame,
+                &one,
+                m,
+                shades,
+                table,
+                upper,
+                lower,
+                line,
+                cells,
+                tolerance,
+            )
+        }
+        Masking::Lacks => Differing { first: 0, count: 0 },
+    }
+}
+
+// The same, with all rooms made here and the table of levels filled.
+fn compare_planned(
+    bytes: &[u8],
+    rows: &[u32],
+    c: Scene,
+    frame: usize,
+    own: Plan,
+    n: usize,
+    cells: &[u8],
+    tolerance: usize,
+) -> Differing
+    requires { ⌜ Table (now bytes) (now rows) × (IsObject (now bytes) n × (IsScene (nodesOf (now bytes)) c × (IsPlan (nodesOf (now bytes)) frame (c .g .stored) own × ((1 ≤ frame) × ((frame ≤ n) × Against (now cells) tolerance (imageSize (nodesOf (now bytes)))))))) ⌝ }
+    ensures { λ r. ⌜ r ≡ along (isOff tolerance (pictureOf (nodesOf (now (bytes .entry))) frame .samples) (now (cells .entry))) 0 (imageSize (nodesOf (now (bytes .entry)))) nothing ⌝ }
+{
+    let mut table: [u8; 131072] = [0; 131072];
+    let mut upper: [u32; pixel::LONGEST] = [0; pixel::LONGEST];
+    let mut lower: [u32; pixel::LONGEST] = [0; pixel::LONGEST];
+    let mut line: [u8; 65535] = [0; 65535];
+    let g = c.g;
+    let window = own.window;
+    let masking = own.masking;
+    let inverse = c.inverse;
+    lines::fill(window, g.stored, inverse, &mut table);
+    let shades = Shades {
+        window,
+        inverse,
+        filled: true,
+    };
+    compare_frame(
+        bytes,
+        rows,
+        c,
+        frame,
+        masking,
+        shades,
+        &table,
+        &mut upper,
+        &mut lower,
+        &mut line,
+        cells,
+        tolerance,
+    )
+}
+
+// A frame of an accepted object of n frames, from the steps. They lack nothing there.
+fn compare_picture(
+    bytes: &[u8],
+    rows: &[u32],
+    frame: usize,
+    n: usize,
+    cells: &[u8],
+    tolerance: usize,
+) -> Differing
+    requires { ⌜ Table (now bytes) (now rows) × (IsObject (now bytes) n × ((1 ≤ frame) × ((frame ≤ n) × Against (now cells) tolerance (imageSize (nodesOf (now bytes)))))) ⌝ }
+    ensures { λ r. ⌜ r ≡ along (isOff tolerance (pictureOf (nodesOf (now (bytes .entry))) frame .samples) (now (cells .entry))) 0 (imageSize (nodesOf (now (bytes .entry)))) nothing ⌝ }
+{
+    let Sized::Is(g) = steps::geometry_of(bytes, rows) else {
+        return Differing { first: 0, count: 0 };
+    };
+    let Num::Is(p) = element::find_root(bytes, rows, tags::PIXEL_DATA) else {
+        return Differing { first: 0, count: 0 };
+    };
+    let item = steps::item_at(bytes, rows, frame);
+    let stored = g.stored;
+    let Windowed::Is(window) = steps::window_for(bytes, rows, frame, item, stored) else {
+        return Differing { first: 0, count: 0 };
+    };
+    let inverse = display::is_inverse(bytes, rows);
+    let masking = display::mask_for(bytes, rows, frame, item, n);
+    let scene = Scene { g, p, inverse };
+    let own = Plan { window, masking };
+    compare_planned(bytes, rows, scene, frame, own, n, cells, tolerance)
+}
+
+// ---- The call
+
+// Compares a frame of an accepted object with so many rows: codes 10, 22 and 23, or yes or no.
+fn compare_table(
+    bytes: &[u8],
+    rows: &[u32],
+    frame: usize,
+    cells: &[u8],
+    tolerance: usize,
+    count: usize,
+) -> CompareAnswer
+    requires { ⌜ Table (now bytes) (now rows) × (((i : ℕ) → getD (now bytes) i 0 < 256) × (findingOf (nodesOf (now bytes)) ≡ finding.Accepted)) ⌝ }
+    ensures { λ r. ⌜ r ≡ acceptedAnswer (nodesOf (now (bytes .entry))) frame (now (cells .entry)) tolerance count ⌝ }
+{
+    let Num::Is(n) = element::frame_count(bytes, rows) else {
+        return CompareAnswer::NoFrame;
+    };
+    if frame < 1 {
+        return CompareAnswer::NoFrame;
+    }
+    if n < frame {
+        return CompareAnswer::NoFrame;
+    }
+    if cells.len() != display::image_size(bytes, rows) {
+        return CompareAnswer::WrongSize;
+    }
+    if MOST < tolerance {
+        return CompareAnswer::WrongTolerance;
+    }
+    let found = compare_picture(bytes, rows, frame, n, cells, tolerance);
+    let off = found.count;
+    if off == 0 {
+        CompareAnswer::Same(count)
+    } else {
+        CompareAnswer::Differs(count, found.first, off)
+    }
+}
+
+// Judges the data set afresh and compares cells with a frame of it.
+pub fn compare(
+    bytes: &[u8],
+    frame: u64,
+    cells: &[u8],
+    tolerance: u64,
+    rows: &mut [u32],
+) -> CompareAnswer
+    ensures { λ r. ⌜ r ≡ compareOf (now (bytes .entry)) frame (now (cells .entry)) tolerance (now (rows .entry)) ⌝ }
+    ensures { λ _. ⌜ now (rows .exit) ≡ bufferOf (readingOf (now (bytes .entry))) (now (rows .entry)) ⌝ }
+{
+    match conformance::judge(bytes, rows) {
+        JudgeAnswer::TooLarge => CompareAnswer::TooLarge,
+        JudgeAnswer::Refused(code, offset) => CompareAnswer::Refused(code, offset),
+        JudgeAnswer::NoRoom => CompareAnswer::NoRoom,
+        JudgeAnswer::Broken(count, rule, broken) => CompareAnswer::Broken(count, rule, broken),
+        JudgeAnswer::Accepted(count) => {
+            let end = dataset::WIDTH * count;
+            compare_table(
+                bytes,
+                &rows[..end],
+                frame as usize,
+                cells,
+                tolerance as usize,
+                count,
+            )
+        }
+    }
+}

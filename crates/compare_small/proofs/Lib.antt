@@ -1,0 +1,2 @@
+-- What the proof of `compare_small` uses.
+pub mod Buffers

@@ -1,0 +1,197 @@
+//! `luux compare`: another workstation's pictures against ours.
+//!
+//! Whether a picture passes, the first cell that does not and how many do not come from the library; the levels beside them are those of
+//! the frame as the library draws it.
+
+use std::fs;
+use std::io::{self, Write};
+use std::path::{Path, PathBuf};
+
+use crate::files;
+use crate::head::Form;
+use crate::library::Compared;
+use crate::output::{line, note_of, Status};
+use crate::picture::{self, Failure, Image, Run};
+
+/// What a cell of the picture of differences is: white where it is off, else our level, dimmed.
+const OFF: u8 = 255;
+const DIMMED: u8 = 3;
+
+/// The cells of a picture, and its width and height where the file says them.
+struct Cells {
+    levels: Vec<u8>,
+    size: Option<(usize, usize)>,
+}
+
+/// A plain PGM of 8 bits: `P5`, width, height and 255 with blanks between them, one blank, the cells.
+fn read_pgm(content: &[u8]) -> Option<Cells> {
+    let mut rest = content.strip_prefix(b"P5")?;
+    let mut numbers = [0; 3];
+    for number in &mut numbers {
+        let start = rest.iter().position(|byte| !byte.is_ascii_whitespace()).filter(|&blanks| blanks > 0)?;
+        rest = &rest[start..];
+        let digits = rest.iter().position(|byte| !byte.is_ascii_digit()).unwrap_or(rest.len());
+        *number = std::str::from_utf8(&rest[..digits]).ok()?.parse().ok()?;
+        rest = &rest[digits..];
+    }
+    let [width, height, highest] = numbers;
+    let (blank, levels) = rest.split_first()?;
+    let whole = highest == 255 && blank.is_ascii_whitespace() && levels.len() == usize::checked_mul(width, height)?;
+    whole.then(|| Cells { levels: levels.to_vec(), size: Some((width, height)) })
+}
+
+/// A PNG of 8-bit grey.
+fn read_png(content: &[u8]) -> Option<Cells> {
+    let mut reader = png::Decoder::new(content).read_info().ok()?;
+    let info = reader.info();
+    if info.color_type != png::ColorType::Grayscale || info.bit_depth != png::BitDepth::Eight {
+        return None;
+    }
+    let (width, height) = (info.width as usize, info.height as usize);
+    let mut levels = Vec::new();
+    levels.try_reserve_exact(width.checked_mul(height)?).ok()?;
+    levels.resize(width * height, 0);
+    reader.next_frame(&mut levels).ok()?;
+    Some(Cells { levels, size: Some((width, height)) })
+}
+
+/// A picture, by the ending of its name: .png, .pgm, and anything else is plain cells, one byte each.
+fn read_cells(path: &Path) -> Result<Cells, String> {
+    let content = fs::read(path).map_err(|error| files::trouble(&error))?;
+    let ending = path.extension().and_then(|ending| ending.to_str()).map(str::to_ascii_lowercase);
+    match ending.as_deref() {
+        Some("png") => read_png(&content).ok_or_else(|| String::from("it is not a PNG of 8-bit grey")),
+        Some("pgm") => read_pgm(&content).ok_or_else(|| String::from("it is not a PGM (P5) of levels 0 to 255")),
+        _ => Ok(Cells { levels: content, size: None }),
+    }
+}
+
+/// What is said of a picture that was compared.
+fn about(found: &Compared, frame: u64, tolerance: u64, ours: &Image<u8>, theirs: &[u8]) -> String {
+    if found.same == 1 {
+        return format!("frame {frame}: yes, every cell is within {tolerance} of ours");
+    }
+    let first = found.first as usize;
+    let width = ours.width().max(1);
+    format!(
+        "frame {frame}: no, {} of {} cells are more than {tolerance} away; the first, row {}, column {} from 0, is {}, ours {}",
+        found.count,
+        theirs.len(),
+        first / width,
+        first % width,
+        theirs.get(first).copied().unwrap_or(0),
+        ours.cells().get(first).copied().unwrap_or(0)
+    )
+}
+
+/// White where the pictures are more than the tolerance apart, over our picture.
+fn differences(ours: &Image<u8>, theirs: &[u8], tolerance: u64) -> Result<Image<u8>, String> {
+    let mut image = Image::new(ours.width(), ours.height(), 0)?;
+    for (place, (&our, &their)) in ours.cells().iter().zip(theirs).enumerate() {
+        let off = u64::from(our.abs_diff(their)) > tolerance;
+        image.put(place % ours.width(), place / ours.width(), if off { OFF } else { our / DIMMED });
+    }
+    Ok(image)
+}
+
+/// Compares one picture; answers whether it passed.
+fn one(run: &mut Run, from: &Path, frame: u64, path: &Path, wanted: &Wanted, out: &mut dyn Write) -> io::Result<Status> {
+    let cells = match read_cells(path) {
+        Ok(cells) => cells,
+        Err(trouble) => {
+            note_of(path, &trouble);
+            return Ok(Status::Failed);
+        }
+    };
+    let (width, height) = run.size();
+    if let Some((theirs_wide, theirs_high)) = cells.size.filter(|&size| size != (width, height)) {
+        let text = format!("it is {theirs_wide} x {theirs_high}, a frame of the run {width} x {height}");
+        return picture::explain(path, Failure::Refused(text), out);
+    }
+    let compared = run.compare(frame, &cells.levels, wanted.tolerance).and_then(|found| Ok((found, run.draw(frame)?.0)));
+    let (found, ours) = match compared {
+        Ok(compared) => compared,
+        Err(failure) => return picture::explain(path, failure, out),
+    };
+    line(out, path, &about(&found, frame, wanted.tolerance, &ours, &cells.levels))?;
+    let passed = if found.same == 1 { Status::Fine } else { Status::Refused };
+    let Some(to) = wanted.output else {
+        return Ok(passed);
+    };
+    let drawn = match differences(&ours, &cells.levels, wanted.tolerance) {
+        Ok(image) => picture::write(&image, from, to, &format!("frame {frame}, white where it differs"), out)?,
+        Err(trouble) => {
+            note_of(to, &trouble);
+            Status::Failed
+        }
+    };
+    Ok(passed.max(drawn))
+}
+
+/// The last number in the name of a picture, before its ending.
+fn number_in(path: &Path) -> Option<u64> {
+    let name = path.file_stem()?.to_str()?;
+    let end = name.rfind(|letter: char| letter.is_ascii_digit())? + 1;
+    let start = name[..end].rfind(|letter: char| !letter.is_ascii_digit()).map_or(0, |place| place + 1);
+    name[start..end].parse().ok()
+}
+
+/// The pictures of a folder, by frame.
+fn numbered(folder: &Path) -> io::Result<Vec<(u64, PathBuf)>> {
+    let mut pictures = Vec::new();
+    for entry in fs::read_dir(folder)? {
+        let path = entry?.path();
+        if !path.is_file() {
+            continue;
+        }
+        match number_in(&path) {
+            Some(frame) => pictures.push((frame, path)),
+            None => note_of(&path, "its name has no number, so it is no frame's picture"),
+        }
+    }
+    pictures.sort();
+    Ok(pictures)
+}
+
+/// How pictures are compared, and what the run's file is.
+pub struct Wanted<'a> {
+    pub form: Form,
+    pub tolerance: u64,
+    pub output: Option<&'a Path>,
+}
+
+/// Compares a picture with a frame of a run.
+pub fn picture(path: &Path, frame: u64, other: &Path, wanted: &Wanted, out: &mut dyn Write) -> io::Result<Status> {
+    match Run::open(path, wanted.form) {
+        Ok(mut run) => one(&mut run, path, frame, other, wanted, out),
+        Err(failure) => picture::explain(path, failure, out),
+    }
+}
+
+/// Compares all pictures of a folder with the frames that their names have.
+pub fn folder(path: &Path, folder: &Path, wanted: &Wanted, out: &mut dyn Write) -> io::Result<Status> {
+    let pictures = match numbered(folder) {
+        Ok(pictures) => pictures,
+        Err(error) => {
+            note_of(folder, &format!("cannot be listed: {}", files::trouble(&error)));
+            return Ok(Status::Failed);
+        }
+    };
+    if pictures.is_empty() {
+        note_of(folder, "there is no picture in it whose name has a number");
+        return Ok(Status::Failed);
+    }
+    let mut run = match Run::open(path, wanted.form) {
+        Ok(run) => run,
+        Err(failure) => return picture::explain(path, failure, out),
+    };
+    let mut worst = Status::Fine;
+    let mut passed = 0;
+    for (frame, other) in &pictures {
+        let status = one(&mut run, path, *frame, other, wanted, out)?;
+        passed += usize::from(status == Status::Fine);
+        worst = worst.max(status);
+    }
+    writeln!(out, "{} pictures of {} frames, {passed} yes", pictures.len(), run.frames())?;
+    Ok(worst)
+}
