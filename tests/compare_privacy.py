@@ -57,15 +57,15 @@ def random_value(rng, vr, most):
     return bytes(rng.choice(b"ABCabc^=\\ 0123") for _ in range(size))
 
 
-def two_models(rng, model):
-    """Two models that differ only in patient items, of which some are absent from both. They share the VRs."""
+def two_models(rng, model, equal_sizes):
+    """Two models that differ only in patient items, of which some are absent from both. They share the VRs, and where asked the lengths."""
     first, second = dict(model), dict(model)
     for tag, (vr, most) in PATIENT_ITEMS.items():
         first.pop(tag, None), second.pop(tag, None)
         if rng.random() < 0.85:
             vr = vr if rng.random() < 0.8 else rng.choice(OTHER_VRS)
             first[tag] = (vr, random_value(rng, vr, most))
-            second[tag] = (vr, random_value(rng, vr, most))
+            second[tag] = (vr, rng.randbytes(len(first[tag][1])) if equal_sizes else random_value(rng, vr, most))
     return first, second
 
 
@@ -142,7 +142,9 @@ def compare_generated(comparison, rng, count):
         model = xa.build(rng, xa.random_shape(rng, **(change.shape if change else {})))
         if change:
             change.edit(model, 1 if change.per_frame else 0)
-        first, second = (xa.encode_at_random(rng, one) for one in two_models(rng, model))
+        equal_sizes = rng.random() < 0.2
+        models = two_models(rng, model, equal_sizes)
+        first, second = (objects.encode(one) if equal_sizes else xa.encode_at_random(rng, one) for one in models)
         if rows_of(first) is not None and rows_of(second) is not None:
             check_pair(comparison, f"run {number}", first, second, rng)
 

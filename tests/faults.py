@@ -820,6 +820,28 @@ PICTURE_FAULTS = {
         *comparing.compare(*arguments))),
 }
 
+PATIENT_ID = b"\x10\x00\x20\x00"  # the tag, as bytes
+
+
+def seen_of_patient(change):
+    """`change(outcome, number)` answers another outcome, by a number that Patient ID's value and length come to."""
+    return StandIn(lambda o, data: change(o, sum(data[data.index(PATIENT_ID):][4:16]) % 5) if PATIENT_ID in data else o)
+
+
+def told_of_patient(field):
+    return seen_of_patient(lambda o, n: o._replace(answer=o.answer._replace(**{field: getattr(o.answer, field) + n})) if o.answer.code in (0, 9) else o)
+
+
+PRIVACY_FAULTS = {
+    "a rule by Patient ID": told_of_patient("rule"),
+    "a frame by Patient ID": told_of_patient("frame"),
+    "a row count by Patient ID": told_of_patient("rows"),
+    "masked by Patient ID": told_of_patient("masked"),
+    "a picture by Patient ID": seen_of_patient(lambda o, n: o._replace(image=bytes([n]) + o.image[1:]) if o.image else o),
+    "a sheet by Patient ID": seen_of_patient(lambda o, n: o._replace(sheet=(n, *o.sheet[1:])) if o.sheet else o),
+    "intensities by Patient ID": seen_of_patient(lambda o, n: o._replace(values=(n, *o.values[1:])) if o.values else o),
+}
+
 FAULTS = {"read": READ_FAULTS, "judge": JUDGE_FAULTS, "slips": SLIP_FAULTS, "decimals": DECIMAL_FAULTS, "windows": WINDOW_FAULTS,
           "show": SHOW_FAULTS, "canonical": CANONICAL_FAULTS, "linear": LINEAR_FAULTS, "sheet": SHEET_FAULTS,
-          "pictures": PICTURE_FAULTS, "files": FILE_FAULTS}
+          "pictures": PICTURE_FAULTS, "files": FILE_FAULTS, "privacy": PRIVACY_FAULTS}

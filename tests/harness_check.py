@@ -12,6 +12,7 @@ import compare_files
 import compare_judge
 import compare_linear
 import compare_pictures
+import compare_privacy
 import compare_read
 import compare_sheet
 import compare_show
@@ -24,10 +25,11 @@ from mutants import MUTATIONS, mutant
 from stand_in import StandIn
 
 COUNTS = {"read": 60, "judge": 100, "slips": 200, "decimals": 200, "windows": 40, "show": 30, "canonical": 40,
-          "linear": 20, "sheet": 10, "pictures": 5, "files": 20}  # generated cases: as few as find every fault
+          "linear": 20, "sheet": 10, "pictures": 5, "files": 20, "privacy": 40}  # generated cases: as few as find every fault
 RUNS = {"read": compare_read.run, "judge": compare_judge.run, "slips": compare_slips.run, "decimals": compare_decimals.run,
         "windows": compare_windows.run, "show": compare_show.run, "canonical": compare_canonical.run, "linear": compare_linear.run,
-        "sheet": compare_sheet.run, "pictures": compare_pictures.run, "files": compare_files.run}
+        "sheet": compare_sheet.run, "pictures": compare_pictures.run, "files": compare_files.run,
+        "privacy": compare_privacy.run}
 
 
 def attempt(name, stand_in, folder):
