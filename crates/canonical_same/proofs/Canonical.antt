@@ -24,6 +24,7 @@ use Rattle.node.proofs.Laws.{table, nodes-count, node-is}
 use Rattle.conformance.specs.Judging.{judgeOf}
 use Rattle.display.specs.Show.{showOf, imageOf}
 use Rattle.sheet.specs.Answer.{sheetOf}
+use Rattle.compare.specs.Answer.{compareOf}
 use Rattle.canonical.specs.Written.{writtenOf}
 use Rattle.canonical.specs.Answer.{answerFor, targetBy, canonicalOf, targetOf, codeOf, offsetOf}
 use Rattle.canonical.specs.declared.CanonicalAnswer.{CanonicalAnswer}
@@ -57,8 +58,12 @@ module _ (s t : List ℕ) (a : ReadsWell s) (b : ReadsWell t) (n : nodesOf s ≡
   unfolding sheetOf
   sheet-same first last rows = rw (n, judge-same rows)
 
+  compare-same : (frame : ℕ) (cells : List ℕ) (tolerance : ℕ) (rows : List ℕ) → compareOf s frame cells tolerance rows ≡ compareOf t frame cells tolerance rows
+  unfolding compareOf
+  compare-same frame cells tolerance rows = rw (n, judge-same rows)
+
   alike : Alike s t
-  alike = record { judged = judge-same; shown = show-same; picture = image-same; sampled = sheet-same }
+  alike = record { judged = judge-same; shown = show-same; picture = image-same; sampled = sheet-same; compared = compare-same }
 
 -- ---- The same nodes: the rows agree, and the other way round
 

@@ -4,7 +4,7 @@
 -- crates/canonical/specs/Written.antt has it. Reading the canonical form gives as many rows, with the same tags, VRs, depths, rows below
 -- and, SQ aside, element values in the same order, and the same seventh numbers. It is never longer than the data set, and its own canonical
 -- form is itself. With the same buffers and frame number, the judge answers the same for both, code 8 included, `show` gives the
--- same answer and picture, and `sheet` the same answer and numbers.
+-- same answer and picture, `sheet` the same answer and numbers, and `compare` the same answer.
 --
 -- Two data sets that agree in tags, VRs, depths, rows below and element values have the same canonical form. The other way round, two that read well and have
 -- the same canonical form agree in them, and are judged and drawn alike: so duplicates are found by their canonical bytes.
@@ -26,6 +26,7 @@ use Rattle.node.specs.Nodes.{nodesOf}
 use Rattle.conformance.specs.Judging.{judgeOf}
 use Rattle.display.specs.Show.{showOf, imageOf}
 use Rattle.sheet.specs.Answer.{sheetOf}
+use Rattle.compare.specs.Answer.{compareOf}
 use Rattle.canonical.specs.Written.{Bytes, writtenOf}
 use Rattle.canonical.specs.Answer.{canonicalOf, targetOf, codeOf, offsetOf}
 use Rattle.canonical.specs.declared.CanonicalAnswer.the-variants as canonical
@@ -60,12 +61,13 @@ pub record Agree (s t : List ℕ) : Type 0 where
   pub count : length (rowsOf s) ≡ length (rowsOf t)
   pub each : (i : ℕ) → i < length (rowsOf s) → AgreeAt s t i
 
--- Judged, drawn and sampled alike, with whatever buffers and frame numbers.
+-- Judged, drawn, sampled and compared alike, with whatever buffers, frame numbers, cells and tolerance.
 pub record Alike (s t : List ℕ) : Type 0 where
   pub judged : (rows : List ℕ) → judgeOf s rows ≡ judgeOf t rows
   pub shown : (frame : ℕ) (rows image : List ℕ) → showOf s frame rows image ≡ showOf t frame rows image
   pub picture : (frame : ℕ) (rows image : List ℕ) → imageOf s frame rows image ≡ imageOf t frame rows image
   pub sampled : (first last : ℕ) (rows : List ℕ) → sheetOf s first last rows ≡ sheetOf t first last rows
+  pub compared : (frame : ℕ) (cells : List ℕ) (tolerance : ℕ) (rows : List ℕ) → compareOf s frame cells tolerance rows ≡ compareOf t frame cells tolerance rows
 
 -- A data set s, and its canonical form w.
 pub record Written (s w : List ℕ) : Type 0 where

@@ -231,9 +231,11 @@ own-cells s b f buffer image e =
     let same : some (h .p) ≡ some (p .p) = sym (h .is) ∙ p .is in
     let v : h .p ≡ p .p = cc in
     let cells : imageOf s f buffer image ≡ p .p .samples ++ drop (imageSize (nodesOf s)) image = h .cells ∙ ap (λ (x : Picture). x .samples ++ drop (imageSize (nodesOf s)) image) v in
-    let q : pictureOf (nodesOf s) f .samples ≡ p .p .samples = ap (λ (o : Option Picture). pictureIn o .samples) (p .is) in
-    (ap (take (imageSize (nodesOf s))) cells
-    ∙ (subst (λ (k : ℕ). take k (p .p .samples ++ drop (imageSize (nodesOf s)) image) ≡ p .p .samples) (p .size) (take-append-seam (p .p .samples) (drop (imageSize (nodesOf s)) image)) ∙ sym q), ap length q ∙ p .size)
+    let q : pictureOf (nodesOf s) f .samples ≡ p .p .samples = ap (λ (o : Option Picture). pictureIn o .samples) (p .is) in (
+      ap (take (imageSize (nodesOf s))) cells
+          ∙ (subst (λ (k : ℕ). take k (p .p .samples ++ drop (imageSize (nodesOf s)) image) ≡ p .p .samples) (p .size) (take-append-seam (p .p .samples) (drop (imageSize (nodesOf s)) image)) ∙ sym q),
+      ap length q ∙ p .size,
+    )
 
 own : (s : List ℕ) → Bytes s → (f : ℕ) (buffer image : List ℕ) → Own s f buffer image
 own s b f buffer image =

@@ -7,6 +7,7 @@ pub mod Nodes
 pub mod Answers
 pub mod Shown
 pub mod Sampled
+pub mod Compared
 pub mod Mapped
 pub mod Privacy
 pub mod Unread

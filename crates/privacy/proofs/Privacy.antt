@@ -19,6 +19,7 @@ use Rattle.conformance.specs.declared.JudgeAnswer.{JudgeAnswer}
 use Rattle.display.specs.Show.{showOf, imageOf}
 use Rattle.linear.specs.Answer.{linearOf, valuesOf}
 use Rattle.sheet.specs.Answer.{sheetOf}
+use Rattle.compare.specs.Answer.{compareOf}
 use Rattle.privacy.specs.Read.{readTags, isRead}
 use Rattle.privacy.specs.Alike.{Alike, SamePixels}
 use Rattle.privacy.specs.Privacy.{patientTags, isPatient, keptValue, SameButPatient, SameAnswers, Privacy}
@@ -26,6 +27,7 @@ use Rattle.privacy.proofs.Nodes.{both-at, tag-at, alike, same-pixels}
 use Rattle.privacy.proofs.Answers.{judge-same}
 use Rattle.privacy.proofs.Shown.{picture-same, shown-same}
 use Rattle.privacy.proofs.Sampled.{sampled-same}
+use Rattle.privacy.proofs.Compared.{compared-same}
 use Rattle.privacy.proofs.Mapped.{linear-same, entries-same}
 
 -- ---- No tag that is read is a patient item's
@@ -97,6 +99,10 @@ module _ (s t : List ℕ) (p : SameButPatient s t) where
   unfolding sheetOf
   sheet-same first last buffer = rw (judged-same buffer) (sampled-same a b first last (judgeOf t buffer))
 
+  comparison-same : (frame : ℕ) (cells : List ℕ) (tolerance : ℕ) (buffer : List ℕ) → compareOf s frame cells tolerance buffer ≡ compareOf t frame cells tolerance buffer
+  unfolding compareOf
+  comparison-same frame cells tolerance buffer = rw (judged-same buffer) (compared-same a b frame cells tolerance (judgeOf t buffer))
+
   mapped-same : (frame : ℕ) (buffer values : List ℕ) → linearOf s frame buffer values ≡ linearOf t frame buffer values
   unfolding linearOf
   mapped-same frame buffer values = rw (judged-same buffer) (linear-same a frame values (judgeOf t buffer))
@@ -113,6 +119,7 @@ module _ (s t : List ℕ) (p : SameButPatient s t) where
         shown = show-same;
         picture = image-same;
         sampled = sheet-same;
+        compared = comparison-same;
         mapped = mapped-same;
         intensities = values-same;
       }

@@ -4,7 +4,7 @@
 -- limit that both read, with the same rows but for places and lengths, whose values differ only in the root elements Patient's Name
 -- (0010,0010), Patient ID (0010,0020), Patient's Birth Date (0010,0030) and Image Comments (0020,4000), in any lengths. With the same
 -- buffers and frame numbers, `judge` gives the same code, rule, frame and row count; `show` the same answer and the same image buffer; `sheet`
--- the same answer and the same numbers. So do the mapping to beam intensity and the slip of the verdict.
+-- the same answer and the same numbers. So do `compare`, the mapping to beam intensity and the slip of the verdict.
 --
 -- Not promised: the row table, offsets and the canonical form, which do depend on these values.
 --
@@ -23,6 +23,7 @@ use Rattle.conformance.specs.Judging.{judgeOf, verdictOf}
 use Rattle.display.specs.Show.{showOf, imageOf}
 use Rattle.linear.specs.Answer.{linearOf, valuesOf}
 use Rattle.sheet.specs.Answer.{sheetOf}
+use Rattle.compare.specs.Answer.{compareOf}
 use Rattle.privacy.specs.Rows.{SameRows}
 
 -- Patient's Name, Patient ID, Patient's Birth Date, Image Comments.
@@ -52,6 +53,7 @@ pub record SameAnswers (s t : List ℕ) : Type 0 where
   pub picture : (frame : ℕ) (buffer image : List ℕ) → imageOf s frame buffer image ≡ imageOf t frame buffer image
   -- The answer and the numbers.
   pub sampled : (first last : ℕ) (buffer : List ℕ) → sheetOf s first last buffer ≡ sheetOf t first last buffer
+  pub compared : (frame : ℕ) (cells : List ℕ) (tolerance : ℕ) (buffer : List ℕ) → compareOf s frame cells tolerance buffer ≡ compareOf t frame cells tolerance buffer
   -- The answer, and the values buffer afterwards.
   pub mapped : (frame : ℕ) (buffer values : List ℕ) → linearOf s frame buffer values ≡ linearOf t frame buffer values
   pub intensities : (frame : ℕ) (buffer values : List ℕ) → valuesOf s frame buffer values ≡ valuesOf t frame buffer values
