@@ -10,12 +10,13 @@ import outside
 from comparison import DifferenceFound, exact_numbers, run_as_program
 from library import GuardedBuffer
 from mutations import CHANGES
-from reference import reading, sheet
+from reference import drawing, reading, sheet
 
 PATIENT_ITEMS = {0x00100010: ("PN", 64), 0x00100020: ("LO", 64), 0x00100030: ("DA", 8), 0x00204000: ("LT", 10240)}
 OTHER_VRS = ("CS", "UI", "UN", "OB", "UT", "US", "IS")
 SEQUENCE = 0x5351
 MANY_FRAMES = 1 << 16
+MANY_CELLS = 1 << 22
 
 
 # ---------------------------------------------------------------------------------------------------------------------
@@ -101,7 +102,7 @@ def slip_of(library, answer):
 
 
 def check_pair(comparison, name, first, second, rng):
-    """Two data sets through judge, slips, show, linear and sheet, with the same rooms and frame numbers."""
+    """Two data sets through judge, slips, show, linear, sheet and compare, with the same rooms and frame numbers."""
     library = comparison.library
     if kept(first) != kept(second):
         raise DifferenceFound(f"the comparison itself is at fault: {name}: more differs than the patient items")
@@ -126,8 +127,20 @@ def check_pair(comparison, name, first, second, rng):
                 same(f"linear frame {frame}, {room}, {size}", lambda data: library.linear(data, frame, room, size))
                 last = rng.randrange(0, 6)
                 same(f"sheet frames {frame} to {last}, {room}", lambda data: library.sheet(data, frame, last, room, sheet.NUMBERS))
+                if rng.random() < 0.03:
+                    check_comparing(comparison, name, first, second, frame, room, rng)
     tables = [called_rows(library, data, exact) for data in (first, second)]
     comparison.note(("row tables", "same" if tables[0] == tables[1] else "differ"))
+
+
+def check_comparing(comparison, name, first, second, frame, room, rng):
+    """Another workstation's picture, made from the reference's where there is one, against a frame of both."""
+    ours = drawing.show(first, frame, exact_numbers(first), MANY_CELLS).image
+    cells = bytes(min(255, level + rng.randrange(3)) for level in ours) or rng.randbytes(3)
+    tolerance = rng.choice((0, 1, 2, 255, 256))
+    before, after = (comparison.library.compare(data, frame, cells, tolerance, room).answer for data in (first, second))
+    comparison.must_equal(f"{name}: compare frame {frame}, tolerance {tolerance}, {room}", after, before)
+    comparison.note(("compare", before.answer.code))
 
 
 def called_rows(library, data, room):
@@ -179,4 +192,4 @@ def run(comparison, arguments):
 
 
 if __name__ == "__main__":
-    run_as_program("privacy", ["xa_read", "xa_judge", "xa_show", "xa_linear", "xa_sheet", "xa_write_slip"], 500, run)
+    run_as_program("privacy", ["xa_read", "xa_judge", "xa_show", "xa_linear", "xa_sheet", "xa_compare", "xa_write_slip"], 500, run)
