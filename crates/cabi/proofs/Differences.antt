@@ -8,24 +8,25 @@ use native.Mathlib.Nat.{mul-le-mul}
 use native.Mathlib.Omega.{arith}
 use lib.Dec.{eqb, leb}
 use lib.ListN.{length}
+use Rattle.dataset.specs.Fields.{Fields, codeAlone, placed, counted, broken}
 use Rattle.value.specs.declared.Num.{Num}
 use Rattle.value.specs.declared.Num.the-variants.{Is, Lacks}
-use Rattle.verdict.proofs.Bounds.{Small}
 use Rattle.node.specs.Nodes.{Node, nodesOf, root}
 use Rattle.element.specs.Tags
 use Rattle.element.specs.Elements.{usIn}
 use Rattle.conformance.specs.declared.JudgeAnswer.{JudgeAnswer}
 use Rattle.conformance.specs.declared.JudgeAnswer.the-variants as judged
-use Rattle.conformance.specs.Judging.{numberOf, judgeOf, verdictOf, rowCountOf}
-use Rattle.conformance.proofs.Possible.{judge-small, judge-rows}
+use Rattle.conformance.specs.Judging.{numberOf, judgeOf}
+use Rattle.conformance.specs.Judging as judging
 use Rattle.display.specs.Show.{isFrameOf, imageSize, pictureOf}
 use Rattle.display.specs.Drawing.{Bytes}
 use Rattle.display.proofs.Small.{us-in-small}
 use Rattle.compare.specs.declared.CompareAnswer.{CompareAnswer}
 use Rattle.compare.specs.declared.CompareAnswer.the-variants as answer
 use Rattle.compare.specs.Differences.{isOff, howMany, firstOff}
-use Rattle.compare.specs.Answer.{comparedBy, acceptedAnswer, answerFor, compareOf}
-use Rattle.cabi.specs.Host.{CompareFits32}
+use Rattle.compare.specs.Answer.{comparedBy, acceptedAnswer, answerFor, compareOf, plain, fieldsOf}
+use Rattle.cabi.specs.Host.{Fits32, CompareFits32}
+use Rattle.cabi.proofs.Numbers.{alone-fits, judge-fits}
 
 -- ---- Places and counts
 
@@ -61,42 +62,41 @@ size-small s b =
 
 -- ---- Answers
 
-by-places : (n : ℕ) (off : ℕ → Bool) (size : ℕ) → n ≤ 134217728 → size < 4294967296 → CompareFits32 (comparedBy n off size)
+by-places : (n : ℕ) (off : ℕ → Bool) (size : ℕ) → Fits32 (counted n) → size < 4294967296 → CompareFits32 (fieldsOf (comparedBy n off size))
 unfolding comparedBy
 by-places n off size h k = go (eqb (howMany off size) 0)
   where
-    go : (b : Bool) → CompareFits32 (cond b (answer.Same n) (answer.Differs n (firstOff off size) (howMany off size)))
-    go true = record { code = omega arith; offset = omega arith; rows = omega arith; rule = omega arith; frame = omega arith; first = omega arith; count = omega arith }
-    go false =
-        record { code = omega arith; offset = omega arith; rows = omega arith; rule = omega arith; frame = omega arith; first = omega (arith, first-most off size); count = omega (arith, count-most off size) }
+    go : (b : Bool) → CompareFits32 (fieldsOf (cond b (answer.Same n) (answer.Differs n (firstOff off size) (howMany off size))))
+    go true = record { answer = h; first = omega arith; count = omega arith }
+    go false = record { answer = h; first = omega (arith, first-most off size); count = omega (arith, count-most off size) }
 
-by-tests : (ns : List Node) (f : ℕ) (cells : List ℕ) (t n : ℕ) → n ≤ 134217728 → imageSize ns < 4294967296 → CompareFits32 (acceptedAnswer ns f cells t n)
+-- An answer that names no cell.
+plain-fits : (a : Fields) → Fits32 a → CompareFits32 (plain a)
+plain-fits a h = record { answer = h; first = omega arith; count = omega arith }
+
+by-tests : (ns : List Node) (f : ℕ) (cells : List ℕ) (t n : ℕ) → Fits32 (counted n) → imageSize ns < 4294967296 → CompareFits32 (fieldsOf (acceptedAnswer ns f cells t n))
 unfolding acceptedAnswer
 by-tests ns f cells t n h k =
     go (isFrameOf ns f) (eqb (length cells) (imageSize ns)) (leb t 255) (by-places n (isOff t (pictureOf ns f .samples) cells) (imageSize ns) h k)
   where
-    go : (p q r : Bool) → CompareFits32 (comparedBy n (isOff t (pictureOf ns f .samples) cells) (imageSize ns))
-        → CompareFits32 (cond p (cond q (cond r (comparedBy n (isOff t (pictureOf ns f .samples) cells) (imageSize ns)) answer.WrongTolerance) answer.WrongSize) answer.NoFrame)
+    go : (p q r : Bool) → CompareFits32 (fieldsOf (comparedBy n (isOff t (pictureOf ns f .samples) cells) (imageSize ns)))
+        → CompareFits32 (fieldsOf (cond p (cond q (cond r (comparedBy n (isOff t (pictureOf ns f .samples) cells) (imageSize ns)) answer.WrongTolerance) answer.WrongSize) answer.NoFrame))
     go true true true w = w
-    go true true false w = record { code = omega arith; offset = omega arith; rows = omega arith; rule = omega arith; frame = omega arith; first = omega arith; count = omega arith }
-    go true false r w = record { code = omega arith; offset = omega arith; rows = omega arith; rule = omega arith; frame = omega arith; first = omega arith; count = omega arith }
-    go false q r w = record { code = omega arith; offset = omega arith; rows = omega arith; rule = omega arith; frame = omega arith; first = omega arith; count = omega arith }
+    go true true false w = plain-fits (codeAlone 23) (alone-fits 23 (omega arith))
+    go true false r w = plain-fits (codeAlone 22) (alone-fits 22 (omega arith))
+    go false q r w = plain-fits (codeAlone 10) (alone-fits 10 (omega arith))
 
-by-judge : (ns : List Node) (f : ℕ) (cells : List ℕ) (t : ℕ) (j : JudgeAnswer) → imageSize ns < 4294967296 → Small (verdictOf j) → rowCountOf j ≤ 134217728 → CompareFits32 (answerFor ns f cells t j)
-by-judge ns f cells t (judged.Accepted n) k m h = by-tests ns f cells t n h k
-by-judge ns f cells t (judged.Broken n rule frame) k m h =
-    record { code = omega arith; offset = omega arith; rows = omega arith; rule = omega (arith, m .rule); frame = omega (arith, m .frame); first = omega arith; count = omega arith }
-by-judge ns f cells t (judged.Refused code offset) k m h =
-    record { code = omega (arith, m .code); offset = omega (arith, m .offset); rows = omega arith; rule = omega arith; frame = omega arith; first = omega arith; count = omega arith }
-by-judge ns f cells t judged.TooLarge k m h =
-    record { code = omega arith; offset = omega arith; rows = omega arith; rule = omega arith; frame = omega arith; first = omega arith; count = omega arith }
-by-judge ns f cells t judged.NoRoom k m h =
-    record { code = omega arith; offset = omega arith; rows = omega arith; rule = omega arith; frame = omega arith; first = omega arith; count = omega arith }
+by-judge : (ns : List Node) (f : ℕ) (cells : List ℕ) (t : ℕ) (j : JudgeAnswer) → imageSize ns < 4294967296 → Fits32 (judging.fieldsOf j) → CompareFits32 (fieldsOf (answerFor ns f cells t j))
+by-judge ns f cells t (judged.Accepted n) k h = by-tests ns f cells t n h k
+by-judge ns f cells t (judged.Broken n rule frame) k h = plain-fits (broken n rule frame) h
+by-judge ns f cells t (judged.Refused code offset) k h = plain-fits (placed code offset) h
+by-judge ns f cells t judged.TooLarge k h = plain-fits (codeAlone 7) h
+by-judge ns f cells t judged.NoRoom k h = plain-fits (codeAlone 8) h
 
-by-call : (s : List ℕ) → Bytes s → (f : ℕ) (cells : List ℕ) (t : ℕ) (buffer : List ℕ) → CompareFits32 (compareOf s f cells t buffer)
+by-call : (s : List ℕ) → Bytes s → (f : ℕ) (cells : List ℕ) (t : ℕ) (buffer : List ℕ) → CompareFits32 (fieldsOf (compareOf s f cells t buffer))
 unfolding compareOf
-by-call s b f cells t buffer = by-judge (nodesOf s) f cells t (judgeOf s buffer) (size-small s b) (judge-small s buffer) (judge-rows s buffer)
+by-call s b f cells t buffer = by-judge (nodesOf s) f cells t (judgeOf s buffer) (size-small s b) (judge-fits s buffer)
 
 -- What a match found an answer to be.
-pub compare-narrow : {a r : CompareAnswer} (s : List ℕ) → Bytes s → (f : ℕ) (cells : List ℕ) (t : ℕ) (buffer : List ℕ) → a ≡ compareOf s f cells t buffer → a ≡ r → CompareFits32 r
-compare-narrow s b f cells t buffer e g = subst CompareFits32 (sym e ∙ g) (by-call s b f cells t buffer)
+pub compare-narrow : {a r : CompareAnswer} (s : List ℕ) → Bytes s → (f : ℕ) (cells : List ℕ) (t : ℕ) (buffer : List ℕ) → a ≡ compareOf s f cells t buffer → a ≡ r → CompareFits32 (fieldsOf r)
+compare-narrow s b f cells t buffer e g = subst (λ (x : CompareAnswer). CompareFits32 (fieldsOf x)) (sym e ∙ g) (by-call s b f cells t buffer)

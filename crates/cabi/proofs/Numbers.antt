@@ -13,7 +13,9 @@ use borrow.Author.Tests.{le-leb, lt-leb}
 use Rattle.dataset.specs.declared.ReadAnswer.{ReadAnswer}
 use Rattle.dataset.specs.declared.ReadAnswer.the-variants as readAnswer
 use Rattle.dataset.specs.Reading.{readingOf}
+use Rattle.dataset.specs.Fields.{codeAlone, counted}
 use Rattle.dataset.specs.Answer.{answerOf}
+use Rattle.dataset.specs.Answer as reading
 use Rattle.dataset.proofs.Laws.{Small as SmallAnswer, answer-small}
 use Rattle.verdict.specs.Verdict.{possible, writable}
 use Rattle.verdict.specs.declared.RowCount.{RowCount}
@@ -21,12 +23,14 @@ use Rattle.verdict.specs.declared.RowCount.the-variants.{Known, NotKnown}
 use Rattle.verdict.specs.declared.Verdict.{Verdict}
 use Rattle.verdict.proofs.Bounds.{Small, possible-small, possible-rows}
 use Rattle.conformance.specs.declared.JudgeAnswer.{JudgeAnswer}
-use Rattle.conformance.specs.Judging.{judgeOf, verdictOf, rowCountOf}
+use Rattle.conformance.specs.Judging.{judgeOf, verdictOf}
+use Rattle.conformance.specs.Judging as judging
 use Rattle.conformance.proofs.Possible.{judge-small, judge-rows}
 use Rattle.conformance.specs.declared.JudgeAnswer.the-variants as judged
 use Rattle.node.specs.Nodes.{Node, nodesOf}
 use Rattle.display.specs.declared.ShowAnswer.{ShowAnswer}
 use Rattle.display.specs.declared.ShowAnswer.the-variants as shown
+use Rattle.display.specs.Show as showing
 use Rattle.display.specs.Show.{isFrameOf, imageSize, pictureOf, acceptedAnswer, answerFor, showOf}
 use Rattle.canonical.specs.declared.CanonicalAnswer.{CanonicalAnswer}
 use Rattle.canonical.specs.Written.{Bytes}
@@ -35,6 +39,7 @@ use Rattle.canonical.proofs.Theorems.{SmallAnswer as CanonicalSmall, canonical-
 use Rattle.linear.specs.declared.LinearAnswer.{LinearAnswer}
 use Rattle.linear.specs.declared.LinearAnswer.the-variants as linear
 use Rattle.linear.specs.Mapping.{isMapped}
+use Rattle.linear.specs.Answer as mapping
 use Rattle.linear.specs.Answer.{acceptedAnswer as acceptedLinear, answerFor as linearFor, linearOf}
 use Rattle.pixel.specs.Painted.{painted}
 use Rattle.lines.specs.Lines.{upTo}
@@ -42,122 +47,118 @@ use Rattle.lines.proofs.Lists.{upTo-length, upTo-at, painted-list}
 use Rattle.sheet.specs.declared.SheetAnswer.the-variants as sampled
 use Rattle.sheet.specs.declared.Numbers.{Numbers}
 use Rattle.sheet.specs.Sheet.{numbersIn}
+use Rattle.sheet.specs.Answer as sampling
 use Rattle.sheet.specs.Answer.{acceptedAnswer as acceptedSheet, answerFor as sheetFor, sheetOf}
 use Rattle.slip.specs.declared.SlipAnswer.{SlipAnswer}
 use Rattle.slip.specs.declared.SlipAnswer.the-variants as read
 use Rattle.slip.specs.declared.WriteAnswer.{WriteAnswer}
 use Rattle.slip.specs.declared.WriteAnswer.the-variants as write
-use Rattle.slip.specs.Slip.{mark, version, oldVersion, versionAt, rowsAt, headSize, oldSize, slipSize, number, equal, fieldsOf, ifPossible, readSized, readVersion, readOf, writeOf}
+use Rattle.slip.specs.Slip.{mark, version, oldVersion, versionAt, rowsAt, headSize, oldSize, slipSize, number, equal, recorded, ifPossible, readSized, readVersion, readOf, readFields, writeOf, writeFields}
 use Rattle.slip.proofs.Slips.{slips}
-use Rattle.cabi.specs.Host.{writeCode, rowsNumber, slipAnswer, sheetAfter, Narrow, ReadFits32, JudgeFits32, Fits32, LinearFits32, SheetFits32}
+use Rattle.cabi.specs.Host.{rowsNumber, sheetAfter, Narrow, Fits32}
 
--- ---- A reader's answer
+-- ---- The shapes of an answer
 
-small-fits : (a : ReadAnswer) → SmallAnswer a → ReadFits32 a
-small-fits (readAnswer.Done n) m = record { code = omega arith; offset = omega arith; rows = omega (arith, m) }
-small-fits (readAnswer.Refused code offset) m = record { code = omega (arith, m); offset = omega (arith, m); rows = omega arith }
-small-fits readAnswer.TooLarge m = record { code = omega arith; offset = omega arith; rows = omega arith }
-small-fits readAnswer.NoRoom m = record { code = omega arith; offset = omega arith; rows = omega arith }
+pub alone-fits : (code : ℕ) → code < 4294967296 → Fits32 (codeAlone code)
+alone-fits code h = record { code = h; offset = omega arith; rows = omega arith; rule = omega arith; frame = omega arith }
 
-pub read-fits : (s buffer : List ℕ) → ReadFits32 (answerOf (readingOf s) buffer)
+count-fits : (n : ℕ) → n < 4294967296 → Fits32 (counted n)
+count-fits n h = record { code = omega arith; offset = omega arith; rows = h; rule = omega arith; frame = omega arith }
+
+-- ---- An answer of `read`
+
+small-fits : (a : ReadAnswer) → SmallAnswer a → Fits32 (reading.fieldsOf a)
+small-fits (readAnswer.Done n) m = count-fits n (omega (arith, m))
+small-fits (readAnswer.Refused code offset) m =
+    record { code = omega (arith, m); offset = omega (arith, m); rows = omega arith; rule = omega arith; frame = omega arith }
+small-fits readAnswer.TooLarge m = alone-fits 7 (omega arith)
+small-fits readAnswer.NoRoom m = alone-fits 8 (omega arith)
+
+pub read-fits : (s buffer : List ℕ) → Fits32 (reading.fieldsOf (answerOf (readingOf s) buffer))
 read-fits s buffer = small-fits (answerOf (readingOf s) buffer) (answer-small s buffer)
 
--- ---- A judge's answer
+-- ---- An answer of `judge`
 
-judged-fits : (a : JudgeAnswer) → Small (verdictOf a) → rowCountOf a ≤ 134217728 → JudgeFits32 a
+judged-fits : (a : JudgeAnswer) → Small (verdictOf a) → judging.fieldsOf a .rows ≤ 134217728 → Fits32 (judging.fieldsOf a)
 judged-fits a m h =
     record { code = omega (arith, m .code); offset = omega (arith, m .offset); rows = omega arith; rule = omega (arith, m .rule); frame = omega (arith, m .frame) }
 
-pub judge-fits : (s buffer : List ℕ) → JudgeFits32 (judgeOf s buffer)
+pub judge-fits : (s buffer : List ℕ) → Fits32 (judging.fieldsOf (judgeOf s buffer))
 judge-fits s buffer = judged-fits (judgeOf s buffer) (judge-small s buffer) (judge-rows s buffer)
 
--- ---- An answer of `show`
+-- ---- The other calls keep the judge's fields, but where the object is accepted; then they have its row count, or a code alone
 
--- The judge's numbers, or none.
-accepted-narrow : (ns : List Node) (f : ℕ) (image : List ℕ) (n : ℕ) → n ≤ 134217728 → Fits32 (acceptedAnswer ns f image n)
+accepted-narrow : (ns : List Node) (f : ℕ) (image : List ℕ) (n : ℕ) → Fits32 (counted n) → Fits32 (showing.fieldsOf (acceptedAnswer ns f image n))
 unfolding acceptedAnswer
 accepted-narrow ns f image n h = go (isFrameOf ns f) (leb (imageSize ns) (length image))
   where
-    go : (t u : Bool) → Fits32 (cond t (cond u (shown.Drawn n (pictureOf ns f .masked)) shown.NoImageRoom) shown.NoFrame)
-    go true true = record { code = omega arith; offset = omega arith; rows = omega arith; rule = omega arith; frame = omega arith }
-    go true false = record { code = omega arith; offset = omega arith; rows = omega arith; rule = omega arith; frame = omega arith }
-    go false u = record { code = omega arith; offset = omega arith; rows = omega arith; rule = omega arith; frame = omega arith }
+    go : (t u : Bool) → Fits32 (showing.fieldsOf (cond t (cond u (shown.Drawn n (pictureOf ns f .masked)) shown.NoImageRoom) shown.NoFrame))
+    go true true = record { code = omega arith; offset = omega arith; rows = h .rows; rule = omega arith; frame = omega arith }
+    go true false = alone-fits 11 (omega arith)
+    go false u = alone-fits 10 (omega arith)
 
-answer-narrow : (ns : List Node) (f : ℕ) (image : List ℕ) (j : JudgeAnswer) → Small (verdictOf j) → rowCountOf j ≤ 134217728 → Fits32 (answerFor ns f image j)
-answer-narrow ns f image (judged.Accepted n) m h = accepted-narrow ns f image n h
-answer-narrow ns f image (judged.Broken n rule frame) m h =
-    record { code = omega arith; offset = omega arith; rows = omega arith; rule = omega (arith, m .rule); frame = omega (arith, m .frame) }
-answer-narrow ns f image (judged.Refused code offset) m h =
-    record { code = omega (arith, m .code); offset = omega (arith, m .offset); rows = omega arith; rule = omega arith; frame = omega arith }
-answer-narrow ns f image judged.TooLarge m h =
-    record { code = omega arith; offset = omega arith; rows = omega arith; rule = omega arith; frame = omega arith }
-answer-narrow ns f image judged.NoRoom m h =
-    record { code = omega arith; offset = omega arith; rows = omega arith; rule = omega arith; frame = omega arith }
+answer-narrow : (ns : List Node) (f : ℕ) (image : List ℕ) (j : JudgeAnswer) → Fits32 (judging.fieldsOf j) → Fits32 (showing.fieldsOf (answerFor ns f image j))
+answer-narrow ns f image (judged.Accepted n) h = accepted-narrow ns f image n h
+answer-narrow ns f image (judged.Broken n rule frame) h = h
+answer-narrow ns f image (judged.Refused code offset) h = h
+answer-narrow ns f image judged.TooLarge h = h
+answer-narrow ns f image judged.NoRoom h = h
 
-pub show-narrow : (s : List ℕ) (f : ℕ) (buffer image : List ℕ) → Fits32 (showOf s f buffer image)
+pub show-narrow : (s : List ℕ) (f : ℕ) (buffer image : List ℕ) → Fits32 (showing.fieldsOf (showOf s f buffer image))
 unfolding showOf
-show-narrow s f buffer image = answer-narrow (nodesOf s) f image (judgeOf s buffer) (judge-small s buffer) (judge-rows s buffer)
+show-narrow s f buffer image = answer-narrow (nodesOf s) f image (judgeOf s buffer) (judge-fits s buffer)
+
+-- What a match found an answer of `linear` to be.
+linear-accepted : (ns : List Node) (f : ℕ) (values : List ℕ) (n : ℕ) → Fits32 (counted n) → Fits32 (mapping.fieldsOf (acceptedLinear ns f values n))
+unfolding acceptedLinear
+linear-accepted ns f values n h = go (isFrameOf ns f) (isMapped ns f) (leb (imageSize ns) (length values))
+  where
+    go : (t m u : Bool) → Fits32 (mapping.fieldsOf (cond t (cond m (cond u (linear.Mapped n) linear.NoValuesRoom) linear.NoItem) linear.NoFrame))
+    go true true true = h
+    go true true false = alone-fits 11 (omega arith)
+    go true false u = alone-fits 20 (omega arith)
+    go false m u = alone-fits 10 (omega arith)
+
+linear-answer : (ns : List Node) (f : ℕ) (values : List ℕ) (j : JudgeAnswer) → Fits32 (judging.fieldsOf j) → Fits32 (mapping.fieldsOf (linearFor ns f values j))
+linear-answer ns f values (judged.Accepted n) h = linear-accepted ns f values n h
+linear-answer ns f values (judged.Broken n rule frame) h = h
+linear-answer ns f values (judged.Refused code offset) h = h
+linear-answer ns f values judged.TooLarge h = h
+linear-answer ns f values judged.NoRoom h = h
+
+linear-all : (s : List ℕ) (f : ℕ) (buffer values : List ℕ) → Fits32 (mapping.fieldsOf (linearOf s f buffer values))
+unfolding linearOf
+linear-all s f buffer values = linear-answer (nodesOf s) f values (judgeOf s buffer) (judge-fits s buffer)
+
+pub linear-narrow : {a b : LinearAnswer} (s : List ℕ) (f : ℕ) (buffer values : List ℕ) → a ≡ linearOf s f buffer values → a ≡ b → Fits32 (mapping.fieldsOf b)
+linear-narrow s f buffer values e g = subst (λ (x : LinearAnswer). Fits32 (mapping.fieldsOf x)) (sym e ∙ g) (linear-all s f buffer values)
+
+sheet-accepted : (ns : List Node) (a b n : ℕ) → Fits32 (counted n) → Fits32 (sampling.fieldsOf (acceptedSheet ns a b n))
+unfolding acceptedSheet
+sheet-accepted ns a b n h = go (leb a b) (isFrameOf ns a && isFrameOf ns b)
+  where
+    go : (t u : Bool) → Fits32 (sampling.fieldsOf (cond t (cond u (sampled.Done n) sampled.NoFrame) sampled.WrongOrder))
+    go true true = h
+    go true false = alone-fits 10 (omega arith)
+    go false u = alone-fits 19 (omega arith)
+
+sheet-answer : (ns : List Node) (a b : ℕ) (j : JudgeAnswer) → Fits32 (judging.fieldsOf j) → Fits32 (sampling.fieldsOf (sheetFor ns a b j))
+sheet-answer ns a b (judged.Accepted n) h = sheet-accepted ns a b n h
+sheet-answer ns a b (judged.Broken n rule frame) h = h
+sheet-answer ns a b (judged.Refused code offset) h = h
+sheet-answer ns a b judged.TooLarge h = h
+sheet-answer ns a b judged.NoRoom h = h
+
+pub sheet-narrow : (s : List ℕ) (a b : ℕ) (buffer : List ℕ) → Fits32 (sampling.fieldsOf (sheetOf s a b buffer .answer))
+unfolding sheetOf
+sheet-narrow s a b buffer = sheet-answer (nodesOf s) a b (judgeOf s buffer) (judge-fits s buffer)
 
 -- ---- What a match found an answer of `write_canonical` to be
 
 pub canonical-narrow : {a b : CanonicalAnswer} (s rows target : List ℕ) → Bytes s → a ≡ canonicalOf s rows target → a ≡ b → CanonicalSmall b
 canonical-narrow s rows target bytes e f = subst CanonicalSmall (sym e ∙ f) (canonical-small s rows target bytes)
 
--- ---- What a match found an answer of `linear` to be
-
-linear-accepted : (ns : List Node) (f : ℕ) (values : List ℕ) (n : ℕ) → n ≤ 134217728 → LinearFits32 (acceptedLinear ns f values n)
-unfolding acceptedLinear
-linear-accepted ns f values n h = go (isFrameOf ns f) (isMapped ns f) (leb (imageSize ns) (length values))
-  where
-    go : (t m u : Bool) → LinearFits32 (cond t (cond m (cond u (linear.Mapped n) linear.NoValuesRoom) linear.NoItem) linear.NoFrame)
-    go true true true = record { code = omega arith; offset = omega arith; rows = omega arith; rule = omega arith; frame = omega arith }
-    go true true false = record { code = omega arith; offset = omega arith; rows = omega arith; rule = omega arith; frame = omega arith }
-    go true false u = record { code = omega arith; offset = omega arith; rows = omega arith; rule = omega arith; frame = omega arith }
-    go false m u = record { code = omega arith; offset = omega arith; rows = omega arith; rule = omega arith; frame = omega arith }
-
-linear-answer : (ns : List Node) (f : ℕ) (values : List ℕ) (j : JudgeAnswer) → Small (verdictOf j) → rowCountOf j ≤ 134217728 → LinearFits32 (linearFor ns f values j)
-linear-answer ns f values (judged.Accepted n) m h = linear-accepted ns f values n h
-linear-answer ns f values (judged.Broken n rule frame) m h =
-    record { code = omega arith; offset = omega arith; rows = omega arith; rule = omega (arith, m .rule); frame = omega (arith, m .frame) }
-linear-answer ns f values (judged.Refused code offset) m h =
-    record { code = omega (arith, m .code); offset = omega (arith, m .offset); rows = omega arith; rule = omega arith; frame = omega arith }
-linear-answer ns f values judged.TooLarge m h =
-    record { code = omega arith; offset = omega arith; rows = omega arith; rule = omega arith; frame = omega arith }
-linear-answer ns f values judged.NoRoom m h =
-    record { code = omega arith; offset = omega arith; rows = omega arith; rule = omega arith; frame = omega arith }
-
-linear-all : (s : List ℕ) (f : ℕ) (buffer values : List ℕ) → LinearFits32 (linearOf s f buffer values)
-unfolding linearOf
-linear-all s f buffer values = linear-answer (nodesOf s) f values (judgeOf s buffer) (judge-small s buffer) (judge-rows s buffer)
-
-pub linear-narrow : {a b : LinearAnswer} (s : List ℕ) (f : ℕ) (buffer values : List ℕ) → a ≡ linearOf s f buffer values → a ≡ b → LinearFits32 b
-linear-narrow s f buffer values e g = subst LinearFits32 (sym e ∙ g) (linear-all s f buffer values)
-
 -- ---- Sheets
-
-sheet-accepted : (ns : List Node) (a b n : ℕ) → n ≤ 134217728 → SheetFits32 (acceptedSheet ns a b n)
-unfolding acceptedSheet
-sheet-accepted ns a b n h = go (leb a b) (isFrameOf ns a && isFrameOf ns b)
-  where
-    go : (t u : Bool) → SheetFits32 (cond t (cond u (sampled.Done n) sampled.NoFrame) sampled.WrongOrder)
-    go true true = record { code = omega arith; offset = omega arith; rows = omega arith; rule = omega arith; frame = omega arith }
-    go true false = record { code = omega arith; offset = omega arith; rows = omega arith; rule = omega arith; frame = omega arith }
-    go false u = record { code = omega arith; offset = omega arith; rows = omega arith; rule = omega arith; frame = omega arith }
-
-sheet-answer : (ns : List Node) (a b : ℕ) (j : JudgeAnswer) → Small (verdictOf j) → rowCountOf j ≤ 134217728 → SheetFits32 (sheetFor ns a b j)
-sheet-answer ns a b (judged.Accepted n) m h = sheet-accepted ns a b n h
-sheet-answer ns a b (judged.Broken n rule frame) m h =
-    record { code = omega arith; offset = omega arith; rows = omega arith; rule = omega (arith, m .rule); frame = omega (arith, m .frame) }
-sheet-answer ns a b (judged.Refused code offset) m h =
-    record { code = omega (arith, m .code); offset = omega (arith, m .offset); rows = omega arith; rule = omega arith; frame = omega arith }
-sheet-answer ns a b judged.TooLarge m h =
-    record { code = omega arith; offset = omega arith; rows = omega arith; rule = omega arith; frame = omega arith }
-sheet-answer ns a b judged.NoRoom m h =
-    record { code = omega arith; offset = omega arith; rows = omega arith; rule = omega arith; frame = omega arith }
-
-pub sheet-narrow : (s : List ℕ) (a b : ℕ) (buffer : List ℕ) → SheetFits32 (sheetOf s a b buffer .answer)
-unfolding sheetOf
-sheet-narrow s a b buffer = sheet-answer (nodesOf s) a b (judgeOf s buffer) (judge-small s buffer) (judge-rows s buffer)
 
 -- A list is its own places, one after the other.
 own-places : (l : List ℕ) → upTo (λ k. getD l k 0) (length l) ≡ l
@@ -177,41 +178,41 @@ module _ (t : Numbers) (buffer : List ℕ) where
 
 -- ---- What a match found a slip's answer to be
 
-write-code : (v : Verdict) (buffer : List ℕ) → writeCode (writeOf v buffer) ≤ 14
+write-code : (v : Verdict) (buffer : List ℕ) → writeFields (writeOf v buffer) .code ≤ 14
 unfolding writeOf
 write-code v buffer = go (writable v) (leb slipSize (length buffer))
   where
-    go : (a b : Bool) → writeCode (cond (not a) (write.Refused 14) (cond (not b) (write.Refused 11) write.Written)) ≤ 14
+    go : (a b : Bool) → writeFields (cond (not a) (write.Refused 14) (cond (not b) (write.Refused 11) write.Written)) .code ≤ 14
     go false b = omega arith
     go true false = omega arith
     go true true = omega arith
 
-pub written-code : {a b : WriteAnswer} (v : Verdict) (buffer : List ℕ) → a ≡ writeOf v buffer → a ≡ b → writeCode b ≤ 14
-written-code v buffer e f = subst (λ (a : WriteAnswer). writeCode a ≤ 14) (sym e ∙ f) (write-code v buffer)
+pub written-code : {a b : WriteAnswer} (v : Verdict) (buffer : List ℕ) → a ≡ writeOf v buffer → a ≡ b → writeFields b .code ≤ 14
+written-code v buffer e f = subst (λ (a : WriteAnswer). writeFields a .code ≤ 14) (sym e ∙ f) (write-code v buffer)
 
-sized-code : (size : ℕ) (rows : RowCount) (s : List ℕ) → slipAnswer (readSized size rows s) .code ≤ 14
+sized-code : (size : ℕ) (rows : RowCount) (s : List ℕ) → readFields (readSized size rows s) .code ≤ 14
 unfolding readSized ifPossible
-sized-code size rows s = go (eqb (length s) size) (possible (fieldsOf s rows))
+sized-code size rows s = go (eqb (length s) size) (possible (recorded s rows))
   where
-    go : (a d : Bool) → slipAnswer (cond (not a) (read.Refused 12) (cond (not d) (read.Refused 14) (read.Read (fieldsOf s rows)))) .code ≤ 14
+    go : (a d : Bool) → readFields (cond (not a) (read.Refused 12) (cond (not d) (read.Refused 14) (read.Read (recorded s rows)))) .code ≤ 14
     go false d = omega arith
     go true false = omega arith
     go true true = omega arith
 
-read-code : (s : List ℕ) → slipAnswer (readOf s) .code ≤ 14
+read-code : (s : List ℕ) → readFields (readOf s) .code ≤ 14
 unfolding readOf readVersion
 read-code s =
     go (leb headSize (length s) && equal (take 3 s) mark) (eqb (number 2 s versionAt) oldVersion) (eqb (number 2 s versionAt) version)
   where
     go : (a b d : Bool)
-        → slipAnswer (cond (not a) (read.Refused 12) (cond b (readSized oldSize NotKnown s) (cond d (readSized slipSize (Known (number 4 s rowsAt)) s) (read.Refused 13)))) .code ≤ 14
+        → readFields (cond (not a) (read.Refused 12) (cond b (readSized oldSize NotKnown s) (cond d (readSized slipSize (Known (number 4 s rowsAt)) s) (read.Refused 13)))) .code ≤ 14
     go false b d = omega arith
     go true true d = sized-code oldSize NotKnown s
     go true false true = sized-code slipSize (Known (number 4 s rowsAt)) s
     go true false false = omega arith
 
-pub slip-code : {a b : SlipAnswer} (s : List ℕ) → a ≡ readOf s → a ≡ b → slipAnswer b .code ≤ 14
-slip-code s e f = subst (λ (a : SlipAnswer). slipAnswer a .code ≤ 14) (sym e ∙ f) (read-code s)
+pub slip-code : {a b : SlipAnswer} (s : List ℕ) → a ≡ readOf s → a ≡ b → readFields b .code ≤ 14
+slip-code s e f = subst (λ (a : SlipAnswer). readFields a .code ≤ 14) (sym e ∙ f) (read-code s)
 
 -- A count that is not known is handed over as the greatest number of 32 bits.
 rows-narrow : (v : Verdict) → possible v ≡ true → rowsNumber (v .rows) < 4294967296

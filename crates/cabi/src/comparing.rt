@@ -1,12 +1,16 @@
 // Another workstation's picture against ours, for hosts.
 use crate::Answer;
+use crate::broken_at;
 use crate::code_alone;
+use crate::done_with;
+use crate::refused_at;
 use compare::CompareAnswer;
 ghost use mathlib.Core.Path.{_≡_};
+ghost use Rattle.dataset.specs.Fields.{codeAlone};
 ghost use Rattle.dataset.specs.Reading.{readingOf};
 ghost use Rattle.dataset.specs.Answer.{bufferOf};
-ghost use Rattle.compare.specs.Answer.{compareOf};
-ghost use Rattle.cabi.specs.Host.{comparedAlone, compareAnswer};
+ghost use Rattle.compare.specs.Answer.{compareOf, plain, fieldsOf};
+ghost use Rattle.cabi.specs.Host.{comparedOf};
 
 // What `xa_compare` answers with: with code 0 whether all cells are within the tolerance, and else the first that is not and how many
 // are not.
@@ -20,7 +24,7 @@ pub struct Compared {
 
 // A refusal of which nothing but the code is named.
 fn refused_alone(code: u32) -> Compared
-    ensures { λ r. ⌜ r ≡ comparedAlone code ⌝ }
+    ensures { λ r. ⌜ r ≡ comparedOf (plain (codeAlone code)) ⌝ }
 {
     Compared {
         answer: code_alone(code),
@@ -40,58 +44,30 @@ pub extern "C" fn xa_compare(
     tolerance: u64,
     rows: &mut [u32],
 ) -> Compared
-    ensures { λ r. ⌜ r ≡ compareAnswer (compareOf (now (bytes .entry)) frame (now (cells .entry)) tolerance (now (rows .entry))) ⌝ }
+    ensures { λ r. ⌜ r ≡ comparedOf (fieldsOf (compareOf (now (bytes .entry)) frame (now (cells .entry)) tolerance (now (rows .entry)))) ⌝ }
     ensures { λ _. ⌜ now (rows .exit) ≡ bufferOf (readingOf (now (bytes .entry))) (now (rows .entry)) ⌝ }
 {
     match compare::compare(bytes, frame, cells, tolerance, rows) {
         CompareAnswer::Same(n) => Compared {
-            answer: Answer {
-                code: 0,
-                offset: 0,
-                rows: n as u32,
-                rule: 0,
-                frame: 0,
-                masked: 0,
-            },
+            answer: done_with(n),
             same: 1,
             first: 0,
             count: 0,
         },
         CompareAnswer::Differs(n, first, count) => Compared {
-            answer: Answer {
-                code: 0,
-                offset: 0,
-                rows: n as u32,
-                rule: 0,
-                frame: 0,
-                masked: 0,
-            },
+            answer: done_with(n),
             same: 0,
             first: first as u32,
             count: count as u32,
         },
         CompareAnswer::Broken(n, rule, broken) => Compared {
-            answer: Answer {
-                code: 9,
-                offset: 0,
-                rows: n as u32,
-                rule: rule as u32,
-                frame: broken as u32,
-                masked: 0,
-            },
+            answer: broken_at(n, rule, broken),
             same: 0,
             first: 0,
             count: 0,
         },
         CompareAnswer::Refused(code, offset) => Compared {
-            answer: Answer {
-                code: code as u32,
-                offset: offset as u32,
-                rows: 0,
-                rule: 0,
-                frame: 0,
-                masked: 0,
-            },
+            answer: refused_at(code, offset),
             same: 0,
             first: 0,
             count: 0,

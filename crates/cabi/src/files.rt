@@ -9,8 +9,8 @@ use file::ReadFileAnswer;
 use file::ShowFileAnswer;
 use file::Start;
 ghost use mathlib.Core.Path.{_≡_};
-ghost use Rattle.file.specs.File.{startOf, readFileOf, rowsLeft, judgeFileOf, showFileOf, imageLeft};
-ghost use Rattle.cabi.specs.Host.{partAnswer, readFileAnswer, judgeFileAnswer, showFileAnswer};
+ghost use Rattle.file.specs.File.{startOf, startFields, readFileOf, readFields, rowsLeft, judgeFileOf, judgeFields, showFileOf, showFields, imageLeft};
+ghost use Rattle.cabi.specs.Host.{hosted, partOf};
 
 // Where a file's data set starts: code 0, or 15, 16 or 17 with start 0.
 #[repr(C)]
@@ -22,7 +22,7 @@ pub struct Part {
 // Where the data set of a file starts.
 #[no_mangle]
 pub extern "C" fn xa_data_set(file: &[u8]) -> Part
-    ensures { λ r. ⌜ r ≡ partAnswer (startOf (now (file .entry))) ⌝ }
+    ensures { λ r. ⌜ r ≡ partOf (startFields (startOf (now (file .entry)))) ⌝ }
 {
     match file::start_of(file) {
         Start::At(from) => Part {
@@ -38,7 +38,7 @@ pub extern "C" fn xa_data_set(file: &[u8]) -> Part
 // Reads a file's data set into rows of seven numbers. With codes 1 to 8 and 15 to 17 the buffer stays as it was.
 #[no_mangle]
 pub extern "C" fn xa_read_file(file: &[u8], rows: &mut [u32]) -> Answer
-    ensures { λ r. ⌜ r ≡ readFileAnswer (readFileOf (now (file .entry)) (now (rows .entry))) ⌝ }
+    ensures { λ r. ⌜ r ≡ hosted (readFields (readFileOf (now (file .entry)) (now (rows .entry)))) ⌝ }
     ensures { λ _. ⌜ now (rows .exit) ≡ rowsLeft (now (file .entry)) (now (rows .entry)) ⌝ }
 {
     match file::read_file(file, rows) {
@@ -53,7 +53,7 @@ pub extern "C" fn xa_read_file(file: &[u8], rows: &mut [u32]) -> Answer
 // Reads a file's data set into rows of seven numbers and judges it. With codes 1 to 8 and 15 to 17 the buffer stays as it was.
 #[no_mangle]
 pub extern "C" fn xa_judge_file(file: &[u8], rows: &mut [u32]) -> Answer
-    ensures { λ r. ⌜ r ≡ judgeFileAnswer (judgeFileOf (now (file .entry)) (now (rows .entry))) ⌝ }
+    ensures { λ r. ⌜ r ≡ hosted (judgeFields (judgeFileOf (now (file .entry)) (now (rows .entry)))) ⌝ }
     ensures { λ _. ⌜ now (rows .exit) ≡ rowsLeft (now (file .entry)) (now (rows .entry)) ⌝ }
 {
     match file::judge_file(file, rows) {
@@ -74,7 +74,7 @@ pub extern "C" fn xa_show_file(
     rows: &mut [u32],
     image: &mut [u8],
 ) -> Answer
-    ensures { λ r. ⌜ r ≡ showFileAnswer (showFileOf (now (file .entry)) frame (now (rows .entry)) (now (image .entry))) ⌝ }
+    ensures { λ r. ⌜ r ≡ hosted (showFields (showFileOf (now (file .entry)) frame (now (rows .entry)) (now (image .entry)))) ⌝ }
     ensures { λ _. ⌜ now (rows .exit) ≡ rowsLeft (now (file .entry)) (now (rows .entry)) ⌝ }
     ensures { λ _. ⌜ now (image .exit) ≡ imageLeft (now (file .entry)) frame (now (rows .entry)) (now (image .entry)) ⌝ }
 {

@@ -11,7 +11,8 @@ mod show;
 mod slips;
 
 ghost use mathlib.Core.Path.{_≡_};
-ghost use Rattle.cabi.specs.Host.{codeAlone};
+ghost use Rattle.dataset.specs.Fields.{codeAlone, placed, counted, broken};
+ghost use Rattle.cabi.specs.Host.{hosted, Fits32};
 pub use comparing::Compared;
 pub use comparing::xa_compare;
 pub use files::Part;
@@ -32,7 +33,7 @@ pub use slips::Slip;
 pub use slips::xa_read_slip;
 pub use slips::xa_write_slip;
 
-// What every call answers with. Fields that a code does not name are 0; specs/Host.antt says which code names which.
+// What every call answers with. Fields that a code does not name are 0; the definitions `fieldsOf` say which code names which.
 #[repr(C)]
 pub struct Answer {
     pub code: u32,
@@ -43,9 +44,9 @@ pub struct Answer {
     pub masked: u32,
 }
 
-// An answer of which nothing but the code is named.
+// Answers by what their code names. The code alone.
 fn code_alone(code: u32) -> Answer
-    ensures { λ r. ⌜ r ≡ codeAlone code ⌝ }
+    ensures { λ r. ⌜ r ≡ hosted (codeAlone code) ⌝ }
 {
     Answer {
         code,
@@ -53,6 +54,51 @@ fn code_alone(code: u32) -> Answer
         rows: 0,
         rule: 0,
         frame: 0,
+        masked: 0,
+    }
+}
+
+// A code and an offset.
+fn refused_at(code: usize, offset: usize) -> Answer
+    requires { ⌜ Fits32 (placed code offset) ⌝ }
+    ensures { λ r. ⌜ r ≡ hosted (placed code offset) ⌝ }
+{
+    Answer {
+        code: code as u32,
+        offset: offset as u32,
+        rows: 0,
+        rule: 0,
+        frame: 0,
+        masked: 0,
+    }
+}
+
+// Done, with the number of rows.
+fn done_with(rows: usize) -> Answer
+    requires { ⌜ Fits32 (counted rows) ⌝ }
+    ensures { λ r. ⌜ r ≡ hosted (counted rows) ⌝ }
+{
+    Answer {
+        code: 0,
+        offset: 0,
+        rows: rows as u32,
+        rule: 0,
+        frame: 0,
+        masked: 0,
+    }
+}
+
+// A rule broken, with the number of rows, the rule and the frame.
+fn broken_at(rows: usize, rule: usize, frame: usize) -> Answer
+    requires { ⌜ Fits32 (broken rows rule frame) ⌝ }
+    ensures { λ r. ⌜ r ≡ hosted (broken rows rule frame) ⌝ }
+{
+    Answer {
+        code: 9,
+        offset: 0,
+        rows: rows as u32,
+        rule: rule as u32,
+        frame: frame as u32,
         masked: 0,
     }
 }

@@ -1,34 +1,22 @@
 // Reading, for hosts.
 use crate::Answer;
 use crate::code_alone;
+use crate::done_with;
+use crate::refused_at;
 use dataset::ReadAnswer;
 ghost use mathlib.Core.Path.{_≡_};
 ghost use Rattle.dataset.specs.Reading.{readingOf};
-ghost use Rattle.dataset.specs.Answer.{answerOf, bufferOf};
-ghost use Rattle.cabi.specs.Host.{readAnswer, ReadFits32};
+ghost use Rattle.dataset.specs.Answer.{answerOf, bufferOf, fieldsOf};
+ghost use Rattle.cabi.specs.Host.{hosted, Fits32};
 
 // The answer as the struct for hosts.
 pub fn read_numbers(answer: ReadAnswer) -> Answer
-    requires { ⌜ ReadFits32 answer ⌝ }
-    ensures { λ r. ⌜ r ≡ readAnswer answer ⌝ }
+    requires { ⌜ Fits32 (fieldsOf answer) ⌝ }
+    ensures { λ r. ⌜ r ≡ hosted (fieldsOf answer) ⌝ }
 {
     match answer {
-        ReadAnswer::Done(n) => Answer {
-            code: 0,
-            offset: 0,
-            rows: n as u32,
-            rule: 0,
-            frame: 0,
-            masked: 0,
-        },
-        ReadAnswer::Refused(code, offset) => Answer {
-            code: code as u32,
-            offset: offset as u32,
-            rows: 0,
-            rule: 0,
-            frame: 0,
-            masked: 0,
-        },
+        ReadAnswer::Done(n) => done_with(n),
+        ReadAnswer::Refused(code, offset) => refused_at(code, offset),
         ReadAnswer::TooLarge => code_alone(7),
         ReadAnswer::NoRoom => code_alone(8),
     }
@@ -37,7 +25,7 @@ pub fn read_numbers(answer: ReadAnswer) -> Answer
 // Reads a data set into rows of seven numbers. With codes 1 to 8 the buffer stays as it was.
 #[no_mangle]
 pub extern "C" fn xa_read(bytes: &[u8], rows: &mut [u32]) -> Answer
-    ensures { λ r. ⌜ r ≡ readAnswer (answerOf (readingOf (now (bytes .entry))) (now (rows .entry))) ⌝ }
+    ensures { λ r. ⌜ r ≡ hosted (fieldsOf (answerOf (readingOf (now (bytes .entry))) (now (rows .entry)))) ⌝ }
     ensures { λ _. ⌜ now (rows .exit) ≡ bufferOf (readingOf (now (bytes .entry))) (now (rows .entry)) ⌝ }
 {
     read_numbers(dataset::read(bytes, rows))

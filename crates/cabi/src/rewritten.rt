@@ -3,10 +3,10 @@ use canonical::CanonicalAnswer;
 ghost use mathlib.Core.Path.{_≡_};
 ghost use Rattle.dataset.specs.Reading.{readingOf};
 ghost use Rattle.dataset.specs.Answer.{bufferOf};
-ghost use Rattle.canonical.specs.Answer.{canonicalOf, targetOf};
-ghost use Rattle.cabi.specs.Host.{canonicalAnswer};
+ghost use Rattle.canonical.specs.Answer.{canonicalOf, targetOf, fieldsOf};
+ghost use Rattle.cabi.specs.Host.{rewrittenOf};
 
-// What `xa_canonical` answers with. Fields that a code does not name are 0; specs/Host.antt says which code names which.
+// What `xa_canonical` answers with. Fields that a code does not name are 0.
 #[repr(C)]
 pub struct Rewritten {
     pub code: u32,
@@ -19,7 +19,7 @@ pub struct Rewritten {
 // every code but 0 the target.
 #[no_mangle]
 pub extern "C" fn xa_canonical(bytes: &[u8], rows: &mut [u32], target: &mut [u8]) -> Rewritten
-    ensures { λ r. ⌜ r ≡ canonicalAnswer (canonicalOf (now (bytes .entry)) (now (rows .entry)) (now (target .entry))) ⌝ }
+    ensures { λ r. ⌜ r ≡ rewrittenOf (fieldsOf (canonicalOf (now (bytes .entry)) (now (rows .entry)) (now (target .entry)))) ⌝ }
     ensures { λ _. ⌜ now (rows .exit) ≡ bufferOf (readingOf (now (bytes .entry))) (now (rows .entry)) ⌝ }
     ensures { λ _. ⌜ now (target .exit) ≡ targetOf (now (bytes .entry)) (now (rows .entry)) (now (target .entry)) ⌝ }
 {

@@ -1,6 +1,9 @@
 // The sampling sheet, for hosts.
 use crate::Answer;
+use crate::broken_at;
 use crate::code_alone;
+use crate::done_with;
+use crate::refused_at;
 use sheet::Numbers;
 use sheet::SheetAnswer;
 ghost use mathlib.Core.Path.{_≡_};
@@ -10,8 +13,8 @@ ghost use Rattle.dataset.specs.Reading.{readingOf};
 ghost use Rattle.dataset.specs.Answer.{bufferOf};
 ghost use Rattle.pixel.specs.Painted.{painted};
 ghost use Rattle.sheet.specs.Sheet.{numbersIn};
-ghost use Rattle.sheet.specs.Answer.{sheetOf};
-ghost use Rattle.cabi.specs.Host.{sheetSize, sheetAnswer, holdsSheet, sheetAfter, SheetFits32};
+ghost use Rattle.sheet.specs.Answer.{sheetOf, fieldsOf};
+ghost use Rattle.cabi.specs.Host.{hosted, Fits32, sheetSize, sheetFields, holdsSheet, sheetAfter};
 
 // How many numbers a sheet has.
 const NUMBERS: usize = 260;
@@ -42,40 +45,13 @@ fn put_sheet(t: Numbers, buffer: &mut [u64]) -> bool
 
 // What a host is handed for an answer; `room` says whether the buffer holds a sheet.
 fn sheet_answer(answer: SheetAnswer, room: bool) -> Answer
-    requires { ⌜ SheetFits32 answer ⌝ }
-    ensures { λ r. ⌜ r ≡ sheetAnswer room answer ⌝ }
+    requires { ⌜ Fits32 (fieldsOf answer) ⌝ }
+    ensures { λ r. ⌜ r ≡ hosted (sheetFields room answer) ⌝ }
 {
     match answer {
-        SheetAnswer::Done(n) => {
-            if room {
-                Answer {
-                    code: 0,
-                    offset: 0,
-                    rows: n as u32,
-                    rule: 0,
-                    frame: 0,
-                    masked: 0,
-                }
-            } else {
-                code_alone(11)
-            }
-        }
-        SheetAnswer::Broken(n, rule, broken) => Answer {
-            code: 9,
-            offset: 0,
-            rows: n as u32,
-            rule: rule as u32,
-            frame: broken as u32,
-            masked: 0,
-        },
-        SheetAnswer::Refused(code, offset) => Answer {
-            code: code as u32,
-            offset: offset as u32,
-            rows: 0,
-            rule: 0,
-            frame: 0,
-            masked: 0,
-        },
+        SheetAnswer::Done(n) => { if room { done_with(n) } else { code_alone(11) } }
+        SheetAnswer::Broken(n, rule, broken) => broken_at(n, rule, broken),
+        SheetAnswer::Refused(code, offset) => refused_at(code, offset),
         SheetAnswer::TooLarge => code_alone(7),
         SheetAnswer::NoRoom => code_alone(8),
         SheetAnswer::WrongOrder => code_alone(19),
@@ -94,7 +70,7 @@ pub extern "C" fn xa_sheet(
     rows: &mut [u32],
     buffer: &mut [u64],
 ) -> Answer
-    ensures { λ r. ⌜ r ≡ sheetAnswer (holdsSheet (now (buffer .entry))) (sheetOf (now (bytes .entry)) first last (now (rows .entry)) .answer) ⌝ }
+    ensures { λ r. ⌜ r ≡ hosted (sheetFields (holdsSheet (now (buffer .entry))) (sheetOf (now (bytes .entry)) first last (now (rows .entry)) .answer)) ⌝ }
     ensures { λ _. ⌜ now (rows .exit) ≡ bufferOf (readingOf (now (bytes .entry))) (now (rows .entry)) ⌝ }
     ensures { λ _. ⌜ now (buffer .exit) ≡ sheetAfter (sheetOf (now (bytes .entry)) first last (now (rows .entry)) .sheet) (now (buffer .entry)) ⌝ }
 {

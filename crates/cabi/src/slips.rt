@@ -6,8 +6,8 @@ use verdict::RowCount;
 use verdict::Verdict;
 ghost use mathlib.Core.Path.{_≡_};
 ghost use Prim.Native.Nat.{_<_};
-ghost use Rattle.slip.specs.Slip.{readOf, writeOf, bufferOf};
-ghost use Rattle.cabi.specs.Host.{countIn, verdictIn, writeCode, knownNumber, rowsNumber, slipAnswer, verdictAnswer, Narrow};
+ghost use Rattle.slip.specs.Slip.{readOf, readFields, writeOf, writeFields, bufferOf};
+ghost use Rattle.cabi.specs.Host.{countIn, verdictIn, knownNumber, rowsNumber, slipOf, verdictAnswer, Narrow};
 
 // The row count of a verdict that does not know it: no verdict has as many rows.
 const NOT_KNOWN: u32 = 4_294_967_295;
@@ -48,7 +48,7 @@ fn verdict_in(verdict: Answer, known: u32) -> Verdict
 // or 11. A refusal leaves the buffer as it was.
 #[no_mangle]
 pub extern "C" fn xa_write_slip(verdict: Answer, known: u32, slip: &mut [u8]) -> u32
-    ensures { λ r. ⌜ r ≡ writeCode (writeOf (verdictIn verdict known) (now (slip .entry))) ⌝ }
+    ensures { λ r. ⌜ r ≡ writeFields (writeOf (verdictIn verdict known) (now (slip .entry))) .code ⌝ }
     ensures { λ _. ⌜ now (slip .exit) ≡ bufferOf (verdictIn verdict known) (now (slip .entry)) ⌝ }
 {
     match slip::write_slip(verdict_in(verdict, known), slip) {
@@ -95,7 +95,7 @@ fn answer_of(v: Verdict) -> Answer
 // A slip that reads well.
 fn slip_of(v: Verdict) -> Slip
     requires { ⌜ Narrow v ⌝ }
-    ensures { λ r. ⌜ r ≡ slipAnswer (SlipAnswer.Read v) ⌝ }
+    ensures { λ r. ⌜ r ≡ slipOf (readFields (SlipAnswer.Read v)) ⌝ }
 {
     let rows = v.rows;
     Slip {
@@ -108,7 +108,7 @@ fn slip_of(v: Verdict) -> Slip
 // The verdict that a slip records, or code 12, 13 or 14.
 #[no_mangle]
 pub extern "C" fn xa_read_slip(slip: &[u8]) -> Slip
-    ensures { λ r. ⌜ r ≡ slipAnswer (readOf (now (slip .entry))) ⌝ }
+    ensures { λ r. ⌜ r ≡ slipOf (readFields (readOf (now (slip .entry)))) ⌝ }
 {
     match slip::read_slip(slip) {
         SlipAnswer::Read(v) => slip_of(v),

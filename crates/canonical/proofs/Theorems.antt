@@ -17,7 +17,7 @@ use Rattle.node.specs.Nodes.{nodeOf, nodesOf}
 use Rattle.canonical.specs.Written.{Bytes, writtenOf}
 use Rattle.canonical.specs.declared.CanonicalAnswer.{CanonicalAnswer}
 use Rattle.canonical.specs.declared.CanonicalAnswer.the-variants as canonical
-use Rattle.canonical.specs.Answer.{answerFor, canonicalOf, codeOf, offsetOf, rowCountOf, sizeNamed}
+use Rattle.canonical.specs.Answer.{answerFor, canonicalOf, fieldsOf}
 use Rattle.canonical.proofs.Shape.{shape-is, shape-bytes}
 use Rattle.canonical.proofs.Back.{shape-back}
 use Rattle.canonical.proofs.Read.{Readable, reading-shape}
@@ -46,10 +46,10 @@ written-returns s bytes rows e =
 -- ---- The numbers of every answer are small
 
 pub record SmallAnswer (a : CanonicalAnswer) : Type 0 where
-  pub code : codeOf a ≤ 21
-  pub offset : offsetOf a ≤ 1073741824
-  pub rows : rowCountOf a ≤ 134217728
-  pub length : sizeNamed a ≤ 1073741824
+  pub code : fieldsOf a .answer .code ≤ 21
+  pub offset : fieldsOf a .answer .offset ≤ 1073741824
+  pub rows : fieldsOf a .answer .rows ≤ 134217728
+  pub length : fieldsOf a .length ≤ 1073741824
 
 pub canonical-small : (s rows target : List ℕ) → Bytes s → SmallAnswer (canonicalOf s rows target)
 unfolding canonicalOf

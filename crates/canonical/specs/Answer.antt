@@ -6,6 +6,7 @@ use mathlib.Core.List.{List, _++_}
 use lib.ListN.{length, drop}
 use lib.Dec.{leb}
 use Rattle.dataset.specs.Reading.{readingOf}
+use Rattle.dataset.specs.Fields.{Fields, codeAlone, placed, counted}
 use Rattle.dataset.specs.Answer.{answerOf}
 use Rattle.dataset.specs.declared.ReadAnswer.{ReadAnswer}
 use Rattle.dataset.specs.declared.ReadAnswer.the-variants as read
@@ -36,31 +37,14 @@ targetBy w target canonical.NoRoom = target
 unfoldable pub targetOf : List ℕ → List ℕ → List ℕ → List ℕ
 targetOf s rows target = targetBy (writtenOf (nodesOf s)) target (canonicalOf s rows target)
 
--- The paper's code, place and row count of each case, and the written length; fields not named are 0.
-abbrev pub codeOf : CanonicalAnswer → ℕ
-codeOf (canonical.Done n size) = 0
-codeOf (canonical.NoTargetRoom size) = 21
-codeOf (canonical.Refused code offset) = code
-codeOf canonical.TooLarge = 7
-codeOf canonical.NoRoom = 8
+-- The papers' numbers of each case: those of an answer, and the length of the canonical form.
+pub record Rewritten : Type 0 where
+  pub answer : Fields
+  pub length : ℕ
 
-abbrev pub offsetOf : CanonicalAnswer → ℕ
-offsetOf (canonical.Done n size) = 0
-offsetOf (canonical.NoTargetRoom size) = 0
-offsetOf (canonical.Refused code offset) = offset
-offsetOf canonical.TooLarge = 0
-offsetOf canonical.NoRoom = 0
-
-abbrev pub rowCountOf : CanonicalAnswer → ℕ
-rowCountOf (canonical.Done n size) = n
-rowCountOf (canonical.NoTargetRoom size) = 0
-rowCountOf (canonical.Refused code offset) = 0
-rowCountOf canonical.TooLarge = 0
-rowCountOf canonical.NoRoom = 0
-
-abbrev pub sizeNamed : CanonicalAnswer → ℕ
-sizeNamed (canonical.Done n size) = size
-sizeNamed (canonical.NoTargetRoom size) = size
-sizeNamed (canonical.Refused code offset) = 0
-sizeNamed canonical.TooLarge = 0
-sizeNamed canonical.NoRoom = 0
+abbrev pub fieldsOf : CanonicalAnswer → Rewritten
+fieldsOf (canonical.Done n size) = record { answer = counted n; length = size }
+fieldsOf (canonical.NoTargetRoom size) = record { answer = codeAlone 21; length = size }
+fieldsOf (canonical.Refused code offset) = record { answer = placed code offset; length = 0 }
+fieldsOf canonical.TooLarge = record { answer = codeAlone 7; length = 0 }
+fieldsOf canonical.NoRoom = record { answer = codeAlone 8; length = 0 }

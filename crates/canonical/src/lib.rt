@@ -7,11 +7,12 @@ ghost use lib.ListN.{length, take, drop};
 ghost use lib.Seq.{slice};
 ghost use lib.Dec.{ltb};
 ghost use Rattle.dataset.specs.Reading.{readingOf};
+ghost use Rattle.dataset.specs.Fields.{Answers};
 ghost use Rattle.dataset.specs.Answer.{bufferOf};
 ghost use Rattle.node.specs.Nodes.{Node, nodesOf, nodeAt};
 ghost use Rattle.node.specs.Table.{Table};
 ghost use Rattle.canonical.specs.Contracts.{Put, Sized, Fitting, Wrote};
-ghost use Rattle.canonical.specs.Answer.{canonicalOf, targetOf};
+ghost use Rattle.canonical.specs.Answer.{canonicalOf, targetOf, fieldsOf};
 ghost use Rattle.canonical.specs.Written.{Bytes, le, letters, lengthOf, header, headSize, ownSize, sizeOf, nodeBytes, writtenOf};
 use dataset::ReadAnswer;
 
@@ -182,7 +183,7 @@ pub enum CanonicalAnswer {
 
 // Reads the data set into the row buffer, and writes its canonical form into the target.
 pub fn write_canonical(bytes: &[u8], rows: &mut [u32], target: &mut [u8]) -> CanonicalAnswer
-    ensures { λ r. ⌜ r ≡ canonicalOf (now (bytes .entry)) (now (rows .entry)) (now (target .entry)) ⌝ }
+    ensures { λ r. ⌜ Answers fieldsOf r (canonicalOf (now (bytes .entry)) (now (rows .entry)) (now (target .entry))) ⌝ }
     ensures { λ _. ⌜ now (rows .exit) ≡ bufferOf (readingOf (now (bytes .entry))) (now (rows .entry)) ⌝ }
     ensures { λ _. ⌜ now (target .exit) ≡ targetOf (now (bytes .entry)) (now (rows .entry)) (now (target .entry)) ⌝ }
 {

@@ -26,7 +26,7 @@ use Rattle.display.specs.Show.{showOf, imageOf}
 use Rattle.sheet.specs.Answer.{sheetOf}
 use Rattle.compare.specs.Answer.{compareOf}
 use Rattle.canonical.specs.Written.{writtenOf}
-use Rattle.canonical.specs.Answer.{answerFor, targetBy, canonicalOf, targetOf, codeOf, offsetOf}
+use Rattle.canonical.specs.Answer.{answerFor, targetBy, canonicalOf, targetOf, fieldsOf}
 use Rattle.canonical.specs.declared.CanonicalAnswer.{CanonicalAnswer}
 use Rattle.canonical.specs.declared.CanonicalAnswer.the-variants as canonical
 use Rattle.canonical.proofs.Theorems.{written-returns}
@@ -146,17 +146,17 @@ module _ (s rows target : List ℕ) where
   abbrev w : List ℕ
   w = canonicalForm s
 
-  refused-as : (a : ReadAnswer) → (reading.codeOf a ≡ 0 → ⊥)
-      → (codeOf (answerFor w target a) ≡ reading.codeOf a) × ((offsetOf (answerFor w target a) ≡ reading.offsetOf a) × (targetBy w target (answerFor w target a) ≡ target))
+  refused-as : (a : ReadAnswer) → (reading.fieldsOf a .code ≡ 0 → ⊥)
+      → (fieldsOf (answerFor w target a) .answer ≡ reading.fieldsOf a) × (targetBy w target (answerFor w target a) ≡ target)
   refused-as (read-answer.Done n) h = absurd (h refl)
-  refused-as (read-answer.Refused code offset) h = (refl, (refl, refl))
-  refused-as read-answer.TooLarge h = (refl, (refl, refl))
-  refused-as read-answer.NoRoom h = (refl, (refl, refl))
+  refused-as (read-answer.Refused code offset) h = (refl, refl)
+  refused-as read-answer.TooLarge h = (refl, refl)
+  refused-as read-answer.NoRoom h = (refl, refl)
 
-  only-short : (a : ReadAnswer) → Small a → codeOf (answerFor w target a) ≡ 21 → length target < length w
+  only-short : (a : ReadAnswer) → Small a → fieldsOf (answerFor w target a) .answer .code ≡ 21 → length target < length w
   only-short (read-answer.Done n) m e = go (leb (length w) (length target)) refl e
     where
-      go : (t : Bool) → leb (length w) (length target) ≡ t → codeOf (cond t (canonical.Done n (length w)) (canonical.NoTargetRoom (length w))) ≡ 21 → length target < length w
+      go : (t : Bool) → leb (length w) (length target) ≡ t → fieldsOf (cond t (canonical.Done n (length w)) (canonical.NoTargetRoom (length w))) .answer .code ≡ 21 → length target < length w
       go true f e = absurd (omega arith)
       go false f e = leb-false (length w) (length target) f
   only-short (read-answer.Refused code offset) m e = absurd (omega (arith, m .1 .0))

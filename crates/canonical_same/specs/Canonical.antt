@@ -28,7 +28,7 @@ use Rattle.display.specs.Show.{showOf, imageOf}
 use Rattle.sheet.specs.Answer.{sheetOf}
 use Rattle.compare.specs.Answer.{compareOf}
 use Rattle.canonical.specs.Written.{Bytes, writtenOf}
-use Rattle.canonical.specs.Answer.{canonicalOf, targetOf, codeOf, offsetOf}
+use Rattle.canonical.specs.Answer.{canonicalOf, targetOf, fieldsOf}
 use Rattle.canonical.specs.declared.CanonicalAnswer.the-variants as canonical
 
 -- The canonical form of a data set.
@@ -80,14 +80,13 @@ pub record Written (s w : List ℕ) : Type 0 where
 
 -- What the call answers for a data set whose canonical form is w, and the target afterwards.
 pub record Answered (s w rows target : List ℕ) : Type 0 where
-  pub refused : (reading.codeOf (reading.answerOf (readingOf s) rows) ≡ 0 → ⊥)
-      → (codeOf (canonicalOf s rows target) ≡ reading.codeOf (reading.answerOf (readingOf s) rows))
-      × ((offsetOf (canonicalOf s rows target) ≡ reading.offsetOf (reading.answerOf (readingOf s) rows)) × (targetOf s rows target ≡ target))
+  pub refused : (reading.fieldsOf (reading.answerOf (readingOf s) rows) .code ≡ 0 → ⊥)
+      → (fieldsOf (canonicalOf s rows target) .answer ≡ reading.fieldsOf (reading.answerOf (readingOf s) rows)) × (targetOf s rows target ≡ target)
   pub short : (n : ℕ) → reading.answerOf (readingOf s) rows ≡ read-answer.Done n → length target < length w
       → (canonicalOf s rows target ≡ canonical.NoTargetRoom (length w)) × (targetOf s rows target ≡ target)
   pub done : (n : ℕ) → reading.answerOf (readingOf s) rows ≡ read-answer.Done n → length w ≤ length target
       → (canonicalOf s rows target ≡ canonical.Done n (length w)) × (targetOf s rows target ≡ w ++ drop (length w) target)
-  pub only-short : codeOf (canonicalOf s rows target) ≡ 21 → length target < length w
+  pub only-short : fieldsOf (canonicalOf s rows target) .answer .code ≡ 21 → length target < length w
 
 pub record Canonical : Type 0 where
   pub written : (s : List ℕ) → ReadsWell s → Written s (canonicalForm s)

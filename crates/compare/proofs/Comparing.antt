@@ -24,7 +24,7 @@ use Rattle.display.proofs.Drawing.{drawing}
 use Rattle.compare.specs.declared.CompareAnswer.{CompareAnswer}
 use Rattle.compare.specs.declared.CompareAnswer.the-variants as answer
 use Rattle.compare.specs.Differences.{within, isOff, howMany, firstOff}
-use Rattle.compare.specs.Answer.{comparedBy, acceptedAnswer, answerFor, compareOf, codeOf, rowCountOf, sameOf, firstOf, countOf}
+use Rattle.compare.specs.Answer.{comparedBy, acceptedAnswer, answerFor, compareOf, fieldsOf}
 use Rattle.compare.specs.Comparing.{Comparable, Near, Names, Promise, Own, Comparing}
 
 -- ---- Places
@@ -98,20 +98,20 @@ module _ (s : List ℕ) (f : ℕ) (cells : List ℕ) (t : ℕ) where
   unfolding comparedBy
   yes-by n size h = rw (all-on off size (λ i l. near-on i (h i l)))
 
-  was-yes : (n size : ℕ) → sameOf (comparedBy n off size) ≡ 1 → (i : ℕ) → i < size → Near s f cells t i
+  was-yes : (n size : ℕ) → fieldsOf (comparedBy n off size) .same ≡ 1 → (i : ℕ) → i < size → Near s f cells t i
   unfolding comparedBy
   was-yes n size e = go (eqb (howMany off size) 0) refl e
     where
-      go : (b : Bool) → eqb (howMany off size) 0 ≡ b → sameOf (cond b (answer.Same n) (answer.Differs n (firstOff off size) (howMany off size))) ≡ 1 → (i : ℕ) → i < size → Near s f cells t i
+      go : (b : Bool) → eqb (howMany off size) 0 ≡ b → fieldsOf (cond b (answer.Same n) (answer.Differs n (firstOff off size) (howMany off size))) .same ≡ 1 → (i : ℕ) → i < size → Near s f cells t i
       go true z e i h = on-near i (none-off off size (eqb-true (howMany off size) 0 z) i h)
       go false z e i h = absurd (omega (arith, e))
 
-  was-no : (n size : ℕ) → length cells ≡ size → sameOf (comparedBy n off size) ≡ 0 → Names s f cells t (firstOf (comparedBy n off size)) (countOf (comparedBy n off size))
+  was-no : (n size : ℕ) → length cells ≡ size → fieldsOf (comparedBy n off size) .same ≡ 0 → Names s f cells t (fieldsOf (comparedBy n off size) .first) (fieldsOf (comparedBy n off size) .count)
   unfolding comparedBy
   was-no n size l e = go (eqb (howMany off size) 0) refl e
     where
-      go : (b : Bool) → eqb (howMany off size) 0 ≡ b → sameOf (cond b (answer.Same n) (answer.Differs n (firstOff off size) (howMany off size))) ≡ 0
-          → Names s f cells t (firstOf (cond b (answer.Same n) (answer.Differs n (firstOff off size) (howMany off size)))) (countOf (cond b (answer.Same n) (answer.Differs n (firstOff off size) (howMany off size))))
+      go : (b : Bool) → eqb (howMany off size) 0 ≡ b → fieldsOf (cond b (answer.Same n) (answer.Differs n (firstOff off size) (howMany off size))) .same ≡ 0
+          → Names s f cells t (fieldsOf (cond b (answer.Same n) (answer.Differs n (firstOff off size) (howMany off size))) .first) (fieldsOf (cond b (answer.Same n) (answer.Differs n (firstOff off size) (howMany off size))) .count)
       go true z e = absurd (omega (arith, e))
       go false z e =
           let k : 1 ≤ howMany off size = some-place (howMany off size) (eqb-false (howMany off size) 0 z) in
@@ -124,19 +124,19 @@ module _ (s : List ℕ) (f : ℕ) (cells : List ℕ) (t : ℕ) where
             some = k;
           }
 
-  code-done : (n size : ℕ) → codeOf (comparedBy n off size) ≡ 0
+  code-done : (n size : ℕ) → fieldsOf (comparedBy n off size) .answer .code ≡ 0
   unfolding comparedBy
   code-done n size = go (eqb (howMany off size) 0)
     where
-      go : (b : Bool) → codeOf (cond b (answer.Same n) (answer.Differs n (firstOff off size) (howMany off size))) ≡ 0
+      go : (b : Bool) → fieldsOf (cond b (answer.Same n) (answer.Differs n (firstOff off size) (howMany off size))) .answer .code ≡ 0
       go true = refl
       go false = refl
 
-  rows-done : (n size : ℕ) → rowCountOf (comparedBy n off size) ≡ n
+  rows-done : (n size : ℕ) → fieldsOf (comparedBy n off size) .answer .rows ≡ n
   unfolding comparedBy
   rows-done n size = go (eqb (howMany off size) 0)
     where
-      go : (b : Bool) → rowCountOf (cond b (answer.Same n) (answer.Differs n (firstOff off size) (howMany off size))) ≡ n
+      go : (b : Bool) → fieldsOf (cond b (answer.Same n) (answer.Differs n (firstOff off size) (howMany off size))) .answer .rows ≡ n
       go true = refl
       go false = refl
 
@@ -152,12 +152,12 @@ module _ (s : List ℕ) (f : ℕ) (cells : List ℕ) (t : ℕ) where
     pub size : length cells ≡ imageSize (nodesOf s)
     pub tolerance : t ≤ 255
 
-  was-asked : (n : ℕ) → codeOf (acceptedAnswer (nodesOf s) f cells t n) ≡ 0 → Asked
+  was-asked : (n : ℕ) → fieldsOf (acceptedAnswer (nodesOf s) f cells t n) .answer .code ≡ 0 → Asked
   unfolding acceptedAnswer
   was-asked n e = go (isFrameOf (nodesOf s) f) (eqb (length cells) (imageSize (nodesOf s))) (leb t 255) refl refl refl e
     where
       go : (p q r : Bool) → isFrameOf (nodesOf s) f ≡ p → eqb (length cells) (imageSize (nodesOf s)) ≡ q → leb t 255 ≡ r
-          → codeOf (cond p (cond q (cond r (comparedBy n off (imageSize (nodesOf s))) answer.WrongTolerance) answer.WrongSize) answer.NoFrame) ≡ 0 → Asked
+          → fieldsOf (cond p (cond q (cond r (comparedBy n off (imageSize (nodesOf s))) answer.WrongTolerance) answer.WrongSize) answer.NoFrame) .answer .code ≡ 0 → Asked
       go true true true a b c e = record { frame = was-frame s f a; size = eqb-true (length cells) (imageSize (nodesOf s)) b; tolerance = leb-true t 255 c }
       go true true false a b c e = absurd (omega (arith, e))
       go true false r a b c e = absurd (omega (arith, e))
@@ -168,26 +168,26 @@ module _ (s : List ℕ) (f : ℕ) (cells : List ℕ) (t : ℕ) where
     unfolding compareOf
     answered c = rw (judged-accepted s buffer (c .accepted) (c .room)) (accepted-answer (length (rowsOf s)) (c .frame) (c .size) (c .tolerance))
 
-    was-done : codeOf (compareOf s f cells t buffer) ≡ 0 → Comparable s f cells t buffer
+    was-done : fieldsOf (compareOf s f cells t buffer) .answer .code ≡ 0 → Comparable s f cells t buffer
     unfolding compareOf
     was-done e =
-        let j = was-judged s buffer (λ x. codeOf (answerFor (nodesOf s) f cells t x))
+        let j = was-judged s buffer (λ x. fieldsOf (answerFor (nodesOf s) f cells t x) .answer .code)
         (record { broken = λ n rule frame. refl; refused = λ code offset. refl; too-large = refl; no-room = refl }) e in
         let a = was-asked (length (j .accepted .rows)) (j .code) in
         record { accepted = j .accepted; frame = a .frame; size = a .size; tolerance = a .tolerance; room = j .room }
 
-    done : Comparable s f cells t buffer → codeOf (compareOf s f cells t buffer) ≡ 0
-    done c = ap codeOf (answered c) ∙ code-done (length (rowsOf s)) (imageSize (nodesOf s))
+    done : Comparable s f cells t buffer → fieldsOf (compareOf s f cells t buffer) .answer .code ≡ 0
+    done c = ap (λ (x : CompareAnswer). fieldsOf x .answer .code) (answered c) ∙ code-done (length (rowsOf s)) (imageSize (nodesOf s))
 
-    yes : Comparable s f cells t buffer → ((i : ℕ) → i < length cells → Near s f cells t i) → sameOf (compareOf s f cells t buffer) ≡ 1
-    yes c h = ap sameOf (answered c ∙ yes-by (length (rowsOf s)) (imageSize (nodesOf s)) (λ i l. h i (omega (arith, l, c .size))))
+    yes : Comparable s f cells t buffer → ((i : ℕ) → i < length cells → Near s f cells t i) → fieldsOf (compareOf s f cells t buffer) .same ≡ 1
+    yes c h = ap (λ (x : CompareAnswer). fieldsOf x .same) (answered c ∙ yes-by (length (rowsOf s)) (imageSize (nodesOf s)) (λ i l. h i (omega (arith, l, c .size))))
 
-    only-then : sameOf (compareOf s f cells t buffer) ≡ 1 → Comparable s f cells t buffer × ((i : ℕ) → i < length cells → Near s f cells t i)
+    only-then : fieldsOf (compareOf s f cells t buffer) .same ≡ 1 → Comparable s f cells t buffer × ((i : ℕ) → i < length cells → Near s f cells t i)
     only-then e =
         let c = was-done (same-code (compareOf s f cells t buffer) e) in
-        (c, λ i l. was-yes (length (rowsOf s)) (imageSize (nodesOf s)) (sym (ap sameOf (answered c)) ∙ e) i (omega (arith, l, c .size)))
+        (c, λ i l. was-yes (length (rowsOf s)) (imageSize (nodesOf s)) (sym (ap (λ (x : CompareAnswer). fieldsOf x .same) (answered c)) ∙ e) i (omega (arith, l, c .size)))
       where
-        same-code : (r : CompareAnswer) → sameOf r ≡ 1 → codeOf r ≡ 0
+        same-code : (r : CompareAnswer) → fieldsOf r .same ≡ 1 → fieldsOf r .answer .code ≡ 0
         same-code (answer.Same n) e = refl
         same-code (answer.Differs n first count) e = refl
         same-code (answer.Broken n rule frame) e = absurd (omega (arith, e))
@@ -198,29 +198,29 @@ module _ (s : List ℕ) (f : ℕ) (cells : List ℕ) (t : ℕ) where
         same-code answer.WrongSize e = absurd (omega (arith, e))
         same-code answer.WrongTolerance e = absurd (omega (arith, e))
 
-    no : codeOf (compareOf s f cells t buffer) ≡ 0 → sameOf (compareOf s f cells t buffer) ≡ 0
-        → Names s f cells t (firstOf (compareOf s f cells t buffer)) (countOf (compareOf s f cells t buffer))
+    no : fieldsOf (compareOf s f cells t buffer) .answer .code ≡ 0 → fieldsOf (compareOf s f cells t buffer) .same ≡ 0
+        → Names s f cells t (fieldsOf (compareOf s f cells t buffer) .first) (fieldsOf (compareOf s f cells t buffer) .count)
     no e z =
         let c = was-done e in
-        subst (λ (r : CompareAnswer). Names s f cells t (firstOf r) (countOf r)) (sym (answered c))
-        (was-no (length (rowsOf s)) (imageSize (nodesOf s)) (c .size) (sym (ap sameOf (answered c)) ∙ z))
+        subst (λ (r : CompareAnswer). Names s f cells t (fieldsOf r .first) (fieldsOf r .count)) (sym (answered c))
+        (was-no (length (rowsOf s)) (imageSize (nodesOf s)) (c .size) (sym (ap (λ (x : CompareAnswer). fieldsOf x .same) (answered c)) ∙ z))
 
-    row-count : codeOf (compareOf s f cells t buffer) ≡ 0 → rowCountOf (compareOf s f cells t buffer) ≡ length (rowsOf s)
-    row-count e = ap rowCountOf (answered (was-done e)) ∙ rows-done (length (rowsOf s)) (imageSize (nodesOf s))
+    row-count : fieldsOf (compareOf s f cells t buffer) .answer .code ≡ 0 → fieldsOf (compareOf s f cells t buffer) .answer .rows ≡ length (rowsOf s)
+    row-count e = ap (λ (x : CompareAnswer). fieldsOf x .answer .rows) (answered (was-done e)) ∙ rows-done (length (rowsOf s)) (imageSize (nodesOf s))
 
 -- ---- Larger tolerances
 
 wider : (s : List ℕ) (f : ℕ) (cells : List ℕ) (t u i : ℕ) → t ≤ u → Near s f cells t i → Near s f cells u i
 wider s f cells t u i h n = record { below = omega (arith, n .below, h); above = omega (arith, n .above, h) }
 
-larger : (s : List ℕ) (f : ℕ) (cells : List ℕ) (t : ℕ) (buffer : List ℕ) (u : ℕ) → t ≤ u → u ≤ 255 → sameOf (compareOf s f cells t buffer) ≡ 1 → sameOf (compareOf s f cells u buffer) ≡ 1
+larger : (s : List ℕ) (f : ℕ) (cells : List ℕ) (t : ℕ) (buffer : List ℕ) (u : ℕ) → t ≤ u → u ≤ 255 → fieldsOf (compareOf s f cells t buffer) .same ≡ 1 → fieldsOf (compareOf s f cells u buffer) .same ≡ 1
 larger s f cells t buffer u h most e =
     let w = only-then s f cells t buffer e in
     yes s f cells u buffer (record { accepted = w .0 .accepted; frame = w .0 .frame; size = w .0 .size; tolerance = most; room = w .0 .room }) (λ i l. wider s f cells t u i h (w .1 i l))
 
 -- ---- Our own picture
 
-own-cells : (s : List ℕ) → Bytes s → (f : ℕ) (buffer image : List ℕ) → show.codeOf (showOf s f buffer image) ≡ 0
+own-cells : (s : List ℕ) → Bytes s → (f : ℕ) (buffer image : List ℕ) → show.fieldsOf (showOf s f buffer image) .code ≡ 0
     → (take (imageSize (nodesOf s)) (imageOf s f buffer image) ≡ pictureOf (nodesOf s) f .samples) × (length (pictureOf (nodesOf s) f .samples) ≡ imageSize (nodesOf s))
 unfolding pictureOf
 own-cells s b f buffer image e =

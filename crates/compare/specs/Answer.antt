@@ -5,6 +5,7 @@ use mathlib.Core.Bool.{Bool, cond}
 use mathlib.Core.List.{List}
 use lib.ListN.{length}
 use lib.Dec.{leb, eqb}
+use Rattle.dataset.specs.Fields.{Fields, codeAlone, placed, counted, broken}
 use Rattle.node.specs.Nodes.{Node, nodesOf}
 use Rattle.conformance.specs.Judging.{judgeOf}
 use Rattle.conformance.specs.declared.JudgeAnswer.{JudgeAnswer}
@@ -38,91 +39,30 @@ answerFor ns f cells t judged.NoRoom = answer.NoRoom
 unfoldable pub compareOf : List ℕ → ℕ → List ℕ → ℕ → List ℕ → CompareAnswer
 compareOf s f cells t buffer = answerFor (nodesOf s) f cells t (judgeOf s buffer)
 
--- The papers' numbers of each case; fields not named are 0. Yes is 1.
-abbrev pub codeOf : CompareAnswer → ℕ
-codeOf (answer.Same n) = 0
-codeOf (answer.Differs n first count) = 0
-codeOf (answer.Broken n rule frame) = 9
-codeOf (answer.Refused code offset) = code
-codeOf answer.TooLarge = 7
-codeOf answer.NoRoom = 8
-codeOf answer.NoFrame = 10
-codeOf answer.WrongSize = 22
-codeOf answer.WrongTolerance = 23
+-- The papers' numbers of each case: those of an answer, then yes (1) or no (0), the place of the first cell that is off, and how many are.
+pub record Compared : Type 0 where
+  pub answer : Fields
+  pub same : ℕ
+  pub first : ℕ
+  pub count : ℕ
 
-abbrev pub rowCountOf : CompareAnswer → ℕ
-rowCountOf (answer.Same n) = n
-rowCountOf (answer.Differs n first count) = n
-rowCountOf (answer.Broken n rule frame) = n
-rowCountOf (answer.Refused code offset) = 0
-rowCountOf answer.TooLarge = 0
-rowCountOf answer.NoRoom = 0
-rowCountOf answer.NoFrame = 0
-rowCountOf answer.WrongSize = 0
-rowCountOf answer.WrongTolerance = 0
+-- An answer that names no cell; an answer of yes; and one of no.
+abbrev pub plain : Fields → Compared
+plain a = record { answer = a; same = 0; first = 0; count = 0 }
 
-abbrev pub ruleOf : CompareAnswer → ℕ
-ruleOf (answer.Same n) = 0
-ruleOf (answer.Differs n first count) = 0
-ruleOf (answer.Broken n rule frame) = rule
-ruleOf (answer.Refused code offset) = 0
-ruleOf answer.TooLarge = 0
-ruleOf answer.NoRoom = 0
-ruleOf answer.NoFrame = 0
-ruleOf answer.WrongSize = 0
-ruleOf answer.WrongTolerance = 0
+abbrev pub yes : ℕ → Compared
+yes rows = record { answer = counted rows; same = 1; first = 0; count = 0 }
 
-abbrev pub frameOf : CompareAnswer → ℕ
-frameOf (answer.Same n) = 0
-frameOf (answer.Differs n first count) = 0
-frameOf (answer.Broken n rule frame) = frame
-frameOf (answer.Refused code offset) = 0
-frameOf answer.TooLarge = 0
-frameOf answer.NoRoom = 0
-frameOf answer.NoFrame = 0
-frameOf answer.WrongSize = 0
-frameOf answer.WrongTolerance = 0
+abbrev pub no : ℕ → ℕ → ℕ → Compared
+no rows first count = record { answer = counted rows; same = 0; first = first; count = count }
 
-abbrev pub offsetOf : CompareAnswer → ℕ
-offsetOf (answer.Same n) = 0
-offsetOf (answer.Differs n first count) = 0
-offsetOf (answer.Broken n rule frame) = 0
-offsetOf (answer.Refused code offset) = offset
-offsetOf answer.TooLarge = 0
-offsetOf answer.NoRoom = 0
-offsetOf answer.NoFrame = 0
-offsetOf answer.WrongSize = 0
-offsetOf answer.WrongTolerance = 0
-
-abbrev pub sameOf : CompareAnswer → ℕ
-sameOf (answer.Same n) = 1
-sameOf (answer.Differs n first count) = 0
-sameOf (answer.Broken n rule frame) = 0
-sameOf (answer.Refused code offset) = 0
-sameOf answer.TooLarge = 0
-sameOf answer.NoRoom = 0
-sameOf answer.NoFrame = 0
-sameOf answer.WrongSize = 0
-sameOf answer.WrongTolerance = 0
-
-abbrev pub firstOf : CompareAnswer → ℕ
-firstOf (answer.Same n) = 0
-firstOf (answer.Differs n first count) = first
-firstOf (answer.Broken n rule frame) = 0
-firstOf (answer.Refused code offset) = 0
-firstOf answer.TooLarge = 0
-firstOf answer.NoRoom = 0
-firstOf answer.NoFrame = 0
-firstOf answer.WrongSize = 0
-firstOf answer.WrongTolerance = 0
-
-abbrev pub countOf : CompareAnswer → ℕ
-countOf (answer.Same n) = 0
-countOf (answer.Differs n first count) = count
-countOf (answer.Broken n rule frame) = 0
-countOf (answer.Refused code offset) = 0
-countOf answer.TooLarge = 0
-countOf answer.NoRoom = 0
-countOf answer.NoFrame = 0
-countOf answer.WrongSize = 0
-countOf answer.WrongTolerance = 0
+abbrev pub fieldsOf : CompareAnswer → Compared
+fieldsOf (answer.Same n) = yes n
+fieldsOf (answer.Differs n first count) = no n first count
+fieldsOf (answer.Broken n rule frame) = plain (broken n rule frame)
+fieldsOf (answer.Refused code offset) = plain (placed code offset)
+fieldsOf answer.TooLarge = plain (codeAlone 7)
+fieldsOf answer.NoRoom = plain (codeAlone 8)
+fieldsOf answer.NoFrame = plain (codeAlone 10)
+fieldsOf answer.WrongSize = plain (codeAlone 22)
+fieldsOf answer.WrongTolerance = plain (codeAlone 23)

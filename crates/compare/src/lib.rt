@@ -4,6 +4,7 @@ ghost use mathlib.Core.Bool.{true, not};
 ghost use Prim.Native.Nat.{ℕ, _+_, _*_, _/_, _%_, _≤_, _<_};
 ghost use lib.ListN.{length, getD};
 ghost use Rattle.dataset.specs.Reading.{readingOf};
+ghost use Rattle.dataset.specs.Fields.{Answers};
 ghost use Rattle.dataset.specs.Answer.{bufferOf};
 ghost use Rattle.value.specs.Number.{usValues};
 ghost use Rattle.shift.specs.Said.{ShortMoves};
@@ -20,7 +21,7 @@ ghost use Rattle.display.specs.Said.{shadeBy, MasksReady};
 ghost use Rattle.display.specs.Show.{imageSize, pictureOf};
 ghost use Rattle.sheet.specs.Said.{IsObject, IsScene, IsPixels, IsPlan, FrameReady};
 ghost use Rattle.compare.specs.Differences.{within, isOff};
-ghost use Rattle.compare.specs.Answer.{acceptedAnswer, compareOf};
+ghost use Rattle.compare.specs.Answer.{acceptedAnswer, compareOf, fieldsOf};
 ghost use Rattle.compare.specs.Said.{seen, along, nothing, met, Against, LineOf};
 use conformance::JudgeAnswer;
 use dataset::wide;
@@ -548,7 +549,7 @@ pub fn compare(
     tolerance: u64,
     rows: &mut [u32],
 ) -> CompareAnswer
-    ensures { λ r. ⌜ r ≡ compareOf (now (bytes .entry)) frame (now (cells .entry)) tolerance (now (rows .entry)) ⌝ }
+    ensures { λ r. ⌜ Answers fieldsOf r (compareOf (now (bytes .entry)) frame (now (cells .entry)) tolerance (now (rows .entry))) ⌝ }
     ensures { λ _. ⌜ now (rows .exit) ≡ bufferOf (readingOf (now (bytes .entry))) (now (rows .entry)) ⌝ }
 {
     match conformance::judge(bytes, rows) {

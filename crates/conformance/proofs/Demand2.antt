@@ -11,10 +11,11 @@ use Rattle.dataset.specs.Reading.{Row, readingOf, read}
 use Rattle.dataset.specs.Answer.{width, flat, bufferOf}
 use Rattle.node.specs.Nodes.{nodesOf}
 use Rattle.slip.proofs.Slips.{slips}
+use Rattle.conformance.specs.declared.JudgeAnswer.{JudgeAnswer}
 use Rattle.conformance.specs.declared.Finding.{Finding}
 use Rattle.conformance.specs.declared.Finding.the-variants as finding
 use Rattle.conformance.specs.declared.JudgeAnswer.the-variants as judged
-use Rattle.conformance.specs.Judging.{findingOf, withRows, judgeOf, codeOf, rowCountOf}
+use Rattle.conformance.specs.Judging.{findingOf, withRows, judgeOf, fieldsOf}
 use Rattle.conformance.specs.Demand2.{Sound, Judged, Demand2}
 use Rattle.conformance.proofs.First.{accepted-holds, holds-accepted, broken-first}
 use Rattle.conformance.proofs.Possible.{judge-possible}
@@ -32,23 +33,23 @@ module _ (s buffer : List ℕ) (rows : List Row) (reads : readingOf s ≡ read r
       let a : judgeOf s buffer ≡ judged.Accepted (length rows) = answer-is ∙ ap (withRows (length rows)) q in
       record {
         accepted = λ z. accepted-holds (nodesOf s) q;
-        sound = λ z. ap codeOf a;
-        otherwise = inl (ap codeOf a);
-        count = ap rowCountOf a;
+        sound = λ z. ap (λ (x : JudgeAnswer). fieldsOf x .code) a;
+        otherwise = inl (ap (λ (x : JudgeAnswer). fieldsOf x .code) a);
+        count = ap (λ (x : JudgeAnswer). fieldsOf x .rows) a;
         after = after;
       }
   by-finding (finding.Broken rule frame) q =
       let a : judgeOf s buffer ≡ judged.Broken (length rows) rule frame = answer-is ∙ ap (withRows (length rows)) q in
-      let nine : codeOf (judgeOf s buffer) ≡ 9 = ap codeOf a in
+      let nine : fieldsOf (judgeOf s buffer) .code ≡ 9 = ap (λ (x : JudgeAnswer). fieldsOf x .code) a in
       record {
         accepted = λ z. absurd (omega (arith, nine, z));
         sound = λ w. clash (sym (holds-accepted (nodesOf s) w) ∙ q);
         otherwise = inr (nine, rw a (broken-first (nodesOf s) rule frame q));
-        count = ap rowCountOf a;
+        count = ap (λ (x : JudgeAnswer). fieldsOf x .rows) a;
         after = after;
       }
     where
-      clash : finding.Accepted ≡ finding.Broken rule frame → codeOf (judgeOf s buffer) ≡ 0
+      clash : finding.Accepted ≡ finding.Broken rule frame → fieldsOf (judgeOf s buffer) .code ≡ 0
       clash e = let z : _≡_ {A = ℕ} 0 1 = cc in absurd (omega arith)
 
 pub demand-2 : Demand2

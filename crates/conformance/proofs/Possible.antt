@@ -28,7 +28,7 @@ use Rattle.rules.specs.All.{ruleList, ruleAt}
 use Rattle.conformance.specs.declared.Finding.{Finding}
 use Rattle.conformance.specs.declared.Finding.the-variants as finding
 use Rattle.conformance.specs.declared.JudgeAnswer.{JudgeAnswer}
-use Rattle.conformance.specs.Judging.{numberOf, firstFrame, frameCount, findingOf, answerFor, judgeOf, rowCountOf, verdictOf}
+use Rattle.conformance.specs.Judging.{numberOf, firstFrame, frameCount, findingOf, answerFor, judgeOf, fieldsOf, verdictOf}
 use Rattle.conformance.specs.Possible.{JudgePossible}
 use Rattle.conformance.specs.Demand2.{Holds, Broke}
 use Rattle.conformance.proofs.First.{broken-first}
@@ -109,13 +109,13 @@ judge-possible s buffer = rw (possible-answer s buffer)
 pub judge-small : (s buffer : List ℕ) → Small (verdictOf (judgeOf s buffer))
 judge-small s buffer = possible-small (verdictOf (judgeOf s buffer)) (possible-answer s buffer)
 
-rows-few : (f : Finding) (a : ReadAnswer) → SmallAnswer a → rowCountOf (answerFor f a) ≤ 134217728
+rows-few : (f : Finding) (a : ReadAnswer) → SmallAnswer a → fieldsOf (answerFor f a) .rows ≤ 134217728
 rows-few finding.Accepted (read.Done n) h = h
 rows-few (finding.Broken rule frame) (read.Done n) h = h
 rows-few f (read.Refused code offset) h = omega arith
 rows-few f read.TooLarge h = omega arith
 rows-few f read.NoRoom h = omega arith
 
-pub judge-rows : (s buffer : List ℕ) → rowCountOf (judgeOf s buffer) ≤ 134217728
+pub judge-rows : (s buffer : List ℕ) → fieldsOf (judgeOf s buffer) .rows ≤ 134217728
 unfolding judgeOf
 judge-rows s buffer = rows-few (findingOf (nodesOf s)) (answerOf (readingOf s) buffer) (answer-small s buffer)

@@ -19,7 +19,7 @@ use Rattle.verdict.specs.declared.Verdict.{Verdict}
 use Rattle.slip.specs.declared.SlipAnswer.the-variants as slip
 use Rattle.slip.specs.Slip.{slipOf, readOf}
 use Rattle.rules.specs.All.{ruleAt}
-use Rattle.conformance.specs.Judging.{firstFrame, frameCount, judgeOf, codeOf, rowCountOf, ruleOf, frameOf, verdictOf}
+use Rattle.conformance.specs.Judging.{firstFrame, frameCount, judgeOf, fieldsOf, verdictOf}
 
 -- The rule holds at the frames from f up to, and without, e.
 abbrev pub HoldsAt : List Node → ℕ → ℕ → ℕ → Type 0
@@ -50,12 +50,12 @@ pub record Broke (ns : List Node) (rule frame : ℕ) : Type 0 where
 -- What `judge` says of a data set that reads as these rows, with room for them.
 pub record Judged (s buffer : List ℕ) (rows : List Row) : Type 0 where
   -- Code 0 exactly when every rule holds,
-  pub accepted : codeOf (judgeOf s buffer) ≡ 0 → Sound (nodesOf s)
-  pub sound : Sound (nodesOf s) → codeOf (judgeOf s buffer) ≡ 0
+  pub accepted : fieldsOf (judgeOf s buffer) .code ≡ 0 → Sound (nodesOf s)
+  pub sound : Sound (nodesOf s) → fieldsOf (judgeOf s buffer) .code ≡ 0
   -- otherwise code 9, with the first broken rule and at that rule the lowest frame.
-  pub otherwise : (codeOf (judgeOf s buffer) ≡ 0)
-      ⊎ ((codeOf (judgeOf s buffer) ≡ 9) × Broke (nodesOf s) (ruleOf (judgeOf s buffer)) (frameOf (judgeOf s buffer)))
-  pub count : rowCountOf (judgeOf s buffer) ≡ length rows
+  pub otherwise : (fieldsOf (judgeOf s buffer) .code ≡ 0)
+      ⊎ ((fieldsOf (judgeOf s buffer) .code ≡ 9) × Broke (nodesOf s) (fieldsOf (judgeOf s buffer) .rule) (fieldsOf (judgeOf s buffer) .frame))
+  pub count : fieldsOf (judgeOf s buffer) .rows ≡ length rows
   pub after : bufferOf (readingOf s) buffer ≡ flat rows ++ drop (width * length rows) buffer
 
 pub record Demand2 : Type 0 where

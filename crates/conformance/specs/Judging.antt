@@ -5,6 +5,7 @@ use mathlib.Core.List.{List}
 use mathlib.Core.Bool.{Bool, cond}
 use lib.ListN.{length}
 use Rattle.dataset.specs.Reading.{readingOf}
+use Rattle.dataset.specs.Fields.{Fields, codeAlone, placed, counted, broken}
 use Rattle.dataset.specs.Answer.{answerOf, bufferOf}
 use Rattle.dataset.specs.declared.ReadAnswer.{ReadAnswer}
 use Rattle.dataset.specs.declared.ReadAnswer.the-variants as read
@@ -65,42 +66,20 @@ answerFor f read.NoRoom = judged.NoRoom
 unfoldable pub judgeOf : List ℕ → List ℕ → JudgeAnswer
 judgeOf s buffer = answerFor (findingOf (nodesOf s)) (answerOf (readingOf s) buffer)
 
--- The paper's numbers of each case; fields not named are 0.
-abbrev pub codeOf : JudgeAnswer → ℕ
-codeOf (judged.Accepted n) = 0
-codeOf (judged.Broken n rule frame) = 9
-codeOf (judged.Refused code offset) = code
-codeOf judged.TooLarge = 7
-codeOf judged.NoRoom = 8
-
-abbrev pub rowCountOf : JudgeAnswer → ℕ
-rowCountOf (judged.Accepted n) = n
-rowCountOf (judged.Broken n rule frame) = n
-rowCountOf (judged.Refused code offset) = 0
-rowCountOf judged.TooLarge = 0
-rowCountOf judged.NoRoom = 0
-
-abbrev pub ruleOf : JudgeAnswer → ℕ
-ruleOf (judged.Accepted n) = 0
-ruleOf (judged.Broken n rule frame) = rule
-ruleOf (judged.Refused code offset) = 0
-ruleOf judged.TooLarge = 0
-ruleOf judged.NoRoom = 0
-
-abbrev pub frameOf : JudgeAnswer → ℕ
-frameOf (judged.Accepted n) = 0
-frameOf (judged.Broken n rule frame) = frame
-frameOf (judged.Refused code offset) = 0
-frameOf judged.TooLarge = 0
-frameOf judged.NoRoom = 0
-
-abbrev pub offsetOf : JudgeAnswer → ℕ
-offsetOf (judged.Accepted n) = 0
-offsetOf (judged.Broken n rule frame) = 0
-offsetOf (judged.Refused code offset) = offset
-offsetOf judged.TooLarge = 0
-offsetOf judged.NoRoom = 0
+-- The paper's numbers of each case.
+abbrev pub fieldsOf : JudgeAnswer → Fields
+fieldsOf (judged.Accepted n) = counted n
+fieldsOf (judged.Broken n rule frame) = broken n rule frame
+fieldsOf (judged.Refused code offset) = placed code offset
+fieldsOf judged.TooLarge = codeAlone 7
+fieldsOf judged.NoRoom = codeAlone 8
 
 -- The verdict of an answer, with its row count.
 abbrev pub verdictOf : JudgeAnswer → Verdict
-verdictOf a = record { code = codeOf a; rule = ruleOf a; frame = frameOf a; offset = offsetOf a; rows = Known (rowCountOf a) }
+verdictOf a = record {
+  code = fieldsOf a .code;
+  rule = fieldsOf a .rule;
+  frame = fieldsOf a .frame;
+  offset = fieldsOf a .offset;
+  rows = Known (fieldsOf a .rows);
+}

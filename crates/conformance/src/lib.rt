@@ -4,6 +4,7 @@ ghost use Prim.Native.Nat.{ℕ, _+_, _-_, _*_, _≤_, _<_};
 ghost use mathlib.Core.Bool.{Bool, true, false};
 ghost use lib.ListN.{length, drop};
 ghost use Rattle.dataset.specs.Reading.{readingOf};
+ghost use Rattle.dataset.specs.Fields.{Answers};
 ghost use Rattle.dataset.specs.Answer.{bufferOf};
 ghost use Rattle.value.specs.Said.{Below};
 ghost use Rattle.verdict.specs.Verdict.{lastRule, perFrame};
@@ -12,7 +13,7 @@ ghost use Rattle.node.specs.Table.{Table};
 ghost use Rattle.element.specs.Frames.{framesOf, sharedItem, frameItems};
 ghost use Rattle.element.specs.Along.{Along};
 ghost use Rattle.rules.specs.All.{ruleAt};
-ghost use Rattle.conformance.specs.Judging.{numberOf, firstFrame, findingOf, judgeOf, verdictOf};
+ghost use Rattle.conformance.specs.Judging.{numberOf, firstFrame, findingOf, judgeOf, verdictOf, fieldsOf};
 ghost use Rattle.conformance.specs.Parts.{noPart, okFor, Asked, endFrame};
 use dataset::ReadAnswer;
 use element::Items;
@@ -186,7 +187,7 @@ pub fn first_broken(bytes: &[u8], rows: &[u32]) -> Finding
 
 // Reads the data set and judges it.
 pub fn judge(bytes: &[u8], rows: &mut [u32]) -> JudgeAnswer
-    ensures { λ r. ⌜ r ≡ judgeOf (now (bytes .entry)) (now (rows .entry)) ⌝ }
+    ensures { λ r. ⌜ Answers fieldsOf r (judgeOf (now (bytes .entry)) (now (rows .entry))) ⌝ }
     ensures { λ _. ⌜ now (rows .exit) ≡ bufferOf (readingOf (now (bytes .entry))) (now (rows .entry)) ⌝ }
 {
     match dataset::read(bytes, rows) {

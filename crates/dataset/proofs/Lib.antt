@@ -9,3 +9,4 @@ pub mod Whole
 pub mod Tree
 pub mod Laws
 pub mod Parents
+pub mod Promised

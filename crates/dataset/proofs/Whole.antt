@@ -13,10 +13,12 @@ use Rattle.dataset.specs.declared.ReadAnswer.{ReadAnswer}
 use Rattle.dataset.specs.declared.ReadAnswer.the-variants as answer
 use Rattle.dataset.specs.Header.{cursor}
 use Rattle.dataset.specs.Reading.{Run, done, elementsAt, whole, readingOf, largest}
-use Rattle.dataset.specs.Answer.{answerOf, bufferOf}
+use Rattle.dataset.specs.Fields.{Answers}
+use Rattle.dataset.specs.Answer.{answerOf, bufferOf, fieldsOf}
 use Rattle.dataset.specs.Walk.{Walked, Wrote}
 use Rattle.dataset.proofs.Level.{below, stopped}
 use Rattle.dataset.proofs.Buffer.{rows-first}
+use Rattle.dataset.proofs.Promised.{promised}
 
 -- An empty part in front of a list leaves the list.
 pub nothing : (ys l : List ℕ) → length ys ≡ 0 → ys ++ l ≡ l
@@ -28,7 +30,7 @@ all s = cursor 0 (length s) false
 
 -- What the call has to say: its answer, and the buffer afterwards.
 abbrev pub Read : List ℕ → List ℕ → ReadAnswer → List ℕ → Type 0
-Read s buffer r after = (r ≡ answerOf (readingOf s) buffer) × (after ≡ bufferOf (readingOf s) buffer)
+Read s buffer r after = Answers fieldsOf r (answerOf (readingOf s) buffer) × (after ≡ bufferOf (readingOf s) buffer)
 
 pub reading-small : (s : List ℕ) → length s ≤ largest → readingOf s ≡ whole (elementsAt 8 s 0 (all s))
 unfolding readingOf
@@ -36,17 +38,17 @@ reading-small s h = rw (le-ltb largest (length s) h)
 
 pub too-large : (s buffer : List ℕ) → largest < length s → Read s buffer answer.TooLarge buffer
 unfolding readingOf
-too-large s buffer h = rw (lt-ltb largest (length s) h) (refl, refl)
+too-large s buffer h = rw (lt-ltb largest (length s) h) (promised refl, refl)
 
 module _ (s buffer : List ℕ) (h : length s ≤ largest) {part after : List ℕ} where
   pub refusal : {code offset : ℕ} → Walked (elementsAt 8 s 0 (all s)) (all s) 0 part after (walk.Refused code offset) → Read s buffer (answer.Refused code offset) buffer
-  refusal w = rw (reading-small s h ∙ ap whole (stopped (elementsAt 8 s 0 (all s)) w .0)) (refl, refl)
+  refusal w = rw (reading-small s h ∙ ap whole (stopped (elementsAt 8 s 0 (all s)) w .0)) (promised refl, refl)
 
   module _ {stop next n : ℕ} (w : Walked (elementsAt 8 s 0 (all s)) (all s) 0 part after (walk.Done stop next n)) where
     pub no-room : length buffer / 7 < n → Read s buffer answer.NoRoom buffer
     no-room k =
         let b = below (elementsAt 8 s 0 (all s)) w in
-        rw (reading-small s h ∙ ap whole (b .is), lt-leb (7 * length (b .rows)) (length buffer) (omega (arith, b .count))) (refl, refl)
+        rw (reading-small s h ∙ ap whole (b .is), lt-leb (7 * length (b .rows)) (length buffer) (omega (arith, b .count))) (promised refl, refl)
 
     pub filled : {last : List ℕ} {r : Walk} → n ≤ length buffer / 7 → Walked (elementsAt 8 s 0 (all s)) (all s) 0 buffer last r → Read s buffer (answer.Done n) last
     filled {last} k v =
@@ -54,4 +56,4 @@ module _ (s buffer : List ℕ) (h : length s ≤ largest) {part after : List ℕ
         let room : 7 * length (b .rows) ≤ length buffer = omega (arith, b .count) in
         let wrote : Wrote 0 (done stop next (b .rows)) buffer last = subst (λ (o : Run). Wrote 0 o buffer last) (b .is) (v .wrote) in
         rw (reading-small s h ∙ ap whole (b .is), le-leb (7 * length (b .rows)) (length buffer) room)
-        (ap (λ (m : ℕ). answer.Done m) (omega (arith, b .count)), wrote (omega arith) ∙ rows-first buffer (b .rows) room)
+        (promised (ap (λ (m : ℕ). answer.Done m) (omega (arith, b .count))), wrote (omega arith) ∙ rows-first buffer (b .rows) room)

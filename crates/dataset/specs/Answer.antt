@@ -8,6 +8,7 @@ use lib.Dec.{leb}
 use Rattle.dataset.specs.declared.ReadAnswer.{ReadAnswer}
 use Rattle.dataset.specs.declared.ReadAnswer.the-variants.{Done, Refused, TooLarge, NoRoom}
 use Rattle.dataset.specs.Reading.{Row, Reading, tooLarge, refusedAt, read}
+use Rattle.dataset.specs.Fields.{Fields, codeAlone, placed, counted}
 
 -- How many numbers a row has.
 abbrev pub width : ℕ
@@ -34,21 +35,9 @@ bufferOf tooLarge buffer = buffer
 bufferOf (refusedAt code offset) buffer = buffer
 bufferOf (read rows) buffer = cond (fits rows buffer) (flat rows ++ drop (width * length rows) buffer) buffer
 
--- The paper's code, place and row count of each case; fields not named are 0.
-abbrev pub codeOf : ReadAnswer → ℕ
-codeOf (Done rows) = 0
-codeOf (Refused code offset) = code
-codeOf TooLarge = 7
-codeOf NoRoom = 8
-
-abbrev pub offsetOf : ReadAnswer → ℕ
-offsetOf (Done rows) = 0
-offsetOf (Refused code offset) = offset
-offsetOf TooLarge = 0
-offsetOf NoRoom = 0
-
-abbrev pub rowCountOf : ReadAnswer → ℕ
-rowCountOf (Done rows) = rows
-rowCountOf (Refused code offset) = 0
-rowCountOf TooLarge = 0
-rowCountOf NoRoom = 0
+-- The paper's numbers of each case.
+abbrev pub fieldsOf : ReadAnswer → Fields
+fieldsOf (Done rows) = counted rows
+fieldsOf (Refused code offset) = placed code offset
+fieldsOf TooLarge = codeAlone 7
+fieldsOf NoRoom = codeAlone 8

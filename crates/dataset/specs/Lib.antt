@@ -2,6 +2,7 @@ pub mod Bytes
 pub mod Vr
 pub mod Header
 pub mod Reading
+pub mod Fields
 pub mod Answer
 pub mod Walk
 pub mod Tree

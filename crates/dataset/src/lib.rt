@@ -9,7 +9,8 @@ ghost use Rattle.dataset.specs.Bytes.{le16, le32, tagAt, vrAt};
 ghost use Rattle.dataset.specs.Vr.{formOf};
 ghost use Rattle.dataset.specs.Header.{moved, delimiterBy, levelBy, definedBy, longBy, typedAt, taggedAt, sizedBy, memberAt, elementAt, itemAt};
 ghost use Rattle.dataset.specs.Reading.{elementsAt, itemsAt, readingOf, row};
-ghost use Rattle.dataset.specs.Answer.{answerOf, bufferOf, flat};
+ghost use Rattle.dataset.specs.Fields.{Answers};
+ghost use Rattle.dataset.specs.Answer.{answerOf, bufferOf, flat, fieldsOf};
 ghost use Rattle.dataset.specs.Walk.{FormsAfter, Within, Walked, LeafWalked, Ready};
 
 // The most bytes that a data set may have.
@@ -499,7 +500,7 @@ pub fn read_sequence(s: &[u8], c: Cursor, levels: usize, rows: &mut [u32], first
 // Reads a data set into rows of seven numbers. A refusal leaves the buffer as it was: the first walk only counts, since
 // it is lent no buffer, and the second writes the rows once they are known to fit.
 pub fn read(bytes: &[u8], rows: &mut [u32]) -> ReadAnswer
-    ensures { λ r. ⌜ r ≡ answerOf (readingOf (now (bytes .entry))) (now (rows .entry)) ⌝ }
+    ensures { λ r. ⌜ Answers fieldsOf r (answerOf (readingOf (now (bytes .entry))) (now (rows .entry))) ⌝ }
     ensures { λ _. ⌜ now (rows .exit) ≡ bufferOf (readingOf (now (bytes .entry))) (now (rows .entry)) ⌝ }
 {
     if LARGEST < bytes.len() {

@@ -26,7 +26,7 @@ use Rattle.conformance.specs.Judging.{numberOf, findingOf, answerFor, judgeOf}
 use Rattle.steps.specs.Steps.{Picture, stepsOf}
 use Rattle.display.specs.declared.ShowAnswer.{ShowAnswer}
 use Rattle.display.specs.declared.ShowAnswer.the-variants as shown
-use Rattle.display.specs.Show.{isFrameOf, imageSize, pictureOf, acceptedAnswer, answerFor as shownFor, imageBy, showOf, imageOf, codeOf, rowCountOf, maskedOf}
+use Rattle.display.specs.Show.{isFrameOf, imageSize, pictureOf, acceptedAnswer, answerFor as shownFor, imageBy, showOf, imageOf, fieldsOf}
 use Rattle.display.specs.Drawing.{Bytes, IsAccepted, IsFrame, HasRoom, Whole, HandsBack, Drawing}
 use Rattle.display.proofs.Codes.{was-frame, judged-accepted, was-judged}
 use Rattle.display.proofs.Lacking.{nothing-lacks}
@@ -50,21 +50,21 @@ module _ (s : List ℕ) (f : ℕ) (buffer image : List ℕ) where
     pub frame : IsFrame s f
     pub cells : imageSize (nodesOf s) ≤ length image
 
-  was-shown : (n : ℕ) → codeOf (acceptedAnswer (nodesOf s) f image n) ≡ 0 → Shown n
+  was-shown : (n : ℕ) → fieldsOf (acceptedAnswer (nodesOf s) f image n) .code ≡ 0 → Shown n
   unfolding acceptedAnswer
   was-shown n e = go (isFrameOf (nodesOf s) f) (leb (imageSize (nodesOf s)) (length image)) refl refl e
     where
       go : (t u : Bool) → isFrameOf (nodesOf s) f ≡ t → leb (imageSize (nodesOf s)) (length image) ≡ u
-          → codeOf (cond t (cond u (shown.Drawn n (pictureOf (nodesOf s) f .masked)) shown.NoImageRoom) shown.NoFrame) ≡ 0 → Shown n
+          → fieldsOf (cond t (cond u (shown.Drawn n (pictureOf (nodesOf s) f .masked)) shown.NoImageRoom) shown.NoFrame) .code ≡ 0 → Shown n
       go true true p q e =
           record { frame = was-frame s f p; cells = leb-true (imageSize (nodesOf s)) (length image) q }
       go true false p q e = absurd (omega (arith, e))
       go false u p q e = absurd (omega (arith, e))
 
-  was-accepted : codeOf (showOf s f buffer image) ≡ 0 → IsAccepted s × (IsFrame s f × HasRoom s buffer image)
+  was-accepted : fieldsOf (showOf s f buffer image) .code ≡ 0 → IsAccepted s × (IsFrame s f × HasRoom s buffer image)
   unfolding showOf
   was-accepted e =
-      let j = was-judged s buffer (λ a. codeOf (shownFor (nodesOf s) f image a))
+      let j = was-judged s buffer (λ a. fieldsOf (shownFor (nodesOf s) f image a) .code)
       (record { broken = λ n rule frame. refl; refused = λ code offset. refl; too-large = refl; no-room = refl }) e in
       let d = was-shown (length (j .accepted .rows)) (j .code) in
       (j .accepted, (d .frame, record { rows = j .room; cells = d .cells }))
@@ -85,8 +85,8 @@ module _ (s : List ℕ) (f : ℕ) (buffer image : List ℕ) where
       record {
         p = w .p;
         is = w .is;
-        rows = ap rowCountOf (shows a i r);
-        masked = ap maskedOf (shows a i r) ∙ ap (λ (x : Picture). cond (x .masked) 1 0) q;
+        rows = ap (λ (x : ShowAnswer). fieldsOf x .rows) (shows a i r);
+        masked = ap (λ (x : ShowAnswer). fieldsOf x .masked) (shows a i r) ∙ ap (λ (x : Picture). cond (x .masked) 1 0) q;
         cells =
             subst (λ (n : ℕ). imageOf s f buffer image ≡ w .p .samples ++ drop n image) (w .size)
             (subst (λ (x : Picture). imageOf s f buffer image ≡ x .samples ++ drop (length (x .samples)) image) q (image-is a i r));
@@ -98,7 +98,7 @@ pub drawing : (s : List ℕ) → Bytes s → (f : ℕ) → Drawing s f
 drawing s b f =
     record {
       drawable = whole;
-      drawn = λ buffer image a i r. ap codeOf (shows s f buffer image a i r);
+      drawn = λ buffer image a i r. ap (λ (x : ShowAnswer). fieldsOf x .code) (shows s f buffer image a i r);
       nothing-else = was-accepted s f;
       as-stepped = λ buffer image e.
           let w = was-accepted s f buffer image e in

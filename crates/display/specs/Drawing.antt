@@ -22,7 +22,7 @@ use Rattle.element.specs.Frames.{framesOf}
 use Rattle.conformance.specs.declared.Finding.the-variants.{Accepted}
 use Rattle.conformance.specs.Judging.{numberOf, findingOf}
 use Rattle.steps.specs.Steps.{Picture, stepsOf}
-use Rattle.display.specs.Show.{imageSize, showOf, imageOf, codeOf, rowCountOf, maskedOf}
+use Rattle.display.specs.Show.{imageSize, showOf, imageOf, fieldsOf}
 
 -- Every number of the list is that of a byte.
 abbrev pub Bytes : List ℕ → Type 0
@@ -60,16 +60,16 @@ pub record Whole (ns : List Node) (f : ℕ) : Type 0 where
 pub record HandsBack (s : List ℕ) (f : ℕ) (buffer image : List ℕ) : Type 0 where
   pub p : Picture
   pub is : stepsOf (nodesOf s) f ≡ some p
-  pub rows : rowCountOf (showOf s f buffer image) ≡ length (rowsOf s)
-  pub masked : maskedOf (showOf s f buffer image) ≡ cond (p .masked) 1 0
+  pub rows : fieldsOf (showOf s f buffer image) .rows ≡ length (rowsOf s)
+  pub masked : fieldsOf (showOf s f buffer image) .masked ≡ cond (p .masked) 1 0
   pub cells : imageOf s f buffer image ≡ p .samples ++ drop (imageSize (nodesOf s)) image
 
 pub record Drawing (s : List ℕ) (f : ℕ) : Type 0 where
   -- Every frame of an accepted object can be drawn.
   pub drawable : IsAccepted s → IsFrame s f → Whole (nodesOf s) f
   -- Every frame of an accepted object is drawn where there is room,
-  pub drawn : (buffer image : List ℕ) → IsAccepted s → IsFrame s f → HasRoom s buffer image → codeOf (showOf s f buffer image) ≡ 0
+  pub drawn : (buffer image : List ℕ) → IsAccepted s → IsFrame s f → HasRoom s buffer image → fieldsOf (showOf s f buffer image) .code ≡ 0
   -- and nothing else is.
-  pub nothing-else : (buffer image : List ℕ) → codeOf (showOf s f buffer image) ≡ 0 → IsAccepted s × (IsFrame s f × HasRoom s buffer image)
+  pub nothing-else : (buffer image : List ℕ) → fieldsOf (showOf s f buffer image) .code ≡ 0 → IsAccepted s × (IsFrame s f × HasRoom s buffer image)
   -- What is drawn is what the steps give.
-  pub as-stepped : (buffer image : List ℕ) → codeOf (showOf s f buffer image) ≡ 0 → HandsBack s f buffer image
+  pub as-stepped : (buffer image : List ℕ) → fieldsOf (showOf s f buffer image) .code ≡ 0 → HandsBack s f buffer image

@@ -6,6 +6,7 @@ use mathlib.Core.List.{List, [], _++_}
 use mathlib.Core.Option.{Option, none, some}
 use lib.ListN.{length, drop}
 use lib.Dec.{leb}
+use Rattle.dataset.specs.Fields.{Fields, codeAlone, placed, drawn, broken}
 use Rattle.node.specs.Nodes.{Node, nodesOf, root}
 use Rattle.element.specs.Tags
 use Rattle.element.specs.Elements.{usIn}
@@ -64,57 +65,12 @@ imageBy p image shown.NoImageRoom = image
 unfoldable pub imageOf : List ℕ → ℕ → List ℕ → List ℕ → List ℕ
 imageOf s f buffer image = imageBy (pictureOf (nodesOf s) f) image (showOf s f buffer image)
 
--- The paper's numbers of each case; fields not named are 0. Masked is 1, native 0.
-abbrev pub codeOf : ShowAnswer → ℕ
-codeOf (shown.Drawn n masked) = 0
-codeOf (shown.Broken n rule frame) = 9
-codeOf (shown.Refused code offset) = code
-codeOf shown.TooLarge = 7
-codeOf shown.NoRoom = 8
-codeOf shown.NoFrame = 10
-codeOf shown.NoImageRoom = 11
-
-abbrev pub rowCountOf : ShowAnswer → ℕ
-rowCountOf (shown.Drawn n masked) = n
-rowCountOf (shown.Broken n rule frame) = n
-rowCountOf (shown.Refused code offset) = 0
-rowCountOf shown.TooLarge = 0
-rowCountOf shown.NoRoom = 0
-rowCountOf shown.NoFrame = 0
-rowCountOf shown.NoImageRoom = 0
-
-abbrev pub ruleOf : ShowAnswer → ℕ
-ruleOf (shown.Drawn n masked) = 0
-ruleOf (shown.Broken n rule frame) = rule
-ruleOf (shown.Refused code offset) = 0
-ruleOf shown.TooLarge = 0
-ruleOf shown.NoRoom = 0
-ruleOf shown.NoFrame = 0
-ruleOf shown.NoImageRoom = 0
-
-abbrev pub frameOf : ShowAnswer → ℕ
-frameOf (shown.Drawn n masked) = 0
-frameOf (shown.Broken n rule frame) = frame
-frameOf (shown.Refused code offset) = 0
-frameOf shown.TooLarge = 0
-frameOf shown.NoRoom = 0
-frameOf shown.NoFrame = 0
-frameOf shown.NoImageRoom = 0
-
-abbrev pub offsetOf : ShowAnswer → ℕ
-offsetOf (shown.Drawn n masked) = 0
-offsetOf (shown.Broken n rule frame) = 0
-offsetOf (shown.Refused code offset) = offset
-offsetOf shown.TooLarge = 0
-offsetOf shown.NoRoom = 0
-offsetOf shown.NoFrame = 0
-offsetOf shown.NoImageRoom = 0
-
-abbrev pub maskedOf : ShowAnswer → ℕ
-maskedOf (shown.Drawn n masked) = cond masked 1 0
-maskedOf (shown.Broken n rule frame) = 0
-maskedOf (shown.Refused code offset) = 0
-maskedOf shown.TooLarge = 0
-maskedOf shown.NoRoom = 0
-maskedOf shown.NoFrame = 0
-maskedOf shown.NoImageRoom = 0
+-- The paper's numbers of each case.
+abbrev pub fieldsOf : ShowAnswer → Fields
+fieldsOf (shown.Drawn n masked) = drawn n (cond masked 1 0)
+fieldsOf (shown.Broken n rule frame) = broken n rule frame
+fieldsOf (shown.Refused code offset) = placed code offset
+fieldsOf shown.TooLarge = codeAlone 7
+fieldsOf shown.NoRoom = codeAlone 8
+fieldsOf shown.NoFrame = codeAlone 10
+fieldsOf shown.NoImageRoom = codeAlone 11

@@ -8,9 +8,10 @@ ghost use lib.ListN.{length, drop, getD};
 ghost use Rattle.value.specs.declared.Num.the-variants as num;
 ghost use Rattle.conformance.specs.declared.Finding.the-variants as finding;
 ghost use Rattle.dataset.specs.Reading.{readingOf};
+ghost use Rattle.dataset.specs.Fields.{Answers};
 ghost use Rattle.dataset.specs.Answer.{bufferOf};
 ghost use Rattle.conformance.specs.Judging.{numberOf, findingOf};
-ghost use Rattle.display.specs.Show.{imageSize, imageBy, pictureOf, acceptedAnswer, showOf, imageOf};
+ghost use Rattle.display.specs.Show.{imageSize, imageBy, pictureOf, acceptedAnswer, showOf, imageOf, fieldsOf};
 ghost use Rattle.value.specs.Said.{Below};
 ghost use Rattle.node.specs.Nodes.{nodesOf};
 ghost use Rattle.node.specs.Table.{Table};
@@ -273,7 +274,7 @@ pub fn show_table(
 
 // Judges the data set afresh and draws a frame of it.
 pub fn show(bytes: &[u8], frame: u64, rows: &mut [u32], image: &mut [u8]) -> ShowAnswer
-    ensures { λ r. ⌜ r ≡ showOf (now (bytes .entry)) frame (now (rows .entry)) (now (image .entry)) ⌝ }
+    ensures { λ r. ⌜ Answers fieldsOf r (showOf (now (bytes .entry)) frame (now (rows .entry)) (now (image .entry))) ⌝ }
     ensures { λ _. ⌜ now (rows .exit) ≡ bufferOf (readingOf (now (bytes .entry))) (now (rows .entry)) ⌝ }
     ensures { λ _. ⌜ now (image .exit) ≡ imageOf (now (bytes .entry)) frame (now (rows .entry)) (now (image .entry)) ⌝ }
 {

@@ -21,7 +21,7 @@ use Rattle.conformance.specs.declared.JudgeAnswer.{JudgeAnswer}
 use Rattle.conformance.specs.declared.JudgeAnswer.the-variants as judged
 use Rattle.conformance.specs.Judging.{findingOf, answerFor, judgeOf}
 use Rattle.steps.specs.Steps.{Picture, stepsOf}
-use Rattle.display.specs.Show.{imageSize, showOf, imageOf, codeOf}
+use Rattle.display.specs.Show.{imageSize, showOf, imageOf, fieldsOf}
 use Rattle.display.specs.declared.ShowAnswer.{ShowAnswer}
 use Rattle.display.specs.declared.ShowAnswer.the-variants as shown
 use Rattle.display.specs.Drawing.{Bytes, IsAccepted, IsFrame, HasRoom, Drawing}
@@ -37,7 +37,7 @@ use Rattle.file.specs.declared.JudgeFileAnswer.{JudgeFileAnswer}
 use Rattle.file.specs.declared.JudgeFileAnswer.the-variants as judgeFile
 use Rattle.file.specs.declared.ShowFileAnswer.{ShowFileAnswer}
 use Rattle.file.specs.declared.ShowFileAnswer.the-variants as showFile
-use Rattle.file.specs.File.{startBy, startOf, startCode, sameClass, readIn, readPart, readBy, readFileOf, rowsBy, rowsLeft, judgeIn, judgePart, judgeBy, judgeFileOf, showIn, showPart, showBy, showFileOf, imageIn, imagePart, imageLeftBy, imageLeft, readCode, judgeCode, showCode}
+use Rattle.file.specs.File.{startBy, startOf, startFields, sameClass, readIn, readPart, readBy, readFileOf, rowsBy, rowsLeft, judgeIn, judgePart, judgeBy, judgeFileOf, showIn, showPart, showBy, showFileOf, imageIn, imagePart, imageLeftBy, imageLeft, readFields, judgeFields, showFields}
 use Rattle.file.specs.Files as files
 
 -- ---- Answers with 18 put in
@@ -192,18 +192,18 @@ bytes-part : (s : List ℕ) (from : ℕ) → Bytes s → Bytes (drop from s)
 bytes-part s from b i = subst (λ (x : ℕ). x < 256) (sym (getD-drop from s i 0)) (b (from + i))
 
 -- What is drawn is not 18.
-drawn-other : {x : ShowFileAnswer} → showCode x ≡ 0 → x ≡ showFile.OtherClass → ⊥
+drawn-other : {x : ShowFileAnswer} → showFields x .code ≡ 0 → x ≡ showFile.OtherClass → ⊥
 drawn-other {x} e f =
-    let g : showCode x ≡ 18 = ap showCode f in
+    let g : showFields x .code ≡ 18 = ap (λ (x : ShowFileAnswer). showFields x .code) f in
     absurd (omega (arith, e, g))
 
 of-3 : (s : List ℕ) (from f : ℕ) → files.AsBare s from → Promise (drop from s) f → files.Demand3 s from f
 of-3 s from f w p =
-    let code : (buffer image : List ℕ) → showCode (showFileOf s f buffer image) ≡ 0 → codeOf (showOf (drop from s) f buffer image) ≡ 0 =
-    λ buffer image e. sym (ap showCode (w .show f buffer image (drawn-other e) .0)) ∙ e in
+    let code : (buffer image : List ℕ) → showFields (showFileOf s f buffer image) .code ≡ 0 → fieldsOf (showOf (drop from s) f buffer image) .code ≡ 0 =
+    λ buffer image e. sym (ap (λ (x : ShowFileAnswer). showFields x .code) (w .show f buffer image (drawn-other e) .0)) ∙ e in
     record {
       promise = p;
-      drawn = λ buffer image a i r n. ap showCode (w .show f buffer image n .0) ∙ p .drawing .drawn buffer image a i r;
+      drawn = λ buffer image a i r n. ap (λ (x : ShowFileAnswer). showFields x .code) (w .show f buffer image n .0) ∙ p .drawing .drawn buffer image a i r;
       nothing-else = λ buffer image e. p .drawing .nothing-else buffer image (code buffer image e);
       as-stepped = λ buffer image e.
           let h = p .drawing .as-stepped buffer image (code buffer image e) in
@@ -213,37 +213,37 @@ of-3 s from f w p =
 -- ---- 15, 16 and 17
 
 module _ (s : List ℕ) where
-  read-refused : (m : Meta) → (startCode (startBy m) ≡ 0 → ⊥) → (buffer : List ℕ) → readCode (readBy s m buffer) ≡ startCode (startBy m)
+  read-refused : (m : Meta) → (startFields (startBy m) .code ≡ 0 → ⊥) → (buffer : List ℕ) → readFields (readBy s m buffer) ≡ startFields (startBy m)
   read-refused (head.Good from a b) h buffer = absurd (h refl)
   read-refused head.NoMark h buffer = refl
   read-refused head.BadHead h buffer = refl
   read-refused head.OtherSyntax h buffer = refl
 
-  judge-refused : (m : Meta) → (startCode (startBy m) ≡ 0 → ⊥) → (buffer : List ℕ) → judgeCode (judgeBy s m buffer) ≡ startCode (startBy m)
+  judge-refused : (m : Meta) → (startFields (startBy m) .code ≡ 0 → ⊥) → (buffer : List ℕ) → judgeFields (judgeBy s m buffer) ≡ startFields (startBy m)
   judge-refused (head.Good from a b) h buffer = absurd (h refl)
   judge-refused head.NoMark h buffer = refl
   judge-refused head.BadHead h buffer = refl
   judge-refused head.OtherSyntax h buffer = refl
 
-  show-refused : (m : Meta) → (startCode (startBy m) ≡ 0 → ⊥) → (f : ℕ) (buffer image : List ℕ) → showCode (showBy s m f buffer image) ≡ startCode (startBy m)
+  show-refused : (m : Meta) → (startFields (startBy m) .code ≡ 0 → ⊥) → (f : ℕ) (buffer image : List ℕ) → showFields (showBy s m f buffer image) ≡ startFields (startBy m)
   show-refused (head.Good from a b) h f buffer image = absurd (h refl)
   show-refused head.NoMark h f buffer image = refl
   show-refused head.BadHead h f buffer image = refl
   show-refused head.OtherSyntax h f buffer image = refl
 
-  rows-untouched : (m : Meta) → (startCode (startBy m) ≡ 0 → ⊥) → (buffer : List ℕ) → rowsBy s m buffer ≡ buffer
+  rows-untouched : (m : Meta) → (startFields (startBy m) .code ≡ 0 → ⊥) → (buffer : List ℕ) → rowsBy s m buffer ≡ buffer
   rows-untouched (head.Good from a b) h buffer = absurd (h refl)
   rows-untouched head.NoMark h buffer = refl
   rows-untouched head.BadHead h buffer = refl
   rows-untouched head.OtherSyntax h buffer = refl
 
-  image-untouched : (m : Meta) → (startCode (startBy m) ≡ 0 → ⊥) → (f : ℕ) (buffer image : List ℕ) → imageLeftBy s m f buffer image ≡ image
+  image-untouched : (m : Meta) → (startFields (startBy m) .code ≡ 0 → ⊥) → (f : ℕ) (buffer image : List ℕ) → imageLeftBy s m f buffer image ≡ image
   image-untouched (head.Good from a b) h f buffer image = absurd (h refl)
   image-untouched head.NoMark h f buffer image = refl
   image-untouched head.BadHead h f buffer image = refl
   image-untouched head.OtherSyntax h f buffer image = refl
 
-  refused : (startCode (startOf s) ≡ 0 → ⊥) → files.Refuses s
+  refused : (startFields (startOf s) .code ≡ 0 → ⊥) → files.Refuses s
   unfolding startOf readFileOf judgeFileOf showFileOf rowsLeft imageLeft
   refused h =
       record {

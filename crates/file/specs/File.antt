@@ -6,6 +6,7 @@ use mathlib.Core.Bool.{Bool, true, false, cond}
 use mathlib.Core.List.{List, []}
 use lib.ListN.{drop}
 use Rattle.dataset.specs.Reading.{readingOf}
+use Rattle.dataset.specs.Fields.{Fields, codeAlone, placed}
 use Rattle.dataset.specs.Answer as reading
 use Rattle.dataset.specs.declared.ReadAnswer.{ReadAnswer}
 use Rattle.dataset.specs.declared.ReadAnswer.the-variants as read
@@ -43,18 +44,12 @@ startBy head.OtherSyntax = start.OtherSyntax
 unfoldable pub startOf : List ℕ → Start
 startOf s = startBy (metaOf s)
 
--- The paper's numbers of each case.
-abbrev pub startCode : Start → ℕ
-startCode (start.At from) = 0
-startCode start.NoMark = 15
-startCode start.BadHead = 16
-startCode start.OtherSyntax = 17
-
-abbrev pub startOffset : Start → ℕ
-startOffset (start.At from) = from
-startOffset start.NoMark = 0
-startOffset start.BadHead = 0
-startOffset start.OtherSyntax = 0
+-- The paper's numbers of each case; the place is where the data set starts.
+abbrev pub startFields : Start → Fields
+startFields (start.At from) = placed 0 from
+startFields start.NoMark = codeAlone 15
+startFields start.BadHead = codeAlone 16
+startFields start.OtherSyntax = codeAlone 17
 
 -- ---- 18
 
@@ -158,25 +153,25 @@ imageLeftBy s head.OtherSyntax f buffer image = image
 unfoldable pub imageLeft : List ℕ → ℕ → List ℕ → List ℕ → List ℕ
 imageLeft s f buffer image = imageLeftBy s (metaOf s) f buffer image
 
--- ---- The paper's numbers of each case; the other fields of 15 to 18 are 0
+-- ---- The paper's numbers of each case: those of the bare call; 15 to 18 alone
 
-abbrev pub readCode : ReadFileAnswer → ℕ
-readCode (readFile.Read a) = reading.codeOf a
-readCode readFile.NoMark = 15
-readCode readFile.BadHead = 16
-readCode readFile.OtherSyntax = 17
-readCode readFile.OtherClass = 18
+abbrev pub readFields : ReadFileAnswer → Fields
+readFields (readFile.Read a) = reading.fieldsOf a
+readFields readFile.NoMark = codeAlone 15
+readFields readFile.BadHead = codeAlone 16
+readFields readFile.OtherSyntax = codeAlone 17
+readFields readFile.OtherClass = codeAlone 18
 
-abbrev pub judgeCode : JudgeFileAnswer → ℕ
-judgeCode (judgeFile.Judged a) = judging.codeOf a
-judgeCode judgeFile.NoMark = 15
-judgeCode judgeFile.BadHead = 16
-judgeCode judgeFile.OtherSyntax = 17
-judgeCode judgeFile.OtherClass = 18
+abbrev pub judgeFields : JudgeFileAnswer → Fields
+judgeFields (judgeFile.Judged a) = judging.fieldsOf a
+judgeFields judgeFile.NoMark = codeAlone 15
+judgeFields judgeFile.BadHead = codeAlone 16
+judgeFields judgeFile.OtherSyntax = codeAlone 17
+judgeFields judgeFile.OtherClass = codeAlone 18
 
-abbrev pub showCode : ShowFileAnswer → ℕ
-showCode (showFile.Shown a) = showing.codeOf a
-showCode showFile.NoMark = 15
-showCode showFile.BadHead = 16
-showCode showFile.OtherSyntax = 17
-showCode showFile.OtherClass = 18
+abbrev pub showFields : ShowFileAnswer → Fields
+showFields (showFile.Shown a) = showing.fieldsOf a
+showFields showFile.NoMark = codeAlone 15
+showFields showFile.BadHead = codeAlone 16
+showFields showFile.OtherSyntax = codeAlone 17
+showFields showFile.OtherClass = codeAlone 18

@@ -25,7 +25,7 @@ use Rattle.file.specs.declared.Start.the-variants as start
 use Rattle.file.specs.declared.ReadFileAnswer.the-variants as readFile
 use Rattle.file.specs.declared.JudgeFileAnswer.the-variants as judgeFile
 use Rattle.file.specs.declared.ShowFileAnswer.the-variants as showFile
-use Rattle.file.specs.File.{startOf, startCode, readFileOf, rowsLeft, judgeFileOf, showFileOf, imageLeft, readCode, judgeCode, showCode}
+use Rattle.file.specs.File.{startOf, startFields, readFileOf, rowsLeft, judgeFileOf, showFileOf, imageLeft, readFields, judgeFields, showFields}
 
 -- The calls on a file s whose data set starts at `from`, beside the bare calls on that part.
 pub record AsBare (s : List ℕ) (from : ℕ) : Type 0 where
@@ -59,16 +59,16 @@ pub record Drawn (s : List ℕ) (from f : ℕ) (buffer image : List ℕ) : Type 
 pub record Demand3 (s : List ℕ) (from f : ℕ) : Type 0 where
   pub promise : Promise (drop from s) f
   pub drawn : (buffer image : List ℕ) → IsAccepted (drop from s) → IsFrame (drop from s) f → HasRoom (drop from s) buffer image
-      → (showFileOf s f buffer image ≡ showFile.OtherClass → ⊥) → showCode (showFileOf s f buffer image) ≡ 0
-  pub nothing-else : (buffer image : List ℕ) → showCode (showFileOf s f buffer image) ≡ 0
+      → (showFileOf s f buffer image ≡ showFile.OtherClass → ⊥) → showFields (showFileOf s f buffer image) .code ≡ 0
+  pub nothing-else : (buffer image : List ℕ) → showFields (showFileOf s f buffer image) .code ≡ 0
       → IsAccepted (drop from s) × (IsFrame (drop from s) f × HasRoom (drop from s) buffer image)
-  pub as-stepped : (buffer image : List ℕ) → showCode (showFileOf s f buffer image) ≡ 0 → Drawn s from f buffer image
+  pub as-stepped : (buffer image : List ℕ) → showFields (showFileOf s f buffer image) .code ≡ 0 → Drawn s from f buffer image
 
 -- 15, 16 and 17: the code alone, from each call, and nothing is touched.
 pub record Refuses (s : List ℕ) : Type 0 where
-  pub read : (buffer : List ℕ) → readCode (readFileOf s buffer) ≡ startCode (startOf s)
-  pub judge : (buffer : List ℕ) → judgeCode (judgeFileOf s buffer) ≡ startCode (startOf s)
-  pub show : (f : ℕ) (buffer image : List ℕ) → showCode (showFileOf s f buffer image) ≡ startCode (startOf s)
+  pub read : (buffer : List ℕ) → readFields (readFileOf s buffer) ≡ startFields (startOf s)
+  pub judge : (buffer : List ℕ) → judgeFields (judgeFileOf s buffer) ≡ startFields (startOf s)
+  pub show : (f : ℕ) (buffer image : List ℕ) → showFields (showFileOf s f buffer image) ≡ startFields (startOf s)
   pub rows : (buffer : List ℕ) → rowsLeft s buffer ≡ buffer
   pub image : (f : ℕ) (buffer image : List ℕ) → imageLeft s f buffer image ≡ image
 
@@ -77,7 +77,7 @@ pub record Files (s : List ℕ) : Type 0 where
   pub bare : (from : ℕ) → startOf s ≡ start.At from → AsBare s from
   pub demand-2 : (from : ℕ) → startOf s ≡ start.At from → Demand2 s from
   pub demand-3 : (from : ℕ) → startOf s ≡ start.At from → Bytes s → (f : ℕ) → Demand3 s from f
-  pub refuses : (startCode (startOf s) ≡ 0 → ⊥) → Refuses s
+  pub refuses : (startFields (startOf s) .code ≡ 0 → ⊥) → Refuses s
 
 abbrev pub AllFiles : Type 0
 AllFiles = (s : List ℕ) → Files s

@@ -9,10 +9,11 @@ ghost use mathlib.Core.Path.{_≡_};
 ghost use Prim.Native.Nat.{_≤_};
 ghost use lib.ListN.{length};
 ghost use Rattle.dataset.specs.Reading.{readingOf};
+ghost use Rattle.dataset.specs.Fields.{Answers};
 ghost use Rattle.dataset.specs.Answer.{bufferOf};
 ghost use Rattle.node.specs.Nodes.{nodesOf};
 ghost use Rattle.node.specs.Table.{Table};
-ghost use Rattle.file.specs.File.{startOf, sameClass, readPart, readFileOf, rowsLeft, judgePart, judgeFileOf, showPart, showFileOf, imagePart, imageLeft};
+ghost use Rattle.file.specs.File.{startOf, sameClass, readPart, readFileOf, rowsLeft, judgePart, judgeFileOf, showPart, showFileOf, imagePart, imageLeft, startFields, readFields, judgeFields, showFields};
 ghost use Rattle.file.specs.Part.{Rest};
 
 // Where the data set starts; codes 15, 16, 17.
@@ -52,7 +53,7 @@ pub enum ShowFileAnswer {
 
 // Where a file's data set starts.
 pub fn start_of(file: &[u8]) -> Start
-    ensures { λ r. ⌜ r ≡ startOf (now (file .entry)) ⌝ }
+    ensures { λ r. ⌜ Answers startFields r (startOf (now (file .entry))) ⌝ }
 {
     match meta::read_head(file) {
         Meta::NoMark => Start::NoMark,
@@ -173,7 +174,7 @@ fn show_part(
 
 // Reads a file's data set into rows of seven numbers.
 pub fn read_file(file: &[u8], rows: &mut [u32]) -> ReadFileAnswer
-    ensures { λ r. ⌜ r ≡ readFileOf (now (file .entry)) (now (rows .entry)) ⌝ }
+    ensures { λ r. ⌜ Answers readFields r (readFileOf (now (file .entry)) (now (rows .entry))) ⌝ }
     ensures { λ _. ⌜ now (rows .exit) ≡ rowsLeft (now (file .entry)) (now (rows .entry)) ⌝ }
 {
     match meta::read_head(file) {
@@ -186,7 +187,7 @@ pub fn read_file(file: &[u8], rows: &mut [u32]) -> ReadFileAnswer
 
 // Reads a file's data set afresh and judges it.
 pub fn judge_file(file: &[u8], rows: &mut [u32]) -> JudgeFileAnswer
-    ensures { λ r. ⌜ r ≡ judgeFileOf (now (file .entry)) (now (rows .entry)) ⌝ }
+    ensures { λ r. ⌜ Answers judgeFields r (judgeFileOf (now (file .entry)) (now (rows .entry))) ⌝ }
     ensures { λ _. ⌜ now (rows .exit) ≡ rowsLeft (now (file .entry)) (now (rows .entry)) ⌝ }
 {
     match meta::read_head(file) {
@@ -199,7 +200,7 @@ pub fn judge_file(file: &[u8], rows: &mut [u32]) -> JudgeFileAnswer
 
 // Judges a file's data set afresh and draws a frame of it.
 pub fn show_file(file: &[u8], frame: u64, rows: &mut [u32], image: &mut [u8]) -> ShowFileAnswer
-    ensures { λ r. ⌜ r ≡ showFileOf (now (file .entry)) frame (now (rows .entry)) (now (image .entry)) ⌝ }
+    ensures { λ r. ⌜ Answers showFields r (showFileOf (now (file .entry)) frame (now (rows .entry)) (now (image .entry))) ⌝ }
     ensures { λ _. ⌜ now (rows .exit) ≡ rowsLeft (now (file .entry)) (now (rows .entry)) ⌝ }
     ensures { λ _. ⌜ now (image .exit) ≡ imageLeft (now (file .entry)) frame (now (rows .entry)) (now (image .entry)) ⌝ }
 {

@@ -36,7 +36,7 @@ use Rattle.display.proofs.Drawing as display
 use Rattle.linear.specs.declared.LinearAnswer.{LinearAnswer}
 use Rattle.linear.specs.declared.LinearAnswer.the-variants as linear
 use Rattle.linear.specs.Mapping.{linearFor, isItem, isMapped, mappingBy, mappingOf}
-use Rattle.linear.specs.Answer.{entriesOf, acceptedAnswer, answerFor as linearFrom, valuesBy, linearOf, valuesOf, codeOf, rowCountOf}
+use Rattle.linear.specs.Answer.{entriesOf, acceptedAnswer, answerFor as linearFrom, valuesBy, linearOf, valuesOf, fieldsOf}
 use Rattle.linear.specs.Said.{Mappable}
 use Rattle.linear.specs.Demand3.{Mapped, Measured, Promise, Demand3}
 use Rattle.linear.proofs.Accepted.{mappable, item-lut}
@@ -62,22 +62,22 @@ module _ (s : List ℕ) (f : ℕ) (buffer values : List ℕ) where
     pub item : isMapped (nodesOf s) f ≡ true
     pub cells : imageSize (nodesOf s) ≤ length values
 
-  was-taken : (n : ℕ) → codeOf (acceptedAnswer (nodesOf s) f values n) ≡ 0 → Taken n
+  was-taken : (n : ℕ) → fieldsOf (acceptedAnswer (nodesOf s) f values n) .code ≡ 0 → Taken n
   unfolding acceptedAnswer
   was-taken n e = go (isFrameOf (nodesOf s) f) (isMapped (nodesOf s) f) (leb (imageSize (nodesOf s)) (length values)) refl refl refl e
     where
       go : (t m u : Bool) → isFrameOf (nodesOf s) f ≡ t → isMapped (nodesOf s) f ≡ m → leb (imageSize (nodesOf s)) (length values) ≡ u
-          → codeOf (cond t (cond m (cond u (linear.Mapped n) linear.NoValuesRoom) linear.NoItem) linear.NoFrame) ≡ 0 → Taken n
+          → fieldsOf (cond t (cond m (cond u (linear.Mapped n) linear.NoValuesRoom) linear.NoItem) linear.NoFrame) .code ≡ 0 → Taken n
       go true true true p w q e =
           record { frame = was-frame s f p; item = w; cells = leb-true (imageSize (nodesOf s)) (length values) q }
       go true true false p w q e = absurd (omega (arith, e))
       go true false u p w q e = absurd (omega (arith, e))
       go false m u p w q e = absurd (omega (arith, e))
 
-  was-accepted : codeOf (linearOf s f buffer values) ≡ 0 → IsAccepted s × (IsFrame s f × ((isMapped (nodesOf s) f ≡ true) × HasRoom s buffer values))
+  was-accepted : fieldsOf (linearOf s f buffer values) .code ≡ 0 → IsAccepted s × (IsFrame s f × ((isMapped (nodesOf s) f ≡ true) × HasRoom s buffer values))
   unfolding linearOf
   was-accepted e =
-      let j = was-judged s buffer (λ a. codeOf (linearFrom (nodesOf s) f values a))
+      let j = was-judged s buffer (λ a. fieldsOf (linearFrom (nodesOf s) f values a) .code)
       (record { broken = λ n rule frame. refl; refused = λ code offset. refl; too-large = refl; no-room = refl }) e in
       let d = was-taken (length (j .accepted .rows)) (j .code) in
       (j .accepted, (d .frame, (d .item, record { rows = j .room; cells = d .cells })))
@@ -98,7 +98,7 @@ module _ (s : List ℕ) (f : ℕ) (buffer values : List ℕ) where
       record {
         l = w .l;
         is = w .is;
-        rows = ap rowCountOf (maps-to a i m r);
+        rows = ap (λ (x : LinearAnswer). fieldsOf x .rows) (maps-to a i m r);
         numbers =
             subst (λ (n : ℕ). valuesOf s f buffer values ≡ w .l ++ drop n values) (w .size)
             (subst (λ (x : List ℕ). valuesOf s f buffer values ≡ x ++ drop (length x) values) (entries-is (w .l) (w .is)) (values-is a i m r));
@@ -134,7 +134,7 @@ demand-3 s b f =
     record {
       drawing = display.drawing s b f;
       mappable = whole s b f;
-      mapped = λ buffer values a i m r. ap codeOf (maps-to s f buffer values a i m r);
+      mapped = λ buffer values a i m r. ap (λ (x : LinearAnswer). fieldsOf x .code) (maps-to s f buffer values a i m r);
       nothing-else = was-accepted s f;
       as-mapped = λ buffer values e.
           let w = was-accepted s f buffer values e in

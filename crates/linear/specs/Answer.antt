@@ -6,6 +6,7 @@ use mathlib.Core.List.{List, [], _++_}
 use mathlib.Core.Option.{Option, none, some}
 use lib.ListN.{length, drop}
 use lib.Dec.{leb}
+use Rattle.dataset.specs.Fields.{Fields, codeAlone, placed, counted, broken}
 use Rattle.node.specs.Nodes.{Node, nodesOf}
 use Rattle.conformance.specs.Judging.{judgeOf}
 use Rattle.conformance.specs.declared.JudgeAnswer.{JudgeAnswer}
@@ -56,53 +57,13 @@ valuesBy l values linear.NoValuesRoom = values
 unfoldable pub valuesOf : List ℕ → ℕ → List ℕ → List ℕ → List ℕ
 valuesOf s f buffer values = valuesBy (entriesOf (nodesOf s) f) values (linearOf s f buffer values)
 
--- The paper's numbers of each case; fields not named are 0.
-abbrev pub codeOf : LinearAnswer → ℕ
-codeOf (linear.Mapped n) = 0
-codeOf (linear.Broken n rule frame) = 9
-codeOf (linear.Refused code offset) = code
-codeOf linear.TooLarge = 7
-codeOf linear.NoRoom = 8
-codeOf linear.NoFrame = 10
-codeOf linear.NoItem = 20
-codeOf linear.NoValuesRoom = 11
-
-abbrev pub rowCountOf : LinearAnswer → ℕ
-rowCountOf (linear.Mapped n) = n
-rowCountOf (linear.Broken n rule frame) = n
-rowCountOf (linear.Refused code offset) = 0
-rowCountOf linear.TooLarge = 0
-rowCountOf linear.NoRoom = 0
-rowCountOf linear.NoFrame = 0
-rowCountOf linear.NoItem = 0
-rowCountOf linear.NoValuesRoom = 0
-
-abbrev pub ruleOf : LinearAnswer → ℕ
-ruleOf (linear.Mapped n) = 0
-ruleOf (linear.Broken n rule frame) = rule
-ruleOf (linear.Refused code offset) = 0
-ruleOf linear.TooLarge = 0
-ruleOf linear.NoRoom = 0
-ruleOf linear.NoFrame = 0
-ruleOf linear.NoItem = 0
-ruleOf linear.NoValuesRoom = 0
-
-abbrev pub frameOf : LinearAnswer → ℕ
-frameOf (linear.Mapped n) = 0
-frameOf (linear.Broken n rule frame) = frame
-frameOf (linear.Refused code offset) = 0
-frameOf linear.TooLarge = 0
-frameOf linear.NoRoom = 0
-frameOf linear.NoFrame = 0
-frameOf linear.NoItem = 0
-frameOf linear.NoValuesRoom = 0
-
-abbrev pub offsetOf : LinearAnswer → ℕ
-offsetOf (linear.Mapped n) = 0
-offsetOf (linear.Broken n rule frame) = 0
-offsetOf (linear.Refused code offset) = offset
-offsetOf linear.TooLarge = 0
-offsetOf linear.NoRoom = 0
-offsetOf linear.NoFrame = 0
-offsetOf linear.NoItem = 0
-offsetOf linear.NoValuesRoom = 0
+-- The papers' numbers of each case.
+abbrev pub fieldsOf : LinearAnswer → Fields
+fieldsOf (linear.Mapped n) = counted n
+fieldsOf (linear.Broken n rule frame) = broken n rule frame
+fieldsOf (linear.Refused code offset) = placed code offset
+fieldsOf linear.TooLarge = codeAlone 7
+fieldsOf linear.NoRoom = codeAlone 8
+fieldsOf linear.NoFrame = codeAlone 10
+fieldsOf linear.NoItem = codeAlone 20
+fieldsOf linear.NoValuesRoom = codeAlone 11

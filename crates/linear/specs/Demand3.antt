@@ -18,7 +18,7 @@ use Rattle.node.specs.Nodes.{Node, nodesOf}
 use Rattle.display.specs.Show.{imageSize}
 use Rattle.display.specs.Drawing.{Bytes, IsAccepted, IsFrame, HasRoom, Drawing}
 use Rattle.linear.specs.Mapping.{mappingOf, isMapped}
-use Rattle.linear.specs.Answer.{linearOf, valuesOf, codeOf, rowCountOf}
+use Rattle.linear.specs.Answer.{linearOf, valuesOf, fieldsOf}
 
 -- The mapping lacks nothing at frame f: it gives exactly Rows × Columns numbers.
 pub record Mapped (ns : List Node) (f : ℕ) : Type 0 where
@@ -30,7 +30,7 @@ pub record Mapped (ns : List Node) (f : ℕ) : Type 0 where
 pub record Measured (s : List ℕ) (f : ℕ) (buffer values : List ℕ) : Type 0 where
   pub l : List ℕ
   pub is : mappingOf (nodesOf s) f ≡ some l
-  pub rows : rowCountOf (linearOf s f buffer values) ≡ length (rowsOf s)
+  pub rows : fieldsOf (linearOf s f buffer values) .rows ≡ length (rowsOf s)
   pub numbers : valuesOf s f buffer values ≡ l ++ drop (imageSize (nodesOf s)) values
 
 pub record Promise (s : List ℕ) (f : ℕ) : Type 0 where
@@ -40,12 +40,12 @@ pub record Promise (s : List ℕ) (f : ℕ) : Type 0 where
   pub mappable : IsAccepted s → IsFrame s f → isMapped (nodesOf s) f ≡ true → Mapped (nodesOf s) f
   -- It is mapped where there is room,
   pub mapped : (buffer values : List ℕ) → IsAccepted s → IsFrame s f → isMapped (nodesOf s) f ≡ true → HasRoom s buffer values
-      → codeOf (linearOf s f buffer values) ≡ 0
+      → fieldsOf (linearOf s f buffer values) .code ≡ 0
   -- and nothing else is.
-  pub nothing-else : (buffer values : List ℕ) → codeOf (linearOf s f buffer values) ≡ 0
+  pub nothing-else : (buffer values : List ℕ) → fieldsOf (linearOf s f buffer values) .code ≡ 0
       → IsAccepted s × (IsFrame s f × ((isMapped (nodesOf s) f ≡ true) × HasRoom s buffer values))
   -- What is handed back is what the mapping gives.
-  pub as-mapped : (buffer values : List ℕ) → codeOf (linearOf s f buffer values) ≡ 0 → Measured s f buffer values
+  pub as-mapped : (buffer values : List ℕ) → fieldsOf (linearOf s f buffer values) .code ≡ 0 → Measured s f buffer values
 
 -- For every data set, given as bytes, and every frame number.
 abbrev pub Demand3 : Type 0

@@ -7,6 +7,7 @@ ghost use lib.ListN.{length, drop, getD};
 ghost use Rattle.conformance.specs.declared.Finding.the-variants as finding;
 ghost use Rattle.dataset.specs.Bytes.{le16};
 ghost use Rattle.dataset.specs.Reading.{readingOf};
+ghost use Rattle.dataset.specs.Fields.{Answers};
 ghost use Rattle.dataset.specs.Answer.{bufferOf};
 ghost use Rattle.conformance.specs.Judging.{findingOf};
 ghost use Rattle.node.specs.Nodes.{nodesOf};
@@ -16,7 +17,7 @@ ghost use Rattle.pixel.specs.Painted.{painted};
 ghost use Rattle.value.specs.declared.Num.the-variants as num;
 ghost use Rattle.steps.specs.Said.{foundOf, FoundBelow};
 ghost use Rattle.linear.specs.Mapping.{linearOn, linearFor, placeOf, entryAt, mappingBy};
-ghost use Rattle.linear.specs.Answer.{entriesIn, entriesOf, acceptedAnswer, linearOf, valuesBy, valuesOf};
+ghost use Rattle.linear.specs.Answer.{entriesIn, entriesOf, acceptedAnswer, linearOf, valuesBy, valuesOf, fieldsOf};
 ghost use Rattle.linear.specs.Said.{MapReady, Mappable};
 use conformance::JudgeAnswer;
 use dataset::u16_at;
@@ -191,7 +192,7 @@ fn linear_table(
 
 // Judges the data set afresh and maps a frame of it.
 pub fn linear(bytes: &[u8], frame: u64, rows: &mut [u32], values: &mut [u16]) -> LinearAnswer
-    ensures { λ r. ⌜ r ≡ linearOf (now (bytes .entry)) frame (now (rows .entry)) (now (values .entry)) ⌝ }
+    ensures { λ r. ⌜ Answers fieldsOf r (linearOf (now (bytes .entry)) frame (now (rows .entry)) (now (values .entry))) ⌝ }
     ensures { λ _. ⌜ now (rows .exit) ≡ bufferOf (readingOf (now (bytes .entry))) (now (rows .entry)) ⌝ }
     ensures { λ _. ⌜ now (values .exit) ≡ valuesOf (now (bytes .entry)) frame (now (rows .entry)) (now (values .entry)) ⌝ }
 {

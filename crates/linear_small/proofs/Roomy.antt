@@ -24,7 +24,7 @@ use Rattle.display.proofs.Judged.{after-judging}
 use Rattle.linear.specs.declared.LinearAnswer.{LinearAnswer}
 use Rattle.linear.specs.declared.LinearAnswer.the-variants as linear
 use Rattle.linear.specs.Mapping.{isMapped}
-use Rattle.linear.specs.Answer.{entriesOf, acceptedAnswer, answerFor, linearOf, valuesBy, valuesOf, codeOf, rowCountOf}
+use Rattle.linear.specs.Answer.{entriesOf, acceptedAnswer, answerFor, linearOf, valuesBy, valuesOf, fieldsOf}
 use Rattle.linear.proofs.LinearAnswer.{the-type}
 use Rattle.linear_small.specs.declared.Mapped.{Mapped}
 use Rattle.linear_small.specs.Mapped.{refused, sized, mappedOf, valuesAfter}
@@ -47,19 +47,19 @@ module _ (s : List ℕ) (f : ℕ) (buffer values : List ℕ) (h : 7 * length s �
 -- ---- A frame that was mapped
 
 mapped-count : (t m u : Bool) (k n : ℕ) → linear.Mapped n ≡ cond t (cond m (cond u (linear.Mapped k) linear.NoValuesRoom) linear.NoItem) linear.NoFrame → n ≡ k
-mapped-count true true true k n e = ap rowCountOf e
-mapped-count true true false k n e = absurd (omega (arith, ap codeOf e))
-mapped-count true false u k n e = absurd (omega (arith, ap codeOf e))
-mapped-count false m u k n e = absurd (omega (arith, ap codeOf e))
+mapped-count true true true k n e = ap (λ (x : LinearAnswer). fieldsOf x .rows) e
+mapped-count true true false k n e = absurd (omega (arith, ap (λ (x : LinearAnswer). fieldsOf x .code) e))
+mapped-count true false u k n e = absurd (omega (arith, ap (λ (x : LinearAnswer). fieldsOf x .code) e))
+mapped-count false m u k n e = absurd (omega (arith, ap (λ (x : LinearAnswer). fieldsOf x .code) e))
 
 mapped-accepted : (ns : List Node) (f : ℕ) (values : List ℕ) (a : JudgeAnswer) (n : ℕ) → linear.Mapped n ≡ answerFor ns f values a
     → judged.Accepted n ≡ a
 unfolding acceptedAnswer
 mapped-accepted ns f values (judged.Accepted k) n e = ap judged.Accepted (mapped-count (isFrameOf ns f) (isMapped ns f) (leb (imageSize ns) (length values)) k n e)
-mapped-accepted ns f values (judged.Broken k rule frame) n e = absurd (omega (arith, ap codeOf e))
+mapped-accepted ns f values (judged.Broken k rule frame) n e = absurd (omega (arith, ap (λ (x : LinearAnswer). fieldsOf x .code) e))
 mapped-accepted ns f values (judged.Refused code offset) n e = let z : _≡_ {A = ℕ} 0 1 = cc in absurd (omega arith)
-mapped-accepted ns f values judged.TooLarge n e = absurd (omega (arith, ap codeOf e))
-mapped-accepted ns f values judged.NoRoom n e = absurd (omega (arith, ap codeOf e))
+mapped-accepted ns f values judged.TooLarge n e = absurd (omega (arith, ap (λ (x : LinearAnswer). fieldsOf x .code) e))
+mapped-accepted ns f values judged.NoRoom n e = absurd (omega (arith, ap (λ (x : LinearAnswer). fieldsOf x .code) e))
 
 -- The rows stand in the buffer.
 pub after-mapping : (s : List ℕ) (f : ℕ) (before values buffer : List ℕ) (n : ℕ) → linear.Mapped n ≡ linearOf s f before values

@@ -21,13 +21,14 @@ use Rattle.rules.specs.Mask.{hasShiftGroup, anyShift, rule31, rule32, rule33, r
 use Rattle.rules.specs.Pixels.{isPixelVr, isPixelData, rule38}
 use Rattle.rules.specs.Intensity.{item39, rule39}
 use Rattle.rules.specs.All.{ruleList, ruleAt}
+use Rattle.conformance.specs.declared.JudgeAnswer.{JudgeAnswer}
 use Rattle.conformance.specs.Judging.{firstFrame, frameCount, lowest, firstBroken, judgeOf}
 use Rattle.window.specs.Window.{fullWindow, levelOf, shadeOf}
 use Rattle.pixel.specs.Pixel.{leBytes, isFrame, sampleAt}
 use Rattle.steps.specs.Given.{collect}
 use Rattle.steps.specs.Steps.{geometryOf, pixelsOf, groupFor, applyingTo, maskFor, windowFor, inverseOf, nativeCell, pictureBy, stepsOf}
 use Rattle.display.specs.Show.{pictureOf, acceptedAnswer, showOf, imageOf}
-use Rattle.conformance.specs.Judging.{codeOf}
+use Rattle.conformance.specs.Judging.{fieldsOf}
 use Rattle.display.specs.Show as show
 use Rattle.privacy.specs.Privacy.{isPatient, SameButPatient, SameAnswers}
 use Rattle.privacy.specs.Pair.{one, other, patientSizes, buffer, image, Pair}
@@ -57,7 +58,7 @@ unfolding
     isPatient patientSizes
 sizes = (refl, refl)
 
-drawn : (codeOf (judgeOf one buffer) ≡ 0) × ((show.codeOf (showOf one 1 buffer image) ≡ 0) × (imageOf one 1 buffer image ≡ 7 ∷ 200 ∷ []))
+drawn : (fieldsOf (judgeOf one buffer) .code ≡ 0) × ((show.fieldsOf (showOf one 1 buffer image) .code ≡ 0) × (imageOf one 1 buffer image ≡ 7 ∷ 200 ∷ []))
 unfolding
     le16
     listed formOf
@@ -96,7 +97,7 @@ pair =
       sizes = sizes .0;
       other-sizes = sizes .1;
       accepted = drawn .0;
-      other-accepted = ap codeOf (sym (same .judged buffer)) ∙ drawn .0;
+      other-accepted = ap (λ (x : JudgeAnswer). fieldsOf x .code) (sym (same .judged buffer)) ∙ drawn .0;
       drawn = drawn .1 .0;
       picture = drawn .1 .1;
       other-picture = sym (same .picture 1 buffer image) ∙ drawn .1 .1;

@@ -8,7 +8,7 @@ use lib.ListN.{take, drop, replicate}
 use Rattle.dataset.specs.Reading.{Row}
 use Rattle.dataset.specs.Tree.{rowsOf}
 use Rattle.value.specs.Text.{ascii}
-use Rattle.conformance.specs.Judging.{judgeOf, codeOf}
+use Rattle.conformance.specs.Judging.{judgeOf, fieldsOf}
 use Rattle.display.specs.Show as show
 use Rattle.samples.specs.Objects.{short, oneFrame, noWindow}
 use Rattle.privacy.specs.Privacy.{isPatient, SameButPatient}
@@ -50,8 +50,8 @@ pub record Pair : Type 0 where
   pub premise : SameButPatient one other
   pub sizes : patientSizes (rowsOf one) ≡ 8 ∷ 4 ∷ 8 ∷ 2 ∷ []
   pub other-sizes : patientSizes (rowsOf other) ≡ 12 ∷ 6 ∷ 0 ∷ 8 ∷ []
-  pub accepted : codeOf (judgeOf one buffer) ≡ 0
-  pub other-accepted : codeOf (judgeOf other buffer) ≡ 0
-  pub drawn : show.codeOf (show.showOf one 1 buffer image) ≡ 0
+  pub accepted : fieldsOf (judgeOf one buffer) .code ≡ 0
+  pub other-accepted : fieldsOf (judgeOf other buffer) .code ≡ 0
+  pub drawn : show.fieldsOf (show.showOf one 1 buffer image) .code ≡ 0
   pub picture : show.imageOf one 1 buffer image ≡ 7 ∷ 200 ∷ []
   pub other-picture : show.imageOf other 1 buffer image ≡ 7 ∷ 200 ∷ []

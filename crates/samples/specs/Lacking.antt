@@ -9,7 +9,7 @@ use mathlib.Core.Bool.{Bool, true, false}
 use mathlib.Core.List.{List, [], _∷_, _++_}
 use mathlib.Core.Option.{Option, none, some}
 use Rattle.node.specs.Nodes.{nodesOf}
-use Rattle.conformance.specs.Judging.{judgeOf, codeOf, ruleOf}
+use Rattle.conformance.specs.Judging.{judgeOf, fieldsOf}
 use Rattle.steps.specs.Steps.{Picture, stepsOf}
 use Rattle.value.specs.Text.{ascii}
 use Rattle.samples.specs.Objects.{two, short, long, sequence, item, maskedBy}
@@ -28,7 +28,7 @@ pub record Case : Type 0 where
 abbrev pub stepped : List ℕ → ℕ → Option Picture → Case
 stepped bytes frame picture =
     record {
-      gives = record { code = codeOf (judgeOf bytes manyRows); rule = ruleOf (judgeOf bytes manyRows); picture = stepsOf (nodesOf bytes) frame };
+      gives = record { code = fieldsOf (judgeOf bytes manyRows) .code; rule = fieldsOf (judgeOf bytes manyRows) .rule; picture = stepsOf (nodesOf bytes) frame };
       says = record { code = 9; rule = 1; picture = picture };
     }
 

@@ -8,6 +8,8 @@
 -- picture, which is judged and drawn by all steps. The claim that both fields are the same in every line is `starred`, in
 -- proofs/Starred.antt; the prover works out every line.
 --
+-- The fields of an answer are written as in `Fields` of `Rattle.dataset`: `counted` rows; `placed`, a code and its place; `broken`, rows, rule and frame.
+--
 -- Numbers that the paper leaves open are worked out by hand: the fields of a row, how many rows a whole data set has, and the
 -- cells of its picture beside those that the paper names. A number 9 in a buffer is one that was not touched.
 use Prim.Native.Nat.{ℕ, _*_}
@@ -17,9 +19,9 @@ use mathlib.Core.Option.{Option, some}
 use lib.IntN.{pos}
 use lib.ListN.{take, replicate}
 use Rattle.dataset.specs.Reading.{readingOf}
+use Rattle.dataset.specs.Fields.{Fields, placed, counted, drawn, broken}
 use Rattle.dataset.specs.Answer.{answerOf, bufferOf}
 use Rattle.dataset.specs.Answer as read
-use Rattle.dataset.specs.declared.ReadAnswer.{ReadAnswer}
 use Rattle.value.specs.declared.Num.{Num}
 use Rattle.value.specs.declared.Num.the-variants.{Is}
 use Rattle.value.specs.declared.Signed.the-variants.{Plus}
@@ -28,7 +30,6 @@ use Rattle.value.specs.Number.{unit}
 use Rattle.node.specs.Nodes.{nodesOf}
 use Rattle.conformance.specs.Judging.{judgeOf}
 use Rattle.conformance.specs.Judging as judged
-use Rattle.conformance.specs.declared.JudgeAnswer.{JudgeAnswer}
 use Rattle.shift.specs.declared.Moves.{Moves}
 use Rattle.window.specs.declared.Window.{Window}
 use Rattle.window.specs.Window.{levelOf, fullWindow, shaded}
@@ -37,40 +38,20 @@ use Rattle.pixel.specs.Pixel.{maskAt}
 use Rattle.steps.specs.Steps.{Mask, native, masked, maskedCell, maskFor}
 use Rattle.display.specs.Show.{showOf, imageOf}
 use Rattle.display.specs.Show as shown
-use Rattle.display.specs.declared.ShowAnswer.{ShowAnswer}
 use Rattle.samples.specs.Objects.{two, threeFrames, oneFrame, tid, tidAbsent, averageOfTwo, noWindow, voi, exactVoi}
 
 -- ---- What comes out
 
--- The numbers of an answer ("What is handed back"); `offset` is the paper's place.
-pub record Numbers : Type 0 where
-  pub code : ℕ
-  pub rows : ℕ
-  pub rule : ℕ
-  pub frame : ℕ
-  pub offset : ℕ
-  pub masked : ℕ
+-- A picture that is shown with so many rows, native (0) or masked (1).
+abbrev pub shownNative : ℕ → Fields
+shownNative rows = drawn rows 0
 
--- Fields not named are 0: done, with so many rows; a code and its place; code 9, with so many rows, a rule and a frame; a picture that
--- is shown, native (0) or masked (1), with so many rows.
-abbrev pub done : ℕ → Numbers
-done rows = record { code = 0; rows = rows; rule = 0; frame = 0; offset = 0; masked = 0 }
-
-abbrev pub refused : ℕ → ℕ → Numbers
-refused code offset = record { code = code; rows = 0; rule = 0; frame = 0; offset = offset; masked = 0 }
-
-abbrev pub broken : ℕ → ℕ → ℕ → Numbers
-broken rows rule frame = record { code = 9; rows = rows; rule = rule; frame = frame; offset = 0; masked = 0 }
-
-abbrev pub shownNative : ℕ → Numbers
-shownNative = done
-
-abbrev pub shownMasked : ℕ → Numbers
-shownMasked rows = record { code = 0; rows = rows; rule = 0; frame = 0; offset = 0; masked = 1 }
+abbrev pub shownMasked : ℕ → Fields
+shownMasked rows = drawn rows 1
 
 pub data Outcome : Type 0 where
-  -- the numbers of an answer, and a buffer afterwards: the rows, or the image
-  Answer : Numbers → List ℕ → Outcome
+  -- the fields of an answer, and a buffer afterwards: the rows, or the image
+  Answer : Fields → List ℕ → Outcome
   -- a grey level
   Level : Num → Outcome
   -- a mask cell
@@ -136,26 +117,19 @@ unmoved = record { vertical = Plus 0; horizontal = Plus 0 }
 -- ---- The kinds of samples
 
 -- Bytes that are read with a row buffer: the answer, and the buffer afterwards.
-abbrev pub numbersRead : ReadAnswer → Numbers
-numbersRead a = record { code = read.codeOf a; rows = read.rowCountOf a; rule = 0; frame = 0; offset = read.offsetOf a; masked = 0 }
-
-abbrev pub reads : List ℕ → List ℕ → Numbers → List ℕ → Sample
-reads bytes buffer numbers after =
+abbrev pub reads : List ℕ → List ℕ → Fields → List ℕ → Sample
+reads bytes buffer fields after =
     record {
-      gives = Answer (numbersRead (answerOf (readingOf bytes) buffer)) (bufferOf (readingOf bytes) buffer);
-      says = Answer numbers after;
+      gives = Answer (read.fieldsOf (answerOf (readingOf bytes) buffer)) (bufferOf (readingOf bytes) buffer);
+      says = Answer fields after;
     }
 
 -- Bytes that are judged with a row buffer: the same.
-abbrev pub numbersJudged : JudgeAnswer → Numbers
-numbersJudged a =
-    record { code = judged.codeOf a; rows = judged.rowCountOf a; rule = judged.ruleOf a; frame = judged.frameOf a; offset = judged.offsetOf a; masked = 0 }
-
-abbrev pub judges : List ℕ → List ℕ → Numbers → List ℕ → Sample
-judges bytes buffer numbers after =
+abbrev pub judges : List ℕ → List ℕ → Fields → List ℕ → Sample
+judges bytes buffer fields after =
     record {
-      gives = Answer (numbersJudged (judgeOf bytes buffer)) (bufferOf (readingOf bytes) buffer);
-      says = Answer numbers after;
+      gives = Answer (judged.fieldsOf (judgeOf bytes buffer)) (bufferOf (readingOf bytes) buffer);
+      says = Answer fields after;
     }
 
 -- A number x under a window, and whether it is MONOCHROME1: the grey level y.
@@ -179,15 +153,11 @@ abbrev pub takes : List ℕ → ℕ → Mask → Sample
 takes bytes frame mask = record { gives = MaskedBy (maskFor (nodesOf bytes) frame); says = MaskedBy (some mask) }
 
 -- A data set that is shown at a frame, with room for its rows and an image buffer: the answer, and the image buffer afterwards.
-abbrev pub numbersShown : ShowAnswer → Numbers
-numbersShown a =
-    record { code = shown.codeOf a; rows = shown.rowCountOf a; rule = shown.ruleOf a; frame = shown.frameOf a; offset = shown.offsetOf a; masked = shown.maskedOf a }
-
-abbrev pub shows : List ℕ → ℕ → List ℕ → Numbers → List ℕ → Sample
-shows bytes frame image numbers after =
+abbrev pub shows : List ℕ → ℕ → List ℕ → Fields → List ℕ → Sample
+shows bytes frame image fields after =
     record {
-      gives = Answer (numbersShown (showOf bytes frame manyRows image)) (imageOf bytes frame manyRows image);
-      says = Answer numbers after;
+      gives = Answer (shown.fieldsOf (showOf bytes frame manyRows image)) (imageOf bytes frame manyRows image);
+      says = Answer fields after;
     }
 
 -- ---- The samples
@@ -196,19 +166,19 @@ shows bytes frame image numbers after =
 abbrev pub windowSamples : List Sample
 windowSamples =
     -- "No bytes: 0 rows; judged: 9, rule 1, frame 0."
-    reads [] lent (done 0) lent
+    reads [] lent (counted 0) lent
     ∷ judges [] [] (broken 0 1 0) []
     -- "7 bytes: 1, place 0."
-    ∷ reads (0 ∷ 0 ∷ 0 ∷ 0 ∷ 0 ∷ 0 ∷ 0 ∷ []) lent (refused 1 0) lent
-    ∷ reads (take 7 rowsElement) lent (refused 1 0) lent
+    ∷ reads (0 ∷ 0 ∷ 0 ∷ 0 ∷ 0 ∷ 0 ∷ 0 ∷ []) lent (placed 1 0) lent
+    ∷ reads (take 7 rowsElement) lent (placed 1 0) lent
     -- "28 00 10 00 55 53 02 00 02 00: one row. The same twice: 2, place 10."
-    ∷ reads rowsElement lent (done 1) (0x00280010 ∷ 0x5553 ∷ 0 ∷ 8 ∷ 2 ∷ 0 ∷ 0 ∷ 9 ∷ [])
-    ∷ reads (rowsElement ++ rowsElement) lent (refused 2 10) lent
+    ∷ reads rowsElement lent (counted 1) (0x00280010 ∷ 0x5553 ∷ 0 ∷ 8 ∷ 2 ∷ 0 ∷ 0 ∷ 9 ∷ [])
+    ∷ reads (rowsElement ++ rowsElement) lent (placed 2 10) lent
     -- "Length 03 00 instead: 4. FE FF 00 E0 00 00 00 00 at root: 5."
-    ∷ reads oddElement lent (refused 4 0) lent
-    ∷ reads (0xFE ∷ 0xFF ∷ 0x00 ∷ 0xE0 ∷ 0x00 ∷ 0x00 ∷ 0x00 ∷ 0x00 ∷ []) lent (refused 5 0) lent
+    ∷ reads oddElement lent (placed 4 0) lent
+    ∷ reads (0xFE ∷ 0xFF ∷ 0x00 ∷ 0xE0 ∷ 0x00 ∷ 0x00 ∷ 0x00 ∷ 0x00 ∷ []) lent (placed 5 0) lent
     -- "00 52 29 92 53 51 00 00, FF FF FF FF, FE FF DD E0 00 00 00 00: one row, length 0."
-    ∷ reads emptySequence lent (done 1) (0x52009229 ∷ 0x5351 ∷ 0 ∷ 12 ∷ 0 ∷ 0 ∷ 0 ∷ 9 ∷ [])
+    ∷ reads emptySequence lent (counted 1) (0x52009229 ∷ 0x5351 ∷ 0 ∷ 12 ∷ 0 ∷ 0 ∷ 0 ∷ 9 ∷ [])
     -- "Width 1, centre 50: 49 gives 0, 50 gives 255."
     ∷ levels monochrome2 (window 50 1) 49 0
     ∷ levels monochrome2 (window 50 1) 50 255

@@ -31,7 +31,7 @@ use Rattle.sheet.specs.declared.Scene.{Scene}
 use Rattle.sheet.specs.declared.SheetAnswer.{SheetAnswer}
 use Rattle.sheet.specs.declared.SheetAnswer.the-variants as answer
 use Rattle.sheet.specs.Sheet.{times, levelsOf, nativesOf, countsOf, lowestOf, highestOf, sumOf, sheetBy, framesSheet, noSheet}
-use Rattle.sheet.specs.Answer.{acceptedAnswer, answerFor, sheetFor, sheetOf, codeOf, rowCountOf}
+use Rattle.sheet.specs.Answer.{acceptedAnswer, answerFor, sheetFor, sheetOf, fieldsOf}
 use Rattle.sheet.specs.Said.{Few, First, Last, IsObject, IsScene}
 use Rattle.sheet.specs.Sampling.{Range, total, Consistent, HandsBack, Promise, Sampling}
 use Rattle.sheet.proofs.Counts.{counts-add, levels-append, count-is, times-most, upTo-most, sum-weighted}
@@ -166,12 +166,12 @@ module _ (s : List ℕ) (a b : ℕ) where
   both true q h = (refl, h)
   both false q h = let z : _≡_ {A = ℕ} 0 1 = cc in absurd (omega arith)
 
-  was-range : (n : ℕ) → codeOf (acceptedAnswer (nodesOf s) a b n) ≡ 0 → Range s a b
+  was-range : (n : ℕ) → fieldsOf (acceptedAnswer (nodesOf s) a b n) .code ≡ 0 → Range s a b
   unfolding acceptedAnswer
   was-range n e = go (leb a b) (isFrameOf (nodesOf s) a && isFrameOf (nodesOf s) b) refl refl e
     where
       go : (t u : Bool) → leb a b ≡ t → (isFrameOf (nodesOf s) a && isFrameOf (nodesOf s) b) ≡ u
-          → codeOf (cond t (cond u (answer.Done n) answer.NoFrame) answer.WrongOrder) ≡ 0 → Range s a b
+          → fieldsOf (cond t (cond u (answer.Done n) answer.NoFrame) answer.WrongOrder) .code ≡ 0 → Range s a b
       go true true p q e =
           let w = both (isFrameOf (nodesOf s) a) (isFrameOf (nodesOf s) b) q in
           record { order = leb-true a b p; first = was-frame s a (w .0); last = was-frame s b (w .1) }
@@ -187,14 +187,14 @@ module _ (s : List ℕ) (a b : ℕ) where
     unfolding sheetOf
     sheet-is = refl
 
-    was-done : codeOf (sheetOf s a b buffer .answer) ≡ 0 → IsAccepted s × (Range s a b × (width * length (rowsOf s) ≤ length buffer))
+    was-done : fieldsOf (sheetOf s a b buffer .answer) .code ≡ 0 → IsAccepted s × (Range s a b × (width * length (rowsOf s) ≤ length buffer))
     unfolding sheetOf
     was-done e =
-        let j = was-judged s buffer (λ x. codeOf (answerFor (nodesOf s) a b x))
+        let j = was-judged s buffer (λ x. fieldsOf (answerFor (nodesOf s) a b x) .code)
         (record { broken = λ n rule frame. refl; refused = λ code offset. refl; too-large = refl; no-room = refl }) e in
         (j .accepted, (was-range (length (j .accepted .rows)) (j .code), j .room))
 
-  zeros : (r : SheetAnswer) → 1 ≤ codeOf r → sheetFor (nodesOf s) a b r ≡ noSheet
+  zeros : (r : SheetAnswer) → 1 ≤ fieldsOf r .code → sheetFor (nodesOf s) a b r ≡ noSheet
   zeros (answer.Done n) h = absurd (omega arith)
   zeros (answer.Broken n rule frame) h = refl
   zeros (answer.Refused code offset) h = refl
@@ -233,12 +233,12 @@ module _ (s : List ℕ) (bytes : Bytes s) (a b : ℕ) (acc : IsAccepted s) (r : 
   handed buffer room =
       let is : sheetOf s a b buffer .answer ≡ answer.Done (length (rowsOf s)) = answered s a b buffer acc r room in
       let sheet : sheetOf s a b buffer .sheet ≡ framesSheet (nodesOf s) a b = sheet-is s a b buffer ∙ ap (sheetFor (nodesOf s) a b) is in
-      record { rows = ap rowCountOf is; of-pictures = sheet; pictures = whole; consistent = subst (λ (x : Numbers). Consistent x (b - a + 1) (imageSize (nodesOf s))) (sym sheet) all-consistent }
+      record { rows = ap (λ (x : SheetAnswer). fieldsOf x .rows) is; of-pictures = sheet; pictures = whole; consistent = subst (λ (x : Numbers). Consistent x (b - a + 1) (imageSize (nodesOf s))) (sym sheet) all-consistent }
 
 pub sampling : Sampling
 sampling s bytes a b buffer =
     record {
-      done = λ acc r room. ap codeOf (answered s a b buffer acc r room);
+      done = λ acc r room. ap (λ (x : SheetAnswer). fieldsOf x .code) (answered s a b buffer acc r room);
       nothing-else = was-done s a b buffer;
       as-drawn = λ e.
           let w = was-done s a b buffer e in

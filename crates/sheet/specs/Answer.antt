@@ -4,6 +4,7 @@ use Prim.Native.Nat.{ℕ}
 use mathlib.Core.Bool.{Bool, cond, _&&_}
 use mathlib.Core.List.{List}
 use lib.Dec.{leb}
+use Rattle.dataset.specs.Fields.{Fields, codeAlone, placed, counted, broken}
 use Rattle.node.specs.Nodes.{Node, nodesOf}
 use Rattle.conformance.specs.Judging.{judgeOf}
 use Rattle.conformance.specs.declared.JudgeAnswer.{JudgeAnswer}
@@ -46,48 +47,15 @@ withSheet ns a b r = record { answer = r; sheet = sheetFor ns a b r }
 unfoldable pub sheetOf : List ℕ → ℕ → ℕ → List ℕ → Sampled
 sheetOf s a b buffer = withSheet (nodesOf s) a b (answerFor (nodesOf s) a b (judgeOf s buffer))
 
--- The papers' numbers of each case; fields not named are 0.
-abbrev pub codeOf : SheetAnswer → ℕ
-codeOf (answer.Done n) = 0
-codeOf (answer.Broken n rule frame) = 9
-codeOf (answer.Refused code offset) = code
-codeOf answer.TooLarge = 7
-codeOf answer.NoRoom = 8
-codeOf answer.WrongOrder = 19
-codeOf answer.NoFrame = 10
+-- The papers' numbers of each case, and of what `sheet` hands back; the sheet's own numbers are `numbersIn`.
+abbrev pub fieldsOf : SheetAnswer → Fields
+fieldsOf (answer.Done n) = counted n
+fieldsOf (answer.Broken n rule frame) = broken n rule frame
+fieldsOf (answer.Refused code offset) = placed code offset
+fieldsOf answer.TooLarge = codeAlone 7
+fieldsOf answer.NoRoom = codeAlone 8
+fieldsOf answer.WrongOrder = codeAlone 19
+fieldsOf answer.NoFrame = codeAlone 10
 
-abbrev pub rowCountOf : SheetAnswer → ℕ
-rowCountOf (answer.Done n) = n
-rowCountOf (answer.Broken n rule frame) = n
-rowCountOf (answer.Refused code offset) = 0
-rowCountOf answer.TooLarge = 0
-rowCountOf answer.NoRoom = 0
-rowCountOf answer.WrongOrder = 0
-rowCountOf answer.NoFrame = 0
-
-abbrev pub ruleOf : SheetAnswer → ℕ
-ruleOf (answer.Done n) = 0
-ruleOf (answer.Broken n rule frame) = rule
-ruleOf (answer.Refused code offset) = 0
-ruleOf answer.TooLarge = 0
-ruleOf answer.NoRoom = 0
-ruleOf answer.WrongOrder = 0
-ruleOf answer.NoFrame = 0
-
-abbrev pub frameOf : SheetAnswer → ℕ
-frameOf (answer.Done n) = 0
-frameOf (answer.Broken n rule frame) = frame
-frameOf (answer.Refused code offset) = 0
-frameOf answer.TooLarge = 0
-frameOf answer.NoRoom = 0
-frameOf answer.WrongOrder = 0
-frameOf answer.NoFrame = 0
-
-abbrev pub offsetOf : SheetAnswer → ℕ
-offsetOf (answer.Done n) = 0
-offsetOf (answer.Broken n rule frame) = 0
-offsetOf (answer.Refused code offset) = offset
-offsetOf answer.TooLarge = 0
-offsetOf answer.NoRoom = 0
-offsetOf answer.WrongOrder = 0
-offsetOf answer.NoFrame = 0
+abbrev pub sampledFields : Sampled → Fields
+sampledFields r = fieldsOf (r .answer)

@@ -15,7 +15,7 @@ use Rattle.display.specs.Show.{imageSize}
 use Rattle.display.specs.Drawing.{Bytes, IsAccepted, IsFrame, Whole}
 use Rattle.sheet.specs.declared.Numbers.{Numbers}
 use Rattle.sheet.specs.Sheet.{sumOf, framesSheet, noSheet}
-use Rattle.sheet.specs.Answer.{sheetOf, codeOf, rowCountOf}
+use Rattle.sheet.specs.Answer.{sheetOf, fieldsOf}
 
 -- Frames a to b of the object.
 pub record Range (s : List ℕ) (a b : ℕ) : Type 0 where
@@ -48,7 +48,7 @@ pub record Consistent (t : Numbers) (n cells : ℕ) : Type 0 where
 
 -- What `sheet` hands back with code 0.
 pub record HandsBack (s : List ℕ) (a b : ℕ) (buffer : List ℕ) : Type 0 where
-  pub rows : rowCountOf (sheetOf s a b buffer .answer) ≡ length (rowsOf s)
+  pub rows : fieldsOf (sheetOf s a b buffer .answer) .rows ≡ length (rowsOf s)
   -- The sheet of the pictures that the steps give.
   pub of-pictures : sheetOf s a b buffer .sheet ≡ framesSheet (nodesOf s) a b
   pub pictures : (f : ℕ) → a ≤ f → f ≤ b → Whole (nodesOf s) f
@@ -56,13 +56,13 @@ pub record HandsBack (s : List ℕ) (a b : ℕ) (buffer : List ℕ) : Type 0 whe
 
 pub record Promise (s : List ℕ) (a b : ℕ) (buffer : List ℕ) : Type 0 where
   -- The sheet of frames of an accepted object is done where there is room for the rows,
-  pub done : IsAccepted s → Range s a b → width * length (rowsOf s) ≤ length buffer → codeOf (sheetOf s a b buffer .answer) ≡ 0
+  pub done : IsAccepted s → Range s a b → width * length (rowsOf s) ≤ length buffer → fieldsOf (sheetOf s a b buffer .answer) .code ≡ 0
   -- and nothing else is.
-  pub nothing-else : codeOf (sheetOf s a b buffer .answer) ≡ 0
+  pub nothing-else : fieldsOf (sheetOf s a b buffer .answer) .code ≡ 0
       → IsAccepted s × (Range s a b × (width * length (rowsOf s) ≤ length buffer))
-  pub as-drawn : codeOf (sheetOf s a b buffer .answer) ≡ 0 → HandsBack s a b buffer
+  pub as-drawn : fieldsOf (sheetOf s a b buffer .answer) .code ≡ 0 → HandsBack s a b buffer
   -- A refusal comes with a sheet of zeros.
-  pub refused : 1 ≤ codeOf (sheetOf s a b buffer .answer) → sheetOf s a b buffer .sheet ≡ noSheet
+  pub refused : 1 ≤ fieldsOf (sheetOf s a b buffer .answer) .code → sheetOf s a b buffer .sheet ≡ noSheet
 
 -- For every data set, given as bytes, any two numbers and any row buffer.
 abbrev pub Sampling : Type 0

@@ -4,6 +4,7 @@ ghost use mathlib.Core.Bool.{true, cond};
 ghost use Prim.Native.Nat.{ℕ, _+_, _-_, _*_, _/_, _%_, _^_, _≤_, _<_};
 ghost use lib.ListN.{length, getD, drop};
 ghost use Rattle.dataset.specs.Reading.{readingOf};
+ghost use Rattle.dataset.specs.Fields.{Answers};
 ghost use Rattle.dataset.specs.Answer.{bufferOf};
 ghost use Rattle.value.specs.Number.{usValues};
 ghost use Rattle.shift.specs.Said.{ShortMoves};
@@ -22,7 +23,7 @@ ghost use Rattle.lines.specs.Lines.{upTo, shadesOf, Shaded, MaskedBy};
 ghost use Rattle.display.specs.Said.{isMasked, shadeBy, MasksReady};
 ghost use Rattle.display.specs.Show.{imageSize, pictureOf};
 ghost use Rattle.sheet.specs.Sheet.{levelsOf, nativesOf, countsOf, framesSheet, noSheet, numbersIn};
-ghost use Rattle.sheet.specs.Answer.{acceptedAnswer, withSheet, sheetOf};
+ghost use Rattle.sheet.specs.Answer.{acceptedAnswer, withSheet, sheetOf, sampledFields};
 ghost use Rattle.sheet.specs.Sampling.{total};
 ghost use Rattle.sheet.specs.Said.{tallied, Room, Few, First, Last, IsObject, IsScene, IsPixels, IsItem, IsPlan, FrameReady, Rooms, IsHeld, IsNothing};
 use conformance::JudgeAnswer;
@@ -837,7 +838,7 @@ fn sheet_table(bytes: &[u8], rows: &[u32], first: usize, last: usize, count: usi
 
 // Judges the data set afresh and counts the levels of frames `first` to `last`.
 pub fn sheet(bytes: &[u8], first: u64, last: u64, rows: &mut [u32]) -> Sampled
-    ensures { λ r. ⌜ r ≡ sheetOf (now (bytes .entry)) first last (now (rows .entry)) ⌝ }
+    ensures { λ r. ⌜ Answers sampledFields r (sheetOf (now (bytes .entry)) first last (now (rows .entry))) ⌝ }
     ensures { λ _. ⌜ now (rows .exit) ≡ bufferOf (readingOf (now (bytes .entry))) (now (rows .entry)) ⌝ }
 {
     match conformance::judge(bytes, rows) {
@@ -867,7 +868,7 @@ fn last_frame(bytes: &[u8], rows: &[u32]) -> usize
 
 // The sheet of all frames, from 1 to the number of frames.
 pub fn whole(bytes: &[u8], rows: &mut [u32]) -> Sampled
-    ensures { λ r. ⌜ r ≡ sheetOf (now (bytes .entry)) 1 (numberOf (framesOf (nodesOf (now (bytes .entry))))) (now (rows .entry)) ⌝ }
+    ensures { λ r. ⌜ Answers sampledFields r (sheetOf (now (bytes .entry)) 1 (numberOf (framesOf (nodesOf (now (bytes .entry))))) (now (rows .entry))) ⌝ }
     ensures { λ _. ⌜ now (rows .exit) ≡ bufferOf (readingOf (now (bytes .entry))) (now (rows .entry)) ⌝ }
 {
     match conformance::judge(bytes, rows) {

@@ -7,7 +7,7 @@ use sheet::SheetAnswer;
 ghost use mathlib.Core.Path.{_≡_};
 ghost use Prim.Native.Nat.{_≤_};
 ghost use lib.ListN.{length};
-ghost use Rattle.sheet.specs.Answer.{codeOf};
+ghost use Rattle.sheet.specs.Answer.{fieldsOf};
 
 // One byte more than is taken, so that an input that is too long is seen to be.
 fn input() -> [u8; 65_537]
@@ -30,7 +30,7 @@ fn print_numbers(t: Numbers)
 }
 
 fn print_sheet(sampled: Sampled)
-    requires { ⌜ (codeOf (sampled .answer) ≡ 8 → ⊥) × (length (sampled .sheet .counts) ≡ 256) ⌝ }
+    requires { ⌜ (fieldsOf (sampled .answer) .code ≡ 8 → ⊥) × (length (sampled .sheet .counts) ≡ 256) ⌝ }
 {
     let answer = sampled.answer;
     let numbers = sampled.sheet;

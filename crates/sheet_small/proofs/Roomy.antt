@@ -26,7 +26,7 @@ use Rattle.display.specs.Show.{isFrameOf}
 use Rattle.sheet.specs.declared.Sampled.{Sampled}
 use Rattle.sheet.specs.declared.SheetAnswer.{SheetAnswer}
 use Rattle.sheet.specs.declared.SheetAnswer.the-variants as answer
-use Rattle.sheet.specs.Answer.{acceptedAnswer, answerFor as sheetFor, withSheet, sheetOf, codeOf}
+use Rattle.sheet.specs.Answer.{acceptedAnswer, answerFor as sheetFor, withSheet, sheetOf, fieldsOf}
 
 pub roomy-sheet : (s : List ℕ) (a b : ℕ) (buffer : List ℕ) → 7 * length s ≤ 8 * length buffer → sheetOf s a b buffer ≡ sheetOf s a b (flat (rowsOf s))
 unfolding sheetOf
@@ -34,30 +34,30 @@ roomy-sheet s a b buffer h = ap (λ (x : JudgeAnswer). withSheet (nodesOf s) a b
 
 -- ---- Never code 8
 
-accepted-other : (ns : List Node) (a b n : ℕ) → codeOf (acceptedAnswer ns a b n) ≡ 8 → ⊥
+accepted-other : (ns : List Node) (a b n : ℕ) → fieldsOf (acceptedAnswer ns a b n) .code ≡ 8 → ⊥
 unfolding acceptedAnswer
 accepted-other ns a b n = go (leb a b) (isFrameOf ns a && isFrameOf ns b)
   where
-    go : (t u : Bool) → codeOf (cond t (cond u (answer.Done n) answer.NoFrame) answer.WrongOrder) ≡ 8 → ⊥
+    go : (t u : Bool) → fieldsOf (cond t (cond u (answer.Done n) answer.NoFrame) answer.WrongOrder) .code ≡ 8 → ⊥
     go true true e = omega (arith, e)
     go true false e = omega (arith, e)
     go false u e = omega (arith, e)
 
 module _ (ns : List Node) (a b : ℕ) where
-  by-finding : (n : ℕ) (f : Finding) → codeOf (sheetFor ns a b (answerFor f (reads.Done n))) ≡ 8 → ⊥
+  by-finding : (n : ℕ) (f : Finding) → fieldsOf (sheetFor ns a b (answerFor f (reads.Done n))) .code ≡ 8 → ⊥
   by-finding n finding.Accepted e = accepted-other ns a b n e
   by-finding n (finding.Broken rule frame) e = omega (arith, e)
 
-  by-room : (f : Finding) (n : ℕ) (t : Bool) → t ≡ true → codeOf (sheetFor ns a b (answerFor f (cond t (reads.Done n) reads.NoRoom))) ≡ 8 → ⊥
+  by-room : (f : Finding) (n : ℕ) (t : Bool) → t ≡ true → fieldsOf (sheetFor ns a b (answerFor f (cond t (reads.Done n) reads.NoRoom))) .code ≡ 8 → ⊥
   by-room f n true h e = by-finding n f e
   by-room f n false h e = false-is-true h
 
-  by-reading : (o : Reading) (f : Finding) → Small (answerOf o (flat (rowsIn o))) → codeOf (sheetFor ns a b (answerFor f (answerOf o (flat (rowsIn o))))) ≡ 8 → ⊥
+  by-reading : (o : Reading) (f : Finding) → Small (answerOf o (flat (rowsIn o))) → fieldsOf (sheetFor ns a b (answerFor f (answerOf o (flat (rowsIn o))))) .code ≡ 8 → ⊥
   by-reading tooLarge f w e = omega (arith, e)
   by-reading (refusedAt code offset) f w e = omega (arith, e, w .1 .0)
   by-reading (read rows) f w e =
       by-room f (length rows) (leb (width * length rows) (length (flat rows))) (le-leb (width * length rows) (length (flat rows)) (omega (arith, length-flat rows))) e
 
-pub never-eight : (s : List ℕ) (a b : ℕ) → codeOf (sheetOf s a b (flat (rowsOf s)) .answer) ≡ 8 → ⊥
+pub never-eight : (s : List ℕ) (a b : ℕ) → fieldsOf (sheetOf s a b (flat (rowsOf s)) .answer) .code ≡ 8 → ⊥
 unfolding sheetOf judgeOf rowsOf
 never-eight s a b e = by-reading (nodesOf s) a b (readingOf s) (findingOf (nodesOf s)) (answer-small s (flat (rowsIn (readingOf s)))) e

@@ -3,7 +3,7 @@ use sheet::Sampled;
 ghost use mathlib.Core.Path.{_≡_};
 ghost use Prim.Native.Nat.{_≤_};
 ghost use lib.ListN.{length};
-ghost use Rattle.sheet.specs.Answer.{codeOf};
+ghost use Rattle.sheet.specs.Answer.{fieldsOf};
 ghost use Rattle.sheet_small.specs.Printed.{wholeSheet};
 
 // Room for the rows of a data set of that size, since a row has at least 8 bytes. A function of its own gives the
@@ -18,7 +18,7 @@ fn row_buffer() -> [u32; 57_344]
 pub fn sheet_small(bytes: &[u8]) -> Sampled
     requires { ⌜ length (now bytes) ≤ 65536 ⌝ }
     ensures { λ r. ⌜ r ≡ wholeSheet (now (bytes .entry)) ⌝ }
-    ensures { λ r. ⌜ (codeOf (r .answer) ≡ 8 → ⊥) ⌝ }
+    ensures { λ r. ⌜ (fieldsOf (r .answer) .code ≡ 8 → ⊥) ⌝ }
     ensures { λ r. ⌜ length (r .sheet .counts) ≡ 256 ⌝ }
 {
     let mut rows = row_buffer();

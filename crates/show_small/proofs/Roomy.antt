@@ -21,7 +21,7 @@ use Rattle.conformance.specs.Judging.{judgeOf}
 use Rattle.judge_small.proofs.Room.{roomy}
 use Rattle.display.specs.declared.ShowAnswer.{ShowAnswer}
 use Rattle.display.specs.declared.ShowAnswer.the-variants as shown
-use Rattle.display.specs.Show.{isFrameOf, imageSize, pictureOf, acceptedAnswer, answerFor, showOf, imageBy, imageOf, codeOf, rowCountOf}
+use Rattle.display.specs.Show.{isFrameOf, imageSize, pictureOf, acceptedAnswer, answerFor, showOf, imageBy, imageOf, fieldsOf}
 use Rattle.display.proofs.ShowAnswer.{the-type}
 use Rattle.display.proofs.Judged.{after-judging}
 use Rattle.show_small.specs.declared.Shown.{Shown}
@@ -45,18 +45,18 @@ module _ (s : List ℕ) (f : ℕ) (buffer image : List ℕ) (h : 7 * length s �
 -- ---- A frame that was drawn
 
 drawn-count : (t u p m : Bool) (k n : ℕ) → shown.Drawn n m ≡ cond t (cond u (shown.Drawn k p) shown.NoImageRoom) shown.NoFrame → n ≡ k
-drawn-count true true p m k n e = ap rowCountOf e
-drawn-count true false p m k n e = absurd (omega (arith, ap codeOf e))
-drawn-count false u p m k n e = absurd (omega (arith, ap codeOf e))
+drawn-count true true p m k n e = ap (λ (x : ShowAnswer). fieldsOf x .rows) e
+drawn-count true false p m k n e = absurd (omega (arith, ap (λ (x : ShowAnswer). fieldsOf x .code) e))
+drawn-count false u p m k n e = absurd (omega (arith, ap (λ (x : ShowAnswer). fieldsOf x .code) e))
 
 drawn-accepted : (ns : List Node) (f : ℕ) (image : List ℕ) (a : JudgeAnswer) (n : ℕ) (m : Bool) → shown.Drawn n m ≡ answerFor ns f image a
     → judged.Accepted n ≡ a
 unfolding acceptedAnswer
 drawn-accepted ns f image (judged.Accepted k) n m e = ap judged.Accepted (drawn-count (isFrameOf ns f) (leb (imageSize ns) (length image)) (pictureOf ns f .masked) m k n e)
-drawn-accepted ns f image (judged.Broken k rule frame) n m e = absurd (omega (arith, ap codeOf e))
+drawn-accepted ns f image (judged.Broken k rule frame) n m e = absurd (omega (arith, ap (λ (x : ShowAnswer). fieldsOf x .code) e))
 drawn-accepted ns f image (judged.Refused code offset) n m e = let z : _≡_ {A = ℕ} 0 1 = cc in absurd (omega arith)
-drawn-accepted ns f image judged.TooLarge n m e = absurd (omega (arith, ap codeOf e))
-drawn-accepted ns f image judged.NoRoom n m e = absurd (omega (arith, ap codeOf e))
+drawn-accepted ns f image judged.TooLarge n m e = absurd (omega (arith, ap (λ (x : ShowAnswer). fieldsOf x .code) e))
+drawn-accepted ns f image judged.NoRoom n m e = absurd (omega (arith, ap (λ (x : ShowAnswer). fieldsOf x .code) e))
 
 -- The rows stand in the buffer.
 pub after-showing : (s : List ℕ) (f : ℕ) (before image buffer : List ℕ) (n : ℕ) (m : Bool) → shown.Drawn n m ≡ showOf s f before image

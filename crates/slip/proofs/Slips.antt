@@ -20,7 +20,7 @@ use Rattle.verdict.proofs.Tests.{false-is-true, and-both}
 use Rattle.verdict.proofs.Bounds.{Small, possible-small, possible-rows}
 use Rattle.slip.specs.declared.SlipAnswer.{SlipAnswer}
 use Rattle.slip.specs.declared.SlipAnswer.the-variants as read
-use Rattle.slip.specs.Slip.{mark, version, oldVersion, versionAt, codeAt, ruleAt, frameAt, offsetAt, rowsAt, headSize, oldSize, slipSize, le, number, fieldBytes, slipWith, slipBy, slipOf, equal, fieldsOf, ifPossible, readSized, readVersion, readOf, bufferOf}
+use Rattle.slip.specs.Slip.{mark, version, oldVersion, versionAt, codeAt, ruleAt, frameAt, offsetAt, rowsAt, headSize, oldSize, slipSize, le, number, fieldBytes, slipWith, slipBy, slipOf, equal, recorded, ifPossible, readSized, readVersion, readOf, bufferOf}
 use Rattle.slip.specs.Version1.{oldSlipOf}
 use Rattle.slip.specs.Slips.{Bytes, Slips}
 use Rattle.slip.proofs.Laws.{length-slip}
@@ -45,7 +45,7 @@ module _ (k : ℕ) (v : Verdict) (small : Small v) (rest : List ℕ) where
   unfolding fieldBytes le number
   offset-back = omega (arith, small .offset)
 
-  fields-back : (rows : RowCount) → v .rows ≡ rows → fieldsOf (fieldBytes k v ++ rest) rows ≡ v
+  fields-back : (rows : RowCount) → v .rows ≡ rows → recorded (fieldBytes k v ++ rest) rows ≡ v
   fields-back rows e = simp (code-back, rule-back, frame-back, offset-back, sym e)
 
 mark-back : (k : ℕ) (v : Verdict) (rest : List ℕ) → equal (take 3 (fieldBytes k v ++ rest)) mark ≡ true
@@ -74,7 +74,7 @@ unfolding readOf
 begins s h m = rw (le-leb headSize (length s) h, m)
 
 -- The right length, and a possible verdict in the fields.
-sized : (size : ℕ) (rows : RowCount) (s : List ℕ) (v : Verdict) → length s ≡ size → fieldsOf s rows ≡ v → possible v ≡ true
+sized : (size : ℕ) (rows : RowCount) (s : List ℕ) (v : Verdict) → length s ≡ size → recorded s rows ≡ v → possible v ≡ true
     → readSized size rows s ≡ read.Read v
 unfolding readSized ifPossible
 sized size rows s v l f h = rw (eq-eqb (length s) size l, f, h)
@@ -146,7 +146,7 @@ old-read v h =
 record Well (size : ℕ) (rows : RowCount) (s : List ℕ) (v : Verdict) : Type 0 where
   long : length s ≡ size
   can : possible v ≡ true
-  gives : fieldsOf s rows ≡ v
+  gives : recorded s rows ≡ v
 
 -- Two tests in their order, whatever they are.
 tests : (a d : Bool) (w v : Verdict) → cond (not a) (read.Refused 12) (cond (not d) (read.Refused 14) (read.Read w)) ≡ read.Read v
@@ -158,7 +158,7 @@ tests false d w v e = absurd (let z : _≡_ {A = ℕ} 0 1 = cc in omega arith)
 well : (size : ℕ) (rows : RowCount) (s : List ℕ) (v : Verdict) → readSized size rows s ≡ read.Read v → Well size rows s v
 unfolding readSized ifPossible
 well size rows s v e =
-    let t = tests (eqb (length s) size) (possible (fieldsOf s rows)) (fieldsOf s rows) v e in
+    let t = tests (eqb (length s) size) (possible (recorded s rows)) (recorded s rows) v e in
     record {
       long = eqb-true (length s) size (t .0);
       can = sym (ap possible (t .1 .1)) ∙ t .1 .0;
@@ -224,7 +224,7 @@ equal-true (x ∷ xs) (y ∷ ys) e =
 
 -- The bytes that both versions have are those of the version and the fields that they hold.
 field-bytes : (s : List ℕ) (rows : RowCount) → Bytes s → take 3 s ≡ listing 3 s 0 → equal (take 3 s) mark ≡ true
-    → listing 13 s 0 ≡ fieldBytes (number 2 s versionAt) (fieldsOf s rows)
+    → listing 13 s 0 ≡ fieldBytes (number 2 s versionAt) (recorded s rows)
 unfolding fieldBytes
 field-bytes s rows b t m =
     let first : listing 3 s 0 ≡ mark = sym t ∙ equal-true (take 3 s) mark m in
@@ -239,14 +239,14 @@ write-back s v b e k =
     let n : ℕ = number 4 s rowsAt in
     let w = well slipSize (Known n) s v (sym (as-new s k) ∙ g .on) in
     let all : s ≡ listing 17 s 0 = listed s ∙ ap (λ (n : ℕ). listing n s 0) (w .long) in
-    let same : listing 13 s 0 ≡ fieldBytes version (fieldsOf s (Known n)) =
-    field-bytes s (Known n) b (ap (λ (l : List ℕ). take 3 l) all) (g .marked) ∙ ap (λ (k : ℕ). fieldBytes k (fieldsOf s (Known n))) k
+    let same : listing 13 s 0 ≡ fieldBytes version (recorded s (Known n)) =
+    field-bytes s (Known n) b (ap (λ (l : List ℕ). take 3 l) all) (g .marked) ∙ ap (λ (k : ℕ). fieldBytes k (recorded s (Known n))) k
     in
     let known : isKnown (v .rows) ≡ true = ap (λ (v : Verdict). isKnown (v .rows)) (sym (w .gives)) in (
       rw (w .can, known),
       all
           ∙ ap (λ (l : List ℕ). l ++ listing 4 s rowsAt) same
-          ∙ ap (λ (l : List ℕ). fieldBytes version (fieldsOf s (Known n)) ++ l) (sym (le-number s b 4 rowsAt))
+          ∙ ap (λ (l : List ℕ). fieldBytes version (recorded s (Known n)) ++ l) (sym (le-number s b 4 rowsAt))
           ∙ ap slipOf (w .gives),
     )
 
@@ -259,7 +259,7 @@ old-back s v b e k =
       ap (λ (v : Verdict). v .rows) (sym (w .gives)),
       all
           ∙ field-bytes s NotKnown b (ap (λ (l : List ℕ). take 3 l) all) (g .marked)
-          ∙ ap (λ (k : ℕ). fieldBytes k (fieldsOf s NotKnown)) k
+          ∙ ap (λ (k : ℕ). fieldBytes k (recorded s NotKnown)) k
           ∙ ap oldSlipOf (w .gives),
     )
 

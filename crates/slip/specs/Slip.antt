@@ -3,8 +3,10 @@
 use Prim.Native.Nat.{ℕ, zero, suc, _+_, _*_, _/_, _%_}
 use mathlib.Core.Bool.{Bool, true, false, cond, not, _&&_}
 use mathlib.Core.List.{List, [], _∷_, _++_}
+use mathlib.Core.Option.{Option, none, some}
 use lib.ListN.{length, take, drop, getD}
 use lib.Dec.{eqb, leb}
+use Rattle.dataset.specs.Fields.{Fields, codeAlone}
 use Rattle.verdict.specs.Verdict.{possible, writable}
 use Rattle.verdict.specs.declared.RowCount.{RowCount}
 use Rattle.verdict.specs.declared.RowCount.the-variants.{Known, NotKnown}
@@ -90,9 +92,9 @@ equal (x ∷ xs) (y ∷ ys) = eqb x y && equal xs ys
 abbrev pub headSize : ℕ
 headSize = 5
 
--- The fields of a slip as they stand, with a row count.
-abbrev pub fieldsOf : List ℕ → RowCount → Verdict
-fieldsOf s rows = record {
+-- The verdict that a slip's fields record as they stand, with a row count.
+abbrev pub recorded : List ℕ → RowCount → Verdict
+recorded s rows = record {
   code = number 1 s codeAt;
   rule = number 1 s ruleAt;
   frame = number 2 s frameAt;
@@ -105,7 +107,7 @@ ifPossible v = cond (not (possible v)) (read.Refused 14) (read.Read v)
 
 -- A slip of a version whose slips have `size` bytes.
 unfoldable pub readSized : ℕ → RowCount → List ℕ → SlipAnswer
-readSized size rows s = cond (not (eqb (length s) size)) (read.Refused 12) (ifPossible (fieldsOf s rows))
+readSized size rows s = cond (not (eqb (length s) size)) (read.Refused 12) (ifPossible (recorded s rows))
 
 -- Version 1 does not say the row count.
 unfoldable pub readVersion : ℕ → List ℕ → SlipAnswer
@@ -119,6 +121,15 @@ readOf s =
     cond (not (leb headSize (length s) && equal (take 3 s) mark)) (read.Refused 12)
     (readVersion (number 2 s versionAt) s)
 
+-- The paper's numbers of each case: the code, and with code 0 the verdict read.
+pub record SlipFields : Type 0 where
+  pub code : ℕ
+  pub verdict : Option Verdict
+
+abbrev pub readFields : SlipAnswer → SlipFields
+readFields (read.Read v) = record { code = 0; verdict = some v }
+readFields (read.Refused code) = record { code = code; verdict = none }
+
 -- ---- Writing: 14, for a count that is not known too; then 11
 
 unfoldable pub writeOf : Verdict → List ℕ → WriteAnswer
@@ -130,3 +141,8 @@ writeOf v buffer =
 -- The buffer afterwards: the slip, and untouched beyond it; untouched by a refusal.
 unfoldable pub bufferOf : Verdict → List ℕ → List ℕ
 bufferOf v buffer = cond (writable v && leb slipSize (length buffer)) (slipOf v ++ drop slipSize buffer) buffer
+
+-- The paper's numbers of each case: the code alone.
+abbrev pub writeFields : WriteAnswer → Fields
+writeFields write.Written = codeAlone 0
+writeFields (write.Refused code) = codeAlone code

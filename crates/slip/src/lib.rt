@@ -5,8 +5,9 @@ ghost use mathlib.Core.Path.{_≡_};
 ghost use mathlib.Core.List.{_++_};
 ghost use Prim.Native.Nat.{_+_, _≤_, _<_};
 ghost use lib.ListN.{length, take, drop};
+ghost use Rattle.dataset.specs.Fields.{Answers};
 ghost use Rattle.verdict.specs.declared.RowCount.the-variants.{Known, NotKnown};
-ghost use Rattle.slip.specs.Slip.{headSize, oldSize, slipSize, rowsAt, versionAt, mark, number, equal, fieldsOf, ifPossible, readSized, readVersion, slipWith, readOf, writeOf, bufferOf};
+ghost use Rattle.slip.specs.Slip.{headSize, oldSize, slipSize, rowsAt, versionAt, mark, number, equal, recorded, ifPossible, readSized, readVersion, slipWith, readOf, readFields, writeOf, writeFields, bufferOf};
 use verdict::RowCount;
 use verdict::Verdict;
 
@@ -70,7 +71,7 @@ fn is_marked(s: &[u8]) -> bool
 // The fields of a slip as they stand, with a row count.
 fn fields(s: &[u8], rows: RowCount) -> Verdict
     requires { ⌜ oldSize ≤ length (now s) ⌝ }
-    ensures { λ r. ⌜ r ≡ fieldsOf (now (s .entry)) rows ⌝ }
+    ensures { λ r. ⌜ r ≡ recorded (now (s .entry)) rows ⌝ }
 {
     let code = wide(s[5]);
     let rule = wide(s[6]);
@@ -137,7 +138,7 @@ fn read_version(slip: &[u8]) -> SlipAnswer
 // The verdict that a slip records; code 12 where it has fewer than 5 bytes or another mark, 13 where its version is
 // neither 1 nor 2, 12 where it is not as long as its version's slips, 14 where its fields are not possible.
 pub fn read_slip(slip: &[u8]) -> SlipAnswer
-    ensures { λ r. ⌜ r ≡ readOf (now (slip .entry)) ⌝ }
+    ensures { λ r. ⌜ Answers readFields r (readOf (now (slip .entry))) ⌝ }
 {
     if HEAD <= slip.len() {
         if is_marked(slip) {
@@ -184,7 +185,7 @@ fn put_slip(v: Verdict, n: usize, slip: &mut [u8])
 // Writes a verdict's slip over the first 17 bytes of the buffer; code 14 where the verdict is not possible or its row count
 // not known, then 11 where the buffer has fewer than 17 bytes. A refusal leaves the buffer as it was.
 pub fn write_slip(verdict: Verdict, slip: &mut [u8]) -> WriteAnswer
-    ensures { λ r. ⌜ r ≡ writeOf verdict (now (slip .entry)) ⌝ }
+    ensures { λ r. ⌜ Answers writeFields r (writeOf verdict (now (slip .entry))) ⌝ }
     ensures { λ _. ⌜ now (slip .exit) ≡ bufferOf verdict (now (slip .entry)) ⌝ }
 {
     if verdict::is_possible(verdict) {

@@ -29,7 +29,7 @@ returns c =
     let p = c .before .before .before .before .before .before .before .before .before .before .before .pre in
     let w = c .before .before .before .before .write-canonical in
     let e = w .ensures in
-    (e .0, (e .1 .1, (subst (λ (r : CanonicalAnswer). Held r (w .last .1 .1 .0)) (sym (e .0)) (held (a .bytes .now) (a .rows .now) (a .target .now) (w .last .1 .1 .0) (search needs)), subst Roomy (sym (e .0)) (roomy (a .bytes .now) (a .rows .now) (a .target .now) (c .before .before .before .before .before .before .before .byte-bounds .ensures) (p .0) (p .1)))))
+    (e .0 .same, (e .1 .1, (subst (λ (r : CanonicalAnswer). Held r (w .last .1 .1 .0)) (sym (e .0 .same)) (held (a .bytes .now) (a .rows .now) (a .target .now) (w .last .1 .1 .0) (search needs)), subst Roomy (sym (e .0 .same)) (roomy (a .bytes .now) (a .rows .now) (a .target .now) (c .before .before .before .before .before .before .before .byte-bounds .ensures) (p .0) (p .1)))))
 
 pub write-roomy-spec : {M : Type 1} → statement M
 write-roomy-spec =

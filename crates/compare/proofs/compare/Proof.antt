@@ -5,6 +5,7 @@ use Rattle.display.proofs.Judged as laws
 use Rattle.compare.proofs.Answers as answers
 use mathlib.Core.Path.{_≡_, refl, sym, ap, _∙_, subst}
 use native.Mathlib.Omega.{arith}
+use Rattle.dataset.proofs.Promised.{promised}
 use borrow.Author.Needs.{needs}
 use Rattle.compare.proofs.compare.Statement.{statement}
 use Rattle.compare.proofs.compare.Tie as tie
@@ -35,20 +36,20 @@ enum-known-count-2 c =
 
 mul-end : tie.Need-mul-end
 mul-end c =
-    let t = laws.after-judging (c .before .before .before .before .before .before .before .before .before .before .args .bytes .now) (c .before .before .before .before .before .before .before .before .before .before .args .rows .now) (c .before .before .before .before .before .judge .last .1 .0) (c .before .count2 .given .0 .0) (sym (c .before .count2 .given .1) ∙ c .before .before .before .before .before .judge .ensures .0) (c .before .before .before .before .before .judge .ensures .1) .0 in
+    let t = laws.after-judging (c .before .before .before .before .before .before .before .before .before .before .args .bytes .now) (c .before .before .before .before .before .before .before .before .before .before .args .rows .now) (c .before .before .before .before .before .judge .last .1 .0) (c .before .count2 .given .0 .0) (sym (c .before .count2 .given .1) ∙ c .before .before .before .before .before .judge .ensures .0 .same) (c .before .before .before .before .before .judge .ensures .1) .0 in
     omega (arith, t .1 .size, t .1 .few, length-take-le (7 * c .before .count2 .given .0 .0) (c .before .before .before .before .before .judge .last .1 .0) (t .0))
 
 slice-reshare-prefix-compare-table : tie.Need-slice-reshare-prefix-compare-table
 slice-reshare-prefix-compare-table c =
-    laws.after-judging (c .before .before .before .before .before .before .before .before .before .before .args .bytes .now) (c .before .before .before .before .before .before .before .before .before .before .args .rows .now) (c .before .before .before .before .before .judge .last .1 .0) (c .before .count2 .given .0 .0) (sym (c .before .count2 .given .1) ∙ c .before .before .before .before .before .judge .ensures .0) (c .before .before .before .before .before .judge .ensures .1) .0 .0
+    laws.after-judging (c .before .before .before .before .before .before .before .before .before .before .args .bytes .now) (c .before .before .before .before .before .before .before .before .before .before .args .rows .now) (c .before .before .before .before .before .judge .last .1 .0) (c .before .count2 .given .0 .0) (sym (c .before .count2 .given .1) ∙ c .before .before .before .before .before .judge .ensures .0 .same) (c .before .before .before .before .before .judge .ensures .1) .0 .0
 
 slice-aggregate-compare-table : tie.Need-slice-aggregate-compare-table
 slice-aggregate-compare-table c =
-    sym (length-take-le _ _ (laws.after-judging (c .before .before .before .before .before .before .before .before .before .before .before .args .bytes .now) (c .before .before .before .before .before .before .before .before .before .before .before .args .rows .now) (c .before .before .before .before .before .before .judge .last .1 .0) (c .before .before .count2 .given .0 .0) (sym (c .before .before .count2 .given .1) ∙ c .before .before .before .before .before .before .judge .ensures .0) (c .before .before .before .before .before .before .judge .ensures .1) .0 .0))
+    sym (length-take-le _ _ (laws.after-judging (c .before .before .before .before .before .before .before .before .before .before .before .args .bytes .now) (c .before .before .before .before .before .before .before .before .before .before .before .args .rows .now) (c .before .before .before .before .before .before .judge .last .1 .0) (c .before .before .count2 .given .0 .0) (sym (c .before .before .count2 .given .1) ∙ c .before .before .before .before .before .before .judge .ensures .0 .same) (c .before .before .before .before .before .before .judge .ensures .1) .0 .0))
 
 compare-table-requires : tie.Need-compare-table-requires
 compare-table-requires c κs =
-    let t = laws.after-judging (c .before .before .before .before .before .before .before .before .before .before .before .args .bytes .now) (c .before .before .before .before .before .before .before .before .before .before .before .args .rows .now) (c .before .before .before .before .before .before .judge .last .1 .0) (c .before .before .count2 .given .0 .0) (sym (c .before .before .count2 .given .1) ∙ c .before .before .before .before .before .before .judge .ensures .0) (c .before .before .before .before .before .before .judge .ensures .1) in
+    let t = laws.after-judging (c .before .before .before .before .before .before .before .before .before .before .before .args .bytes .now) (c .before .before .before .before .before .before .before .before .before .before .before .args .rows .now) (c .before .before .before .before .before .before .judge .last .1 .0) (c .before .before .count2 .given .0 .0) (sym (c .before .before .count2 .given .1) ∙ c .before .before .before .before .before .before .judge .ensures .0 .same) (c .before .before .before .before .before .before .judge .ensures .1) in
     (t .0 .1, (λ i. omega (arith, c .before .before .before .before .before .before .before .before .before .before .shared-slice-known .given i), t .1))
 
 same-length : tie.Need-same-length
@@ -57,7 +58,7 @@ same-length c =
 
 returns : tie.Need-returns
 returns c =
-    (answers.compare-by (c .before .before .before .before .before .before .before .before .before .args .bytes .now) (c .before .before .before .before .before .before .before .before .before .args .frame) (c .before .before .before .before .before .before .before .before .before .args .cells .now) (c .before .before .before .before .before .before .before .before .before .args .tolerance) (c .before .before .before .before .before .before .before .before .before .args .rows .now) judged.TooLarge (sym (c .enum-told .given .1) ∙ c .before .before .before .before .judge .ensures .0), c .before .before .before .before .judge .ensures .1)
+    (promised (answers.compare-by (c .before .before .before .before .before .before .before .before .before .args .bytes .now) (c .before .before .before .before .before .before .before .before .before .args .frame) (c .before .before .before .before .before .before .before .before .before .args .cells .now) (c .before .before .before .before .before .before .before .before .before .args .tolerance) (c .before .before .before .before .before .before .before .before .before .args .rows .now) judged.TooLarge (sym (c .enum-told .given .1) ∙ c .before .before .before .before .judge .ensures .0 .same)), c .before .before .before .before .judge .ensures .1)
 
 same-length-2 : tie.Need-same-length-2
 same-length-2 c =
@@ -65,7 +66,7 @@ same-length-2 c =
 
 returns-2 : tie.Need-returns-2
 returns-2 c =
-    (answers.compare-by (c .before .before .before .before .before .before .before .before .before .before .args .bytes .now) (c .before .before .before .before .before .before .before .before .before .before .args .frame) (c .before .before .before .before .before .before .before .before .before .before .args .cells .now) (c .before .before .before .before .before .before .before .before .before .before .args .tolerance) (c .before .before .before .before .before .before .before .before .before .before .args .rows .now) (judged.Refused (c .before .code .given .0 .0) (c .before .code .given .0 .1 .0)) (sym (c .before .code .given .1) ∙ c .before .before .before .before .before .judge .ensures .0), c .before .before .before .before .before .judge .ensures .1)
+    (promised (answers.compare-by (c .before .before .before .before .before .before .before .before .before .before .args .bytes .now) (c .before .before .before .before .before .before .before .before .before .before .args .frame) (c .before .before .before .before .before .before .before .before .before .before .args .cells .now) (c .before .before .before .before .before .before .before .before .before .before .args .tolerance) (c .before .before .before .before .before .before .before .before .before .before .args .rows .now) (judged.Refused (c .before .code .given .0 .0) (c .before .code .given .0 .1 .0)) (sym (c .before .code .given .1) ∙ c .before .before .before .before .before .judge .ensures .0 .same)), c .before .before .before .before .before .judge .ensures .1)
 
 same-length-3 : tie.Need-same-length-3
 same-length-3 c =
@@ -73,7 +74,7 @@ same-length-3 c =
 
 returns-3 : tie.Need-returns-3
 returns-3 c =
-    (answers.compare-by (c .before .before .before .before .before .before .before .before .before .args .bytes .now) (c .before .before .before .before .before .before .before .before .before .args .frame) (c .before .before .before .before .before .before .before .before .before .args .cells .now) (c .before .before .before .before .before .before .before .before .before .args .tolerance) (c .before .before .before .before .before .before .before .before .before .args .rows .now) judged.NoRoom (sym (c .enum-told2 .given .1) ∙ c .before .before .before .before .judge .ensures .0), c .before .before .before .before .judge .ensures .1)
+    (promised (answers.compare-by (c .before .before .before .before .before .before .before .before .before .args .bytes .now) (c .before .before .before .before .before .before .before .before .before .args .frame) (c .before .before .before .before .before .before .before .before .before .args .cells .now) (c .before .before .before .before .before .before .before .before .before .args .tolerance) (c .before .before .before .before .before .before .before .before .before .args .rows .now) judged.NoRoom (sym (c .enum-told2 .given .1) ∙ c .before .before .before .before .judge .ensures .0 .same)), c .before .before .before .before .judge .ensures .1)
 
 same-length-4 : tie.Need-same-length-4
 same-length-4 c =
@@ -81,7 +82,7 @@ same-length-4 c =
 
 returns-4 : tie.Need-returns-4
 returns-4 c =
-    (answers.compare-by (c .before .before .before .before .before .before .before .before .before .before .args .bytes .now) (c .before .before .before .before .before .before .before .before .before .before .args .frame) (c .before .before .before .before .before .before .before .before .before .before .args .cells .now) (c .before .before .before .before .before .before .before .before .before .before .args .tolerance) (c .before .before .before .before .before .before .before .before .before .before .args .rows .now) (judged.Broken (c .before .count .given .0 .0) (c .before .count .given .0 .1 .0) (c .before .count .given .0 .1 .1 .0)) (sym (c .before .count .given .1) ∙ c .before .before .before .before .before .judge .ensures .0), c .before .before .before .before .before .judge .ensures .1)
+    (promised (answers.compare-by (c .before .before .before .before .before .before .before .before .before .before .args .bytes .now) (c .before .before .before .before .before .before .before .before .before .before .args .frame) (c .before .before .before .before .before .before .before .before .before .before .args .cells .now) (c .before .before .before .before .before .before .before .before .before .before .args .tolerance) (c .before .before .before .before .before .before .before .before .before .before .args .rows .now) (judged.Broken (c .before .count .given .0 .0) (c .before .count .given .0 .1 .0) (c .before .count .given .0 .1 .1 .0)) (sym (c .before .count .given .1) ∙ c .before .before .before .before .before .judge .ensures .0 .same)), c .before .before .before .before .before .judge .ensures .1)
 
 same-length-5 : tie.Need-same-length-5
 same-length-5 c =
@@ -89,7 +90,7 @@ same-length-5 c =
 
 returns-5 : tie.Need-returns-5
 returns-5 c =
-    (c .compare-table .ensures ∙ answers.compare-by (c .before .before .before .before .before .before .before .before .before .before .before .before .args .bytes .now) (c .before .before .before .before .before .before .before .before .before .before .before .before .args .frame) (c .before .before .before .before .before .before .before .before .before .before .before .before .args .cells .now) (c .before .before .before .before .before .before .before .before .before .before .before .before .args .tolerance) (c .before .before .before .before .before .before .before .before .before .before .before .before .args .rows .now) (judged.Accepted (c .before .before .before .count2 .given .0 .0)) (sym (c .before .before .before .count2 .given .1) ∙ c .before .before .before .before .before .before .before .judge .ensures .0), c .before .before .before .before .before .before .before .judge .ensures .1)
+    (promised (c .compare-table .ensures ∙ answers.compare-by (c .before .before .before .before .before .before .before .before .before .before .before .before .args .bytes .now) (c .before .before .before .before .before .before .before .before .before .before .before .before .args .frame) (c .before .before .before .before .before .before .before .before .before .before .before .before .args .cells .now) (c .before .before .before .before .before .before .before .before .before .before .before .before .args .tolerance) (c .before .before .before .before .before .before .before .before .before .before .before .before .args .rows .now) (judged.Accepted (c .before .before .before .count2 .given .0 .0)) (sym (c .before .before .before .count2 .given .1) ∙ c .before .before .before .before .before .before .before .judge .ensures .0 .same)), c .before .before .before .before .before .before .before .judge .ensures .1)
 
 pub compare-spec : {M : Type 1} → statement M
 compare-spec =

@@ -17,7 +17,7 @@ compare-requires c κs = search needs
 
 returns : tie.Need-returns
 returns c =
-    c .before .compare .ensures .0 ∙ roomy-compare _ _ _ _ _ (omega (arith, c .before .before .before .row-buffer .ensures, c .before .before .before .before .before .before .pre))
+    c .before .compare .ensures .0 .same ∙ roomy-compare _ _ _ _ _ (omega (arith, c .before .before .before .row-buffer .ensures, c .before .before .before .before .before .before .pre))
 
 pub compare-small-spec : {M : Type 1} → statement M
 compare-small-spec =

@@ -4,6 +4,7 @@ use Rattle.node.proofs.After.{after-reading}
 use Prim.Native.Nat.{_*_}
 use lib.Seq.{length-take-le}
 use Rattle.conformance.specs.Judging.{judgeOf}
+use Rattle.dataset.proofs.Promised.{promised}
 use borrow.Author.Needs.{needs}
 use Rattle.conformance.proofs.judge.Statement.{statement}
 use Rattle.conformance.proofs.judge.Tie as tie
@@ -35,23 +36,23 @@ enum-known-n c = search needs
 -- src/lib.rt:182:23
 mul-end : tie.Need-mul-end
 mul-end c =
-    let t = after-reading (c .before .before .before .before .before .before .before .before .before .args .bytes .now) (c .before .before .before .before .before .before .before .before .before .args .rows .now) (c .before .before .before .before .before .read .last .1 .0) (c .before .n .given .0 .0) (sym (c .before .n .given .1) ∙ c .before .before .before .before .before .read .ensures .0) (c .before .before .before .before .before .read .ensures .1) in
+    let t = after-reading (c .before .before .before .before .before .before .before .before .before .args .bytes .now) (c .before .before .before .before .before .before .before .before .before .args .rows .now) (c .before .before .before .before .before .read .last .1 .0) (c .before .n .given .0 .0) (sym (c .before .n .given .1) ∙ c .before .before .before .before .before .read .ensures .0 .same) (c .before .before .before .before .before .read .ensures .1) in
     omega (arith, t .1 .size, t .1 .few, length-take-le (7 * c .before .n .given .0 .0) (c .before .before .before .before .before .read .last .1 .0) (t .0))
 
 -- src/lib.rt:183:39
 slice-reshare-prefix-first-broken : tie.Need-slice-reshare-prefix-first-broken
 slice-reshare-prefix-first-broken c =
-    after-reading (c .before .before .before .before .before .before .before .before .before .args .bytes .now) (c .before .before .before .before .before .before .before .before .before .args .rows .now) (c .before .before .before .before .before .read .last .1 .0) (c .before .n .given .0 .0) (sym (c .before .n .given .1) ∙ c .before .before .before .before .before .read .ensures .0) (c .before .before .before .before .before .read .ensures .1) .0
+    after-reading (c .before .before .before .before .before .before .before .before .before .args .bytes .now) (c .before .before .before .before .before .before .before .before .before .args .rows .now) (c .before .before .before .before .before .read .last .1 .0) (c .before .n .given .0 .0) (sym (c .before .n .given .1) ∙ c .before .before .before .before .before .read .ensures .0 .same) (c .before .before .before .before .before .read .ensures .1) .0
 
 -- src/lib.rt:183:39
 slice-aggregate-first-broken : tie.Need-slice-aggregate-first-broken
 slice-aggregate-first-broken c =
-    sym (length-take-le _ _ (after-reading (c .before .before .before .before .before .before .before .before .before .before .args .bytes .now) (c .before .before .before .before .before .before .before .before .before .before .args .rows .now) (c .before .before .before .before .before .before .read .last .1 .0) (c .before .before .n .given .0 .0) (sym (c .before .before .n .given .1) ∙ c .before .before .before .before .before .before .read .ensures .0) (c .before .before .before .before .before .before .read .ensures .1) .0))
+    sym (length-take-le _ _ (after-reading (c .before .before .before .before .before .before .before .before .before .before .args .bytes .now) (c .before .before .before .before .before .before .before .before .before .before .args .rows .now) (c .before .before .before .before .before .before .read .last .1 .0) (c .before .before .n .given .0 .0) (sym (c .before .before .n .given .1) ∙ c .before .before .before .before .before .before .read .ensures .0 .same) (c .before .before .before .before .before .before .read .ensures .1) .0))
 
 -- src/lib.rt:183:19
 first-broken-requires : tie.Need-first-broken-requires
 first-broken-requires c κs =
-    after-reading (c .before .before .before .before .before .before .before .before .before .before .args .bytes .now) (c .before .before .before .before .before .before .before .before .before .before .args .rows .now) (c .before .before .before .before .before .before .read .last .1 .0) (c .before .before .n .given .0 .0) (sym (c .before .before .n .given .1) ∙ c .before .before .before .before .before .before .read .ensures .0) (c .before .before .before .before .before .before .read .ensures .1) .1
+    after-reading (c .before .before .before .before .before .before .before .before .before .before .args .bytes .now) (c .before .before .before .before .before .before .before .before .before .before .args .rows .now) (c .before .before .before .before .before .before .read .last .1 .0) (c .before .before .n .given .0 .0) (sym (c .before .before .n .given .1) ∙ c .before .before .before .before .before .before .read .ensures .0 .same) (c .before .before .before .before .before .before .read .ensures .1) .1
 
 -- src/lib.rt:184:38
 enum-told-3 : tie.Need-enum-told-3
@@ -69,7 +70,7 @@ same-length c = search needs
 returns : tie.Need-returns
 unfolding judgeOf
 returns c =
-    (rw (← c .before .before .before .before .read .ensures .0, c .enum-told .given .1), c .before .before .before .before .read .ensures .1)
+    (promised (rw (← c .before .before .before .before .read .ensures .0 .same, c .enum-told .given .1)), c .before .before .before .before .read .ensures .1)
 
 -- src/lib.rt:173:1
 same-length-2 : tie.Need-same-length-2
@@ -79,7 +80,7 @@ same-length-2 c = search needs
 returns-2 : tie.Need-returns-2
 unfolding judgeOf
 returns-2 c =
-    (rw (← c .before .before .before .before .before .read .ensures .0, c .before .code .given .1), c .before .before .before .before .before .read .ensures .1)
+    (promised (rw (← c .before .before .before .before .before .read .ensures .0 .same, c .before .code .given .1)), c .before .before .before .before .before .read .ensures .1)
 
 -- src/lib.rt:173:1
 same-length-3 : tie.Need-same-length-3
@@ -89,7 +90,7 @@ same-length-3 c = search needs
 returns-3 : tie.Need-returns-3
 unfolding judgeOf
 returns-3 c =
-    (rw (← c .before .before .before .before .read .ensures .0, c .enum-told2 .given .1), c .before .before .before .before .read .ensures .1)
+    (promised (rw (← c .before .before .before .before .read .ensures .0 .same, c .enum-told2 .given .1)), c .before .before .before .before .read .ensures .1)
 
 -- src/lib.rt:173:1
 same-length-4 : tie.Need-same-length-4
@@ -99,7 +100,7 @@ same-length-4 c = search needs
 returns-4 : tie.Need-returns-4
 unfolding judgeOf
 returns-4 c =
-    (rw (← c .before .before .before .before .before .before .before .before .before .read .ensures .0, c .before .before .before .before .before .n .given .1, ← c .before .before .first-broken .ensures, c .enum-told3 .given .1), c .before .before .before .before .before .before .before .before .before .read .ensures .1)
+    (promised (rw (← c .before .before .before .before .before .before .before .before .before .read .ensures .0 .same, c .before .before .before .before .before .n .given .1, ← c .before .before .first-broken .ensures, c .enum-told3 .given .1)), c .before .before .before .before .before .before .before .before .before .read .ensures .1)
 
 -- src/lib.rt:173:1
 same-length-5 : tie.Need-same-length-5
@@ -109,7 +110,7 @@ same-length-5 c = search needs
 returns-5 : tie.Need-returns-5
 unfolding judgeOf
 returns-5 c =
-    (rw (← c .before .before .before .before .before .before .before .before .before .before .read .ensures .0, c .before .before .before .before .before .before .n .given .1, ← c .before .before .before .first-broken .ensures, c .before .rule .given .1), c .before .before .before .before .before .before .before .before .before .before .read .ensures .1)
+    (promised (rw (← c .before .before .before .before .before .before .before .before .before .before .read .ensures .0 .same, c .before .before .before .before .before .before .n .given .1, ← c .before .before .before .first-broken .ensures, c .before .rule .given .1)), c .before .before .before .before .before .before .before .before .before .before .read .ensures .1)
 
 pub judge-spec : {M : Type 1} → statement M
 judge-spec =

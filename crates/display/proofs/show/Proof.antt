@@ -6,6 +6,7 @@ use Rattle.node.specs.Nodes.{nodesOf}
 use Rattle.conformance.specs.declared.JudgeAnswer.the-variants as judged
 use Rattle.display.specs.Show.{pictureOf, imageBy}
 use Rattle.display.proofs.Judged as laws
+use Rattle.dataset.proofs.Promised.{promised}
 use borrow.Author.Needs.{needs}
 use Rattle.display.proofs.show.Statement.{statement}
 use Rattle.display.proofs.show.Tie as tie
@@ -34,20 +35,20 @@ enum-known-count-2 c = search needs
 
 mul-end : tie.Need-mul-end
 mul-end c =
-    let t = laws.after-judging (c .before .before .before .before .before .before .before .before .before .before .args .bytes .now) (c .before .before .before .before .before .before .before .before .before .before .args .rows .now) (c .before .before .before .before .before .judge .last .1 .0) (c .before .count2 .given .0 .0) (sym (c .before .count2 .given .1) ∙ c .before .before .before .before .before .judge .ensures .0) (c .before .before .before .before .before .judge .ensures .1) .0 in
+    let t = laws.after-judging (c .before .before .before .before .before .before .before .before .before .before .args .bytes .now) (c .before .before .before .before .before .before .before .before .before .before .args .rows .now) (c .before .before .before .before .before .judge .last .1 .0) (c .before .count2 .given .0 .0) (sym (c .before .count2 .given .1) ∙ c .before .before .before .before .before .judge .ensures .0 .same) (c .before .before .before .before .before .judge .ensures .1) .0 in
     omega (arith, t .1 .size, t .1 .few, length-take-le (7 * c .before .count2 .given .0 .0) (c .before .before .before .before .before .judge .last .1 .0) (t .0))
 
 slice-reshare-prefix-show-table : tie.Need-slice-reshare-prefix-show-table
 slice-reshare-prefix-show-table c =
-    laws.after-judging (c .before .before .before .before .before .before .before .before .before .before .args .bytes .now) (c .before .before .before .before .before .before .before .before .before .before .args .rows .now) (c .before .before .before .before .before .judge .last .1 .0) (c .before .count2 .given .0 .0) (sym (c .before .count2 .given .1) ∙ c .before .before .before .before .before .judge .ensures .0) (c .before .before .before .before .before .judge .ensures .1) .0 .0
+    laws.after-judging (c .before .before .before .before .before .before .before .before .before .before .args .bytes .now) (c .before .before .before .before .before .before .before .before .before .before .args .rows .now) (c .before .before .before .before .before .judge .last .1 .0) (c .before .count2 .given .0 .0) (sym (c .before .count2 .given .1) ∙ c .before .before .before .before .before .judge .ensures .0 .same) (c .before .before .before .before .before .judge .ensures .1) .0 .0
 
 slice-aggregate-show-table : tie.Need-slice-aggregate-show-table
 slice-aggregate-show-table c =
-    sym (length-take-le _ _ (laws.after-judging (c .before .before .before .before .before .before .before .before .before .before .before .args .bytes .now) (c .before .before .before .before .before .before .before .before .before .before .before .args .rows .now) (c .before .before .before .before .before .before .judge .last .1 .0) (c .before .before .count2 .given .0 .0) (sym (c .before .before .count2 .given .1) ∙ c .before .before .before .before .before .before .judge .ensures .0) (c .before .before .before .before .before .before .judge .ensures .1) .0 .0))
+    sym (length-take-le _ _ (laws.after-judging (c .before .before .before .before .before .before .before .before .before .before .before .args .bytes .now) (c .before .before .before .before .before .before .before .before .before .before .before .args .rows .now) (c .before .before .before .before .before .before .judge .last .1 .0) (c .before .before .count2 .given .0 .0) (sym (c .before .before .count2 .given .1) ∙ c .before .before .before .before .before .before .judge .ensures .0 .same) (c .before .before .before .before .before .before .judge .ensures .1) .0 .0))
 
 show-table-requires : tie.Need-show-table-requires
 show-table-requires c κs =
-    let t = laws.after-judging (c .before .before .before .before .before .before .before .before .before .before .before .before .args .bytes .now) (c .before .before .before .before .before .before .before .before .before .before .before .before .args .rows .now) (c .before .before .before .before .before .before .before .judge .last .1 .0) (c .before .before .before .count2 .given .0 .0) (sym (c .before .before .before .count2 .given .1) ∙ c .before .before .before .before .before .before .before .judge .ensures .0) (c .before .before .before .before .before .before .before .judge .ensures .1) in
+    let t = laws.after-judging (c .before .before .before .before .before .before .before .before .before .before .before .before .args .bytes .now) (c .before .before .before .before .before .before .before .before .before .before .before .before .args .rows .now) (c .before .before .before .before .before .before .before .judge .last .1 .0) (c .before .before .before .count2 .given .0 .0) (sym (c .before .before .before .count2 .given .1) ∙ c .before .before .before .before .before .before .before .judge .ensures .0 .same) (c .before .before .before .before .before .before .before .judge .ensures .1) in
     (t .0 .1, (λ i. omega (arith, c .before .before .before .before .before .before .before .before .before .before .before .shared-slice-known .given i), t .1))
 
 same-length : tie.Need-same-length
@@ -55,28 +56,28 @@ same-length c = search needs
 
 returns : tie.Need-returns
 returns c =
-    (laws.shown-by (c .before .before .before .before .before .before .before .before .before .args .bytes .now) (c .before .before .before .before .before .before .before .before .before .args .frame) (c .before .before .before .before .before .before .before .before .before .args .rows .now) (c .before .before .before .before .before .before .before .before .before .args .image .now) judged.TooLarge (sym (c .enum-told .given .1) ∙ c .before .before .before .before .judge .ensures .0), (c .before .before .before .before .judge .ensures .1, laws.image-by (c .before .before .before .before .before .before .before .before .before .args .bytes .now) (c .before .before .before .before .before .before .before .before .before .args .frame) (c .before .before .before .before .before .before .before .before .before .args .rows .now) (c .before .before .before .before .before .before .before .before .before .args .image .now) judged.TooLarge (sym (c .enum-told .given .1) ∙ c .before .before .before .before .judge .ensures .0)))
+    (promised (laws.shown-by (c .before .before .before .before .before .before .before .before .before .args .bytes .now) (c .before .before .before .before .before .before .before .before .before .args .frame) (c .before .before .before .before .before .before .before .before .before .args .rows .now) (c .before .before .before .before .before .before .before .before .before .args .image .now) judged.TooLarge (sym (c .enum-told .given .1) ∙ c .before .before .before .before .judge .ensures .0 .same)), (c .before .before .before .before .judge .ensures .1, laws.image-by (c .before .before .before .before .before .before .before .before .before .args .bytes .now) (c .before .before .before .before .before .before .before .before .before .args .frame) (c .before .before .before .before .before .before .before .before .before .args .rows .now) (c .before .before .before .before .before .before .before .before .before .args .image .now) judged.TooLarge (sym (c .enum-told .given .1) ∙ c .before .before .before .before .judge .ensures .0 .same)))
 
 same-length-2 : tie.Need-same-length-2
 same-length-2 c = search needs
 
 returns-2 : tie.Need-returns-2
 returns-2 c =
-    (laws.shown-by (c .before .before .before .before .before .before .before .before .before .before .args .bytes .now) (c .before .before .before .before .before .before .before .before .before .before .args .frame) (c .before .before .before .before .before .before .before .before .before .before .args .rows .now) (c .before .before .before .before .before .before .before .before .before .before .args .image .now) (judged.Refused (c .before .code .given .0 .0) (c .before .code .given .0 .1 .0)) (sym (c .before .code .given .1) ∙ c .before .before .before .before .before .judge .ensures .0), (c .before .before .before .before .before .judge .ensures .1, laws.image-by (c .before .before .before .before .before .before .before .before .before .before .args .bytes .now) (c .before .before .before .before .before .before .before .before .before .before .args .frame) (c .before .before .before .before .before .before .before .before .before .before .args .rows .now) (c .before .before .before .before .before .before .before .before .before .before .args .image .now) (judged.Refused (c .before .code .given .0 .0) (c .before .code .given .0 .1 .0)) (sym (c .before .code .given .1) ∙ c .before .before .before .before .before .judge .ensures .0)))
+    (promised (laws.shown-by (c .before .before .before .before .before .before .before .before .before .before .args .bytes .now) (c .before .before .before .before .before .before .before .before .before .before .args .frame) (c .before .before .before .before .before .before .before .before .before .before .args .rows .now) (c .before .before .before .before .before .before .before .before .before .before .args .image .now) (judged.Refused (c .before .code .given .0 .0) (c .before .code .given .0 .1 .0)) (sym (c .before .code .given .1) ∙ c .before .before .before .before .before .judge .ensures .0 .same)), (c .before .before .before .before .before .judge .ensures .1, laws.image-by (c .before .before .before .before .before .before .before .before .before .before .args .bytes .now) (c .before .before .before .before .before .before .before .before .before .before .args .frame) (c .before .before .before .before .before .before .before .before .before .before .args .rows .now) (c .before .before .before .before .before .before .before .before .before .before .args .image .now) (judged.Refused (c .before .code .given .0 .0) (c .before .code .given .0 .1 .0)) (sym (c .before .code .given .1) ∙ c .before .before .before .before .before .judge .ensures .0 .same)))
 
 same-length-3 : tie.Need-same-length-3
 same-length-3 c = search needs
 
 returns-3 : tie.Need-returns-3
 returns-3 c =
-    (laws.shown-by (c .before .before .before .before .before .before .before .before .before .args .bytes .now) (c .before .before .before .before .before .before .before .before .before .args .frame) (c .before .before .before .before .before .before .before .before .before .args .rows .now) (c .before .before .before .before .before .before .before .before .before .args .image .now) judged.NoRoom (sym (c .enum-told2 .given .1) ∙ c .before .before .before .before .judge .ensures .0), (c .before .before .before .before .judge .ensures .1, laws.image-by (c .before .before .before .before .before .before .before .before .before .args .bytes .now) (c .before .before .before .before .before .before .before .before .before .args .frame) (c .before .before .before .before .before .before .before .before .before .args .rows .now) (c .before .before .before .before .before .before .before .before .before .args .image .now) judged.NoRoom (sym (c .enum-told2 .given .1) ∙ c .before .before .before .before .judge .ensures .0)))
+    (promised (laws.shown-by (c .before .before .before .before .before .before .before .before .before .args .bytes .now) (c .before .before .before .before .before .before .before .before .before .args .frame) (c .before .before .before .before .before .before .before .before .before .args .rows .now) (c .before .before .before .before .before .before .before .before .before .args .image .now) judged.NoRoom (sym (c .enum-told2 .given .1) ∙ c .before .before .before .before .judge .ensures .0 .same)), (c .before .before .before .before .judge .ensures .1, laws.image-by (c .before .before .before .before .before .before .before .before .before .args .bytes .now) (c .before .before .before .before .before .before .before .before .before .args .frame) (c .before .before .before .before .before .before .before .before .before .args .rows .now) (c .before .before .before .before .before .before .before .before .before .args .image .now) judged.NoRoom (sym (c .enum-told2 .given .1) ∙ c .before .before .before .before .judge .ensures .0 .same)))
 
 same-length-4 : tie.Need-same-length-4
 same-length-4 c = search needs
 
 returns-4 : tie.Need-returns-4
 returns-4 c =
-    (laws.shown-by (c .before .before .before .before .before .before .before .before .before .before .args .bytes .now) (c .before .before .before .before .before .before .before .before .before .before .args .frame) (c .before .before .before .before .before .before .before .before .before .before .args .rows .now) (c .before .before .before .before .before .before .before .before .before .before .args .image .now) (judged.Broken (c .before .count .given .0 .0) (c .before .count .given .0 .1 .0) (c .before .count .given .0 .1 .1 .0)) (sym (c .before .count .given .1) ∙ c .before .before .before .before .before .judge .ensures .0), (c .before .before .before .before .before .judge .ensures .1, laws.image-by (c .before .before .before .before .before .before .before .before .before .before .args .bytes .now) (c .before .before .before .before .before .before .before .before .before .before .args .frame) (c .before .before .before .before .before .before .before .before .before .before .args .rows .now) (c .before .before .before .before .before .before .before .before .before .before .args .image .now) (judged.Broken (c .before .count .given .0 .0) (c .before .count .given .0 .1 .0) (c .before .count .given .0 .1 .1 .0)) (sym (c .before .count .given .1) ∙ c .before .before .before .before .before .judge .ensures .0)))
+    (promised (laws.shown-by (c .before .before .before .before .before .before .before .before .before .before .args .bytes .now) (c .before .before .before .before .before .before .before .before .before .before .args .frame) (c .before .before .before .before .before .before .before .before .before .before .args .rows .now) (c .before .before .before .before .before .before .before .before .before .before .args .image .now) (judged.Broken (c .before .count .given .0 .0) (c .before .count .given .0 .1 .0) (c .before .count .given .0 .1 .1 .0)) (sym (c .before .count .given .1) ∙ c .before .before .before .before .before .judge .ensures .0 .same)), (c .before .before .before .before .before .judge .ensures .1, laws.image-by (c .before .before .before .before .before .before .before .before .before .before .args .bytes .now) (c .before .before .before .before .before .before .before .before .before .before .args .frame) (c .before .before .before .before .before .before .before .before .before .before .args .rows .now) (c .before .before .before .before .before .before .before .before .before .before .args .image .now) (judged.Broken (c .before .count .given .0 .0) (c .before .count .given .0 .1 .0) (c .before .count .given .0 .1 .1 .0)) (sym (c .before .count .given .1) ∙ c .before .before .before .before .before .judge .ensures .0 .same)))
 
 same-length-5 : tie.Need-same-length-5
 same-length-5 c = search needs
@@ -86,8 +87,8 @@ same-length-6 c = search needs
 
 returns-5 : tie.Need-returns-5
 returns-5 c =
-    let e = sym (c .before .before .before .before .before .before .count2 .given .1) ∙ c .before .before .before .before .before .before .before .before .before .before .judge .ensures .0 in
-    (c .before .before .show-table .ensures .0 ∙ laws.shown-by (c .before .before .before .before .before .before .before .before .before .before .before .before .before .before .before .args .bytes .now) (c .before .before .before .before .before .before .before .before .before .before .before .before .before .before .before .args .frame) (c .before .before .before .before .before .before .before .before .before .before .before .before .before .before .before .args .rows .now) (c .before .before .before .before .before .before .before .before .before .before .before .before .before .before .before .args .image .now) (judged.Accepted (c .before .before .before .before .before .before .count2 .given .0 .0)) e, (c .before .before .before .before .before .before .before .before .before .before .judge .ensures .1, c .before .before .show-table .ensures .1 ∙ (ap (imageBy (pictureOf (nodesOf (c .before .before .before .before .before .before .before .before .before .before .before .before .before .before .before .args .bytes .now)) (c .before .before .before .before .before .before .before .before .before .before .before .before .before .before .before .args .frame)) (c .before .before .before .before .before .before .before .before .before .before .before .before .before .before .before .args .image .now)) (c .before .before .show-table .ensures .0) ∙ laws.image-by (c .before .before .before .before .before .before .before .before .before .before .before .before .before .before .before .args .bytes .now) (c .before .before .before .before .before .before .before .before .before .before .before .before .before .before .before .args .frame) (c .before .before .before .before .before .before .before .before .before .before .before .before .before .before .before .args .rows .now) (c .before .before .before .before .before .before .before .before .before .before .before .before .before .before .before .args .image .now) (judged.Accepted (c .before .before .before .before .before .before .count2 .given .0 .0)) e)))
+    let e = sym (c .before .before .before .before .before .before .count2 .given .1) ∙ c .before .before .before .before .before .before .before .before .before .before .judge .ensures .0 .same in
+    (promised (c .before .before .show-table .ensures .0 ∙ laws.shown-by (c .before .before .before .before .before .before .before .before .before .before .before .before .before .before .before .args .bytes .now) (c .before .before .before .before .before .before .before .before .before .before .before .before .before .before .before .args .frame) (c .before .before .before .before .before .before .before .before .before .before .before .before .before .before .before .args .rows .now) (c .before .before .before .before .before .before .before .before .before .before .before .before .before .before .before .args .image .now) (judged.Accepted (c .before .before .before .before .before .before .count2 .given .0 .0)) e), (c .before .before .before .before .before .before .before .before .before .before .judge .ensures .1, c .before .before .show-table .ensures .1 ∙ (ap (imageBy (pictureOf (nodesOf (c .before .before .before .before .before .before .before .before .before .before .before .before .before .before .before .args .bytes .now)) (c .before .before .before .before .before .before .before .before .before .before .before .before .before .before .before .args .frame)) (c .before .before .before .before .before .before .before .before .before .before .before .before .before .before .before .args .image .now)) (c .before .before .show-table .ensures .0) ∙ laws.image-by (c .before .before .before .before .before .before .before .before .before .before .before .before .before .before .before .args .bytes .now) (c .before .before .before .before .before .before .before .before .before .before .before .before .before .before .before .args .frame) (c .before .before .before .before .before .before .before .before .before .before .before .before .before .before .before .args .rows .now) (c .before .before .before .before .before .before .before .before .before .before .before .before .before .before .before .args .image .now) (judged.Accepted (c .before .before .before .before .before .before .count2 .given .0 .0)) e)))
 
 pub show-spec : {M : Type 1} → statement M
 show-spec =

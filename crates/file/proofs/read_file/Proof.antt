@@ -9,6 +9,7 @@ use Rattle.meta.specs.declared.Meta.{Meta}
 use Rattle.meta.specs.Meta.{part}
 use Rattle.meta.specs.Said.{MetaWithin}
 use Rattle.file.specs.File.{readPart, readFileOf, rowsLeft}
+use Rattle.dataset.proofs.Promised.{promised}
 use borrow.Author.Needs.{needs}
 use Rattle.file.proofs.read_file.Statement.{statement}
 use Rattle.file.proofs.read_file.Tie as tie
@@ -66,19 +67,19 @@ read-part-requires c κs = search needs
 returns : tie.Need-returns
 unfolding readFileOf rowsLeft
 returns c =
-    (rw (← c .before .before .read-head .ensures .0, c .enum-told .given .1), rw (← c .before .before .read-head .ensures .0, c .enum-told .given .1))
+    (promised (rw (← c .before .before .read-head .ensures .0, c .enum-told .given .1)), rw (← c .before .before .read-head .ensures .0, c .enum-told .given .1))
 
 -- src/lib.rt:175:1
 returns-2 : tie.Need-returns-2
 unfolding readFileOf rowsLeft
 returns-2 c =
-    (rw (← c .before .before .read-head .ensures .0, c .enum-told2 .given .1), rw (← c .before .before .read-head .ensures .0, c .enum-told2 .given .1))
+    (promised (rw (← c .before .before .read-head .ensures .0, c .enum-told2 .given .1)), rw (← c .before .before .read-head .ensures .0, c .enum-told2 .given .1))
 
 -- src/lib.rt:175:1
 returns-3 : tie.Need-returns-3
 unfolding readFileOf rowsLeft
 returns-3 c =
-    (rw (← c .before .before .read-head .ensures .0, c .enum-told3 .given .1), rw (← c .before .before .read-head .ensures .0, c .enum-told3 .given .1))
+    (promised (rw (← c .before .before .read-head .ensures .0, c .enum-told3 .given .1)), rw (← c .before .before .read-head .ensures .0, c .enum-told3 .given .1))
 
 -- src/lib.rt:175:1
 same-length : tie.Need-same-length
@@ -88,7 +89,7 @@ same-length c = search needs
 returns-4 : tie.Need-returns-4
 unfolding readFileOf rowsLeft
 returns-4 c =
-    (rw (← c .before .before .before .before .before .before .before .before .before .read-head .ensures .0, c .before .before .before .before .before .before .before .from .given .1) (c .before .before .read-part .ensures .0 ∙ ap (λ (x : List ℕ). readPart x (part (c .before .before .before .before .before .before .before .before .before .before .before .before .args .file .now) (c .before .before .before .before .before .before .before .from .given .0 .1 .0) (c .before .before .before .before .before .before .before .from .given .0 .1 .1 .0)) (c .before .before .before .before .before .before .before .before .before .before .before .before .args .rows .now)) (c .before .before .before .before .before .data-set .ensures .bytes)), rw (← c .before .before .before .before .before .before .before .before .before .read-head .ensures .0, c .before .before .before .before .before .before .before .from .given .1) (c .before .before .read-part .ensures .1 ∙ ap (λ (x : List ℕ). bufferOf (readingOf x) (c .before .before .before .before .before .before .before .before .before .before .before .before .args .rows .now)) (c .before .before .before .before .before .data-set .ensures .bytes)))
+    (promised (rw (← c .before .before .before .before .before .before .before .before .before .read-head .ensures .0, c .before .before .before .before .before .before .before .from .given .1) (c .before .before .read-part .ensures .0 ∙ ap (λ (x : List ℕ). readPart x (part (c .before .before .before .before .before .before .before .before .before .before .before .before .args .file .now) (c .before .before .before .before .before .before .before .from .given .0 .1 .0) (c .before .before .before .before .before .before .before .from .given .0 .1 .1 .0)) (c .before .before .before .before .before .before .before .before .before .before .before .before .args .rows .now)) (c .before .before .before .before .before .data-set .ensures .bytes))), rw (← c .before .before .before .before .before .before .before .before .before .read-head .ensures .0, c .before .before .before .before .before .before .before .from .given .1) (c .before .before .read-part .ensures .1 ∙ ap (λ (x : List ℕ). bufferOf (readingOf x) (c .before .before .before .before .before .before .before .before .before .before .before .before .args .rows .now)) (c .before .before .before .before .before .data-set .ensures .bytes)))
 
 pub read-file-spec : {M : Type 1} → statement M
 read-file-spec =

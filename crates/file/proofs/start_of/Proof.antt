@@ -1,4 +1,5 @@
 use Rattle.file.specs.File.{startOf}
+use Rattle.dataset.proofs.Promised.{promised}
 use borrow.Author.Needs.{needs}
 use Rattle.file.proofs.start_of.Statement.{statement}
 use Rattle.file.proofs.start_of.Tie as tie
@@ -30,25 +31,25 @@ enum-known-from c = search needs
 returns : tie.Need-returns
 unfolding startOf
 returns c =
-    rw (← c .before .before .read-head .ensures .0, c .enum-told .given .1)
+    promised (rw (← c .before .before .read-head .ensures .0, c .enum-told .given .1))
 
 -- src/lib.rt:54:1
 returns-2 : tie.Need-returns-2
 unfolding startOf
 returns-2 c =
-    rw (← c .before .before .read-head .ensures .0, c .enum-told2 .given .1)
+    promised (rw (← c .before .before .read-head .ensures .0, c .enum-told2 .given .1))
 
 -- src/lib.rt:54:1
 returns-3 : tie.Need-returns-3
 unfolding startOf
 returns-3 c =
-    rw (← c .before .before .read-head .ensures .0, c .enum-told3 .given .1)
+    promised (rw (← c .before .before .read-head .ensures .0, c .enum-told3 .given .1))
 
 -- src/lib.rt:54:1
 returns-4 : tie.Need-returns-4
 unfolding startOf
 returns-4 c =
-    rw (← c .before .before .before .read-head .ensures .0, c .before .from .given .1)
+    promised (rw (← c .before .before .before .read-head .ensures .0, c .before .from .given .1))
 
 pub start-of-spec : {M : Type 1} → statement M
 start-of-spec =

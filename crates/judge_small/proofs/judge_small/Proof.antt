@@ -17,7 +17,7 @@ judge-requires c κs = search needs
 
 returns : tie.Need-returns
 returns c =
-    c .before .judge .ensures .0 ∙ roomy _ _ (omega (arith, c .before .before .before .row-buffer .ensures, c .before .before .before .before .before .pre))
+    c .before .judge .ensures .0 .same ∙ roomy _ _ (omega (arith, c .before .before .before .row-buffer .ensures, c .before .before .before .before .before .pre))
 
 pub judge-small-spec : {M : Type 1} → statement M
 judge-small-spec =

@@ -1,5 +1,5 @@
 use Rattle.sheet.specs.declared.SheetAnswer.{SheetAnswer}
-use Rattle.sheet.specs.Answer.{codeOf}
+use Rattle.sheet.specs.Answer.{fieldsOf}
 use mathlib.Core.Path.{_≡_, refl, sym, ap, _∙_, subst}
 use native.Mathlib.Omega.{arith}
 use borrow.Author.Needs.{needs}
@@ -44,7 +44,7 @@ enum-told-4 c =
 
 expect-requires : tie.Need-expect-requires
 expect-requires c κs =
-    absurd (c .before .before .before .pre .0 (ap codeOf (c .enum-told4 .given .1)))
+    absurd (c .before .before .before .pre .0 (ap (λ (x : SheetAnswer). fieldsOf x .code) (c .enum-told4 .given .1)))
 
 enum-told-5 : tie.Need-enum-told-5
 enum-told-5 c =

@@ -4,7 +4,7 @@ use native.Mathlib.Omega.{arith}
 use borrow.Author.Needs.{needs}
 use lib.ListN.{length}
 use Rattle.sheet.specs.declared.Sampled.{Sampled}
-use Rattle.sheet.specs.Answer.{codeOf}
+use Rattle.sheet.specs.Answer.{fieldsOf}
 use Rattle.sheet.proofs.Answers.{counts-many}
 use Rattle.sheet_small.proofs.Roomy.{roomy-sheet, never-eight}
 use Rattle.sheet_small.proofs.sheet_small.Statement.{statement}
@@ -21,8 +21,8 @@ whole-requires c κs = search needs
 
 returns : tie.Need-returns
 returns c =
-    let e = c .before .whole .ensures .0 ∙ roomy-sheet _ _ _ _ (omega (arith, c .before .before .before .row-buffer .ensures, c .before .before .before .before .before .pre)) in
-    (e, (λ h. never-eight _ _ _ (ap (λ (r : Sampled). codeOf (r .answer)) (sym e) ∙ h), ap (λ (r : Sampled). length (r .sheet .counts)) (c .before .whole .ensures .0) ∙ counts-many _ _ _ _))
+    let e = c .before .whole .ensures .0 .same ∙ roomy-sheet _ _ _ _ (omega (arith, c .before .before .before .row-buffer .ensures, c .before .before .before .before .before .pre)) in
+    (e, (λ h. never-eight _ _ _ (ap (λ (r : Sampled). fieldsOf (r .answer) .code) (sym e) ∙ h), ap (λ (r : Sampled). length (r .sheet .counts)) (c .before .whole .ensures .0 .same) ∙ counts-many _ _ _ _))
 
 pub sheet-small-spec : {M : Type 1} → statement M
 sheet-small-spec =

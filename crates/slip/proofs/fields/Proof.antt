@@ -1,4 +1,4 @@
--- `fields` answers `fieldsOf`: each field is the number read at its place.
+-- `fields` answers `recorded`: each field is the number read at its place.
 use mathlib.Core.Path.{sym, _∙_}
 use Rattle.slip.proofs.Laws.{number-one}
 use borrow.Author.Needs.{needs}

@@ -3,6 +3,7 @@ use mathlib.Core.Path.{refl, sym, _∙_}
 use borrow.Author.Tests.{le-leb, lt-leb}
 use Rattle.verdict.specs.Verdict.{writable}
 use Rattle.slip.specs.Slip.{writeOf, bufferOf}
+use Rattle.dataset.proofs.Promised.{promised}
 use borrow.Author.Needs.{needs}
 use Rattle.slip.proofs.write_slip.Statement.{statement}
 use Rattle.slip.proofs.write_slip.Tie as tie
@@ -25,22 +26,22 @@ same-length c = search needs
 returns : tie.Need-returns
 unfolding writable writeOf bufferOf
 returns c =
-    simp (sym (c .before .before .before .before .before .before .before .before .before .is-possible .ensures) ∙ c .before .before .before .before .before .before .before .before .if1 .taken, c .before .before .before .before .before .before .rows .given .1, le-leb _ _ (c .before .before .before .before .if2 .taken)) (refl, c .before .before .put-slip .ensures)
+    simp (sym (c .before .before .before .before .before .before .before .before .before .is-possible .ensures) ∙ c .before .before .before .before .before .before .before .before .if1 .taken, c .before .before .before .before .before .before .rows .given .1, le-leb _ _ (c .before .before .before .before .if2 .taken)) (promised refl, c .before .before .put-slip .ensures)
 
 returns-2 : tie.Need-returns-2
 unfolding writable writeOf bufferOf
 returns-2 c =
-    simp (sym (c .before .before .before .before .before .is-possible .ensures) ∙ c .before .before .before .before .if1 .taken, c .before .before .rows .given .1, lt-leb _ _ (c .if2 .left)) (refl, refl)
+    simp (sym (c .before .before .before .before .before .is-possible .ensures) ∙ c .before .before .before .before .if1 .taken, c .before .before .rows .given .1, lt-leb _ _ (c .if2 .left)) (promised refl, refl)
 
 returns-3 : tie.Need-returns-3
 unfolding writable writeOf bufferOf
 returns-3 c =
-    simp (sym (c .before .before .before .is-possible .ensures) ∙ c .before .before .if1 .taken, c .enum-told .given .1) (refl, refl)
+    simp (sym (c .before .before .before .is-possible .ensures) ∙ c .before .before .if1 .taken, c .enum-told .given .1) (promised refl, refl)
 
 returns-4 : tie.Need-returns-4
 unfolding writable writeOf bufferOf
 returns-4 c =
-    simp (sym (c .before .is-possible .ensures) ∙ c .if1 .left) (refl, refl)
+    simp (sym (c .before .is-possible .ensures) ∙ c .if1 .left) (promised refl, refl)
 
 pub write-slip-spec : {M : Type 1} → statement M
 write-slip-spec =

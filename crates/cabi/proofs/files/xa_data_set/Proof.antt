@@ -1,5 +1,7 @@
 use mathlib.Core.Path.{ap, sym, _∙_}
-use Rattle.cabi.specs.Host.{partAnswer}
+use Rattle.file.specs.declared.Start.{Start}
+use Rattle.file.specs.File.{startFields}
+use Rattle.cabi.specs.Host.{partOf}
 use borrow.Author.Needs.{needs}
 use Rattle.cabi.proofs.files.xa_data_set.Statement.{statement}
 use Rattle.cabi.proofs.files.xa_data_set.Tie as tie
@@ -30,22 +32,22 @@ enum-told-3 c = search needs
 -- src/files.rt:23:1
 returns : tie.Need-returns
 returns c =
-    ap partAnswer (sym (c .before .from .given .1) ∙ c .before .before .before .start-of .ensures)
+    ap (λ (a : Start). partOf (startFields a)) (sym (c .before .from .given .1) ∙ c .before .before .before .start-of .ensures .same)
 
 -- src/files.rt:23:1
 returns-2 : tie.Need-returns-2
 returns-2 c =
-    ap partAnswer (sym (c .enum-told .given .1) ∙ c .before .before .start-of .ensures)
+    ap (λ (a : Start). partOf (startFields a)) (sym (c .enum-told .given .1) ∙ c .before .before .start-of .ensures .same)
 
 -- src/files.rt:23:1
 returns-3 : tie.Need-returns-3
 returns-3 c =
-    ap partAnswer (sym (c .enum-told2 .given .1) ∙ c .before .before .start-of .ensures)
+    ap (λ (a : Start). partOf (startFields a)) (sym (c .enum-told2 .given .1) ∙ c .before .before .start-of .ensures .same)
 
 -- src/files.rt:23:1
 returns-4 : tie.Need-returns-4
 returns-4 c =
-    ap partAnswer (sym (c .enum-told3 .given .1) ∙ c .before .before .start-of .ensures)
+    ap (λ (a : Start). partOf (startFields a)) (sym (c .enum-told3 .given .1) ∙ c .before .before .start-of .ensures .same)
 
 pub xa-data-set-spec : {M : Type 1} → statement M
 xa-data-set-spec =

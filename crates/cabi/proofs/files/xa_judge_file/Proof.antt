@@ -1,5 +1,7 @@
 use mathlib.Core.Path.{ap, sym, _∙_}
-use Rattle.cabi.specs.Host.{judgeFileAnswer}
+use Rattle.file.specs.declared.JudgeFileAnswer.{JudgeFileAnswer}
+use Rattle.file.specs.File.{judgeFields}
+use Rattle.cabi.specs.Host.{hosted}
 use Rattle.cabi.proofs.InFiles.{judge-inside}
 use borrow.Author.Needs.{needs}
 use Rattle.cabi.proofs.files.xa_judge_file.Statement.{statement}
@@ -21,7 +23,7 @@ enum-known-answer c = search needs
 -- src/files.rt:57:44
 judge-numbers-requires : tie.Need-judge-numbers-requires
 judge-numbers-requires c κs =
-    judge-inside (c .before .before .before .before .before .before .before .before .before .args .file .now) (c .before .before .before .before .before .before .before .before .before .args .rows .now) (c .before .before .before .before .before .judge-file .ensures .0) (c .before .answer .given .1)
+    judge-inside (c .before .before .before .before .before .before .before .before .before .args .file .now) (c .before .before .before .before .before .before .before .before .before .args .rows .now) (c .before .before .before .before .before .judge-file .ensures .0 .same) (c .before .answer .given .1)
 
 -- src/files.rt:58:36
 enum-told : tie.Need-enum-told
@@ -62,7 +64,7 @@ same-length c = search needs
 -- src/files.rt:51:1
 returns : tie.Need-returns
 returns c =
-    (c .judge-numbers .ensures ∙ ap judgeFileAnswer (sym (c .before .before .answer .given .1) ∙ c .before .before .before .before .before .before .judge-file .ensures .0), c .before .before .before .before .before .before .judge-file .ensures .1)
+    (c .judge-numbers .ensures ∙ ap (λ (a : JudgeFileAnswer). hosted (judgeFields a)) (sym (c .before .before .answer .given .1) ∙ c .before .before .before .before .before .before .judge-file .ensures .0 .same), c .before .before .before .before .before .before .judge-file .ensures .1)
 
 -- src/files.rt:51:1
 same-length-2 : tie.Need-same-length-2
@@ -71,7 +73,7 @@ same-length-2 c = search needs
 -- src/files.rt:51:1
 returns-2 : tie.Need-returns-2
 returns-2 c =
-    (rw (c .code-alone .ensures) (ap judgeFileAnswer (sym (c .before .enum-told .given .1) ∙ c .before .before .before .before .before .judge-file .ensures .0)), c .before .before .before .before .before .judge-file .ensures .1)
+    (rw (c .code-alone .ensures) (ap (λ (a : JudgeFileAnswer). hosted (judgeFields a)) (sym (c .before .enum-told .given .1) ∙ c .before .before .before .before .before .judge-file .ensures .0 .same)), c .before .before .before .before .before .judge-file .ensures .1)
 
 -- src/files.rt:51:1
 same-length-3 : tie.Need-same-length-3
@@ -80,7 +82,7 @@ same-length-3 c = search needs
 -- src/files.rt:51:1
 returns-3 : tie.Need-returns-3
 returns-3 c =
-    (rw (c .code-alone2 .ensures) (ap judgeFileAnswer (sym (c .before .enum-told2 .given .1) ∙ c .before .before .before .before .before .judge-file .ensures .0)), c .before .before .before .before .before .judge-file .ensures .1)
+    (rw (c .code-alone2 .ensures) (ap (λ (a : JudgeFileAnswer). hosted (judgeFields a)) (sym (c .before .enum-told2 .given .1) ∙ c .before .before .before .before .before .judge-file .ensures .0 .same)), c .before .before .before .before .before .judge-file .ensures .1)
 
 -- src/files.rt:51:1
 same-length-4 : tie.Need-same-length-4
@@ -89,7 +91,7 @@ same-length-4 c = search needs
 -- src/files.rt:51:1
 returns-4 : tie.Need-returns-4
 returns-4 c =
-    (rw (c .code-alone3 .ensures) (ap judgeFileAnswer (sym (c .before .enum-told3 .given .1) ∙ c .before .before .before .before .before .judge-file .ensures .0)), c .before .before .before .before .before .judge-file .ensures .1)
+    (rw (c .code-alone3 .ensures) (ap (λ (a : JudgeFileAnswer). hosted (judgeFields a)) (sym (c .before .enum-told3 .given .1) ∙ c .before .before .before .before .before .judge-file .ensures .0 .same)), c .before .before .before .before .before .judge-file .ensures .1)
 
 -- src/files.rt:51:1
 same-length-5 : tie.Need-same-length-5
@@ -98,7 +100,7 @@ same-length-5 c = search needs
 -- src/files.rt:51:1
 returns-5 : tie.Need-returns-5
 returns-5 c =
-    (rw (c .code-alone4 .ensures) (ap judgeFileAnswer (sym (c .before .enum-told4 .given .1) ∙ c .before .before .before .before .before .judge-file .ensures .0)), c .before .before .before .before .before .judge-file .ensures .1)
+    (rw (c .code-alone4 .ensures) (ap (λ (a : JudgeFileAnswer). hosted (judgeFields a)) (sym (c .before .enum-told4 .given .1) ∙ c .before .before .before .before .before .judge-file .ensures .0 .same)), c .before .before .before .before .before .judge-file .ensures .1)
 
 pub xa-judge-file-spec : {M : Type 1} → statement M
 xa-judge-file-spec =

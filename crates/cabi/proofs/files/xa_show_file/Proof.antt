@@ -1,5 +1,7 @@
 use mathlib.Core.Path.{ap, sym, _∙_}
-use Rattle.cabi.specs.Host.{showFileAnswer}
+use Rattle.file.specs.declared.ShowFileAnswer.{ShowFileAnswer}
+use Rattle.file.specs.File.{showFields}
+use Rattle.cabi.specs.Host.{hosted}
 use Rattle.cabi.proofs.InFiles.{show-inside}
 use borrow.Author.Needs.{needs}
 use Rattle.cabi.proofs.files.xa_show_file.Statement.{statement}
@@ -21,7 +23,7 @@ enum-known-answer c = search needs
 -- src/files.rt:79:42
 show-numbers-requires : tie.Need-show-numbers-requires
 show-numbers-requires c κs =
-    show-inside (c .before .before .before .before .before .before .before .before .before .before .before .before .before .args .file .now) (c .before .before .before .before .before .before .before .before .before .before .before .before .before .args .frame) (c .before .before .before .before .before .before .before .before .before .before .before .before .before .args .rows .now) (c .before .before .before .before .before .before .before .before .before .before .before .before .before .args .image .now) (c .before .before .before .before .before .before .before .show-file .ensures .0) (c .before .answer .given .1)
+    show-inside (c .before .before .before .before .before .before .before .before .before .before .before .before .before .args .file .now) (c .before .before .before .before .before .before .before .before .before .before .before .before .before .args .frame) (c .before .before .before .before .before .before .before .before .before .before .before .before .before .args .rows .now) (c .before .before .before .before .before .before .before .before .before .before .before .before .before .args .image .now) (c .before .before .before .before .before .before .before .show-file .ensures .0 .same) (c .before .answer .given .1)
 
 -- src/files.rt:80:35
 enum-told : tie.Need-enum-told
@@ -66,7 +68,7 @@ same-length-2 c = search needs
 -- src/files.rt:67:1
 returns : tie.Need-returns
 returns c =
-    (c .show-numbers .ensures ∙ ap showFileAnswer (sym (c .before .before .answer .given .1) ∙ c .before .before .before .before .before .before .before .before .show-file .ensures .0), c .before .before .before .before .before .before .before .before .show-file .ensures .1)
+    (c .show-numbers .ensures ∙ ap (λ (a : ShowFileAnswer). hosted (showFields a)) (sym (c .before .before .answer .given .1) ∙ c .before .before .before .before .before .before .before .before .show-file .ensures .0 .same), c .before .before .before .before .before .before .before .before .show-file .ensures .1)
 
 -- src/files.rt:67:1
 same-length-3 : tie.Need-same-length-3
@@ -79,7 +81,7 @@ same-length-4 c = search needs
 -- src/files.rt:67:1
 returns-2 : tie.Need-returns-2
 returns-2 c =
-    (rw (c .code-alone .ensures) (ap showFileAnswer (sym (c .before .enum-told .given .1) ∙ c .before .before .before .before .before .before .before .show-file .ensures .0)), c .before .before .before .before .before .before .before .show-file .ensures .1)
+    (rw (c .code-alone .ensures) (ap (λ (a : ShowFileAnswer). hosted (showFields a)) (sym (c .before .enum-told .given .1) ∙ c .before .before .before .before .before .before .before .show-file .ensures .0 .same)), c .before .before .before .before .before .before .before .show-file .ensures .1)
 
 -- src/files.rt:67:1
 same-length-5 : tie.Need-same-length-5
@@ -92,7 +94,7 @@ same-length-6 c = search needs
 -- src/files.rt:67:1
 returns-3 : tie.Need-returns-3
 returns-3 c =
-    (rw (c .code-alone2 .ensures) (ap showFileAnswer (sym (c .before .enum-told2 .given .1) ∙ c .before .before .before .before .before .before .before .show-file .ensures .0)), c .before .before .before .before .before .before .before .show-file .ensures .1)
+    (rw (c .code-alone2 .ensures) (ap (λ (a : ShowFileAnswer). hosted (showFields a)) (sym (c .before .enum-told2 .given .1) ∙ c .before .before .before .before .before .before .before .show-file .ensures .0 .same)), c .before .before .before .before .before .before .before .show-file .ensures .1)
 
 -- src/files.rt:67:1
 same-length-7 : tie.Need-same-length-7
@@ -105,7 +107,7 @@ same-length-8 c = search needs
 -- src/files.rt:67:1
 returns-4 : tie.Need-returns-4
 returns-4 c =
-    (rw (c .code-alone3 .ensures) (ap showFileAnswer (sym (c .before .enum-told3 .given .1) ∙ c .before .before .before .before .before .before .before .show-file .ensures .0)), c .before .before .before .before .before .before .before .show-file .ensures .1)
+    (rw (c .code-alone3 .ensures) (ap (λ (a : ShowFileAnswer). hosted (showFields a)) (sym (c .before .enum-told3 .given .1) ∙ c .before .before .before .before .before .before .before .show-file .ensures .0 .same)), c .before .before .before .before .before .before .before .show-file .ensures .1)
 
 -- src/files.rt:67:1
 same-length-9 : tie.Need-same-length-9
@@ -118,7 +120,7 @@ same-length-10 c = search needs
 -- src/files.rt:67:1
 returns-5 : tie.Need-returns-5
 returns-5 c =
-    (rw (c .code-alone4 .ensures) (ap showFileAnswer (sym (c .before .enum-told4 .given .1) ∙ c .before .before .before .before .before .before .before .show-file .ensures .0)), c .before .before .before .before .before .before .before .show-file .ensures .1)
+    (rw (c .code-alone4 .ensures) (ap (λ (a : ShowFileAnswer). hosted (showFields a)) (sym (c .before .enum-told4 .given .1) ∙ c .before .before .before .before .before .before .before .show-file .ensures .0 .same)), c .before .before .before .before .before .before .before .show-file .ensures .1)
 
 pub xa-show-file-spec : {M : Type 1} → statement M
 xa-show-file-spec =

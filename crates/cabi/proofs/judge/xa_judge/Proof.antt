@@ -1,5 +1,7 @@
 use mathlib.Core.Path.{ap, sym, subst, _∙_}
-use Rattle.cabi.specs.Host.{judgeAnswer, JudgeFits32}
+use Rattle.conformance.specs.declared.JudgeAnswer.{JudgeAnswer}
+use Rattle.conformance.specs.Judging.{fieldsOf}
+use Rattle.cabi.specs.Host.{hosted, Fits32}
 use Rattle.cabi.proofs.Numbers.{judge-fits}
 use borrow.Author.Needs.{needs}
 use Rattle.cabi.proofs.judge.xa_judge.Statement.{statement}
@@ -16,7 +18,7 @@ judge-requires c κs = search needs
 -- src/judge.rt:52:5
 judge-numbers-requires : tie.Need-judge-numbers-requires
 judge-numbers-requires c κs =
-    subst JudgeFits32 (sym (c .before .before .judge .ensures .0)) (judge-fits (c .before .before .before .before .before .before .args .bytes .now) (c .before .before .before .before .before .before .args .rows .now))
+    subst (λ (a : JudgeAnswer). Fits32 (fieldsOf a)) (sym (c .before .before .judge .ensures .0 .same)) (judge-fits (c .before .before .before .before .before .before .args .bytes .now) (c .before .before .before .before .before .before .args .rows .now))
 
 -- src/judge.rt:47:1
 same-length : tie.Need-same-length
@@ -25,7 +27,7 @@ same-length c = search needs
 -- src/judge.rt:47:1
 returns : tie.Need-returns
 returns c =
-    (c .judge-numbers .ensures ∙ ap judgeAnswer (c .before .before .before .judge .ensures .0), c .before .before .before .judge .ensures .1)
+    (c .judge-numbers .ensures ∙ ap (λ (a : JudgeAnswer). hosted (fieldsOf a)) (c .before .before .before .judge .ensures .0 .same), c .before .before .before .judge .ensures .1)
 
 pub xa-judge-spec : {M : Type 1} → statement M
 xa-judge-spec = tie.close (tie.spec judge-requires judge-numbers-requires same-length returns)

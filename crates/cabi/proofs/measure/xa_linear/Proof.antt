@@ -1,6 +1,7 @@
 use mathlib.Core.Path.{ap, sym, _∙_}
-use native.Mathlib.Omega.{arith}
-use Rattle.cabi.specs.Host.{linearAnswer}
+use Rattle.linear.specs.declared.LinearAnswer.{LinearAnswer}
+use Rattle.linear.specs.Answer.{fieldsOf}
+use Rattle.cabi.specs.Host.{hosted}
 use Rattle.cabi.proofs.Numbers.{linear-narrow}
 use borrow.Author.Needs.{needs}
 use Rattle.cabi.proofs.measure.xa_linear.Statement.{statement}
@@ -18,43 +19,25 @@ linear-requires c κs = search needs
 enum-known-n : tie.Need-enum-known-n
 enum-known-n c = search needs
 
--- src/measure.rt:24:19
-cast-t17 : tie.Need-cast-t17
-cast-t17 c =
-    record { fits = omega (arith, linear-narrow _ _ _ _ (c .before .before .before .before .before .before .before .linear .ensures .0) (c .before .n .given .1) .rows) }
+done-with-requires : tie.Need-done-with-requires
+done-with-requires c κs =
+    linear-narrow _ _ _ _ (c .before .before .before .before .before .before .before .linear .ensures .0 .same) (c .before .n .given .1)
 
 -- src/measure.rt:29:30
 enum-known-n-2 : tie.Need-enum-known-n-2
 enum-known-n-2 c = search needs
 
--- src/measure.rt:32:19
-cast-t18 : tie.Need-cast-t18
-cast-t18 c =
-    record { fits = omega (arith, linear-narrow _ _ _ _ (c .before .before .before .before .before .before .before .linear .ensures .0) (c .before .n2 .given .1) .rows) }
-
--- src/measure.rt:33:19
-cast-t19 : tie.Need-cast-t19
-cast-t19 c =
-    record { fits = omega (arith, linear-narrow _ _ _ _ (c .before .before .before .before .before .before .before .linear .ensures .0) (c .before .n2 .given .1) .rule) }
-
--- src/measure.rt:34:20
-cast-t20 : tie.Need-cast-t20
-cast-t20 c =
-    record { fits = omega (arith, linear-narrow _ _ _ _ (c .before .before .before .before .before .before .before .linear .ensures .0) (c .before .n2 .given .1) .frame) }
+broken-at-requires : tie.Need-broken-at-requires
+broken-at-requires c κs =
+    linear-narrow _ _ _ _ (c .before .before .before .before .before .before .before .linear .ensures .0 .same) (c .before .n2 .given .1)
 
 -- src/measure.rt:37:31
 enum-known-code : tie.Need-enum-known-code
 enum-known-code c = search needs
 
--- src/measure.rt:38:19
-cast-t21 : tie.Need-cast-t21
-cast-t21 c =
-    record { fits = omega (arith, linear-narrow _ _ _ _ (c .before .before .before .before .before .before .before .linear .ensures .0) (c .before .code .given .1) .code) }
-
--- src/measure.rt:39:21
-cast-t22 : tie.Need-cast-t22
-cast-t22 c =
-    record { fits = omega (arith, linear-narrow _ _ _ _ (c .before .before .before .before .before .before .before .linear .ensures .0) (c .before .code .given .1) .offset) }
+refused-at-requires : tie.Need-refused-at-requires
+refused-at-requires c κs =
+    linear-narrow _ _ _ _ (c .before .before .before .before .before .before .before .linear .ensures .0 .same) (c .before .code .given .1)
 
 -- src/measure.rt:45:35
 enum-told : tie.Need-enum-told
@@ -107,7 +90,7 @@ same-length-2 c = search needs
 -- src/measure.rt:14:1
 returns : tie.Need-returns
 returns c =
-    (ap linearAnswer (sym (c .before .n .given .1) ∙ c .before .before .before .before .before .before .before .linear .ensures .0), c .before .before .before .before .before .before .before .linear .ensures .1)
+    (c .done-with .ensures ∙ ap (λ (a : LinearAnswer). hosted (fieldsOf a)) (sym (c .before .before .n .given .1) ∙ c .before .before .before .before .before .before .before .before .linear .ensures .0 .same), c .before .before .before .before .before .before .before .before .linear .ensures .1)
 
 -- src/measure.rt:14:1
 same-length-3 : tie.Need-same-length-3
@@ -120,7 +103,7 @@ same-length-4 c = search needs
 -- src/measure.rt:14:1
 returns-2 : tie.Need-returns-2
 returns-2 c =
-    (ap linearAnswer (sym (c .before .n2 .given .1) ∙ c .before .before .before .before .before .before .before .linear .ensures .0), c .before .before .before .before .before .before .before .linear .ensures .1)
+    (c .broken-at .ensures ∙ ap (λ (a : LinearAnswer). hosted (fieldsOf a)) (sym (c .before .before .n2 .given .1) ∙ c .before .before .before .before .before .before .before .before .linear .ensures .0 .same), c .before .before .before .before .before .before .before .before .linear .ensures .1)
 
 -- src/measure.rt:14:1
 same-length-5 : tie.Need-same-length-5
@@ -133,7 +116,7 @@ same-length-6 c = search needs
 -- src/measure.rt:14:1
 returns-3 : tie.Need-returns-3
 returns-3 c =
-    (ap linearAnswer (sym (c .before .code .given .1) ∙ c .before .before .before .before .before .before .before .linear .ensures .0), c .before .before .before .before .before .before .before .linear .ensures .1)
+    (c .refused-at .ensures ∙ ap (λ (a : LinearAnswer). hosted (fieldsOf a)) (sym (c .before .before .code .given .1) ∙ c .before .before .before .before .before .before .before .before .linear .ensures .0 .same), c .before .before .before .before .before .before .before .before .linear .ensures .1)
 
 -- src/measure.rt:14:1
 same-length-7 : tie.Need-same-length-7
@@ -146,7 +129,7 @@ same-length-8 c = search needs
 -- src/measure.rt:14:1
 returns-4 : tie.Need-returns-4
 returns-4 c =
-    (rw (c .code-alone .ensures) (ap linearAnswer (sym (c .before .enum-told .given .1) ∙ c .before .before .before .before .before .before .before .linear .ensures .0)), c .before .before .before .before .before .before .before .linear .ensures .1)
+    (c .code-alone .ensures ∙ ap (λ (a : LinearAnswer). hosted (fieldsOf a)) (sym (c .before .enum-told .given .1) ∙ c .before .before .before .before .before .before .before .linear .ensures .0 .same), c .before .before .before .before .before .before .before .linear .ensures .1)
 
 -- src/measure.rt:14:1
 same-length-9 : tie.Need-same-length-9
@@ -159,7 +142,7 @@ same-length-10 c = search needs
 -- src/measure.rt:14:1
 returns-5 : tie.Need-returns-5
 returns-5 c =
-    (rw (c .code-alone2 .ensures) (ap linearAnswer (sym (c .before .enum-told2 .given .1) ∙ c .before .before .before .before .before .before .before .linear .ensures .0)), c .before .before .before .before .before .before .before .linear .ensures .1)
+    (c .code-alone2 .ensures ∙ ap (λ (a : LinearAnswer). hosted (fieldsOf a)) (sym (c .before .enum-told2 .given .1) ∙ c .before .before .before .before .before .before .before .linear .ensures .0 .same), c .before .before .before .before .before .before .before .linear .ensures .1)
 
 -- src/measure.rt:14:1
 same-length-11 : tie.Need-same-length-11
@@ -172,7 +155,7 @@ same-length-12 c = search needs
 -- src/measure.rt:14:1
 returns-6 : tie.Need-returns-6
 returns-6 c =
-    (rw (c .code-alone3 .ensures) (ap linearAnswer (sym (c .before .enum-told3 .given .1) ∙ c .before .before .before .before .before .before .before .linear .ensures .0)), c .before .before .before .before .before .before .before .linear .ensures .1)
+    (c .code-alone3 .ensures ∙ ap (λ (a : LinearAnswer). hosted (fieldsOf a)) (sym (c .before .enum-told3 .given .1) ∙ c .before .before .before .before .before .before .before .linear .ensures .0 .same), c .before .before .before .before .before .before .before .linear .ensures .1)
 
 -- src/measure.rt:14:1
 same-length-13 : tie.Need-same-length-13
@@ -185,7 +168,7 @@ same-length-14 c = search needs
 -- src/measure.rt:14:1
 returns-7 : tie.Need-returns-7
 returns-7 c =
-    (rw (c .code-alone4 .ensures) (ap linearAnswer (sym (c .before .enum-told4 .given .1) ∙ c .before .before .before .before .before .before .before .linear .ensures .0)), c .before .before .before .before .before .before .before .linear .ensures .1)
+    (c .code-alone4 .ensures ∙ ap (λ (a : LinearAnswer). hosted (fieldsOf a)) (sym (c .before .enum-told4 .given .1) ∙ c .before .before .before .before .before .before .before .linear .ensures .0 .same), c .before .before .before .before .before .before .before .linear .ensures .1)
 
 -- src/measure.rt:14:1
 same-length-15 : tie.Need-same-length-15
@@ -198,7 +181,7 @@ same-length-16 c = search needs
 -- src/measure.rt:14:1
 returns-8 : tie.Need-returns-8
 returns-8 c =
-    (rw (c .code-alone5 .ensures) (ap linearAnswer (sym (c .before .enum-told5 .given .1) ∙ c .before .before .before .before .before .before .before .linear .ensures .0)), c .before .before .before .before .before .before .before .linear .ensures .1)
+    (c .code-alone5 .ensures ∙ ap (λ (a : LinearAnswer). hosted (fieldsOf a)) (sym (c .before .enum-told5 .given .1) ∙ c .before .before .before .before .before .before .before .linear .ensures .0 .same), c .before .before .before .before .before .before .before .linear .ensures .1)
 
 pub xa-linear-spec : {M : Type 1} → statement M
 xa-linear-spec =
@@ -206,14 +189,11 @@ xa-linear-spec =
     (tie.spec
     linear-requires
     enum-known-n
-    cast-t17
+    done-with-requires
     enum-known-n-2
-    cast-t18
-    cast-t19
-    cast-t20
+    broken-at-requires
     enum-known-code
-    cast-t21
-    cast-t22
+    refused-at-requires
     enum-told
     code-alone-requires
     enum-told-2

@@ -1,6 +1,7 @@
-use mathlib.Core.Path.{ap, sym, subst}
-use native.Mathlib.Omega.{arith}
-use Rattle.cabi.specs.Host.{readAnswer, ReadFits32}
+use mathlib.Core.Path.{ap, sym, subst, _∙_}
+use Rattle.dataset.specs.declared.ReadAnswer.{ReadAnswer}
+use Rattle.dataset.specs.Answer.{fieldsOf}
+use Rattle.cabi.specs.Host.{hosted, Fits32}
 use borrow.Author.Needs.{needs}
 use Rattle.cabi.proofs.read.read_numbers.Statement.{statement}
 use Rattle.cabi.proofs.read.read_numbers.Tie as tie
@@ -12,27 +13,17 @@ use Rattle.cabi.proofs.code_alone.Reads as code-alone-reads
 enum-known-answer : tie.Need-enum-known-answer
 enum-known-answer c = search needs
 
--- src/read.rt:19:19
-cast-t6 : tie.Need-cast-t6
-cast-t6 c =
-    let m = subst ReadFits32 (c .before .answer .given .1) (c .before .before .before .pre) in
-    record { fits = omega (arith, m .rows) }
+done-with-requires : tie.Need-done-with-requires
+done-with-requires c κs =
+    subst (λ (a : ReadAnswer). Fits32 (fieldsOf a)) (c .before .answer .given .1) (c .before .before .before .pre)
 
 -- src/read.rt:24:29
 enum-known-answer-2 : tie.Need-enum-known-answer-2
 enum-known-answer-2 c = search needs
 
--- src/read.rt:25:19
-cast-t7 : tie.Need-cast-t7
-cast-t7 c =
-    let m = subst ReadFits32 (c .before .answer2 .given .1) (c .before .before .before .pre) in
-    record { fits = omega (arith, m .code) }
-
--- src/read.rt:26:21
-cast-t8 : tie.Need-cast-t8
-cast-t8 c =
-    let m = subst ReadFits32 (c .before .answer2 .given .1) (c .before .before .before .pre) in
-    record { fits = omega (arith, m .offset) }
+refused-at-requires : tie.Need-refused-at-requires
+refused-at-requires c κs =
+    subst (λ (a : ReadAnswer). Fits32 (fieldsOf a)) (c .before .answer2 .given .1) (c .before .before .before .pre)
 
 -- src/read.rt:32:33
 enum-told : tie.Need-enum-told
@@ -53,32 +44,31 @@ code-alone-requires-2 c κs = search needs
 -- src/read.rt:11:1
 returns : tie.Need-returns
 returns c =
-    ap readAnswer (sym (c .before .answer .given .1))
+    c .done-with .ensures ∙ ap (λ (a : ReadAnswer). hosted (fieldsOf a)) (sym (c .before .before .answer .given .1))
 
 -- src/read.rt:11:1
 returns-2 : tie.Need-returns-2
 returns-2 c =
-    ap readAnswer (sym (c .before .answer2 .given .1))
+    c .refused-at .ensures ∙ ap (λ (a : ReadAnswer). hosted (fieldsOf a)) (sym (c .before .before .answer2 .given .1))
 
 -- src/read.rt:11:1
 returns-3 : tie.Need-returns-3
 returns-3 c =
-    rw (c .code-alone .ensures) (ap readAnswer (sym (c .before .enum-told .given .1)))
+    c .code-alone .ensures ∙ ap (λ (a : ReadAnswer). hosted (fieldsOf a)) (sym (c .before .enum-told .given .1))
 
 -- src/read.rt:11:1
 returns-4 : tie.Need-returns-4
 returns-4 c =
-    rw (c .code-alone2 .ensures) (ap readAnswer (sym (c .before .enum-told2 .given .1)))
+    c .code-alone2 .ensures ∙ ap (λ (a : ReadAnswer). hosted (fieldsOf a)) (sym (c .before .enum-told2 .given .1))
 
 pub read-numbers-spec : {M : Type 1} → statement M
 read-numbers-spec =
     tie.close
     (tie.spec
     enum-known-answer
-    cast-t6
+    done-with-requires
     enum-known-answer-2
-    cast-t7
-    cast-t8
+    refused-at-requires
     enum-told
     code-alone-requires
     enum-told-2

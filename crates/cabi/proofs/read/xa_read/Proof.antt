@@ -1,5 +1,7 @@
 use mathlib.Core.Path.{ap, sym, subst, _∙_}
-use Rattle.cabi.specs.Host.{readAnswer, ReadFits32}
+use Rattle.dataset.specs.declared.ReadAnswer.{ReadAnswer}
+use Rattle.dataset.specs.Answer.{fieldsOf}
+use Rattle.cabi.specs.Host.{hosted, Fits32}
 use Rattle.cabi.proofs.Numbers.{read-fits}
 use borrow.Author.Needs.{needs}
 use Rattle.cabi.proofs.read.xa_read.Statement.{statement}
@@ -16,7 +18,7 @@ read-requires c κs = search needs
 -- src/read.rt:43:5
 read-numbers-requires : tie.Need-read-numbers-requires
 read-numbers-requires c κs =
-    subst ReadFits32 (sym (c .before .before .read .ensures .0)) (read-fits (c .before .before .before .before .before .before .args .bytes .now) (c .before .before .before .before .before .before .args .rows .now))
+    subst (λ (a : ReadAnswer). Fits32 (fieldsOf a)) (sym (c .before .before .read .ensures .0 .same)) (read-fits (c .before .before .before .before .before .before .args .bytes .now) (c .before .before .before .before .before .before .args .rows .now))
 
 -- src/read.rt:38:1
 same-length : tie.Need-same-length
@@ -25,7 +27,7 @@ same-length c = search needs
 -- src/read.rt:38:1
 returns : tie.Need-returns
 returns c =
-    (c .read-numbers .ensures ∙ ap readAnswer (c .before .before .before .read .ensures .0), c .before .before .before .read .ensures .1)
+    (c .read-numbers .ensures ∙ ap (λ (a : ReadAnswer). hosted (fieldsOf a)) (c .before .before .before .read .ensures .0 .same), c .before .before .before .read .ensures .1)
 
 pub xa-read-spec : {M : Type 1} → statement M
 xa-read-spec = tie.close (tie.spec read-requires read-numbers-requires same-length returns)

@@ -1,7 +1,9 @@
 -- The answer is that of `write_canonical`, case by case; its numbers fit 32 bits since those of every answer are small.
 use mathlib.Core.Path.{ap, sym, _∙_}
 use native.Mathlib.Omega.{arith}
-use Rattle.cabi.specs.Host.{canonicalAnswer}
+use Rattle.canonical.specs.declared.CanonicalAnswer.{CanonicalAnswer}
+use Rattle.canonical.specs.Answer.{fieldsOf}
+use Rattle.cabi.specs.Host.{rewrittenOf}
 use Rattle.cabi.proofs.Numbers.{canonical-narrow}
 use borrow.Author.Needs.{needs}
 use Rattle.cabi.proofs.rewritten.xa_canonical.Statement.{statement}
@@ -22,29 +24,29 @@ enum-known-n c = search needs
 
 cast-t16 : tie.Need-cast-t16
 cast-t16 c =
-    record { fits = omega (arith, canonical-narrow _ _ _ (c .before .before .before .before .before .before .before .before .before .before .byte-bounds .ensures) (c .before .before .before .before .before .before .before .write-canonical .ensures .0) (c .before .n .given .1) .rows) }
+    record { fits = omega (arith, canonical-narrow _ _ _ (c .before .before .before .before .before .before .before .before .before .before .byte-bounds .ensures) (c .before .before .before .before .before .before .before .write-canonical .ensures .0 .same) (c .before .n .given .1) .rows) }
 
 cast-t17 : tie.Need-cast-t17
 cast-t17 c =
-    record { fits = omega (arith, canonical-narrow _ _ _ (c .before .before .before .before .before .before .before .before .before .before .byte-bounds .ensures) (c .before .before .before .before .before .before .before .write-canonical .ensures .0) (c .before .n .given .1) .length) }
+    record { fits = omega (arith, canonical-narrow _ _ _ (c .before .before .before .before .before .before .before .before .before .before .byte-bounds .ensures) (c .before .before .before .before .before .before .before .write-canonical .ensures .0 .same) (c .before .n .given .1) .length) }
 
 enum-known-size : tie.Need-enum-known-size
 enum-known-size c = search needs
 
 cast-t18 : tie.Need-cast-t18
 cast-t18 c =
-    record { fits = omega (arith, canonical-narrow _ _ _ (c .before .before .before .before .before .before .before .before .before .before .byte-bounds .ensures) (c .before .before .before .before .before .before .before .write-canonical .ensures .0) (c .before .size .given .1) .length) }
+    record { fits = omega (arith, canonical-narrow _ _ _ (c .before .before .before .before .before .before .before .before .before .before .byte-bounds .ensures) (c .before .before .before .before .before .before .before .write-canonical .ensures .0 .same) (c .before .size .given .1) .length) }
 
 enum-known-code : tie.Need-enum-known-code
 enum-known-code c = search needs
 
 cast-t19 : tie.Need-cast-t19
 cast-t19 c =
-    record { fits = omega (arith, canonical-narrow _ _ _ (c .before .before .before .before .before .before .before .before .before .before .byte-bounds .ensures) (c .before .before .before .before .before .before .before .write-canonical .ensures .0) (c .before .code .given .1) .code) }
+    record { fits = omega (arith, canonical-narrow _ _ _ (c .before .before .before .before .before .before .before .before .before .before .byte-bounds .ensures) (c .before .before .before .before .before .before .before .write-canonical .ensures .0 .same) (c .before .code .given .1) .code) }
 
 cast-t20 : tie.Need-cast-t20
 cast-t20 c =
-    record { fits = omega (arith, canonical-narrow _ _ _ (c .before .before .before .before .before .before .before .before .before .before .byte-bounds .ensures) (c .before .before .before .before .before .before .before .write-canonical .ensures .0) (c .before .code .given .1) .offset) }
+    record { fits = omega (arith, canonical-narrow _ _ _ (c .before .before .before .before .before .before .before .before .before .before .byte-bounds .ensures) (c .before .before .before .before .before .before .before .write-canonical .ensures .0 .same) (c .before .code .given .1) .offset) }
 
 enum-told : tie.Need-enum-told
 enum-told c = search needs
@@ -60,7 +62,7 @@ same-length-2 c = search needs
 
 returns : tie.Need-returns
 returns c =
-    (ap canonicalAnswer (sym (c .before .n .given .1) ∙ c .before .before .before .before .before .before .before .write-canonical .ensures .0), c .before .before .before .before .before .before .before .write-canonical .ensures .1)
+    (ap (λ (a : CanonicalAnswer). rewrittenOf (fieldsOf a)) (sym (c .before .n .given .1) ∙ c .before .before .before .before .before .before .before .write-canonical .ensures .0 .same), c .before .before .before .before .before .before .before .write-canonical .ensures .1)
 
 same-length-3 : tie.Need-same-length-3
 same-length-3 c = search needs
@@ -70,7 +72,7 @@ same-length-4 c = search needs
 
 returns-2 : tie.Need-returns-2
 returns-2 c =
-    (ap canonicalAnswer (sym (c .before .size .given .1) ∙ c .before .before .before .before .before .before .before .write-canonical .ensures .0), c .before .before .before .before .before .before .before .write-canonical .ensures .1)
+    (ap (λ (a : CanonicalAnswer). rewrittenOf (fieldsOf a)) (sym (c .before .size .given .1) ∙ c .before .before .before .before .before .before .before .write-canonical .ensures .0 .same), c .before .before .before .before .before .before .before .write-canonical .ensures .1)
 
 same-length-5 : tie.Need-same-length-5
 same-length-5 c = search needs
@@ -80,7 +82,7 @@ same-length-6 c = search needs
 
 returns-3 : tie.Need-returns-3
 returns-3 c =
-    (ap canonicalAnswer (sym (c .before .code .given .1) ∙ c .before .before .before .before .before .before .before .write-canonical .ensures .0), c .before .before .before .before .before .before .before .write-canonical .ensures .1)
+    (ap (λ (a : CanonicalAnswer). rewrittenOf (fieldsOf a)) (sym (c .before .code .given .1) ∙ c .before .before .before .before .before .before .before .write-canonical .ensures .0 .same), c .before .before .before .before .before .before .before .write-canonical .ensures .1)
 
 same-length-7 : tie.Need-same-length-7
 same-length-7 c = search needs
@@ -90,7 +92,7 @@ same-length-8 c = search needs
 
 returns-4 : tie.Need-returns-4
 returns-4 c =
-    (ap canonicalAnswer (sym (c .enum-told .given .1) ∙ c .before .before .before .before .before .before .write-canonical .ensures .0), c .before .before .before .before .before .before .write-canonical .ensures .1)
+    (ap (λ (a : CanonicalAnswer). rewrittenOf (fieldsOf a)) (sym (c .enum-told .given .1) ∙ c .before .before .before .before .before .before .write-canonical .ensures .0 .same), c .before .before .before .before .before .before .write-canonical .ensures .1)
 
 same-length-9 : tie.Need-same-length-9
 same-length-9 c = search needs
@@ -100,7 +102,7 @@ same-length-10 c = search needs
 
 returns-5 : tie.Need-returns-5
 returns-5 c =
-    (ap canonicalAnswer (sym (c .enum-told2 .given .1) ∙ c .before .before .before .before .before .before .write-canonical .ensures .0), c .before .before .before .before .before .before .write-canonical .ensures .1)
+    (ap (λ (a : CanonicalAnswer). rewrittenOf (fieldsOf a)) (sym (c .enum-told2 .given .1) ∙ c .before .before .before .before .before .before .write-canonical .ensures .0 .same), c .before .before .before .before .before .before .write-canonical .ensures .1)
 
 pub xa-canonical-spec : {M : Type 1} → statement M
 xa-canonical-spec =

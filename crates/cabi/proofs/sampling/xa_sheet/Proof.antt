@@ -1,8 +1,9 @@
 use mathlib.Core.Bool.{Bool}
 use lib.ListN.{length}
 use Rattle.sheet.specs.declared.Sampled.{Sampled}
+use Rattle.sheet.specs.Answer.{fieldsOf}
 use Rattle.sheet.proofs.Answers.{counts-many}
-use Rattle.cabi.specs.Host.{sheetAnswer, holdsSheet, sheetAfter, SheetFits32}
+use Rattle.cabi.specs.Host.{hosted, Fits32, sheetFields, holdsSheet, sheetAfter}
 use Rattle.cabi.proofs.Numbers.{sheet-narrow}
 use mathlib.Core.Path.{_≡_, refl, sym, ap, _∙_, subst}
 use native.Mathlib.Omega.{arith}
@@ -16,11 +17,11 @@ sheet-requires c κs =
 
 put-sheet-requires : tie.Need-put-sheet-requires
 put-sheet-requires c κs =
-    ap (λ (r : Sampled). length (r .sheet .counts)) (c .before .before .before .before .sheet .ensures .0) ∙ counts-many _ _ _ _
+    ap (λ (r : Sampled). length (r .sheet .counts)) (c .before .before .before .before .sheet .ensures .0 .same) ∙ counts-many _ _ _ _
 
 sheet-answer-requires : tie.Need-sheet-answer-requires
 sheet-answer-requires c κs =
-    subst (λ (r : Sampled). SheetFits32 (r .answer)) (sym (c .before .before .before .before .before .before .before .sheet .ensures .0)) (sheet-narrow _ _ _ _)
+    subst (λ (r : Sampled). Fits32 (fieldsOf (r .answer))) (sym (c .before .before .before .before .before .before .before .sheet .ensures .0 .same)) (sheet-narrow _ _ _ _)
 
 same-length : tie.Need-same-length
 same-length c =
@@ -32,7 +33,7 @@ same-length-2 c =
 
 returns : tie.Need-returns
 returns c =
-    (c .sheet-answer .ensures ∙ (ap (λ (x : Bool). sheetAnswer x (c .before .before .before .before .before .before .before .before .sheet .result .answer)) (c .before .before .before .put-sheet .ensures .0) ∙ ap (λ (r : Sampled). sheetAnswer (holdsSheet (c .before .before .before .before .before .before .before .before .before .before .before .before .before .args .buffer .now)) (r .answer)) (c .before .before .before .before .before .before .before .before .sheet .ensures .0)), (c .before .before .before .before .before .before .before .before .sheet .ensures .1, c .before .before .before .put-sheet .ensures .1 ∙ ap (λ (r : Sampled). sheetAfter (r .sheet) (c .before .before .before .before .before .before .before .before .before .before .before .before .before .args .buffer .now)) (c .before .before .before .before .before .before .before .before .sheet .ensures .0)))
+    (c .sheet-answer .ensures ∙ (ap (λ (x : Bool). hosted (sheetFields x (c .before .before .before .before .before .before .before .before .sheet .result .answer))) (c .before .before .before .put-sheet .ensures .0) ∙ ap (λ (r : Sampled). hosted (sheetFields (holdsSheet (c .before .before .before .before .before .before .before .before .before .before .before .before .before .args .buffer .now)) (r .answer))) (c .before .before .before .before .before .before .before .before .sheet .ensures .0 .same)), (c .before .before .before .before .before .before .before .before .sheet .ensures .1, c .before .before .before .put-sheet .ensures .1 ∙ ap (λ (r : Sampled). sheetAfter (r .sheet) (c .before .before .before .before .before .before .before .before .before .before .before .before .before .args .buffer .now)) (c .before .before .before .before .before .before .before .before .sheet .ensures .0 .same)))
 
 pub xa-sheet-spec : {M : Type 1} → statement M
 xa-sheet-spec =

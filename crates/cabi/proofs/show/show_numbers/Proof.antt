@@ -1,6 +1,8 @@
-use mathlib.Core.Path.{ap, sym, subst}
+use mathlib.Core.Path.{ap, sym, subst, _∙_}
 use native.Mathlib.Omega.{arith}
-use Rattle.cabi.specs.Host.{showAnswer, Fits32}
+use Rattle.display.specs.declared.ShowAnswer.{ShowAnswer}
+use Rattle.display.specs.Show.{fieldsOf}
+use Rattle.cabi.specs.Host.{hosted, Fits32}
 use borrow.Author.Needs.{needs}
 use Rattle.cabi.proofs.show.show_numbers.Statement.{statement}
 use Rattle.cabi.proofs.show.show_numbers.Tie as tie
@@ -16,7 +18,7 @@ enum-known-answer c = search needs
 -- src/show.rt:28:19
 cast-t10 : tie.Need-cast-t10
 cast-t10 c =
-    let m = subst Fits32 (c .before .answer .given .1) (c .before .before .before .pre) in
+    let m = subst (λ (a : ShowAnswer). Fits32 (fieldsOf a)) (c .before .answer .given .1) (c .before .before .before .pre) in
     record { fits = omega (arith, m .rows) }
 
 -- src/show.rt:31:21
@@ -27,39 +29,17 @@ masked-number-requires c κs = search needs
 enum-known-answer-2 : tie.Need-enum-known-answer-2
 enum-known-answer-2 c = search needs
 
--- src/show.rt:36:19
-cast-t12 : tie.Need-cast-t12
-cast-t12 c =
-    let m = subst Fits32 (c .before .answer2 .given .1) (c .before .before .before .pre) in
-    record { fits = omega (arith, m .rows) }
-
--- src/show.rt:37:19
-cast-t13 : tie.Need-cast-t13
-cast-t13 c =
-    let m = subst Fits32 (c .before .answer2 .given .1) (c .before .before .before .pre) in
-    record { fits = omega (arith, m .rule) }
-
--- src/show.rt:38:20
-cast-t14 : tie.Need-cast-t14
-cast-t14 c =
-    let m = subst Fits32 (c .before .answer2 .given .1) (c .before .before .before .pre) in
-    record { fits = omega (arith, m .frame) }
+broken-at-requires : tie.Need-broken-at-requires
+broken-at-requires c κs =
+    subst (λ (a : ShowAnswer). Fits32 (fieldsOf a)) (c .before .answer2 .given .1) (c .before .before .before .pre)
 
 -- src/show.rt:41:29
 enum-known-answer-3 : tie.Need-enum-known-answer-3
 enum-known-answer-3 c = search needs
 
--- src/show.rt:42:19
-cast-t15 : tie.Need-cast-t15
-cast-t15 c =
-    let m = subst Fits32 (c .before .answer3 .given .1) (c .before .before .before .pre) in
-    record { fits = omega (arith, m .code) }
-
--- src/show.rt:43:21
-cast-t16 : tie.Need-cast-t16
-cast-t16 c =
-    let m = subst Fits32 (c .before .answer3 .given .1) (c .before .before .before .pre) in
-    record { fits = omega (arith, m .offset) }
+refused-at-requires : tie.Need-refused-at-requires
+refused-at-requires c κs =
+    subst (λ (a : ShowAnswer). Fits32 (fieldsOf a)) (c .before .answer3 .given .1) (c .before .before .before .pre)
 
 -- src/show.rt:49:33
 enum-told : tie.Need-enum-told
@@ -96,37 +76,37 @@ code-alone-requires-4 c κs = search needs
 -- src/show.rt:20:1
 returns : tie.Need-returns
 returns c =
-    rw (c .masked-number .ensures) (ap showAnswer (sym (c .before .before .answer .given .1)))
+    rw (c .masked-number .ensures) (ap (λ (a : ShowAnswer). hosted (fieldsOf a)) (sym (c .before .before .answer .given .1)))
 
 -- src/show.rt:20:1
 returns-2 : tie.Need-returns-2
 returns-2 c =
-    ap showAnswer (sym (c .before .answer2 .given .1))
+    c .broken-at .ensures ∙ ap (λ (a : ShowAnswer). hosted (fieldsOf a)) (sym (c .before .before .answer2 .given .1))
 
 -- src/show.rt:20:1
 returns-3 : tie.Need-returns-3
 returns-3 c =
-    ap showAnswer (sym (c .before .answer3 .given .1))
+    c .refused-at .ensures ∙ ap (λ (a : ShowAnswer). hosted (fieldsOf a)) (sym (c .before .before .answer3 .given .1))
 
 -- src/show.rt:20:1
 returns-4 : tie.Need-returns-4
 returns-4 c =
-    rw (c .code-alone .ensures) (ap showAnswer (sym (c .before .enum-told .given .1)))
+    c .code-alone .ensures ∙ ap (λ (a : ShowAnswer). hosted (fieldsOf a)) (sym (c .before .enum-told .given .1))
 
 -- src/show.rt:20:1
 returns-5 : tie.Need-returns-5
 returns-5 c =
-    rw (c .code-alone2 .ensures) (ap showAnswer (sym (c .before .enum-told2 .given .1)))
+    c .code-alone2 .ensures ∙ ap (λ (a : ShowAnswer). hosted (fieldsOf a)) (sym (c .before .enum-told2 .given .1))
 
 -- src/show.rt:20:1
 returns-6 : tie.Need-returns-6
 returns-6 c =
-    rw (c .code-alone3 .ensures) (ap showAnswer (sym (c .before .enum-told3 .given .1)))
+    c .code-alone3 .ensures ∙ ap (λ (a : ShowAnswer). hosted (fieldsOf a)) (sym (c .before .enum-told3 .given .1))
 
 -- src/show.rt:20:1
 returns-7 : tie.Need-returns-7
 returns-7 c =
-    rw (c .code-alone4 .ensures) (ap showAnswer (sym (c .before .enum-told4 .given .1)))
+    c .code-alone4 .ensures ∙ ap (λ (a : ShowAnswer). hosted (fieldsOf a)) (sym (c .before .enum-told4 .given .1))
 
 pub show-numbers-spec : {M : Type 1} → statement M
 show-numbers-spec =
@@ -136,12 +116,9 @@ show-numbers-spec =
     cast-t10
     masked-number-requires
     enum-known-answer-2
-    cast-t12
-    cast-t13
-    cast-t14
+    broken-at-requires
     enum-known-answer-3
-    cast-t15
-    cast-t16
+    refused-at-requires
     enum-told
     code-alone-requires
     enum-told-2

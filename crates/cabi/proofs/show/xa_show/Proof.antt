@@ -1,5 +1,7 @@
 use mathlib.Core.Path.{ap, sym, subst, _∙_}
-use Rattle.cabi.specs.Host.{showAnswer, Fits32}
+use Rattle.display.specs.declared.ShowAnswer.{ShowAnswer}
+use Rattle.display.specs.Show.{fieldsOf}
+use Rattle.cabi.specs.Host.{hosted, Fits32}
 use Rattle.cabi.proofs.Numbers.{show-narrow}
 use borrow.Author.Needs.{needs}
 use Rattle.cabi.proofs.show.xa_show.Statement.{statement}
@@ -16,7 +18,7 @@ show-requires c κs = search needs
 -- src/show.rt:64:5
 show-numbers-requires : tie.Need-show-numbers-requires
 show-numbers-requires c κs =
-    subst Fits32 (sym (c .before .before .before .before .show .ensures .0)) (show-narrow (c .before .before .before .before .before .before .before .before .before .before .args .bytes .now) (c .before .before .before .before .before .before .before .before .before .before .args .frame) (c .before .before .before .before .before .before .before .before .before .before .args .rows .now) (c .before .before .before .before .before .before .before .before .before .before .args .image .now))
+    subst (λ (a : ShowAnswer). Fits32 (fieldsOf a)) (sym (c .before .before .before .before .show .ensures .0 .same)) (show-narrow (c .before .before .before .before .before .before .before .before .before .before .args .bytes .now) (c .before .before .before .before .before .before .before .before .before .before .args .frame) (c .before .before .before .before .before .before .before .before .before .before .args .rows .now) (c .before .before .before .before .before .before .before .before .before .before .args .image .now))
 
 -- src/show.rt:58:1
 same-length : tie.Need-same-length
@@ -29,7 +31,7 @@ same-length-2 c = search needs
 -- src/show.rt:58:1
 returns : tie.Need-returns
 returns c =
-    (c .show-numbers .ensures ∙ ap showAnswer (c .before .before .before .before .before .show .ensures .0), c .before .before .before .before .before .show .ensures .1)
+    (c .show-numbers .ensures ∙ ap (λ (a : ShowAnswer). hosted (fieldsOf a)) (c .before .before .before .before .before .show .ensures .0 .same), c .before .before .before .before .before .show .ensures .1)
 
 pub xa-show-spec : {M : Type 1} → statement M
 xa-show-spec =

@@ -1,7 +1,9 @@
 -- The answer is the slip reader's, case by case; what reads well is a possible verdict, so its numbers fit 32 bits.
 use mathlib.Core.Path.{ap, sym, _∙_}
 use native.Mathlib.Omega.{arith}
-use Rattle.cabi.specs.Host.{slipAnswer}
+use Rattle.slip.specs.declared.SlipAnswer.{SlipAnswer}
+use Rattle.slip.specs.Slip.{readFields}
+use Rattle.cabi.specs.Host.{slipOf}
 use Rattle.cabi.proofs.Numbers.{slip-code, slip-narrow}
 use borrow.Author.Needs.{needs}
 use Rattle.cabi.proofs.slips.xa_read_slip.Statement.{statement}
@@ -15,22 +17,22 @@ enum-known-v c = search needs
 
 slip-of-requires : tie.Need-slip-of-requires
 slip-of-requires c κs =
-    slip-narrow _ (c .before .before .before .read-slip .ensures) (c .before .v .given .1)
+    slip-narrow _ (c .before .before .before .read-slip .ensures .same) (c .before .v .given .1)
 
 enum-known-code : tie.Need-enum-known-code
 enum-known-code c = search needs
 
 cast-t6 : tie.Need-cast-t6
 cast-t6 c =
-    record { fits = omega (arith, slip-code _ (c .before .before .before .read-slip .ensures) (c .before .code .given .1)) }
+    record { fits = omega (arith, slip-code _ (c .before .before .before .read-slip .ensures .same) (c .before .code .given .1)) }
 
 returns : tie.Need-returns
 returns c =
-    c .slip-of .ensures ∙ ap slipAnswer (sym (c .before .before .v .given .1) ∙ c .before .before .before .before .read-slip .ensures)
+    c .slip-of .ensures ∙ ap (λ (a : SlipAnswer). slipOf (readFields a)) (sym (c .before .before .v .given .1) ∙ c .before .before .before .before .read-slip .ensures .same)
 
 returns-2 : tie.Need-returns-2
 returns-2 c =
-    ap slipAnswer (sym (c .before .code .given .1) ∙ c .before .before .before .read-slip .ensures)
+    ap (λ (a : SlipAnswer). slipOf (readFields a)) (sym (c .before .code .given .1) ∙ c .before .before .before .read-slip .ensures .same)
 
 pub xa-read-slip-spec : {M : Type 1} → statement M
 xa-read-slip-spec =

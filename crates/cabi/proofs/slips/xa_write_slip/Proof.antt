@@ -1,7 +1,8 @@
 -- The verdict handed over is the one in the answer, and the code that comes back is 0, 11 or 14.
 use mathlib.Core.Path.{ap, sym, _∙_}
 use native.Mathlib.Omega.{arith}
-use Rattle.cabi.specs.Host.{writeCode}
+use Rattle.slip.specs.declared.WriteAnswer.{WriteAnswer}
+use Rattle.slip.specs.Slip.{writeFields}
 use Rattle.cabi.proofs.Numbers.{written-code}
 use borrow.Author.Needs.{needs}
 use Rattle.cabi.proofs.slips.xa_write_slip.Statement.{statement}
@@ -21,21 +22,21 @@ enum-known-code c = search needs
 
 cast-result : tie.Need-cast-result
 cast-result c =
-    record { fits = omega (arith, written-code _ _ (c .before .before .before .before .before .write-slip .ensures .0) (c .before .code .given .1)) }
+    record { fits = omega (arith, written-code _ _ (c .before .before .before .before .before .write-slip .ensures .0 .same) (c .before .code .given .1)) }
 
 same-length : tie.Need-same-length
 same-length c = search needs
 
 returns : tie.Need-returns
 returns c =
-    rw (← c .before .before .before .before .before .before .verdict-in .ensures) (ap writeCode (sym (c .enum-told .given .1) ∙ c .before .before .before .before .write-slip .ensures .0), c .before .before .before .before .write-slip .ensures .1)
+    rw (← c .before .before .before .before .before .before .verdict-in .ensures) (ap (λ (a : WriteAnswer). writeFields a .code) (sym (c .enum-told .given .1) ∙ c .before .before .before .before .write-slip .ensures .0 .same), c .before .before .before .before .write-slip .ensures .1)
 
 same-length-2 : tie.Need-same-length-2
 same-length-2 c = search needs
 
 returns-2 : tie.Need-returns-2
 returns-2 c =
-    rw (← c .before .before .before .before .before .before .before .verdict-in .ensures) (ap writeCode (sym (c .before .code .given .1) ∙ c .before .before .before .before .before .write-slip .ensures .0), c .before .before .before .before .before .write-slip .ensures .1)
+    rw (← c .before .before .before .before .before .before .before .verdict-in .ensures) (ap (λ (a : WriteAnswer). writeFields a .code) (sym (c .before .code .given .1) ∙ c .before .before .before .before .before .write-slip .ensures .0 .same), c .before .before .before .before .before .write-slip .ensures .1)
 
 pub xa-write-slip-spec : {M : Type 1} → statement M
 xa-write-slip-spec =
