@@ -228,6 +228,17 @@ module _ (s : List ℕ) (i : ℕ) (h : i < length (rowsOf s)) where
       by-kind elements f = f .here .is .1 .1 q
       by-kind items f = absurd (n (f .here .is .1))
 
+  -- Each row below a row takes 8 bytes of it; and a sequence with no row below it is of length 0.
+  pub row-roomy : 8 * rowAt (rowsOf s) i .descendants ≤ rowAt (rowsOf s) i .size
+  row-roomy = found .first .here .roomy
+
+  pub sequence-bare : rowAt (rowsOf s) i .vr ≡ SQ → rowAt (rowsOf s) i .descendants ≡ 0 → rowAt (rowsOf s) i .size ≡ 0
+  sequence-bare q z = by-kind (found .kind) (found .first)
+    where
+      by-kind : (kind : Kind) {depth holder least last : ℕ} → First (rowsOf s) (length s) kind depth holder least i last → rowAt (rowsOf s) i .size ≡ 0
+      by-kind elements f = f .here .bare q z
+      by-kind items f = absurd (omega (arith, q, f .here .is .1))
+
   -- An element's tag is below the next one's of its depth, where that follows it and its descendants.
   pub row-ascends : nextRow (rowsOf s) i < length (rowsOf s) → IsElement (rowAt (rowsOf s) i) → IsElement (rowAt (rowsOf s) (nextRow (rowsOf s) i))
       → rowAt (rowsOf s) i .depth ≡ rowAt (rowsOf s) (nextRow (rowsOf s) i) .depth

@@ -17,6 +17,7 @@ use Rattle.dataset.specs.Vr.{formOf, SQ}
 use Rattle.dataset.specs.Bytes.{le32}
 use Rattle.dataset.specs.Header.{when, itemTag, cursor, moved, headerBy, delimiterBy, levelBy, definedBy, longBy, typedAt, taggedAt, sizedBy, memberAt, elementAt, itemAt}
 use Rattle.dataset.specs.Reading.{Row, row, Run, done, refused, onHead, onRun, level, valueAt, elementsAt, itemsAt, largest, Reading, tooLarge, refusedAt, read, whole, readingOf}
+use Rattle.dataset.proofs.Levels.{sequence-level}
 use Rattle.dataset.specs.Tree.{rowsIn, rowsOf, noRow, rowAt, nextRow, Kind, elements, items, Member, insideOf, depthInside, Members}
 
 -- The members of one container with all that is below them, as a list.
@@ -119,28 +120,55 @@ record Added (size : ℕ) (kind : Kind) (depth holder from least at end : ℕ) (
   start : at ≤ stop
   close : stop ≤ next
   high : next ≤ end
-  few : at + 8 * length rest ≤ next
+  few : at + 8 * length rest ≤ stop
   forest : Forest size kind depth holder from least rest
 
 abbrev Adds : ℕ → Kind → ℕ → ℕ → ℕ → ℕ → ℕ → ℕ → List Row → Run → Type 0
 Adds size kind depth holder from least at end before (done stop next rows) = Added size kind depth holder from least at end before stop next rows
 Adds size kind depth holder from least at end before (refused code offset) = (1 ≤ code) × ((code ≤ 6) × ((at ≤ offset) × (offset ≤ end)))
 
--- Only a sequence and an item have rows below them.
-abbrev Childless : Kind → ℕ → Run → Type 0
-Childless elements vr (done stop next below) = (vr ≡ SQ → ⊥) → length below ≡ 0
-Childless elements vr (refused code offset) = Unit {0}
-Childless items vr o = Unit {0}
+-- A run that is done without rows stops where it started.
+abbrev Bare : ℕ → Run → Type 0
+Bare at (done stop next rows) = length rows ≡ 0 → stop ≡ at
+Bare at (refused code offset) = Unit {0}
+
+-- Only a sequence and an item have rows below them; without any they are of length 0. A sequence is read where a level is left.
+abbrev Childless : Kind → ℕ → ℕ → ℕ → Run → Type 0
+Childless elements depth vr at (done stop next below) = ((vr ≡ SQ → ⊥) → length below ≡ 0) × (vr ≡ SQ → depth < 8 → length below ≡ 0 → stop ≡ at)
+Childless elements depth vr at (refused code offset) = Unit {0}
+Childless items depth vr at o = Bare at o
+
+abbrev Leveled : Kind → ℕ → ℕ → Type 0
+Leveled elements depth vr = vr ≡ SQ → depth < 8
+Leveled items depth vr = Unit {0}
 
 -- A value whose rows start at row `first`.
 abbrev Inside : ℕ → Kind → ℕ → ℕ → ℕ → Cursor → Run → Type 0
-Inside size kind depth first vr v o = Adds size (insideOf kind) (depthInside kind depth) first first 0 (v .at) (v .end) [] o × Childless kind vr o
+Inside size kind depth first vr v o = Adds size (insideOf kind) (depthInside kind depth) first first 0 (v .at) (v .end) [] o × Childless kind depth vr (v .at) o
 
 named-member : (size : ℕ) (kind : Kind) (depth holder least tag vr at stop next : ℕ) (below : List Row) → Named kind least tag vr
-    → Childless kind vr (done stop next below) → depth ≤ 8 → at ≤ stop → stop ≤ size
+    → Childless kind depth vr at (done stop next below) → Leveled kind depth vr → depth ≤ 8 → at + 8 * length below ≤ stop → stop ≤ size
     → Member size kind depth holder least (row tag vr depth at (stop - at) (length below) holder)
-named-member size elements depth holder least tag vr at stop next below n b d p q = record { is = (n .0, (n .1, b)); level = refl; deep = d; within = omega arith; held = refl }
-named-member size items depth holder least tag vr at stop next below n b d p q = record { is = n; level = refl; deep = d; within = omega arith; held = refl }
+named-member size elements depth holder least tag vr at stop next below n b u d p q =
+    record {
+      is = (n .0, (n .1, b .0));
+      level = refl;
+      deep = d;
+      within = omega arith;
+      held = refl;
+      roomy = omega arith;
+      bare = λ e z. let f : stop ≡ at = b .1 e (u e) z in omega (arith, f);
+    }
+named-member size items depth holder least tag vr at stop next below n b u d p q =
+    record {
+      is = n;
+      level = refl;
+      deep = d;
+      within = omega arith;
+      held = refl;
+      roomy = omega arith;
+      bare = λ _ z. let f : stop ≡ at = b z in omega (arith, f);
+    }
 
 -- A member in front of what the turns after it add.
 member-first : (size : ℕ) (kind : Kind) (depth holder from least at next end : ℕ) (before : List Row) (r : Row) (below : List Row)
@@ -163,6 +191,7 @@ member-first size kind depth holder from least at next end before r below m d f 
 
 module _ (size : ℕ) (kind : Kind) (depth first : ℕ) (header : ℕ → ℕ → Head) (inside : ℕ → ℕ → Cursor → Run) (c : Cursor) (high : c .end ≤ size) (deep : depth ≤ 8)
     (moves : (at least : ℕ) → at ≤ c .end → Moves kind least (moved c at) (header at least))
+    (leveled : (at least tag vr : ℕ) (v : Cursor) → header at least ≡ head.Header tag vr v → Leveled kind depth vr)
     (value : (n vr : ℕ) (v : Cursor) → v .at ≤ v .end → v .end ≤ size → Inside size kind depth n vr v (inside n vr v)) where
   level-adds : (turns from at least : ℕ) (before : List Row) → from ≡ first + length before → at ≤ c .end → c .end < at + turns
       → Adds size kind depth first from least at (c .end) before (level header inside depth first turns at least before)
@@ -171,40 +200,92 @@ module _ (size : ℕ) (kind : Kind) (depth first : ℕ) (header : ℕ → ℕ �
   level-adds (suc turns) from at least before g h t =
       on-head (λ next tag r below p q.
       level-adds turns (from + 1 + length below) next (tag + 1) (before ++ (r ∷ below)) (omega (arith, length-append before (r ∷ below))) p q)
-      (header at least) (moves at least h)
+      (header at least) refl (moves at least h)
     where
       Next : Type 0
       Next = (next tag : ℕ) (r : Row) (below : List Row) → next ≤ c .end → c .end < next + turns
           → Adds size kind depth first (from + 1 + length below) (tag + 1) next (c .end) (before ++ (r ∷ below))
           (level header inside depth first turns next (tag + 1) (before ++ (r ∷ below)))
 
-      on-run : Next → (tag vr : ℕ) (v : Cursor) → at + 8 ≤ v .at → v .end ≤ c .end → Named kind least tag vr → (o : Run) → Inside size kind depth (from + 1) vr v o
+      on-run : Next → (tag vr : ℕ) (v : Cursor) → at + 8 ≤ v .at → v .end ≤ c .end → Named kind least tag vr → Leveled kind depth vr → (o : Run) → Inside size kind depth (from + 1) vr v o
           → Adds size kind depth first from least at (c .end) before (onRun o (λ stop next below.
           level header inside depth first turns next (tag + 1) (before ++ (row tag vr depth (v .at) (stop - v .at) (length below) first ∷ below))))
-      on-run k tag vr v m n w (refused code offset) g = omega (arith, g .0)
-      on-run k tag vr v m n w (done stop next below) g =
+      on-run k tag vr v m n w u (refused code offset) g = omega (arith, g .0)
+      on-run k tag vr v m n w u (done stop next below) g =
           let r : Row = row tag vr depth (v .at) (stop - v .at) (length below) first in
           let e : below ≡ g .0 .rest = g .0 .is in
           let f : Forest size (insideOf kind) (depthInside kind depth) (from + 1) (from + 1) 0 below =
           subst (λ (l : List Row). Forest size (insideOf kind) (depthInside kind depth) (from + 1) (from + 1) 0 l) (sym e) (g .0 .forest) in
           let l : length below ≡ length (g .0 .rest) = ap length e in
           member-first size kind depth first from least at next (c .end) before r below
-          (named-member size kind depth first least tag vr (v .at) stop next below w (g .1) deep (g .0 .start) (omega (arith, g .0 .close, g .0 .high)))
-          refl f (omega (arith, g .0 .few)) (level header inside depth first turns next (tag + 1) (before ++ (r ∷ below)))
+          (named-member size kind depth first least tag vr (v .at) stop next below w (g .1) u deep (omega (arith, l, g .0 .few)) (omega (arith, g .0 .close, g .0 .high)))
+          refl f (omega (arith, l, g .0 .few, g .0 .close)) (level header inside depth first turns next (tag + 1) (before ++ (r ∷ below)))
           (k next tag r below (omega (arith, g .0 .high)) (omega (arith, g .0 .start, g .0 .close)))
 
-      on-head : Next → (h : Head) → Moves kind least (moved c at) h → Adds size kind depth first from least at (c .end) before (onHead h
+      on-head : Next → (h : Head) → header at least ≡ h → Moves kind least (moved c at) h → Adds size kind depth first from least at (c .end) before (onHead h
           (λ code. refused code at)
           (λ next. done at next before)
           (λ tag vr v. onRun (inside (first + length before + 1) vr v) (λ stop next below.
           level header inside depth first turns next (tag + 1) (before ++ (row tag vr depth (v .at) (stop - v .at) (length below) first ∷ below)))))
-      on-head k (head.Refused code) m = (m .0, (m .1, (omega arith, h)))
-      on-head k (head.End next) m =
-          record { rest = []; is = sym (append-nil before); start = omega arith; close = m .0; high = m .1; few = omega (arith, m .0); forest = empty }
-      on-head k (head.Header tag vr v) m =
-          on-run k tag vr v (m .0) (m .1 .1 .0) (m .1 .1 .1) (inside (first + length before + 1) vr v)
+      on-head k (head.Refused code) e m = (m .0, (m .1, (omega arith, h)))
+      on-head k (head.End next) e m =
+          record { rest = []; is = sym (append-nil before); start = omega arith; close = m .0; high = m .1; few = omega arith; forest = empty }
+      on-head k (head.Header tag vr v) e m =
+          on-run k tag vr v (m .0) (m .1 .1 .0) (m .1 .1 .1) (leveled at least tag vr v e) (inside (first + length before + 1) vr v)
           (subst (λ (n : ℕ). Inside size kind depth n vr v (inside (first + length before + 1) vr v)) (omega arith)
           (value (first + length before + 1) vr v (m .1 .0) (omega (arith, m .1 .1 .0))))
+
+-- ---- A level without rows
+
+-- A run keeps the rows that it was given.
+abbrev Long : ℕ → Run → Type 0
+Long n (done stop next rows) = n ≤ length rows
+Long n (refused code offset) = Unit {0}
+
+level-long : (header : ℕ → ℕ → Head) (inside : ℕ → ℕ → Cursor → Run) (depth first turns at least : ℕ) (rows : List Row) (n : ℕ) → n ≤ length rows
+    → Long n (level header inside depth first turns at least rows)
+unfolding level
+level-long header inside depth first zero at least rows n h = tt
+level-long header inside depth first (suc turns) at least rows n h =
+    on-head (λ next tag more k. level-long header inside depth first turns next (tag + 1) more n k) (header at least)
+  where
+    Next : Type 0
+    Next = (next tag : ℕ) (more : List Row) → n ≤ length more → Long n (level header inside depth first turns next (tag + 1) more)
+
+    on-run : Next → (tag vr : ℕ) (v : Cursor) (o : Run) → Long n (onRun o (λ stop next below.
+        level header inside depth first turns next (tag + 1) (rows ++ (row tag vr depth (v .at) (stop - v .at) (length below) first ∷ below))))
+    on-run k tag vr v (refused code offset) = tt
+    on-run k tag vr v (done stop next below) =
+        k next tag (rows ++ (row tag vr depth (v .at) (stop - v .at) (length below) first ∷ below))
+        (omega (arith, h, length-append rows (row tag vr depth (v .at) (stop - v .at) (length below) first ∷ below)))
+
+    on-head : Next → (x : Head) → Long n (onHead x (λ code. refused code at) (λ next. done at next rows) (λ tag vr v. onRun (inside (first + length rows + 1) vr v) (λ stop next below.
+        level header inside depth first turns next (tag + 1) (rows ++ (row tag vr depth (v .at) (stop - v .at) (length below) first ∷ below)))))
+    on-head k (head.Refused code) = tt
+    on-head k (head.End next) = h
+    on-head k (head.Header tag vr v) = on-run k tag vr v (inside (first + length rows + 1) vr v)
+
+long-bare : (at : ℕ) (o : Run) → Long 1 o → Bare at o
+long-bare at (refused code offset) h = tt
+long-bare at (done stop next rows) h = λ e. absurd (omega (arith, h, e))
+
+level-bare : (header : ℕ → ℕ → Head) (inside : ℕ → ℕ → Cursor → Run) (depth first turns at least : ℕ) → Bare at (level header inside depth first turns at least [])
+unfolding level
+level-bare header inside depth first zero at least = tt
+level-bare header inside depth first (suc turns) at least = on-head (header at least)
+  where
+    on-run : (tag vr : ℕ) (v : Cursor) (o : Run) → Bare at (onRun o (λ stop next below.
+        level header inside depth first turns next (tag + 1) (row tag vr depth (v .at) (stop - v .at) (length below) first ∷ below)))
+    on-run tag vr v (refused code offset) = tt
+    on-run tag vr v (done stop next below) =
+        long-bare at (level header inside depth first turns next (tag + 1) (row tag vr depth (v .at) (stop - v .at) (length below) first ∷ below))
+        (level-long header inside depth first turns next (tag + 1) (row tag vr depth (v .at) (stop - v .at) (length below) first ∷ below) 1 (omega arith))
+
+    on-head : (x : Head) → Bare at (onHead x (λ code. refused code at) (λ next. done at next []) (λ tag vr v. onRun (inside (first + 0 + 1) vr v) (λ stop next below.
+        level header inside depth first turns next (tag + 1) (row tag vr depth (v .at) (stop - v .at) (length below) first ∷ below))))
+    on-head (head.Refused code) = tt
+    on-head (head.End next) = λ _. refl
+    on-head (head.Header tag vr v) = on-run tag vr v (inside (first + 0 + 1) vr v)
 
 -- ---- The whole
 
@@ -213,15 +294,15 @@ by-cond : (t : Bool) (size : ℕ) (depth first vr : ℕ) (v : Cursor) (a b : Run
 by-cond true size depth first vr v a b p q = p refl
 by-cond false size depth first vr v a b p q = q refl
 
-leaf-inside : (size depth first vr : ℕ) (v : Cursor) → v .at ≤ v .end → Inside size elements depth first vr v (done (v .end) (v .end) [])
-leaf-inside size depth first vr v p =
-    (record { rest = []; is = refl; start = p; close = omega arith; high = omega arith; few = omega arith; forest = empty }, λ _. refl)
+leaf-inside : (size depth first vr : ℕ) (v : Cursor) → v .at ≤ v .end → (vr ≡ SQ → depth < 8 → ⊥) → Inside size elements depth first vr v (done (v .end) (v .end) [])
+leaf-inside size depth first vr v p n =
+    (record { rest = []; is = refl; start = p; close = omega arith; high = omega arith; few = omega (arith, p); forest = empty }, (λ _. refl, λ e d. absurd (n e d)))
 
 -- A run over items is no leaf's.
-items-inside : (size depth first vr : ℕ) (v : Cursor) (o : Run) → vr ≡ SQ → Adds size items (depth + 1) first first 0 (v .at) (v .end) [] o
+items-inside : (size depth first vr : ℕ) (v : Cursor) (o : Run) → vr ≡ SQ → Adds size items (depth + 1) first first 0 (v .at) (v .end) [] o → Bare (v .at) o
     → Inside size elements depth first vr v o
-items-inside size depth first vr v (refused code offset) e a = (a, tt)
-items-inside size depth first vr v (done stop next below) e a = (a, λ n. absurd (n e))
+items-inside size depth first vr v (refused code offset) e a b = (a, tt)
+items-inside size depth first vr v (done stop next below) e a b = (a, (λ n. absurd (n e), λ _ _. b))
 
 elements-adds : (levels : ℕ) (s : List ℕ) → levels ≤ 8
     → ((n vr : ℕ) (v : Cursor) → v .at ≤ v .end → v .end ≤ length s → Inside (length s) elements (8 - levels) n vr v (valueAt levels s n vr v))
@@ -229,13 +310,14 @@ elements-adds : (levels : ℕ) (s : List ℕ) → levels ≤ 8
     → Adds (length s) elements (8 - levels) first first 0 (c .at) (c .end) [] (elementsAt levels s first c)
 elements-adds levels s d inside first c p q =
     level-adds (length s) elements (8 - levels) first (λ at least. elementAt s (moved c at) least levels) (valueAt levels s) c q (omega arith)
-    (λ at least r. header-moves elements least (moved c at) _ r (λ k. tagged-moves s (moved c at) k _ least levels)) inside
+    (λ at least r. header-moves elements least (moved c at) _ r (λ k. tagged-moves s (moved c at) k _ least levels))
+    (λ at least tag vr v e q. let k : 1 ≤ levels = sequence-level levels s (moved c at) least e q in omega (arith, d, k)) inside
     (length s + 1) first (c .at) 0 [] (sym (add-zero first)) p (omega arith)
 
 value-inside : (levels : ℕ) (s : List ℕ) → levels ≤ 8 → (first vr : ℕ) (v : Cursor) → v .at ≤ v .end → v .end ≤ length s
     → Inside (length s) elements (8 - levels) first vr v (valueAt levels s first vr v)
 unfolding valueAt
-value-inside zero s d first vr v p q = leaf-inside (length s) 8 first vr v p
+value-inside zero s d first vr v p q = leaf-inside (length s) 8 first vr v p (λ _ h. omega (arith, h))
 value-inside (suc levels) s d first vr v p q =
     let e : 8 - levels ≡ (8 - suc levels) + 1 = omega arith in
     by-cond (eqb vr SQ) (length s) (8 - suc levels) first vr v (itemsAt levels s first v) (done (v .end) (v .end) [])
@@ -243,9 +325,14 @@ value-inside (suc levels) s d first vr v p q =
     (subst (λ (n : ℕ). Adds (length s) items n first first 0 (v .at) (v .end) [] (itemsAt levels s first v)) e
     (level-adds (length s) items (8 - levels) first (λ at least. itemAt s (moved v at)) (λ n _ c. elementsAt levels s n c) v q (omega arith)
     (λ at least r. header-moves items least (moved v at) _ r (λ k. member-moves s (moved v at) k _ least))
-    (λ n _ c k l. (elements-adds levels s (omega arith) (value-inside levels s (omega arith)) n c k l, tt))
-    (length s + 1) first (v .at) 0 [] (sym (add-zero first)) p (omega arith))))
-    (λ _. leaf-inside (length s) (8 - suc levels) first vr v p)
+    (λ at least tag r w e. tt)
+    (λ n r c k l. (
+      elements-adds levels s (omega arith) (value-inside levels s (omega arith)) n c k l,
+      level-bare (λ at least. elementAt s (moved c at) least levels) (valueAt levels s) (8 - levels) n (length s + 1) (c .at) 0,
+    ))
+    (length s + 1) first (v .at) 0 [] (sym (add-zero first)) p (omega arith)))
+    (level-bare (λ at least. itemAt s (moved v at)) (λ n _ c. elementsAt levels s n c) (8 - levels) first (length s + 1) (v .at) 0))
+    (λ t. leaf-inside (length s) (8 - suc levels) first vr v p (λ e _. eqb-false vr SQ t e))
 
 -- What a reading says: rows that are a forest, and no more than one to 8 bytes; or a code 1 to 6 within the data set.
 pub record Rows (s : List ℕ) (rows : List Row) : Type 0 where
@@ -271,7 +358,7 @@ reading-reads s = by-size (ltb largest (length s)) refl
         let e : rows ≡ a .rest = a .is in
         let f : Forest (length s) elements 0 0 0 0 rows = subst (λ (l : List Row). Forest (length s) elements 0 0 0 0 l) (sym e) (a .forest) in
         let l : length rows ≡ length (a .rest) = ap length e in
-        record { forest = f; sparse = omega (arith, a .few, a .high); small = omega (arith, a .few, a .high) }
+        record { forest = f; sparse = omega (arith, l, a .few, a .close, a .high); small = omega (arith, l, a .few, a .close, a .high) }
 
     by-size : (t : Bool) → ltb largest (length s) ≡ t → Reads s (cond t tooLarge (whole (elementsAt 8 s 0 all)))
     by-size true e = tt

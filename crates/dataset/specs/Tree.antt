@@ -35,10 +35,16 @@ pub data Kind : Type 0 where
 
 -- What a member of a container is: an element of a listed VR and a tag of at least `least`, or an item. Its depth is the container's
 -- depth for its members, its value lies within the data set of `size` bytes, only a sequence or an item has descendants, and its
--- parent is the container, by its row number counted from 1.
+-- parent is the container, by its row number counted from 1. Each descendant takes 8 bytes at least, and a sequence or an item without
+-- descendants has length 0.
 abbrev pub IsMember : Kind → ℕ → Row → Type 0
 IsMember elements least r = (least ≤ r .tag) × ((formOf (r .vr) ≡ 0 → ⊥) × ((r .vr ≡ SQ → ⊥) → r .descendants ≡ 0))
 IsMember items least r = (r .tag ≡ itemTag) × (r .vr ≡ 0)
+
+-- It is a sequence, or an item.
+abbrev pub IsHolder : Kind → Row → Type 0
+IsHolder elements r = r .vr ≡ SQ
+IsHolder items r = Unit {0}
 
 pub record Member (size : ℕ) (kind : Kind) (depth holder least : ℕ) (r : Row) : Type 0 where
   pub is : IsMember kind least r
@@ -46,6 +52,8 @@ pub record Member (size : ℕ) (kind : Kind) (depth holder least : ℕ) (r : Row
   pub deep : r .depth ≤ depths
   pub within : r .offset + r .size ≤ size
   pub held : r .parent ≡ holder
+  pub roomy : 8 * r .descendants ≤ r .size
+  pub bare : IsHolder kind r → r .descendants ≡ 0 → r .size ≡ 0
 
 -- What the members of a member are: items hold elements of their own depth, and sequences items one deeper.
 abbrev pub insideOf : Kind → Kind

@@ -22,7 +22,7 @@ pub nodes-count : (s : List ℕ) → length (nodesOf s) ≡ length (rowsOf s)
 unfolding nodesOf
 nodes-count s = length-map (rowsOf s) (nodeOf s)
 
-node-map : (s : List ℕ) (rs : List Row) (i : ℕ) → i < length rs → getD (map (nodeOf s) rs) i noNode ≡ nodeOf s (getD rs i noRow)
+pub node-map : (s : List ℕ) (rs : List Row) (i : ℕ) → i < length rs → getD (map (nodeOf s) rs) i noNode ≡ nodeOf s (getD rs i noRow)
 node-map s [] i h = absurd (omega arith)
 node-map s (r ∷ rs) zero h = refl
 node-map s (r ∷ rs) (suc i) h = node-map s rs i (omega arith)

@@ -3,3 +3,4 @@ pub mod Laws
 pub mod Walks
 pub mod Halves
 pub mod After
+pub mod Length

@@ -53,7 +53,7 @@ ofVr ns vr i = cond (eqb (nodeAt ns i .vr) vr) (Is i) Lacks
 abbrev pub findVr : List Node → ℕ → ℕ → List ℕ → Num
 findVr ns tag vr is = andThen (find ns tag is) (ofVr ns vr)
 
--- A length that is not 0. A sequence's length is 0 just where no node stands in it.
+-- A length that is not 0. A sequence's length is 0 just where no node stands in it (Length).
 unfoldable pub filled : List Node → ℕ → Bool
 filled ns i = cond (eqb (nodeAt ns i .vr) SQ) (not (eqb (nodeAt ns i .descendants) 0)) (not (eqb (length (nodeAt ns i .value)) 0))
 

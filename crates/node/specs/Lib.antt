@@ -2,3 +2,4 @@ pub mod Nodes
 pub mod Find
 pub mod Table
 pub mod Halves
+pub mod Length
