@@ -65,14 +65,7 @@ fn no_moves() -> Moves {
 }
 
 // Step 4: how far mask item j is moved at the frame.
-fn moves_for(
-    bytes: &[u8],
-    rows: &[u32],
-    frame: usize,
-    item: Num,
-    j: usize,
-    shared: Found,
-) -> Moves
+fn moves_for(bytes: &[u8], rows: &[u32], frame: usize, item: Num, j: usize, shared: Found) -> Moves
     requires { ⌜ Table (now bytes) (now rows) × ((item ≡ frameItem (nodesOf (now bytes)) frame) × (Below (length (nodesOf (now bytes))) item × ((j < length (nodesOf (now bytes))) × (GivesMoves (movesFor (nodesOf (now bytes)) frame j) × IsShared (nodesOf (now bytes)) j shared)))) ⌝ }
     ensures { λ r. ⌜ movesFor (nodesOf (now (bytes .entry))) frame j ≡ some r ⌝ }
 {

@@ -80,7 +80,6 @@ left-end ns n all which at to h l = subst (λ (rest : List ℕ). Left ns n all r
 
 module _ (ns : List Node) (n : ℕ) (all before after : List ℕ) (at to next : ℕ) (h : at < to) (k : to ≤ length ns) (e : next ≡ nextNode ns at)
     (held : Held ns n all) (l : Left ns n all (members ns at to) before) (t : Tried (λ f. rangeHolds ns f at) n (at + 1) before after) where
-
   module _ (f : ℕ) (low : 1 ≤ f) (high : f ≤ n) where
     kept : (getD before f 0 ≡ 0 → ⊥) → (leftOf ns f (members ns next to) (getD after f 0) ≡ firstHolding ns f all) × (getD after f 0 ≤ length ns)
     kept free =

@@ -121,14 +121,7 @@ fn cover_range(
 }
 
 // Takes the frames that the range of mask item j holds.
-fn cover_item(
-    bytes: &[u8],
-    rows: &[u32],
-    j: usize,
-    n: usize,
-    reach: &mut [u32],
-    which: &mut [u32],
-)
+fn cover_item(bytes: &[u8], rows: &[u32], j: usize, n: usize, reach: &mut [u32], which: &mut [u32])
     requires { ⌜ Table (now bytes) (now rows) × ((j < length (nodesOf (now bytes))) × Rooms n (now reach) (now which)) ⌝ }
     ensures { λ _. ⌜ Tried (λ f. rangeHolds (nodesOf (now (bytes .entry))) f j) n (j + 1) (now (which .entry)) (now (which .exit)) ⌝ }
 {

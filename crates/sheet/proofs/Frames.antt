@@ -6,7 +6,7 @@ use mathlib.Core.Option.{Option, some}
 use Prim.Native.Nat.{ℕ, zero, suc, _+_, _-_, _*_, _^_, _≤_, _<_}
 use native.Mathlib.Omega.{arith}
 use lib.ListN.{length, getD, drop}
-use borrow.Author.Tests.{le-leb}
+use borrow.Author.Tests.{le-leb, ne-eqb}
 use Rattle.value.specs.declared.Num.{Num}
 use Rattle.value.specs.declared.Num.the-variants.{Is, Lacks}
 use Rattle.node.specs.Nodes.{Node, nodesOf, members}
@@ -96,4 +96,4 @@ room-rest f end m l now after h e a r = record { below = λ y. rw a (omega (arit
 
 pub item-below : (n w : ℕ) → w ≤ n → ApplyingBelow n (itemOf w)
 item-below n zero h = tt
-item-below n (suc w) h = omega arith
+item-below n (suc w) h = rw (ne-eqb (suc w) 0 (λ e. omega (arith, e))) (omega arith)

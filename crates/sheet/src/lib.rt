@@ -400,13 +400,7 @@ fn plan_of(
 }
 
 // What the shared shift group names for the mask item that applies, as it was written down.
-fn shared_of(
-    bytes: &[u8],
-    rows: &[u32],
-    applies: Applying,
-    keys: &[u32],
-    answers: &[u32],
-) -> Found
+fn shared_of(bytes: &[u8], rows: &[u32], applies: Applying, keys: &[u32], answers: &[u32]) -> Found
     requires { ⌜ Table (now bytes) (now rows) × (ApplyingBelow (length (nodesOf (now bytes))) applies × ((16 ≤ length (now keys)) × ((16 ≤ length (now answers)) × Known (nodesOf (now bytes)) (now keys) (now answers)))) ⌝ }
     ensures { λ r. ⌜ SharedBy (nodesOf (now (bytes .entry))) applies r ⌝ }
 {

@@ -449,14 +449,7 @@ pub fn shared_naming(bytes: &[u8], rows: &[u32], j: usize) -> Found
 }
 
 // The item of a frame's shift group that names the ID of mask item j; `shared` is that of the shared one.
-fn naming_for(
-    bytes: &[u8],
-    rows: &[u32],
-    frame: usize,
-    item: Num,
-    j: usize,
-    shared: Found,
-) -> Found
+fn naming_for(bytes: &[u8], rows: &[u32], frame: usize, item: Num, j: usize, shared: Found) -> Found
     requires { ⌜ Table (now bytes) (now rows) × ((j < length (nodesOf (now bytes))) × ((item ≡ frameItem (nodesOf (now bytes)) frame) × (Below (length (nodesOf (now bytes))) item × IsShared (nodesOf (now bytes)) j shared))) ⌝ }
     ensures { λ r. ⌜ foundOf r ≡ then (groupFor (nodesOf (now (bytes .entry))) frame FramePixelShiftSequence) (ownIn (nodesOf (now (bytes .entry))) j) ⌝ }
     ensures { λ r. ⌜ FoundBelow (length (nodesOf (now (bytes .entry)))) r ⌝ }

@@ -15,12 +15,12 @@ use Rattle.sheet.proofs.count_picture.Tie as tie
 mul-cells : tie.Need-mul-cells
 mul-cells c =
     let b = scenes.based (c .before .before .before .before .before .before .before .before .args .bytes .now) (c .before .before .before .before .before .before .before .before .args .n) (c .before .before .before .before .before .before .before .before .args .frame) (c .before .before .before .before .before .before .before .before .pre .1 .0) (c .before .before .before .before .before .before .before .before .pre .1 .1 .1 .1 .0) (c .before .before .before .before .before .before .before .before .pre .1 .1 .1 .1 .1 .0) (c .before .before .before .before .before .before .before .before .args .c) (c .before .before .before .before .before .before .before .before .pre .1 .1 .0) in
-    omega (arith, cells-fit 0 (c .before .before .before .before .before .before .before .before .args .c .before .g .rows) (c .before .before .before .before .before .before .before .before .args .c .before .g .columns) 0 (omega arith) (b .shape .rows-most) (b .shape .columns-most) (omega arith))
+    omega (arith, cells-fit 0 (c .before .before .before .before .before .before .before .before .args .c .g .rows) (c .before .before .before .before .before .before .before .before .args .c .g .columns) 0 (omega arith) (b .shape .rows-most) (b .shape .columns-most) (omega arith))
 
 shades-for-requires : tie.Need-shades-for-requires
 shades-for-requires c κs =
     let b = scenes.based (c .before .before .before .before .before .before .before .before .before .before .before .before .args .bytes .now) (c .before .before .before .before .before .before .before .before .before .before .before .before .args .n) (c .before .before .before .before .before .before .before .before .before .before .before .before .args .frame) (c .before .before .before .before .before .before .before .before .before .before .before .before .pre .1 .0) (c .before .before .before .before .before .before .before .before .before .before .before .before .pre .1 .1 .1 .1 .0) (c .before .before .before .before .before .before .before .before .before .before .before .before .pre .1 .1 .1 .1 .1 .0) (c .before .before .before .before .before .before .before .before .before .before .before .before .args .c) (c .before .before .before .before .before .before .before .before .before .before .before .before .pre .1 .1 .0) in
-    (c .before .before .before .before .before .before .before .before .before .before .before .before .pre .1 .1 .1 .0 .drawable, (b .shape .stored-some, (b .shape .stored-most, (c .before .before .before .before .before .before .before .before .before .before .before .before .pre .1 .1 .1 .1 .1 .1 .0 .shades, (omega (arith, cells-fit 0 (c .before .before .before .before .before .before .before .before .before .before .before .before .args .c .before .before .before .before .before .g .rows) (c .before .before .before .before .before .before .before .before .before .before .before .before .args .c .before .before .before .before .before .g .columns) 0 (omega arith) (b .shape .rows-most) (b .shape .columns-most) (omega arith)), c .before .before .before .before .before .before .before .before .before .before .before .before .pre .1 .1 .1 .1 .1 .1 .1 .0)))))
+    (c .before .before .before .before .before .before .before .before .before .before .before .before .pre .1 .1 .1 .0 .drawable, (b .shape .stored-some, (b .shape .stored-most, (c .before .before .before .before .before .before .before .before .before .before .before .before .pre .1 .1 .1 .1 .1 .1 .0 .shades, (omega (arith, cells-fit 0 (c .before .before .before .before .before .before .before .before .before .before .before .before .args .c .g .rows) (c .before .before .before .before .before .before .before .before .before .before .before .before .args .c .g .columns) 0 (omega arith) (b .shape .rows-most) (b .shape .columns-most) (omega arith)), c .before .before .before .before .before .before .before .before .before .before .before .before .pre .1 .1 .1 .1 .1 .1 .1 .0)))))
 
 count-frame-requires : tie.Need-count-frame-requires
 count-frame-requires c κs =
