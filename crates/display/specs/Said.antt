@@ -19,6 +19,8 @@ use Rattle.steps.specs.Given.{then}
 use Rattle.steps.specs.Steps.{Mask, native as noMask, masked as maskOf, averageFrames, tidFrame, onTid, movesFor, maskBy, maskFor}
 use Rattle.steps.specs.declared.Applying.{Applying}
 use Rattle.steps.specs.declared.Applying.the-variants as applying
+use Rattle.steps.specs.declared.Found.{Found}
+use Rattle.steps.specs.Said.{IsShared}
 use Rattle.display.specs.declared.Masking.{Masking}
 use Rattle.display.specs.declared.Masking.the-variants as masking
 
@@ -77,6 +79,11 @@ MaskingBelow n masking.Lacks = Unit {0}
 abbrev pub ApplyingBelow : ℕ → Applying → Type 0
 ApplyingBelow n (applying.Item j) = j < n
 ApplyingBelow n applying.Nothing = Unit {0}
+
+-- What the shared shift group names for it.
+abbrev pub SharedBy : List Node → Applying → Found → Type 0
+SharedBy ns (applying.Item j) r = IsShared ns j r
+SharedBy ns applying.Nothing r = Unit {0}
 
 -- ---- Painting
 

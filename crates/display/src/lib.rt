@@ -21,7 +21,8 @@ ghost use Rattle.pixel.specs.Pixel.{samplesOf};
 ghost use Rattle.pixel.specs.Painted.{painted};
 ghost use Rattle.pixel.specs.Said.{Ready};
 ghost use Rattle.steps.specs.Steps.{applyingTo, inverseOf, movesFor, maskBy, maskFor};
-ghost use Rattle.display.specs.Said.{Gives, GivesMoves, GivesInverse, averageBy, tidBy, maskingOf, MaskingBelow, ApplyingBelow, isMasked, shadeBy, MasksReady};
+ghost use Rattle.steps.specs.Said.{IsShared};
+ghost use Rattle.display.specs.Said.{Gives, GivesMoves, GivesInverse, averageBy, tidBy, maskingOf, MaskingBelow, ApplyingBelow, SharedBy, isMasked, shadeBy, MasksReady};
 use conformance::JudgeAnswer;
 use element::tags;
 use pixel::Geometry;
@@ -65,44 +66,68 @@ fn no_moves() -> Moves {
 }
 
 // Step 4: how far mask item j is moved at the frame.
-fn moves_for(bytes: &[u8], rows: &[u32], frame: usize, item: Num, j: usize) -> Moves
-    requires { ⌜ Table (now bytes) (now rows) × ((item ≡ frameItem (nodesOf (now bytes)) frame) × (Below (length (nodesOf (now bytes))) item × ((j < length (nodesOf (now bytes))) × GivesMoves (movesFor (nodesOf (now bytes)) frame j)))) ⌝ }
+fn moves_for(bytes: &[u8], rows: &[u32], frame: usize, item: Num, j: usize, shared: Found) -> Moves
+    requires { ⌜ Table (now bytes) (now rows) × ((item ≡ frameItem (nodesOf (now bytes)) frame) × (Below (length (nodesOf (now bytes))) item × ((j < length (nodesOf (now bytes))) × (GivesMoves (movesFor (nodesOf (now bytes)) frame j) × IsShared (nodesOf (now bytes)) j shared)))) ⌝ }
     ensures { λ r. ⌜ movesFor (nodesOf (now (bytes .entry))) frame j ≡ some r ⌝ }
 {
-    match steps::shift_for(bytes, rows, frame, item, j) {
+    match steps::shift_by(bytes, rows, frame, item, j, shared) {
         Shifts::Is(s) => shift::short_moves_of(s),
         Shifts::Lacks => no_moves(),
     }
 }
 
 // Steps 3 and 4 for a mask item that averages.
-fn average_by(bytes: &[u8], rows: &[u32], frame: usize, item: Num, j: usize, n: usize) -> Masking
-    requires { ⌜ Table (now bytes) (now rows) × ((item ≡ frameItem (nodesOf (now bytes)) frame) × (Below (length (nodesOf (now bytes))) item × ((j < length (nodesOf (now bytes))) × Gives n (averageBy (nodesOf (now bytes)) frame j)))) ⌝ }
+fn average_by(
+    bytes: &[u8],
+    rows: &[u32],
+    frame: usize,
+    item: Num,
+    j: usize,
+    shared: Found,
+    n: usize,
+) -> Masking
+    requires { ⌜ Table (now bytes) (now rows) × ((item ≡ frameItem (nodesOf (now bytes)) frame) × (Below (length (nodesOf (now bytes))) item × ((j < length (nodesOf (now bytes))) × (Gives n (averageBy (nodesOf (now bytes)) frame j) × IsShared (nodesOf (now bytes)) j shared)))) ⌝ }
     ensures { λ r. ⌜ maskingOf (nodesOf (now (bytes .entry))) r ≡ averageBy (nodesOf (now (bytes .entry))) frame j ⌝ }
     ensures { λ r. ⌜ MaskingBelow (length (nodesOf (now (bytes .entry)))) r ⌝ }
 {
     match steps::average_element(bytes, rows, j) {
         Num::Lacks => Masking::Lacks,
-        Num::Is(k) => Masking::Average(k, moves_for(bytes, rows, frame, item, j)),
+        Num::Is(k) => Masking::Average(k, moves_for(bytes, rows, frame, item, j, shared)),
     }
 }
 
 // Steps 3 and 4 for a mask item that takes one frame.
-fn tid_by(bytes: &[u8], rows: &[u32], frame: usize, item: Num, j: usize, n: usize) -> Masking
-    requires { ⌜ Table (now bytes) (now rows) × ((item ≡ frameItem (nodesOf (now bytes)) frame) × (Below (length (nodesOf (now bytes))) item × ((j < length (nodesOf (now bytes))) × ((frame < 4294967296) × Gives n (tidBy (nodesOf (now bytes)) frame j))))) ⌝ }
+fn tid_by(
+    bytes: &[u8],
+    rows: &[u32],
+    frame: usize,
+    item: Num,
+    j: usize,
+    shared: Found,
+    n: usize,
+) -> Masking
+    requires { ⌜ Table (now bytes) (now rows) × ((item ≡ frameItem (nodesOf (now bytes)) frame) × (Below (length (nodesOf (now bytes))) item × ((j < length (nodesOf (now bytes))) × ((frame < 4294967296) × (Gives n (tidBy (nodesOf (now bytes)) frame j) × IsShared (nodesOf (now bytes)) j shared))))) ⌝ }
     ensures { λ r. ⌜ maskingOf (nodesOf (now (bytes .entry))) r ≡ tidBy (nodesOf (now (bytes .entry))) frame j ⌝ }
     ensures { λ r. ⌜ MaskingBelow (length (nodesOf (now (bytes .entry)))) r ⌝ }
 {
     match steps::tid_frame(bytes, rows, frame, j) {
         Found::Lacks => Masking::Lacks,
         Found::Absent => Masking::Native,
-        Found::At(t) => Masking::One(t, moves_for(bytes, rows, frame, item, j)),
+        Found::At(t) => Masking::One(t, moves_for(bytes, rows, frame, item, j, shared)),
     }
 }
 
 // Steps 3 and 4 for the mask item that applies.
-fn mask_by(bytes: &[u8], rows: &[u32], frame: usize, item: Num, j: usize, n: usize) -> Masking
-    requires { ⌜ Table (now bytes) (now rows) × ((item ≡ frameItem (nodesOf (now bytes)) frame) × (Below (length (nodesOf (now bytes))) item × ((j < length (nodesOf (now bytes))) × ((frame < 4294967296) × Gives n (maskBy (nodesOf (now bytes)) frame j))))) ⌝ }
+fn mask_by(
+    bytes: &[u8],
+    rows: &[u32],
+    frame: usize,
+    item: Num,
+    j: usize,
+    shared: Found,
+    n: usize,
+) -> Masking
+    requires { ⌜ Table (now bytes) (now rows) × ((item ≡ frameItem (nodesOf (now bytes)) frame) × (Below (length (nodesOf (now bytes))) item × ((j < length (nodesOf (now bytes))) × ((frame < 4294967296) × (Gives n (maskBy (nodesOf (now bytes)) frame j) × IsShared (nodesOf (now bytes)) j shared))))) ⌝ }
     ensures { λ r. ⌜ maskingOf (nodesOf (now (bytes .entry))) r ≡ maskBy (nodesOf (now (bytes .entry))) frame j ⌝ }
     ensures { λ r. ⌜ MaskingBelow (length (nodesOf (now (bytes .entry)))) r ⌝ }
 {
@@ -110,10 +135,10 @@ fn mask_by(bytes: &[u8], rows: &[u32], frame: usize, item: Num, j: usize, n: usi
         Masking::Native
     } else {
         if element::cs_item(bytes, rows, j, tags::MASK_OPERATION, b"AVG_SUB") {
-            average_by(bytes, rows, frame, item, j, n)
+            average_by(bytes, rows, frame, item, j, shared, n)
         } else {
             if element::cs_item(bytes, rows, j, tags::MASK_OPERATION, b"TID") {
-                tid_by(bytes, rows, frame, item, j, n)
+                tid_by(bytes, rows, frame, item, j, shared, n)
             } else {
                 Masking::Lacks
             }
@@ -134,16 +159,47 @@ fn applying(bytes: &[u8], rows: &[u32], frame: usize, n: usize) -> Applying
     }
 }
 
-// Steps 2 to 4: what masks the frame. Where no mask item applies the frame is native.
+// What the shared shift group names for the mask item that applies.
+fn shared_for(bytes: &[u8], rows: &[u32], applies: Applying) -> Found
+    requires { ⌜ Table (now bytes) (now rows) × ApplyingBelow (length (nodesOf (now bytes))) applies ⌝ }
+    ensures { λ r. ⌜ SharedBy (nodesOf (now (bytes .entry))) applies r ⌝ }
+{
+    match applies {
+        Applying::Item(j) => steps::shared_naming(bytes, rows, j),
+        Applying::Nothing => Found::Absent,
+    }
+}
+
+// Steps 3 and 4 once it is known which mask item applies, and what the shared shift group names for it. Where none applies the
+// frame is native.
+pub fn mask_on(
+    bytes: &[u8],
+    rows: &[u32],
+    frame: usize,
+    item: Num,
+    applies: Applying,
+    shared: Found,
+    n: usize,
+) -> Masking
+    requires { ⌜ Table (now bytes) (now rows) × ((item ≡ frameItem (nodesOf (now bytes)) frame) × (Below (length (nodesOf (now bytes))) item × ((frame < 4294967296) × (Gives n (maskFor (nodesOf (now bytes)) frame) × ((applyingTo (nodesOf (now bytes)) frame ≡ some applies) × (ApplyingBelow (length (nodesOf (now bytes))) applies × SharedBy (nodesOf (now bytes)) applies shared)))))) ⌝ }
+    ensures { λ r. ⌜ maskingOf (nodesOf (now (bytes .entry))) r ≡ maskFor (nodesOf (now (bytes .entry))) frame ⌝ }
+    ensures { λ r. ⌜ MaskingBelow (length (nodesOf (now (bytes .entry)))) r ⌝ }
+{
+    let Applying::Item(j) = applies else {
+        return Masking::Native;
+    };
+    mask_by(bytes, rows, frame, item, j, shared, n)
+}
+
+// Steps 2 to 4: what masks the frame.
 pub fn mask_for(bytes: &[u8], rows: &[u32], frame: usize, item: Num, n: usize) -> Masking
     requires { ⌜ Table (now bytes) (now rows) × ((item ≡ frameItem (nodesOf (now bytes)) frame) × (Below (length (nodesOf (now bytes))) item × ((frame < 4294967296) × Gives n (maskFor (nodesOf (now bytes)) frame)))) ⌝ }
     ensures { λ r. ⌜ maskingOf (nodesOf (now (bytes .entry))) r ≡ maskFor (nodesOf (now (bytes .entry))) frame ⌝ }
     ensures { λ r. ⌜ MaskingBelow (length (nodesOf (now (bytes .entry)))) r ⌝ }
 {
-    let Applying::Item(j) = applying(bytes, rows, frame, n) else {
-        return Masking::Native;
-    };
-    mask_by(bytes, rows, frame, item, j, n)
+    let applies = applying(bytes, rows, frame, n);
+    let shared = shared_for(bytes, rows, applies);
+    mask_on(bytes, rows, frame, item, applies, shared, n)
 }
 
 // Paints the frame's samples, from a table of shades; answers whether it is masked.

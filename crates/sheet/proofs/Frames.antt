@@ -6,7 +6,7 @@ use mathlib.Core.Option.{Option, some}
 use Prim.Native.Nat.{ℕ, zero, suc, _+_, _-_, _*_, _^_, _≤_, _<_}
 use native.Mathlib.Omega.{arith}
 use lib.ListN.{length, getD, drop}
-use borrow.Author.Tests.{le-leb}
+use borrow.Author.Tests.{le-leb, ne-eqb}
 use Rattle.value.specs.declared.Num.{Num}
 use Rattle.value.specs.declared.Num.the-variants.{Is, Lacks}
 use Rattle.node.specs.Nodes.{Node, nodesOf, members}
@@ -20,6 +20,8 @@ use Rattle.steps.specs.Steps.{Picture, stepsOf}
 use Rattle.display.specs.Show.{imageSize, pictureIn, pictureOf}
 use Rattle.display.specs.Drawing.{Whole}
 use Rattle.display.proofs.Lacking.{nothing-lacks}
+use Rattle.ranges.specs.Ranges.{itemOf}
+use Rattle.display.specs.Said.{ApplyingBelow}
 use Rattle.sheet.specs.Sheet.{levelsOf, nativesOf}
 use Rattle.sheet.specs.Said.{tallied, Room, IsObject, IsItem}
 use Rattle.sheet.proofs.Counts.{tallied-append}
@@ -89,3 +91,9 @@ room-one f end m now h r = record { below = λ y. omega (arith, r .below y, spli
 
 pub room-rest : (f end m : ℕ) (l now after : List ℕ) → f < end → length l ≡ m → after ≡ tallied l now → Room now ((end - f) * m) → Room after ((end - (f + 1)) * m)
 room-rest f end m l now after h e a r = record { below = λ y. rw a (omega (arith, r .below y, split-left f end m h, tallied-most l now y)) }
+
+-- ---- The mask item that applies
+
+pub item-below : (n w : ℕ) → w ≤ n → ApplyingBelow n (itemOf w)
+item-below n zero h = tt
+item-below n (suc w) h = rw (ne-eqb (suc w) 0 (λ e. omega (arith, e))) (omega arith)

@@ -43,6 +43,8 @@ use Rattle.display.proofs.Given.{never, check-some}
 use Rattle.display.proofs.Lacking.{nothing-lacks}
 use Rattle.display.proofs.Accepted.{Windowed}
 use Rattle.display.proofs.Whole as whole
+use Rattle.display.proofs.Plan.{applying-some}
+use Rattle.ranges.specs.Ranges.{Answering}
 use Rattle.sheet.specs.declared.Scene.{Scene}
 use Rattle.sheet.specs.declared.Plan.{Plan}
 use Rattle.sheet.specs.Said.{Room, IsObject, IsScene, IsPixels, IsPlan}
@@ -161,3 +163,7 @@ pub cells-few : (s : List ℕ) (n : ℕ) (h : IsObject s n) → 1 ≤ n → (c :
 cells-few s n h one c q k l =
     let b = based s n 1 h (omega arith) one c q in
     subst (λ (x : ℕ). k * x ≤ 281462092005375) (b .size) (frames-fit k (c .g .rows) (c .g .columns) 0 (omega (arith, b .few)) (b .shape .rows-most) (b .shape .columns-most) (omega arith))
+
+-- Step 2 lacks nothing at any of its frames.
+pub answering : (s : List ℕ) (n : ℕ) → IsObject s n → Answering (nodesOf s) n
+answering s n h = record { each = λ f low high e. applying-some (nodesOf s) f n e (objects s n f h low high .mask) }

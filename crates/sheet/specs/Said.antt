@@ -21,8 +21,11 @@ use Rattle.pixel.specs.declared.Geometry.{Geometry}
 use Rattle.pixel.specs.Pixel.{isFrame}
 use Rattle.pixel.specs.Said.{Shaped, longestRow}
 use Rattle.lines.specs.Lines.{Shaded}
-use Rattle.steps.specs.Steps.{geometryOf, maskFor, windowFor, inverseOf}
-use Rattle.display.specs.Said.{maskingOf, MaskingBelow}
+use Rattle.steps.specs.declared.Applying.{Applying}
+use Rattle.steps.specs.declared.Found.{Found}
+use Rattle.steps.specs.Steps.{geometryOf, applyingTo, maskFor, windowFor, inverseOf}
+use Rattle.ranges.specs.Ranges.{Applied, Known}
+use Rattle.display.specs.Said.{maskingOf, MaskingBelow, ApplyingBelow, SharedBy}
 use Rattle.display.specs.Drawing.{Bytes}
 use Rattle.sheet.specs.declared.Scene.{Scene}
 use Rattle.sheet.specs.declared.Plan.{Plan}
@@ -81,6 +84,20 @@ pub record IsPixels (ns : List Node) (p : ℕ) : Type 0 where
 pub record IsItem (ns : List Node) (f : ℕ) (item : Num) : Type 0 where
   pub is : item ≡ frameItem ns f
   pub below : Below (length ns) item
+
+-- The mask item that applies to frame f, and what the shared shift group names for it.
+pub record Applies (ns : List Node) (f : ℕ) (applies : Applying) (shared : Found) : Type 0 where
+  pub is : applyingTo ns f ≡ some applies
+  pub below : ApplyingBelow (length ns) applies
+  pub names : SharedBy ns applies shared
+
+-- What is worked out ahead, for all frames at once.
+pub record IsAhead (ns : List Node) (n : ℕ) (which keys answers : List ℕ) : Type 0 where
+  pub applied : Applied ns n which
+  pub size : n < length which
+  pub known : Known ns keys answers
+  pub key-room : 16 ≤ length keys
+  pub answer-room : 16 ≤ length answers
 
 -- What a frame has of its own.
 pub record IsPlan (ns : List Node) (f stored : ℕ) (p : Plan) : Type 0 where

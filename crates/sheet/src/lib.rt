@@ -20,12 +20,13 @@ ghost use Rattle.pixel.specs.Pixel.{samplesOf};
 ghost use Rattle.pixel.specs.Painted.{nativeShade, maskedShade};
 ghost use Rattle.pixel.specs.Said.{longestRow, Masks, shifted, Averaged, quarterShade};
 ghost use Rattle.lines.specs.Lines.{upTo, shadesOf, Shaded, MaskedBy};
-ghost use Rattle.display.specs.Said.{isMasked, shadeBy, MasksReady};
+ghost use Rattle.ranges.specs.Ranges.{Known};
+ghost use Rattle.display.specs.Said.{isMasked, shadeBy, MasksReady, ApplyingBelow, SharedBy};
 ghost use Rattle.display.specs.Show.{imageSize, pictureOf};
 ghost use Rattle.sheet.specs.Sheet.{levelsOf, nativesOf, countsOf, framesSheet, noSheet, numbersIn};
 ghost use Rattle.sheet.specs.Answer.{acceptedAnswer, withSheet, sheetOf, sampledFields};
 ghost use Rattle.sheet.specs.Sampling.{total};
-ghost use Rattle.sheet.specs.Said.{tallied, Room, Few, First, Last, IsObject, IsScene, IsPixels, IsItem, IsPlan, FrameReady, Rooms, IsHeld, IsNothing};
+ghost use Rattle.sheet.specs.Said.{tallied, Room, Few, First, Last, IsObject, IsScene, IsPixels, IsItem, Applies, IsAhead, IsPlan, FrameReady, Rooms, IsHeld, IsNothing};
 use conformance::JudgeAnswer;
 use dataset::wide;
 use display::Masking;
@@ -34,6 +35,8 @@ use element::tags;
 use lines::Shades;
 use pixel::Geometry;
 use shift::Moves;
+use steps::Applying;
+use steps::Found;
 use steps::Sized;
 use steps::Windowed;
 use value::Function;
@@ -372,13 +375,22 @@ fn scene_of(bytes: &[u8], rows: &[u32], n: usize) -> Scene
     Scene { g, p, inverse }
 }
 
-fn plan_of(bytes: &[u8], rows: &[u32], c: Scene, frame: usize, n: usize, item: Num) -> Plan
-    requires { ⌜ Table (now bytes) (now rows) × (IsObject (now bytes) n × (IsScene (nodesOf (now bytes)) c × (IsItem (nodesOf (now bytes)) frame item × ((1 ≤ frame) × (frame ≤ n))))) ⌝ }
+fn plan_of(
+    bytes: &[u8],
+    rows: &[u32],
+    c: Scene,
+    frame: usize,
+    n: usize,
+    item: Num,
+    applies: Applying,
+    shared: Found,
+) -> Plan
+    requires { ⌜ Table (now bytes) (now rows) × (IsObject (now bytes) n × (IsScene (nodesOf (now bytes)) c × (IsItem (nodesOf (now bytes)) frame item × ((1 ≤ frame) × ((frame ≤ n) × Applies (nodesOf (now bytes)) frame applies shared))))) ⌝ }
     ensures { λ r. ⌜ IsPlan (nodesOf (now (bytes .entry))) frame (c .g .stored) r ⌝ }
 {
     let g = c.g;
     let stored = g.stored;
-    let masking = display::mask_for(bytes, rows, frame, item, n);
+    let masking = display::mask_on(bytes, rows, frame, item, applies, shared, n);
     let Windowed::Is(window) = steps::window_for(bytes, rows, frame, item, stored) else {
         return Plan {
             window: no_window(),
@@ -386,6 +398,37 @@ fn plan_of(bytes: &[u8], rows: &[u32], c: Scene, frame: usize, n: usize, item: N
         };
     };
     Plan { window, masking }
+}
+
+// What the shared shift group names for the mask item that applies, as it was written down.
+fn shared_of(bytes: &[u8], rows: &[u32], applies: Applying, keys: &[u32], answers: &[u32]) -> Found
+    requires { ⌜ Table (now bytes) (now rows) × (ApplyingBelow (length (nodesOf (now bytes))) applies × ((16 ≤ length (now keys)) × ((16 ≤ length (now answers)) × Known (nodesOf (now bytes)) (now keys) (now answers)))) ⌝ }
+    ensures { λ r. ⌜ SharedBy (nodesOf (now (bytes .entry))) applies r ⌝ }
+{
+    match applies {
+        Applying::Item(j) => ranges::naming_of(bytes, rows, j, keys, answers),
+        Applying::Nothing => Found::Absent,
+    }
+}
+
+// The plan of a frame, from what was worked out for all frames at once.
+fn plan_at(
+    bytes: &[u8],
+    rows: &[u32],
+    c: Scene,
+    frame: usize,
+    n: usize,
+    item: Num,
+    which: &[u32],
+    keys: &[u32],
+    answers: &[u32],
+) -> Plan
+    requires { ⌜ Table (now bytes) (now rows) × (IsObject (now bytes) n × (IsScene (nodesOf (now bytes)) c × (IsItem (nodesOf (now bytes)) frame item × ((1 ≤ frame) × ((frame ≤ n) × IsAhead (nodesOf (now bytes)) n (now which) (now keys) (now answers)))))) ⌝ }
+    ensures { λ r. ⌜ IsPlan (nodesOf (now (bytes .entry))) frame (c .g .stored) r ⌝ }
+{
+    let applies = ranges::applying_at(which, frame);
+    let shared = shared_of(bytes, rows, applies, keys, answers);
+    plan_of(bytes, rows, c, frame, n, item, applies, shared)
 }
 
 // The item of a frame, at a cursor that is stepped along the items with the frames.
@@ -593,21 +636,21 @@ pub struct Counted {
     pub held: Held,
 }
 
-// Counts a frame of an accepted object, whose item is known.
+// Counts a frame of an accepted object by its plan.
 fn count_picture(
     bytes: &[u8],
     rows: &[u32],
     c: Scene,
     frame: usize,
     n: usize,
-    item: Num,
+    own: Plan,
     sofar: Counted,
     table: &mut [u8],
     upper: &mut [u32],
     lower: &mut [u32],
     line: &mut [u8],
 ) -> Counted
-    requires { ⌜ Table (now bytes) (now rows) × (IsObject (now bytes) n × (IsScene (nodesOf (now bytes)) c × (IsItem (nodesOf (now bytes)) frame item × ((1 ≤ frame) × ((frame ≤ n) × (Rooms (now table) (now upper) (now lower) (now line) × (IsHeld (c .g .stored) (c .inverse) (sofar .held) (now table) × ((sofar .natives < 65536) × Room (sofar .counts) (imageSize (nodesOf (now bytes))))))))))) ⌝ }
+    requires { ⌜ Table (now bytes) (now rows) × (IsObject (now bytes) n × (IsScene (nodesOf (now bytes)) c × (IsPlan (nodesOf (now bytes)) frame (c .g .stored) own × ((1 ≤ frame) × ((frame ≤ n) × (Rooms (now table) (now upper) (now lower) (now line) × (IsHeld (c .g .stored) (c .inverse) (sofar .held) (now table) × ((sofar .natives < 65536) × Room (sofar .counts) (imageSize (nodesOf (now bytes))))))))))) ⌝ }
     ensures { λ r. ⌜ (r .counts ≡ tallied (pictureOf (nodesOf (now (bytes .entry))) frame .samples) (sofar .counts)) × ((r .natives ≡ cond (pictureOf (nodesOf (now (bytes .entry))) frame .masked) 0 1 + sofar .natives) × IsHeld (c .g .stored) (c .inverse) (r .held) (now (table .exit))) ⌝ }
 {
     let g = c.g;
@@ -617,7 +660,6 @@ fn count_picture(
     let old = sofar.counts;
     let some = sofar.natives;
     let last = sofar.held;
-    let own = plan_of(bytes, rows, c, frame, n, item);
     let window = own.window;
     let masking = own.masking;
     let held = shades_for(window, stored, inverse, cells, last, table);
@@ -671,12 +713,15 @@ fn count_frames(
     start: Items,
     a: usize,
     b: usize,
+    which: &[u32],
+    keys: &[u32],
+    answers: &[u32],
     table: &mut [u8],
     upper: &mut [u32],
     lower: &mut [u32],
     line: &mut [u8],
 ) -> Counted
-    requires { ⌜ Table (now bytes) (now rows) × (IsObject (now bytes) n × (IsScene (nodesOf (now bytes)) c × (Along (nodesOf (now bytes)) (drop (a - 1) (frameItems (nodesOf (now bytes)))) start × ((1 ≤ a) × ((a ≤ b) × ((b ≤ n) × Rooms (now table) (now upper) (now lower) (now line))))))) ⌝ }
+    requires { ⌜ Table (now bytes) (now rows) × (IsObject (now bytes) n × (IsScene (nodesOf (now bytes)) c × (Along (nodesOf (now bytes)) (drop (a - 1) (frameItems (nodesOf (now bytes)))) start × ((1 ≤ a) × ((a ≤ b) × ((b ≤ n) × (Rooms (now table) (now upper) (now lower) (now line) × IsAhead (nodesOf (now bytes)) n (now which) (now keys) (now answers)))))))) ⌝ }
     ensures { λ r. ⌜ (r .counts ≡ countsOf (levelsOf (nodesOf (now (bytes .entry))) a (b + 1 - a))) × (r .natives ≡ nativesOf (nodesOf (now (bytes .entry))) a (b + 1 - a)) ⌝ }
 {
     let mut items = start;
@@ -685,13 +730,14 @@ fn count_frames(
     let end = b + 1;
     for frame in a..end {
         let item = item_here(bytes, rows, items, frame);
+        let own = plan_at(bytes, rows, c, frame, n, item, which, keys, answers);
         let next = count_picture(
             bytes,
             rows,
             c,
             frame,
             n,
-            item,
+            own,
             sofar,
             table,
             upper,
@@ -702,6 +748,46 @@ fn count_frames(
         items = element::advance(bytes, rows, items);
     }
     sofar
+}
+
+// The same, with what is worked out for all frames at once made here. `upper` is room for the marks of ranges.
+fn count_all(
+    bytes: &[u8],
+    rows: &[u32],
+    c: Scene,
+    n: usize,
+    start: Items,
+    a: usize,
+    b: usize,
+    table: &mut [u8],
+    upper: &mut [u32],
+    lower: &mut [u32],
+    line: &mut [u8],
+) -> Counted
+    requires { ⌜ Table (now bytes) (now rows) × (IsObject (now bytes) n × (IsScene (nodesOf (now bytes)) c × (Along (nodesOf (now bytes)) (drop (a - 1) (frameItems (nodesOf (now bytes)))) start × ((1 ≤ a) × ((a ≤ b) × ((b ≤ n) × Rooms (now table) (now upper) (now lower) (now line))))))) ⌝ }
+    ensures { λ r. ⌜ (r .counts ≡ countsOf (levelsOf (nodesOf (now (bytes .entry))) a (b + 1 - a))) × (r .natives ≡ nativesOf (nodesOf (now (bytes .entry))) a (b + 1 - a)) ⌝ }
+{
+    let mut which: [u32; 65536] = [0; 65536];
+    let mut keys: [u32; 16] = [0; 16];
+    let mut answers: [u32; 16] = [0; 16];
+    ranges::apply_all(bytes, rows, n, upper, &mut which);
+    ranges::name_all(bytes, rows, &mut keys, &mut answers);
+    count_frames(
+        bytes,
+        rows,
+        c,
+        n,
+        start,
+        a,
+        b,
+        &which,
+        &keys,
+        &answers,
+        table,
+        upper,
+        lower,
+        line,
+    )
 }
 
 // The items from frame a's on.
@@ -771,7 +857,7 @@ fn sample_frames(bytes: &[u8], rows: &[u32], n: usize, a: usize, b: usize) -> Nu
     let mut line: [u8; 65535] = [0; 65535];
     let c = scene_of(bytes, rows, n);
     let start = items_from(bytes, rows, a);
-    let done = count_frames(
+    let done = count_all(
         bytes,
         rows,
         c,

@@ -73,7 +73,7 @@ module _ (ns : List Node) (at end : ℕ) where
 value-next : (v : List ℕ) (k : ℕ) → k < length v / 2 → drop k (usValues v) ≡ getD (usValues v) k 0 ∷ drop (k + 1) (usValues v)
 value-next v k h = rw (add-one k, drop-cons (usValues v) k 0 (omega (arith, usValues-length v)))
 
-values-end : (v : List ℕ) (k : ℕ) → k ≡ length v / 2 → drop k (usValues v) ≡ []
+pub values-end : (v : List ℕ) (k : ℕ) → k ≡ length v / 2 → drop k (usValues v) ≡ []
 values-end v k e = rw (e, ← usValues-length v) (drop-length (usValues v))
 
 module _ (f : ℕ) (v : List ℕ) (k : ℕ) where
@@ -82,7 +82,7 @@ module _ (f : ℕ) (v : List ℕ) (k : ℕ) where
   pairs-end e = rw (values-end v (2 * k) e)
 
   module _ (a b : ℕ) (ea : a ≡ getD (usValues v) (2 * k) 0) (eb : b ≡ getD (usValues v) (2 * k + 1) 0) (h : 2 * k + 1 < length v / 2) where
-    pair-at : drop (2 * k) (usValues v) ≡ a ∷ b ∷ drop (2 * (k + 1)) (usValues v)
+    pub pair-at : drop (2 * k) (usValues v) ≡ a ∷ b ∷ drop (2 * (k + 1)) (usValues v)
     pair-at =
         let d : 2 * (k + 1) ≡ 2 * k + 1 + 1 = omega arith in
         rw (value-next v (2 * k) (omega arith), value-next v (2 * k + 1) h, ← ea, ← eb, d)

@@ -1,8 +1,10 @@
 -- What the answers of the code say: each is what a definition of the steps gives, and says `Lacks` where that is `none`.
 use Prim.Native.Nat.{ℕ, _≤_, _<_}
+use lib.ListN.{length}
 use mathlib.Core.Bool.{Bool, true, false}
 use mathlib.Core.List.{List}
 use mathlib.Core.Option.{Option, none, some}
+use mathlib.Core.Path.{_≡_}
 use Rattle.value.specs.declared.Num.{Num}
 use Rattle.value.specs.declared.Num.the-variants as num
 use Rattle.value.specs.declared.Signed.{Signed}
@@ -10,9 +12,12 @@ use Rattle.value.specs.declared.Signed.the-variants as signed
 use Rattle.value.specs.Number.{usValues}
 use Rattle.shift.specs.declared.Shift.{Shift}
 use Rattle.node.specs.Nodes.{Node}
+use Rattle.element.specs.Tags
 use Rattle.element.specs.Elements.{valueAt}
 use Rattle.pixel.specs.declared.Geometry.{Geometry}
 use Rattle.window.specs.declared.Window.{Window}
+use Rattle.steps.specs.Given.{then}
+use Rattle.steps.specs.Steps.{orShared, ownIn}
 use Rattle.steps.specs.declared.Applying.{Applying}
 use Rattle.steps.specs.declared.Applying.the-variants as applying
 use Rattle.steps.specs.declared.Found.{Found}
@@ -41,6 +46,15 @@ abbrev pub FoundBelow : ℕ → Found → Type 0
 FoundBelow n (found.At k) = k < n
 FoundBelow n found.Absent = Unit {0}
 FoundBelow n found.Lacks = Unit {0}
+
+-- What the shared shift group names for mask item j.
+abbrev pub sharedNaming : List Node → ℕ → Option Num
+sharedNaming ns j = then (orShared ns Tags.FramePixelShiftSequence num.Lacks) (ownIn ns j)
+
+-- An answer that says so.
+pub record IsShared (ns : List Node) (j : ℕ) (r : Found) : Type 0 where
+  pub is : foundOf r ≡ sharedNaming ns j
+  pub below : FoundBelow (length ns) r
 
 -- A test.
 abbrev pub holdsOf : Holds → Option Bool

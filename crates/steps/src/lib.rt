@@ -13,10 +13,11 @@ ghost use Rattle.value.specs.Number.{usValues, isNumber, decimalOf};
 ghost use Rattle.value.specs.Said.{Below, SizeBelow};
 ghost use Rattle.node.specs.Nodes.{nodesOf, members, inside};
 ghost use Rattle.node.specs.Table.{Table};
+ghost use Rattle.element.specs.Tags.{FramePixelShiftSequence};
 ghost use Rattle.element.specs.Frames.{framesOf, frameItem};
 ghost use Rattle.steps.specs.Given.{need, check, then};
 ghost use Rattle.steps.specs.Steps.{orShared, groupFor, inPairs, rangeHas, rangeHolds, firstHolding, applyingTo, averageFrames, offsetAt, offsetOf, tidFrame, naming, ownIn, itemAt, shiftFrom, shiftFor, geometryOf, pixelsOf, windowIn, windowOn, windowFor, inverseOf};
-ghost use Rattle.steps.specs.Said.{foundOf, FoundBelow, holdsOf, appliesOf, AppliesBelow, valueIn, framesIn, signedOf, shiftsOf, sizedOf, SizedSmall, windowedOf, inverseSaid};
+ghost use Rattle.steps.specs.Said.{foundOf, FoundBelow, holdsOf, appliesOf, AppliesBelow, valueIn, framesIn, signedOf, shiftsOf, sizedOf, SizedSmall, windowedOf, inverseSaid, sharedNaming, IsShared};
 use element::tags;
 use pixel::Geometry;
 use shift::Shift;
@@ -437,14 +438,54 @@ fn shift_from(bytes: &[u8], rows: &[u32], j: usize, named: Found) -> Shifts
     }
 }
 
-// Step 4: the shift of a frame under mask item j; `item` is the frame's item.
+// The item of the shared shift group that names the ID of mask item j: the same for every frame that has no group of its own.
+pub fn shared_naming(bytes: &[u8], rows: &[u32], j: usize) -> Found
+    requires { ⌜ Table (now bytes) (now rows) × (j < length (nodesOf (now bytes))) ⌝ }
+    ensures { λ r. ⌜ foundOf r ≡ sharedNaming (nodesOf (now (bytes .entry))) j ⌝ }
+    ensures { λ r. ⌜ FoundBelow (length (nodesOf (now (bytes .entry)))) r ⌝ }
+{
+    let group = shared_group(bytes, rows, tags::FRAME_PIXEL_SHIFT_SEQUENCE);
+    own(bytes, rows, j, group)
+}
+
+// The item of a frame's shift group that names the ID of mask item j; `shared` is that of the shared one.
+fn naming_for(bytes: &[u8], rows: &[u32], frame: usize, item: Num, j: usize, shared: Found) -> Found
+    requires { ⌜ Table (now bytes) (now rows) × ((j < length (nodesOf (now bytes))) × ((item ≡ frameItem (nodesOf (now bytes)) frame) × (Below (length (nodesOf (now bytes))) item × IsShared (nodesOf (now bytes)) j shared))) ⌝ }
+    ensures { λ r. ⌜ foundOf r ≡ then (groupFor (nodesOf (now (bytes .entry))) frame FramePixelShiftSequence) (ownIn (nodesOf (now (bytes .entry))) j) ⌝ }
+    ensures { λ r. ⌜ FoundBelow (length (nodesOf (now (bytes .entry)))) r ⌝ }
+{
+    match item {
+        Num::Lacks => Found::Lacks,
+        Num::Is(i) => match element::find_item(bytes, rows, i, tags::FRAME_PIXEL_SHIFT_SEQUENCE) {
+            Num::Lacks => shared,
+            Num::Is(g) => own_in(bytes, rows, j, g),
+        },
+    }
+}
+
+// Step 4: the shift of a frame under mask item j; `item` is the frame's item, `shared` what the shared shift group names.
+pub fn shift_by(
+    bytes: &[u8],
+    rows: &[u32],
+    frame: usize,
+    item: Num,
+    j: usize,
+    shared: Found,
+) -> Shifts
+    requires { ⌜ Table (now bytes) (now rows) × ((j < length (nodesOf (now bytes))) × ((item ≡ frameItem (nodesOf (now bytes)) frame) × (Below (length (nodesOf (now bytes))) item × IsShared (nodesOf (now bytes)) j shared))) ⌝ }
+    ensures { λ r. ⌜ shiftsOf r ≡ shiftFor (nodesOf (now (bytes .entry))) frame j ⌝ }
+{
+    let named = naming_for(bytes, rows, frame, item, j, shared);
+    shift_from(bytes, rows, j, named)
+}
+
+// The same, with what the shared shift group names worked out here.
 pub fn shift_for(bytes: &[u8], rows: &[u32], frame: usize, item: Num, j: usize) -> Shifts
     requires { ⌜ Table (now bytes) (now rows) × ((j < length (nodesOf (now bytes))) × ((item ≡ frameItem (nodesOf (now bytes)) frame) × Below (length (nodesOf (now bytes))) item)) ⌝ }
     ensures { λ r. ⌜ shiftsOf r ≡ shiftFor (nodesOf (now (bytes .entry))) frame j ⌝ }
 {
-    let group = group_for(bytes, rows, frame, item, tags::FRAME_PIXEL_SHIFT_SEQUENCE);
-    let named = own(bytes, rows, j, group);
-    shift_from(bytes, rows, j, named)
+    let shared = shared_naming(bytes, rows, j);
+    shift_by(bytes, rows, frame, item, j, shared)
 }
 
 // ---- Step 6: the window

@@ -35,7 +35,7 @@ moves-for-requires c κs =
     let ns = nodesOf (c .before .before .before .before .before .before .args .bytes .now) in
     let e = steps-laws.said (framesIn ns) (c .before .k .given .1) (c .before .before .before .average-element .ensures .0) in
     let p = c .before .before .before .before .before .before .pre in
-    (p .0, (p .1 .0, (p .1 .1 .0, (p .1 .1 .1 .0, plan.gives-moves (c .before .before .before .before .before .before .args .n) _ (movesFor ns (c .before .before .before .before .before .before .args .frame) (c .before .before .before .before .before .before .args .j)) (plan.gives-same (c .before .before .before .before .before .before .args .n) _ _ (ap (λ (o : Option (List ℕ)). then o (λ ks. then (movesFor ns (c .before .before .before .before .before .before .args .frame) (c .before .before .before .before .before .before .args .j)) (λ m. some (maskOf ks m)))) e) (p .1 .1 .1 .1))))))
+    (p .0, (p .1 .0, (p .1 .1 .0, (p .1 .1 .1 .0, (plan.gives-moves (c .before .before .before .before .before .before .args .n) _ (movesFor ns (c .before .before .before .before .before .before .args .frame) (c .before .before .before .before .before .before .args .j)) (plan.gives-same (c .before .before .before .before .before .before .args .n) _ _ (ap (λ (o : Option (List ℕ)). then o (λ ks. then (movesFor ns (c .before .before .before .before .before .before .args .frame) (c .before .before .before .before .before .before .args .j)) (λ m. some (maskOf ks m)))) e) (p .1 .1 .1 .1 .0)), p .1 .1 .1 .1 .1)))))
 
 -- src/lib.rt:69:1
 returns : tie.Need-returns

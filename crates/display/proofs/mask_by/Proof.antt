@@ -34,7 +34,7 @@ average-by-requires : tie.Need-average-by-requires
 unfolding maskBy operationIs
 average-by-requires c κs =
     let p = c .before .before .before .before .before .before .before .before .pre in
-    (p .0, (p .1 .0, (p .1 .1 .0, (p .1 .1 .1 .0, plan.gives-same (c .before .before .before .before .before .before .before .before .args .n) _ _ (rw (← c .before .before .before .before .cs-item .ensures, c .before .before .before .if1 .left, ← c .before .cs-item2 .ensures, c .if2 .taken) refl) (p .1 .1 .1 .1 .1)))))
+    (p .0, (p .1 .0, (p .1 .1 .0, (p .1 .1 .1 .0, (plan.gives-same (c .before .before .before .before .before .before .before .before .args .n) _ _ (rw (← c .before .before .before .before .cs-item .ensures, c .before .before .before .if1 .left, ← c .before .cs-item2 .ensures, c .if2 .taken) refl) (p .1 .1 .1 .1 .1 .0), p .1 .1 .1 .1 .1 .1)))))
 
 -- src/lib.rt:105:71
 slice-aggregate-cs-item-3 : tie.Need-slice-aggregate-cs-item-3
@@ -49,7 +49,7 @@ tid-by-requires : tie.Need-tid-by-requires
 unfolding maskBy operationIs
 tid-by-requires c κs =
     let p = c .before .before .before .before .before .before .before .before .before .before .before .pre in
-    (p .0, (p .1 .0, (p .1 .1 .0, (p .1 .1 .1 .0, (p .1 .1 .1 .1 .0, plan.gives-same (c .before .before .before .before .before .before .before .before .before .before .before .args .n) _ _ (rw (← c .before .before .before .before .before .before .before .cs-item .ensures, c .before .before .before .before .before .before .if1 .left, ← c .before .before .before .before .cs-item2 .ensures, c .before .before .before .if2 .left, ← c .before .cs-item3 .ensures, c .if3 .taken) refl) (p .1 .1 .1 .1 .1))))))
+    (p .0, (p .1 .0, (p .1 .1 .0, (p .1 .1 .1 .0, (p .1 .1 .1 .1 .0, (plan.gives-same (c .before .before .before .before .before .before .before .before .before .before .before .args .n) _ _ (rw (← c .before .before .before .before .before .before .before .cs-item .ensures, c .before .before .before .before .before .before .if1 .left, ← c .before .before .before .before .cs-item2 .ensures, c .before .before .before .if2 .left, ← c .before .cs-item3 .ensures, c .if3 .taken) refl) (p .1 .1 .1 .1 .1 .0), p .1 .1 .1 .1 .1 .1))))))
 
 -- src/lib.rt:94:1
 returns : tie.Need-returns

@@ -11,11 +11,11 @@ use Rattle.display.proofs.moves_for.Reads as reads
 use Rattle.display.proofs.moves_for.Lts as lts
 use Rattle.display.proofs.no_moves.Reads as no-moves-reads
 use Rattle.shift.proofs.short_moves_of.Reads as short-moves-of-reads
-use Rattle.steps.proofs.shift_for.Reads as shift-for-reads
+use Rattle.steps.proofs.shift_by.Reads as shift-by-reads
 
 -- src/lib.rt:62:11
-shift-for-requires : tie.Need-shift-for-requires
-shift-for-requires c κs = search needs
+shift-by-requires : tie.Need-shift-by-requires
+shift-by-requires c κs = search needs
 
 -- src/lib.rt:63:20
 enum-known-s : tie.Need-enum-known-s
@@ -36,18 +36,18 @@ no-moves-requires c κs = search needs
 -- src/lib.rt:58:1
 returns : tie.Need-returns
 returns c =
-    plan.moves-are (nodesOf (c .before .before .before .before .before .before .before .args .bytes .now)) (c .before .before .before .before .before .before .before .args .frame) (c .before .before .before .before .before .before .before .args .j) (c .before .before .s .given .0 .0) (steps-laws.said shiftsOf (c .before .before .s .given .1) (c .before .before .before .before .shift-for .ensures)) (c .before .before .before .before .before .before .before .pre .1 .1 .1 .1) ∙ ap some (sym (c .short-moves-of .ensures .0))
+    plan.moves-are (nodesOf (c .before .before .before .before .before .before .before .args .bytes .now)) (c .before .before .before .before .before .before .before .args .frame) (c .before .before .before .before .before .before .before .args .j) (c .before .before .s .given .0 .0) (steps-laws.said shiftsOf (c .before .before .s .given .1) (c .before .before .before .before .shift-by .ensures)) (c .before .before .before .before .before .before .before .pre .1 .1 .1 .1 .0) ∙ ap some (sym (c .short-moves-of .ensures .0))
 
 -- src/lib.rt:58:1
 returns-2 : tie.Need-returns-2
 returns-2 c =
-    absurd (plan.moves-none (nodesOf (c .before .before .before .before .before .before .args .bytes .now)) (c .before .before .before .before .before .before .args .frame) (c .before .before .before .before .before .before .args .j) (steps-laws.said shiftsOf (c .before .enum-told .given .1) (c .before .before .before .shift-for .ensures)) (c .before .before .before .before .before .before .pre .1 .1 .1 .1))
+    absurd (plan.moves-none (nodesOf (c .before .before .before .before .before .before .args .bytes .now)) (c .before .before .before .before .before .before .args .frame) (c .before .before .before .before .before .before .args .j) (steps-laws.said shiftsOf (c .before .enum-told .given .1) (c .before .before .before .shift-by .ensures)) (c .before .before .before .before .before .before .pre .1 .1 .1 .1 .0))
 
 pub moves-for-spec : {M : Type 1} → statement M
 moves-for-spec =
     tie.close
     (tie.spec
-    shift-for-requires
+    shift-by-requires
     enum-known-s
     short-moves-of-requires
     enum-told

@@ -38,7 +38,7 @@ moves-for-requires c κs =
     let ns = nodesOf (c .before .before .before .before .before .before .args .bytes .now) in
     let e = steps-laws.said foundOf (c .before .t .given .1) (c .before .before .before .tid-frame .ensures) in
     let p = c .before .before .before .before .before .before .pre in
-    (p .0, (p .1 .0, (p .1 .1 .0, (p .1 .1 .1 .0, plan.gives-moves (c .before .before .before .before .before .before .args .n) (c .before .t .given .0 .0 ∷ []) (movesFor ns (c .before .before .before .before .before .before .args .frame) (c .before .before .before .before .before .before .args .j)) (plan.gives-same (c .before .before .before .before .before .before .args .n) _ _ (ap (λ (o : Option Num). then o (onTid ns (c .before .before .before .before .before .before .args .frame) (c .before .before .before .before .before .before .args .j))) e) (p .1 .1 .1 .1 .1))))))
+    (p .0, (p .1 .0, (p .1 .1 .0, (p .1 .1 .1 .0, (plan.gives-moves (c .before .before .before .before .before .before .args .n) (c .before .t .given .0 .0 ∷ []) (movesFor ns (c .before .before .before .before .before .before .args .frame) (c .before .before .before .before .before .before .args .j)) (plan.gives-same (c .before .before .before .before .before .before .args .n) _ _ (ap (λ (o : Option Num). then o (onTid ns (c .before .before .before .before .before .before .args .frame) (c .before .before .before .before .before .before .args .j))) e) (p .1 .1 .1 .1 .1 .0)), p .1 .1 .1 .1 .1 .1)))))
 
 -- src/lib.rt:81:1
 returns : tie.Need-returns

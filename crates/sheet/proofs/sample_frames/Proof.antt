@@ -16,24 +16,24 @@ items-from-requires : tie.Need-items-from-requires
 items-from-requires c κs =
     (c .before .before .before .pre .0, c .before .before .before .pre .1 .1 .0)
 
-slice-aggregate-count-frames : tie.Need-slice-aggregate-count-frames
-slice-aggregate-count-frames c =
+slice-aggregate-count-all : tie.Need-slice-aggregate-count-all
+slice-aggregate-count-all c =
     search needs
 
-slice-aggregate-count-frames-2 : tie.Need-slice-aggregate-count-frames-2
-slice-aggregate-count-frames-2 c =
+slice-aggregate-count-all-2 : tie.Need-slice-aggregate-count-all-2
+slice-aggregate-count-all-2 c =
     search needs
 
-slice-aggregate-count-frames-3 : tie.Need-slice-aggregate-count-frames-3
-slice-aggregate-count-frames-3 c =
+slice-aggregate-count-all-3 : tie.Need-slice-aggregate-count-all-3
+slice-aggregate-count-all-3 c =
     search needs
 
-slice-aggregate-count-frames-4 : tie.Need-slice-aggregate-count-frames-4
-slice-aggregate-count-frames-4 c =
+slice-aggregate-count-all-4 : tie.Need-slice-aggregate-count-all-4
+slice-aggregate-count-all-4 c =
     search needs
 
-count-frames-requires : tie.Need-count-frames-requires
-count-frames-requires c κs =
+count-all-requires : tie.Need-count-all-requires
+count-all-requires c κs =
     (c .before .before .before .before .before .before .before .before .pre .0, (c .before .before .before .before .before .before .before .before .pre .1 .0, (c .before .before .before .before .before .scene-of .ensures, (c .before .before .before .before .items-from .ensures, (c .before .before .before .before .before .before .before .before .pre .1 .1 .0, (c .before .before .before .before .before .before .before .before .pre .1 .1 .1 .0, (c .before .before .before .before .before .before .before .before .pre .1 .1 .1 .1, record { shades = length-replicate {A = ℕ} 131072 0; above = omega (arith, length-replicate {A = ℕ} 65664 0); below = omega (arith, length-replicate {A = ℕ} 65664 0); wide = omega (arith, length-replicate {A = ℕ} 65535 0) })))))))
 
 first-drawn-requires : tie.Need-first-drawn-requires
@@ -46,11 +46,11 @@ last-drawn-requires c κs =
 
 weighted-requires : tie.Need-weighted-requires
 weighted-requires c κs =
-    sampling.few-counts (c .before .before .before .before .before .before .before .before .before .before .before .before .before .before .before .before .args .bytes .now) (c .before .before .before .before .before .before .before .before .before .before .before .before .before .before .before .before .args .n) (c .before .before .before .before .before .before .before .before .before .before .before .before .before .before .before .before .args .a) (c .before .before .before .before .before .before .before .before .before .before .before .before .before .before .before .before .args .b) (c .before .before .before .before .before .before .before .before .before .before .before .before .before .before .before .before .pre .1 .0) (c .before .before .before .before .before .before .before .before .before .before .before .before .before .before .before .before .pre .1 .1 .0) (c .before .before .before .before .before .before .before .before .before .before .before .before .before .before .before .before .pre .1 .1 .1 .0) (c .before .before .before .before .before .before .before .before .before .before .before .before .before .before .before .before .pre .1 .1 .1 .1) _ (c .before .before .before .before .before .before .before .before .before .before .before .before .before .scene-of .ensures) _ (c .before .before .before .before .before .before .before .count-frames .ensures .0)
+    sampling.few-counts (c .before .before .before .before .before .before .before .before .before .before .before .before .before .before .before .before .args .bytes .now) (c .before .before .before .before .before .before .before .before .before .before .before .before .before .before .before .before .args .n) (c .before .before .before .before .before .before .before .before .before .before .before .before .before .before .before .before .args .a) (c .before .before .before .before .before .before .before .before .before .before .before .before .before .before .before .before .args .b) (c .before .before .before .before .before .before .before .before .before .before .before .before .before .before .before .before .pre .1 .0) (c .before .before .before .before .before .before .before .before .before .before .before .before .before .before .before .before .pre .1 .1 .0) (c .before .before .before .before .before .before .before .before .before .before .before .before .before .before .before .before .pre .1 .1 .1 .0) (c .before .before .before .before .before .before .before .before .before .before .before .before .before .before .before .before .pre .1 .1 .1 .1) _ (c .before .before .before .before .before .before .before .before .before .before .before .before .before .scene-of .ensures) _ (c .before .before .before .before .before .before .before .count-all .ensures .0)
 
 returns : tie.Need-returns
 returns c =
-    sampling.made (c .before .before .before .before .before .before .before .before .before .before .before .before .before .before .before .before .before .args .bytes .now) (c .before .before .before .before .before .before .before .before .before .before .before .before .before .before .before .before .before .args .n) (c .before .before .before .before .before .before .before .before .before .before .before .before .before .before .before .before .before .args .a) (c .before .before .before .before .before .before .before .before .before .before .before .before .before .before .before .before .before .args .b) (c .before .before .before .before .before .before .before .before .before .before .before .before .before .before .before .before .before .pre .1 .0) (c .before .before .before .before .before .before .before .before .before .before .before .before .before .before .before .before .before .pre .1 .1 .0) (c .before .before .before .before .before .before .before .before .before .before .before .before .before .before .before .before .before .pre .1 .1 .1 .0) (c .before .before .before .before .before .before .before .before .before .before .before .before .before .before .before .before .before .pre .1 .1 .1 .1) _ _ _ _ _ (c .before .before .before .before .before .before .before .before .count-frames .ensures .0) (c .before .before .before .before .before .before .before .before .count-frames .ensures .1) (c .before .before .first-drawn .ensures) (c .before .last-drawn .ensures) (c .weighted .ensures)
+    sampling.made (c .before .before .before .before .before .before .before .before .before .before .before .before .before .before .before .before .before .args .bytes .now) (c .before .before .before .before .before .before .before .before .before .before .before .before .before .before .before .before .before .args .n) (c .before .before .before .before .before .before .before .before .before .before .before .before .before .before .before .before .before .args .a) (c .before .before .before .before .before .before .before .before .before .before .before .before .before .before .before .before .before .args .b) (c .before .before .before .before .before .before .before .before .before .before .before .before .before .before .before .before .before .pre .1 .0) (c .before .before .before .before .before .before .before .before .before .before .before .before .before .before .before .before .before .pre .1 .1 .0) (c .before .before .before .before .before .before .before .before .before .before .before .before .before .before .before .before .before .pre .1 .1 .1 .0) (c .before .before .before .before .before .before .before .before .before .before .before .before .before .before .before .before .before .pre .1 .1 .1 .1) _ _ _ _ _ (c .before .before .before .before .before .before .before .before .count-all .ensures .0) (c .before .before .before .before .before .before .before .before .count-all .ensures .1) (c .before .before .first-drawn .ensures) (c .before .last-drawn .ensures) (c .weighted .ensures)
 
 pub sample-frames-spec : {M : Type 1} → statement M
 sample-frames-spec =
@@ -58,11 +58,11 @@ sample-frames-spec =
     (tie.spec
     scene-of-requires
     items-from-requires
-    slice-aggregate-count-frames
-    slice-aggregate-count-frames-2
-    slice-aggregate-count-frames-3
-    slice-aggregate-count-frames-4
-    count-frames-requires
+    slice-aggregate-count-all
+    slice-aggregate-count-all-2
+    slice-aggregate-count-all-3
+    slice-aggregate-count-all-4
+    count-all-requires
     first-drawn-requires
     last-drawn-requires
     weighted-requires

@@ -1,20 +1,17 @@
 use borrow.Author.Needs.{needs}
-use Rattle.steps.proofs.Laws as laws
 use Rattle.steps.proofs.shift_for.Statement.{statement}
 use Rattle.steps.proofs.shift_for.Tie as tie
 
-group-for-requires : tie.Need-group-for-requires
-group-for-requires c κs = search needs
+shared-naming-requires : tie.Need-shared-naming-requires
+shared-naming-requires c κs = search needs
 
-own-requires : tie.Need-own-requires
-own-requires c κs = search needs
-
-shift-from-requires : tie.Need-shift-from-requires
-shift-from-requires c κs = search needs
+shift-by-requires : tie.Need-shift-by-requires
+shift-by-requires c κs =
+    (c .before .before .before .pre .0, (c .before .before .before .pre .1 .0, (c .before .before .before .pre .1 .1 .0, (c .before .before .before .pre .1 .1 .1, record { is = c .shared-naming .ensures .0; below = c .shared-naming .ensures .1 }))))
 
 returns : tie.Need-returns
 returns c =
-    laws.shift-said _ _ _ (c .before .before .group-for .ensures .0) (c .before .own .ensures .0) (c .shift-from .ensures)
+    c .shift-by .ensures
 
 pub shift-for-spec : {M : Type 1} → statement M
-shift-for-spec = tie.close (tie.spec group-for-requires own-requires shift-from-requires returns)
+shift-for-spec = tie.close (tie.spec shared-naming-requires shift-by-requires returns)

@@ -1,0 +1,43 @@
+-- What the shared shift group names, written down for one mask item after the other.
+use mathlib.Core.Path.{_≡_, refl, sym, ap, _∙_, subst}
+use mathlib.Core.List.{List}
+use mathlib.Core.Logic.{_⊎_, inl, inr, ⊎-elim}
+use Prim.Native.Nat.{ℕ, _+_, _-_, _≤_, _<_}
+use native.Mathlib.Omega.{arith}
+use borrow.Author.Tests.{ne-eqb}
+use lib.ListN.{length, getD, set}
+use lib.Seq.{getD-set-same, getD-set-other}
+use Rattle.node.specs.Nodes.{Node}
+use Rattle.steps.specs.declared.Found.{Found}
+use Rattle.steps.specs.declared.Found.the-variants as found
+use Rattle.steps.specs.Said.{FoundBelow, IsShared}
+use Rattle.ranges.specs.Ranges.{Cleared, foundIn, Known}
+use Rattle.ranges.proofs.Tables.{same-or-not}
+
+pub found-fewer : (n m : ℕ) (r : Found) → n ≤ m → FoundBelow n r → FoundBelow m r
+found-fewer n m (found.At k) h b = omega arith
+found-fewer n m found.Absent h b = tt
+found-fewer n m found.Lacks h b = tt
+
+pub found-at : (k : ℕ) → foundIn (k + 2) ≡ found.At k
+found-at k =
+    let e : k + 2 - 2 ≡ k = omega arith in
+    rw (ne-eqb (k + 2) 0 (λ p. omega (arith, p)), ne-eqb (k + 2) 1 (λ p. omega (arith, p)), e)
+
+pub known-none : (ns : List Node) (keys answers : List ℕ) → Cleared 16 keys → Known ns keys answers
+known-none ns keys answers z = record { each = λ i j h e. absurd (omega (arith, z .each i h, e)) }
+
+pub known-more : (ns : List Node) (keys answers : List ℕ) (i at x : ℕ) (r : Found) → i < length keys → i < length answers
+    → Known ns keys answers → foundIn x ≡ r → IsShared ns at r → Known ns (set keys i (at + 1)) (set answers i x)
+known-more ns keys answers i at x r a b q e s = record { each = λ k j h t. ⊎-elim (here k j t) (there k j h t) (same-or-not k i) }
+  where
+    here : (k j : ℕ) → getD (set keys i (at + 1)) k 0 ≡ j + 1 → k ≡ i → IsShared ns j (foundIn (getD (set answers i x) k 0))
+    here k j t p =
+        let u : at + 1 ≡ j + 1 = sym (ap (λ (y : ℕ). getD (set keys i (at + 1)) y 0) p ∙ getD-set-same keys i (at + 1) 0 a) ∙ t in
+        let w : getD (set answers i x) k 0 ≡ x = ap (λ (y : ℕ). getD (set answers i x) y 0) p ∙ getD-set-same answers i x 0 b in
+        let g : at ≡ j = omega (arith, u) in
+        subst (λ (y : ℕ). IsShared ns y (foundIn (getD (set answers i x) k 0))) g (subst (IsShared ns at) (sym (ap foundIn w ∙ e)) s)
+
+    there : (k j : ℕ) → k < 16 → getD (set keys i (at + 1)) k 0 ≡ j + 1 → (k ≡ i → ⊥) → IsShared ns j (foundIn (getD (set answers i x) k 0))
+    there k j h t n =
+        subst (λ (y : ℕ). IsShared ns j (foundIn y)) (sym (getD-set-other answers i k x 0 n)) (q .each k j h (sym (getD-set-other keys i k (at + 1) 0 n) ∙ t))

@@ -1,0 +1,71 @@
+use mathlib.Core.Bool.{true}
+use Rattle.value.specs.declared.Num.the-variants as num
+use Rattle.node.specs.Nodes.{nodesOf}
+use Rattle.node.proofs.Laws as node-laws
+use Rattle.steps.specs.Steps.{rangeHas, rangeHolds}
+use Rattle.ranges.proofs.Items as items
+use borrow.Author.Needs.{needs}
+use Rattle.ranges.proofs.cover_item.Statement.{statement}
+use Rattle.ranges.proofs.cover_item.Tie as tie
+
+add-item : tie.Need-add-item
+add-item c = search needs
+
+cast-item : tie.Need-cast-item
+cast-item c = search needs
+
+find-item-requires : tie.Need-find-item-requires
+find-item-requires c κs = search needs
+
+enum-told : tie.Need-enum-told
+enum-told c = search needs
+
+cover-all-requires : tie.Need-cover-all-requires
+cover-all-requires c κs = search needs
+
+enum-known-i : tie.Need-enum-known-i
+enum-known-i c = search needs
+
+cover-range-requires : tie.Need-cover-range-requires
+cover-range-requires c κs =
+    (c .before .before .before .before .before .before .before .before .before .before .pre .0, (node-laws.within _ (c .before .before .before .i .given .1) (c .before .before .before .before .before .find-item .ensures .1), c .before .before .before .before .before .before .before .before .before .before .pre .1 .1))
+
+same-length : tie.Need-same-length
+same-length c = search needs
+
+same-length-2 : tie.Need-same-length-2
+same-length-2 c = search needs
+
+returns : tie.Need-returns
+unfolding rangeHolds
+returns c =
+    items.tried-by (λ f. true) (λ f. rangeHolds (nodesOf (c .before .before .before .before .before .before .before .before .before .before .before .before .before .before .args .bytes .now)) f (c .before .before .before .before .before .before .before .before .before .before .before .before .before .before .args .j)) _ _ _ _ (λ f. rw (node-laws.lacked (c .before .before .before .before .before .before .before .enum-told .given .1) (c .before .before .before .before .before .before .before .before .before .find-item .ensures .0))) (c .before .before .before .before .cover-all .ensures)
+
+same-length-3 : tie.Need-same-length-3
+same-length-3 c = search needs
+
+same-length-4 : tie.Need-same-length-4
+same-length-4 c = search needs
+
+returns-2 : tie.Need-returns-2
+unfolding rangeHolds
+returns-2 c =
+    items.tried-same (λ f. rangeHas (nodesOf (c .before .before .before .before .before .before .before .before .before .before .before .before .before .before .before .args .bytes .now)) f (num.Is (c .before .before .before .before .before .before .before .before .i .given .0 .0))) (λ f. rangeHolds (nodesOf (c .before .before .before .before .before .before .before .before .before .before .before .before .before .before .before .args .bytes .now)) f (c .before .before .before .before .before .before .before .before .before .before .before .before .before .before .before .args .j)) _ _ _ _ (λ f. rw (node-laws.had (c .before .before .before .before .before .before .before .before .i .given .1) (c .before .before .before .before .before .before .before .before .before .before .find-item .ensures .0))) (c .before .before .before .before .cover-range .ensures)
+
+pub cover-item-spec : {M : Type 1} → statement M
+cover-item-spec =
+    tie.close
+    (tie.spec
+    add-item
+    cast-item
+    find-item-requires
+    enum-told
+    cover-all-requires
+    enum-known-i
+    cover-range-requires
+    same-length
+    same-length-2
+    returns
+    same-length-3
+    same-length-4
+    returns-2)

@@ -1,0 +1,35 @@
+use native.Mathlib.Omega.{arith}
+use Rattle.ranges.proofs.Names as names
+use borrow.Author.Needs.{needs}
+use Rattle.ranges.proofs.name_all.Statement.{statement}
+use Rattle.ranges.proofs.name_all.Tie as tie
+
+mask-items-requires : tie.Need-mask-items-requires
+mask-items-requires c κs = search needs
+
+clear-requires : tie.Need-clear-requires
+clear-requires c κs = search needs
+
+name-items-requires : tie.Need-name-items-requires
+name-items-requires c κs =
+    (c .before .before .before .before .before .before .before .before .before .before .before .pre .0, (c .before .before .before .before .before .before .mask-items .ensures .inner, (omega (arith, c .before .before .before .keys .given, c .before .before .before .before .before .before .before .before .before .before .before .pre .1 .0), (c .before .before .before .before .before .before .before .before .before .before .before .pre .1 .1, names.known-none _ _ _ (c .before .before .before .before .clear .ensures)))))
+
+same-length : tie.Need-same-length
+same-length c = search needs
+
+same-length-2 : tie.Need-same-length-2
+same-length-2 c = search needs
+
+returns : tie.Need-returns
+returns c = search needs
+
+pub name-all-spec : {M : Type 1} → statement M
+name-all-spec =
+    tie.close
+    (tie.spec
+    mask-items-requires
+    clear-requires
+    name-items-requires
+    same-length
+    same-length-2
+    returns)

@@ -1,0 +1,49 @@
+use mathlib.Core.Path.{_∙_}
+use Rattle.ranges.proofs.Names as names
+use native.Mathlib.Omega.{arith}
+use mathlib.Core.Path.{_≡_, sym}
+use borrow.Author.Tests.{eq-eqb, ne-eqb}
+use Rattle.steps.proofs.Laws as steps-laws
+use borrow.Author.Needs.{needs}
+use Rattle.ranges.proofs.number_of.Statement.{statement}
+use Rattle.ranges.proofs.number_of.Tie as tie
+
+enum-told : tie.Need-enum-told
+enum-told c = search needs
+
+enum-told-2 : tie.Need-enum-told-2
+enum-told-2 c = search needs
+
+enum-known-r : tie.Need-enum-known-r
+enum-known-r c = search needs
+
+add-result : tie.Need-add-result
+add-result c =
+    omega (arith, steps-laws.found-within 134217728 (c .before .r .given .1) (c .before .before .before .pre))
+
+cast-result : tie.Need-cast-result
+cast-result c =
+    omega (arith, steps-laws.found-within 134217728 (c .before .r .given .1) (c .before .before .before .pre))
+
+returns : tie.Need-returns
+returns c = search needs
+
+returns-2 : tie.Need-returns-2
+returns-2 c = search needs
+
+returns-3 : tie.Need-returns-3
+returns-3 c =
+    names.found-at (c .before .r .given .0 .0) ∙ sym (c .before .r .given .1)
+
+pub number-of-spec : {M : Type 1} → statement M
+number-of-spec =
+    tie.close
+    (tie.spec
+    enum-told
+    enum-told-2
+    enum-known-r
+    add-result
+    cast-result
+    returns
+    returns-2
+    returns-3)
