@@ -52,7 +52,7 @@ partOf a = record { code = a .code; start = a .offset }
 
 -- The answer of `xa_canonical`: code, offset, row count, and the length of the canonical form.
 abbrev pub rewrittenOf : canonical.Rewritten → Rewritten
-rewrittenOf a = record { code = a .answer .code; offset = a .answer .offset; rows = a .answer .rows; length = a .length }
+rewrittenOf a = record { code = a .answer .code; offset = a .answer .offset; rows = a .answer .rows; length = a .size }
 
 -- ---- The sampling sheet
 

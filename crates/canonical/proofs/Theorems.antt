@@ -49,7 +49,7 @@ pub record SmallAnswer (a : CanonicalAnswer) : Type 0 where
   pub code : fieldsOf a .answer .code ≤ 21
   pub offset : fieldsOf a .answer .offset ≤ 1073741824
   pub rows : fieldsOf a .answer .rows ≤ 134217728
-  pub length : fieldsOf a .length ≤ 1073741824
+  pub size : fieldsOf a .size ≤ 1073741824
 
 pub canonical-small : (s rows target : List ℕ) → Bytes s → SmallAnswer (canonicalOf s rows target)
 unfolding canonicalOf
@@ -57,11 +57,11 @@ canonical-small s rows target bytes =
     go (answerOf (readingOf s) rows) (answer-small s rows) (form-small s bytes)
   where
     by-room : (n size : ℕ) → n ≤ 134217728 → size ≤ 1073741824 → (t : Bool) → SmallAnswer (cond t (canonical.Done n size) (canonical.NoTargetRoom size))
-    by-room n size h k true = record { code = omega arith; offset = omega arith; rows = h; length = k }
-    by-room n size h k false = record { code = omega arith; offset = omega arith; rows = omega arith; length = k }
+    by-room n size h k true = record { code = omega arith; offset = omega arith; rows = h; size = k }
+    by-room n size h k false = record { code = omega arith; offset = omega arith; rows = omega arith; size = k }
 
     go : (a : ReadAnswer) → Small a → length (writtenOf (nodesOf s)) ≤ 1073741824 → SmallAnswer (answerFor (writtenOf (nodesOf s)) target a)
     go (answer.Done n) h k = by-room n (length (writtenOf (nodesOf s))) h k (leb (length (writtenOf (nodesOf s))) (length target))
-    go (answer.Refused code offset) h k = record { code = omega (arith, h .1 .0); offset = h .1 .1; rows = omega arith; length = omega arith }
-    go answer.TooLarge h k = record { code = omega arith; offset = omega arith; rows = omega arith; length = omega arith }
-    go answer.NoRoom h k = record { code = omega arith; offset = omega arith; rows = omega arith; length = omega arith }
+    go (answer.Refused code offset) h k = record { code = omega (arith, h .1 .0); offset = h .1 .1; rows = omega arith; size = omega arith }
+    go answer.TooLarge h k = record { code = omega arith; offset = omega arith; rows = omega arith; size = omega arith }
+    go answer.NoRoom h k = record { code = omega arith; offset = omega arith; rows = omega arith; size = omega arith }

@@ -40,11 +40,11 @@ targetOf s rows target = targetBy (writtenOf (nodesOf s)) target (canonicalOf s 
 -- The papers' numbers of each case: those of an answer, and the length of the canonical form.
 pub record Rewritten : Type 0 where
   pub answer : Fields
-  pub length : ℕ
+  pub size : ℕ
 
 abbrev pub fieldsOf : CanonicalAnswer → Rewritten
-fieldsOf (canonical.Done n size) = record { answer = counted n; length = size }
-fieldsOf (canonical.NoTargetRoom size) = record { answer = codeAlone 21; length = size }
-fieldsOf (canonical.Refused code offset) = record { answer = placed code offset; length = 0 }
-fieldsOf canonical.TooLarge = record { answer = codeAlone 7; length = 0 }
-fieldsOf canonical.NoRoom = record { answer = codeAlone 8; length = 0 }
+fieldsOf (canonical.Done n size) = record { answer = counted n; size = size }
+fieldsOf (canonical.NoTargetRoom size) = record { answer = codeAlone 21; size = size }
+fieldsOf (canonical.Refused code offset) = record { answer = placed code offset; size = 0 }
+fieldsOf canonical.TooLarge = record { answer = codeAlone 7; size = 0 }
+fieldsOf canonical.NoRoom = record { answer = codeAlone 8; size = 0 }

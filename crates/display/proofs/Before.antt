@@ -126,9 +126,9 @@ module _ (ns : List Node) where
 -- ---- Steps
 
 -- A mask of whole moves, in quarters.
-abbrev now : Mask → Mask
-now native = native
-now (masked ks m) = masked ks (movesInQuarters m)
+abbrev inQuarters : Mask → Mask
+inQuarters native = native
+inQuarters (masked ks m) = masked ks (movesInQuarters m)
 
 module _ (ns : List Node) (f j : ℕ) where
   moves-now : (m : Moves) → movesBefore ns f j ≡ some m → movesFor ns f j ≡ some (movesInQuarters m)
@@ -140,24 +140,24 @@ module _ (ns : List Node) (f j : ℕ) where
       let d : wholeMovesOf (a .0) ≡ m = cc (b .1) in
       rw (a .1 .0, whole-moves (a .0) (c .0) (c .1), whole-numbers (wholeMovesOf (a .0)) (c .0) (c .1), d)
 
-  masked-now : (ks : List ℕ) (m : Mask) → then (movesBefore ns f j) (λ x. some (masked ks x)) ≡ some m → then (movesFor ns f j) (λ x. some (masked ks x)) ≡ some (now m)
+  masked-now : (ks : List ℕ) (m : Mask) → then (movesBefore ns f j) (λ x. some (masked ks x)) ≡ some m → then (movesFor ns f j) (λ x. some (masked ks x)) ≡ some (inQuarters m)
   masked-now ks m e =
       let a = then-some (movesBefore ns f j) _ e in
       let d : masked ks (a .0) ≡ m = cc (a .1 .1) in
-      rw (moves-now (a .0) (a .1 .0)) (ap some (ap now d))
+      rw (moves-now (a .0) (a .1 .0)) (ap some (ap inQuarters d))
 
-  mask-now : (m : Mask) → maskByBefore ns f j ≡ some m → maskBy ns f j ≡ some (now m)
+  mask-now : (m : Mask) → maskByBefore ns f j ≡ some m → maskBy ns f j ≡ some (inQuarters m)
   unfolding maskByBefore maskBy
   mask-now m = go (operationIs ns (ascii "NONE") j) (operationIs ns (ascii "AVG_SUB") j) (operationIs ns (ascii "TID") j)
     where
-      tid : (o : Num) → onTidBefore ns f j o ≡ some m → onTid ns f j o ≡ some (now m)
-      tid Lacks e = let d : native ≡ m = cc in ap some (ap now d)
+      tid : (o : Num) → onTidBefore ns f j o ≡ some m → onTid ns f j o ≡ some (inQuarters m)
+      tid Lacks e = let d : native ≡ m = cc in ap some (ap inQuarters d)
       tid (Is k) e = masked-now (k ∷ []) m e
 
       go : (a b c : Bool)
           → cond a (some native) (cond b (then (averageFrames ns j) (λ ks. then (movesBefore ns f j) (λ x. some (masked ks x)))) (cond c (then (tidFrame ns f j) (onTidBefore ns f j)) none)) ≡ some m
-          → cond a (some native) (cond b (then (averageFrames ns j) (λ ks. then (movesFor ns f j) (λ x. some (masked ks x)))) (cond c (then (tidFrame ns f j) (onTid ns f j)) none)) ≡ some (now m)
-      go true b c e = let d : native ≡ m = cc in ap some (ap now d)
+          → cond a (some native) (cond b (then (averageFrames ns j) (λ ks. then (movesFor ns f j) (λ x. some (masked ks x)))) (cond c (then (tidFrame ns f j) (onTid ns f j)) none)) ≡ some (inQuarters m)
+      go true b c e = let d : native ≡ m = cc in ap some (ap inQuarters d)
       go false true c e =
           let a = then-some (averageFrames ns j) _ e in
           rw (a .1 .0) (masked-now (a .0) m (a .1 .1))
@@ -166,14 +166,14 @@ module _ (ns : List Node) (f j : ℕ) where
           rw (a .1 .0) (tid (a .0) (a .1 .1))
       go false false false e = absurd (never e)
 
-mask-for-now : (ns : List Node) (f : ℕ) (m : Mask) → maskForBefore ns f ≡ some m → maskFor ns f ≡ some (now m)
+mask-for-now : (ns : List Node) (f : ℕ) (m : Mask) → maskForBefore ns f ≡ some m → maskFor ns f ≡ some (inQuarters m)
 unfolding maskForBefore maskFor
 mask-for-now ns f m e =
     let a = then-some (applyingTo ns f) _ e in
     rw (a .1 .0) (on (a .0) (a .1 .1))
   where
-    on : (x : Applying) → maskOnBefore ns f x ≡ some m → maskOn ns f x ≡ some (now m)
-    on Nothing e = let d : native ≡ m = cc in ap some (ap now d)
+    on : (x : Applying) → maskOnBefore ns f x ≡ some m → maskOn ns f x ≡ some (inQuarters m)
+    on Nothing e = let d : native ≡ m = cc in ap some (ap inQuarters d)
     on (Item j) e = mask-now ns f j m e
 
 collect-same : (f h : ℕ → Num) (n : ℕ) → ((i : ℕ) → i < n → f i ≡ h i) → collect f n ≡ collect h n
@@ -186,7 +186,7 @@ cell-same : (g : Geometry) (v : List ℕ) (f : ℕ) (ks : List ℕ) (m : Moves) 
 unfolding maskedCellBefore maskedCell
 cell-same g v f ks m w inverse i inside = rw (lt-ltb (sourceOf g m i) (samplesOf g) (source-below g m i inside), are-inside g (movesInQuarters m) i inside, agree g v ks m i inside)
 
-picture-same : (g : Geometry) (v : List ℕ) (f : ℕ) (w : Window) (inverse : Bool) (m : Mask) → pictureBefore g v f w inverse m ≡ pictureBy g v f w inverse (now m)
+picture-same : (g : Geometry) (v : List ℕ) (f : ℕ) (w : Window) (inverse : Bool) (m : Mask) → pictureBefore g v f w inverse m ≡ pictureBy g v f w inverse (inQuarters m)
 unfolding pictureBefore pictureBy
 picture-same g v f w inverse native = refl
 picture-same g v f w inverse (masked ks m) = rw (collect-same (maskedCellBefore g v f ks m w inverse) (maskedCell g v f ks (movesInQuarters m) w inverse) (samplesOf g) (cell-same g v f ks m w inverse))
@@ -203,7 +203,7 @@ module _ (ns : List Node) (f : ℕ) (g : Geometry) (v : List ℕ) (w : Window) (
   to-before m e = rw (isG, isV, frame, e, isW, isI)
 
   same-steps : (m : Mask) → maskForBefore ns f ≡ some m → stepsBefore ns f ≡ stepsOf ns f
-  same-steps m e = to-before m e ∙ picture-same g v f w inverse m ∙ sym (to-picture (now m) (mask-for-now ns f m e))
+  same-steps m e = to-before m e ∙ picture-same g v f w inverse m ∙ sym (to-picture (inQuarters m) (mask-for-now ns f m e))
 
 -- Where the steps of whole pixels give a picture, for any data set, those of quarters give the same.
 pub same-pictures : SamePictures
@@ -334,6 +334,6 @@ keeps-pictures s b ok =
           record {
             p = d .p;
             before = same-steps ns f (o .g) (o .v) (w .w) (o .inverse) (o .geometry) (o .pixels) (o .whole f low h) (w .window) (o .photometric) (k .0) (k .1) ∙ d .is;
-            now = d .is;
+            after = d .is;
           };
     }

@@ -133,7 +133,7 @@ stepsBefore ns f =
 pub record DrawnAlike (ns : List Node) (f : ℕ) : Type 0 where
   pub p : Picture
   pub before : stepsBefore ns f ≡ some p
-  pub now : stepsOf ns f ≡ some p
+  pub after : stepsOf ns f ≡ some p
 
 pub record Kept (s : List ℕ) : Type 0 where
   pub accepted : findingOf (nodesOf s) ≡ Accepted

@@ -14,7 +14,7 @@ use Rattle.value.specs.declared.Num.the-variants as num
 use Rattle.value.specs.declared.Signed.{Signed}
 use Rattle.value.specs.declared.Signed.the-variants as signed
 use Rattle.value.specs.Text.{trimmed}
-use Rattle.value.specs.Number as now
+use Rattle.value.specs.Number as current
 use Rattle.value.specs.Number.{Digits, isDigit, digitsOf, plus, minus, signedBy, runOf, within, exactOf, endOf, isNumber}
 use Rattle.value.proofs.Runs.{digits-size, digits-below}
 use Rattle.value.proofs.Powers.{within-is, exact-up}
@@ -70,7 +70,7 @@ counted (suc limit) n k (c ∷ s) = go (isDigit c) (counted limit (10 * n + (c -
 -- ---- Sizes
 
 pub record Reads (s : List ℕ) (n : ℕ) : Type 0 where
-  pub is : now.sizeOf s ≡ num.Is (1000 * n)
+  pub is : current.sizeOf s ≡ num.Is (1000 * n)
   pub short : length s ≤ 10
 
 lacks : (n : ℕ) → num.Lacks ≡ num.Is n → ⊥
@@ -110,11 +110,11 @@ point-size whole s h =
 -- Behind a point.
 point-reads : (before whole : ℕ) (s : List ℕ) (n : ℕ) → whole < 1000000
     → pointOn before (digitsOf decimals whole 0 s) (digitsOf decimals whole 0 s .rest) ≡ num.Is n
-    → (now.pointBy before (runOf whole s) ≡ num.Is (1000 * n)) × (length s ≤ 3)
+    → (current.pointBy before (runOf whole s) ≡ num.Is (1000 * n)) × (length s ≤ 3)
 point-reads before whole s n h e = go (digitsOf 3 whole 0 s .rest) refl e
   where
     go : (rest : List ℕ) → digitsOf 3 whole 0 s .rest ≡ rest → pointOn before (digitsOf decimals whole 0 s) rest ≡ num.Is n
-        → (now.pointBy before (runOf whole s) ≡ num.Is (1000 * n)) × (length s ≤ 3)
+        → (current.pointBy before (runOf whole s) ≡ num.Is (1000 * n)) × (length s ≤ 3)
     go (c ∷ t) r e = absurd (lacks n e)
     go [] r e =
         let x = digitsOf 3 whole 0 s in
@@ -122,7 +122,7 @@ point-reads before whole s n h e = go (digitsOf 3 whole 0 s .rest) refl e
         let p = chosen (before + x .count) (x .number * 10 ^ (3 - x .count)) n e in
         let same : runOf whole s ≡ x = same-digits 3 (length s) whole 0 s (ap stops r) (omega arith) in
         let l = ap (λ (y : List ℕ). length y) r in (
-          ap (now.pointBy before) same
+          ap (current.pointBy before) same
               ∙ ap (endOf (before + x .count) (x .number) (x .count)) r
               ∙ end-is (before + x .count) (x .number) (x .count) (p .0) (omega (arith, k .few)) (point-size whole s h)
               ∙ ap (λ (y : ℕ). num.Is (1000 * y)) (p .1),
@@ -130,7 +130,7 @@ point-reads before whole s n h e = go (digitsOf 3 whole 0 s .rest) refl e
         )
 
 pub reads : (s : List ℕ) (n : ℕ) → sizeOf s ≡ num.Is n → Reads s n
-unfolding sizeOf now.sizeOf
+unfolding sizeOf current.sizeOf
 reads s n e = go (digitsOf 6 0 0 s .rest) refl e
   where
     go : (rest : List ℕ) → digitsOf 6 0 0 s .rest ≡ rest → fractionOn (digitsOf 6 0 0 s) rest ≡ num.Is n → Reads s n
@@ -143,8 +143,8 @@ reads s n e = go (digitsOf 6 0 0 s .rest) refl e
         let b : d .number < 1000000 = digits-below 6 0 s in
         record {
           is =
-              ap now.fractionBy same
-              ∙ ap (now.fractionOn d) r
+              ap current.fractionBy same
+              ∙ ap (current.fractionOn d) r
               ∙ end-is (d .count) (d .number) 0 (p .0) (omega arith) (omega arith)
               ∙ ap (λ (y : ℕ). num.Is (1000 * y)) (p .1);
           short = omega (arith, k .all, k .few, l);
@@ -164,8 +164,8 @@ reads s n e = go (digitsOf 6 0 0 s .rest) refl e
             let p = point-reads (d .count) (d .number) t n (digits-below 6 0 s) e in
             record {
               is =
-                  ap now.fractionBy same
-                  ∙ ap (now.fractionOn d) r
+                  ap current.fractionBy same
+                  ∙ ap (current.fractionOn d) r
                   ∙ rw q (p .0);
               short = omega (arith, k .all, k .few, l, p .1);
             }
@@ -173,14 +173,14 @@ reads s n e = go (digitsOf 6 0 0 s .rest) refl e
 -- ---- With a sign, and without outer spaces
 
 record SignedReads (s : List ℕ) (old : Signed) : Type 0 where
-  pub is : signedBy now.sizeOf s ≡ scaled old
+  pub is : signedBy current.sizeOf s ≡ scaled old
   pub short : length s ≤ 11
 
-plus-reads : (s : List ℕ) (o : Num) → sizeOf s ≡ o → isNumber (plus o) ≡ true → (plus (now.sizeOf s) ≡ scaled (plus o)) × (length s ≤ 10)
+plus-reads : (s : List ℕ) (o : Num) → sizeOf s ≡ o → isNumber (plus o) ≡ true → (plus (current.sizeOf s) ≡ scaled (plus o)) × (length s ≤ 10)
 plus-reads s (num.Is n) q e = let r = reads s n q in (ap plus (r .is), r .short)
 plus-reads s num.Lacks q e = absurd (differ e)
 
-minus-reads : (s : List ℕ) (o : Num) → sizeOf s ≡ o → isNumber (minus o) ≡ true → (minus (now.sizeOf s) ≡ scaled (minus o)) × (length s ≤ 10)
+minus-reads : (s : List ℕ) (o : Num) → sizeOf s ≡ o → isNumber (minus o) ≡ true → (minus (current.sizeOf s) ≡ scaled (minus o)) × (length s ≤ 10)
 minus-reads s (num.Is n) q e = let r = reads s n q in (ap minus (r .is), r .short)
 minus-reads s num.Lacks q e = absurd (differ e)
 
@@ -195,8 +195,8 @@ signed-reads (c ∷ s) e = go (eqb c 0x2B) (eqb c 0x2D) refl refl e
     go false true p q e = let r = minus-reads s (sizeOf s) refl e in record { is = rw (p, q) (r .0); short = omega (arith, r .1) }
     go false false p q e = let r = plus-reads (c ∷ s) (sizeOf (c ∷ s)) refl e in record { is = rw (p, q) (r .0); short = omega (arith, r .1) }
 
-pub numbers : (v : List ℕ) → isNumber (decimalOf v) ≡ true → now.decimalOf v ≡ scaled (decimalOf v)
-unfolding decimalOf now.decimalOf
+pub numbers : (v : List ℕ) → isNumber (decimalOf v) ≡ true → current.decimalOf v ≡ scaled (decimalOf v)
+unfolding decimalOf current.decimalOf
 numbers v e =
     let r = signed-reads (trimmed v) e in
     rw (le-leb (length (trimmed v)) 16 (omega (arith, r .short))) (r .is)

@@ -15,7 +15,7 @@ use Rattle.value.specs.declared.Signed.the-variants as signed
 use Rattle.value.specs.declared.Function.{Function}
 use Rattle.value.specs.Text.{valuesOf, valueOf}
 use Rattle.value.specs.Words.{isFunction}
-use Rattle.value.specs.Number as now
+use Rattle.value.specs.Number as current
 use Rattle.value.specs.Number.{isNumber}
 use Rattle.verdict.proofs.Tests.{and-both}
 use Rattle.shift.specs.declared.Moves.{Moves}

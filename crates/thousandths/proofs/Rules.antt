@@ -15,7 +15,7 @@ use Rattle.value.specs.declared.Function.{Function}
 use Rattle.value.specs.declared.Function.the-variants as function
 use Rattle.value.specs.Text.{valuesOf}
 use Rattle.value.specs.Words.{isFunction}
-use Rattle.value.specs.Number as now
+use Rattle.value.specs.Number as current
 use Rattle.value.specs.Number.{isNumber, all}
 use Rattle.verdict.specs.Verdict.{lastRule}
 use Rattle.verdict.proofs.Tests.{false-is-true, and-both}
@@ -64,26 +64,26 @@ width-number least (signed.Plus n) e = refl
 width-number least (signed.Minus n) e = absurd (false-is-true e)
 width-number least signed.Lacks e = absurd (false-is-true e)
 
-least-scaled : (f : Function) → now.leastWidth f ≤ 1000 * leastWidth f
+least-scaled : (f : Function) → current.leastWidth f ≤ 1000 * leastWidth f
 least-scaled function.Linear = omega arith
 least-scaled function.Exact = omega arith
 least-scaled function.Lacks = omega arith
 
-width-scaled : (f : Function) (s : Signed) → isWidth (leastWidth f) s ≡ true → now.isWidth (now.leastWidth f) (scaled s) ≡ true
-width-scaled f (signed.Plus n) e = le-leb (now.leastWidth f) (1000 * n) (omega (arith, least-scaled f, leb-true (leastWidth f) n e))
+width-scaled : (f : Function) (s : Signed) → isWidth (leastWidth f) s ≡ true → current.isWidth (current.leastWidth f) (scaled s) ≡ true
+width-scaled f (signed.Plus n) e = le-leb (current.leastWidth f) (1000 * n) (omega (arith, least-scaled f, leb-true (leastWidth f) n e))
 width-scaled f (signed.Minus n) e = e
 width-scaled f signed.Lacks e = e
 
-number-now : (v : List ℕ) → isNumber (decimalOf v) ≡ true → isNumber (now.decimalOf v) ≡ true
+number-now : (v : List ℕ) → isNumber (decimalOf v) ≡ true → isNumber (current.decimalOf v) ≡ true
 number-now v e = ap isNumber (numbers v e) ∙ number-scaled (decimalOf v) e
 
-width-now : (f : Function) (v : List ℕ) → isWidth (leastWidth f) (decimalOf v) ≡ true → now.isWidth (now.leastWidth f) (now.decimalOf v) ≡ true
-width-now f v e = ap (now.isWidth (now.leastWidth f)) (numbers v (width-number (leastWidth f) (decimalOf v) e)) ∙ width-scaled f (decimalOf v) e
+width-now : (f : Function) (v : List ℕ) → isWidth (leastWidth f) (decimalOf v) ≡ true → current.isWidth (current.leastWidth f) (current.decimalOf v) ≡ true
+width-now f v e = ap (current.isWidth (current.leastWidth f)) (numbers v (width-number (leastWidth f) (decimalOf v) e)) ∙ width-scaled f (decimalOf v) e
 
 -- ---- Rule 30
 
 window-now : (f : Function) (c w : List ℕ) → isWindow f c w ≡ true → rules.isWindow f c w ≡ true
-unfolding isWindow rules.isWindow allDecimals allWidths now.allDecimals now.allWidths
+unfolding isWindow rules.isWindow allDecimals allWidths current.allDecimals current.allWidths
 window-now f c w e =
     let k = and-both (isFunction f) (eqb (length (valuesOf c)) (length (valuesOf w)) && (allDecimals c && allWidths (leastWidth f) w)) e in
     let a = and-both (eqb (length (valuesOf c)) (length (valuesOf w))) (allDecimals c && allWidths (leastWidth f) w) (k .1) in
@@ -91,8 +91,8 @@ window-now f c w e =
     rw (
       k .0,
       a .0,
-      all-more (λ d. isNumber (decimalOf d)) (λ d. isNumber (now.decimalOf d)) number-now (valuesOf c) (b .0),
-      all-more (λ d. isWidth (leastWidth f) (decimalOf d)) (λ d. now.isWidth (now.leastWidth f) (now.decimalOf d)) (width-now f) (valuesOf w) (b .1),
+      all-more (λ d. isNumber (decimalOf d)) (λ d. isNumber (current.decimalOf d)) number-now (valuesOf c) (b .0),
+      all-more (λ d. isWidth (leastWidth f) (decimalOf d)) (λ d. current.isWidth (current.leastWidth f) (current.decimalOf d)) (width-now f) (valuesOf w) (b .1),
     )
 
 module _ (ns : List Node) where

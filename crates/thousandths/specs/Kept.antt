@@ -14,7 +14,7 @@ use mathlib.Core.List.{List}
 use mathlib.Core.Option.{some}
 use Prim.Native.Nat.{ℕ, _+_, _≤_, _<_}
 use Rattle.dataset.specs.Reading.{Row, readingOf, read}
-use Rattle.value.specs.Number as now
+use Rattle.value.specs.Number as current
 use Rattle.value.specs.Number.{isNumber}
 use Rattle.verdict.specs.Verdict.{lastRule}
 use Rattle.node.specs.Nodes.{Node, nodesOf}
@@ -44,7 +44,7 @@ pub record KeepsPicture (ns : List Node) (f : ℕ) : Type 0 where
   pub is : steps.stepsOf ns f ≡ some p
 
 pub record Kept : Type 0 where
-  pub numbers : (v : List ℕ) → isNumber (decimalOf v) ≡ true → now.decimalOf v ≡ scaled (decimalOf v)
+  pub numbers : (v : List ℕ) → isNumber (decimalOf v) ≡ true → current.decimalOf v ≡ scaled (decimalOf v)
   pub accepted : (s : List ℕ) → WasAccepted s → IsAccepted s
   pub pictures : (s : List ℕ) → Bytes s → WasAccepted s → (f : ℕ) → IsFrame s f → KeepsPicture (nodesOf s) f
   pub drawn : (ns : List Node) (f : ℕ) (p : Picture) → stepsOf ns f ≡ some p → steps.stepsOf ns f ≡ some p

@@ -14,11 +14,11 @@ use Rattle.element.specs.Tags.{DS}
 use Rattle.element.specs.Elements.{valueAt, theItem, functionIn}
 use Rattle.element.specs.Frames.{groupOf}
 use Rattle.rules.specs.Frame.{atFrame}
-use Rattle.rules.specs.All as now
+use Rattle.rules.specs.All as current
 use Rattle.thousandths.specs.Number.{allDecimals, leastWidth, allWidths}
 
 -- Frame VOI LUT (0028,9132), if present, one item; has Window Center (0028,1050) and Width (0028,1051) DS, equally many,
--- each of the old form; VOI LUT Function (0028,1056) as now; widths at least 1 with LINEAR, above 0 with LINEAR_EXACT.
+-- each of the old form; VOI LUT Function (0028,1056) as it is; widths at least 1 with LINEAR, above 0 with LINEAR_EXACT.
 unfoldable pub isWindow : Function → List ℕ → List ℕ → Bool
 isWindow f centers widths =
     isFunction f && (eqb (length (valuesOf centers)) (length (valuesOf widths)) && (allDecimals centers && allWidths (leastWidth f) widths))
@@ -38,4 +38,4 @@ rule30 ns f = atFrame ns f (item30 ns)
 
 -- Whether a rule holds at a frame.
 unfoldable pub ruleAt : List Node → ℕ → ℕ → Bool
-ruleAt ns rule f = cond (eqb rule 30) (rule30 ns f) (now.ruleAt ns rule f)
+ruleAt ns rule f = cond (eqb rule 30) (rule30 ns f) (current.ruleAt ns rule f)

@@ -28,14 +28,14 @@ cast-t16 c =
 
 cast-t17 : tie.Need-cast-t17
 cast-t17 c =
-    record { fits = omega (arith, canonical-narrow _ _ _ (c .before .before .before .before .before .before .before .before .before .before .byte-bounds .ensures) (c .before .before .before .before .before .before .before .write-canonical .ensures .0 .same) (c .before .n .given .1) .length) }
+    record { fits = omega (arith, canonical-narrow _ _ _ (c .before .before .before .before .before .before .before .before .before .before .byte-bounds .ensures) (c .before .before .before .before .before .before .before .write-canonical .ensures .0 .same) (c .before .n .given .1) .size) }
 
 enum-known-size : tie.Need-enum-known-size
 enum-known-size c = search needs
 
 cast-t18 : tie.Need-cast-t18
 cast-t18 c =
-    record { fits = omega (arith, canonical-narrow _ _ _ (c .before .before .before .before .before .before .before .before .before .before .byte-bounds .ensures) (c .before .before .before .before .before .before .before .write-canonical .ensures .0 .same) (c .before .size .given .1) .length) }
+    record { fits = omega (arith, canonical-narrow _ _ _ (c .before .before .before .before .before .before .before .before .before .before .byte-bounds .ensures) (c .before .before .before .before .before .before .before .write-canonical .ensures .0 .same) (c .before .size .given .1) .size) }
 
 enum-known-code : tie.Need-enum-known-code
 enum-known-code c = search needs
