@@ -23,6 +23,10 @@ use Rattle.cabi.specs.declared.comparing.Compared.{Compared}
 use Rattle.cabi.specs.declared.rewritten.Rewritten.{Rewritten}
 use Rattle.cabi.specs.declared.slips.Slip.{Slip}
 
+-- The version of the calls for hosts: one more each time that a host which was made for the last one has to be made anew.
+abbrev pub version : ℕ
+version = 1
+
 -- The fields of an answer as the struct of every call. Fields that a code does not name are 0.
 abbrev pub hosted : Fields → Answer
 hosted a = record {

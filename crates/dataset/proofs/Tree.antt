@@ -38,7 +38,7 @@ Named items least tag vr = (tag ≡ itemTag) × (vr ≡ 0)
 
 abbrev Moves : Kind → ℕ → Cursor → Head → Type 0
 Moves kind least c (head.Header tag vr v) = (c .at + 8 ≤ v .at) × ((v .at ≤ v .end) × ((v .end ≤ c .end) × Named kind least tag vr))
-Moves kind least c (head.End next) = (c .at ≤ next) × (next ≤ c .end)
+Moves kind least c (head.End tag vr next) = (c .at ≤ next .at) × (next .at ≤ c .end)
 Moves kind least c (head.Refused code) = (1 ≤ code) × (code ≤ 6)
 
 module _ (kind : Kind) (least : ℕ) (c : Cursor) where
@@ -228,8 +228,8 @@ module _ (size : ℕ) (kind : Kind) (depth first : ℕ) (header : ℕ → ℕ �
           (λ tag vr v. onRun (inside (first + length before + 1) vr v) (λ stop next below.
           level header inside depth first turns next (tag + 1) (before ++ (row tag vr depth (v .at) (stop - v .at) (length below) first ∷ below)))))
       on-head k (head.Refused code) e m = (m .0, (m .1, (omega arith, h)))
-      on-head k (head.End next) e m =
-          record { rest = []; is = sym (append-nil before); start = omega arith; close = m .0; high = m .1; few = omega arith; forest = empty }
+      on-head k (head.End tag vr next) e m =
+          record { rest = []; is = sym (append-nil before); start = omega arith; close = m .0; high = m .1; few = omega (arith, m .0); forest = empty }
       on-head k (head.Header tag vr v) e m =
           on-run k tag vr v (m .0) (m .1 .1 .0) (m .1 .1 .1) (leveled at least tag vr v e) (inside (first + length before + 1) vr v)
           (subst (λ (n : ℕ). Inside size kind depth n vr v (inside (first + length before + 1) vr v)) (omega arith)
@@ -262,7 +262,7 @@ level-long header inside depth first (suc turns) at least rows n h =
     on-head : Next → (x : Head) → Long n (onHead x (λ code. refused code at) (λ next. done at next rows) (λ tag vr v. onRun (inside (first + length rows + 1) vr v) (λ stop next below.
         level header inside depth first turns next (tag + 1) (rows ++ (row tag vr depth (v .at) (stop - v .at) (length below) first ∷ below)))))
     on-head k (head.Refused code) = tt
-    on-head k (head.End next) = h
+    on-head k (head.End tag vr next) = h
     on-head k (head.Header tag vr v) = on-run k tag vr v (inside (first + length rows + 1) vr v)
 
 long-bare : (at : ℕ) (o : Run) → Long 1 o → Bare at o
@@ -284,7 +284,7 @@ level-bare header inside depth first (suc turns) at least = on-head (header at l
     on-head : (x : Head) → Bare at (onHead x (λ code. refused code at) (λ next. done at next []) (λ tag vr v. onRun (inside (first + 0 + 1) vr v) (λ stop next below.
         level header inside depth first turns next (tag + 1) (row tag vr depth (v .at) (stop - v .at) (length below) first ∷ below))))
     on-head (head.Refused code) = tt
-    on-head (head.End next) = λ _. refl
+    on-head (head.End tag vr next) = λ _. refl
     on-head (head.Header tag vr v) = on-run tag vr v (inside (first + 0 + 1) vr v)
 
 -- ---- The whole

@@ -1,0 +1,26 @@
+use mathlib.Core.Path.{ap, sym, subst, _∙_}
+use Rattle.dataset.specs.declared.ReadAnswer.{ReadAnswer}
+use Rattle.dataset.specs.Answer.{fieldsOf}
+use Rattle.cabi.specs.Host.{hosted, Fits32}
+use Rattle.cabi.proofs.Numbers.{rows-fit}
+use borrow.Author.Needs.{needs}
+use Rattle.cabi.proofs.read.xa_count.Statement.{statement}
+use Rattle.cabi.proofs.read.xa_count.Tie as tie
+use Rattle.cabi.proofs.read.xa_count.Reads as reads
+use Rattle.cabi.proofs.read.xa_count.Lts as lts
+use Rattle.cabi.proofs.read.read_numbers.Reads as read-numbers-reads
+use Rattle.dataset.proofs.count.Reads as count-reads
+
+count-requires : tie.Need-count-requires
+count-requires c κs = search needs
+
+read-numbers-requires : tie.Need-read-numbers-requires
+read-numbers-requires c κs =
+    subst (λ (a : ReadAnswer). Fits32 (fieldsOf a)) (sym (c .count .ensures .same)) (rows-fit (c .before .before .args .bytes .now))
+
+returns : tie.Need-returns
+returns c =
+    c .read-numbers .ensures ∙ ap (λ (a : ReadAnswer). hosted (fieldsOf a)) (c .before .count .ensures .same)
+
+pub xa-count-spec : {M : Type 1} → statement M
+xa-count-spec = tie.close (tie.spec count-requires read-numbers-requires returns)
