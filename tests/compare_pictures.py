@@ -9,7 +9,7 @@ import tempfile
 import enhanced_xa as xa
 import outside
 import reading_cases
-from compare_show import base_shape, every_value
+from compare_show import EXACT_WINDOWS, WINDOWS, base_shape, every_value
 from comparison import DifferenceFound, exact_numbers, run_as_program
 from mutations import CHANGES
 from reference import comparing, drawing, reading
@@ -155,6 +155,54 @@ def compare_outside(comparison, rng, required):
     return compared, exact
 
 
+def windowed_object(rng, stored, windows):
+    """A data set of three frames of 16 × 16 with a window each (centre, width, function): native, averaged and TID, moved by quarters."""
+    model = xa.build(rng, base_shape(rng, bits_allocated=8 if stored == 8 else 16, bits_stored=stored, frames=3, rows=16, columns=16,
+                                     pixel_vr="OW"))
+    photometric = rng.choice(("MONOCHROME1", "MONOCHROME2"))
+    model[xa.PHOTOMETRIC] = xa.text("CS", photometric)  # pydicom keeps spaces in front of a word
+    model[xa.LUT_SHAPE] = xa.text("CS", "INVERSE" if photometric == "MONOCHROME1" else "IDENTITY")
+    size = 1 if stored == 8 else 2
+    noise = [b"".join(rng.randrange(2 ** stored).to_bytes(size, "little") for _ in range(256)) for _ in range(2)]
+    model[xa.PIXEL_DATA] = ("OW", every_value(stored) + noise[0] + noise[1])
+    shifts = [xa.fl(*(rng.randrange(-20, 21) / rng.choice((1, 4)) for _ in range(2))) for _ in range(2)]
+    model[xa.MASKS] = xa.sq(
+        {xa.OPERATION: xa.text("CS", "AVG_SUB"), xa.RANGE: xa.us(2, 2), xa.MASK_FRAMES: xa.us(1, 3, 3), xa.SHIFT: shifts[0]},
+        {xa.OPERATION: xa.text("CS", "TID"), xa.RANGE: xa.us(3, 3), xa.TID_OFFSET: xa.ss(rng.choice((1, 2))), xa.SHIFT: shifts[1]})
+    for item, (center, width, function) in zip(model[xa.PER_FRAME][1], windows):
+        voi = {xa.CENTER: xa.text("DS", center), xa.WIDTH: xa.text("DS", width)}
+        if function:
+            voi[xa.FUNCTION] = xa.text("CS", function)
+        item[xa.VOI] = xa.sq(voi)
+    return xa.encode_at_random(rng, model)
+
+
+def compare_pydicom(comparison, rng, count, required):
+    """Native and subtracted frames as pydicom windows them in floating point: all pass at 1. Every window of the list, up to `count` of them,
+    at 8, 12 and 16 bits, native, averaged and TID. Answers how many frames and cells were compared, and how many cells are off at 0."""
+    if not outside.has_pydicom_windows():
+        if required:
+            raise DifferenceFound("no outside pictures: python3-pydicom or python3-numpy is not installed")
+        return 0, 0, 0
+    windows = [(*window, rng.choice(("", "LINEAR"))) for window in WINDOWS] + [(*window, "LINEAR_EXACT") for window in WINDOWS + EXACT_WINDOWS]
+    wide = {stored: [(str(2 ** (stored - 1)), str(2 ** stored), function) for function in ("", *xa.FUNCTIONS)] for stored in (8, 12, 16)}
+    objects = []
+    for stored in (8, 12, 16):
+        chosen = wide[stored] + rng.sample(windows, min(count, len(windows)))
+        objects += [windowed_object(rng, stored, [chosen[(place + turn) % len(chosen)] for turn in range(3)]) for place in range(len(chosen))]
+    off = 0
+    with tempfile.TemporaryDirectory() as folder:
+        for number, cells in enumerate(outside.windowed_by_pydicom(folder, objects)):
+            data, room = objects[number], exact_numbers(objects[number])
+            comparison.must_equal(f"object {number}: the cells that pydicom answers", len(cells), 3 * 256)
+            for frame in (1, 2, 3):
+                theirs = cells[256 * (frame - 1):256 * frame]
+                off += check_picture(comparison, f"object {number}, windowed by pydicom", data, frame, theirs, 0, room).count
+                found = check_picture(comparison, f"object {number}, windowed by pydicom", data, frame, theirs, 1, room)
+                comparison.must_equal(f"object {number}, frame {frame}, windowed by pydicom: within 1 of ours", found.same, 1)
+    return 3 * len(objects), 3 * 256 * len(objects), off
+
+
 def compare_size_limit(comparison):
     memory = mmap.mmap(-1, reading.MAXIMUM_SIZE + 1, flags=mmap.MAP_PRIVATE | mmap.MAP_ANONYMOUS)
     expected = comparing.compare(memory, 1, b"", 256, reading.NUMBERS_IN_A_ROW)
@@ -172,9 +220,11 @@ def run(comparison, arguments):
     compare_random_objects(comparison, rng, comparison.count)
     compare_size_limit(comparison)
     drawn, exact = compare_outside(comparison, rng, arguments.require_outside)
+    frames, cells, off = compare_pydicom(comparison, rng, comparison.count, arguments.require_outside)
     comparison.insist([("code", code) for code in (*range(11), 22, 23)] + [("same", 0), ("same", 1), ("edge", -1), ("edge", 0), ("edge", 1)])
     line = f"{comparison.tally[('code', 0)]} pictures compared, {comparison.tally[('same', 0)]} of them answered no"
-    return f"{line}; {drawn} drawn by dcmtk, all within 1, {exact} equal"
+    return (f"{line}; {drawn} drawn by dcmtk, all within 1, {exact} equal; {frames} frames windowed by pydicom, all within 1,"
+            f" {off} of their {cells} cells not equal")
 
 
 if __name__ == "__main__":

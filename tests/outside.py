@@ -1,5 +1,5 @@
 """Objects made by others: the test files of Debian's python3-pydicom and dcmtk, whole and without their heads; what dcmtk's and
-pydicom's writers make of ours; and images drawn by dcmtk."""
+pydicom's writers make of ours; and images drawn by dcmtk and windowed by pydicom."""
 
 import os
 import shutil
@@ -170,6 +170,11 @@ def has_pydicom():
     return os.path.exists(PYTHON) and subprocess.run([PYTHON, "-c", "import pydicom"], capture_output=True).returncode == 0
 
 
+def has_pydicom_windows():
+    """pydicom's windowing needs numpy."""
+    return os.path.exists(PYTHON) and subprocess.run([PYTHON, "-c", "import numpy, pydicom"], capture_output=True).returncode == 0
+
+
 def has_dcmtk():
     return bool(shutil.which("dcmconv") and shutil.which("dcm2pnm"))
 
@@ -279,3 +284,66 @@ def windowed_by_dcmtk(folder, data_set, frame, center, width):
     if words[0] != "P2" or words[3] != "255":
         raise ValueError(f"dcm2pnm wrote {words[:4]}")
     return [int(word) for word in words[4:]]
+
+
+# Draws every frame of each bare file: pydicom reads the elements and the cells and windows them, numpy subtracts the mask. The
+# windowed numbers run from 0 to 2^stored - 1; they are scaled to 0..255 and rounded. pydicom does not turn MONOCHROME1 round.
+PYDICOM_WINDOWS = """
+import sys, numpy, pydicom
+from pydicom.dataset import FileMetaDataset
+from pydicom.pixel_data_handlers.util import apply_voi_lut
+
+def between(shift, count):
+    # Of each row or column: the two mask rows or columns around it, limited to the edge, and the quarters above the first.
+    quarters = 4 * numpy.arange(count) - int(4 * shift)
+    return (quarters // 4).clip(0, count - 1), (quarters // 4 + 1).clip(0, count - 1), quarters % 4
+
+def moved(mask, shift):
+    top, bottom, a = between(shift[0], mask.shape[0])
+    left, right, b = between(shift[1], mask.shape[1])
+    a = a[:, None]
+    return ((4 - a) * (4 - b) * mask[top][:, left] + (4 - a) * b * mask[top][:, right]
+            + a * (4 - b) * mask[bottom][:, left] + a * b * mask[bottom][:, right] + 8) // 16
+
+def mask_of(item, frames, number):
+    if item.MaskOperation == "TID":
+        mask = frames[number - 1 - item.TIDOffset]
+    else:
+        chosen = [frames[one - 1] for one in item.MaskFrameNumbers]
+        mask = (2 * sum(chosen) + len(chosen)) // (2 * len(chosen))
+    return moved(mask, item.MaskSubPixelShift)
+
+def holds(item, number):
+    return item.ApplicableFrameRange[0] <= number <= item.ApplicableFrameRange[1]
+
+for path in sys.argv[1:]:
+    data_set = pydicom.dcmread(path, force=True)
+    data_set.file_meta = FileMetaDataset()
+    data_set.file_meta.TransferSyntaxUID = "1.2.840.10008.1.2.1"
+    frames = data_set.pixel_array.astype(numpy.int64)
+    with open(path + ".cells", "wb") as file:
+        for number, group in enumerate(data_set.PerFrameFunctionalGroupsSequence, start=1):
+            cells = frames[number - 1]
+            for item in data_set.MaskSubtractionSequence:
+                if holds(item, number):
+                    cells = cells - mask_of(item, frames, number) + 2 ** (data_set.BitsStored - 1)
+            window = group.FrameVOILUTSequence[0]
+            for name in ("PhotometricInterpretation", "BitsStored", "PixelRepresentation"):
+                setattr(window, name, getattr(data_set, name))
+            levels = numpy.floor(apply_voi_lut(cells, window) * 255 / (2 ** data_set.BitsStored - 1) + 0.5)
+            if data_set.PhotometricInterpretation == "MONOCHROME1":
+                levels = 255 - levels
+            file.write(levels.astype(numpy.uint8).tobytes())
+"""
+
+
+def windowed_by_pydicom(folder, data_sets):
+    """The grey levels of all frames, one after the other, of each of some data sets, as pydicom windows them."""
+    paths = [os.path.join(folder, f"windowed-{number}.xa") for number in range(len(data_sets))]
+    for path, data_set in zip(paths, data_sets):
+        with open(path, "wb") as file:
+            file.write(data_set)
+    subprocess.run([PYTHON, "-W", "ignore", "-c", PYDICOM_WINDOWS, *paths], check=True, capture_output=True)
+    for path in paths:
+        with open(path + ".cells", "rb") as file:
+            yield file.read()
