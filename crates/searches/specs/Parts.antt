@@ -1,0 +1,50 @@
+-- How the code adds the searches up: each group over all frames, so that what is looked at in the shared item is worked out once. No
+-- paragraph of the papers stands here.
+use mathlib.Core.Path.{_≡_}
+use Prim.Native.Nat.{ℕ, _+_, _≤_}
+use mathlib.Core.List.{List, [], _∷_, map}
+use mathlib.Core.Bool.{Bool}
+use Rattle.node.specs.Nodes.{Node, inside}
+use Rattle.node.specs.Find.{find}
+use Rattle.element.specs.Elements.{insideOf}
+use Rattle.searches.specs.declared.SharedGroup.{SharedGroup}
+use Rattle.searches.specs.Count.{lookedAt}
+use Rattle.searches.specs.Searches.{Search, GroupSearch, looksFor, rootSearches, maskSearches, readInEach, groupSum, bothItems}
+
+-- All the tags, each sought among the members.
+unfoldable pub allLooked : List Node → List ℕ → List ℕ → ℕ
+allLooked ns [] is = 0
+allLooked ns (tag ∷ tags) is = lookedAt ns tag is + allLooked ns tags is
+
+-- The tags of the tables.
+abbrev pub tagsOf : List Search → List ℕ
+tagsOf [] = []
+tagsOf (s ∷ ss) = s .tag ∷ tagsOf ss
+
+unfoldable pub rootTags : List ℕ
+rootTags = tagsOf rootSearches
+
+unfoldable pub maskTags : List ℕ
+maskTags = tagsOf maskSearches
+
+-- A group, by its tag, at a frame and over frames. The rule's number counts nothing.
+unfoldable pub groupAt : List Node → ℕ → Bool → List ℕ → ℕ → ℕ → ℕ
+groupAt ns tag always reads s i = groupSum ns (looksFor 0 tag always reads) s i
+
+unfoldable pub overGroup : List Node → ℕ → Bool → List ℕ → ℕ → List ℕ → ℕ
+overGroup ns tag always reads s [] = 0
+overGroup ns tag always reads s (i ∷ is) = groupAt ns tag always reads s i + overGroup ns tag always reads s is
+
+unfoldable pub overGroups : List Node → List GroupSearch → ℕ → List ℕ → ℕ
+overGroups ns [] s is = 0
+overGroups ns (g ∷ gs) s is = overGroup ns (g .group) (g .always) (g .reads) s is + overGroups ns gs s is
+
+-- Rule 27 over frames.
+unfoldable pub overBoth : List Node → ℕ → List ℕ → ℕ
+overBoth ns s [] = 0
+overBoth ns s (i ∷ is) = bothItems ns s i + overBoth ns s is
+
+-- What a group comes to in the shared item s: the rows looked at, and those that are looked at in its items.
+pub record InShared (ns : List Node) (tag : ℕ) (reads : List ℕ) (s : ℕ) (part : SharedGroup) : Type 0 where
+  pub looked : part .looked ≡ lookedAt ns tag (inside ns s)
+  pub read : part .read ≡ readInEach ns reads (insideOf ns (find ns tag (inside ns s)))
