@@ -1,3 +1,5 @@
 -- What the proofs of several functions use.
 pub mod Counting
+pub mod Sums
 pub mod Samples
+pub mod Limit

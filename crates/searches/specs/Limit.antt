@@ -14,7 +14,7 @@ use Rattle.conformance.specs.declared.Finding.the-variants as finding
 use Rattle.conformance.specs.Judging.{findingOf}
 use Rattle.searches.specs.Searches.{searchesOf}
 
-pub Limit : Type 0
+abbrev pub Limit : Type 0
 Limit =
     (s : List ℕ) (n : ℕ)
     → findingOf (nodesOf s) ≡ finding.Accepted
