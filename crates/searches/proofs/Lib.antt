@@ -3,3 +3,4 @@ pub mod Counting
 pub mod Sums
 pub mod Samples
 pub mod Limit
+pub mod Loops

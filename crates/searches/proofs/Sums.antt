@@ -94,11 +94,13 @@ module _ (ns : List Node) (w : Within ns) (tag : ℕ) (always : Bool) (reads : L
   pub group-few : (i : ℕ) → groupAt ns tag always reads s i ≤ (2 + length reads) * length ns
   unfolding groupAt groupSum inShared
   group-few i =
-      omega (arith,
+      omega (
+        arith,
         looked-few ns tag (inside ns i),
         inside-few ns w i,
         if-few (always || absent (find ns tag (inside ns i))),
-        group-read ns w reads (orElse (find ns tag (inside ns i)) (find ns tag (inside ns s))))
+        group-read ns w reads (orElse (find ns tag (inside ns i)) (find ns tag (inside ns s))),
+      )
     where
       if-few : (b : Bool) → cond b (lookedAt ns tag (inside ns s)) 0 ≤ length ns
       if-few true = omega (arith, looked-few ns tag (inside ns s), inside-few ns w s)
