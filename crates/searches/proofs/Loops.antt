@@ -16,12 +16,12 @@ use Rattle.node.specs.Find.{find, findVr}
 use Rattle.node.proofs.Walks.{members-end, members-next}
 use Rattle.element.specs.Tags
 use Rattle.element.specs.Elements.{insideOf, itemsIn}
-use Rattle.element.specs.Frames.{frameItems}
+use Rattle.element.specs.Frames.{frameItems, maskItems}
 use Rattle.searches.specs.Count.{lookedAt}
-use Rattle.searches.specs.Searches.{readIn, readInEach, inShared, groupSum, bothItems}
-use Rattle.searches.specs.Parts.{allLooked, groupAt, overGroup, overBoth}
+use Rattle.searches.specs.Searches.{rootSearches, maskSearches, searchedAmong, maskSum, readIn, readInEach, inShared, groupSum, bothItems}
+use Rattle.searches.specs.Parts.{allLooked, rootTags, maskTags, groupAt, overGroup, overBoth}
 use Rattle.searches.proofs.Counting.{members-few, Within, nodes-within, inside-few}
-use Rattle.searches.proofs.Sums.{read-is, all-few, each-few, group-few, over-few, both-few}
+use Rattle.searches.proofs.Sums.{searched-is, mask-is, read-is, all-few, each-few, group-few, over-few, both-few}
 
 -- ---- Tag by tag
 
@@ -141,3 +141,21 @@ module _ (ns : List Node) (tag : ℕ) (reads : List ℕ) (s i : ℕ) where
       → groupAt ns tag always reads s i ≡ lookedAt ns tag (inside ns i) + (0 + readInEach ns reads (inside ns g))
   unfolding groupAt groupSum inShared
   group-own always p g e = rw (p, e)
+
+-- ---- The tables' sums
+
+module _ (s : List ℕ) (few : length (nodesOf s) ≤ 134217728) where
+  pub root-fits : (r to : ℕ) → to ≤ length (nodesOf s) → r ≡ allLooked (nodesOf s) rootTags (members (nodesOf s) 0 to) → r ≤ 8589934592
+  unfolding rootTags rootSearches
+  root-fits r to h e = omega (arith, e, all-fits s few rootTags 0 to (omega arith) h)
+
+  pub masks-fit : (r from to : ℕ) → to ≤ length (nodesOf s) → r ≡ readInEach (nodesOf s) maskTags (members (nodesOf s) from to) → r ≤ 8589934592
+  unfolding maskTags maskSearches
+  masks-fit r from to h e = omega (arith, e, each-fits s few maskTags from to (omega arith) h)
+
+pub root-sum : (ns : List Node) (to : ℕ) → to ≡ length ns → allLooked ns rootTags (members ns 0 to) ≡ searchedAmong ns rootSearches (root ns)
+unfolding rootTags
+root-sum ns to e = rw e (sym (searched-is ns rootSearches (root ns)))
+
+pub masks-sum : (ns : List Node) (js : List ℕ) → js ≡ maskItems ns → readInEach ns maskTags js ≡ maskSum ns (maskItems ns)
+masks-sum ns js e = rw e (sym (mask-is ns (maskItems ns)))

@@ -1,7 +1,7 @@
 // How far judging looks: the searches of document 02, each counted, and their sum, which `judge` reports of an accepted data set.
 ghost use mathlib.Core.Path.{_≡_};
 ghost use mathlib.Core.Bool.{Bool};
-ghost use Prim.Native.Nat.{ℕ, _+_, _*_, _≤_, _<_};
+ghost use Prim.Native.Nat.{ℕ, _+_, _*_, _^_, _≤_, _<_};
 ghost use lib.ListN.{length};
 ghost use Rattle.node.specs.Nodes.{nodesOf, members, inside};
 ghost use Rattle.node.specs.Table.{Table};
@@ -235,6 +235,7 @@ fn over_frames(
 ) -> usize
     requires { ⌜ Table (now bytes) (now rows) × ((shared < length (nodesOf (now bytes))) × (length (now reads) ≤ 3)) ⌝ }
     ensures { λ r. ⌜ r ≡ overGroup (nodesOf (now (bytes .entry))) group always (now (reads .entry)) shared (frameItems (nodesOf (now (bytes .entry)))) ⌝ }
+    ensures { λ r. ⌜ r ≤ 2 ^ 57 ⌝ }
 {
     let part = shared_group(bytes, rows, shared, group, reads);
     let items = element::frame_items(bytes, rows);
@@ -263,4 +264,98 @@ fn both_items(bytes: &[u8], rows: &[u32], shared: usize) -> usize
         at = node::next(bytes, rows, at);
     }
     sum
+}
+
+// Each group of the table over all frames.
+fn groups_over(bytes: &[u8], rows: &[u32], shared: usize) -> usize
+    requires { ⌜ Table (now bytes) (now rows) × (shared < length (nodesOf (now bytes))) ⌝ }
+    ensures { λ r. ⌜ r ≡ overGroups (nodesOf (now (bytes .entry))) frameSearches shared (frameItems (nodesOf (now (bytes .entry)))) ⌝ }
+    ensures { λ r. ⌜ r ≤ 7 * 2 ^ 57 ⌝ }
+{
+    let window = WINDOW;
+    let shift = SHIFT;
+    let relation = RELATION;
+    let table = TABLE;
+    over_frames(
+        bytes,
+        rows,
+        shared,
+        tags::FRAME_CONTENT_SEQUENCE,
+        true,
+        &window[..0],
+    )
+        + over_frames(
+            bytes,
+            rows,
+            shared,
+            tags::FRAME_CHARACTERISTICS_SEQUENCE,
+            false,
+            &window[..0],
+        )
+        + over_frames(
+            bytes,
+            rows,
+            shared,
+            tags::FRAME_VOI_LUT_SEQUENCE,
+            false,
+            &window,
+        )
+        + over_frames(
+            bytes,
+            rows,
+            shared,
+            tags::FRAME_PIXEL_SHIFT_SEQUENCE,
+            false,
+            &window[..0],
+        )
+        + over_frames(
+            bytes,
+            rows,
+            shared,
+            tags::FRAME_PIXEL_SHIFT_SEQUENCE,
+            false,
+            &shift,
+        )
+        + over_frames(
+            bytes,
+            rows,
+            shared,
+            tags::FRAME_PIXEL_DATA_PROPERTIES_SEQUENCE,
+            false,
+            &relation,
+        )
+        + over_frames(
+            bytes,
+            rows,
+            shared,
+            tags::PIXEL_INTENSITY_RELATIONSHIP_LUT_SEQUENCE,
+            false,
+            &table,
+        )
+}
+
+// All that is looked at for frames.
+fn frames_sum(bytes: &[u8], rows: &[u32]) -> usize
+    requires { ⌜ Table (now bytes) (now rows) ⌝ }
+    ensures { λ r. ⌜ r ≡ overFrames (nodesOf (now (bytes .entry))) (sharedItem (nodesOf (now (bytes .entry)))) ⌝ }
+    ensures { λ r. ⌜ r ≤ 2 ^ 60 ⌝ }
+{
+    match element::shared_item(bytes, rows) {
+        Num::Lacks => 0,
+        Num::Is(s) => both_items(bytes, rows, s) + groups_over(bytes, rows, s),
+    }
+}
+
+// The sum of all searches.
+pub fn sum(bytes: &[u8], rows: &[u32]) -> usize
+    requires { ⌜ Table (now bytes) (now rows) ⌝ }
+    ensures { λ r. ⌜ r ≡ searchesOf (nodesOf (now (bytes .entry))) ⌝ }
+{
+    let root = ROOT;
+    let mask = MASK;
+    let masks = element::mask_items(bytes, rows);
+    let end = node::count(bytes, rows);
+    look_all(bytes, rows, 0, end, &root)
+        + look_each(bytes, rows, masks.at, masks.end, &mask)
+        + frames_sum(bytes, rows)
 }

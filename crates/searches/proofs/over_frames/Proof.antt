@@ -80,7 +80,8 @@ returns : tie.Need-returns Inv-loop μ-loop
 returns c =
     let a = c .before .before .before .before .before .before .before .args in
     let ns = nodesOf (a .bytes .now) in
-    omega (arith, c .before .loop .inv .1, over-end ns (c .before .loop .at) (c .before .before .frame-items .result .end) (a .group) (a .always) (a .reads .now) (a .shared) (c .loop-test .left))
+    let left = over-end ns (c .before .loop .at) (c .before .before .frame-items .result .end) (a .group) (a .always) (a .reads .now) (a .shared) (c .loop-test .left) in
+    (omega (arith, c .before .loop .inv .1, left), omega (arith, c .before .loop .inv .1, over-fits (a .bytes .now) (c .before .before .before .before .before .before .before .pre .0 .few) (a .group) (a .always) (a .reads .now) (a .shared) (c .before .before .before .before .before .before .before .pre .1 .1)))
 
 pub over-frames-spec : {M : Type 1} → statement M
 over-frames-spec =
