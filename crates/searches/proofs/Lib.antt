@@ -4,3 +4,4 @@ pub mod Sums
 pub mod Samples
 pub mod Limit
 pub mod Loops
+pub mod After

@@ -1,12 +1,16 @@
 -- How the code adds the searches up: each group over all frames, so that what is looked at in the shared item is worked out once. No
 -- paragraph of the papers stands here.
 use mathlib.Core.Path.{_≡_}
-use Prim.Native.Nat.{ℕ, _+_, _≤_}
+use Prim.Native.Nat.{ℕ, _+_, _*_, _≤_}
 use mathlib.Core.List.{List, [], _∷_, map}
 use mathlib.Core.Bool.{Bool}
+use lib.ListN.{length, take}
 use Rattle.node.specs.Nodes.{Node, inside}
 use Rattle.node.specs.Find.{find}
+use Rattle.node.specs.Table.{Table}
 use Rattle.element.specs.Elements.{insideOf}
+use Rattle.conformance.specs.declared.JudgeAnswer.{JudgeAnswer}
+use Rattle.conformance.specs.declared.JudgeAnswer.the-variants as judged
 use Rattle.searches.specs.declared.SharedGroup.{SharedGroup}
 use Rattle.searches.specs.Count.{lookedAt}
 use Rattle.searches.specs.Searches.{Search, GroupSearch, looksFor, rootSearches, maskSearches, readInEach, groupSum, bothItems}
@@ -48,3 +52,11 @@ overBoth ns s (i ∷ is) = bothItems ns s i + overBoth ns s is
 pub record InShared (ns : List Node) (tag : ℕ) (reads : List ℕ) (s : ℕ) (part : SharedGroup) : Type 0 where
   pub looked : part .looked ≡ lookedAt ns tag (inside ns s)
   pub read : part .read ≡ readInEach ns reads (insideOf ns (find ns tag (inside ns s)))
+
+-- Where judging accepted, its rows stand first in the row buffer that it left.
+abbrev pub Left : List ℕ → List ℕ → JudgeAnswer → Type 0
+Left s rows (judged.Accepted n) = (7 * n ≤ length rows) × Table s (take (7 * n) rows)
+Left s rows (judged.Broken n rule frame) = Unit {0}
+Left s rows (judged.Refused code offset) = Unit {0}
+Left s rows judged.TooLarge = Unit {0}
+Left s rows judged.NoRoom = Unit {0}

@@ -5,6 +5,7 @@ use Rattle.node.specs.Nodes.{nodesOf}
 use Rattle.conformance.specs.declared.JudgeAnswer.{JudgeAnswer}
 use Rattle.conformance.specs.declared.JudgeAnswer.the-variants as judged
 use Rattle.conformance.specs.Judging.{judgeOf}
+use Rattle.searches.specs.declared.Counted.{Counted}
 use Rattle.searches.specs.Searches.{searchesOf}
 
 abbrev pub ifAccepted : ℕ → JudgeAnswer → ℕ
@@ -16,3 +17,7 @@ ifAccepted sum judged.NoRoom = 0
 
 unfoldable pub reportedOf : List ℕ → List ℕ → ℕ
 reportedOf s buffer = ifAccepted (searchesOf (nodesOf s)) (judgeOf s buffer)
+
+-- What `judge_counted` answers.
+abbrev pub countedOf : List ℕ → List ℕ → Counted
+countedOf s buffer = record { answer = judgeOf s buffer; searches = reportedOf s buffer }

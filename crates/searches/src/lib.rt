@@ -10,8 +10,12 @@ ghost use Rattle.value.specs.Said.{Below};
 ghost use Rattle.element.specs.Elements.{insideOf};
 ghost use Rattle.element.specs.Frames.{sharedItem, frameItems};
 ghost use Rattle.searches.specs.Searches.{readInEach, frameSearches, overFrames, searchesOf};
-ghost use Rattle.searches.specs.Parts.{allLooked, groupAt, overGroup, overGroups, overBoth, InShared};
+ghost use Rattle.searches.specs.Parts.{allLooked, groupAt, overGroup, overGroups, overBoth, InShared, Left};
+ghost use Rattle.dataset.specs.Reading.{readingOf};
+ghost use Rattle.dataset.specs.Answer.{bufferOf};
+ghost use Rattle.searches.specs.Reported.{ifAccepted, countedOf};
 ghost use Rattle.searches.specs.Plain.{Looks, LooksIn};
+use conformance::JudgeAnswer;
 use element::tags;
 use value::Num;
 
@@ -86,6 +90,12 @@ pub struct Looked {
 pub struct SharedGroup {
     pub looked: usize,
     pub read: usize,
+}
+
+// The answer of `judge`, and the sum of its searches: 0 with every other answer than code 0.
+pub struct Counted {
+    pub answer: JudgeAnswer,
+    pub searches: usize,
 }
 
 // The loop of `node::find_tag`, with a count of the rows that it looks at.
@@ -358,4 +368,33 @@ pub fn sum(bytes: &[u8], rows: &[u32]) -> usize
     look_all(bytes, rows, 0, end, &root)
         + look_each(bytes, rows, masks.at, masks.end, &mask)
         + frames_sum(bytes, rows)
+}
+
+// ---- What `judge` reports
+
+// The sum, with code 0; the row buffer is as judging left it.
+pub fn reported(bytes: &[u8], rows: &[u32], answer: JudgeAnswer) -> usize
+    requires { ⌜ Left (now bytes) (now rows) answer ⌝ }
+    ensures { λ r. ⌜ r ≡ ifAccepted (searchesOf (nodesOf (now (bytes .entry)))) answer ⌝ }
+{
+    match answer {
+        JudgeAnswer::Accepted(n) => {
+            let end = dataset::WIDTH * n;
+            sum(bytes, &rows[..end])
+        }
+        JudgeAnswer::Broken(_, _, _) => 0,
+        JudgeAnswer::Refused(_, _) => 0,
+        JudgeAnswer::TooLarge => 0,
+        JudgeAnswer::NoRoom => 0,
+    }
+}
+
+// Reads the data set, judges it, and adds its searches up.
+pub fn judge_counted(bytes: &[u8], rows: &mut [u32]) -> Counted
+    ensures { λ r. ⌜ r ≡ countedOf (now (bytes .entry)) (now (rows .entry)) ⌝ }
+    ensures { λ _. ⌜ now (rows .exit) ≡ bufferOf (readingOf (now (bytes .entry))) (now (rows .entry)) ⌝ }
+{
+    let answer = conformance::judge(bytes, rows);
+    let searches = reported(bytes, rows, answer);
+    Counted { answer, searches }
 }
