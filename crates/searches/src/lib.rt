@@ -67,7 +67,20 @@ const MASK: [usize; 7] = [
     tags::SUBTRACTION_ITEM_ID,
 ];
 
-// In the items of the groups of rules 30, 37 and 39:
+// The groups of rules 28, 29, 30, 36, 37 and 39:
+const CONTENT: usize = tags::FRAME_CONTENT_SEQUENCE;
+
+const CHARACTERISTICS: usize = tags::FRAME_CHARACTERISTICS_SEQUENCE;
+
+const VOI: usize = tags::FRAME_VOI_LUT_SEQUENCE;
+
+const SHIFTS: usize = tags::FRAME_PIXEL_SHIFT_SEQUENCE;
+
+const PROPERTIES: usize = tags::FRAME_PIXEL_DATA_PROPERTIES_SEQUENCE;
+
+const LUTS: usize = tags::PIXEL_INTENSITY_RELATIONSHIP_LUT_SEQUENCE;
+
+// In the items of those of rules 30, 37 and 39:
 const WINDOW: [usize; 3] = [
     tags::WINDOW_CENTER,
     tags::WINDOW_WIDTH,
@@ -286,62 +299,13 @@ fn groups_over(bytes: &[u8], rows: &[u32], shared: usize) -> usize
     let shift = SHIFT;
     let relation = RELATION;
     let table = TABLE;
-    over_frames(
-        bytes,
-        rows,
-        shared,
-        tags::FRAME_CONTENT_SEQUENCE,
-        true,
-        &window[..0],
-    )
-        + over_frames(
-            bytes,
-            rows,
-            shared,
-            tags::FRAME_CHARACTERISTICS_SEQUENCE,
-            false,
-            &window[..0],
-        )
-        + over_frames(
-            bytes,
-            rows,
-            shared,
-            tags::FRAME_VOI_LUT_SEQUENCE,
-            false,
-            &window,
-        )
-        + over_frames(
-            bytes,
-            rows,
-            shared,
-            tags::FRAME_PIXEL_SHIFT_SEQUENCE,
-            false,
-            &window[..0],
-        )
-        + over_frames(
-            bytes,
-            rows,
-            shared,
-            tags::FRAME_PIXEL_SHIFT_SEQUENCE,
-            false,
-            &shift,
-        )
-        + over_frames(
-            bytes,
-            rows,
-            shared,
-            tags::FRAME_PIXEL_DATA_PROPERTIES_SEQUENCE,
-            false,
-            &relation,
-        )
-        + over_frames(
-            bytes,
-            rows,
-            shared,
-            tags::PIXEL_INTENSITY_RELATIONSHIP_LUT_SEQUENCE,
-            false,
-            &table,
-        )
+    over_frames(bytes, rows, shared, CONTENT, true, &window[..0])
+        + over_frames(bytes, rows, shared, CHARACTERISTICS, false, &window[..0])
+        + over_frames(bytes, rows, shared, VOI, false, &window)
+        + over_frames(bytes, rows, shared, SHIFTS, false, &window[..0])
+        + over_frames(bytes, rows, shared, SHIFTS, false, &shift)
+        + over_frames(bytes, rows, shared, PROPERTIES, false, &relation)
+        + over_frames(bytes, rows, shared, LUTS, false, &table)
 }
 
 // All that is looked at for frames.
