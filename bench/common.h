@@ -19,6 +19,7 @@
 #else
 typedef struct {
     uint32_t code, offset, rows, rule, frame, masked;
+    uint64_t searches;
 } xa_answer;
 xa_answer xa_read(const uint8_t *data, size_t size, uint32_t *rows, size_t rows_len);
 xa_answer xa_judge(const uint8_t *data, size_t size, uint32_t *rows, size_t rows_len);

@@ -42,7 +42,9 @@ extern "C" {
 /* What a call answers. Fields that the code does not name are 0.
  *
  *   code  meaning                                                              fields named
- *      0  done                                                                 rows, and by xa_show: masked
+ *      0  done                                                                 rows; by xa_show and xa_show_file
+ *                                                                              masked, by xa_judge and
+ *                                                                              xa_judge_file searches
  *      1  cut short: fewer bytes left than a header has, a header or a value   offset
  *         that reaches past what holds it, or an undefined length that is
  *         still open there
@@ -79,6 +81,9 @@ extern "C" {
  * frames (19), then the frame (10), then by xa_linear the item (20), then the image, values or sheet's buffer (11); by xa_compare,
  * after the frame, the number of cells (22) and the tolerance (23). The calls for files test 15, 16 and 17 before all others, and
  * 18 between 8 and 9.
+ *
+ * `searches` says how far judging looks: how many rows are looked at when each element of docs/SEARCHES.md is sought once for each rule,
+ * whatever the rule's conditions. It is at most 40 x (Number of Frames + 1) x `rows`.
  */
 typedef struct {
     uint32_t code;
@@ -87,6 +92,7 @@ typedef struct {
     uint32_t rule;
     uint32_t frame;
     uint32_t masked;
+    uint64_t searches;
 } xa_answer;
 
 /* The version of the library, to be compared with XA_VERSION. */
@@ -268,7 +274,7 @@ typedef struct {
  *
  * Answers 0 where it is written; 14 where no verdict has these fields, or the number of rows is not known; then 11 where there
  * is room for fewer than 17 bytes. With 14 and 11 nothing is written. The verdict's code, offset, rows, rule and frame are
- * recorded; `masked` is not looked at.
+ * recorded; `masked` and `searches` are not looked at.
  */
 uint32_t xa_write_slip(xa_answer verdict, uint32_t rows_known, uint8_t *slip, size_t slip_len);
 

@@ -261,7 +261,7 @@ def levels_of(model):
     for item in model[xa.PER_FRAME][1]:
         yield item, 1
     for level in (*model[xa.SHARED][1], *model[xa.PER_FRAME][1]):
-        for tag in (xa.VOI, xa.FRAME_SHIFT):
+        for tag in (xa.VOI, xa.FRAME_SHIFT, xa.LUTS, xa.PROPERTIES):
             for item in level[tag][1] if tag in level and isinstance(level[tag][1], list) else ():
                 yield item, 0
     for item in model[xa.MASKS][1] if xa.MASKS in model and isinstance(model[xa.MASKS][1], list) else ():

@@ -78,10 +78,10 @@ def compare_writing(comparison, rng):
                         Answer(9, rule=39, frame=812, rows=57), Answer(9, rule=39), Answer(10), Answer(3, rows=1), Answer(0, rows=2 ** 27 + 1)):
             check_write(comparison, verdict, length)
             check_write(comparison, verdict._replace(rows=None), length)
-    # Every boundary of the row count with each verdict, known by each flag; masked or native plays no part.
+    # Every boundary of the row count with each verdict, known by each flag; masked or native and the searches play no part.
     for (code, rule, frame, offset), rows in itertools.product(((10, 0, 0, 0), *VERDICTS), ROWS):
         for masked in (0, 1, 2 ** 32 - 1):
-            verdict = Answer(code, offset, rows, rule, frame, masked)
+            verdict = Answer(code, offset, rows, rule, frame, masked, rng.choice((0, 1, 343, 2 ** 32, 2 ** 64 - 1)))
             check_write(comparison, verdict, 17, flag=rng.choice(KNOWN_FLAGS))
             check_write(comparison, verdict._replace(rows=None), 17, unknown=rows)
             check_write(comparison, verdict._replace(rows=None), rng.randrange(17), unknown=rows)

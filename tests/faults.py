@@ -3,7 +3,7 @@
 import ctypes
 
 from parents import table_of
-from reference import canonical, comparing, drawing, files, intensity, reading, rules, sheet, slips
+from reference import canonical, comparing, drawing, files, intensity, reading, rules, searches, sheet, slips
 from reference.answers import Answer
 from reference.reading import ITEM, NUMBERS_IN_A_ROW
 from reference.values import UNIT
@@ -133,8 +133,12 @@ def judge_by(first_broken_rule):
         except (AttributeError, IndexError, KeyError, TypeError):
             broken = None
         count = outcome.answer.rows
-        answer = Answer(0, rows=count) if broken is None else Answer(9, rows=count, rule=broken[0], frame=broken[1])
-        return outcome._replace(answer=answer)
+        if broken is not None:
+            return outcome._replace(answer=Answer(9, rows=count, rule=broken[0], frame=broken[1]))
+        try:
+            return outcome._replace(answer=Answer(0, rows=count, searches=searches.searches(root.elements)))
+        except IndexError:  # accepted, though it has no shared item
+            return outcome._replace(answer=Answer(0, rows=count))
 
     return StandIn(judge=judge)
 
@@ -858,6 +862,38 @@ PRIVACY_FAULTS = {
     "intensities by Patient ID": seen_of_patient(lambda o, n: o._replace(values=(n, *o.values[1:])) if o.values else o),
 }
 
+def told_by_others(call):
+    """A call of another name that reports searches with code 0."""
+    def told(*arguments):
+        outcome = call(*arguments)
+        return outcome._replace(answer=outcome.answer._replace(searches=1)) if outcome.answer.code == 0 else outcome
+
+    return told
+
+
+def compared_with_searches(*arguments):
+    found, rows = comparing.compare(*arguments)
+    return found._replace(answer=found.answer._replace(searches=5)) if found.answer.code == 0 else found, rows
+
+
+SEARCH_FAULTS = {
+    "no sum": StandIn(answer_changed(searches=lambda a: 0)),
+    "one more": StandIn(answer_changed(searches=lambda a: a.searches + 1 if a.searches else 0)),
+    "a sum of 16 bits": StandIn(answer_changed(searches=lambda a: a.searches % 2 ** 16)),
+    "told with code 9": StandIn(answer_changed(searches=lambda a: a.rows if a.code == 9 else a.searches)),
+    "told with code 8": StandIn(answer_changed(searches=lambda a: 1 if a.code == 8 else a.searches)),
+    "not told of files": StandIn(judge_file=lambda *given: (lambda o: o._replace(answer=o.answer._replace(searches=0)))(files.judge_file(*given))),
+    "told with code 18": StandIn(judge_file=lambda *given: (lambda o: o._replace(answer=o.answer._replace(
+        searches=1 if o.answer.code == 18 else o.answer.searches)))(files.judge_file(*given))),
+    "told by read": StandIn(read=told_by_others(reading.read)),
+    "told by show": StandIn(show=told_by_others(drawing.show)),
+    "told by sheet": StandIn(sample=told_by_others(sheet.sheet)),
+    "told by linear": StandIn(linear=told_by_others(intensity.linear)),
+    "told by compare": StandIn(compare=compared_with_searches),
+    "told by read_file": StandIn(read_file=told_by_others(files.read_file)),
+    "told by show_file": StandIn(show_file=told_by_others(files.show_file)),
+}
+
 FAULTS = {"read": READ_FAULTS, "judge": JUDGE_FAULTS, "slips": SLIP_FAULTS, "decimals": DECIMAL_FAULTS, "windows": WINDOW_FAULTS,
           "show": SHOW_FAULTS, "canonical": CANONICAL_FAULTS, "linear": LINEAR_FAULTS, "sheet": SHEET_FAULTS,
-          "pictures": PICTURE_FAULTS, "files": FILE_FAULTS, "privacy": PRIVACY_FAULTS}
+          "pictures": PICTURE_FAULTS, "files": FILE_FAULTS, "privacy": PRIVACY_FAULTS, "searches": SEARCH_FAULTS}

@@ -14,22 +14,23 @@ import compare_linear
 import compare_pictures
 import compare_privacy
 import compare_read
+import compare_searches
 import compare_sheet
 import compare_show
 import compare_slips
 import compare_windows
 from comparison import Comparison, DifferenceFound
 from faults import FAULTS
-from library import Library
+from library import TELLS_SEARCHES, Library
 from mutants import MUTATIONS, mutant
 from stand_in import StandIn
 
 COUNTS = {"read": 60, "judge": 100, "slips": 200, "decimals": 200, "windows": 40, "show": 30, "canonical": 40,
-          "linear": 20, "sheet": 10, "pictures": 5, "files": 20, "privacy": 40}  # generated cases: as few as find every fault
+          "linear": 20, "sheet": 10, "pictures": 5, "files": 20, "privacy": 40, "searches": 10}  # generated cases: as few as find every fault
 RUNS = {"read": compare_read.run, "judge": compare_judge.run, "slips": compare_slips.run, "decimals": compare_decimals.run,
         "windows": compare_windows.run, "show": compare_show.run, "canonical": compare_canonical.run, "linear": compare_linear.run,
         "sheet": compare_sheet.run, "pictures": compare_pictures.run, "files": compare_files.run,
-        "privacy": compare_privacy.run}
+        "privacy": compare_privacy.run, "searches": compare_searches.run}
 
 
 def attempt(name, stand_in, folder):
@@ -60,6 +61,9 @@ def main():
     wrong = 0
     found = 0
     for name in [arguments.only] if arguments.only else list(RUNS):
+        if name == "searches" and not TELLS_SEARCHES:
+            print("searches: NOT TRIED, the header has no xa_answer.searches")
+            continue
         difference = attempt(name, StandIn(), folder)
         if difference is not None:
             wrong += 1

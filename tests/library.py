@@ -9,6 +9,7 @@
 import ctypes
 import mmap
 import os
+import re
 import struct
 import tempfile
 
@@ -17,12 +18,17 @@ from reference.canonical import CanonicalAnswer
 from reference.comparing import Compared
 
 GUARD = 64  # bytes in front of and behind a buffer
+HEADER = os.path.join(os.path.dirname(os.path.dirname(os.path.abspath(__file__))), "include", "luuxidgaan.h")
+
+with open(HEADER, encoding="utf-8") as header:
+    TELLS_SEARCHES = re.search(r"\buint64_t searches;", header.read()) is not None  # the field that Q-11 adds to xa_answer
 
 
 class AnswerStruct(ctypes.Structure):
     """xa_answer of include/luuxidgaan.h."""
 
     _fields_ = [(name, ctypes.c_uint32) for name in ("code", "offset", "rows", "rule", "frame", "masked")]
+    _fields_ += [("searches", ctypes.c_uint64)] * TELLS_SEARCHES
 
 
 class RewrittenStruct(ctypes.Structure):
@@ -79,7 +85,11 @@ SIGNATURES = {
 
 
 def answer_of(struct_value):
-    return Answer(*(getattr(struct_value, name) for name in Answer._fields))
+    return Answer(*(getattr(struct_value, name, 0) for name in Answer._fields))
+
+
+def struct_of(answer):
+    return AnswerStruct(*answer[:len(AnswerStruct._fields_)])
 
 
 def rewritten_of(struct_value):
@@ -191,7 +201,8 @@ class Library:
         return cls(ctypes.CDLL(os.path.abspath(path)), folder)
 
     def has(self, name):
-        return name in self.functions
+        """Whether the library has a function, or the field of Q-11."""
+        return name in self.functions or (name == "xa_answer.searches" and TELLS_SEARCHES)
 
     def _place(self, data):
         if self.input is None or self.input.capacity < len(data):
@@ -311,7 +322,7 @@ class Library:
         slip = GuardedBuffer(slip_buffer_length)
         if verdict.rows is None:
             verdict, flag = verdict._replace(rows=unknown), 0
-        code = self.functions["xa_write_slip"](AnswerStruct(*verdict), flag, slip.address, slip_buffer_length)
+        code = self.functions["xa_write_slip"](struct_of(verdict), flag, slip.address, slip_buffer_length)
         return int(code), slip
 
     def read_slip(self, slip):
@@ -361,7 +372,8 @@ class Observation:
             buffers.append(("values buffer", self.values, struct.pack(f"<{len(expected.values)}H", *expected.values)))
         if self.sheet:
             buffers.append(("sheet", self.sheet, struct.pack(f"<{len(expected.sheet)}Q", *expected.sheet)))
-        return difference_in(buffers, self.answer, expected.answer, self.input)
+        answer = expected.answer if TELLS_SEARCHES else expected.answer._replace(searches=0)
+        return difference_in(buffers, self.answer, answer, self.input)
 
 
 class CanonicalObservation:

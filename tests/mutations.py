@@ -276,7 +276,7 @@ wrong_words(24, xa.POSITIONER_TYPE, ("CARM", "COLUMNS", "COLUMN\\"), ORIGINAL, X
 add(0, "other positioner, XA", put(xa.POSITIONER_TYPE, text("CS", "ANY")), ORIGINAL, XA)
 add(0, "other positioner, not ORIGINAL", put(xa.POSITIONER_TYPE, text("CS", "CARM")), DERIVED, XRF)
 
-NO_GROUPS = {"voi": "frames", "characteristics": "absent", "frame_shift": "absent"}
+NO_GROUPS = {"voi": "frames", "characteristics": "absent", "frame_shift": "absent", **NO_INTENSITY}
 add(25, "absent", drop(xa.SHARED))
 add(25, "no item", put(xa.SHARED, sq()))
 add(25, "two items", put(xa.SHARED, sq({}, {})), NO_GROUPS)

@@ -14,8 +14,9 @@ import objects
 import parents
 import reading_cases
 import sample_cases
+import search_cases
 from mutations import CHANGES
-from reference import canonical, comparing, drawing, intensity, reading, rules, sheet, slips, values
+from reference import canonical, comparing, drawing, intensity, reading, rules, searches, sheet, slips, values
 from reference.answers import Answer, Outcome
 
 
@@ -274,6 +275,49 @@ class Slips(unittest.TestCase):
             self.assertEqual(slips.read_slip(slip), (0, verdict))
             self.assertIsNone(verdict.rows)
             self.assertEqual(slips.write_slip(verdict, 17), (14, b""))
+
+
+class Searches(unittest.TestCase):
+    """Q-11 of document 02."""
+
+    def test_one_search(self):
+        """"the number of that data set's elements with a lower tag, plus one if an element remains": what stands below an element is passed over."""
+        model = {0x00080010: xa.text("LO", "a"), 0x00080020: xa.sq({0x00080005: xa.us(1), 0x00080015: xa.us(1)}, {}), 0x00080030: xa.us(2)}
+        some = searches.DataSet(reading.read_data_set(objects.encode(model)))
+        counts = {0x00080001: 1, 0x00080010: 1, 0x00080011: 2, 0x00080020: 2, 0x00080021: 3, 0x00080030: 3, 0x00080031: 3, 0xFFFFFFFF: 3}
+        self.assertEqual({tag: some.looked_at(tag) for tag in counts}, counts)
+        self.assertEqual({searches.DataSet([]).looked_at(tag) for tag in counts}, {0})
+
+    def test_how_many(self):
+        """33 searches in the root, 7 in each mask item; at each frame 7 of groups, twice the shift's, and 28's once more."""
+        self.assertEqual(sum(map(len, searches.IN_ROOT.values())), 33)
+        self.assertEqual(sum(map(len, searches.IN_MASK_ITEM.values())), 7)
+        self.assertEqual([rule for rule, _, _ in searches.IN_FRAME], [28, 29, 30, 36, 37, 39, 39])
+
+    def test_counted_by_hand(self):
+        self.assertEqual([total for _, _, total in search_cases.CASES], [343, 693])
+        for name, model, total in search_cases.CASES:
+            for undefined in (False, True):
+                with self.subTest(name, undefined=undefined):
+                    answer = rules.judge(objects.encode(model, lambda: undefined), 10_000).answer
+                    self.assertEqual((answer.code, answer.searches), (0, total))
+
+    def test_other_answers_report_0(self):
+        data = objects.encode(search_cases.FULL)
+        room = 7 * rules.judge(data, 10_000).answer.rows
+        refused = objects.encode({**search_cases.FULL, 0x00080060: xa.text("CS", "CT")})
+        outcomes = (rules.judge(data, room - 1), rules.judge(data[:-1], room), rules.judge(refused, room), reading.read(data, room),
+                    drawing.show(data, 1, room, 4), sheet.sheet(data, 1, 2, room), intensity.linear(data, 1, room, 4))
+        self.assertEqual([(outcome.answer.code, outcome.answer.searches) for outcome in outcomes],
+                         [(8, 0), (1, 0), (9, 0), (0, 0), (0, 0), (0, 0), (0, 0)])
+        self.assertEqual(comparing.compare(data, 1, b"a", 255, room)[0].answer.searches, 0)
+
+    def test_within_the_bound(self):
+        rng = random.Random(17)
+        for _ in range(200):
+            shape = xa.random_shape(rng)
+            answer = rules.judge(objects.encode(xa.build(rng, shape)), 100_000).answer
+            self.assertTrue(0 < answer.searches <= 40 * (shape.frames + 1) * answer.rows)
 
 
 def small_object(pixels, frames, rows, columns, **fixed):

@@ -5,7 +5,7 @@ With no fault it must pass every comparison; with a fault it must fail one. So i
 
 import ctypes
 
-from library import ROWS_NOT_KNOWN, AnswerStruct, ComparedStruct, PartStruct, RewrittenStruct, SlipStruct, answer_of
+from library import ROWS_NOT_KNOWN, ComparedStruct, PartStruct, RewrittenStruct, SlipStruct, answer_of, struct_of
 from reference import canonical, comparing, drawing, files, intensity, reading, rules, sheet, slips
 
 
@@ -61,7 +61,7 @@ class StandIn:
         outcome = self.change(call(content, rows_length), content)
         write_rows(rows, outcome.rows)
         self.after(outcome, data, rows, rows_length)
-        return AnswerStruct(*outcome.answer)
+        return struct_of(outcome.answer)
 
     def with_image(self, call, data, size, frame, rows, rows_length, image, image_length):
         content = view(data, size)
@@ -69,7 +69,7 @@ class StandIn:
         write_rows(rows, outcome.rows)
         write(image, outcome.image)
         self.after(outcome, data, rows, rows_length)
-        return AnswerStruct(*outcome.answer)
+        return struct_of(outcome.answer)
 
     def xa_count(self, data, size):
         return AnswerStruct(*self.count(view(data, size)))
@@ -109,7 +109,7 @@ class StandIn:
         write_rows(rows, outcome.rows)
         write(values, b"".join((number & 0xFFFF).to_bytes(2, "little") for number in outcome.values))
         self.after(outcome, data, rows, rows_length)
-        return AnswerStruct(*outcome.answer)
+        return struct_of(outcome.answer)
 
     def xa_sheet(self, data, size, first, last, rows, rows_length, numbers, numbers_length):
         content = view(data, size)
@@ -117,12 +117,12 @@ class StandIn:
         write_rows(rows, outcome.rows)
         write(numbers, b"".join((number & 0xFFFFFFFFFFFFFFFF).to_bytes(8, "little") for number in outcome.sheet))
         self.after(outcome, data, rows, rows_length)
-        return AnswerStruct(*outcome.answer)
+        return struct_of(outcome.answer)
 
     def xa_compare(self, data, size, frame, cells, cells_length, tolerance, rows, rows_length):
         answer, written = self.compare(view(data, size), frame, ctypes.string_at(cells, cells_length), tolerance, rows_length)
         write_rows(rows, written)
-        return ComparedStruct(AnswerStruct(*answer.answer), *answer[1:])
+        return ComparedStruct(struct_of(answer.answer), *answer[1:])
 
     def xa_write_slip(self, verdict, rows_known, slip, slip_length):
         verdict = answer_of(verdict)
@@ -133,5 +133,5 @@ class StandIn:
     def xa_read_slip(self, slip, slip_length):
         code, verdict = self.read_slip(ctypes.string_at(slip, slip_length))
         if verdict.rows is None:
-            return SlipStruct(code, 0, AnswerStruct(*verdict._replace(rows=ROWS_NOT_KNOWN)))
-        return SlipStruct(code, 1 if code == 0 else 0, AnswerStruct(*verdict))
+            return SlipStruct(code, 0, struct_of(verdict._replace(rows=ROWS_NOT_KNOWN)))
+        return SlipStruct(code, 1 if code == 0 else 0, struct_of(verdict))

@@ -19,6 +19,7 @@ pub struct Answer {
     pub rule: u32,
     pub frame: u32,
     pub masked: u32,
+    pub searches: u64,
 }
 
 /// `xa_slip` of the header.

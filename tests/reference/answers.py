@@ -12,6 +12,7 @@ class Answer(NamedTuple):
     rule: int = 0
     frame: int = 0
     masked: int = 0
+    searches: int = 0  # judge with code 0, of a data set and of a file
 
 
 class Outcome(NamedTuple):

@@ -8,6 +8,7 @@ docstrings are the paper's words.
 from . import attributes as tags
 from .answers import DONE, RULE_BROKEN, Answer
 from .reading import read_with_elements
+from .searches import searches
 from .values import UNIT, Level, integer, items_of, millionths
 
 XA_STORAGE = b"1.2.840.10008.5.1.4.1.1.12.1.1"
@@ -456,6 +457,8 @@ def judge_with_root(data, row_buffer_length):
 
 
 def judge(data, row_buffer_length):
-    """The call `judge`."""
-    outcome, _ = judge_with_root(data, row_buffer_length)
+    """The call `judge`: "With code 0 judge reports the sum of these searches", "Other answers report 0" (Q-11)."""
+    outcome, root = judge_with_root(data, row_buffer_length)
+    if outcome.answer.code == DONE:
+        outcome = outcome._replace(answer=outcome.answer._replace(searches=searches(root.elements)))
     return outcome

@@ -72,9 +72,9 @@ judge-by s head.NoMark buffer = alone-fits 15 (omega arith)
 judge-by s head.BadHead buffer = alone-fits 16 (omega arith)
 judge-by s head.OtherSyntax buffer = alone-fits 17 (omega arith)
 
-pub judge-inside : {r : JudgeFileAnswer} {a : JudgeAnswer} (s buffer : List ℕ) → r ≡ judgeFileOf s buffer → r ≡ judgeFile.Judged a → Fits32 (judging.fieldsOf a)
+pub judge-inside : (s buffer : List ℕ) → Fits32 (judgeFields (judgeFileOf s buffer))
 unfolding judgeFileOf
-judge-inside s buffer e f = subst (λ (x : JudgeFileAnswer). Fits32 (judgeFields x)) (sym e ∙ f) (judge-by s (metaOf s) buffer)
+judge-inside s buffer = judge-by s (metaOf s) buffer
 
 -- ---- Drawing
 

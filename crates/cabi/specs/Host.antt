@@ -1,4 +1,4 @@
--- What a host is handed for each answer: the fields of the answer in 32 bits each, which every `fieldsOf` gives in the papers' numbers.
+-- What a host is handed for each answer: the fields of the answer in 32 bits each, and of judging the sum of its searches in 64, which every `fieldsOf` gives in the papers' numbers.
 use Prim.Native.Nat.{ℕ, _<_}
 use mathlib.Core.Bool.{Bool, cond}
 use mathlib.Core.List.{List, _++_}
@@ -17,6 +17,7 @@ use Rattle.sheet.specs.Answer.{fieldsOf}
 use Rattle.compare.specs.Answer as comparing
 use Rattle.slip.specs.Slip.{SlipFields}
 use Rattle.canonical.specs.Answer as canonical
+use Rattle.searches.specs.Reported.{Reported}
 use Rattle.cabi.specs.declared.Answer.{Answer}
 use Rattle.cabi.specs.declared.files.Part.{Part}
 use Rattle.cabi.specs.declared.comparing.Compared.{Compared}
@@ -36,7 +37,23 @@ hosted a = record {
   rule = a .rule;
   frame = a .frame;
   masked = a .masked;
+  searches = 0;
 }
+
+-- The same with the sum of its searches, which judging names, of a data set and of a file. No other call names it.
+abbrev pub withSearches : ℕ → Answer → Answer
+withSearches searches a = record {
+  code = a .code;
+  offset = a .offset;
+  rows = a .rows;
+  rule = a .rule;
+  frame = a .frame;
+  masked = a .masked;
+  searches = searches;
+}
+
+abbrev pub reported : Reported → Answer
+reported a = withSearches (a .searches) (hosted (a .answer))
 
 -- The fields fit 32 bits; masked is 0 or 1.
 pub record Fits32 (a : Fields) : Type 0 where
@@ -100,7 +117,7 @@ pub record CompareFits32 (a : comparing.Compared) : Type 0 where
 abbrev pub countIn : ℕ → ℕ → RowCount
 countIn flag rows = cond (eqb flag 0) NotKnown (Known rows)
 
--- The verdict that an answer holds; whether it was masked plays no part.
+-- The verdict that an answer holds; whether it was masked and the sum of its searches play no part.
 unfoldable pub verdictIn : Answer → ℕ → Verdict
 verdictIn a flag = record { code = a .code; rule = a .rule; frame = a .frame; offset = a .offset; rows = countIn flag (a .rows) }
 
@@ -122,6 +139,7 @@ verdictAnswer v = record {
   rule = v .rule;
   frame = v .frame;
   masked = 0;
+  searches = 0;
 }
 
 -- The answer of `xa_read_slip`: 0 and the verdict, or the refusal's code, all else being 0.

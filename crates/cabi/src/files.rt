@@ -4,13 +4,15 @@ use crate::code_alone;
 use crate::judge::judge_numbers;
 use crate::read::read_numbers;
 use crate::show::show_numbers;
+use crate::with_searches;
 use file::JudgeFileAnswer;
 use file::ReadFileAnswer;
 use file::ShowFileAnswer;
 use file::Start;
 ghost use mathlib.Core.Path.{_≡_};
-ghost use Rattle.file.specs.File.{startOf, startFields, readFileOf, readFields, rowsLeft, judgeFileOf, judgeFields, showFileOf, showFields, imageLeft};
-ghost use Rattle.cabi.specs.Host.{hosted, partOf};
+ghost use Rattle.file.specs.File.{startOf, startFields, readFileOf, readFields, rowsLeft, judgeFields, showFileOf, showFields, imageLeft};
+ghost use Rattle.file.specs.Searches.{countedFileOf, countedFields};
+ghost use Rattle.cabi.specs.Host.{hosted, reported, partOf, Fits32};
 
 // Where a file's data set starts: code 0, or 15, 16 or 17 with start 0.
 #[repr(C)]
@@ -50,19 +52,31 @@ pub extern "C" fn xa_read_file(file: &[u8], rows: &mut [u32]) -> Answer
     }
 }
 
-// Reads a file's data set into rows of seven numbers and judges it. With codes 1 to 8 and 15 to 17 the buffer stays as it was.
-#[no_mangle]
-pub extern "C" fn xa_judge_file(file: &[u8], rows: &mut [u32]) -> Answer
-    ensures { λ r. ⌜ r ≡ hosted (judgeFields (judgeFileOf (now (file .entry)) (now (rows .entry)))) ⌝ }
-    ensures { λ _. ⌜ now (rows .exit) ≡ rowsLeft (now (file .entry)) (now (rows .entry)) ⌝ }
+// The answer as the struct for hosts.
+fn judge_file_numbers(answer: JudgeFileAnswer) -> Answer
+    requires { ⌜ Fits32 (judgeFields answer) ⌝ }
+    ensures { λ r. ⌜ r ≡ hosted (judgeFields answer) ⌝ }
 {
-    match file::judge_file(file, rows) {
-        JudgeFileAnswer::Judged(answer) => judge_numbers(answer),
+    match answer {
+        JudgeFileAnswer::Judged(inner) => judge_numbers(inner),
         JudgeFileAnswer::NoMark => code_alone(15),
         JudgeFileAnswer::BadHead => code_alone(16),
         JudgeFileAnswer::OtherSyntax => code_alone(17),
         JudgeFileAnswer::OtherClass => code_alone(18),
     }
+}
+
+// Reads a file's data set into rows of seven numbers and judges it; with code 0 the sum of its searches is named too. With codes 1 to 8 and
+// 15 to 17 the buffer stays as it was.
+#[no_mangle]
+pub extern "C" fn xa_judge_file(file: &[u8], rows: &mut [u32]) -> Answer
+    ensures { λ r. ⌜ r ≡ reported (countedFields (countedFileOf (now (file .entry)) (now (rows .entry)))) ⌝ }
+    ensures { λ _. ⌜ now (rows .exit) ≡ rowsLeft (now (file .entry)) (now (rows .entry)) ⌝ }
+{
+    let counted = file::judge_file_counted(file, rows);
+    let answer = counted.answer;
+    let numbers = judge_file_numbers(answer);
+    with_searches(numbers, counted.searches)
 }
 
 // Judges a file's data set and draws a frame of it, a byte for each sample. With codes 1 to 8 and 15 to 17 the row buffer stays as it

@@ -12,7 +12,7 @@ mod slips;
 
 ghost use mathlib.Core.Path.{_≡_};
 ghost use Rattle.dataset.specs.Fields.{codeAlone, placed, counted, broken};
-ghost use Rattle.cabi.specs.Host.{hosted, Fits32, version};
+ghost use Rattle.cabi.specs.Host.{hosted, withSearches, Fits32, version};
 pub use comparing::Compared;
 pub use comparing::xa_compare;
 pub use files::Part;
@@ -43,6 +43,7 @@ pub struct Answer {
     pub rule: u32,
     pub frame: u32,
     pub masked: u32,
+    pub searches: u64,
 }
 
 // The version of the calls for hosts, XA_VERSION of the header.
@@ -64,6 +65,7 @@ fn code_alone(code: u32) -> Answer
         rule: 0,
         frame: 0,
         masked: 0,
+        searches: 0,
     }
 }
 
@@ -79,6 +81,7 @@ fn refused_at(code: usize, offset: usize) -> Answer
         rule: 0,
         frame: 0,
         masked: 0,
+        searches: 0,
     }
 }
 
@@ -94,6 +97,7 @@ fn done_with(rows: usize) -> Answer
         rule: 0,
         frame: 0,
         masked: 0,
+        searches: 0,
     }
 }
 
@@ -109,5 +113,21 @@ fn broken_at(rows: usize, rule: usize, frame: usize) -> Answer
         rule: rule as u32,
         frame: frame as u32,
         masked: 0,
+        searches: 0,
+    }
+}
+
+// The answer with the sum of its searches.
+fn with_searches(answer: Answer, searches: usize) -> Answer
+    ensures { λ r. ⌜ r ≡ withSearches searches answer ⌝ }
+{
+    Answer {
+        code: answer.code,
+        offset: answer.offset,
+        rows: answer.rows,
+        rule: answer.rule,
+        frame: answer.frame,
+        masked: answer.masked,
+        searches: searches as u64,
     }
 }

@@ -31,6 +31,7 @@ pub fn show_numbers(answer: ShowAnswer) -> Answer
             rule: 0,
             frame: 0,
             masked: masked_number(masked),
+            searches: 0,
         },
         ShowAnswer::Broken(n, rule, broken) => broken_at(n, rule, broken),
         ShowAnswer::Refused(code, offset) => refused_at(code, offset),

@@ -89,6 +89,7 @@ fn answer_of(v: Verdict) -> Answer
         rule: v.rule as u32,
         frame: v.frame as u32,
         masked: 0,
+        searches: 0,
     }
 }
 
@@ -122,6 +123,7 @@ pub extern "C" fn xa_read_slip(slip: &[u8]) -> Slip
                 rule: 0,
                 frame: 0,
                 masked: 0,
+                searches: 0,
             },
         },
     }

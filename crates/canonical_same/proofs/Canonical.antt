@@ -22,6 +22,7 @@ use Rattle.dataset.proofs.Parents.{Innermost, Outermost, Placed, placed}
 use Rattle.node.specs.Nodes.{Node, nodeOf, nodesOf, nodeAt, noNode}
 use Rattle.node.proofs.Laws.{table, nodes-count, node-is}
 use Rattle.conformance.specs.Judging.{judgeOf}
+use Rattle.searches.specs.Reported.{reportedOf}
 use Rattle.display.specs.Show.{showOf, imageOf}
 use Rattle.sheet.specs.Answer.{sheetOf}
 use Rattle.compare.specs.Answer.{compareOf}
@@ -46,6 +47,10 @@ module _ (s t : List ℕ) (a : ReadsWell s) (b : ReadsWell t) (n : nodesOf s ≡
   unfolding judgeOf
   judge-same rows = rw (n, answers rows)
 
+  searches-same : (rows : List ℕ) → reportedOf s rows ≡ reportedOf t rows
+  unfolding reportedOf
+  searches-same rows = rw (n, judge-same rows)
+
   show-same : (frame : ℕ) (rows image : List ℕ) → showOf s frame rows image ≡ showOf t frame rows image
   unfolding showOf
   show-same frame rows image = rw (n, judge-same rows)
@@ -63,7 +68,7 @@ module _ (s t : List ℕ) (a : ReadsWell s) (b : ReadsWell t) (n : nodesOf s ≡
   compare-same frame cells tolerance rows = rw (n, judge-same rows)
 
   alike : Alike s t
-  alike = record { judged = judge-same; shown = show-same; picture = image-same; sampled = sheet-same; compared = compare-same }
+  alike = record { judged = judge-same; searches = searches-same; shown = show-same; picture = image-same; sampled = sheet-same; compared = compare-same }
 
 -- ---- The same nodes: the rows agree, and the other way round
 

@@ -3,7 +3,7 @@
 -- Take a data set that reads well, and its canonical form: written with defined lengths throughout and no end marks, as
 -- crates/canonical/specs/Written.antt has it. Reading the canonical form gives as many rows, with the same tags, VRs, depths, rows below
 -- and, SQ aside, element values in the same order, and the same seventh numbers. It is never longer than the data set, and its own canonical
--- form is itself. With the same buffers and frame number, the judge answers the same for both, code 8 included, `show` gives the
+-- form is itself. With the same buffers and frame number, the judge answers the same for both, code 8 included, and reports the same sum of its searches, `show` gives the
 -- same answer and picture, `sheet` the same answer and numbers, and `compare` the same answer.
 --
 -- Two data sets that agree in tags, VRs, depths, rows below and element values have the same canonical form. The other way round, two that read well and have
@@ -24,6 +24,7 @@ use Rattle.dataset.specs.declared.ReadAnswer.the-variants as read-answer
 use Rattle.dataset.specs.Tree.{rowsOf, rowAt}
 use Rattle.node.specs.Nodes.{nodesOf}
 use Rattle.conformance.specs.Judging.{judgeOf}
+use Rattle.searches.specs.Reported.{reportedOf}
 use Rattle.display.specs.Show.{showOf, imageOf}
 use Rattle.sheet.specs.Answer.{sheetOf}
 use Rattle.compare.specs.Answer.{compareOf}
@@ -64,6 +65,7 @@ pub record Agree (s t : List ℕ) : Type 0 where
 -- Judged, drawn, sampled and compared alike, with whatever buffers, frame numbers, cells and tolerance.
 pub record Alike (s t : List ℕ) : Type 0 where
   pub judged : (rows : List ℕ) → judgeOf s rows ≡ judgeOf t rows
+  pub searches : (rows : List ℕ) → reportedOf s rows ≡ reportedOf t rows
   pub shown : (frame : ℕ) (rows image : List ℕ) → showOf s frame rows image ≡ showOf t frame rows image
   pub picture : (frame : ℕ) (rows image : List ℕ) → imageOf s frame rows image ≡ imageOf t frame rows image
   pub sampled : (first last : ℕ) (rows : List ℕ) → sheetOf s first last rows ≡ sheetOf t first last rows

@@ -38,6 +38,9 @@ use Rattle.file.specs.declared.JudgeFileAnswer.the-variants as judgeFile
 use Rattle.file.specs.declared.ShowFileAnswer.{ShowFileAnswer}
 use Rattle.file.specs.declared.ShowFileAnswer.the-variants as showFile
 use Rattle.file.specs.File.{startBy, startOf, startFields, sameClass, readIn, readPart, readBy, readFileOf, rowsBy, rowsLeft, judgeIn, judgePart, judgeBy, judgeFileOf, showIn, showPart, showBy, showFileOf, imageIn, imagePart, imageLeftBy, imageLeft, readFields, judgeFields, showFields}
+use Rattle.searches.specs.Searches.{searchesOf}
+use Rattle.searches.specs.Reported.{ifAccepted, reportedOf}
+use Rattle.file.specs.Searches.{searchesIn, insideSum, searchesFileOf}
 use Rattle.file.specs.Files as files
 
 -- ---- Answers with 18 put in
@@ -108,13 +111,21 @@ module _ (s : List ℕ) (from a b : ℕ) (e : metaOf s ≡ head.Good from a b) w
   unfolding rowsLeft
   rows-is buffer = ap (λ (m : Meta). rowsBy s m buffer) e
 
+  searches-is : (buffer : List ℕ) → judgeFileOf s buffer ≡ judgeFile.Judged (judgeOf (drop from s) buffer) → searchesFileOf s buffer ≡ reportedOf (drop from s) buffer
+  unfolding searchesFileOf reportedOf
+  searches-is buffer k = rw (k, e)
+
+  judge-bare : (buffer : List ℕ) → (judgeFileOf s buffer ≡ judgeFile.OtherClass → ⊥) → judgeFileOf s buffer ≡ judgeFile.Judged (judgeOf (drop from s) buffer)
+  judge-bare buffer h = judge-is buffer ∙ judge-in _ (judgeOf (drop from s) buffer) (λ x. h (judge-is buffer ∙ x))
+
   as-bare : files.AsBare s from
   as-bare =
       record {
         within = starts-within s e;
         rows = rows-is;
         read = λ buffer h. read-is buffer ∙ read-in _ (answerOf (readingOf (drop from s)) buffer) (λ x. h (read-is buffer ∙ x));
-        judge = λ buffer h. judge-is buffer ∙ judge-in _ (judgeOf (drop from s) buffer) (λ x. h (judge-is buffer ∙ x));
+        judge = judge-bare;
+        searches = λ buffer h. searches-is buffer (judge-bare buffer h);
         show = λ f buffer image h.
             let k : showFileOf s f buffer image ≡ showFile.Shown (showOf (drop from s) f buffer image) = show-is f buffer image ∙ show-in _ (showOf (drop from s) f buffer image) (λ x. h (show-is f buffer image ∙ x)) in
             (k, image-is f buffer image ∙ ap (λ (x : ShowFileAnswer). imageIn x (imageOf (drop from s) f buffer image) image) k);

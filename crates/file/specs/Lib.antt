@@ -1,3 +1,4 @@
 pub mod File
 pub mod Part
+pub mod Searches
 pub mod Files

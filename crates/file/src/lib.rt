@@ -14,6 +14,8 @@ ghost use Rattle.dataset.specs.Answer.{bufferOf};
 ghost use Rattle.node.specs.Nodes.{nodesOf};
 ghost use Rattle.node.specs.Table.{Table};
 ghost use Rattle.file.specs.File.{startOf, sameClass, readPart, readFileOf, rowsLeft, judgePart, judgeFileOf, showPart, showFileOf, imagePart, imageLeft, startFields, readFields, judgeFields, showFields};
+ghost use Rattle.searches.specs.Searches.{searchesOf};
+ghost use Rattle.file.specs.Searches.{searchesIn, countedPart, countedFileOf, countedFields, LeftIn};
 ghost use Rattle.file.specs.Part.{Rest};
 
 // Where the data set starts; codes 15, 16, 17.
@@ -40,6 +42,12 @@ pub enum JudgeFileAnswer {
     BadHead,
     OtherSyntax,
     OtherClass,
+}
+
+// The answer of `judge_file`, and the sum of its searches: 0 with every other answer than code 0.
+pub struct CountedFile {
+    pub answer: JudgeFileAnswer,
+    pub searches: usize,
 }
 
 // The answer of `show_file`: that of showing the data set; codes 15 to 18.
@@ -135,6 +143,29 @@ fn judge_part(bytes: &[u8], class: &[u8], rows: &mut [u32]) -> JudgeFileAnswer
     }
 }
 
+// The sum, with code 0; the row buffer is as judging left it.
+fn searches_in(bytes: &[u8], rows: &[u32], answer: JudgeFileAnswer) -> usize
+    requires { ⌜ LeftIn (now bytes) (now rows) answer ⌝ }
+    ensures { λ r. ⌜ r ≡ searchesIn (searchesOf (nodesOf (now (bytes .entry)))) answer ⌝ }
+{
+    match answer {
+        JudgeFileAnswer::Judged(a) => searches::reported(bytes, rows, a),
+        JudgeFileAnswer::NoMark => 0,
+        JudgeFileAnswer::BadHead => 0,
+        JudgeFileAnswer::OtherSyntax => 0,
+        JudgeFileAnswer::OtherClass => 0,
+    }
+}
+
+fn count_part(bytes: &[u8], class: &[u8], rows: &mut [u32]) -> CountedFile
+    ensures { λ r. ⌜ r ≡ countedPart (now (bytes .entry)) (now (class .entry)) (now (rows .entry)) ⌝ }
+    ensures { λ _. ⌜ now (rows .exit) ≡ bufferOf (readingOf (now (bytes .entry))) (now (rows .entry)) ⌝ }
+{
+    let answer = judge_part(bytes, class, rows);
+    let searches = searches_in(bytes, rows, answer);
+    CountedFile { answer, searches }
+}
+
 fn show_part(
     bytes: &[u8],
     class: &[u8],
@@ -195,6 +226,28 @@ pub fn judge_file(file: &[u8], rows: &mut [u32]) -> JudgeFileAnswer
         Meta::BadHead => JudgeFileAnswer::BadHead,
         Meta::OtherSyntax => JudgeFileAnswer::OtherSyntax,
         Meta::Good(from, a, b) => judge_part(data_set(file, from), &file[a..b], rows),
+    }
+}
+
+// Reads a file's data set afresh, judges it, and adds its searches up.
+pub fn judge_file_counted(file: &[u8], rows: &mut [u32]) -> CountedFile
+    ensures { λ r. ⌜ Answers countedFields r (countedFileOf (now (file .entry)) (now (rows .entry))) ⌝ }
+    ensures { λ _. ⌜ now (rows .exit) ≡ rowsLeft (now (file .entry)) (now (rows .entry)) ⌝ }
+{
+    match meta::read_head(file) {
+        Meta::NoMark => CountedFile {
+            answer: JudgeFileAnswer::NoMark,
+            searches: 0,
+        },
+        Meta::BadHead => CountedFile {
+            answer: JudgeFileAnswer::BadHead,
+            searches: 0,
+        },
+        Meta::OtherSyntax => CountedFile {
+            answer: JudgeFileAnswer::OtherSyntax,
+            searches: 0,
+        },
+        Meta::Good(from, a, b) => count_part(data_set(file, from), &file[a..b], rows),
     }
 }
 

@@ -2,6 +2,7 @@ pub mod Words
 pub mod Root
 pub mod Frames
 pub mod Judged
+pub mod Searched
 pub mod Steps
 pub mod Nodes
 pub mod Answers

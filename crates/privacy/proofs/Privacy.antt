@@ -20,9 +20,11 @@ use Rattle.display.specs.Show.{showOf, imageOf}
 use Rattle.linear.specs.Answer.{linearOf, valuesOf}
 use Rattle.sheet.specs.Answer.{sheetOf}
 use Rattle.compare.specs.Answer.{compareOf}
+use Rattle.searches.specs.Reported.{reportedOf}
 use Rattle.privacy.specs.Read.{readTags, isRead}
 use Rattle.privacy.specs.Alike.{Alike, SamePixels}
 use Rattle.privacy.specs.Privacy.{patientTags, isPatient, keptValue, SameButPatient, SameAnswers, Privacy}
+use Rattle.privacy.proofs.Searched.{searches-same}
 use Rattle.privacy.proofs.Nodes.{both-at, tag-at, alike, same-pixels}
 use Rattle.privacy.proofs.Answers.{judge-same}
 use Rattle.privacy.proofs.Shown.{picture-same, shown-same}
@@ -87,6 +89,10 @@ module _ (s t : List ℕ) (p : SameButPatient s t) where
   judged-same : (buffer : List ℕ) → judgeOf s buffer ≡ judgeOf t buffer
   judged-same = judge-same s t (p .shape) a
 
+  reported-same : (buffer : List ℕ) → reportedOf s buffer ≡ reportedOf t buffer
+  unfolding reportedOf
+  reported-same buffer = rw (judged-same buffer, searches-same a)
+
   show-same : (frame : ℕ) (buffer image : List ℕ) → showOf s frame buffer image ≡ showOf t frame buffer image
   unfolding showOf
   show-same frame buffer image = rw (judged-same buffer) (shown-same a b frame image (judgeOf t buffer))
@@ -115,6 +121,7 @@ module _ (s t : List ℕ) (p : SameButPatient s t) where
   answers =
       record {
         judged = judged-same;
+        searches = reported-same;
         slip = λ buffer. ap (λ (r : JudgeAnswer). slipOf (verdictOf r)) (judged-same buffer);
         shown = show-same;
         picture = image-same;

@@ -3,7 +3,7 @@
 -- Once a data set reads, nothing of four patient items reaches a verdict, a picture or a sheet. Take two data sets within the size
 -- limit that both read, with the same rows but for places and lengths, whose values differ only in the root elements Patient's Name
 -- (0010,0010), Patient ID (0010,0020), Patient's Birth Date (0010,0030) and Image Comments (0020,4000), in any lengths. With the same
--- buffers and frame numbers, `judge` gives the same code, rule, frame and row count; `show` the same answer and the same image buffer; `sheet`
+-- buffers and frame numbers, `judge` gives the same code, rule, frame and row count, and the same sum of its searches; `show` the same answer and the same image buffer; `sheet`
 -- the same answer and the same numbers. So do `compare`, the mapping to beam intensity and the slip of the verdict.
 --
 -- Not promised: the row table, offsets and the canonical form, which do depend on these values.
@@ -20,6 +20,7 @@ use Rattle.node.specs.Nodes.{valueIn}
 use Rattle.slip.specs.Slip.{slipOf}
 use Rattle.rules.specs.Frame.{isIn}
 use Rattle.conformance.specs.Judging.{judgeOf, verdictOf}
+use Rattle.searches.specs.Reported.{reportedOf}
 use Rattle.display.specs.Show.{showOf, imageOf}
 use Rattle.linear.specs.Answer.{linearOf, valuesOf}
 use Rattle.sheet.specs.Answer.{sheetOf}
@@ -47,6 +48,7 @@ pub record SameButPatient (s t : List ℕ) : Type 0 where
 pub record SameAnswers (s t : List ℕ) : Type 0 where
   -- Code, rule, frame and row count.
   pub judged : (buffer : List ℕ) → judgeOf s buffer ≡ judgeOf t buffer
+  pub searches : (buffer : List ℕ) → reportedOf s buffer ≡ reportedOf t buffer
   pub slip : (buffer : List ℕ) → slipOf (verdictOf (judgeOf s buffer)) ≡ slipOf (verdictOf (judgeOf t buffer))
   -- The answer, and the image buffer afterwards.
   pub shown : (frame : ℕ) (buffer image : List ℕ) → showOf s frame buffer image ≡ showOf t frame buffer image

@@ -1,0 +1,7 @@
+pub mod Count
+pub mod Searches
+pub mod Reported
+pub mod Limit
+pub mod Plain
+pub mod Parts
+pub mod Samples
