@@ -1,9 +1,13 @@
 //! Files and bare data sets, and what is said of them. Display text only: which bytes are the data set, and whether a file's head is
 //! good, is the library's answer.
 
+use crate::buffer::RowBuffer;
+use crate::found::{self, Finding};
+use crate::identity::Identity;
 use crate::library::{self, Answer};
 use crate::sentences;
 use crate::table::Table;
+use crate::values::Source;
 
 /// What the named files are. It is said by the caller and never guessed.
 #[derive(Clone, Copy, PartialEq, Eq)]
@@ -39,8 +43,12 @@ pub struct Judged {
     /// Where the data set starts in the file; nothing for a bare data set.
     pub start: Option<usize>,
     pub hint: Option<String>,
+    /// What a refusal found.
+    pub found: Vec<Finding>,
+    pub identity: Identity,
 }
 
+const RULE_BROKEN: u32 = 9;
 const NO_MARK: u32 = 15;
 const OTHER_SYNTAX: u32 = 17;
 
@@ -53,18 +61,73 @@ impl Judged {
             OTHER_SYNTAX => Some(wanted(content)),
             _ => None,
         };
-        Judged { answer, item_row, start, hint }
+        let (found, identity) = quoted(form, content, &answer, table);
+        Judged { answer, item_row, start, hint, found, identity }
     }
 
-    /// The answer in a line, with the hint where there is one.
+    /// The answer in a line, with what was found and the hint where there are such.
     pub fn line(&self) -> String {
         let mut text = sentences::answer(&self.answer, self.item_row, self.start);
+        if !self.found.is_empty() {
+            let by_rule = self.answer.code == RULE_BROKEN;
+            text.push_str(if by_rule { " Found: " } else { "; found: " });
+            text.push_str(&found::line(&self.found));
+            text.push_str(if by_rule { "." } else { "" });
+        }
         if let Some(hint) = &self.hint {
             text.push_str("; ");
             text.push_str(hint);
         }
         text
     }
+}
+
+/// The rows of a data set, or of what stands before the header at which reading it stops; none where that does not read by itself.
+fn rows_of(data: &[u8]) -> (RowBuffer, u32) {
+    let mut buffer = RowBuffer::default();
+    let mut end = data.len();
+    for _ in 0..2 {
+        match buffer.read(Form::Bare, &data[..end]) {
+            Ok(Answer { code: 0, rows, .. }) => return (buffer, rows),
+            Ok(Answer { code: 1..=6, offset, .. }) if (offset as usize) < end => end = offset as usize,
+            _ => break,
+        }
+    }
+    (buffer, 0)
+}
+
+/// A file's head without its mark, and the data set behind it, as the head's own length says; nothing where that says nothing. For print: of
+/// a head that is refused the library says no start.
+fn parts(form: Form, content: &[u8]) -> (&[u8], &[u8]) {
+    let length = match content.get(132..144) {
+        _ if form == Form::Bare => return (&[], content),
+        Some(&[2, 0, 0, 0, b'U', b'L', 4, 0, a, b, c, d]) => u32::from_le_bytes([a, b, c, d]) as usize,
+        _ => return (&[], &[]),
+    };
+    let end = content.len().min(144 + length);
+    (&content[132..end], &content[end..])
+}
+
+/// What a refusal found, and what the run is called by.
+fn quoted(form: Form, content: &[u8], answer: &Answer, table: Table) -> (Vec<Finding>, Identity) {
+    let (head, data) = parts(form, content);
+    // With these codes the library hands the rows over and says how many.
+    if matches!(answer.code, 0 | RULE_BROKEN) {
+        let source = Source::of(data, table);
+        return (found::by_rule(source, answer), Identity::of(&source));
+    }
+    let ((head_rows, head_count), (rows, count)) = (rows_of(head), rows_of(data));
+    let (of_head, of_data) = (Source::of(head, head_rows.table(head_count)), Source::of(data, rows.table(count)));
+    let found = match form {
+        Form::File if answer.code >= NO_MARK => found::by_head(content, answer, &of_head, &of_data),
+        _ => found::by_code(data, answer, of_data.table),
+    };
+    (found, Identity::of(&of_data).or_head(&of_head))
+}
+
+/// Whether a VR has two reserved bytes and a length of 32 bits (PS3.5, 7.1.2).
+pub fn has_long_header(vr: [u8; 2]) -> bool {
+    matches!(&vr, b"OB" | b"OD" | b"OF" | b"OL" | b"OV" | b"OW" | b"SQ" | b"SV" | b"UC" | b"UN" | b"UR" | b"UT" | b"UV")
 }
 
 /// Which transfer syntax it is, and which the sender should send.
@@ -84,11 +147,7 @@ fn transfer_syntax(content: &[u8]) -> Option<String> {
     let mut at = 132;
     loop {
         let header = content.get(at..at + 8)?;
-        let long = matches!(
-            &header[4..6],
-            b"OB" | b"OD" | b"OF" | b"OL" | b"OV" | b"OW" | b"SQ" | b"SV" | b"UC" | b"UN" | b"UR" | b"UT" | b"UV"
-        );
-        let (start, length) = if long {
+        let (start, length) = if has_long_header([header[4], header[5]]) {
             let length = content.get(at + 8..at + 12)?;
             (at + 12, u32::from_le_bytes([length[0], length[1], length[2], length[3]]) as usize)
         } else {

@@ -8,9 +8,11 @@ use std::sync::mpsc::{channel, Sender};
 use std::thread;
 
 use indicatif::{ProgressBar, ProgressDrawTarget, ProgressStyle};
+use serde_json::Value;
 
 use crate::buffer::RowBuffer;
-use crate::files::{self, Finding, Found, Opened};
+use crate::files::{self, Found, Opened};
+use crate::found::Finding;
 use crate::head::{Form, Judged};
 use crate::library::{self, Answer, SLIP_SIZE};
 use crate::output::{answer_fields, json_text, line, note, note_of, path_fields, trouble_fields, Status};
@@ -26,6 +28,9 @@ pub struct Wanted {
     pub slips: Option<PathBuf>,
     pub json: bool,
     pub jobs: usize,
+    /// Whether the run's identity is told below its line, and whether the patient's is.
+    pub long: bool,
+    pub patient: bool,
 }
 
 /// What is said of one file.
@@ -57,11 +62,16 @@ impl Report {
         text
     }
 
+    /// The lines below the first: what the run is called by.
+    fn identity(&self, patient: bool) -> String {
+        self.verdict.as_ref().map_or_else(|_| String::new(), |judged| judged.identity.lines(patient))
+    }
+
     /// One object: `path`, `verdict`, then the answer's numbers and its sentence, or the error.
-    fn json(&self, path: &Path) -> String {
+    fn json(&self, path: &Path, patient: bool) -> String {
         let mut fields = path_fields("path", path);
         match &self.verdict {
-            Ok(Judged { answer, item_row, start, hint }) => {
+            Ok(Judged { answer, item_row, start, hint, found, identity }) => {
                 fields.push_str(&answer_fields(answer, Some(answer.rows)));
                 fields.push_str(&format!(",\"item_row\":{item_row}"));
                 if let Some(start) = start {
@@ -70,6 +80,10 @@ impl Report {
                 if let Some(hint) = hint {
                     fields.push_str(&format!(",\"hint\":{}", json_text(hint)));
                 }
+                if !found.is_empty() {
+                    fields.push_str(&format!(",\"found\":{}", Value::from_iter(found.iter().map(Finding::json))));
+                }
+                fields.push_str(&format!(",\"identity\":{}", identity.json(patient)));
             }
             Err(trouble) => fields.push_str(&trouble_fields(trouble)),
         }
@@ -157,7 +171,7 @@ fn same_slip<'a>(found: &'a [Found], folder: &Path) -> Option<(&'a Path, &'a Pat
 }
 
 /// A bar on standard error, where that is a terminal and there is more than one file.
-fn progress(files: usize) -> ProgressBar {
+pub fn progress(files: usize) -> ProgressBar {
     if files < 2 {
         return ProgressBar::hidden();
     }
@@ -211,6 +225,8 @@ impl Counts {
 struct Printing<'a> {
     found: &'a [Found],
     json: bool,
+    long: bool,
+    patient: bool,
     out: &'a mut dyn Write,
     bar: ProgressBar,
     waiting: BTreeMap<usize, Report>,
@@ -227,9 +243,13 @@ impl Printing<'_> {
             self.status = self.status.max(report.status());
             let path = &self.found[self.due].path;
             let (out, json) = (&mut self.out, self.json);
+            let (long, patient) = (self.long, self.patient);
             self.bar.suspend(|| match json {
-                true => out.write_all(report.json(path).as_bytes()),
-                false => line(*out, path, &report.text()),
+                true => out.write_all(report.json(path, patient).as_bytes()),
+                false => {
+                    line(*out, path, &report.text())?;
+                    out.write_all(if long { report.identity(patient) } else { String::new() }.as_bytes())
+                }
             })?;
             self.bar.inc(1);
             self.due += 1;
@@ -262,8 +282,8 @@ fn judge_all(wanted: &Wanted, printing: &mut Printing) -> io::Result<()> {
 }
 
 /// What was named, unless there is nothing to judge or two files would share a slip.
-fn find(wanted: &Wanted) -> Option<Finding> {
-    let finding = Finding::of(&wanted.named, wanted.slips.as_deref());
+fn find(wanted: &Wanted) -> Option<files::Finding> {
+    let finding = files::Finding::of(&wanted.named, wanted.slips.as_deref());
     for (path, reason) in &finding.skipped {
         note_of(path, &format!("skipped: {reason}"));
     }
@@ -288,6 +308,8 @@ pub fn run(wanted: &Wanted, out: &mut dyn Write) -> io::Result<Status> {
     let mut printing = Printing {
         found: &finding.found,
         json: wanted.json,
+        long: wanted.long,
+        patient: wanted.patient,
         out,
         bar: progress(finding.found.len()),
         waiting: BTreeMap::new(),

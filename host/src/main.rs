@@ -9,15 +9,22 @@ mod canonical;
 mod comparing;
 mod demo;
 mod files;
+mod found;
+mod frames;
 mod head;
+mod identity;
 mod judging;
 mod library;
 mod listing;
+mod looks;
+mod names;
 mod output;
 mod picture;
+mod report;
 mod sampling;
 mod sentences;
 mod table;
+mod values;
 
 use std::io::{self, Write};
 use std::path::{Path, PathBuf};
@@ -31,8 +38,8 @@ use output::{note, Status};
 
 const STATUSES: &str = "\
 Exit status:
-  0  all was accepted (judge, slip read), read (rows, duplicates), written (canonical), drawn (show, contact), counted (sheet),
-     within the tolerance (compare) or mapped (linear)
+  0  all was accepted (judge, slip read), read (rows, duplicates), written (canonical, report), drawn (show, movie, contact),
+     counted (sheet), within the tolerance (compare) or mapped (linear)
   1  something was refused; the line says why
   2  wrong usage, nothing to judge, or a file that cannot be read or written
 
@@ -69,12 +76,18 @@ enum Command {
         /// Draw what stands in what: the row's number, its tag and VR or which item it is, length and offset of the value
         #[arg(long)]
         tree: bool,
+        /// Add each attribute's name and a short value. Values of group 0010, the patient's, are left out
+        #[arg(long)]
+        names: bool,
+        /// With --names, show the patient's values too
+        #[arg(long, requires = "names")]
+        patient: bool,
     },
     /// Judge files by the 39 rules, one line for each
     ///
     /// A line says: accepted; or the first broken rule, the lowest frame that breaks it (0: not a matter of one frame), which
-    /// item and row are that frame's, and what the rule asks; or the code and the byte at which reading stopped. A summary is
-    /// the last line. Folders are gone through in the order of names. Links to folders are not followed.
+    /// item and row are that frame's, what the rule asks, and what was found; or the code and the byte at which reading stopped, and
+    /// what stands there. A summary is the last line. Folders are gone through in the order of names. Links to folders are not followed.
     Judge {
         /// Files, or folders whose files are judged
         #[arg(required = true, value_name = "FILE|DIR")]
@@ -88,25 +101,58 @@ enum Command {
         /// Print one JSON object a line, and the summary on standard error
         #[arg(long)]
         json: bool,
+        /// Print below each line what the run is called by: SOP Instance and Study Instance UID, institution, station, time
+        #[arg(long, conflicts_with = "json")]
+        long: bool,
+        /// Print the patient's name, ID and birth date too, with --long or --json
+        #[arg(long)]
+        patient: bool,
         /// How many files to judge at a time [default: as many as there are processors]
         #[arg(long, value_name = "N", value_parser = clap::value_parser!(u16).range(1..=256))]
         jobs: Option<u16>,
     },
-    /// Draw one frame
+    /// Draw frames
     ///
-    /// The frame is drawn as the run's own mask, shifts and window say.
+    /// A frame is drawn as the run's own mask, shifts and window say. Several frames go to a folder, each in a file of its own, or one behind
+    /// the other to standard output.
     Show {
         /// A DICOM file
         file: PathBuf,
         /// FILE is a data set without a head, whatever stands in it
         #[arg(long)]
         bare: bool,
-        /// The frame, from 1 on
-        #[arg(value_parser = frame_number)]
-        frame: u64,
-        /// The picture, .png or .pgm [default: FILE.frame-FRAME.png in the working folder]
+        /// The frame, from 1 on; or several, such as 1-24, or all
+        #[arg(value_name = "FRAMES", value_parser = frames::frames)]
+        frames: frames::Frames,
+        /// The picture, .png or .pgm, or a folder, or - for standard output [default: FILE.frame-FRAME.png in the working folder]
+        #[arg(short, long, value_name = "PICTURE|DIR|-")]
+        output: Option<PathBuf>,
+        /// What pictures in a folder or on standard output are [default: png]
+        #[arg(long = "as", value_name = "KIND")]
+        kind: Option<picture::Form>,
+        /// Draw each frame twice: as the run says on the left, and on the right without its mask, in the same window
+        #[arg(long)]
+        both: bool,
+    },
+    /// Draw frames as a movie, an animated PNG, to scroll through a run
+    Movie {
+        /// A DICOM file
+        file: PathBuf,
+        /// FILE is a data set without a head, whatever stands in it
+        #[arg(long)]
+        bare: bool,
+        /// The frames, such as 5-12, or all
+        #[arg(value_name = "FRAMES", value_parser = frames::frames, default_value = "all")]
+        frames: frames::Frames,
+        /// The picture, .png [default: FILE.movie.png in the working folder]
         #[arg(short, long, value_name = "PICTURE")]
         output: Option<PathBuf>,
+        /// Frames a second [default: as the run says, else 10]
+        #[arg(long, value_name = "N", value_parser = clap::value_parser!(u16).range(1..=1000))]
+        rate: Option<u16>,
+        /// Draw each frame twice: as the run says on the left, and on the right without its mask, in the same window
+        #[arg(long)]
+        both: bool,
     },
     /// Draw a contact sheet of up to 24 frames, for sampling by eye
     ///
@@ -217,6 +263,38 @@ enum Command {
         #[arg(long)]
         csv: bool,
     },
+    /// Make a page about runs, by sender, that needs no network
+    ///
+    /// The page has a table of senders with counts by rule; each run with its verdict, what was found, what it is called by, some of its frames
+    /// and the plot of its sampling sheet; and a text for each sender, to be pasted into a letter. It filters and sorts. The status says
+    /// whether the page was written, whatever the verdicts.
+    Report {
+        /// Files, or folders whose files are reported on
+        #[arg(required = true, value_name = "FILE|DIR")]
+        paths: Vec<PathBuf>,
+        /// The files are data sets without a head, whatever stands in them
+        #[arg(long)]
+        bare: bool,
+        /// The page
+        #[arg(short, long, value_name = "PAGE", default_value = "report.html")]
+        output: PathBuf,
+        /// Write a table of the runs beside the page, with the ending .csv
+        #[arg(long)]
+        csv: bool,
+        /// Tell the patient's name, ID and birth date too
+        #[arg(long)]
+        patient: bool,
+        /// How many files to look at at a time [default: as many as there are processors]
+        #[arg(long, value_name = "N", value_parser = clap::value_parser!(u16).range(1..=256))]
+        jobs: Option<u16>,
+    },
+    /// Print the completions of a shell
+    ///
+    /// For bash: luux completions bash > ~/.local/share/bash-completion/completions/luux
+    Completions {
+        /// The shell
+        shell: clap_complete::Shell,
+    },
     /// Look at verdict slips
     Slip {
         #[command(subcommand)]
@@ -270,17 +348,33 @@ fn processors() -> usize {
 
 fn run(command: Command, out: &mut dyn Write) -> io::Result<Status> {
     match command {
-        Command::Rows { file, bare, tree } => {
+        Command::Rows { file, bare, tree, names, patient } => {
             let form = if tree { listing::Form::Tree } else { listing::Form::Numbers };
-            listing::rows(&file, Form::of(bare), form, out)
+            listing::rows(&file, Form::of(bare), form, listing::Names::of(names, patient), out)
         }
-        Command::Judge { paths, bare, slips, json, jobs } => {
+        Command::Judge { paths, bare, slips, json, long, patient, jobs } => {
             let jobs = jobs.map_or_else(processors, usize::from);
-            judging::run(&judging::Wanted { named: paths, form: Form::of(bare), slips, json, jobs }, out)
+            judging::run(&judging::Wanted { named: paths, form: Form::of(bare), slips, json, jobs, long, patient }, out)
         }
-        Command::Show { file, bare, frame, output } => {
-            check_picture(output.as_deref());
-            picture::show(&file, Form::of(bare), frame, output.as_deref(), out)
+        Command::Show { file, bare, frames, output, kind, both } => {
+            if let Some(text) = frames::objection(output.as_deref(), frames) {
+                Arguments::command().error(ErrorKind::ValueValidation, text).exit();
+            }
+            frames::show(
+                &file,
+                frames,
+                &frames::Wanted { form: Form::of(bare), both, kind, output: output.as_deref() },
+                out,
+            )
+        }
+        Command::Movie { file, bare, frames, output, rate, both } => {
+            let is_png = |path: &Path| picture::form_of(path) == Some(picture::Form::Png);
+            if let Some(path) = output.as_deref().filter(|path| !is_png(path)) {
+                let text = format!("{}: the name of a movie must end in .png", path.display());
+                Arguments::command().error(ErrorKind::ValueValidation, text).exit();
+            }
+            let wanted = frames::Wanted { form: Form::of(bare), both, kind: None, output: output.as_deref() };
+            frames::movie(&file, frames, rate, &wanted, out)
         }
         Command::Contact { file, bare, output } => {
             check_picture(output.as_deref());
@@ -304,7 +398,9 @@ fn run(command: Command, out: &mut dyn Write) -> io::Result<Status> {
             };
             match what.to_str().unwrap_or("").parse() {
                 Ok(frame) => comparing::picture(&file, frame, &other, &wanted, out),
-                Err(_) => Arguments::command().error(ErrorKind::ValueValidation, "a frame is a whole number, from 1 on").exit(),
+                Err(_) => Arguments::command()
+                    .error(ErrorKind::ValueValidation, "a frame is a whole number, from 1 on")
+                    .exit(),
             }
         }
         Command::Canonical { file, bare, output } => canonical::write(&file, Form::of(bare), &output, out),
@@ -313,6 +409,15 @@ fn run(command: Command, out: &mut dyn Write) -> io::Result<Status> {
         Command::Linear { file, bare, frame, output, .. } => {
             check_picture(output.as_deref());
             picture::linear(&file, Form::of(bare), frame, output.as_deref(), out)
+        }
+        Command::Report { paths, bare, output, csv, patient, jobs } => {
+            let jobs = jobs.map_or_else(processors, usize::from);
+            report::run(&report::Wanted { named: paths, form: Form::of(bare), output, csv, patient, jobs }, out)
+        }
+        Command::Completions { shell } => {
+            let mut script = Vec::new();
+            clap_complete::generate(shell, &mut Arguments::command(), "luux", &mut script);
+            out.write_all(&script).map(|()| Status::Fine)
         }
         Command::Slip { command: SlipCommand::Read { files, json } } => listing::read_slips(&files, json, out),
         Command::Demo { folder } => demo::run(&folder, processors(), out),

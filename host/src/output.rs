@@ -62,17 +62,7 @@ pub fn trouble_fields(trouble: &str) -> String {
 
 /// A text as a JSON string, with its quotes.
 pub fn json_text(text: &str) -> String {
-    let mut quoted = String::from("\"");
-    for letter in text.chars() {
-        match letter {
-            '"' => quoted.push_str("\\\""),
-            '\\' => quoted.push_str("\\\\"),
-            _ if letter.is_control() => quoted.push_str(&format!("\\u{:04x}", letter as u32)),
-            _ => quoted.push(letter),
-        }
-    }
-    quoted.push('"');
-    quoted
+    serde_json::Value::from(text).to_string()
 }
 
 /// A path as a JSON field. Where it is not UTF-8, its bytes follow in hexadecimal, since no JSON string can hold them.

@@ -172,6 +172,13 @@ fn plotted(sheet: &Sheet) -> Result<Image<u8>, String> {
     Ok(image)
 }
 
+/// The picture of all frames' sheet, and a line about it.
+pub fn plot(run: &mut Run) -> Result<(Image<u8>, String), Failure> {
+    let (first, last) = (1, run.frames());
+    let sheet = Sheet { first, last, numbers: run.sample(first, last)? };
+    Ok((plotted(&sheet)?, sheet.about()))
+}
+
 /// Samples a run.
 pub fn run(path: &Path, wanted: &Wanted, out: &mut dyn Write) -> io::Result<Status> {
     let sheet = match sample(path, wanted.form, wanted.frames) {
