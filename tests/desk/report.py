@@ -229,7 +229,8 @@ class TestReportInABrowser(Reported):
         letters = dict(letters)
         self.assertEqual(set(letters), {"Klinikum Nord, ANGIO-1", "Klinikum Nord, ANGIO-2", "Hôpital Saint-Luc, XA3", f"{HOSTILE}, =1+1"})
         text = letters["Klinikum Nord, ANGIO-2"]
-        for part in ("Of 1 run that came from you, 1 was refused", "1. File: runs/b.dcm", "SOP Instance UID: 1.2.3.3", "Study Instance UID: 1.9.3",
+        self.assertTrue(text.startswith("Institution Name: Klinikum Nord\nStation Name: ANGIO-2\n\nOf 1 run that came from you, 1 was refused by"), text)
+        for part in ("1. File: runs/b.dcm", "SOP Instance UID: 1.2.3.3", "Study Instance UID: 1.9.3",
                      "Rule 30, frame 7 (item 7 of (5200,9230), row ", f": {SENTENCES[30]}", "Window Width (0028,1051) absent from item 1 of (0028,9132) of frame 7"):
             self.assertIn(part, text)
         self.assertIn("Of 3 runs that came from you, 2 were refused", letters["Hôpital Saint-Luc, XA3"])

@@ -1,6 +1,7 @@
 //! The text for a sender, to be pasted into a letter: each refused run with rule, frame, and what was found.
 
-use super::{by_text, End, Entry, Sent};
+use super::{by_text, End, Entry, Sender, Sent};
+use crate::identity::{INSTITUTION, STATION};
 use crate::names;
 use crate::values::counted;
 
@@ -27,7 +28,9 @@ fn place(entry: &Entry) -> String {
 fn refused(number: usize, entry: &Entry, patient: bool) -> String {
     let mut lines = vec![format!("{number}. File: {}", entry.path)];
     if let Some(judged) = entry.judged() {
-        lines.extend(judged.identity.told(patient).map(|(field, text)| format!("{}: {text}", names::name(field.tag))));
+        // The sender stands at the top.
+        let told = judged.identity.told(patient).filter(|(field, _)| !matches!(field.tag, INSTITUTION | STATION));
+        lines.extend(told.map(|(field, text)| format!("{}: {text}", names::name(field.tag))));
         lines.push(format!("{}: {}", place(entry), entry.sentence()));
         if !judged.found.is_empty() {
             lines.push(format!("Found: {}", entry.found()));
@@ -48,8 +51,15 @@ pub fn text(sent: &Sent, entries: &[Entry], patient: bool) -> Option<String> {
     }
     let was = if listed.len() == 1 { "was" } else { "were" };
     let them = if listed.len() == 1 { "it" } else { "them" };
+    let Sender { institution, station } = &sent.sender;
+    let to: String = [(INSTITUTION, institution), (STATION, station)]
+        .into_iter()
+        .filter(|(_, name)| !name.is_empty())
+        .map(|(tag, name)| format!("{}: {name}\n", names::name(tag)))
+        .collect();
+    let gap = if to.is_empty() { "" } else { "\n" };
     Some(format!(
-        "Of {} that came from you, {} {was} refused by our import desk. Please correct and send {them} again.\n\n{}\n",
+        "{to}{gap}Of {} that came from you, {} {was} refused by our import desk. Please correct and send {them} again.\n\n{}\n",
         counted(sent.entries.len(), "run"),
         listed.len(),
         listed.join("\n\n")

@@ -77,7 +77,7 @@ fn tiles(entries: &[Entry], senders: &[Sent]) -> String {
     let count = |end| entries.iter().filter(|entry| entry.end() == end).count();
     let tile = |class: &str, number: usize, word: &str| format!("<li class=\"{class}\"><b>{number}</b> {word}</li>");
     [
-        tile("all", entries.len(), if entries.len() == 1 { "run" } else { "runs" }),
+        tile("all", entries.len(), if entries.len() == 1 { "file" } else { "files" }),
         tile("accepted", count(End::Accepted), "accepted"),
         tile("refused", count(End::Refused), "refused"),
         tile("unread", count(End::Unread), "not read"),
@@ -233,16 +233,23 @@ fn letters(entries: &[Entry], senders: &[Sent], patient: bool) -> String {
 pub fn made(wanted: &Wanted, entries: &[Entry], senders: &[Sent]) -> String {
     let folders: Vec<String> =
         wanted.named.iter().map(|path| text(&String::from_utf8_lossy(&files::printed(path)))).collect();
-    let of = |place: usize| senders.iter().position(|sent| sent.entries.contains(&place));
-    let rows: String =
-        entries.iter().enumerate().map(|(place, entry)| run(place, entry, of(place), wanted.patient)).collect();
+    let mut of = vec![None; entries.len()];
+    for (number, sent) in senders.iter().enumerate() {
+        sent.entries.iter().for_each(|&place| of[place] = Some(number));
+    }
+    let rows: String = entries
+        .iter()
+        .zip(of)
+        .enumerate()
+        .map(|(place, (entry, sender))| run(place, entry, sender, wanted.patient))
+        .collect();
     let lines: String = senders.iter().enumerate().map(|(number, sent)| sender_row(number, sent, entries)).collect();
     format!(
         "<!DOCTYPE html>\n<html lang=\"en\"><head><meta charset=\"utf-8\">\n\
          <meta http-equiv=\"Content-Security-Policy\" content=\"default-src 'none'; img-src data:; style-src {style_hash}; script-src {script_hash}; \
          base-uri 'none'; form-action 'none'\">\n\
-         <meta name=\"viewport\" content=\"width=device-width, initial-scale=1\"><title>luux: {runs}</title>\n<style>{STYLE}</style></head>\n<body>\n\
-         <header><h1>{runs} of X-ray angiography</h1><p>{folders} &middot; looked at {now} &middot; luux {version}</p>\
+         <meta name=\"viewport\" content=\"width=device-width, initial-scale=1\"><title>luux: {count}</title>\n<style>{STYLE}</style></head>\n<body>\n\
+         <header><h1>Report on {count}</h1><p>{folders} &middot; looked at {now} &middot; luux {version}</p>\
          <ul class=\"tiles\">{tiles}</ul></header>\n\
          <section id=\"senders\"><h2>Senders</h2><div class=\"wide\"><table><thead><tr><th>Institution</th><th>Station</th><th class=\"number\">Runs</th>\
          <th class=\"number\">Accepted</th><th class=\"number\">Refused</th><th>Refused by</th><th>Letter</th></tr></thead><tbody>\n{lines}</tbody></table></div></section>\n\
@@ -251,7 +258,7 @@ pub fn made(wanted: &Wanted, entries: &[Entry], senders: &[Sent]) -> String {
          <section id=\"letters\"><h2>Letters</h2>{letters}</section>\n<script>{SCRIPT}</script></body></html>\n",
         style_hash = hash(STYLE),
         script_hash = hash(SCRIPT),
-        runs = counted(entries.len(), "run"),
+        count = counted(entries.len(), "file"),
         folders = folders.join(", "),
         now = humantime::format_rfc3339_seconds(SystemTime::now()).to_string().replace('T', " ").replace('Z', " UTC"),
         version = env!("CARGO_PKG_VERSION"),
