@@ -9,9 +9,11 @@
 use std::fs::File;
 use std::io;
 
+use serde::{Deserialize, Serialize};
+
 /// `xa_answer` of the header: fields that the code does not name are 0.
 #[repr(C)]
-#[derive(Clone, Copy, Debug, Default, PartialEq, Eq)]
+#[derive(Clone, Copy, Debug, Default, PartialEq, Eq, Serialize, Deserialize)]
 pub struct Answer {
     pub code: u32,
     pub offset: u32,
@@ -169,6 +171,20 @@ pub fn read(data: &[u8], rows: &mut [u32]) -> Answer {
     unsafe { xa_read(data.as_ptr(), data.len(), rows.as_mut_ptr(), rows.len()) }
 }
 
+/// How many rows a data set has; none where it does not read.
+pub fn count(data: &[u8]) -> usize {
+    let most = data.len() / 8;
+    let mut room = most.min(4096);
+    loop {
+        let mut rows = vec![0; room * ROW_WIDTH];
+        let answer = read(data, &mut rows);
+        if answer.code != 8 || room >= most {
+            return answer.rows as usize;
+        }
+        room = most.min(room * 2);
+    }
+}
+
 /// The verdict on a data set, and its rows.
 pub fn judge(data: &[u8], rows: &mut [u32]) -> Answer {
     // Sound: as in `read`.
@@ -278,8 +294,8 @@ impl Mapping {
         if file.metadata()?.len() == 0 {
             return Ok(Mapping(None));
         }
-        // Sound as long as nobody else changes the file while it is mapped. That cannot be enforced here: `docs/DESK.md`
-        // asks it of the user, and a file whose size or time changed meanwhile gets no verdict (`files::Opened`).
+        // Sound as long as nobody else changes the file while it is mapped. That cannot be enforced here: a file is mapped
+        // only with --map, whose help asks it of the user. Otherwise it is read into memory of our own (`files::Opened`).
         let map = unsafe { memmap2::Mmap::map(file)? };
         Ok(Mapping(Some(map)))
     }
