@@ -1,4 +1,4 @@
-//! The calls of the proved library that the tool makes, and the mapping of a file. All `unsafe` code of the host is here.
+//! The calls of the proved library that the tool makes, one of the allocator, and the mapping of a file. All `unsafe` code of the host is here.
 //!
 //! `include/luuxidgaan.h` says what the calls answer. Of the caller they ask two things: each pointer has as many
 //! elements behind it as its size says, and buffers do not overlap. Slices are so: a shared slice is not changed while
@@ -283,6 +283,19 @@ pub fn write_slip(verdict: Answer, slip: &mut [u8]) -> u32 {
 pub fn read_slip(slip: &[u8]) -> Slip {
     // Sound: the call reads within `slip` alone and writes nothing.
     unsafe { xa_read_slip(slip.as_ptr(), slip.len()) }
+}
+
+/// The parameter of `mallopt` from which size on memory is taken from the system by itself, and given back to it when it is freed.
+const M_MMAP_THRESHOLD: i32 = -3;
+
+/// Has memory for files and rows go back to the system as soon as it is freed. By itself the allocator keeps tens of megabytes for each
+/// thread, beyond what `--memory` allows.
+pub fn give_memory_back() {
+    extern "C" {
+        fn mallopt(parameter: i32, value: i32) -> i32;
+    }
+    // Sound: the call of glibc takes two numbers and changes how later calls of the allocator work, not what they promise.
+    unsafe { mallopt(M_MMAP_THRESHOLD, 1 << 18) };
 }
 
 /// The bytes of a file, without a copy of them.
