@@ -1,6 +1,8 @@
 //! The row buffer that is lent to the library.
 //!
-//! The library says how many rows a data set has (`library::count`), and so many are lent.
+//! A header has at least 8 bytes, so there are at most size / 8 rows. Where there is memory for so many, so many are lent: pages that
+//! are not written to take none. Otherwise the library says how many rows a data set has (`library::count`), which takes
+//! half as long as reading it, and just so many are lent.
 
 use crate::head::Form;
 use crate::library::{self, Answer, Coded, Compared, Rewritten, ROW_WIDTH};
@@ -96,8 +98,10 @@ impl RowBuffer {
 
     /// Makes room for the rows of a data set, unless their memory is not free.
     pub fn fit(&mut self, form: Form, data: &[u8]) -> Result<(), NoRoom> {
-        let rows = library::count(form.data_set(data));
-        self.grow(rows)?;
+        let data_set = form.data_set(data);
+        if self.grow(most_rows(data_set.len())).is_err() {
+            self.grow(library::count(data_set))?;
+        }
         self.enough = Some(place(data));
         Ok(())
     }
@@ -120,15 +124,24 @@ impl RowBuffer {
         if wanted <= self.numbers.len() {
             return Ok(());
         }
-        let bytes = rows as u64 * ROW_BYTES;
         // What is in it is not needed, so nothing is copied.
         self.numbers = Vec::new();
-        if rows > KEPT && !self.granted.grow_to(bytes) || self.numbers.try_reserve_exact(wanted).is_err() {
-            return Err(NoRoom(bytes));
+        let no_room = NoRoom(rows as u64 * ROW_BYTES);
+        if rows > KEPT && !self.granted.grow_to(no_room.0) {
+            return Err(no_room);
         }
-        self.numbers.resize(wanted, 0);
+        self.numbers = library::zeros(wanted.max(KEPT * ROW_WIDTH)).ok_or(no_room)?;
         Ok(())
     }
+}
+
+fn most_rows(size: usize) -> usize {
+    size / 8
+}
+
+/// The memory that the rows of a data set of a size take at most.
+pub fn most_room(size: u64) -> u64 {
+    size / 8 * ROW_BYTES
 }
 
 fn place(data: &[u8]) -> (usize, usize) {

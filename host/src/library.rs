@@ -1,4 +1,4 @@
-//! The calls of the proved library that the tool makes, one of the allocator, and the mapping of a file. All `unsafe` code of the host is here.
+//! The calls of the proved library that the tool makes, memory for rows, and the mapping of a file. All `unsafe` code of the host is here.
 //!
 //! `include/luuxidgaan.h` says what the calls answer. Of the caller they ask two things: each pointer has as many
 //! elements behind it as its size says, and buffers do not overlap. Slices are so: a shared slice is not changed while
@@ -6,6 +6,7 @@
 
 #![allow(unsafe_code)]
 
+use std::alloc::{alloc_zeroed, Layout};
 use std::fs::File;
 use std::io;
 
@@ -283,6 +284,19 @@ pub fn write_slip(verdict: Answer, slip: &mut [u8]) -> u32 {
 pub fn read_slip(slip: &[u8]) -> Slip {
     // Sound: the call reads within `slip` alone and writes nothing.
     unsafe { xa_read_slip(slip.as_ptr(), slip.len()) }
+}
+
+/// Zeros, if there is memory for them. Pages that nobody writes to take none.
+pub fn zeros(count: usize) -> Option<Vec<u32>> {
+    if count == 0 {
+        return Some(Vec::new());
+    }
+    let layout = Layout::array::<u32>(count).ok()?;
+    // Sound: the layout is not empty; memory that was allocated by it is that of a vector of as many numbers, all of them zero.
+    unsafe {
+        let start = alloc_zeroed(layout).cast::<u32>();
+        (!start.is_null()).then(|| Vec::from_raw_parts(start, count, count))
+    }
 }
 
 /// The parameter of `mallopt` from which size on memory is taken from the system by itself, and given back to it when it is freed.

@@ -9,7 +9,7 @@ use std::time::{Duration, Instant};
 use serde::{Deserialize, Serialize};
 use wait_timeout::ChildExt;
 
-use crate::buffer::{NoRoom, RowBuffer};
+use crate::buffer::{most_room, NoRoom, RowBuffer};
 use crate::files::{self, Opened, State};
 use crate::head::{Form, Judged};
 use crate::memory::{self, Granted};
@@ -75,23 +75,27 @@ pub fn here(path: &Path, form: Form, buffer: &mut RowBuffer) -> Looked {
 /// Looks at a file in a process of its own, for so long at most.
 pub fn within(limit: Duration, path: &Path, form: Form) -> Looked {
     let ends = Instant::now() + limit;
-    let mut bytes = match State::at(path) {
-        Ok(state) if !files::are_mapped() => state.size(),
-        // One that cannot be asked is told by the other process.
-        _ => 0,
-    };
+    // One that cannot be asked is told by the other process.
+    let size = State::at(path).map_or(0, |state| state.size());
+    let own = if files::are_mapped() { 0 } else { size };
+    let mut bytes = own + most_room(size);
+    // Room for as many rows as there can be, where that is free; else for those that there are.
+    let mut granted = Granted::now(bytes).or_else(|_| {
+        bytes = own;
+        Granted::wait_for(own)
+    });
     for _ in 0..2 {
-        let granted = match Granted::wait_for(bytes) {
-            Ok(granted) => granted,
-            Err(trouble) => return Looked::Trouble(format!("cannot be read: {trouble}")),
-        };
-        let looked = start(path, form, bytes).and_then(|child| wait(child, ends, limit));
-        drop(granted);
-        match looked {
+        if let Err(trouble) = &granted {
+            return Looked::Trouble(format!("cannot be read: {trouble}"));
+        }
+        match start(path, form, bytes).and_then(|child| wait(child, ends, limit)) {
             Ok(Looked::Needs(more)) => bytes = more,
             Ok(looked) => return looked,
             Err(error) => return Looked::Trouble(format!("cannot be judged in a process of its own: {error}")),
         }
+        // Nobody waits while holding some.
+        drop(granted);
+        granted = Granted::wait_for(bytes);
     }
     Looked::Trouble(format!("cannot be judged: there is no memory for {bytes} bytes"))
 }

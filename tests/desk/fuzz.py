@@ -28,6 +28,7 @@ from reference import canonical, drawing, files, intensity, reading, rules, shee
 from reference.answers import Answer  # noqa: E402
 
 BATCH = 250  # files that one luux judge gets
+HEAD = len(with_head(b""))
 FIELDS = ("code", "offset", "rows", "rule", "frame")
 
 
@@ -79,7 +80,6 @@ class Fuzz(Desk):
     """What the commands say of changed files, and what they should."""
 
     bare = False
-    run_test = None
 
     def runTest(self):
         """For the use outside of unittest."""
@@ -111,6 +111,8 @@ class Fuzz(Desk):
     def judged(self, contents, rng):
         """Verdicts and slips of a batch, as files and as bare data sets."""
         bare = rng.random() < 0.3
+        if bare:
+            contents = [content[HEAD:] for content in contents]
         for number, content in enumerate(contents):
             self.put(f"runs/{number:03d}", content)
         words = ["judge", "runs", "--json", "--slips", "slips", *(["--bare"] if bare else []), "--memory", rng.choice(("1M", "100M"))]
