@@ -319,14 +319,12 @@ pub fn run(folder: &Path, jobs: usize, out: &mut dyn Write) -> io::Result<Status
     }
 
     typed(out, &["judge"], &runs)?;
-    let wanted = judging::Wanted {
-        named: vec![runs.clone()],
-        form: Form::File,
-        slips: None,
-        json: false,
-        jobs,
-        long: false,
-        patient: false,
+    let wanted = match judging::Wanted::of(vec![runs.clone()], Form::File, jobs) {
+        Ok(wanted) => wanted,
+        Err(trouble) => {
+            note_of(&runs, &trouble);
+            return Ok(Status::Failed);
+        }
     };
     let mut status = match judging::run(&wanted, out)? {
         // Three of the runs are made to be refused.

@@ -1,6 +1,7 @@
 //! What a refusal found: the values, counts and lengths that stand where the rule looks, or the header at which reading stopped. They are
 //! read from the rows and bytes by tag and item; which rule is broken, and at which frame, is the library's answer.
 
+use serde::{Deserialize, Serialize};
 use serde_json::{json, Value as Json};
 
 use crate::head::has_long_header;
@@ -20,6 +21,7 @@ const MOST_ITEMS: usize = 64;
 const MOST_FINDINGS: usize = 100;
 
 /// One thing that was found, or found absent.
+#[derive(Serialize, Deserialize)]
 pub struct Finding {
     /// Its tag; 0 where it has none.
     pub tag: u32,

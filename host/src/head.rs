@@ -1,6 +1,8 @@
 //! Files and bare data sets, and what is said of them. Display text only: which bytes are the data set, and whether a file's head is
 //! good, is the library's answer.
 
+use serde::{Deserialize, Serialize};
+
 use crate::buffer::RowBuffer;
 use crate::found::{self, Finding};
 use crate::identity::Identity;
@@ -26,6 +28,17 @@ impl Form {
         }
     }
 
+    /// The data set. A file whose head is refused has none.
+    pub fn data_set(self, content: &[u8]) -> &[u8] {
+        match self {
+            Form::File => {
+                let part = library::data_set(content);
+                if part.code == 0 { &content[part.start..] } else { &[] }
+            }
+            Form::Bare => content,
+        }
+    }
+
     /// Where the data set starts. Of a file whose head is refused, 0.
     pub fn start(self, content: &[u8]) -> usize {
         match self {
@@ -36,6 +49,7 @@ impl Form {
 }
 
 /// What the library answered about a file, and what helps the sender.
+#[derive(Serialize, Deserialize)]
 pub struct Judged {
     pub answer: Answer,
     /// The row of the frame's item, where a rule is broken at a frame; else 0.
@@ -132,7 +146,7 @@ pub fn has_long_header(vr: [u8; 2]) -> bool {
 
 /// Which transfer syntax it is, and which the sender should send.
 fn wanted(content: &[u8]) -> String {
-    let found = match transfer_syntax(content) {
+    let found = match uid(content, TRANSFER_SYNTAX) {
         Some(uid) => match syntax_name(&uid) {
             Some(name) => format!("it is {name} ({uid})"),
             None => format!("it is {uid}"),
@@ -142,8 +156,10 @@ fn wanted(content: &[u8]) -> String {
     format!("{found}; ask the sender for Explicit VR Little Endian (1.2.840.10008.1.2.1), not compressed")
 }
 
-/// The Transfer Syntax UID of a head, for print.
-fn transfer_syntax(content: &[u8]) -> Option<String> {
+const TRANSFER_SYNTAX: u32 = 0x0002_0010;
+
+/// The value of a UID in a file's head, for print.
+pub fn uid(content: &[u8], tag: u32) -> Option<String> {
     let mut at = 132;
     loop {
         let header = content.get(at..at + 8)?;
@@ -154,17 +170,21 @@ fn transfer_syntax(content: &[u8]) -> Option<String> {
             (at + 8, usize::from(u16::from_le_bytes([header[6], header[7]])))
         };
         let value = content.get(start..start.checked_add(length)?)?;
-        if header[..4] == [2, 0, 0x10, 0] {
-            let letters = value.iter().take_while(|&&byte| byte != 0);
-            return Some(
-                letters.map(|&byte| if byte.is_ascii_graphic() { byte as char } else { '?' }).take(64).collect(),
-            );
+        let [group, element] = [0, 2].map(|place| u32::from(u16::from_le_bytes([header[place], header[place + 1]])));
+        if group << 16 | element == tag {
+            return uid_text(value);
         }
-        if header[..2] != [2, 0] {
+        if group != tag >> 16 {
             return None;
         }
         at = start + length;
     }
+}
+
+/// A UID without the byte that makes its length even.
+pub fn uid_text(value: &[u8]) -> Option<String> {
+    let letters = value.iter().take_while(|&&byte| byte != 0);
+    Some(letters.map(|&byte| if byte.is_ascii_graphic() { byte as char } else { '?' }).take(64).collect())
 }
 
 /// The name of a transfer syntax (PS3.6, annex A).

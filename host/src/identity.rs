@@ -1,5 +1,6 @@
 //! What a run is called by: the elements that a letter to its sender quotes. Of the patient nothing is printed unless it is asked for.
 
+use serde::{Deserialize, Serialize};
 use serde_json::{Map, Value};
 
 use crate::names;
@@ -42,7 +43,7 @@ pub fn is_of_patient(tag: u32) -> bool {
 }
 
 /// The values that a run has, by their tags.
-#[derive(Default)]
+#[derive(Default, Serialize, Deserialize)]
 pub struct Identity(Vec<(u32, String)>);
 
 impl Identity {

@@ -9,7 +9,7 @@ use crate::head::{self, Judged};
 use crate::identity;
 use crate::library::{self, Slip};
 use crate::names;
-use crate::output::{answer_fields, line, note_of, path_fields, trouble_fields, Status};
+use crate::output::{line, note_of, Object, Status};
 use crate::sentences;
 use crate::table::Row;
 use crate::values::Source;
@@ -156,19 +156,21 @@ fn slip_in(path: &Path) -> Result<Slip, (String, Status)> {
 pub fn read_slips(paths: &[PathBuf], json: bool, out: &mut dyn Write) -> io::Result<Status> {
     let mut status = Status::Fine;
     for path in paths {
-        let (text, fields, end) = match slip_in(path) {
+        let mut object = Object::about(path);
+        let (text, end) = match slip_in(path) {
             Ok(slip) => {
                 let (verdict, rows) = (&slip.verdict, slip.rows());
+                object.put_answer(verdict, rows);
                 let end = if verdict.code == 0 { Status::Fine } else { Status::Refused };
-                (sentences::slip(verdict, rows), answer_fields(verdict, rows), end)
+                (sentences::slip(verdict, rows), end)
             }
             Err((trouble, end)) => {
-                let fields = trouble_fields(&trouble);
-                (trouble, fields, end)
+                object.put_trouble(&trouble);
+                (trouble, end)
             }
         };
         match json {
-            true => writeln!(out, "{{{}{fields}}}", path_fields("path", path))?,
+            true => out.write_all(object.line().as_bytes())?,
             false => line(out, path, &text)?,
         }
         status = status.max(end);

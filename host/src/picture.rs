@@ -10,6 +10,7 @@ use crate::buffer::RowBuffer;
 use crate::files::{self, Opened};
 use crate::head::{self, Judged};
 use crate::library::{Answer, Compared, SHEET_NUMBERS};
+use crate::other;
 use crate::output::{line, note_of, Status};
 use crate::sentences;
 use crate::table::Table;
@@ -179,11 +180,12 @@ pub struct Run {
 impl Run {
     pub fn open(path: &Path, form: head::Form) -> Result<Run, Failure> {
         let (judged, run) = Run::judged(path, form)?;
-        run.ok_or_else(|| Failure::Refused(judged.line()))
+        run.map_err(|_| Failure::Refused(judged.line()))
     }
 
-    /// The verdict on a file, and the run where it is accepted. Width, height and the number of frames are taken from the rows.
-    pub fn judged(path: &Path, form: head::Form) -> Result<(Judged, Option<Run>), String> {
+    /// The verdict on a file, and the run where it is accepted; else what the file is, where it is certainly no run. Width, height and the
+    /// number of frames are taken from the rows.
+    pub fn judged(path: &Path, form: head::Form) -> Result<(Judged, Result<Run, Option<String>>), String> {
         let opened = Opened::open(path)?;
         let mut buffer = RowBuffer::default();
         let content = opened.bytes();
@@ -191,7 +193,9 @@ impl Run {
         let table = buffer.table(answer.rows);
         let judged = Judged::of(form, content, answer, table);
         if answer.code != 0 {
-            return opened.unchanged().map(|()| (judged, None));
+            // With --bare it was said that these are data sets.
+            let what = if form == head::Form::File { other::what(content, &answer, &mut buffer) } else { None };
+            return opened.unchanged().map(|()| (judged, Err(what)));
         }
         let start = form.start(content);
         let data = &content[start..];
@@ -200,7 +204,7 @@ impl Run {
         match (number_of(data, table, ROWS), number_of(data, table, COLUMNS)) {
             (Some(height), Some(width)) => {
                 let run = Run { opened, form, start, buffer, width, height, frames, rows: answer.rows, unmasked: None };
-                Ok((judged, Some(run)))
+                Ok((judged, Ok(run)))
             }
             _ => Err(String::from("its rows do not say how large a frame is")),
         }

@@ -136,6 +136,16 @@ class TestReport(Reported):
         with open(self.path("runs", "c.dcm"), "rb") as file:
             self.assertEqual(file.read(), self.runs["runs/c.dcm"])
 
+    def test_what_is_not_ours(self):
+        """Files that are certainly no runs are told as such, and count for no sender and in no letter."""
+        self.put("runs/notes.txt", b"no run\n")
+        self.assertEqual(self.lines("report", "runs", "-o", "page.html", "--csv")[0],
+                         "page.html: 11 files of 5 senders: 3 accepted, 6 refused, 1 could not be read, 1 not ours")
+        with open(self.path("page.csv"), encoding="utf-8", newline="") as file:
+            row, = (row for row in csv.DictReader(file) if row["file"] == "runs/notes.txt")
+        self.assertEqual((row["verdict"], row["by"], row["sentence"]), ("not ours", "", "text"))
+        self.assertTrue(self.lines("report", "runs", "-o", "page.html", "--include", "[ab]*.dcm")[0].startswith("page.html: 3 files of 2 senders: "))
+
     def test_one_worker_and_many(self):
         def stripped(*words):
             self.luux("report", "runs", "-o", "x.html", *words, status=FINE)
@@ -163,11 +173,10 @@ class TestReportInABrowser(Reported):
     def test_it_shows(self):
         page = self.browser
         self.assertEqual(self.shown(), sorted([*self.runs, "runs/lost.dcm"]))
-        self.assertEqual(page.run("[...document.querySelectorAll('.tiles li')].map(t => t.innerText.split(/\\s+/)[0])"), ["10", "3", "6", "1", "5"])
+        self.assertEqual(page.run("[...document.querySelectorAll('.tiles li')].map(t => t.innerText.split(/\\s+/)[0])"), ["10", "3", "6", "1", "0", "5"])
         senders = page.run("[...document.querySelectorAll('#senders tbody tr')].map(r => [...r.cells].map(c => c.innerText.trim()))")
-        table = {(row[0], row[1]): row[2:6] for row in senders}
-        self.assertEqual(table[("Klinikum Nord", "ANGIO-1")], ["3", "1", "2", "code 1 × 1\nrule 26 × 1"] if "\n" in table[("Klinikum Nord", "ANGIO-1")][3]
-                         else ["3", "1", "2", "code 1 × 1 rule 26 × 1"])
+        table = {(row[0], row[1]): [" ".join(cell.split()) for cell in row[2:6]] for row in senders}
+        self.assertEqual(table[("Klinikum Nord", "ANGIO-1")], ["3", "1", "2", "code 1 × 1 rule 26 × 1"])
         self.assertEqual(table[("Hôpital Saint-Luc", "XA3")], ["3", "1", "2", "rule 2 × 2"])
         self.assertEqual(table[("not named", "not named")], ["1", "1", "0", ""])
         self.assertEqual(len(table), 5)

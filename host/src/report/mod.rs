@@ -10,7 +10,8 @@ use std::sync::atomic::{AtomicUsize, Ordering};
 use std::sync::Mutex;
 use std::thread;
 
-use crate::files::{self, Finding, Found};
+use crate::files;
+use crate::finding::{Choice, Finding, Found};
 use crate::found;
 use crate::head::{Form, Judged};
 use crate::identity::{self, Identity};
@@ -19,11 +20,13 @@ use crate::output::{line, note, note_of, Status};
 use crate::picture::{self, Failure, Image, Run};
 use crate::sampling;
 use crate::sentences;
+use crate::values::counted;
 
 /// What `luux report` was asked.
 pub struct Wanted {
     pub named: Vec<PathBuf>,
     pub form: Form,
+    pub choice: Choice,
     pub output: PathBuf,
     pub csv: bool,
     pub patient: bool,
@@ -62,6 +65,8 @@ struct Entry {
     path: String,
     /// The verdict and the pictures of the run, or why there is no verdict.
     looked: Result<(Judged, Pictures), String>,
+    /// What the file is, where it is certainly no run.
+    other: Option<String>,
 }
 
 /// How a file ended.
@@ -69,6 +74,7 @@ struct Entry {
 enum End {
     Accepted,
     Refused,
+    Other,
     Unread,
 }
 
@@ -77,6 +83,7 @@ impl End {
         match self {
             End::Accepted => "accepted",
             End::Refused => "refused",
+            End::Other => "not ours",
             End::Unread => "not read",
         }
     }
@@ -86,6 +93,7 @@ impl Entry {
     fn end(&self) -> End {
         match &self.looked {
             Ok((judged, _)) if judged.answer.code == 0 => End::Accepted,
+            Ok(_) if self.other.is_some() => End::Other,
             Ok(_) => End::Refused,
             Err(_) => End::Unread,
         }
@@ -102,22 +110,21 @@ impl Entry {
     /// What refused it: `rule 26` or `code 1`; nothing where it was not refused.
     fn by(&self) -> Option<(u32, u32)> {
         let answer = self.judged()?.answer;
-        match answer.code {
-            0 => None,
-            code => Some((code, answer.rule)),
-        }
+        (self.end() == End::Refused).then_some((answer.code, answer.rule))
     }
 
     /// What the rule asks, or the code means; or why there is no verdict.
     fn sentence(&self) -> &str {
-        match &self.looked {
-            Ok((judged, _)) => sentences::meaning(&judged.answer),
-            Err(trouble) => trouble,
+        match (&self.looked, &self.other) {
+            (_, Some(what)) => what,
+            (Ok((judged, _)), None) => sentences::meaning(&judged.answer),
+            (Err(trouble), None) => trouble,
         }
     }
 
     fn found(&self) -> String {
-        self.judged().map_or_else(String::new, |judged| found::line(&judged.found))
+        let judged = self.judged().filter(|_| self.other.is_none());
+        judged.map_or_else(String::new, |judged| found::line(&judged.found))
     }
 
     /// Institution and station; empty where they are not named.
@@ -163,10 +170,10 @@ impl Sent {
     }
 }
 
-/// The senders, those with the most refused runs first. A file that was not read has none.
+/// The senders, those with the most refused runs first. A file that was not read, or is no run, has none.
 fn senders(entries: &[Entry]) -> Vec<Sent> {
     let mut all = std::collections::BTreeMap::<Sender, Vec<usize>>::new();
-    for (place, entry) in entries.iter().enumerate().filter(|(_, entry)| entry.end() != End::Unread) {
+    for (place, entry) in entries.iter().enumerate().filter(|(_, entry)| matches!(entry.end(), End::Accepted | End::Refused)) {
         all.entry(entry.sender()).or_default().push(place);
     }
     let mut senders: Vec<Sent> = all.into_iter().map(|(sender, entries)| Sent { sender, entries }).collect();
@@ -187,15 +194,20 @@ fn pictures(run: &mut Run) -> Result<Pictures, Failure> {
 }
 
 fn entry(found: &Found, form: Form) -> Entry {
+    let path = String::from_utf8_lossy(&files::printed(&found.path)).into_owned();
+    let mut other = None;
     let looked = match &found.unreadable {
         Some(trouble) => Err(trouble.clone()),
         None => Run::judged(&found.path, form).and_then(|(judged, run)| match run.map(|mut run| pictures(&mut run)) {
-            None => Ok((judged, Pictures::default())),
-            Some(Ok(pictures)) => Ok((judged, pictures)),
-            Some(Err(Failure::Refused(text) | Failure::Trouble(text))) => Err(text),
+            Ok(Err(Failure::Refused(text) | Failure::Trouble(text))) => Err(text),
+            Ok(Ok(pictures)) => Ok((judged, pictures)),
+            Err(what) => {
+                other = what;
+                Ok((judged, Pictures::default()))
+            }
         }),
     };
-    Entry { path: String::from_utf8_lossy(&files::printed(&found.path)).into_owned(), looked }
+    Entry { path, looked, other }
 }
 
 /// Looks at files on several threads; the entries are in the order of the files.
@@ -226,7 +238,7 @@ fn entries(found: &[Found], form: Form, jobs: usize) -> Vec<Entry> {
 
 /// The files that were named, but for those that are written.
 fn find(wanted: &Wanted, written: &[&Path]) -> Vec<Found> {
-    let finding = Finding::of(&wanted.named, None);
+    let finding = Finding::of(&wanted.named, None, &wanted.choice);
     for (path, reason) in &finding.skipped {
         note_of(path, &format!("skipped: {reason}"));
     }
@@ -260,12 +272,13 @@ pub fn run(wanted: &Wanted, out: &mut dyn Write) -> io::Result<Status> {
     let senders = senders(&entries);
     let count = |end| entries.iter().filter(|entry| entry.end() == end).count();
     let about = format!(
-        "{} of {}: {} accepted, {} refused, {} could not be read",
-        crate::values::counted(entries.len(), "file"),
-        crate::values::counted(senders.len(), "sender"),
+        "{} of {}: {} accepted, {} refused, {} could not be read{}",
+        counted(entries.len(), "file"),
+        counted(senders.len(), "sender"),
         count(End::Accepted),
         count(End::Refused),
-        count(End::Unread)
+        count(End::Unread),
+        if count(End::Other) > 0 { format!(", {} not ours", count(End::Other)) } else { String::new() }
     );
     let page = page::made(wanted, &entries, &senders);
     if !write(&wanted.output, page.as_bytes()) {
@@ -273,9 +286,8 @@ pub fn run(wanted: &Wanted, out: &mut dyn Write) -> io::Result<Status> {
     }
     line(out, &wanted.output, &about)?;
     if wanted.csv {
-        let rows = sheet::made(&entries, wanted.patient).map_err(|error| error.to_string());
-        match rows {
-            Ok(rows) if write(&table, &rows) => line(out, &table, &crate::values::counted(entries.len(), "row"))?,
+        match sheet::made(&entries, wanted.patient) {
+            Ok(rows) if write(&table, &rows) => line(out, &table, &counted(entries.len(), "row"))?,
             Ok(_) => return Ok(Status::Failed),
             Err(trouble) => {
                 note_of(&table, &format!("cannot be made: {trouble}"));

@@ -81,6 +81,7 @@ fn tiles(entries: &[Entry], senders: &[Sent]) -> String {
         tile("accepted", count(End::Accepted), "accepted"),
         tile("refused", count(End::Refused), "refused"),
         tile("unread", count(End::Unread), "not read"),
+        tile("all", count(End::Other), "not ours"),
         tile("all", senders.len(), if senders.len() == 1 { "sender" } else { "senders" }),
     ]
     .concat()
@@ -127,10 +128,10 @@ fn details(entry: &Entry, patient: bool) -> String {
     }
     if let Some(judged) = entry.judged() {
         let found: String = judged.found.iter().map(|finding| format!("<li>{}</li>", given(&finding.text))).collect();
-        if !found.is_empty() {
+        if !found.is_empty() && entry.other.is_none() {
             said.push_str(&format!("<div class=\"found\"><b>Found</b><ul>{found}</ul></div>"));
         }
-        if let Some(hint) = &judged.hint {
+        if let Some(hint) = judged.hint.as_ref().filter(|_| entry.other.is_none()) {
             said.push_str(&format!("<p>{}</p>", given(hint)));
         }
         said.push_str(&identity(&judged.identity, patient));
@@ -190,7 +191,7 @@ fn options(values: impl IntoIterator<Item = (String, String)>) -> String {
 /// What the runs can be filtered by.
 fn filters(entries: &[Entry], senders: &[Sent]) -> String {
     let by: BTreeSet<(u32, u32)> = entries.iter().filter_map(Entry::by).collect();
-    let verdicts = ["accepted", "refused", "not read"].map(|word| (String::from(word), String::from(word)));
+    let verdicts = ["accepted", "refused", "not read", "not ours"].map(|word| (String::from(word), String::from(word)));
     let senders = senders.iter().enumerate().map(|(number, sent)| {
         let (one, other) = (&sent.sender.institution, &sent.sender.station);
         let shown = [one, other].into_iter().filter(|name| !name.is_empty()).cloned().collect::<Vec<_>>().join(", ");
