@@ -19,6 +19,7 @@ use crate::output::{line, note, note_of, Status};
 use crate::picture::{self, Failure, Image, Run};
 use crate::sampling;
 use crate::sentences;
+use crate::values::counted;
 
 /// What `luux report` was asked.
 pub struct Wanted {
@@ -261,8 +262,8 @@ pub fn run(wanted: &Wanted, out: &mut dyn Write) -> io::Result<Status> {
     let count = |end| entries.iter().filter(|entry| entry.end() == end).count();
     let about = format!(
         "{} of {}: {} accepted, {} refused, {} could not be read",
-        crate::values::counted(entries.len(), "file"),
-        crate::values::counted(senders.len(), "sender"),
+        counted(entries.len(), "file"),
+        counted(senders.len(), "sender"),
         count(End::Accepted),
         count(End::Refused),
         count(End::Unread)
@@ -273,9 +274,8 @@ pub fn run(wanted: &Wanted, out: &mut dyn Write) -> io::Result<Status> {
     }
     line(out, &wanted.output, &about)?;
     if wanted.csv {
-        let rows = sheet::made(&entries, wanted.patient).map_err(|error| error.to_string());
-        match rows {
-            Ok(rows) if write(&table, &rows) => line(out, &table, &crate::values::counted(entries.len(), "row"))?,
+        match sheet::made(&entries, wanted.patient) {
+            Ok(rows) if write(&table, &rows) => line(out, &table, &counted(entries.len(), "row"))?,
             Ok(_) => return Ok(Status::Failed),
             Err(trouble) => {
                 note_of(&table, &format!("cannot be made: {trouble}"));
