@@ -172,8 +172,8 @@ class TestFound(Desk):
     def test_files(self):
         """A file's head: no mark, a bad head, another class."""
         self.bare = False
-        self.assertEqual(self.found(b"x" * 100), ["the file has 100 bytes"])
-        self.assertEqual(self.found(b"x" * 200), ["bytes 128 to 131 are 78 78 78 78"])
+        self.assertEqual(self.found(b"\1" * 100), ["the file has 100 bytes"])
+        self.assertEqual(self.found(b"\1" * 200), ["bytes 128 to 131 are 01 01 01 01"])
         self.assertEqual(self.found(bytes(128) + b"DICM" + element(0x00020010, "UI", b"1.2\0")),
                          ['Transfer Syntax UID (0002,0010), VR "UI", length 4, with 4 bytes of the data set behind that header'])
         self.assertEqual(self.found(with_head(good_run(), b"1.2.3\0")), [
