@@ -1,6 +1,51 @@
-//! Links the proved library, which `rt staticlib cabi` writes into the repository's `target/staticlib`.
+//! Links the proved library, which `rt staticlib cabi` writes into the repository's `target/staticlib`, and makes the table of attribute
+//! names from the dictionary that Debian packages with pydicom.
 
+use std::fmt::Write;
 use std::path::Path;
+
+/// One entry a line: `    0x00080005: ('CS', '1-n', "Specific Character Set", '', 'SpecificCharacterSet'),`. Groups that repeat have an
+/// `x` for each digit that may be any: `    '60xx0010': ...`.
+const DICTIONARY: &str = "/usr/lib/python3/dist-packages/pydicom/_dicom_dict.py";
+
+/// The digits of the tag and the name.
+fn entry(line: &str) -> Option<(&str, &str)> {
+    let (key, rest) = line.strip_prefix("    ")?.split_once(": (")?;
+    let digits = key.trim_matches('\'').trim_start_matches("0x");
+    let name = rest.split('"').nth(1)?;
+    let fine =
+        digits.len() == 8 && digits.bytes().all(|digit| digit == b'x' || digit.is_ascii_hexdigit()) && !name.is_empty();
+    fine.then_some((digits, name))
+}
+
+fn number(digits: &str) -> u32 {
+    u32::from_str_radix(digits, 16).expect("eight hexadecimal digits")
+}
+
+/// The source of two tables: names by tag in ascending order, and names by mask and tag for those that repeat.
+fn tables(dictionary: &str) -> String {
+    let (mut single, mut repeated) = (Vec::new(), Vec::new());
+    for (digits, name) in dictionary.lines().filter_map(entry) {
+        let tag = number(&digits.replace('x', "0"));
+        let mask: String = digits.chars().map(|digit| if digit == 'x' { '0' } else { 'F' }).collect();
+        match number(&mask) {
+            u32::MAX => single.push((tag, name)),
+            mask => repeated.push((mask, tag, name)),
+        }
+    }
+    assert!(single.len() > 4000, "{DICTIONARY} has another form than it had: {} names were found in it", single.len());
+    single.sort_unstable();
+    let mut source = format!("static SINGLE: [(u32, &str); {}] = [\n", single.len());
+    for (tag, name) in &single {
+        writeln!(source, "(0x{tag:08X}, {name:?}),").expect("a string takes it");
+    }
+    writeln!(source, "];\nstatic REPEATED: [(u32, u32, &str); {}] = [", repeated.len()).expect("a string takes it");
+    for (mask, tag, name) in &repeated {
+        writeln!(source, "(0x{mask:08X}, 0x{tag:08X}, {name:?}),").expect("a string takes it");
+    }
+    source.push_str("];\n");
+    source
+}
 
 fn main() {
     let host = std::env::var("CARGO_MANIFEST_DIR").expect("cargo says where the host is");
@@ -9,4 +54,10 @@ fn main() {
     println!("cargo:rustc-link-lib=static=cabi");
     println!("cargo:rerun-if-changed={}", folder.join("libcabi.a").display());
     println!("cargo:rerun-if-changed=build.rs");
+
+    let dictionary = std::fs::read_to_string(DICTIONARY)
+        .unwrap_or_else(|error| panic!("{DICTIONARY}: {error}; Debian's package python3-pydicom has it"));
+    let out = std::env::var("OUT_DIR").expect("cargo says where to write");
+    std::fs::write(Path::new(&out).join("names.rs"), tables(&dictionary)).expect("cargo's own folder can be written");
+    println!("cargo:rerun-if-changed={DICTIONARY}");
 }

@@ -2,9 +2,20 @@
  * file head, counts the grey levels of their frames, compares other pictures of them, maps them back to beam intensity, and keeps
  * verdicts on slips.
  *
- * Every call takes any bytes and any buffers; nothing is asked of the caller but that each pointer has as many
- * elements behind it as the size that follows it says, and that no two buffers overlap. A pointer whose size is 0 is
- * never followed. No call keeps a pointer, allocates, or depends on an earlier call.
+ * Every call takes any bytes and any buffers. No call keeps a pointer, allocates, or depends on an earlier call. A host must keep
+ * these:
+ *
+ *   pointers  Each has as many elements behind it as the size that follows it says. One whose size is 0 is never followed.
+ *   buffers   No two that are lent to one call overlap.
+ *   bytes     They do not change during a call. What is proved is about bytes that stay as they are: where another process writes to
+ *             a file that is lent as a mapping, a call may crash or write past a buffer. Read the file into memory of your own, or map
+ *             only what nobody can write to.
+ *   stack     A call takes at most, measured on x86-64:
+ *
+ *               xa_show, xa_show_file, xa_compare      800,000 bytes for a masked frame
+ *               xa_sheet                               810,000 bytes
+ *               xa_judge, xa_judge_file, xa_linear      68,000 bytes
+ *               all others                               2,000 bytes
  */
 #ifndef LUUXIDGAAN_H
 #define LUUXIDGAAN_H
@@ -132,8 +143,6 @@ xa_answer xa_judge(const uint8_t *data, size_t size, uint32_t *rows, size_t rows
  * `image` has room for `image_len` bytes. With code 0 the first Rows x Columns of them are written, row by row, each a grey
  * level from 0 (black) to 255 (white), and nothing beyond them; with any other code no byte of `image` is. The rows are
  * written with codes 0, 9, 10 and 11. Every frame of a data set that `xa_judge` accepts is drawn where there is room.
- *
- * A masked frame takes 526 KB of stack where its shift is whole, and 789 KB where it has quarters.
  */
 xa_answer xa_show(const uint8_t *data, size_t size, uint64_t frame, uint32_t *rows, size_t rows_len, uint8_t *image,
                   size_t image_len);
@@ -174,7 +183,6 @@ xa_answer xa_show_file(const uint8_t *file, size_t size, uint64_t frame, uint32_
  * sheet was else done the code is 11. The rows are written with codes 0, 9, 19, 10 and 11. No image buffer is lent: a line is drawn at
  * a time. The sheet of frames of a data set that `xa_judge` accepts is always done where there is room. Time goes with the number of
  * cells and rows; but a shared Frame Pixel Shift group, and the frame ranges of the mask items, are gone through for each frame.
- * A sheet takes 804 KB of stack.
  */
 xa_answer xa_sheet(const uint8_t *data, size_t size, uint64_t first, uint64_t last, uint32_t *rows, size_t rows_len,
                    uint64_t *sheet, size_t sheet_len);
@@ -194,7 +202,7 @@ typedef struct {
  *
  * What `xa_show` draws passes at every tolerance, and what passes at one passes at every larger one. No image buffer is lent: a line is
  * drawn at a time. The rows are written with codes 0, 9, 10, 22 and 23. Every frame of a data set that `xa_judge` accepts is compared
- * where there is room for the rows. It takes 724 KB of stack.
+ * where there is room for the rows.
  */
 xa_compared xa_compare(const uint8_t *data, size_t size, uint64_t frame, const uint8_t *cells, size_t cells_len,
                        uint64_t tolerance, uint32_t *rows, size_t rows_len);

@@ -1,71 +1,79 @@
 //! The row buffer that is lent to the library.
 //!
-//! Nothing says beforehand how many rows a data set has. A header has at least 8 bytes, so there are at most size / 8 rows;
-//! but most bytes are pixels, and a run of 900 frames has 22,598 rows. So the buffer starts small and is doubled each time
-//! the library answers that it is too small.
+//! A header has at least 8 bytes, so there are at most size / 8 rows. Where there is memory for so many, so many are lent: pages that
+//! are not written to take none. Otherwise the library says how many rows a data set has (`library::count`), which takes
+//! half as long as reading it, and just so many are lent.
 
 use crate::head::Form;
 use crate::library::{self, Answer, Coded, Compared, Rewritten, ROW_WIDTH};
+use crate::memory::{self, Granted};
 use crate::table::Table;
 
-/// Rows of the first buffer: 112 KiB.
-const FIRST: usize = 4096;
+/// Rows that are kept from one file to the next: 112 KiB, beside what `--memory` allows.
+const KEPT: usize = 4096;
 
-/// Rows that are kept from one file to the next: 28 MiB.
-const KEPT: usize = 1 << 20;
+/// The bytes of a row.
+const ROW_BYTES: u64 = ROW_WIDTH as u64 * 4;
 
 /// The code of a buffer that is too small.
 const NO_ROOM: u32 = 8;
+
+/// So many bytes are needed for rows, and are not free beside what else is held.
+pub struct NoRoom(pub u64);
 
 /// Room for rows, used for one file after another.
 #[derive(Default)]
 pub struct RowBuffer {
     numbers: Vec<u32>,
+    /// What was granted for the rows beyond those that are kept.
+    granted: Granted,
+    /// Where the bytes are, and how many, that the room is known to be enough for.
+    enough: Option<(usize, usize)>,
 }
 
 impl RowBuffer {
     /// The rows of a data set, or its refusal.
     pub fn read(&mut self, form: Form, data: &[u8]) -> Result<Answer, String> {
         match form {
-            Form::File => self.lend(data, library::read_file),
-            Form::Bare => self.lend(data, library::read),
+            Form::File => self.lend(form, data, library::read_file),
+            Form::Bare => self.lend(form, data, library::read),
         }
     }
 
     /// The verdict on a data set.
     pub fn judge(&mut self, form: Form, data: &[u8]) -> Result<Answer, String> {
         match form {
-            Form::File => self.lend(data, library::judge_file),
-            Form::Bare => self.lend(data, library::judge),
+            Form::File => self.lend(form, data, library::judge_file),
+            Form::Bare => self.lend(form, data, library::judge),
         }
     }
 
     /// Draws a frame into the image.
     pub fn show(&mut self, form: Form, data: &[u8], frame: u64, image: &mut [u8]) -> Result<Answer, String> {
         match form {
-            Form::File => self.lend(data, |data, rows| library::show_file(data, frame, rows, image)),
-            Form::Bare => self.lend(data, |data, rows| library::show(data, frame, rows, image)),
+            Form::File => self.lend(form, data, |data, rows| library::show_file(data, frame, rows, image)),
+            Form::Bare => self.lend(form, data, |data, rows| library::show(data, frame, rows, image)),
         }
     }
 
     /// Writes the canonical form of a data set into the target, which suffices if it is as long as the data set.
     pub fn canonical(&mut self, data: &[u8], target: &mut [u8]) -> Result<Rewritten, String> {
-        self.lend(data, |data, rows| library::canonical(data, rows, target))
+        self.lend(Form::Bare, data, |data, rows| library::canonical(data, rows, target))
     }
 
     /// Maps a frame into the values.
     pub fn linear(&mut self, data: &[u8], frame: u64, values: &mut [u16]) -> Result<Answer, String> {
-        self.lend(data, |data, rows| library::linear(data, frame, rows, values))
+        self.lend(Form::Bare, data, |data, rows| library::linear(data, frame, rows, values))
     }
 
     /// The sheet of frames.
     pub fn sheet(&mut self, data: &[u8], first: u64, last: u64, sheet: &mut [u64]) -> Result<Answer, String> {
-        self.lend(data, |data, rows| library::sheet(data, first, last, rows, sheet))
+        self.lend(Form::Bare, data, |data, rows| library::sheet(data, first, last, rows, sheet))
     }
 
     /// Another workstation's picture of a frame.
     pub fn compare(&mut self, data: &[u8], frame: u64, cells: &[u8], tolerance: u64) -> Result<Compared, String> {
-        self.lend(data, |data, rows| library::compare(data, frame, cells, tolerance, rows))
+        self.lend(Form::Bare, data, |data, rows| library::compare(data, frame, cells, tolerance, rows))
     }
 
     /// The first `rows` rows.
@@ -74,37 +82,68 @@ impl RowBuffer {
         Table(&self.numbers[..end])
     }
 
+    /// Takes memory for rows that was granted before.
+    pub fn take(&mut self, granted: Granted) {
+        self.granted = granted;
+    }
+
     /// Gives back what one large file needed.
     pub fn let_go(&mut self) {
         if self.numbers.len() > KEPT * ROW_WIDTH {
             self.numbers = Vec::new();
         }
+        self.granted = Granted::default();
+        self.enough = None;
     }
 
-    fn lend<A: Coded>(&mut self, data: &[u8], mut call: impl FnMut(&[u8], &mut [u32]) -> A) -> Result<A, String> {
-        let most = data.len() / 8;
-        let mut room = most.min(FIRST);
-        loop {
-            self.grow(room)?;
-            let answer = call(data, &mut self.numbers);
-            let had = self.numbers.len() / ROW_WIDTH;
-            if answer.code() != NO_ROOM || had >= most {
-                return Ok(answer);
-            }
-            room = most.min(had.max(1) * 2);
+    /// Makes room for the rows of a data set, unless their memory is not free.
+    pub fn fit(&mut self, form: Form, data: &[u8]) -> Result<(), NoRoom> {
+        let data_set = form.data_set(data);
+        if self.grow(most_rows(data_set.len())).is_err() {
+            self.grow(library::count(data_set))?;
         }
-    }
-
-    fn grow(&mut self, room: usize) -> Result<(), String> {
-        let wanted = room * ROW_WIDTH;
-        if wanted > self.numbers.len() {
-            // What is in it is not needed, so nothing is copied.
-            self.numbers = Vec::new();
-            if self.numbers.try_reserve_exact(wanted).is_err() {
-                return Err(format!("there is no memory for {room} rows; use fewer --jobs, or a larger machine"));
-            }
-            self.numbers.resize(wanted, 0);
-        }
+        self.enough = Some(place(data));
         Ok(())
     }
+
+    /// Calls with room for the rows. Bytes that the room was made for before are not counted again; where others lie in their place
+    /// by now, the library says so.
+    fn lend<A: Coded>(&mut self, form: Form, data: &[u8], mut call: impl FnMut(&[u8], &mut [u32]) -> A) -> Result<A, String> {
+        if self.enough == Some(place(data)) {
+            let answer = call(data, &mut self.numbers);
+            if answer.code() != NO_ROOM {
+                return Ok(answer);
+            }
+        }
+        self.fit(form, data).map_err(|NoRoom(bytes)| format!("for its rows {}", memory::too_much(bytes, memory::limit())))?;
+        Ok(call(data, &mut self.numbers))
+    }
+
+    fn grow(&mut self, rows: usize) -> Result<(), NoRoom> {
+        let wanted = rows * ROW_WIDTH;
+        if wanted <= self.numbers.len() {
+            return Ok(());
+        }
+        // What is in it is not needed, so nothing is copied.
+        self.numbers = Vec::new();
+        let no_room = NoRoom(rows as u64 * ROW_BYTES);
+        if rows > KEPT && !self.granted.grow_to(no_room.0) {
+            return Err(no_room);
+        }
+        self.numbers = library::zeros(wanted.max(KEPT * ROW_WIDTH)).ok_or(no_room)?;
+        Ok(())
+    }
+}
+
+fn most_rows(size: usize) -> usize {
+    size / 8
+}
+
+/// The memory that the rows of a data set of a size take at most.
+pub fn most_room(size: u64) -> u64 {
+    size / 8 * ROW_BYTES
+}
+
+fn place(data: &[u8]) -> (usize, usize) {
+    (data.as_ptr() as usize, data.len())
 }

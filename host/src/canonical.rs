@@ -11,15 +11,20 @@ use std::path::{Path, PathBuf};
 use sha2::{Digest, Sha256};
 
 use crate::buffer::RowBuffer;
-use crate::files::{self, Finding, Opened};
+use crate::files::{self, Opened};
+use crate::finding::{Choice, Finding};
 use crate::head::{Form, Judged};
 use crate::library::Answer;
-use crate::output::{line, note, note_of, path_fields, Status};
+use crate::memory::Granted;
+use crate::other;
+use crate::output::{line, note, note_of, Object, Status};
 
 /// Why there is no canonical form, in words.
 enum Failure {
     /// The library refused.
     Refused(String),
+    /// The library refused what is certainly no run.
+    Other(String),
     /// Something else.
     Trouble(String),
 }
@@ -30,15 +35,6 @@ impl From<String> for Failure {
     }
 }
 
-impl Failure {
-    fn parts(self) -> (Status, String) {
-        match self {
-            Failure::Refused(text) => (Status::Refused, text),
-            Failure::Trouble(text) => (Status::Failed, text),
-        }
-    }
-}
-
 /// A data set in its canonical form.
 struct Canonical {
     /// What stands before the data set: a file's head, byte for byte.
@@ -46,6 +42,7 @@ struct Canonical {
     form: Vec<u8>,
     /// Whether the data set is in that form already.
     same: bool,
+    _granted: Granted,
 }
 
 /// The canonical form of a file's data set. A file that reading refuses is refused here by the same code.
@@ -55,10 +52,17 @@ fn form_of(path: &Path, kind: Form, buffer: &mut RowBuffer) -> Result<Canonical,
     if kind == Form::File {
         let answer = buffer.read(kind, content)?;
         if answer.code != 0 {
-            return Err(Failure::Refused(Judged::of(kind, content, answer, buffer.table(0)).line()));
+            let line = Judged::of(kind, content, answer, buffer.table(0)).line();
+            let what = other::what(content, &answer, buffer);
+            opened.unchanged()?;
+            return Err(match what {
+                Some(what) => Failure::Other(format!("not ours: {what}; {line}")),
+                None => Failure::Refused(line),
+            });
         }
     }
     let (head, data) = content.split_at(kind.start(content));
+    let granted = Granted::now(data.len() as u64).map_err(|text| format!("for its canonical form {text}"))?;
     let mut form = Vec::new();
     if form.try_reserve_exact(data.len()).is_err() {
         return Err(Failure::Trouble(format!("there is no memory for {} bytes", data.len())));
@@ -72,7 +76,7 @@ fn form_of(path: &Path, kind: Form, buffer: &mut RowBuffer) -> Result<Canonical,
     }
     buffer.let_go();
     form.truncate(written.length as usize);
-    let canonical = Canonical { head: head.to_vec(), same: form == data, form };
+    let canonical = Canonical { head: head.to_vec(), same: form == data, form, _granted: granted };
     opened.unchanged()?;
     Ok(canonical)
 }
@@ -83,15 +87,15 @@ pub fn write(path: &Path, kind: Form, output: &Path, out: &mut dyn Write) -> io:
         note_of(output, "it is the data set itself; name another file");
         return Ok(Status::Failed);
     }
-    let Canonical { head: mut content, form, same } = match form_of(path, kind, &mut RowBuffer::default()) {
+    let Canonical { head: mut content, form, same, _granted } = match form_of(path, kind, &mut RowBuffer::default()) {
         Ok(found) => found,
-        Err(failure) => {
-            let (status, text) = failure.parts();
-            match status {
-                Status::Refused => line(out, path, &text)?,
-                _ => note_of(path, &text),
-            }
-            return Ok(status);
+        Err(Failure::Refused(text) | Failure::Other(text)) => {
+            line(out, path, &text)?;
+            return Ok(Status::Refused);
+        }
+        Err(Failure::Trouble(text)) => {
+            note_of(path, &text);
+            return Ok(Status::Failed);
         }
     };
     content.extend(form);
@@ -134,12 +138,16 @@ impl Group {
 
     /// One object: the hash, the length, and the files, each with whether it is in canonical form itself.
     fn json(&self) -> String {
-        let files: Vec<String> = self
-            .members
-            .iter()
-            .map(|member| format!("{{{},\"canonical\":{}}}", path_fields("path", &member.path), member.canonical))
-            .collect();
-        format!("{{\"sha256\":\"{}\",\"length\":{},\"files\":[{}]}}\n", self.hash_text(), self.length, files.join(","))
+        let files = self.members.iter().map(|member| {
+            let mut file = Object::about(&member.path);
+            file.put("canonical", member.canonical);
+            file
+        });
+        let mut object = Object::default();
+        object.put("sha256", self.hash_text());
+        object.put("length", self.length);
+        object.put("files", files.collect::<Vec<Object>>());
+        object.line()
     }
 }
 
@@ -152,6 +160,7 @@ struct Search {
     status: Option<Status>,
     refused: usize,
     unread: usize,
+    others: usize,
 }
 
 impl Search {
@@ -164,24 +173,33 @@ impl Search {
             status: None,
             refused: 0,
             unread: 0,
+            others: 0,
         }
     }
 
-    fn add(&mut self, path: &Path) {
+    /// Looks at a file. Whoever names one wants it to be a run.
+    fn add(&mut self, path: &Path, named: bool) {
         let found = form_of(path, self.kind, &mut self.buffer).and_then(|found| self.place(path, &found.form, found.same));
-        if let Err(failure) = found {
-            let (status, text) = failure.parts();
-            self.fail(path, status, &text);
+        match found {
+            Ok(()) => {}
+            Err(Failure::Other(text)) => {
+                self.others += 1;
+                self.fail(path, if named { Status::Refused } else { Status::Fine }, &text);
+            }
+            Err(Failure::Refused(text)) => {
+                self.refused += 1;
+                self.fail(path, Status::Refused, &text);
+            }
+            Err(Failure::Trouble(text)) => {
+                self.unread += 1;
+                self.fail(path, Status::Failed, &text);
+            }
         }
     }
 
     fn fail(&mut self, path: &Path, status: Status, text: &str) {
         note_of(path, text);
         self.status = self.status.max(Some(status));
-        match status {
-            Status::Refused => self.refused += 1,
-            _ => self.unread += 1,
-        }
     }
 
     /// Puts a file into the group whose first file has the same canonical form; into a new one where there is none.
@@ -202,8 +220,8 @@ impl Search {
 }
 
 /// Finds files whose data sets have the same canonical form.
-pub fn duplicates(named: &[PathBuf], kind: Form, json: bool, out: &mut dyn Write) -> io::Result<Status> {
-    let finding = Finding::of(named, None);
+pub fn duplicates(named: &[PathBuf], kind: Form, choice: &Choice, json: bool, out: &mut dyn Write) -> io::Result<Status> {
+    let finding = Finding::of(named, None, choice);
     for (path, reason) in &finding.skipped {
         note_of(path, &format!("skipped: {reason}"));
     }
@@ -220,8 +238,11 @@ pub fn duplicates(named: &[PathBuf], kind: Form, json: bool, out: &mut dyn Write
             continue;
         }
         match &one.unreadable {
-            Some(trouble) => search.fail(&one.path, Status::Failed, trouble),
-            None => search.add(&one.path),
+            Some(trouble) => {
+                search.unread += 1;
+                search.fail(&one.path, Status::Failed, trouble);
+            }
+            None => search.add(&one.path, one.named),
         }
     }
     let equal: Vec<&Group> = search.groups.iter().filter(|group| group.members.len() > 1).collect();
@@ -232,7 +253,7 @@ pub fn duplicates(named: &[PathBuf], kind: Form, json: bool, out: &mut dyn Write
         }
     }
     let files = finding.found.len();
-    let summary = format!(
+    let mut summary = format!(
         "{files} {}: {} with an equal in {} {}, {} refused, {} could not be read",
         if files == 1 { "file" } else { "files" },
         equal.iter().map(|group| group.members.len()).sum::<usize>(),
@@ -241,6 +262,9 @@ pub fn duplicates(named: &[PathBuf], kind: Form, json: bool, out: &mut dyn Write
         search.refused,
         search.unread
     );
+    if search.others > 0 {
+        summary.push_str(&format!(", {} not ours", search.others));
+    }
     match json {
         true => note(&summary),
         false => writeln!(out, "{summary}")?,

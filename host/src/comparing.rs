@@ -7,7 +7,7 @@ use std::fs;
 use std::io::{self, Write};
 use std::path::{Path, PathBuf};
 
-use crate::files;
+use crate::files::{self, Opened};
 use crate::head::Form;
 use crate::library::Compared;
 use crate::output::{line, note_of, Status};
@@ -57,13 +57,15 @@ fn read_png(content: &[u8]) -> Option<Cells> {
 
 /// A picture, by the ending of its name: .png, .pgm, and anything else is plain cells, one byte each.
 fn read_cells(path: &Path) -> Result<Cells, String> {
-    let content = fs::read(path).map_err(|error| files::trouble(&error))?;
+    let opened = Opened::open(path)?;
+    let content = opened.bytes();
     let ending = path.extension().and_then(|ending| ending.to_str()).map(str::to_ascii_lowercase);
     match ending.as_deref() {
-        Some("png") => read_png(&content).ok_or_else(|| String::from("it is not a PNG of 8-bit grey")),
-        Some("pgm") => read_pgm(&content).ok_or_else(|| String::from("it is not a PGM (P5) of levels 0 to 255")),
-        _ => Ok(Cells { levels: content, size: None }),
+        Some("png") => read_png(content).ok_or_else(|| String::from("it is not a PNG of 8-bit grey")),
+        Some("pgm") => read_pgm(content).ok_or_else(|| String::from("it is not a PGM (P5) of levels 0 to 255")),
+        _ => Ok(Cells { levels: content.to_vec(), size: None }),
     }
+    .and_then(|cells| opened.unchanged().map(|()| cells))
 }
 
 /// What is said of a picture that was compared.

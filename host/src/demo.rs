@@ -8,6 +8,7 @@ use std::io::{self, Write};
 use std::path::Path;
 
 use crate::files;
+use crate::frames;
 use crate::head::Form;
 use crate::judging;
 use crate::output::{note_of, Status};
@@ -103,8 +104,9 @@ fn frame_item(frame: usize, with_window: bool) -> Vec<u8> {
 }
 
 const ENHANCED_XA: &str = "1.2.840.10008.5.1.4.1.1.12.1.1";
-/// A UID made from a number that was drawn once (PS3.5, annex B.2).
+/// UIDs made from numbers that were drawn once (PS3.5, annex B.2).
 const INSTANCE: &str = "2.25.208136041254977261925360311254630151267";
+const STUDY: &str = "2.25.114508917733560224871340569928430777519";
 
 /// A file: 128 bytes, the mark, the head with its length first, the data set.
 fn file(data_set: &[u8]) -> Vec<u8> {
@@ -127,8 +129,11 @@ fn data_set(pixels: &[u8], left_out: Option<usize>, windowless: Option<usize>) -
     [
         text(0x0008_0008, "CS", "ORIGINAL\\PRIMARY\\\\NONE"), // Image Type
         text(0x0008_0016, "UI", ENHANCED_XA),                 // SOP Class UID
+        text(0x0008_0018, "UI", INSTANCE),                    // SOP Instance UID
         text(0x0008_002A, "DT", "20240305050000"),            // Acquisition DateTime
         text(0x0008_0060, "CS", "XA"),                        // Modality
+        text(0x0008_0080, "LO", "Sample Clinic"),             // Institution Name
+        text(0x0008_1010, "SH", "XA-1"),                      // Station Name
         text(0x0010_0010, "PN", "Sample^Run"),
         text(0x0018_0060, "DS", "72"),                      // KVP
         text(0x0018_1155, "CS", "GR"),                      // Radiation Setting
@@ -137,6 +142,7 @@ fn data_set(pixels: &[u8], left_out: Option<usize>, windowless: Option<usize>) -
         element(0x0018_9332, "FD", &67.2f64.to_le_bytes()), // Exposure in mAs
         text(0x0018_9410, "CS", "SINGLE PLANE"),            // Planes in Acquisition
         text(0x0018_9457, "CS", "MONOPLANE"),               // Plane Identification
+        text(0x0020_000D, "UI", STUDY),                     // Study Instance UID
         us(0x0028_0002, &[1]),                              // Samples per Pixel
         text(0x0028_0004, "CS", "MONOCHROME2"),             // Photometric Interpretation
         text(0x0028_0008, "IS", &FRAMES.to_string()),       // Number of Frames
@@ -313,7 +319,13 @@ pub fn run(folder: &Path, jobs: usize, out: &mut dyn Write) -> io::Result<Status
     }
 
     typed(out, &["judge"], &runs)?;
-    let wanted = judging::Wanted { named: vec![runs.clone()], form: Form::File, slips: None, json: false, jobs };
+    let wanted = match judging::Wanted::of(vec![runs.clone()], Form::File, jobs) {
+        Ok(wanted) => wanted,
+        Err(trouble) => {
+            note_of(&runs, &trouble);
+            return Ok(Status::Failed);
+        }
+    };
     let mut status = match judging::run(&wanted, out)? {
         // Three of the runs are made to be refused.
         Status::Refused => Status::Fine,
@@ -324,7 +336,8 @@ pub fn run(folder: &Path, jobs: usize, out: &mut dyn Write) -> io::Result<Status
     for frame in [1, 7, 11, 19] {
         let to = folder.join(format!("frame-{frame}.png"));
         typed(out, &["show", &path.to_string_lossy(), &frame.to_string(), "-o"], &to)?;
-        status = status.max(picture::show(&path, Form::File, frame, Some(&to), out)?);
+        let wanted = frames::Wanted { form: Form::File, both: false, kind: None, output: Some(&to) };
+        status = status.max(frames::show(&path, frames::Frames::One(frame), &wanted, out)?);
     }
     let to = folder.join("contact.png");
     typed(out, &["contact", &path.to_string_lossy(), "-o"], &to)?;

@@ -1,14 +1,44 @@
-//! Files: opening, finding them in folders, writing them, and their names in print.
+//! Files: opening, writing and moving them, and their names in print.
 
 use std::ffi::OsStr;
-use std::fs::{self, File, Metadata};
-use std::io::{self, Write};
+use std::fs::{self, File, Metadata, Permissions};
+use std::io::{self, Read, Write};
 use std::os::unix::ffi::OsStrExt;
-use std::path::{Component, Path, PathBuf};
-use std::sync::atomic::{AtomicUsize, Ordering};
-use std::time::SystemTime;
+use std::os::unix::fs::{MetadataExt, PermissionsExt};
+use std::path::{Path, PathBuf};
+use std::sync::atomic::{AtomicBool, AtomicU32, Ordering};
+use std::thread;
+use std::time::{Duration, SystemTime};
 
-use crate::library::{self, Mapping};
+use rustix::fs::{cwd, renameat_with, RenameFlags};
+use rustix::io::Errno;
+
+use crate::library::Mapping;
+use crate::memory::Granted;
+
+/// Whether files are mapped. Otherwise they are read into memory of our own, which nobody else can change.
+static MAPPED: AtomicBool = AtomicBool::new(false);
+
+/// The permissions that new files have.
+static MODE: AtomicU32 = AtomicU32::new(0o600);
+
+/// Says what holds for the whole process.
+pub fn start(mapped: bool) {
+    MAPPED.store(mapped, Ordering::Relaxed);
+    MODE.store(0o666 & !mask().unwrap_or(0o077), Ordering::Relaxed);
+}
+
+/// The permissions that the user does not give.
+fn mask() -> Option<u32> {
+    let status = fs::read_to_string("/proc/self/status").ok()?;
+    let line = status.lines().find_map(|line| line.strip_prefix("Umask:"))?;
+    u32::from_str_radix(line.trim(), 8).ok()
+}
+
+/// Whether files are mapped.
+pub fn are_mapped() -> bool {
+    MAPPED.load(Ordering::Relaxed)
+}
 
 /// What went wrong with a file, and what to do about it.
 pub fn trouble(error: &io::Error) -> String {
@@ -19,183 +49,237 @@ pub fn trouble(error: &io::Error) -> String {
     }
 }
 
-/// A file that is open and mapped.
-pub struct Opened {
-    file: File,
-    mapping: Mapping,
-    then: (u64, Option<SystemTime>),
+fn unread(error: &io::Error) -> String {
+    format!("cannot be read: {}", trouble(error))
 }
 
-fn state(about: &Metadata) -> (u64, Option<SystemTime>) {
-    (about.len(), about.modified().ok())
+const CHANGED: &str = "changed while it was looked at; wait until it is complete and try again";
+
+/// Which file it is, how large, and when it was last written to and changed.
+#[derive(Clone, Copy, PartialEq, Eq)]
+pub struct State {
+    file: (u64, u64),
+    size: u64,
+    written: (i64, i64),
+    changed: (i64, i64),
+}
+
+impl State {
+    fn of(about: &Metadata) -> State {
+        State {
+            file: (about.dev(), about.ino()),
+            size: about.len(),
+            written: (about.mtime(), about.mtime_nsec()),
+            changed: (about.ctime(), about.ctime_nsec()),
+        }
+    }
+
+    /// That of the file which a path leads to.
+    pub fn at(path: &Path) -> io::Result<State> {
+        fs::metadata(path).map(|about| State::of(&about))
+    }
+
+    pub fn size(&self) -> u64 {
+        self.size
+    }
+
+    /// How long ago it was changed; nothing where that is not in the past.
+    fn rested(&self) -> Option<Duration> {
+        since(self.changed)
+    }
+
+    /// How long ago it was written to. A time in the future is not believed; then it counts when it was changed.
+    pub fn age(&self) -> Duration {
+        since(self.written).or_else(|| since(self.changed)).unwrap_or_default()
+    }
+}
+
+/// How long ago a time is, given in seconds and nanoseconds; nothing where it is not in the past.
+fn since((seconds, nanoseconds): (i64, i64)) -> Option<Duration> {
+    let then = match u64::try_from(seconds) {
+        Ok(seconds) => SystemTime::UNIX_EPOCH.checked_add(Duration::new(seconds, u32::try_from(nanoseconds).ok()?))?,
+        Err(_) => SystemTime::UNIX_EPOCH,
+    };
+    SystemTime::now().duration_since(then).ok()
+}
+
+/// Kernels tell the time of files in steps of at most this. Within one step a file can change twice and show one time.
+const STEP: Duration = Duration::from_millis(20);
+
+/// The state of a file that was not changed within this step, so that any later change shows.
+fn resting(file: &File) -> io::Result<Option<State>> {
+    for _ in 0..8 {
+        let state = State::of(&file.metadata()?);
+        match state.rested() {
+            Some(rested) if rested < STEP => thread::sleep(STEP - rested),
+            _ => return Ok(Some(state)),
+        }
+    }
+    Ok(None)
+}
+
+enum Content {
+    Own(Vec<u8>),
+    Mapped(Mapping),
+}
+
+/// A file that is open, and its bytes.
+pub struct Opened {
+    file: File,
+    content: Content,
+    then: State,
+    granted: Granted,
 }
 
 impl Opened {
+    /// A file, if there is memory for its bytes now.
     pub fn open(path: &Path) -> Result<Opened, String> {
-        let failed = |error: io::Error| format!("cannot be read: {}", trouble(&error));
+        Opened::granted(path, Granted::now)
+    }
+
+    /// A file, as soon as there is memory for its bytes and so many more. Only for one who holds no memory.
+    pub fn with_room(path: &Path, more: u64) -> Result<Opened, String> {
+        Opened::granted(path, |bytes| Granted::wait_for(bytes.saturating_add(more)))
+    }
+
+    fn granted(path: &Path, grant: impl FnOnce(u64) -> Result<Granted, String>) -> Result<Opened, String> {
         // Asked before opening, since opening a pipe would wait for its writer.
-        let about = fs::metadata(path).map_err(failed)?;
+        let about = fs::metadata(path).map_err(|error| unread(&error))?;
         if about.is_dir() {
             return Err(String::from("cannot be read: it is a folder; name a file in it"));
         }
         if !about.is_file() {
             return Err(String::from("cannot be read: it is not a regular file; copy it into one first"));
         }
-        let file = File::open(path).map_err(failed)?;
-        let then = state(&file.metadata().map_err(failed)?);
-        let mapping = Mapping::of(&file).map_err(failed)?;
-        Ok(Opened { file, mapping, then })
+        let file = File::open(path).map_err(|error| unread(&error))?;
+        let size = file.metadata().map_err(|error| unread(&error))?.len();
+        let granted = grant(if are_mapped() { 0 } else { size }).map_err(|text| format!("cannot be read: {text}"))?;
+        let then = resting(&file).map_err(|error| unread(&error))?.filter(|then| then.size == size).ok_or(CHANGED)?;
+        let content = match are_mapped() {
+            true => Content::Mapped(Mapping::of(&file).map_err(|error| unread(&error))?),
+            false => Content::Own(private(&file, size)?),
+        };
+        Ok(Opened { file, content, then, granted })
     }
 
     pub fn bytes(&self) -> &[u8] {
-        self.mapping.bytes()
+        match &self.content {
+            Content::Own(bytes) => bytes,
+            Content::Mapped(mapping) => mapping.bytes(),
+        }
+    }
+
+    /// So many bytes of the memory that was granted with the file, for something else.
+    pub fn room(&mut self, bytes: u64) -> Granted {
+        self.granted.split(bytes)
     }
 
     /// An error where size or time of the file changed since it was opened: what was said of it then holds for nothing.
     pub fn unchanged(&self) -> Result<(), String> {
         match self.file.metadata() {
-            Ok(now) if state(&now) == self.then => Ok(()),
-            _ => Err(String::from("changed while it was looked at; wait until it is complete and try again")),
+            Ok(now) if State::of(&now) == self.then => Ok(()),
+            _ => Err(String::from(CHANGED)),
         }
     }
 }
 
-/// One thing to judge, or a folder that cannot be listed.
-pub struct Found {
-    pub path: PathBuf,
-    pub unreadable: Option<String>,
-}
-
-/// Files in the order in which they are named; those of a folder in the order of their names.
-#[derive(Default)]
-pub struct Finding {
-    pub found: Vec<Found>,
-    /// What stands in a folder and is not judged, with the reason.
-    pub skipped: Vec<(PathBuf, &'static str)>,
-}
-
-impl Finding {
-    /// What the named files and folders hold. The folder `leave`, that of the slips, is not gone into.
-    pub fn of(named: &[PathBuf], leave: Option<&Path>) -> Finding {
-        let leave = leave.and_then(|folder| fs::canonicalize(folder).ok());
-        let mut finding = Finding::default();
-        for path in named {
-            if fs::metadata(path).map_or(false, |about| about.is_dir()) {
-                let before = finding.found.len();
-                finding.folder(path, leave.as_deref());
-                if finding.found.len() == before {
-                    finding.skipped.push((path.clone(), "there is no file in it"));
-                }
-            } else {
-                finding.file(path.clone());
-            }
-        }
-        finding
-    }
-
-    fn file(&mut self, path: PathBuf) {
-        self.found.push(Found { path, unreadable: None });
-    }
-
-    fn folder(&mut self, path: &Path, leave: Option<&Path>) {
-        let listed = fs::read_dir(path).and_then(|entries| entries.collect::<io::Result<Vec<_>>>());
-        let mut entries = match listed {
-            Ok(entries) => entries,
-            Err(error) => {
-                let unreadable = Some(format!("cannot be listed: {}", trouble(&error)));
-                self.found.push(Found { path: path.to_path_buf(), unreadable });
-                return;
-            }
-        };
-        entries.sort_by_key(|entry| entry.file_name());
-        for entry in entries {
-            let path = entry.path();
-            // A link is asked for what it leads to. One to a folder is not followed, so there are no endless walks.
-            let linked = entry.file_type().map_or(false, |kind| kind.is_symlink());
-            match fs::metadata(&path) {
-                Ok(about) if about.is_dir() && linked => {
-                    self.skipped.push((path, "a link to a folder is not followed"));
-                }
-                Ok(about) if about.is_dir() => {
-                    if leave.is_some() && fs::canonicalize(&path).ok().as_deref() == leave {
-                        self.skipped.push((path, "the folder of the slips is not judged"));
-                    } else {
-                        self.folder(&path, leave);
-                    }
-                }
-                Ok(about) if !about.is_file() => self.skipped.push((path, "not a regular file")),
-                _ if is_slip(&path) => self.skipped.push((path, "a verdict slip is not judged")),
-                // One that cannot be asked gets its line when it is opened.
-                _ => self.file(path),
-            }
-        }
+/// A copy of a file's bytes.
+fn private(file: &File, size: u64) -> Result<Vec<u8>, String> {
+    let mut bytes = Vec::new();
+    let room = usize::try_from(size).ok().and_then(|size| bytes.try_reserve_exact(size).ok());
+    room.ok_or_else(|| format!("cannot be read: there is no memory for {size} bytes"))?;
+    file.take(size).read_to_end(&mut bytes).map_err(|error| unread(&error))?;
+    match bytes.len() as u64 == size {
+        true => Ok(bytes),
+        false => Err(String::from(CHANGED)),
     }
 }
 
-/// Whether a file has the name of a slip and is one.
-fn is_slip(path: &Path) -> bool {
-    path.extension() == Some(OsStr::new("slip"))
-        && Opened::open(path).map_or(false, |opened| library::read_slip(opened.bytes()).code == 0)
-}
-
-/// The path of the slip: that of the file as it was named, under the folder of the slips. Of `/` and `..` nothing is kept.
-pub fn slip_path(folder: &Path, file: &Path) -> PathBuf {
-    let mut path = folder.to_path_buf();
-    path.extend(file.components().filter(|part| matches!(part, Component::Normal(_))));
-    let mut name = path.file_name().unwrap_or_default().to_os_string();
-    name.push(".slip");
-    path.set_file_name(name);
-    path
-}
-
-/// Writes a file whole or not at all: under another name, which is then changed. Folders on the way are made if `folders`.
-pub fn write_whole(path: &Path, content: &[u8], folders: bool) -> io::Result<()> {
-    static COUNT: AtomicUsize = AtomicUsize::new(0);
-    let folder = match path.parent() {
+/// The folder that a file stands in.
+fn folder_of(path: &Path) -> &Path {
+    match path.parent() {
         Some(folder) if folder != Path::new("") => folder,
         _ => Path::new("."),
-    };
+    }
+}
+
+/// How the names of drafts start and end.
+const DRAFT: (&str, &str) = (".luux-", ".tmp");
+
+/// Whether a file has the name of a draft. One stays behind where the tool was ended while it wrote.
+pub fn is_draft(name: &OsStr) -> bool {
+    let name = name.as_bytes();
+    name.starts_with(DRAFT.0.as_bytes()) && name.ends_with(DRAFT.1.as_bytes())
+}
+
+/// Writes a file whole or not at all: to a draft in the same folder, which is synced and renamed. Folders on the way are
+/// made if `folders`.
+pub fn write_whole(path: &Path, content: &[u8], folders: bool) -> io::Result<()> {
+    let folder = folder_of(path);
     if folders {
         fs::create_dir_all(folder)?;
     }
-    let number = COUNT.fetch_add(1, Ordering::Relaxed);
-    let draft = folder.join(format!(".luux-{}-{}.tmp", std::process::id(), number));
-    let mut file = File::options().write(true).create_new(true).open(&draft)?;
-    let written = file.write_all(content).and_then(|()| fs::rename(&draft, path));
-    if written.is_err() {
-        // The draft is of no use; that it cannot be removed is not worth a second message.
-        let _ = fs::remove_file(&draft);
-    }
-    written
+    // A draft that is dropped is removed.
+    let mut draft = tempfile::Builder::new().prefix(DRAFT.0).suffix(DRAFT.1).tempfile_in(folder)?;
+    draft.write_all(content)?;
+    draft.as_file().set_permissions(Permissions::from_mode(MODE.load(Ordering::Relaxed)))?;
+    draft.as_file().sync_all()?;
+    draft.persist(path).map_err(|failed| failed.error)?;
+    // The file is whole either way. Some file systems cannot sync a folder.
+    let _ = File::open(folder).and_then(|folder| folder.sync_all());
+    Ok(())
 }
 
-/// A path for a line of print: its own bytes, but control characters as `\x0A`, so that a line stays a line.
-pub fn printed(path: &Path) -> Vec<u8> {
-    let bytes = path.as_os_str().as_bytes();
-    match std::str::from_utf8(bytes) {
-        Ok(text) => {
-            let mut line = String::new();
-            for letter in text.chars() {
-                if letter.is_control() {
-                    line.push_str(&format!("\\x{:02X}", letter as u32));
-                } else {
-                    line.push(letter);
-                }
-            }
-            line.into_bytes()
+/// Renames a file, never over one that is there.
+pub fn rename_new(from: &Path, to: &Path) -> io::Result<()> {
+    match renameat_with(cwd(), from, cwd(), to, RenameFlags::NOREPLACE) {
+        // Some file systems cannot rename so. A second name is refused by them too where there is a file.
+        Err(Errno::INVAL | Errno::NOSYS | Errno::NOTSUP) => {
+            fs::hard_link(from, to)?;
+            fs::remove_file(from)
         }
-        Err(_) => {
-            let mut line = Vec::new();
-            for &byte in bytes {
-                if byte.is_ascii_control() {
-                    line.extend(format!("\\x{:02X}", byte).into_bytes());
-                } else {
-                    line.push(byte);
-                }
-            }
-            line
-        }
+        done => done.map_err(io::Error::from),
     }
+}
+
+/// Whether a character is shown as itself: it is neither a backslash nor a control, formatting or separating character, nor
+/// one without a meaning.
+pub fn is_plain(letter: char) -> bool {
+    match letter {
+        ' '..='~' => letter != '\\',
+        // The library of Rust knows which characters can be printed, and escapes those that cannot.
+        _ => String::from_iter(['a', letter]).escape_debug().count() == 2,
+    }
+}
+
+/// A path for a line of print. What is not plain is escaped: `\\` is a backslash, `\x0A` a byte, `\u{202E}` a character. So a
+/// line stays a line, and no two names look the same.
+pub fn printed(path: &Path) -> Vec<u8> {
+    let mut line = String::new();
+    let mut rest = path.as_os_str().as_bytes();
+    while !rest.is_empty() {
+        let whole = match std::str::from_utf8(rest) {
+            Ok(_) => rest.len(),
+            Err(error) => error.valid_up_to(),
+        };
+        let (text, others) = rest.split_at(whole);
+        for letter in String::from_utf8_lossy(text).chars() {
+            match letter {
+                '\\' => line.push_str("\\\\"),
+                _ if letter.is_ascii_control() => line.push_str(&format!("\\x{:02X}", letter as u32)),
+                _ if is_plain(letter) => line.push(letter),
+                _ => line.push_str(&format!("\\u{{{:X}}}", letter as u32)),
+            }
+        }
+        rest = match others.split_first() {
+            Some((byte, others)) => {
+                line.push_str(&format!("\\x{byte:02X}"));
+                others
+            }
+            None => others,
+        };
+    }
+    line.into_bytes()
 }
 
 /// Whether two paths lead to one file that is there.

@@ -1,9 +1,15 @@
 //! Files and bare data sets, and what is said of them. Display text only: which bytes are the data set, and whether a file's head is
 //! good, is the library's answer.
 
+use serde::{Deserialize, Serialize};
+
+use crate::buffer::RowBuffer;
+use crate::found::{self, Finding};
+use crate::identity::Identity;
 use crate::library::{self, Answer};
 use crate::sentences;
 use crate::table::Table;
+use crate::values::Source;
 
 /// What the named files are. It is said by the caller and never guessed.
 #[derive(Clone, Copy, PartialEq, Eq)]
@@ -22,6 +28,17 @@ impl Form {
         }
     }
 
+    /// The data set. A file whose head is refused has none.
+    pub fn data_set(self, content: &[u8]) -> &[u8] {
+        match self {
+            Form::File => {
+                let part = library::data_set(content);
+                if part.code == 0 { &content[part.start..] } else { &[] }
+            }
+            Form::Bare => content,
+        }
+    }
+
     /// Where the data set starts. Of a file whose head is refused, 0.
     pub fn start(self, content: &[u8]) -> usize {
         match self {
@@ -32,6 +49,7 @@ impl Form {
 }
 
 /// What the library answered about a file, and what helps the sender.
+#[derive(Serialize, Deserialize)]
 pub struct Judged {
     pub answer: Answer,
     /// The row of the frame's item, where a rule is broken at a frame; else 0.
@@ -39,8 +57,12 @@ pub struct Judged {
     /// Where the data set starts in the file; nothing for a bare data set.
     pub start: Option<usize>,
     pub hint: Option<String>,
+    /// What a refusal found.
+    pub found: Vec<Finding>,
+    pub identity: Identity,
 }
 
+const RULE_BROKEN: u32 = 9;
 const NO_MARK: u32 = 15;
 const OTHER_SYNTAX: u32 = 17;
 
@@ -53,12 +75,19 @@ impl Judged {
             OTHER_SYNTAX => Some(wanted(content)),
             _ => None,
         };
-        Judged { answer, item_row, start, hint }
+        let (found, identity) = quoted(form, content, &answer, table);
+        Judged { answer, item_row, start, hint, found, identity }
     }
 
-    /// The answer in a line, with the hint where there is one.
+    /// The answer in a line, with what was found and the hint where there are such.
     pub fn line(&self) -> String {
         let mut text = sentences::answer(&self.answer, self.item_row, self.start);
+        if !self.found.is_empty() {
+            let by_rule = self.answer.code == RULE_BROKEN;
+            text.push_str(if by_rule { " Found: " } else { "; found: " });
+            text.push_str(&found::line(&self.found));
+            text.push_str(if by_rule { "." } else { "" });
+        }
         if let Some(hint) = &self.hint {
             text.push_str("; ");
             text.push_str(hint);
@@ -67,9 +96,57 @@ impl Judged {
     }
 }
 
+/// The rows of a data set, or of what stands before the header at which reading it stops; none where that does not read by itself.
+fn rows_of(data: &[u8]) -> (RowBuffer, u32) {
+    let mut buffer = RowBuffer::default();
+    let mut end = data.len();
+    for _ in 0..2 {
+        match buffer.read(Form::Bare, &data[..end]) {
+            Ok(Answer { code: 0, rows, .. }) => return (buffer, rows),
+            Ok(Answer { code: 1..=6, offset, .. }) if (offset as usize) < end => end = offset as usize,
+            _ => break,
+        }
+    }
+    (buffer, 0)
+}
+
+/// A file's head without its mark, and the data set behind it, as the head's own length says; nothing where that says nothing. For print: of
+/// a head that is refused the library says no start.
+fn parts(form: Form, content: &[u8]) -> (&[u8], &[u8]) {
+    let length = match content.get(132..144) {
+        _ if form == Form::Bare => return (&[], content),
+        Some(&[2, 0, 0, 0, b'U', b'L', 4, 0, a, b, c, d]) => u32::from_le_bytes([a, b, c, d]) as usize,
+        _ => return (&[], &[]),
+    };
+    let end = content.len().min(144 + length);
+    (&content[132..end], &content[end..])
+}
+
+/// What a refusal found, and what the run is called by.
+fn quoted(form: Form, content: &[u8], answer: &Answer, table: Table) -> (Vec<Finding>, Identity) {
+    let (head, data) = parts(form, content);
+    // With these codes the library hands the rows over and says how many.
+    if matches!(answer.code, 0 | RULE_BROKEN) {
+        let source = Source::of(data, table);
+        return (found::by_rule(source, answer), Identity::of(&source));
+    }
+    let ((head_rows, head_count), (rows, count)) = (rows_of(head), rows_of(data));
+    let (of_head, of_data) = (Source::of(head, head_rows.table(head_count)), Source::of(data, rows.table(count)));
+    let found = match form {
+        Form::File if answer.code >= NO_MARK => found::by_head(content, answer, &of_head, &of_data),
+        _ => found::by_code(data, answer, of_data.table),
+    };
+    (found, Identity::of(&of_data).or_head(&of_head))
+}
+
+/// Whether a VR has two reserved bytes and a length of 32 bits (PS3.5, 7.1.2).
+pub fn has_long_header(vr: [u8; 2]) -> bool {
+    matches!(&vr, b"OB" | b"OD" | b"OF" | b"OL" | b"OV" | b"OW" | b"SQ" | b"SV" | b"UC" | b"UN" | b"UR" | b"UT" | b"UV")
+}
+
 /// Which transfer syntax it is, and which the sender should send.
 fn wanted(content: &[u8]) -> String {
-    let found = match transfer_syntax(content) {
+    let found = match uid(content, TRANSFER_SYNTAX) {
         Some(uid) => match syntax_name(&uid) {
             Some(name) => format!("it is {name} ({uid})"),
             None => format!("it is {uid}"),
@@ -79,33 +156,35 @@ fn wanted(content: &[u8]) -> String {
     format!("{found}; ask the sender for Explicit VR Little Endian (1.2.840.10008.1.2.1), not compressed")
 }
 
-/// The Transfer Syntax UID of a head, for print.
-fn transfer_syntax(content: &[u8]) -> Option<String> {
+const TRANSFER_SYNTAX: u32 = 0x0002_0010;
+
+/// The value of a UID in a file's head, for print.
+pub fn uid(content: &[u8], tag: u32) -> Option<String> {
     let mut at = 132;
     loop {
         let header = content.get(at..at + 8)?;
-        let long = matches!(
-            &header[4..6],
-            b"OB" | b"OD" | b"OF" | b"OL" | b"OV" | b"OW" | b"SQ" | b"SV" | b"UC" | b"UN" | b"UR" | b"UT" | b"UV"
-        );
-        let (start, length) = if long {
+        let (start, length) = if has_long_header([header[4], header[5]]) {
             let length = content.get(at + 8..at + 12)?;
             (at + 12, u32::from_le_bytes([length[0], length[1], length[2], length[3]]) as usize)
         } else {
             (at + 8, usize::from(u16::from_le_bytes([header[6], header[7]])))
         };
         let value = content.get(start..start.checked_add(length)?)?;
-        if header[..4] == [2, 0, 0x10, 0] {
-            let letters = value.iter().take_while(|&&byte| byte != 0);
-            return Some(
-                letters.map(|&byte| if byte.is_ascii_graphic() { byte as char } else { '?' }).take(64).collect(),
-            );
+        let [group, element] = [0, 2].map(|place| u32::from(u16::from_le_bytes([header[place], header[place + 1]])));
+        if group << 16 | element == tag {
+            return uid_text(value);
         }
-        if header[..2] != [2, 0] {
+        if group != tag >> 16 {
             return None;
         }
         at = start + length;
     }
+}
+
+/// A UID without the byte that makes its length even.
+pub fn uid_text(value: &[u8]) -> Option<String> {
+    let letters = value.iter().take_while(|&&byte| byte != 0);
+    Some(letters.map(|&byte| if byte.is_ascii_graphic() { byte as char } else { '?' }).take(64).collect())
 }
 
 /// The name of a transfer syntax (PS3.6, annex A).

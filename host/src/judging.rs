@@ -3,147 +3,214 @@
 use std::collections::{BTreeMap, HashMap};
 use std::io::{self, Write};
 use std::path::{Path, PathBuf};
-use std::sync::atomic::{AtomicBool, AtomicUsize, Ordering};
+use std::sync::atomic::{AtomicBool, Ordering};
 use std::sync::mpsc::{channel, Sender};
 use std::thread;
+use std::time::Duration;
 
 use indicatif::{ProgressBar, ProgressDrawTarget, ProgressStyle};
+use rayon::iter::{ParallelBridge, ParallelIterator};
+use serde_json::Value;
 
 use crate::buffer::RowBuffer;
-use crate::files::{self, Finding, Found, Opened};
+use crate::files::{self, State};
+use crate::finding::{Choice, Finding, Found};
+use crate::found;
 use crate::head::{Form, Judged};
-use crate::library::{self, Answer, SLIP_SIZE};
-use crate::output::{answer_fields, json_text, line, note, note_of, path_fields, trouble_fields, Status};
-use crate::sentences;
-
-/// The codes of a file that no verdict on a data set is given of.
-const FILE_CODES: std::ops::RangeInclusive<u32> = 15..=18;
+use crate::keeping::{self, Kept, Keeping};
+use crate::looking::{self, Looked};
+use crate::output::{line, note, note_of, Object, Status};
 
 /// What `luux judge` was asked.
 pub struct Wanted {
     pub named: Vec<PathBuf>,
     pub form: Form,
-    pub slips: Option<PathBuf>,
+    pub choice: Choice,
+    pub keeping: Keeping,
+    pub settle: Option<Duration>,
+    pub timeout: Option<Duration>,
     pub json: bool,
     pub jobs: usize,
+    /// Whether the run's identity is told below its line, and whether the patient's is.
+    pub long: bool,
+    pub patient: bool,
+}
+
+impl Wanted {
+    /// To judge what is named, and nothing else.
+    pub fn of(named: Vec<PathBuf>, form: Form, jobs: usize) -> Result<Wanted, String> {
+        let choice = Choice::of(&[], &[])?;
+        let keeping = Keeping::default();
+        Ok(Wanted { named, form, choice, keeping, settle: None, timeout: None, json: false, jobs, long: false, patient: false })
+    }
 }
 
 /// What is said of one file.
 struct Report {
-    /// The answer, or why there is none.
-    verdict: Result<Judged, String>,
-    /// Where its slip is to stand, and what went wrong in writing it.
-    slip: Option<(PathBuf, Option<String>)>,
+    looked: Looked,
+    kept: Kept,
+    /// Whether the file was named itself.
+    named: bool,
 }
 
 impl Report {
     fn status(&self) -> Status {
-        match (&self.verdict, &self.slip) {
-            (Err(_), _) | (_, Some((_, Some(_)))) => Status::Failed,
-            (Ok(judged), _) if judged.answer.code != 0 => Status::Refused,
+        match &self.looked {
+            _ if self.kept.failed() => Status::Failed,
+            Looked::Trouble(_) | Looked::Needs(_) => Status::Failed,
+            Looked::Judged(judged) if judged.answer.code != 0 => Status::Refused,
+            // Whoever names a file wants it to be a run.
+            Looked::Other(..) if self.named => Status::Refused,
             _ => Status::Fine,
         }
     }
 
     fn text(&self) -> String {
-        let mut text = match &self.verdict {
-            Ok(judged) => judged.line(),
-            Err(trouble) => trouble.clone(),
+        let mut text = match &self.looked {
+            Looked::Judged(judged) => judged.line(),
+            Looked::Other(_, what) => format!("not ours: {what}"),
+            Looked::Arriving(why) => format!("arriving: {why}"),
+            Looked::Trouble(trouble) => trouble.clone(),
+            Looked::Needs(bytes) => format!("takes {bytes} bytes of memory"),
         };
-        if let Some((path, Some(trouble))) = &self.slip {
-            let path = files::printed(path);
-            text.push_str(&format!("; its slip {} cannot be written: {trouble}", String::from_utf8_lossy(&path)));
-        }
+        text.push_str(&self.kept.text());
         text
     }
 
+    /// The lines below the first: what the run is called by.
+    fn identity(&self, patient: bool) -> String {
+        match &self.looked {
+            Looked::Judged(judged) => judged.identity.lines(patient),
+            _ => String::new(),
+        }
+    }
+
     /// One object: `path`, `verdict`, then the answer's numbers and its sentence, or the error.
-    fn json(&self, path: &Path) -> String {
-        let mut fields = path_fields("path", path);
-        match &self.verdict {
-            Ok(Judged { answer, item_row, start, hint }) => {
-                fields.push_str(&answer_fields(answer, Some(answer.rows)));
-                fields.push_str(&format!(",\"item_row\":{item_row}"));
-                if let Some(start) = start {
-                    fields.push_str(&format!(",\"start\":{start}"));
-                }
-                if let Some(hint) = hint {
-                    fields.push_str(&format!(",\"hint\":{}", json_text(hint)));
-                }
+    fn json(&self, path: &Path, patient: bool) -> String {
+        let mut object = Object::about(path);
+        match &self.looked {
+            Looked::Judged(judged) => put_judged(&mut object, judged, patient),
+            Looked::Other(judged, what) => {
+                put_judged(&mut object, judged, patient);
+                object.put("verdict", "not ours");
+                object.put("what", what.as_str());
             }
-            Err(trouble) => fields.push_str(&trouble_fields(trouble)),
+            Looked::Arriving(why) => {
+                object.put("verdict", "arriving");
+                object.put("error", why.as_str());
+            }
+            Looked::Trouble(_) | Looked::Needs(_) => object.put_trouble(&self.text()),
         }
-        match &self.slip {
-            Some((slip, None)) => fields.push_str(&format!(",{}", path_fields("slip", slip))),
-            Some((_, Some(trouble))) => fields.push_str(&format!(",\"slip_error\":{}", json_text(trouble))),
-            None => {}
-        }
-        format!("{{{fields}}}\n")
+        self.kept.put_into(&mut object);
+        object.line()
     }
 }
 
-fn judge_file(path: &Path, form: Form, buffer: &mut RowBuffer) -> Result<Judged, String> {
-    let opened = Opened::open(path)?;
-    let answer = buffer.judge(form, opened.bytes())?;
-    let judged = Judged::of(form, opened.bytes(), answer, buffer.table(answer.rows));
-    opened.unchanged().map(|()| judged)
+fn put_judged(object: &mut Object, judged: &Judged, patient: bool) {
+    let Judged { answer, item_row, start, hint, found, identity } = judged;
+    object.put_answer(answer, Some(answer.rows));
+    object.put("item_row", *item_row);
+    if let Some(start) = start {
+        object.put("start", *start);
+    }
+    if let Some(hint) = hint {
+        object.put("hint", hint.as_str());
+    }
+    if !found.is_empty() {
+        object.put("found", Value::from_iter(found.iter().map(found::Finding::json)));
+    }
+    object.put("identity", identity.json(patient));
 }
 
-fn write_slip(path: &Path, answer: Answer) -> Option<String> {
-    let mut slip = [0; SLIP_SIZE];
-    let code = library::write_slip(answer, &mut slip);
-    if code != 0 {
-        return Some(format!("code {code}: {}", sentences::code(code)));
-    }
-    files::write_whole(path, &slip, true).err().map(|error| files::trouble(&error))
+/// The least time between two looks at a file, by which one that grows is told.
+const LOOK: Duration = Duration::from_secs(1);
+
+/// The files that are judged, and when and how they were seen first.
+struct Batch<'a> {
+    wanted: &'a Wanted,
+    found: &'a [Found],
+    /// With --settle, the state of each.
+    seen: Vec<Option<State>>,
 }
 
-fn report(found: &Found, form: Form, slips: Option<&Path>, buffer: &mut RowBuffer) -> Report {
-    if let Some(trouble) = &found.unreadable {
-        return Report { verdict: Err(trouble.clone()), slip: None };
-    }
-    let verdict = judge_file(&found.path, form, buffer);
-    buffer.let_go();
-    let slip = match (slips, &verdict) {
-        // A slip records a verdict on a data set; a file that none is taken from gets none.
-        (Some(folder), Ok(judged)) if !FILE_CODES.contains(&judged.answer.code) => {
-            let path = files::slip_path(folder, &found.path);
-            let trouble = write_slip(&path, judged.answer);
-            Some((path, trouble))
+impl<'a> Batch<'a> {
+    fn of(wanted: &'a Wanted, found: &'a [Found]) -> Batch<'a> {
+        let mut batch = Batch { wanted, found, seen: Vec::new() };
+        if let Some(settle) = wanted.settle {
+            batch.seen = found.iter().map(|one| State::at(&one.path).ok()).collect();
+            thread::sleep(settle.min(LOOK));
         }
-        _ => None,
-    };
-    Report { verdict, slip }
-}
+        batch
+    }
 
-/// Takes one file after another until there is none left, or nobody listens.
-fn work(
-    found: &[Found],
-    form: Form,
-    slips: Option<&Path>,
-    next: &AtomicUsize,
-    stop: &AtomicBool,
-    reports: Sender<(usize, Report)>,
-) {
-    let mut buffer = RowBuffer::default();
-    while let Some((number, one)) = take(found, next) {
-        let sent = reports.send((number, report(one, form, slips, &mut buffer)));
-        if sent.is_err() || stop.load(Ordering::Relaxed) {
-            return;
+    /// Why a file is not judged yet.
+    fn arriving(&self, number: usize, now: Option<State>) -> Option<String> {
+        let (settle, now) = (self.wanted.settle?, now?);
+        if self.seen[number] != Some(now) {
+            return Some(String::from("it was written to while luux looked"));
+        }
+        let age = now.age();
+        (age < settle).then(|| format!("written to {:.0} seconds ago, and --settle asks for {}", age.as_secs_f64(), settle.as_secs_f64()))
+    }
+
+    fn look(&self, number: usize, before: Option<State>, buffer: &mut RowBuffer) -> Looked {
+        let one = &self.found[number];
+        if let Some(trouble) = &one.unreadable {
+            return Looked::Trouble(trouble.clone());
+        }
+        if let Some(why) = self.arriving(number, before) {
+            return Looked::Arriving(why);
+        }
+        let looked = match self.wanted.timeout {
+            Some(limit) => looking::within(limit, &one.path, self.wanted.form),
+            None => looking::here(&one.path, self.wanted.form, buffer),
+        };
+        // With --settle, one that changed meanwhile is arriving too.
+        match looked {
+            Looked::Trouble(trouble) => match self.arriving(number, State::at(&one.path).ok()) {
+                Some(why) => Looked::Arriving(why),
+                None => Looked::Trouble(trouble),
+            },
+            looked => looked,
         }
     }
-}
 
-fn take<'a>(found: &'a [Found], next: &AtomicUsize) -> Option<(usize, &'a Found)> {
-    let number = next.fetch_add(1, Ordering::Relaxed);
-    found.get(number).map(|one| (number, one))
+    fn report(&self, number: usize, buffer: &mut RowBuffer) -> Report {
+        let one = &self.found[number];
+        let before = State::at(&one.path).ok();
+        let looked = self.look(number, before, buffer);
+        let kept = match one.unreadable {
+            Some(_) => Kept::default(),
+            None => self.wanted.keeping.keep(&one.path, before, &looked),
+        };
+        Report { looked, kept, named: one.named }
+    }
+
+    /// Judges one file after another on as many threads as were asked for, until there is none left, or none wanted.
+    fn judge(&self, stop: &AtomicBool, reports: &Sender<(usize, Report)>) {
+        let one = |buffer: &mut RowBuffer, number: usize| {
+            if !stop.load(Ordering::Relaxed) {
+                // Nobody listens only where nothing is wanted any more.
+                let _ = reports.send((number, self.report(number, buffer)));
+            }
+        };
+        let numbers = 0..self.found.len();
+        match rayon::ThreadPoolBuilder::new().num_threads(self.wanted.jobs.min(self.found.len())).build() {
+            Ok(pool) => pool.install(|| numbers.par_bridge().for_each_init(RowBuffer::default, one)),
+            // Without threads the same is done one by one.
+            Err(_) => {
+                let mut buffer = RowBuffer::default();
+                numbers.for_each(|number| one(&mut buffer, number));
+            }
+        }
+    }
 }
 
 /// Two different files whose slips would be one file.
 fn same_slip<'a>(found: &'a [Found], folder: &Path) -> Option<(&'a Path, &'a Path)> {
     let mut taken: HashMap<PathBuf, &Path> = HashMap::new();
     for one in found {
-        let slip = files::slip_path(folder, &one.path);
+        let slip = keeping::slip_path(folder, &one.path);
         match taken.get(&slip) {
             Some(&other) if !files::is_same(other, &one.path) => {
                 return Some((other, &one.path));
@@ -157,7 +224,7 @@ fn same_slip<'a>(found: &'a [Found], folder: &Path) -> Option<(&'a Path, &'a Pat
 }
 
 /// A bar on standard error, where that is a terminal and there is more than one file.
-fn progress(files: usize) -> ProgressBar {
+pub fn progress(files: usize) -> ProgressBar {
     if files < 2 {
         return ProgressBar::hidden();
     }
@@ -174,23 +241,31 @@ struct Counts {
     accepted: usize,
     refused: usize,
     unread: usize,
+    others: usize,
+    arriving: usize,
     slips_lost: usize,
+    not_moved: usize,
 }
 
 impl Counts {
     fn add(&mut self, report: &Report) {
-        match &report.verdict {
-            Ok(judged) if judged.answer.code == 0 => self.accepted += 1,
-            Ok(_) => self.refused += 1,
-            Err(_) => self.unread += 1,
+        match &report.looked {
+            Looked::Judged(judged) if judged.answer.code == 0 => self.accepted += 1,
+            Looked::Judged(_) => self.refused += 1,
+            Looked::Other(..) => self.others += 1,
+            Looked::Arriving(_) => self.arriving += 1,
+            Looked::Trouble(_) | Looked::Needs(_) => self.unread += 1,
         }
-        if let Some((_, Some(_))) = &report.slip {
-            self.slips_lost += 1;
-        }
+        self.slips_lost += usize::from(report.kept.slip_failed());
+        self.not_moved += usize::from(report.kept.move_failed());
     }
 
-    fn text(&self, skipped: usize) -> String {
-        let files = self.accepted + self.refused + self.unread;
+    fn files(&self) -> usize {
+        self.accepted + self.refused + self.unread + self.others + self.arriving
+    }
+
+    fn text(&self, finding: &Finding) -> String {
+        let files = self.files();
         let mut text = format!(
             "{files} {}: {} accepted, {} refused, {} could not be read",
             if files == 1 { "file" } else { "files" },
@@ -198,7 +273,14 @@ impl Counts {
             self.refused,
             self.unread
         );
-        for (count, what) in [(self.slips_lost, "slips could not be written"), (skipped, "skipped")] {
+        for (count, what) in [
+            (self.others, "not ours"),
+            (self.arriving, "arriving"),
+            (self.slips_lost, "slips could not be written"),
+            (self.not_moved, "could not be moved"),
+            (finding.skipped.len(), "skipped"),
+            (finding.left_out, "left out by --include or --exclude"),
+        ] {
             if count > 0 {
                 text.push_str(&format!(", {count} {what}"));
             }
@@ -211,6 +293,8 @@ impl Counts {
 struct Printing<'a> {
     found: &'a [Found],
     json: bool,
+    long: bool,
+    patient: bool,
     out: &'a mut dyn Write,
     bar: ProgressBar,
     waiting: BTreeMap<usize, Report>,
@@ -227,43 +311,46 @@ impl Printing<'_> {
             self.status = self.status.max(report.status());
             let path = &self.found[self.due].path;
             let (out, json) = (&mut self.out, self.json);
+            let (long, patient) = (self.long, self.patient);
+            self.due += 1;
             self.bar.suspend(|| match json {
-                true => out.write_all(report.json(path).as_bytes()),
-                false => line(*out, path, &report.text()),
+                true => out.write_all(report.json(path, patient).as_bytes()),
+                false => {
+                    line(*out, path, &report.text())?;
+                    out.write_all(if long { report.identity(patient) } else { String::new() }.as_bytes())
+                }
             })?;
             self.bar.inc(1);
-            self.due += 1;
         }
         Ok(())
     }
 }
 
-/// Judges on several threads, and prints on this one. With an error of standard output the threads stop too.
-fn judge_all(wanted: &Wanted, printing: &mut Printing) -> io::Result<()> {
-    let (found, form, slips) = (printing.found, wanted.form, wanted.slips.as_deref());
-    let (next, stop) = (AtomicUsize::new(0), AtomicBool::new(false));
+/// Judges on several threads, and prints on this one. Where standard output cannot be written, the threads stop too; but they go on
+/// where slips are to be written or files to be moved.
+fn judge_all(batch: &Batch, printing: &mut Printing) -> io::Result<()> {
+    let stop = AtomicBool::new(false);
+    let goes_on = batch.wanted.keeping.folders().next().is_some();
     thread::scope(|scope| {
         let (reports, arriving) = channel();
-        let mut workers = 0;
-        for _ in 0..wanted.jobs.min(found.len()) {
-            let (reports, next, stop) = (reports.clone(), &next, &stop);
-            let job = move || work(found, form, slips, next, stop, reports);
-            // Fewer threads than asked for do the same work.
-            workers += usize::from(thread::Builder::new().spawn_scoped(scope, job).is_ok());
+        scope.spawn(|| {
+            let reports = reports;
+            batch.judge(&stop, &reports)
+        });
+        let mut printed = Ok(());
+        for (number, report) in arriving {
+            if printed.is_ok() {
+                printed = printing.add(number, report);
+            }
+            stop.store(printed.is_err() && !goes_on, Ordering::Relaxed);
         }
-        if workers == 0 {
-            work(found, form, slips, &next, &stop, reports.clone());
-        }
-        drop(reports);
-        let printed = arriving.iter().try_for_each(|(number, report)| printing.add(number, report));
-        stop.store(true, Ordering::Relaxed);
         printed
     })
 }
 
 /// What was named, unless there is nothing to judge or two files would share a slip.
 fn find(wanted: &Wanted) -> Option<Finding> {
-    let finding = Finding::of(&wanted.named, wanted.slips.as_deref());
+    let finding = Finding::of(&wanted.named, wanted.keeping.folders(), &wanted.choice);
     for (path, reason) in &finding.skipped {
         note_of(path, &format!("skipped: {reason}"));
     }
@@ -271,7 +358,7 @@ fn find(wanted: &Wanted) -> Option<Finding> {
         note("nothing was judged: there is no file in what was named");
         return None;
     }
-    if let Some((one, other)) = wanted.slips.as_deref().and_then(|folder| same_slip(&finding.found, folder)) {
+    if let Some((one, other)) = wanted.keeping.slips.as_deref().and_then(|folder| same_slip(&finding.found, folder)) {
         note_of(one, "its slip would have the same name as that of the next file; judge them in two runs");
         note_of(other, "nothing was judged");
         return None;
@@ -288,6 +375,8 @@ pub fn run(wanted: &Wanted, out: &mut dyn Write) -> io::Result<Status> {
     let mut printing = Printing {
         found: &finding.found,
         json: wanted.json,
+        long: wanted.long,
+        patient: wanted.patient,
         out,
         bar: progress(finding.found.len()),
         waiting: BTreeMap::new(),
@@ -295,15 +384,19 @@ pub fn run(wanted: &Wanted, out: &mut dyn Write) -> io::Result<Status> {
         counts: Counts::default(),
         status: Status::Fine,
     };
-    let judged = judge_all(wanted, &mut printing);
+    let judged = judge_all(&Batch::of(wanted, &finding.found), &mut printing);
     printing.bar.finish_and_clear();
     judged?;
 
-    let summary = printing.counts.text(finding.skipped.len());
+    let summary = printing.counts.text(&finding);
     if wanted.json {
         note(&summary);
     } else {
         writeln!(printing.out, "{summary}")?;
+    }
+    if printing.counts.others == printing.counts.files() {
+        note("nothing was judged: there is no run in what was named");
+        return Ok(Status::Failed);
     }
     Ok(printing.status)
 }

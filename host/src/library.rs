@@ -1,4 +1,4 @@
-//! The calls of the proved library that the tool makes, and the mapping of a file. All `unsafe` code of the host is here.
+//! The calls of the proved library that the tool makes, memory for rows, and the mapping of a file. All `unsafe` code of the host is here.
 //!
 //! `include/luuxidgaan.h` says what the calls answer. Of the caller they ask two things: each pointer has as many
 //! elements behind it as its size says, and buffers do not overlap. Slices are so: a shared slice is not changed while
@@ -6,12 +6,15 @@
 
 #![allow(unsafe_code)]
 
+use std::alloc::{alloc_zeroed, Layout};
 use std::fs::File;
 use std::io;
 
+use serde::{Deserialize, Serialize};
+
 /// `xa_answer` of the header: fields that the code does not name are 0.
 #[repr(C)]
-#[derive(Clone, Copy, Debug, Default, PartialEq, Eq)]
+#[derive(Clone, Copy, Debug, Default, PartialEq, Eq, Serialize, Deserialize)]
 pub struct Answer {
     pub code: u32,
     pub offset: u32,
@@ -170,6 +173,20 @@ pub fn read(data: &[u8], rows: &mut [u32]) -> Answer {
     unsafe { xa_read(data.as_ptr(), data.len(), rows.as_mut_ptr(), rows.len()) }
 }
 
+/// How many rows a data set has; none where it does not read.
+pub fn count(data: &[u8]) -> usize {
+    let most = data.len() / 8;
+    let mut room = most.min(4096);
+    loop {
+        let mut rows = vec![0; room * ROW_WIDTH];
+        let answer = read(data, &mut rows);
+        if answer.code != 8 || room >= most {
+            return answer.rows as usize;
+        }
+        room = most.min(room * 2);
+    }
+}
+
 /// The verdict on a data set, and its rows.
 pub fn judge(data: &[u8], rows: &mut [u32]) -> Answer {
     // Sound: as in `read`.
@@ -270,6 +287,32 @@ pub fn read_slip(slip: &[u8]) -> Slip {
     unsafe { xa_read_slip(slip.as_ptr(), slip.len()) }
 }
 
+/// Zeros, if there is memory for them. Pages that nobody writes to take none.
+pub fn zeros(count: usize) -> Option<Vec<u32>> {
+    if count == 0 {
+        return Some(Vec::new());
+    }
+    let layout = Layout::array::<u32>(count).ok()?;
+    // Sound: the layout is not empty; memory that was allocated by it is that of a vector of as many numbers, all of them zero.
+    unsafe {
+        let start = alloc_zeroed(layout).cast::<u32>();
+        (!start.is_null()).then(|| Vec::from_raw_parts(start, count, count))
+    }
+}
+
+/// The parameter of `mallopt` from which size on memory is taken from the system by itself, and given back to it when it is freed.
+const M_MMAP_THRESHOLD: i32 = -3;
+
+/// Has memory for files and rows go back to the system as soon as it is freed. By itself the allocator keeps tens of megabytes for each
+/// thread, beyond what `--memory` allows.
+pub fn give_memory_back() {
+    extern "C" {
+        fn mallopt(parameter: i32, value: i32) -> i32;
+    }
+    // Sound: the call of glibc takes two numbers and changes how later calls of the allocator work, not what they promise.
+    unsafe { mallopt(M_MMAP_THRESHOLD, 1 << 18) };
+}
+
 /// The bytes of a file, without a copy of them.
 pub struct Mapping(Option<memmap2::Mmap>);
 
@@ -279,8 +322,8 @@ impl Mapping {
         if file.metadata()?.len() == 0 {
             return Ok(Mapping(None));
         }
-        // Sound as long as nobody else changes the file while it is mapped. That cannot be enforced here: `docs/DESK.md`
-        // asks it of the user, and a file whose size or time changed meanwhile gets no verdict (`files::Opened`).
+        // Sound as long as nobody else changes the file while it is mapped. That cannot be enforced here: a file is mapped
+        // only with --map, whose help asks it of the user. Otherwise it is read into memory of our own (`files::Opened`).
         let map = unsafe { memmap2::Mmap::map(file)? };
         Ok(Mapping(Some(map)))
     }

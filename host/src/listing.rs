@@ -6,10 +6,13 @@ use std::path::{Path, PathBuf};
 use crate::buffer::RowBuffer;
 use crate::files::Opened;
 use crate::head::{self, Judged};
+use crate::identity;
 use crate::library::{self, Slip};
-use crate::output::{answer_fields, line, note_of, path_fields, trouble_fields, Status};
+use crate::names;
+use crate::output::{line, note_of, Object, Status};
 use crate::sentences;
-use crate::table::{Row, Table};
+use crate::table::Row;
+use crate::values::Source;
 
 /// How the rows are listed.
 #[derive(Clone, Copy)]
@@ -20,16 +23,51 @@ pub enum Form {
     Tree,
 }
 
+/// What is told of a row besides its numbers.
+#[derive(Clone, Copy, PartialEq, Eq)]
+pub enum Names {
+    No,
+    /// Its name and a short value, but for the patient's.
+    Known,
+    /// Its name and a short value.
+    Patient,
+}
+
+impl Names {
+    pub fn of(names: bool, patient: bool) -> Names {
+        match (names, patient) {
+            (false, _) => Names::No,
+            (true, false) => Names::Known,
+            (true, true) => Names::Patient,
+        }
+    }
+
+    /// The most characters of a value.
+    const MOST: usize = 60;
+
+    fn text(self, source: &Source, row: &Row, before: &str) -> String {
+        match self {
+            Names::No => String::new(),
+            _ if row.is_item() => String::new(),
+            Names::Known if identity::is_of_patient(row.tag) && row.length > 0 && !row.is_sequence() => {
+                format!("{before}{}: not shown without --patient", names::name(row.tag))
+            }
+            _ => format!("{before}{}: {}", names::name(row.tag), source.value(row, Names::MOST)),
+        }
+    }
+}
+
 /// Lists the rows of a data set. Offsets count from its start.
-pub fn rows(path: &Path, kind: head::Form, form: Form, out: &mut dyn Write) -> io::Result<Status> {
+pub fn rows(path: &Path, kind: head::Form, form: Form, names: Names, out: &mut dyn Write) -> io::Result<Status> {
     let mut buffer = RowBuffer::default();
     let read = Opened::open(path).and_then(|opened| {
         let answer = buffer.read(kind, opened.bytes())?;
-        opened.unchanged().map(|()| Judged::of(kind, opened.bytes(), answer, buffer.table(0)))
+        let judged = Judged::of(kind, opened.bytes(), answer, buffer.table(answer.rows));
+        opened.unchanged().map(|()| (opened, judged))
     });
-    let table = match read {
-        Ok(Judged { answer, .. }) if answer.code == 0 => buffer.table(answer.rows),
-        Ok(refused) => {
+    let (opened, table) = match read {
+        Ok((opened, Judged { answer, .. })) if answer.code == 0 => (opened, buffer.table(answer.rows)),
+        Ok((_, refused)) => {
             line(out, path, &refused.line())?;
             return Ok(Status::Refused);
         }
@@ -38,20 +76,22 @@ pub fn rows(path: &Path, kind: head::Form, form: Form, out: &mut dyn Write) -> i
             return Ok(Status::Failed);
         }
     };
+    let source = Source::of(&opened.bytes()[kind.start(opened.bytes())..], table);
     let mut out = BufWriter::new(out);
     writeln!(out, "rows {}", table.count())?;
     match form {
-        Form::Numbers => numbers(table, &mut out)?,
-        Form::Tree => tree(table, &mut out)?,
+        Form::Numbers => numbers(&source, names, &mut out)?,
+        Form::Tree => tree(&source, names, &mut out)?,
     }
     out.flush()?;
     Ok(Status::Fine)
 }
 
-fn numbers(table: Table, out: &mut dyn Write) -> io::Result<()> {
-    for row in table.rows() {
+fn numbers(source: &Source, names: Names, out: &mut dyn Write) -> io::Result<()> {
+    for row in source.table.rows() {
         let Row { tag, depth, offset, length, below, parent, .. } = row;
-        writeln!(out, "{tag:08X} {} {depth} {offset} {length} {below} {parent}", row.vr_text())?;
+        let named = names.text(source, &row, " ");
+        writeln!(out, "{tag:08X} {} {depth} {offset} {length} {below} {parent}{named}", row.vr_text())?;
     }
     Ok(())
 }
@@ -66,7 +106,8 @@ struct Holder {
 }
 
 /// Each row behind its number, under the row that it stands in.
-fn tree(table: Table, out: &mut dyn Write) -> io::Result<()> {
+fn tree(source: &Source, names: Names, out: &mut dyn Write) -> io::Result<()> {
+    let table = source.table;
     let wide = table.count().to_string().len();
     let mut holders: Vec<Holder> = Vec::new();
     for row in table.rows() {
@@ -80,7 +121,8 @@ fn tree(table: Table, out: &mut dyn Write) -> io::Result<()> {
             holder.members
         });
         // Nothing is drawn before what stands at the root.
-        let mut branch: String = holders.iter().skip(1).map(|holder| if holder.more { "|   " } else { "    " }).collect();
+        let mut branch: String =
+            holders.iter().skip(1).map(|holder| if holder.more { "|   " } else { "    " }).collect();
         if !holders.is_empty() {
             branch.push_str(if more { "|-- " } else { "`-- " });
         }
@@ -88,7 +130,8 @@ fn tree(table: Table, out: &mut dyn Write) -> io::Result<()> {
             true => format!("item {nth}"),
             false => format!("{} {}", row.tag_text(), row.vr_text()),
         };
-        writeln!(out, "{:wide$} {branch}{what}, {} bytes at {}", row.number, row.length, row.offset)?;
+        let named = names.text(source, &row, ", ");
+        writeln!(out, "{:wide$} {branch}{what}, {} bytes at {}{named}", row.number, row.length, row.offset)?;
         holders.push(Holder { row, members: 0, more });
     }
     Ok(())
@@ -113,19 +156,21 @@ fn slip_in(path: &Path) -> Result<Slip, (String, Status)> {
 pub fn read_slips(paths: &[PathBuf], json: bool, out: &mut dyn Write) -> io::Result<Status> {
     let mut status = Status::Fine;
     for path in paths {
-        let (text, fields, end) = match slip_in(path) {
+        let mut object = Object::about(path);
+        let (text, end) = match slip_in(path) {
             Ok(slip) => {
                 let (verdict, rows) = (&slip.verdict, slip.rows());
+                object.put_answer(verdict, rows);
                 let end = if verdict.code == 0 { Status::Fine } else { Status::Refused };
-                (sentences::slip(verdict, rows), answer_fields(verdict, rows), end)
+                (sentences::slip(verdict, rows), end)
             }
             Err((trouble, end)) => {
-                let fields = trouble_fields(&trouble);
-                (trouble, fields, end)
+                object.put_trouble(&trouble);
+                (trouble, end)
             }
         };
         match json {
-            true => writeln!(out, "{{{}{fields}}}", path_fields("path", path))?,
+            true => out.write_all(object.line().as_bytes())?,
             false => line(out, path, &text)?,
         }
         status = status.max(end);

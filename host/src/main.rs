@@ -1,6 +1,6 @@
 //! The desk tool: reads, judges and draws runs of X-ray angiography.
 //!
-//! It does nothing that matters: it maps files, lends buffers to the proved library, and prints what that answers.
+//! It does nothing that matters: it reads files, lends buffers to the proved library, and prints what that answers.
 
 #![deny(unsafe_code)]
 
@@ -9,30 +9,44 @@ mod canonical;
 mod comparing;
 mod demo;
 mod files;
+mod finding;
+mod found;
+mod frames;
 mod head;
+mod identity;
 mod judging;
+mod keeping;
 mod library;
 mod listing;
+mod looking;
+mod looks;
+mod memory;
+mod names;
+mod other;
 mod output;
 mod picture;
+mod report;
 mod sampling;
 mod sentences;
 mod table;
+mod values;
 
 use std::io::{self, Write};
 use std::path::{Path, PathBuf};
 use std::process::ExitCode;
+use std::time::Duration;
 
 use clap::error::ErrorKind;
 use clap::{CommandFactory, Parser, Subcommand};
+use globset::Glob;
 
 use head::Form;
 use output::{note, Status};
 
 const STATUSES: &str = "\
 Exit status:
-  0  all was accepted (judge, slip read), read (rows, duplicates), written (canonical), drawn (show, contact), counted (sheet),
-     within the tolerance (compare) or mapped (linear)
+  0  all runs were accepted (judge, slip read), read (rows, duplicates), written (canonical, report), drawn (show, movie, contact),
+     counted (sheet), within the tolerance (compare) or mapped (linear)
   1  something was refused; the line says why
   2  wrong usage, nothing to judge, or a file that cannot be read or written
 
@@ -51,6 +65,43 @@ Run luux COMMAND --help for what a command takes.";
 struct Arguments {
     #[command(subcommand)]
     command: Command,
+    #[command(flatten)]
+    lending: Lending,
+}
+
+/// How files are taken into memory.
+#[derive(clap::Args)]
+struct Lending {
+    /// How much memory the files that are looked at together may take, such as 800M or 2G [default: a quarter of the machine]
+    ///
+    /// A file takes its bytes and 28 bytes for each of its elements and items. Large ones wait for room; one that takes more than this alone
+    /// is not read.
+    #[arg(long, global = true, value_name = "SIZE", value_parser = memory::bytes)]
+    memory: Option<u64>,
+    /// Map files instead of reading them into memory: only for storage that nobody writes to
+    ///
+    /// What is answered is proved for bytes that stay as they are. Where another process writes to a mapped file, luux may crash, or draw a
+    /// picture that is of no run; where the disk fails it ends at once.
+    #[arg(long, global = true)]
+    map: bool,
+}
+
+/// Which of the files in folders are looked at.
+#[derive(clap::Args)]
+struct Choosing {
+    /// Look only at files that match GLOB: by their name, or by their whole path if GLOB has a slash; may be given more than once
+    #[arg(long, value_name = "GLOB", value_parser = finding::pattern)]
+    include: Vec<Glob>,
+    /// Leave out files and folders that match GLOB, likewise
+    #[arg(long, value_name = "GLOB", value_parser = finding::pattern)]
+    exclude: Vec<Glob>,
+}
+
+impl Choosing {
+    fn choice(&self) -> finding::Choice {
+        finding::Choice::of(&self.include, &self.exclude)
+            .unwrap_or_else(|text| Arguments::command().error(ErrorKind::ValueValidation, text).exit())
+    }
 }
 
 #[derive(Subcommand)]
@@ -69,12 +120,20 @@ enum Command {
         /// Draw what stands in what: the row's number, its tag and VR or which item it is, length and offset of the value
         #[arg(long)]
         tree: bool,
+        /// Add each attribute's name and a short value. Values of group 0010, the patient's, are left out
+        #[arg(long)]
+        names: bool,
+        /// With --names, show the patient's values too
+        #[arg(long, requires = "names")]
+        patient: bool,
     },
     /// Judge files by the 39 rules, one line for each
     ///
     /// A line says: accepted; or the first broken rule, the lowest frame that breaks it (0: not a matter of one frame), which
-    /// item and row are that frame's, and what the rule asks; or the code and the byte at which reading stopped. A summary is
-    /// the last line. Folders are gone through in the order of names. Links to folders are not followed.
+    /// item and row are that frame's, what the rule asks, and what was found; or the code and the byte at which reading stopped, and
+    /// what stands there. A summary is the last line. Folders are gone through in the order of names. Links to folders are not followed. What
+    /// is certainly no run (a DICOMDIR, an empty file, text, a picture, another SOP class) is told and counted as not ours, and is only
+    /// refused where it was named itself.
     Judge {
         /// Files, or folders whose files are judged
         #[arg(required = true, value_name = "FILE|DIR")]
@@ -82,31 +141,73 @@ enum Command {
         /// The files are data sets without a head, whatever stands in them
         #[arg(long)]
         bare: bool,
-        /// Write the verdict on each FILE to DIR/FILE.slip, folders as in FILE
-        #[arg(long, value_name = "DIR")]
-        slips: Option<PathBuf>,
+        #[command(flatten)]
+        choosing: Choosing,
+        #[command(flatten)]
+        keeping: keeping::Keeping,
+        /// Name files that were written to less than SECONDS ago, or that still grow, as arriving, and do not judge them
+        ///
+        /// Each file is looked at twice for that, a second apart.
+        #[arg(long, value_name = "SECONDS", value_parser = seconds)]
+        settle: Option<Duration>,
+        /// Give up on a file after SECONDS, and go on with the next; each is then judged in a process of its own
+        #[arg(long, value_name = "SECONDS", value_parser = seconds)]
+        timeout: Option<Duration>,
         /// Print one JSON object a line, and the summary on standard error
         #[arg(long)]
         json: bool,
+        /// Print below each line what the run is called by: SOP Instance and Study Instance UID, institution, station, time
+        #[arg(long, conflicts_with = "json")]
+        long: bool,
+        /// Print the patient's name, ID and birth date too, with --long or --json
+        #[arg(long)]
+        patient: bool,
         /// How many files to judge at a time [default: as many as there are processors]
         #[arg(long, value_name = "N", value_parser = clap::value_parser!(u16).range(1..=256))]
         jobs: Option<u16>,
     },
-    /// Draw one frame
+    /// Draw frames
     ///
-    /// The frame is drawn as the run's own mask, shifts and window say.
+    /// A frame is drawn as the run's own mask, shifts and window say. Several frames go to a folder, each in a file of its own, or one behind
+    /// the other to standard output.
     Show {
         /// A DICOM file
         file: PathBuf,
         /// FILE is a data set without a head, whatever stands in it
         #[arg(long)]
         bare: bool,
-        /// The frame, from 1 on
-        #[arg(value_parser = frame_number)]
-        frame: u64,
-        /// The picture, .png or .pgm [default: FILE.frame-FRAME.png in the working folder]
+        /// The frame, from 1 on; or several, such as 1-24, or all
+        #[arg(value_name = "FRAMES", value_parser = frames::frames)]
+        frames: frames::Frames,
+        /// The picture, .png or .pgm, or a folder, or - for standard output [default: FILE.frame-FRAME.png in the working folder]
+        #[arg(short, long, value_name = "PICTURE|DIR|-")]
+        output: Option<PathBuf>,
+        /// What pictures in a folder or on standard output are [default: png]
+        #[arg(long = "as", value_name = "KIND")]
+        kind: Option<picture::Form>,
+        /// Draw each frame twice: as the run says on the left, and on the right without its mask, in the same window
+        #[arg(long)]
+        both: bool,
+    },
+    /// Draw frames as a movie, an animated PNG, to scroll through a run
+    Movie {
+        /// A DICOM file
+        file: PathBuf,
+        /// FILE is a data set without a head, whatever stands in it
+        #[arg(long)]
+        bare: bool,
+        /// The frames, such as 5-12, or all
+        #[arg(value_name = "FRAMES", value_parser = frames::frames, default_value = "all")]
+        frames: frames::Frames,
+        /// The picture, .png [default: FILE.movie.png in the working folder]
         #[arg(short, long, value_name = "PICTURE")]
         output: Option<PathBuf>,
+        /// Frames a second [default: as the run says, else 10]
+        #[arg(long, value_name = "N", value_parser = clap::value_parser!(u16).range(1..=1000))]
+        rate: Option<u16>,
+        /// Draw each frame twice: as the run says on the left, and on the right without its mask, in the same window
+        #[arg(long)]
+        both: bool,
     },
     /// Draw a contact sheet of up to 24 frames, for sampling by eye
     ///
@@ -194,6 +295,8 @@ enum Command {
         /// The files are data sets without a head, whatever stands in them
         #[arg(long)]
         bare: bool,
+        #[command(flatten)]
+        choosing: Choosing,
         /// Print one JSON object for each group, and the summary on standard error
         #[arg(long)]
         json: bool,
@@ -217,6 +320,40 @@ enum Command {
         #[arg(long)]
         csv: bool,
     },
+    /// Make a page about runs, by sender, that needs no network
+    ///
+    /// The page has a table of senders with counts by rule; each run with its verdict, what was found, what it is called by, some of its frames
+    /// and the plot of its sampling sheet; and a text for each sender, to be pasted into a letter. It filters and sorts. The status says
+    /// whether the page was written, whatever the verdicts.
+    Report {
+        /// Files, or folders whose files are reported on
+        #[arg(required = true, value_name = "FILE|DIR")]
+        paths: Vec<PathBuf>,
+        /// The files are data sets without a head, whatever stands in them
+        #[arg(long)]
+        bare: bool,
+        #[command(flatten)]
+        choosing: Choosing,
+        /// The page
+        #[arg(short, long, value_name = "PAGE", default_value = "report.html")]
+        output: PathBuf,
+        /// Write a table of the runs beside the page, with the ending .csv
+        #[arg(long)]
+        csv: bool,
+        /// Tell the patient's name, ID and birth date too
+        #[arg(long)]
+        patient: bool,
+        /// How many files to look at at a time [default: as many as there are processors]
+        #[arg(long, value_name = "N", value_parser = clap::value_parser!(u16).range(1..=256))]
+        jobs: Option<u16>,
+    },
+    /// Print the completions of a shell
+    ///
+    /// For bash: luux completions bash > ~/.local/share/bash-completion/completions/luux
+    Completions {
+        /// The shell
+        shell: clap_complete::Shell,
+    },
     /// Look at verdict slips
     Slip {
         #[command(subcommand)]
@@ -227,6 +364,13 @@ enum Command {
         /// The folder for runs and pictures
         #[arg(default_value = "luux-demo")]
         folder: PathBuf,
+    },
+    /// Judge one file for luux judge --timeout, and say so to it
+    #[command(name = looking::COMMAND, hide = true)]
+    Look {
+        file: PathBuf,
+        #[arg(long)]
+        bare: bool,
     },
 }
 
@@ -247,6 +391,12 @@ enum SlipCommand {
 
 fn frame_number(text: &str) -> Result<u64, &'static str> {
     text.parse().map_err(|_| "a frame is a whole number, from 1 on")
+}
+
+/// A time in seconds, with or without a fraction.
+fn seconds(text: &str) -> Result<Duration, &'static str> {
+    let number = text.parse().ok().and_then(|number| Duration::try_from_secs_f64(number).ok());
+    number.ok_or("a number of seconds, such as 30 or 0.5")
 }
 
 /// Two frames with a dash between them, or one.
@@ -270,17 +420,34 @@ fn processors() -> usize {
 
 fn run(command: Command, out: &mut dyn Write) -> io::Result<Status> {
     match command {
-        Command::Rows { file, bare, tree } => {
+        Command::Rows { file, bare, tree, names, patient } => {
             let form = if tree { listing::Form::Tree } else { listing::Form::Numbers };
-            listing::rows(&file, Form::of(bare), form, out)
+            listing::rows(&file, Form::of(bare), form, listing::Names::of(names, patient), out)
         }
-        Command::Judge { paths, bare, slips, json, jobs } => {
-            let jobs = jobs.map_or_else(processors, usize::from);
-            judging::run(&judging::Wanted { named: paths, form: Form::of(bare), slips, json, jobs }, out)
+        Command::Judge { paths, bare, choosing, keeping, settle, timeout, json, long, patient, jobs } => {
+            let (choice, jobs) = (choosing.choice(), jobs.map_or_else(processors, usize::from));
+            let form = Form::of(bare);
+            judging::run(&judging::Wanted { named: paths, form, choice, keeping, settle, timeout, json, jobs, long, patient }, out)
         }
-        Command::Show { file, bare, frame, output } => {
-            check_picture(output.as_deref());
-            picture::show(&file, Form::of(bare), frame, output.as_deref(), out)
+        Command::Show { file, bare, frames, output, kind, both } => {
+            if let Some(text) = frames::objection(output.as_deref(), frames) {
+                Arguments::command().error(ErrorKind::ValueValidation, text).exit();
+            }
+            frames::show(
+                &file,
+                frames,
+                &frames::Wanted { form: Form::of(bare), both, kind, output: output.as_deref() },
+                out,
+            )
+        }
+        Command::Movie { file, bare, frames, output, rate, both } => {
+            let is_png = |path: &Path| picture::form_of(path) == Some(picture::Form::Png);
+            if let Some(path) = output.as_deref().filter(|path| !is_png(path)) {
+                let text = format!("{}: the name of a movie must end in .png", path.display());
+                Arguments::command().error(ErrorKind::ValueValidation, text).exit();
+            }
+            let wanted = frames::Wanted { form: Form::of(bare), both, kind: None, output: output.as_deref() };
+            frames::movie(&file, frames, rate, &wanted, out)
         }
         Command::Contact { file, bare, output } => {
             check_picture(output.as_deref());
@@ -304,23 +471,40 @@ fn run(command: Command, out: &mut dyn Write) -> io::Result<Status> {
             };
             match what.to_str().unwrap_or("").parse() {
                 Ok(frame) => comparing::picture(&file, frame, &other, &wanted, out),
-                Err(_) => Arguments::command().error(ErrorKind::ValueValidation, "a frame is a whole number, from 1 on").exit(),
+                Err(_) => Arguments::command()
+                    .error(ErrorKind::ValueValidation, "a frame is a whole number, from 1 on")
+                    .exit(),
             }
         }
         Command::Canonical { file, bare, output } => canonical::write(&file, Form::of(bare), &output, out),
-        Command::Duplicates { paths, bare, json } => canonical::duplicates(&paths, Form::of(bare), json, out),
+        Command::Duplicates { paths, bare, choosing, json } => {
+            canonical::duplicates(&paths, Form::of(bare), &choosing.choice(), json, out)
+        }
         Command::Linear { file, bare, frame, csv: true, .. } => picture::linear_text(&file, Form::of(bare), frame, out),
         Command::Linear { file, bare, frame, output, .. } => {
             check_picture(output.as_deref());
             picture::linear(&file, Form::of(bare), frame, output.as_deref(), out)
         }
+        Command::Report { paths, bare, choosing, output, csv, patient, jobs } => {
+            let (choice, jobs) = (choosing.choice(), jobs.map_or_else(processors, usize::from));
+            report::run(&report::Wanted { named: paths, form: Form::of(bare), choice, output, csv, patient, jobs }, out)
+        }
+        Command::Completions { shell } => {
+            let mut script = Vec::new();
+            clap_complete::generate(shell, &mut Arguments::command(), "luux", &mut script);
+            out.write_all(&script).map(|()| Status::Fine)
+        }
         Command::Slip { command: SlipCommand::Read { files, json } } => listing::read_slips(&files, json, out),
         Command::Demo { folder } => demo::run(&folder, processors(), out),
+        Command::Look { file, bare } => looking::run(&file, Form::of(bare), out),
     }
 }
 
 fn main() -> ExitCode {
     let arguments = Arguments::parse();
+    memory::limit_to(arguments.lending.memory.unwrap_or_else(memory::quarter));
+    files::start(arguments.lending.map);
+    library::give_memory_back();
     let mut out = io::stdout().lock();
     let ended = run(arguments.command, &mut out).and_then(|status| out.flush().map(|()| status));
     let status = ended.unwrap_or_else(|error| {

@@ -4,6 +4,10 @@ use std::io::{self, Write};
 use std::os::unix::ffi::OsStrExt;
 use std::path::Path;
 
+use serde::Serialize;
+use serde_json::ser::{CompactFormatter, Formatter, Serializer};
+use serde_json::{Map, Value};
+
 use crate::files;
 use crate::library::Answer;
 use crate::sentences;
@@ -41,46 +45,79 @@ pub fn note_of(path: &Path, text: &str) {
     let _ = io::stderr().write_all(&whole);
 }
 
-/// An answer as JSON fields: `verdict`, its numbers and its sentence. A row count that is not known is `null`.
-pub fn answer_fields(answer: &Answer, rows: Option<u32>) -> String {
-    let verdict = if answer.code == 0 { "accepted" } else { "refused" };
-    let rows = rows.map_or_else(|| String::from("null"), |count| count.to_string());
-    format!(
-        ",\"verdict\":\"{verdict}\",\"code\":{},\"offset\":{},\"rows\":{rows},\"rule\":{},\"frame\":{},\"sentence\":{}",
-        answer.code,
-        answer.offset,
-        answer.rule,
-        answer.frame,
-        json_text(sentences::meaning(answer))
-    )
-}
+/// A JSON object, its fields in the order in which they are put.
+#[derive(Default)]
+pub struct Object(Map<String, Value>);
 
-/// What stands in place of an answer where there is none.
-pub fn trouble_fields(trouble: &str) -> String {
-    format!(",\"verdict\":\"none\",\"error\":{}", json_text(trouble))
-}
+impl Object {
+    /// One that is about a file.
+    pub fn about(path: &Path) -> Object {
+        let mut object = Object::default();
+        object.put_path("path", path);
+        object
+    }
 
-/// A text as a JSON string, with its quotes.
-pub fn json_text(text: &str) -> String {
-    let mut quoted = String::from("\"");
-    for letter in text.chars() {
-        match letter {
-            '"' => quoted.push_str("\\\""),
-            '\\' => quoted.push_str("\\\\"),
-            _ if letter.is_control() => quoted.push_str(&format!("\\u{:04x}", letter as u32)),
-            _ => quoted.push(letter),
+    pub fn put(&mut self, name: &str, value: impl Into<Value>) {
+        self.0.insert(String::from(name), value.into());
+    }
+
+    /// A path. Where it is not UTF-8, its bytes follow in hexadecimal, since no JSON string can hold them.
+    pub fn put_path(&mut self, name: &str, path: &Path) {
+        self.put(name, path.to_string_lossy());
+        if path.to_str().is_none() {
+            let digits: String = path.as_os_str().as_bytes().iter().map(|byte| format!("{byte:02x}")).collect();
+            self.put(&format!("{name}_hex"), digits);
         }
     }
-    quoted.push('"');
-    quoted
+
+    /// An answer: `verdict`, its numbers and its sentence. A row count that is not known is `null`.
+    pub fn put_answer(&mut self, answer: &Answer, rows: Option<u32>) {
+        self.put("verdict", if answer.code == 0 { "accepted" } else { "refused" });
+        self.put("code", answer.code);
+        self.put("offset", answer.offset);
+        self.put("rows", rows);
+        self.put("rule", answer.rule);
+        self.put("frame", answer.frame);
+        self.put("sentence", sentences::meaning(answer));
+    }
+
+    /// What stands in place of an answer where there is none.
+    pub fn put_trouble(&mut self, trouble: &str) {
+        self.put("verdict", "none");
+        self.put("error", trouble);
+    }
+
+    /// A line of it.
+    pub fn line(&self) -> String {
+        let mut text = Vec::new();
+        // Nothing can go wrong: it is written to memory, and its keys are strings.
+        let _ = self.0.serialize(&mut Serializer::with_formatter(&mut text, Escaping(CompactFormatter)));
+        text.push(b'\n');
+        String::from_utf8_lossy(&text).into_owned()
+    }
 }
 
-/// A path as a JSON field. Where it is not UTF-8, its bytes follow in hexadecimal, since no JSON string can hold them.
-pub fn path_fields(name: &str, path: &Path) -> String {
-    let mut fields = format!("\"{name}\":{}", json_text(&path.to_string_lossy()));
-    if path.to_str().is_none() {
-        let digits: String = path.as_os_str().as_bytes().iter().map(|byte| format!("{byte:02x}")).collect();
-        fields.push_str(&format!(",\"{name}_hex\":\"{digits}\""));
+impl From<Object> for Value {
+    fn from(object: Object) -> Value {
+        Value::Object(object.0)
     }
-    fields
+}
+
+/// Escapes what is not shown as itself, so that a line stays a line on any terminal.
+struct Escaping(CompactFormatter);
+
+impl Formatter for Escaping {
+    fn write_string_fragment<W: ?Sized + Write>(&mut self, out: &mut W, fragment: &str) -> io::Result<()> {
+        let mut units = [0; 2];
+        for letter in fragment.chars() {
+            if files::is_plain(letter) {
+                self.0.write_string_fragment(out, letter.encode_utf8(&mut [0; 4]))?;
+                continue;
+            }
+            for unit in letter.encode_utf16(&mut units) {
+                write!(out, "\\u{unit:04x}")?;
+            }
+        }
+        Ok(())
+    }
 }

@@ -1,4 +1,4 @@
-//! `luux show`, `luux contact` and `luux linear`: frames as the library drew or mapped them, in PNG or PGM files or as text.
+//! `luux contact` and `luux linear`, and what all pictures need: frames as the library drew or mapped them, in PNG or PGM files or as text.
 //!
 //! No cell is computed here. A contact sheet takes every k-th cell of every k-th row of a drawn frame.
 
@@ -10,12 +10,16 @@ use crate::buffer::RowBuffer;
 use crate::files::{self, Opened};
 use crate::head::{self, Judged};
 use crate::library::{Answer, Compared, SHEET_NUMBERS};
+use crate::other;
 use crate::output::{line, note_of, Status};
 use crate::sentences;
 use crate::table::Table;
+use crate::values::Source;
 
 const ROWS: u32 = 0x0028_0010;
 const COLUMNS: u32 = 0x0028_0011;
+const MASKS: u32 = 0x0028_6100;
+const OPERATION: u32 = 0x0028_6101;
 
 /// The code of a frame that is none of the run.
 const NO_SUCH_FRAME: u32 = 10;
@@ -97,8 +101,24 @@ impl<C: Cell> Image<C> {
         }
     }
 
+    /// Every k-th cell of every k-th row, so that no side is longer than `side`.
+    pub fn sampled(&self, side: usize) -> Image<C> {
+        let step = step_for(self.width, self.height, side);
+        let (width, height) = ((self.width + step - 1) / step, (self.height + step - 1) / step);
+        let rows = self.cells.chunks(self.width.max(1)).step_by(step);
+        let cells: Vec<C> = rows.flat_map(|row| row.iter().copied().step_by(step)).collect();
+        Image { width, height, cells }
+    }
+
+    /// This picture on the left and one of the same height on the right.
+    pub fn beside(&self, other: &Image<C>) -> Image<C> {
+        let rows = self.cells.chunks(self.width.max(1)).zip(other.cells.chunks(other.width.max(1)));
+        let cells = rows.flat_map(|(left, right)| left.iter().chain(right).copied()).collect();
+        Image { width: self.width + other.width, height: self.height, cells }
+    }
+
     /// The file's content, in the form that its name asks for.
-    fn encoded(&self, form: Form) -> Result<Vec<u8>, String> {
+    pub fn encoded(&self, form: Form) -> Result<Vec<u8>, String> {
         let mut content = Vec::new();
         match form {
             Form::Pgm => {
@@ -121,13 +141,19 @@ impl<C: Cell> Image<C> {
     }
 }
 
-#[derive(Clone, Copy)]
-enum Form {
+/// Of how many cells one is taken so that no side is longer than `side`.
+fn step_for(width: usize, height: usize, side: usize) -> usize {
+    ((width.max(height) + side - 1) / side).max(1)
+}
+
+/// What a picture is written as.
+#[derive(Clone, Copy, PartialEq, Eq, clap::ValueEnum)]
+pub enum Form {
     Png,
     Pgm,
 }
 
-fn form_of(path: &Path) -> Option<Form> {
+pub fn form_of(path: &Path) -> Option<Form> {
     let ending = path.extension()?.to_str()?.to_ascii_lowercase();
     match ending.as_str() {
         "png" => Some(Form::Png),
@@ -146,26 +172,41 @@ pub struct Run {
     width: usize,
     height: usize,
     frames: u64,
+    rows: u32,
+    /// A copy of the file in which no mask applies, where one was asked for.
+    unmasked: Option<Vec<u8>>,
 }
 
 impl Run {
-    /// Width, height and the number of frames are taken from the rows of an accepted data set.
     pub fn open(path: &Path, form: head::Form) -> Result<Run, Failure> {
+        let (judged, run) = Run::judged(path, form)?;
+        run.map_err(|_| Failure::Refused(judged.line()))
+    }
+
+    /// The verdict on a file, and the run where it is accepted; else what the file is, where it is certainly no run. Width, height and the
+    /// number of frames are taken from the rows.
+    pub fn judged(path: &Path, form: head::Form) -> Result<(Judged, Result<Run, Option<String>>), String> {
         let opened = Opened::open(path)?;
         let mut buffer = RowBuffer::default();
         let content = opened.bytes();
         let answer = buffer.judge(form, content)?;
         let table = buffer.table(answer.rows);
+        let judged = Judged::of(form, content, answer, table);
         if answer.code != 0 {
-            return Err(Failure::Refused(Judged::of(form, content, answer, table).line()));
+            // With --bare it was said that these are data sets.
+            let what = if form == head::Form::File { other::what(content, &answer, &mut buffer) } else { None };
+            return opened.unchanged().map(|()| (judged, Err(what)));
         }
         let start = form.start(content);
         let data = &content[start..];
         // Of an accepted run the per-frame groups have one item for each frame.
         let frames = table.frame_items().count() as u64;
         match (number_of(data, table, ROWS), number_of(data, table, COLUMNS)) {
-            (Some(height), Some(width)) => Ok(Run { opened, form, start, buffer, width, height, frames }),
-            _ => Err(Failure::Trouble(String::from("its rows do not say how large a frame is"))),
+            (Some(height), Some(width)) => {
+                let run = Run { opened, form, start, buffer, width, height, frames, rows: answer.rows, unmasked: None };
+                Ok((judged, Ok(run)))
+            }
+            _ => Err(String::from("its rows do not say how large a frame is")),
         }
     }
 
@@ -176,11 +217,54 @@ impl Run {
         self.done(answer).map(|()| (image, answer.masked == 1))
     }
 
+    /// A frame without its mask, as the library draws it from a copy in which each mask item's operation is NONE: windowed as the frame
+    /// is, neither subtracted nor moved. The word fits into the value of each operation that an accepted run has.
+    pub fn draw_unmasked(&mut self, frame: u64) -> Result<Image<u8>, Failure> {
+        if self.unmasked.is_none() {
+            self.unmasked = Some(self.without_masks()?);
+        }
+        let copy = self.unmasked.as_deref().unwrap_or_default();
+        let mut image = Image::new(self.width, self.height, 0)?;
+        let answer = self.buffer.show(self.form, copy, frame, &mut image.cells)?;
+        match self.done(answer) {
+            Ok(()) if answer.masked == 0 => Ok(image),
+            Ok(()) => Err(Failure::Trouble(String::from("a copy of it without masks was drawn masked"))),
+            Err(failure) => Err(failure),
+        }
+    }
+
+    fn without_masks(&self) -> Result<Vec<u8>, String> {
+        let content = self.opened.bytes();
+        let mut copy = Vec::new();
+        if copy.try_reserve_exact(content.len()).is_err() {
+            return Err(format!("there is no memory for a copy of {} bytes", content.len()));
+        }
+        copy.extend_from_slice(content);
+        let table = self.buffer.table(self.rows);
+        for item in table.items(0, MASKS) {
+            let Some(operation) = table.element(item.number, OPERATION) else {
+                continue;
+            };
+            let at = self.start + operation.offset as usize;
+            if let Some(value) = copy.get_mut(at..at + operation.length as usize) {
+                value.fill(b' ');
+                value.iter_mut().zip(b"NONE").for_each(|(place, letter)| *place = *letter);
+            }
+        }
+        Ok(copy)
+    }
+
     /// A frame in numbers that are linear to beam intensity.
     fn map(&mut self, frame: u64) -> Result<Image<u16>, Failure> {
         let mut image = Image::new(self.width, self.height, 0)?;
         let answer = self.buffer.linear(&self.opened.bytes()[self.start..], frame, &mut image.cells)?;
         self.done(answer).map(|()| image)
+    }
+
+    /// A number in digits at the root.
+    pub fn number(&self, tag: u32) -> Option<u32> {
+        let source = Source::of(&self.opened.bytes()[self.start..], self.buffer.table(self.rows));
+        source.text(&source.table.root(tag)?).trim().parse().ok()
     }
 
     /// How many frames it has.
@@ -230,7 +314,7 @@ fn number_of(data: &[u8], table: Table, tag: u32) -> Option<usize> {
 }
 
 /// Frames that are spread evenly over the run, the first and the last among them.
-fn chosen(frames: u64, most: u64) -> Vec<u64> {
+pub fn chosen(frames: u64, most: u64) -> Vec<u64> {
     let count = frames.min(most);
     (0..count).map(|k| 1 + k * (frames - 1) / (count - 1).max(1)).collect()
 }
@@ -278,17 +362,17 @@ fn put_label(sheet: &mut Image<u8>, left: usize, top: usize, frame: u64) {
 /// The sheet, and the frames on it.
 fn sheet_of(run: &mut Run) -> Result<(Image<u8>, Vec<u64>), Failure> {
     let frames = chosen(run.frames, SHEET);
-    let step = ((run.width.max(run.height) + SIDE - 1) / SIDE).max(1);
+    let step = step_for(run.width, run.height, SIDE);
     let (width, height) = ((run.width + step - 1) / step, (run.height + step - 1) / step);
     let (across, down) = (frames.len().min(ACROSS), (frames.len() + ACROSS - 1) / ACROSS);
     let (wide, high) = (width.max(LABEL_WIDTH) + GAP, height + LABEL_HEIGHT + GAP);
     let mut sheet = Image::new(across * wide + GAP, down * high + GAP, PAPER)?;
     for (place, &frame) in frames.iter().enumerate() {
-        let (image, _) = run.draw(frame)?;
+        let image = run.draw(frame)?.0.sampled(SIDE);
         let (left, top) = (GAP + place % ACROSS * wide, GAP + place / ACROSS * high);
         for y in 0..height {
             for x in 0..width {
-                sheet.put(left + x, top + y, image.cells[y * step * image.width + x * step]);
+                sheet.put(left + x, top + y, image.cells[y * image.width + x]);
             }
         }
         put_label(&mut sheet, left, top + height + GAP / 2, frame);
@@ -311,35 +395,42 @@ pub fn explain(path: &Path, failure: Failure, out: &mut dyn Write) -> io::Result
 }
 
 /// Writes an image and says so.
-pub fn write<C: Cell>(image: &Image<C>, from: &Path, to: &Path, about: &str, out: &mut dyn Write) -> io::Result<Status> {
-    let written = match form_of(to) {
+pub fn write<C: Cell>(
+    image: &Image<C>,
+    from: &Path,
+    to: &Path,
+    about: &str,
+    out: &mut dyn Write,
+) -> io::Result<Status> {
+    let content = match form_of(to) {
         None => Err(String::from("its name must end in .png or .pgm")),
-        Some(_) if files::is_same(from, to) => Err(String::from("it is the run itself; name another file")),
-        Some(form) => image
-            .encoded(form)
-            .and_then(|content| files::write_whole(to, &content, false).map_err(|error| files::trouble(&error))),
+        Some(form) => image.encoded(form),
+    };
+    write_file(content, from, to, &format!("{} x {}, {about}", image.width, image.height), out)
+}
+
+/// Writes a file that was made from a run, never over the run itself, and says so.
+pub fn write_file(
+    content: Result<Vec<u8>, String>,
+    from: &Path,
+    to: &Path,
+    about: &str,
+    out: &mut dyn Write,
+) -> io::Result<Status> {
+    let written = match content {
+        Ok(_) if files::is_same(from, to) => Err(String::from("it is the run itself; name another file")),
+        Ok(content) => files::write_whole(to, &content, false).map_err(|error| files::trouble(&error)),
+        Err(trouble) => Err(trouble),
     };
     match written {
         Ok(()) => {
-            line(out, to, &format!("{} x {}, {about}", image.width, image.height))?;
+            line(out, to, about)?;
             Ok(Status::Fine)
         }
         Err(trouble) => {
             note_of(to, &format!("cannot be written: {trouble}"));
             Ok(Status::Failed)
         }
-    }
-}
-
-/// Draws one frame.
-pub fn show(path: &Path, form: head::Form, frame: u64, to: Option<&Path>, out: &mut dyn Write) -> io::Result<Status> {
-    let to = to.map_or_else(|| files::beside(path, &format!(".frame-{frame}.png")), PathBuf::from);
-    match Run::open(path, form).and_then(|mut run| run.draw(frame)) {
-        Ok((image, masked)) => {
-            let about = format!("frame {frame}, {}", if masked { "masked" } else { "native" });
-            write(&image, path, &to, &about, out)
-        }
-        Err(failure) => explain(path, failure, out),
     }
 }
 

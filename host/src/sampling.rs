@@ -7,7 +7,7 @@ use std::path::Path;
 
 use crate::head::Form;
 use crate::library::SHEET_NUMBERS;
-use crate::output::{line, note_of, path_fields, Status};
+use crate::output::{line, note_of, Object, Status};
 use crate::picture::{self, Failure, Image, Run};
 
 const LEVELS: usize = 256;
@@ -114,19 +114,20 @@ fn print_plot(sheet: &Sheet, out: &mut dyn Write) -> io::Result<()> {
 }
 
 fn print_json(path: &Path, sheet: &Sheet, out: &mut dyn Write) -> io::Result<()> {
-    let counts: Vec<String> = sheet.counts().iter().map(u64::to_string).collect();
-    writeln!(
-        out,
-        "{{{},\"first\":{},\"last\":{},\"native\":{},\"lowest\":{},\"highest\":{},\"sum\":{},\"counts\":[{}]}}",
-        path_fields("file", path),
-        sheet.first,
-        sheet.last,
-        sheet.natives(),
-        sheet.lowest(),
-        sheet.highest(),
-        sheet.sum(),
-        counts.join(",")
-    )
+    let mut object = Object::default();
+    object.put_path("file", path);
+    for (name, number) in [
+        ("first", sheet.first),
+        ("last", sheet.last),
+        ("native", sheet.natives()),
+        ("lowest", sheet.lowest()),
+        ("highest", sheet.highest()),
+        ("sum", sheet.sum()),
+    ] {
+        object.put(name, number);
+    }
+    object.put("counts", sheet.counts());
+    out.write_all(object.line().as_bytes())
 }
 
 /// The picture: columns of a level each, three cells wide, in a frame; marks below for the lowest and highest level and the mean.
@@ -170,6 +171,13 @@ fn plotted(sheet: &Sheet) -> Result<Image<u8>, String> {
         }
     }
     Ok(image)
+}
+
+/// The picture of all frames' sheet, and a line about it.
+pub fn plot(run: &mut Run) -> Result<(Image<u8>, String), Failure> {
+    let (first, last) = (1, run.frames());
+    let sheet = Sheet { first, last, numbers: run.sample(first, last)? };
+    Ok((plotted(&sheet)?, sheet.about()))
 }
 
 /// Samples a run.

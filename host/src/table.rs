@@ -1,8 +1,10 @@
 //! A row table, and where things stand in it.
 
 use crate::library::ROW_WIDTH;
+use crate::names;
 
 const PER_FRAME_GROUPS: u32 = 0x5200_9230;
+const SQ: u32 = (b'S' as u32) << 8 | b'Q' as u32;
 
 /// A row, in the words of the header. Rows are numbered from 1; 0 as a parent is the root.
 pub struct Row {
@@ -29,9 +31,13 @@ impl Row {
         }
     }
 
+    pub fn is_sequence(&self) -> bool {
+        self.vr == SQ
+    }
+
     /// The tag as the standard writes it.
     pub fn tag_text(&self) -> String {
-        format!("({:04X},{:04X})", self.tag >> 16, self.tag & 0xFFFF)
+        names::tag_text(self.tag)
     }
 
     /// The number of the last row below it, or its own.
@@ -66,19 +72,29 @@ impl<'a> Table<'a> {
     }
 
     /// The rows that stand directly in the row of a number, or at the root: what is below each is stepped over.
-    fn members(self, holder: u32) -> impl Iterator<Item = Row> + 'a {
-        let first = self.row(holder + 1).filter(|row| row.parent == holder);
+    pub fn members(self, holder: u32) -> impl Iterator<Item = Row> + 'a {
+        let first = self.row(holder.saturating_add(1)).filter(|row| row.parent == holder);
         std::iter::successors(first, move |row| self.row(row.last() + 1).filter(|row| row.parent == holder))
+    }
+
+    /// The element of a tag in the item of a row, or at the root.
+    pub fn element(self, holder: u32, tag: u32) -> Option<Row> {
+        self.members(holder).take_while(|row| row.tag <= tag).find(|row| row.tag == tag)
     }
 
     /// The element of a tag at the root.
     pub fn root(self, tag: u32) -> Option<Row> {
-        self.members(0).find(|row| row.tag == tag)
+        self.element(0, tag)
+    }
+
+    /// The items of the sequence of a tag in the item of a row, or at the root.
+    pub fn items(self, holder: u32, tag: u32) -> impl Iterator<Item = Row> + 'a {
+        self.element(holder, tag).into_iter().flat_map(move |sequence| self.members(sequence.number))
     }
 
     /// The items of the per-frame functional groups.
     pub fn frame_items(self) -> impl Iterator<Item = Row> + 'a {
-        self.root(PER_FRAME_GROUPS).into_iter().flat_map(move |sequence| self.members(sequence.number))
+        self.items(0, PER_FRAME_GROUPS)
     }
 
     /// The row of a frame's item; frames count from 1.

@@ -1,0 +1,187 @@
+//! What is kept of a verdict: the slip, and the folder that the file is moved to.
+
+use std::fs;
+use std::io;
+use std::path::{Component, Path, PathBuf};
+
+use crate::files::{self, State};
+use crate::library::{self, Answer, SLIP_SIZE};
+use crate::looking::Looked;
+use crate::output::Object;
+use crate::sentences;
+
+/// The codes of a file that no verdict on a data set is given of.
+const FILE_CODES: std::ops::RangeInclusive<u32> = 15..=18;
+
+/// Where slips are written, and where files are moved to.
+#[derive(Default, clap::Args)]
+pub struct Keeping {
+    /// Write the verdict on each FILE to DIR/FILE.slip, folders as in FILE
+    ///
+    /// A slip is written whole or not at all. A file that gets no verdict on its data set gets none; an older slip of it is moved aside, to
+    /// FILE.slip.old.
+    #[arg(long, value_name = "DIR")]
+    pub slips: Option<PathBuf>,
+    /// Move each accepted FILE to DIR/FILE, by renaming, never over a file that is there
+    #[arg(long, value_name = "DIR")]
+    pub move_accepted: Option<PathBuf>,
+    /// Move each refused FILE to DIR/FILE, likewise
+    #[arg(long, value_name = "DIR")]
+    pub move_refused: Option<PathBuf>,
+}
+
+/// What was kept of one verdict: where, or what went wrong.
+#[derive(Default)]
+pub struct Kept {
+    slip: Option<(PathBuf, Result<(), String>)>,
+    aside: Option<Result<PathBuf, String>>,
+    moved: Option<(PathBuf, Result<(), String>)>,
+}
+
+impl Keeping {
+    /// The folders that are filled.
+    pub fn folders(&self) -> impl Iterator<Item = &Path> {
+        [&self.slips, &self.move_accepted, &self.move_refused].into_iter().flatten().map(PathBuf::as_path)
+    }
+
+    /// Keeps what is to be kept of a file that was in a state before it was looked at.
+    pub fn keep(&self, path: &Path, before: Option<State>, looked: &Looked) -> Kept {
+        let mut kept = Kept::default();
+        let verdict = match looked {
+            Looked::Judged(judged) => Some(judged.answer),
+            _ => None,
+        };
+        if let Some(folder) = &self.slips {
+            let slip = slip_path(folder, path);
+            match verdict.filter(|answer| !FILE_CODES.contains(&answer.code)) {
+                Some(answer) => kept.slip = Some((slip.clone(), write_slip(&slip, answer))),
+                None => kept.aside = set_aside(&slip),
+            }
+        }
+        let folder = verdict.and_then(|answer| if answer.code == 0 { self.move_accepted.as_ref() } else { self.move_refused.as_ref() });
+        // One whose slip is missing stays for the next time.
+        if let (Some(folder), false) = (folder, kept.failed()) {
+            let to = under(folder, path);
+            let moved = rename(path, before, &to);
+            kept.moved = Some((to, moved));
+        }
+        kept
+    }
+}
+
+impl Kept {
+    pub fn slip_failed(&self) -> bool {
+        matches!(self.slip, Some((_, Err(_)))) || matches!(self.aside, Some(Err(_)))
+    }
+
+    pub fn move_failed(&self) -> bool {
+        matches!(self.moved, Some((_, Err(_))))
+    }
+
+    pub fn failed(&self) -> bool {
+        self.slip_failed() || self.move_failed()
+    }
+
+    /// What is said of it behind the verdict.
+    pub fn text(&self) -> String {
+        let mut text = String::new();
+        if let Some((path, Err(trouble))) = &self.slip {
+            text.push_str(&format!("; its slip {} cannot be written: {trouble}", shown(path)));
+        }
+        match &self.aside {
+            Some(Ok(path)) => text.push_str(&format!("; its old slip was moved aside to {}", shown(path))),
+            Some(Err(trouble)) => text.push_str(&format!("; its old slip cannot be moved aside: {trouble}")),
+            None => {}
+        }
+        match &self.moved {
+            Some((path, Ok(()))) => text.push_str(&format!("; moved to {}", shown(path))),
+            Some((path, Err(trouble))) => text.push_str(&format!("; not moved to {}: {trouble}", shown(path))),
+            None => {}
+        }
+        text
+    }
+
+    pub fn put_into(&self, object: &mut Object) {
+        match &self.slip {
+            Some((path, Ok(()))) => object.put_path("slip", path),
+            Some((_, Err(trouble))) => object.put("slip_error", trouble.as_str()),
+            None => {}
+        }
+        match &self.aside {
+            Some(Ok(path)) => object.put_path("old_slip", path),
+            Some(Err(trouble)) => object.put("slip_error", trouble.as_str()),
+            None => {}
+        }
+        match &self.moved {
+            Some((path, Ok(()))) => object.put_path("moved", path),
+            Some((_, Err(trouble))) => object.put("move_error", trouble.as_str()),
+            None => {}
+        }
+    }
+}
+
+fn shown(path: &Path) -> String {
+    String::from_utf8_lossy(&files::printed(path)).into_owned()
+}
+
+/// A path as it was named, under a folder. Of `/` and `..` nothing is kept.
+fn under(folder: &Path, file: &Path) -> PathBuf {
+    let mut path = folder.to_path_buf();
+    path.extend(file.components().filter(|part| matches!(part, Component::Normal(_))));
+    path
+}
+
+/// The path of the slip of a file.
+pub fn slip_path(folder: &Path, file: &Path) -> PathBuf {
+    with_ending(&under(folder, file), ".slip")
+}
+
+fn with_ending(path: &Path, ending: &str) -> PathBuf {
+    let mut name = path.file_name().unwrap_or_default().to_os_string();
+    name.push(ending);
+    path.with_file_name(name)
+}
+
+fn write_slip(path: &Path, answer: Answer) -> Result<(), String> {
+    let mut slip = [0; SLIP_SIZE];
+    match library::write_slip(answer, &mut slip) {
+        0 => files::write_whole(path, &slip, true).map_err(|error| files::trouble(&error)),
+        code => Err(format!("code {code}: {}", sentences::code(code))),
+    }
+}
+
+/// Moves a slip, if there is one, to a name that no file has.
+fn set_aside(slip: &Path) -> Option<Result<PathBuf, String>> {
+    if fs::symlink_metadata(slip).is_err() {
+        return None;
+    }
+    for number in 1..u32::MAX {
+        let ending = if number == 1 { String::from(".old") } else { format!(".old-{number}") };
+        let to = with_ending(slip, &ending);
+        match files::rename_new(slip, &to) {
+            Ok(()) => return Some(Ok(to)),
+            Err(error) if error.kind() == io::ErrorKind::AlreadyExists => {}
+            Err(error) => return Some(Err(files::trouble(&error))),
+        }
+    }
+    None
+}
+
+/// The number of the error that a file cannot be renamed into another file system.
+const OTHER_DEVICE: i32 = 18;
+
+/// Moves a file that is still in the state in which it was before it was judged.
+fn rename(path: &Path, before: Option<State>, to: &Path) -> Result<(), String> {
+    if fs::symlink_metadata(path).map_or(false, |about| about.file_type().is_symlink()) {
+        return Err(String::from("it is a link"));
+    }
+    if before.is_none() || State::at(path).ok() != before {
+        return Err(String::from("it changed since it was judged"));
+    }
+    let made = to.parent().map_or(Ok(()), fs::create_dir_all);
+    made.and_then(|()| files::rename_new(path, to)).map_err(|error| match error.raw_os_error() {
+        _ if error.kind() == io::ErrorKind::AlreadyExists => String::from("there is a file of that name"),
+        Some(OTHER_DEVICE) => String::from("it is on another file system, and files are only renamed"),
+        _ => files::trouble(&error),
+    })
+}

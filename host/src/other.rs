@@ -1,0 +1,129 @@
+//! What is no run, though it lies in the folder of runs: files that are certainly something else.
+//!
+//! A file is only told apart where its own bytes say what it is. What might be a damaged run stays refused.
+
+use crate::buffer::RowBuffer;
+use crate::head::{self, Form};
+use crate::library::Answer;
+
+const RULE_BROKEN: u32 = 9;
+const NO_MARK: u32 = 15;
+const BAD_HEAD: u32 = 16;
+const DIFFERENT: u32 = 18;
+
+const MEDIA_CLASS: u32 = 0x0002_0002;
+const SOP_CLASS: u32 = 0x0008_0016;
+const DIRECTORY: &str = "1.2.840.10008.1.3.10";
+const OURS: [&str; 2] = ["1.2.840.10008.5.1.4.1.1.12.1.1", "1.2.840.10008.5.1.4.1.1.12.2.1"];
+
+/// What a file is that was not accepted, where it is certainly no run.
+pub fn what(content: &[u8], answer: &Answer, buffer: &mut RowBuffer) -> Option<String> {
+    match answer.code {
+        0 | BAD_HEAD => None,
+        NO_MARK => plain(content).map(String::from),
+        code => {
+            let class = head::uid(content, MEDIA_CLASS)?;
+            let certain = match code {
+                // The data set names the same class.
+                RULE_BROKEN => true,
+                DIFFERENT => !data_class(content, buffer).map_or(false, |class| OURS.contains(&class.as_str())),
+                // The data set was not read.
+                _ => !OURS.iter().any(|ours| is_near(ours, &class)),
+            };
+            match class.as_str() {
+                _ if !certain || OURS.contains(&class.as_str()) => None,
+                DIRECTORY => Some(String::from("a DICOMDIR")),
+                other => Some(match class_name(other) {
+                    Some(name) => format!("another SOP class, {name} ({other})"),
+                    None => format!("another SOP class, {other}"),
+                }),
+            }
+        }
+    }
+}
+
+/// Whether two UIDs are as long and differ in one letter at most, as one does that was damaged.
+fn is_near(one: &str, other: &str) -> bool {
+    one.len() == other.len() && one.bytes().zip(other.bytes()).filter(|(one, other)| one != other).count() <= 1
+}
+
+/// The SOP class that the data set itself names.
+fn data_class(content: &[u8], buffer: &mut RowBuffer) -> Option<String> {
+    let data = &content[Form::File.start(content)..];
+    let answer = buffer.read(Form::Bare, data).ok()?;
+    let row = buffer.table(answer.rows).root(SOP_CLASS)?;
+    let start = row.offset as usize;
+    head::uid_text(data.get(start..start + row.length as usize)?)
+}
+
+/// How files start that are no DICOM files, and what they are.
+const STARTS: [(&[u8], &str); 11] = [
+    (b"\x89PNG\r\n\x1a\n", "a picture (PNG)"),
+    (b"\xFF\xD8\xFF", "a picture (JPEG)"),
+    (b"GIF87a", "a picture (GIF)"),
+    (b"GIF89a", "a picture (GIF)"),
+    (b"II*\0", "a picture (TIFF)"),
+    (b"MM\0*", "a picture (TIFF)"),
+    (b"P5\n", "a picture (PGM)"),
+    (b"P6\n", "a picture (PPM)"),
+    (b"%PDF-", "a PDF document"),
+    (b"\xD0\xCF\x11\xE0\xA1\xB1\x1A\xE1", "an Office document or Thumbs.db"),
+    (b"\0\0\0\x01Bud1", "a .DS_Store"),
+];
+
+/// How much of a file is looked at to see whether it is text.
+const TEXT: usize = 1 << 16;
+
+fn plain(content: &[u8]) -> Option<&'static str> {
+    if content.is_empty() {
+        return Some("an empty file");
+    }
+    if let Some((_, what)) = STARTS.iter().find(|(start, _)| content.starts_with(start)) {
+        return Some(what);
+    }
+    if content.starts_with(b"BM") && content.get(2..6) == Some(&(content.len() as u32).to_le_bytes()[..]) {
+        return Some("a picture (BMP)");
+    }
+    if content.starts_with(b"RIFF") && content.get(8..12) == Some(&b"WEBP"[..]) {
+        return Some("a picture (WebP)");
+    }
+    is_text(&content[..content.len().min(TEXT)]).then_some("text")
+}
+
+/// Whether bytes are text, in UTF-8, in UTF-16 with its mark, or with one byte a letter: no byte is a control character but
+/// for the blanks. A data set has such bytes in its first header.
+fn is_text(bytes: &[u8]) -> bool {
+    let wide = bytes.starts_with(b"\xFF\xFE") || bytes.starts_with(b"\xFE\xFF");
+    let blank = |byte: u8| matches!(byte, b'\t' | b'\n' | b'\r' | 0x0C | 0x1B);
+    bytes.iter().all(|&byte| byte >= b' ' && byte != 0x7F || blank(byte) || wide && byte == 0)
+}
+
+/// The names of some SOP classes (PS3.6, annex A).
+fn class_name(uid: &str) -> Option<&'static str> {
+    let name = match uid.strip_prefix("1.2.840.10008.5.1.4.1.1.")? {
+        "1" => "Computed Radiography Image",
+        "1.1" => "Digital X-Ray Image",
+        "2" => "CT Image",
+        "2.1" => "Enhanced CT Image",
+        "4" => "MR Image",
+        "4.1" => "Enhanced MR Image",
+        "3.1" => "Ultrasound Multi-frame Image",
+        "6.1" => "Ultrasound Image",
+        "7" => "Secondary Capture Image",
+        "7.1" | "7.2" | "7.3" | "7.4" => "Multi-frame Secondary Capture Image",
+        "11.1" => "Grayscale Softcopy Presentation State",
+        "11.5" => "XA/XRF Grayscale Softcopy Presentation State",
+        "12.1" => "X-Ray Angiographic Image",
+        "12.2" => "X-Ray Radiofluoroscopic Image",
+        "13.1.1" => "X-Ray 3D Angiographic Image",
+        "66" => "Raw Data",
+        "88.11" => "Basic Text SR",
+        "88.22" => "Enhanced SR",
+        "88.33" => "Comprehensive SR",
+        "88.59" => "Key Object Selection",
+        "88.67" => "X-Ray Radiation Dose SR",
+        "104.1" => "Encapsulated PDF",
+        _ => return None,
+    };
+    Some(name)
+}

@@ -1,0 +1,299 @@
+//! `luux report`: what is said of each run, with pictures, on a page and in a table.
+
+mod letter;
+mod page;
+mod sheet;
+
+use std::io::{self, Write};
+use std::path::{Path, PathBuf};
+use std::sync::atomic::{AtomicUsize, Ordering};
+use std::sync::Mutex;
+use std::thread;
+
+use crate::files;
+use crate::finding::{Choice, Finding, Found};
+use crate::found;
+use crate::head::{Form, Judged};
+use crate::identity::{self, Identity};
+use crate::judging;
+use crate::output::{line, note, note_of, Status};
+use crate::picture::{self, Failure, Image, Run};
+use crate::sampling;
+use crate::sentences;
+use crate::values::counted;
+
+/// What `luux report` was asked.
+pub struct Wanted {
+    pub named: Vec<PathBuf>,
+    pub form: Form,
+    pub choice: Choice,
+    pub output: PathBuf,
+    pub csv: bool,
+    pub patient: bool,
+    pub jobs: usize,
+}
+
+/// How many frames of a run are shown, and their longest side.
+const THUMBNAILS: u64 = 6;
+const SIDE: usize = 128;
+
+/// A picture for the page, as PNG.
+struct Picture {
+    width: usize,
+    height: usize,
+    png: Vec<u8>,
+    about: String,
+}
+
+impl Picture {
+    fn of(image: &Image<u8>, about: String) -> Result<Picture, Failure> {
+        Ok(Picture { width: image.width(), height: image.height(), png: image.encoded(picture::Form::Png)?, about })
+    }
+}
+
+/// The pictures of an accepted run.
+#[derive(Default)]
+struct Pictures {
+    frames: u64,
+    size: (usize, usize),
+    thumbnails: Vec<Picture>,
+    plot: Option<Picture>,
+}
+
+/// What is said of one file.
+struct Entry {
+    path: String,
+    /// The verdict and the pictures of the run, or why there is no verdict.
+    looked: Result<(Judged, Pictures), String>,
+    /// What the file is, where it is certainly no run.
+    other: Option<String>,
+}
+
+/// How a file ended.
+#[derive(Clone, Copy, PartialEq, Eq)]
+enum End {
+    Accepted,
+    Refused,
+    Other,
+    Unread,
+}
+
+impl End {
+    fn word(self) -> &'static str {
+        match self {
+            End::Accepted => "accepted",
+            End::Refused => "refused",
+            End::Other => "not ours",
+            End::Unread => "not read",
+        }
+    }
+}
+
+impl Entry {
+    fn end(&self) -> End {
+        match &self.looked {
+            Ok((judged, _)) if judged.answer.code == 0 => End::Accepted,
+            Ok(_) if self.other.is_some() => End::Other,
+            Ok(_) => End::Refused,
+            Err(_) => End::Unread,
+        }
+    }
+
+    fn judged(&self) -> Option<&Judged> {
+        self.looked.as_ref().ok().map(|(judged, _)| judged)
+    }
+
+    fn identity(&self) -> Option<&Identity> {
+        self.judged().map(|judged| &judged.identity)
+    }
+
+    /// What refused it: `rule 26` or `code 1`; nothing where it was not refused.
+    fn by(&self) -> Option<(u32, u32)> {
+        let answer = self.judged()?.answer;
+        (self.end() == End::Refused).then_some((answer.code, answer.rule))
+    }
+
+    /// What the rule asks, or the code means; or why there is no verdict.
+    fn sentence(&self) -> &str {
+        match (&self.looked, &self.other) {
+            (_, Some(what)) => what,
+            (Ok((judged, _)), None) => sentences::meaning(&judged.answer),
+            (Err(trouble), None) => trouble,
+        }
+    }
+
+    fn found(&self) -> String {
+        let judged = self.judged().filter(|_| self.other.is_none());
+        judged.map_or_else(String::new, |judged| found::line(&judged.found))
+    }
+
+    /// Institution and station; empty where they are not named.
+    fn sender(&self) -> Sender {
+        let value = |tag| self.identity().and_then(|identity| identity.value(tag)).unwrap_or_default().to_string();
+        Sender { institution: value(identity::INSTITUTION), station: value(identity::STATION) }
+    }
+}
+
+/// A rule or a code, in words.
+fn by_text((code, rule): (u32, u32)) -> String {
+    match rule {
+        0 => format!("code {code}"),
+        rule => format!("rule {rule}"),
+    }
+}
+
+/// Who a run came from.
+#[derive(Clone, PartialEq, Eq, PartialOrd, Ord)]
+struct Sender {
+    institution: String,
+    station: String,
+}
+
+/// The runs of one sender, by their places in the list of entries.
+struct Sent {
+    sender: Sender,
+    entries: Vec<usize>,
+}
+
+impl Sent {
+    fn count(&self, entries: &[Entry], end: End) -> usize {
+        self.entries.iter().filter(|&&place| entries[place].end() == end).count()
+    }
+
+    /// How many runs each rule and code refused, in their order.
+    fn by(&self, entries: &[Entry]) -> Vec<((u32, u32), usize)> {
+        let mut counts = std::collections::BTreeMap::new();
+        for by in self.entries.iter().filter_map(|&place| entries[place].by()) {
+            *counts.entry(by).or_insert(0) += 1;
+        }
+        counts.into_iter().collect()
+    }
+}
+
+/// The senders, those with the most refused runs first. A file that was not read, or is no run, has none.
+fn senders(entries: &[Entry]) -> Vec<Sent> {
+    let mut all = std::collections::BTreeMap::<Sender, Vec<usize>>::new();
+    for (place, entry) in entries.iter().enumerate().filter(|(_, entry)| matches!(entry.end(), End::Accepted | End::Refused)) {
+        all.entry(entry.sender()).or_default().push(place);
+    }
+    let mut senders: Vec<Sent> = all.into_iter().map(|(sender, entries)| Sent { sender, entries }).collect();
+    senders.sort_by_key(|sent| std::cmp::Reverse(sent.count(entries, End::Refused)));
+    senders
+}
+
+/// Evenly chosen frames of a run, and the plot of all of them.
+fn pictures(run: &mut Run) -> Result<Pictures, Failure> {
+    let mut thumbnails = Vec::new();
+    for frame in picture::chosen(run.frames(), THUMBNAILS) {
+        let (image, masked) = run.draw(frame)?;
+        let about = format!("frame {frame}, {}", if masked { "masked" } else { "native" });
+        thumbnails.push(Picture::of(&image.sampled(SIDE), about)?);
+    }
+    let (image, about) = sampling::plot(run)?;
+    Ok(Pictures { frames: run.frames(), size: run.size(), thumbnails, plot: Some(Picture::of(&image, about)?) })
+}
+
+fn entry(found: &Found, form: Form) -> Entry {
+    let path = String::from_utf8_lossy(&files::printed(&found.path)).into_owned();
+    let mut other = None;
+    let looked = match &found.unreadable {
+        Some(trouble) => Err(trouble.clone()),
+        None => Run::judged(&found.path, form).and_then(|(judged, run)| match run.map(|mut run| pictures(&mut run)) {
+            Ok(Err(Failure::Refused(text) | Failure::Trouble(text))) => Err(text),
+            Ok(Ok(pictures)) => Ok((judged, pictures)),
+            Err(what) => {
+                other = what;
+                Ok((judged, Pictures::default()))
+            }
+        }),
+    };
+    Entry { path, looked, other }
+}
+
+/// Looks at files on several threads; the entries are in the order of the files.
+fn entries(found: &[Found], form: Form, jobs: usize) -> Vec<Entry> {
+    let (next, done) = (AtomicUsize::new(0), Mutex::new(Vec::new()));
+    let bar = judging::progress(found.len());
+    let work = || {
+        while let Some((place, one)) =
+            Some(next.fetch_add(1, Ordering::Relaxed)).and_then(|place| Some((place, found.get(place)?)))
+        {
+            let made = entry(one, form);
+            bar.inc(1);
+            done.lock().unwrap_or_else(|poisoned| poisoned.into_inner()).push((place, made));
+        }
+    };
+    thread::scope(|scope| {
+        for _ in 1..jobs.min(found.len()) {
+            // Fewer threads than asked for do the same work.
+            let _ = thread::Builder::new().spawn_scoped(scope, work);
+        }
+        work();
+    });
+    bar.finish_and_clear();
+    let mut made = done.into_inner().unwrap_or_else(|poisoned| poisoned.into_inner());
+    made.sort_by_key(|(place, _)| *place);
+    made.into_iter().map(|(_, entry)| entry).collect()
+}
+
+/// The files that were named, but for those that are written.
+fn find(wanted: &Wanted, written: &[&Path]) -> Vec<Found> {
+    let finding = Finding::of(&wanted.named, None, &wanted.choice);
+    for (path, reason) in &finding.skipped {
+        note_of(path, &format!("skipped: {reason}"));
+    }
+    finding.found.into_iter().filter(|one| !written.iter().any(|path| files::is_same(&one.path, path))).collect()
+}
+
+fn write(path: &Path, content: &[u8]) -> bool {
+    match files::write_whole(path, content, false) {
+        Ok(()) => true,
+        Err(error) => {
+            note_of(path, &format!("cannot be written: {}", files::trouble(&error)));
+            false
+        }
+    }
+}
+
+/// Makes the page, and the table where it is wanted.
+pub fn run(wanted: &Wanted, out: &mut dyn Write) -> io::Result<Status> {
+    let table = wanted.output.with_extension("csv");
+    let found = find(wanted, &[&wanted.output, &table]);
+    if found.is_empty() {
+        note("nothing is reported on: there is no file in what was named");
+        return Ok(Status::Failed);
+    }
+    // A page is written at the end of a long night; better to know now that it cannot be.
+    if let Some(run) = wanted.named.iter().find(|path| path.is_file() && files::is_same(path, &wanted.output)) {
+        note_of(run, "it is a run itself; name another page");
+        return Ok(Status::Failed);
+    }
+    let entries = entries(&found, wanted.form, wanted.jobs);
+    let senders = senders(&entries);
+    let count = |end| entries.iter().filter(|entry| entry.end() == end).count();
+    let about = format!(
+        "{} of {}: {} accepted, {} refused, {} could not be read{}",
+        counted(entries.len(), "file"),
+        counted(senders.len(), "sender"),
+        count(End::Accepted),
+        count(End::Refused),
+        count(End::Unread),
+        if count(End::Other) > 0 { format!(", {} not ours", count(End::Other)) } else { String::new() }
+    );
+    let page = page::made(wanted, &entries, &senders);
+    if !write(&wanted.output, page.as_bytes()) {
+        return Ok(Status::Failed);
+    }
+    line(out, &wanted.output, &about)?;
+    if wanted.csv {
+        match sheet::made(&entries, wanted.patient) {
+            Ok(rows) if write(&table, &rows) => line(out, &table, &counted(entries.len(), "row"))?,
+            Ok(_) => return Ok(Status::Failed),
+            Err(trouble) => {
+                note_of(&table, &format!("cannot be made: {trouble}"));
+                return Ok(Status::Failed);
+            }
+        }
+    }
+    Ok(Status::Fine)
+}

@@ -1,0 +1,151 @@
+//! Values of elements in print: short, on one line, in the run's own character set. Display only: nothing is decided by it.
+
+use encoding_rs::Encoding;
+
+use crate::table::{Row, Table};
+
+const SPECIFIC_CHARACTER_SET: u32 = 0x0008_0005;
+
+/// A data set and its rows, ready to be quoted from.
+#[derive(Clone, Copy)]
+pub struct Source<'a> {
+    pub data: &'a [u8],
+    pub table: Table<'a>,
+    letters: &'static Encoding,
+}
+
+impl<'a> Source<'a> {
+    pub fn of(data: &'a [u8], table: Table<'a>) -> Source<'a> {
+        let plain = Source { data, table, letters: encoding_rs::WINDOWS_1252 };
+        let named = table.root(SPECIFIC_CHARACTER_SET).map_or_else(String::new, |row| plain.text(&row));
+        Source { letters: encoding(&named), ..plain }
+    }
+
+    pub fn bytes(&self, row: &Row) -> &'a [u8] {
+        let start = row.offset as usize;
+        self.data.get(start..start.saturating_add(row.length as usize)).unwrap_or_default()
+    }
+
+    /// The letters of a value, without the padding at its end and with control characters as `\x0A`.
+    pub fn text(&self, row: &Row) -> String {
+        let bytes = self.bytes(row);
+        let end = bytes.iter().rposition(|&byte| byte != 0 && byte != b' ').map_or(0, |last| last + 1);
+        let mut text = String::new();
+        for letter in self.letters.decode_without_bom_handling(&bytes[..end]).0.chars() {
+            match letter.is_control() || is_steering(letter) {
+                true => text.push_str(&format!("\\x{:02X}", letter as u32)),
+                false => text.push(letter),
+            }
+        }
+        text
+    }
+
+    /// A value in at most so many characters: text in quotes, numbers with a backslash between them, otherwise how much there is.
+    pub fn value(&self, row: &Row, most: usize) -> String {
+        if row.is_item() {
+            return String::new();
+        }
+        let vr = row.vr_text();
+        if vr == "SQ" {
+            return counted(self.table.members(row.number).count(), "item");
+        }
+        if row.length == 0 {
+            return String::from("empty");
+        }
+        match numbers(&vr, self.bytes(row)) {
+            Some(numbers) => shortened(&numbers.join("\\"), most),
+            None if is_text(&vr) => format!("\"{}\"", shortened(&self.text(row), most)),
+            None => counted(row.length as usize, "byte"),
+        }
+    }
+}
+
+/// Characters that turn the direction of a line or break it.
+fn is_steering(letter: char) -> bool {
+    matches!(letter, '\u{200E}' | '\u{200F}' | '\u{2028}'..='\u{202E}' | '\u{2066}'..='\u{2069}')
+}
+
+/// A number of things.
+pub fn counted(count: usize, what: &str) -> String {
+    format!("{count} {what}{}", if count == 1 { "" } else { "s" })
+}
+
+/// The start of a text, with dots where there is more of it.
+pub fn shortened(text: &str, most: usize) -> String {
+    match text.char_indices().nth(most) {
+        Some((place, _)) => format!("{}...", &text[..place]),
+        None => String::from(text),
+    }
+}
+
+fn is_text(vr: &str) -> bool {
+    matches!(
+        vr,
+        "AE" | "AS"
+            | "CS"
+            | "DA"
+            | "DS"
+            | "DT"
+            | "IS"
+            | "LO"
+            | "LT"
+            | "PN"
+            | "SH"
+            | "ST"
+            | "TM"
+            | "UC"
+            | "UI"
+            | "UR"
+            | "UT"
+    )
+}
+
+fn each<const SIZE: usize>(bytes: &[u8], print: impl Fn([u8; SIZE]) -> String) -> Option<Vec<String>> {
+    let whole = bytes.len() % SIZE == 0;
+    whole.then(|| bytes.chunks_exact(SIZE).filter_map(|chunk| chunk.try_into().ok()).map(print).collect())
+}
+
+/// The numbers of a value, where its VR has numbers and its length is a whole count of them.
+fn numbers(vr: &str, bytes: &[u8]) -> Option<Vec<String>> {
+    match vr {
+        "US" => each(bytes, |number| u16::from_le_bytes(number).to_string()),
+        "SS" => each(bytes, |number| i16::from_le_bytes(number).to_string()),
+        "UL" => each(bytes, |number| u32::from_le_bytes(number).to_string()),
+        "SL" => each(bytes, |number| i32::from_le_bytes(number).to_string()),
+        "UV" => each(bytes, |number| u64::from_le_bytes(number).to_string()),
+        "SV" => each(bytes, |number| i64::from_le_bytes(number).to_string()),
+        "FL" => each(bytes, |number| f32::from_le_bytes(number).to_string()),
+        "FD" => each(bytes, |number| f64::from_le_bytes(number).to_string()),
+        "AT" => each(bytes, |[a, b, c, d]: [u8; 4]| format!("({b:02X}{a:02X},{d:02X}{c:02X})")),
+        _ => None,
+    }
+}
+
+/// The encoding of a Specific Character Set (PS3.3 C.12.1.1.2). Where it has several values, they take turns by escape sequences, which
+/// only the encodings of ISO 2022 follow.
+fn encoding(named: &str) -> &'static Encoding {
+    let terms: Vec<&str> = named.split('\\').map(str::trim).collect();
+    let has =
+        |term: &str| terms.iter().any(|one| one.trim_start_matches("ISO 2022 ").trim_start_matches("ISO_") == term);
+    if ["IR 87", "IR 159", "IR 13"].into_iter().any(has) {
+        return encoding_rs::ISO_2022_JP;
+    }
+    let known = [
+        ("IR 192", encoding_rs::UTF_8),
+        ("GB18030", encoding_rs::GB18030),
+        ("GBK", encoding_rs::GBK),
+        ("IR 58", encoding_rs::GBK),
+        ("IR 149", encoding_rs::EUC_KR),
+        ("IR 101", encoding_rs::ISO_8859_2),
+        ("IR 109", encoding_rs::ISO_8859_3),
+        ("IR 110", encoding_rs::ISO_8859_4),
+        ("IR 144", encoding_rs::ISO_8859_5),
+        ("IR 127", encoding_rs::ISO_8859_6),
+        ("IR 126", encoding_rs::ISO_8859_7),
+        ("IR 138", encoding_rs::ISO_8859_8),
+        ("IR 148", encoding_rs::WINDOWS_1254),
+        ("IR 166", encoding_rs::WINDOWS_874),
+        ("IR 203", encoding_rs::ISO_8859_15),
+    ];
+    known.into_iter().find(|(term, _)| has(term)).map_or(encoding_rs::WINDOWS_1252, |(_, encoding)| encoding)
+}

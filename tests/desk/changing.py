@@ -1,0 +1,188 @@
+"""Files that change while the tool looks at them, and files that still arrive."""
+
+import json
+import mmap
+import os
+import random
+import struct
+import subprocess
+import threading
+import time
+import unittest
+
+import enhanced_xa as xa
+from desk.common import FAILED, FINE, LARGE, REFUSED, TOOL, Desk, good_run, read_pgm, with_head
+from objects import element, encode
+from reference import drawing, files
+
+RUNS = 1000
+CHANGED = b"changed while it was looked at"
+
+
+def two_runs():
+    """Two runs of one length: frames of another form, masks and pixels."""
+    made = []
+    for seed, rows, columns in ((1, 64, 256), (2, 256, 64)):
+        model = xa.build(random.Random(3), xa.Shape(frames=3, rows=2, columns=2, masks=("AVG_SUB",), bits_allocated=16, bits_stored=12,
+                                                    extras=False))
+        model[xa.ROWS], model[xa.COLUMNS] = xa.us(rows), xa.us(columns)
+        size = 3 * rows * columns
+        model[xa.PIXEL_DATA] = ("OW", struct.pack(f"<{size}H", *random.Random(seed).choices(range(4096), k=size)))
+        made.append(with_head(encode(model)))
+    assert len(made[0]) == len(made[1])
+    return made
+
+
+class TestChanging(Desk):
+    bare = False
+
+    def writing(self, path, contents, how):
+        """Writes one content after another over a file, with pauses of all lengths, until it is told to stop."""
+        stop = threading.Event()
+
+        def work():
+            rng = random.Random(4)
+            number = 0
+            while not stop.is_set():
+                number += 1
+                how(path, contents[number % len(contents)])
+                time.sleep(rng.choice((0, 0, 0.001, 0.005, 0.03)))
+
+        thread = threading.Thread(target=work)
+        thread.start()
+        self.addCleanup(thread.join)
+        self.addCleanup(stop.set)
+        return stop
+
+    @staticmethod
+    def overwrite(path, content):
+        """In pieces, so that a reader meets old and new bytes."""
+        with open(path, "r+b", buffering=0) as file:
+            for start in range(0, len(content), 16384):
+                os.pwrite(file.fileno(), content[start:start + 16384], start)
+
+    @staticmethod
+    def cut_and_write(path, content):
+        with open(path, "wb") as file:
+            file.write(content)
+
+    @staticmethod
+    def through_a_mapping(path, content):
+        with open(path, "r+b") as file, mmap.mmap(file.fileno(), len(content)) as map:
+            map[:] = content
+
+    def pictures(self, contents, frame):
+        wanted = []
+        for content in contents:
+            shown = files.show_file(content, frame, LARGE, LARGE)
+            self.assertEqual(shown.answer.code, 0)
+            wanted.append(shown.image)
+        return wanted
+
+    def test_no_picture_of_changed_bytes(self):
+        """A thousand pictures of a run that another process writes over: each is of one of its two contents, or there is none."""
+        contents = two_runs()
+        wanted = self.pictures(contents, 2)
+        self.put("run.dcm", contents[0])
+        ends = {FINE: 0, FAILED: 0}
+        for how, count in ((self.overwrite, RUNS - 300), (self.cut_and_write, 300)):
+            stop = self.writing(self.path("run.dcm"), contents, how)
+            for _ in range(count):
+                done = subprocess.run([TOOL, "show", "run.dcm", "2", "-o", "x.pgm"], cwd=self.folder, capture_output=True, timeout=60)
+                if done.returncode == REFUSED:
+                    # Cut at that moment: a verdict on what the file then was.
+                    self.assertEqual(how, self.cut_and_write, done.stdout)
+                    continue
+                self.assertIn(done.returncode, ends, done)
+                ends[done.returncode] += 1
+                if done.returncode == FINE:
+                    self.assertIn(read_pgm(self.path("x.pgm"))[2], wanted)
+                else:
+                    self.assertIn(CHANGED, done.stderr)
+            stop.set()
+            time.sleep(0.1)
+        self.assertGreater(min(ends.values()), 20, ends)
+
+    def test_no_crash_whoever_writes(self):
+        """The size of a frame changes under a mapping, which shows in no time: every command ends by itself."""
+        contents = two_runs()
+        self.put("run.dcm", contents[0])
+        stop = self.writing(self.path("run.dcm"), contents, self.through_a_mapping)
+        for words in (("judge", "run.dcm"), ("rows", "run.dcm"), ("contact", "run.dcm", "-o", "x.pgm"), ("sheet", "run.dcm", "--numbers"),
+                      ("canonical", "run.dcm", "-o", "x"), ("linear", "run.dcm", "1", "-o", "x.pgm"), ("show", "run.dcm", "3", "-o", "x.pgm")):
+            for _ in range(15):
+                done = subprocess.run([TOOL, *words], cwd=self.folder, capture_output=True, timeout=60)
+                self.assertIn(done.returncode, (FINE, REFUSED, FAILED), (words, done))
+        stop.set()
+
+    def test_changed_meanwhile(self):
+        """A run that is touched again and again gets no verdict, no picture and no sheet, whatever the command."""
+        frames = 60
+        model = xa.build(random.Random(5), xa.Shape(frames=frames, masks=("AVG_SUB",), bits_allocated=8, bits_stored=8, extras=False))
+        model[xa.ROWS] = model[xa.COLUMNS] = xa.us(512)
+        model[xa.PIXEL_DATA] = ("OB", bytes(frames * 512 * 512))
+        self.put("run.dcm", with_head(encode(model)))
+        for words in (("judge", "run.dcm"), ("contact", "run.dcm", "-o", "x.pgm"), ("sheet", "run.dcm"), ("show", "run.dcm", "1", "-o", "x.pgm"),
+                      ("canonical", "run.dcm", "-o", "x")):
+            process = subprocess.Popen([TOOL, *words], cwd=self.folder, stdout=subprocess.PIPE, stderr=subprocess.PIPE)
+            times = 0
+            while process.poll() is None:
+                times += 1
+                os.utime(self.path("run.dcm"), (times, times))
+            out, told = process.communicate()
+            self.assertEqual(process.returncode, FAILED, words)
+            self.assertIn(CHANGED, out + told, words)
+        self.assertEqual(os.listdir(self.folder), ["run.dcm"])
+
+
+class TestArriving(Desk):
+    bare = False
+
+    def test_slow_copy(self):
+        """A run that is copied in pieces is arriving until it is whole, though its time is set back after each piece."""
+        content = with_head(good_run(frames=20, rows=32, columns=32))
+        self.put("in/whole.dcm", content)
+        os.utime(self.path("in", "whole.dcm"), (1, 1))
+        half = threading.Event()
+
+        def copy():
+            step = len(content) // 8 + 1
+            with open(self.path("in", "late.dcm"), "wb", buffering=0) as file:
+                for start in range(0, len(content), step):
+                    file.write(content[start:start + step])
+                    os.utime(self.path("in", "late.dcm"), (1, 1))
+                    half.set()
+                    time.sleep(0.4)
+
+        thread = threading.Thread(target=copy)
+        thread.start()
+        half.wait()
+        done = self.luux("judge", "in", "--settle", "10")
+        self.assertEqual(done.stdout.decode().splitlines(), [
+            "in/late.dcm: arriving: it was written to while luux looked", "in/whole.dcm: accepted",
+            "2 files: 1 accepted, 0 refused, 0 could not be read, 1 arriving"])
+        thread.join()
+        self.assertEqual(self.lines("judge", "in", "--settle", "0.3")[:2], ["in/late.dcm: accepted", "in/whole.dcm: accepted"])
+
+    def test_young(self):
+        self.put("in/old.dcm", with_head(good_run()))
+        self.put("in/young.dcm", with_head(good_run())[:-2])
+        self.put("in/future.dcm", with_head(good_run())[:-2])
+        self.put("slips/in/young.dcm.slip", b"any")
+        os.utime(self.path("in", "old.dcm"), (time.time() - 500,) * 2)
+        os.utime(self.path("in", "young.dcm"), (time.time() - 100,) * 2)
+        os.utime(self.path("in", "future.dcm"), (time.time() + 500,) * 2)
+        words = ("judge", "in", "--settle", "300", "--slips", "slips", "--move-accepted", "done", "--move-refused", "bad")
+        objects = [json.loads(line) for line in self.lines(*words, "--json")]
+        self.assertEqual([(one["path"], one["verdict"]) for one in objects],
+                         [("in/future.dcm", "arriving"), ("in/old.dcm", "accepted"), ("in/young.dcm", "arriving")])
+        self.assertRegex(objects[2]["error"], "^written to 10[0-9] seconds ago, and --settle asks for 300$")
+        # The slip of an older copy no longer holds.
+        self.assertEqual(objects[2]["old_slip"], "slips/in/young.dcm.slip.old")
+        self.assertEqual(sorted(os.listdir(self.path("in"))), ["future.dcm", "young.dcm"])
+        self.luux("judge", "in", "--settle", "0", status=REFUSED)
+        for wrong in ("-1", "soon", "nan", "inf"):
+            self.assertIn(b"seconds", self.luux("judge", "in", f"--settle={wrong}", status=FAILED).stderr)
+
+
+__all__ = [name for name, one in list(globals().items()) if isinstance(one, type) and issubclass(one, unittest.TestCase) and one is not Desk]

@@ -1,0 +1,139 @@
+"""Memory: files that are looked at together stay within --memory, and a file gets room for just its rows."""
+
+import os
+import resource
+import struct
+import subprocess
+import tempfile
+import time
+import unittest
+
+from desk.common import FAILED, REFUSED, ROOT, SENTENCES, TOOL, Desk, good_run, with_head
+from objects import element_header, item_header
+
+ROW = 28  # bytes
+OWN = 24 << 20  # what the tool takes besides, with the stacks of its threads
+WORST = 48 << 20  # bytes of the worst file in the gate; the largest there is has 1 GiB
+LARGEST = 1 << 30
+
+# One call of the library, with just the room that it needs: its seconds.
+ONE_CALL = r"""
+#include <fcntl.h>
+#include <stdio.h>
+#include <stdlib.h>
+#include <sys/stat.h>
+#include <time.h>
+#include <unistd.h>
+#include "luuxidgaan.h"
+int main(int count, char **words) {
+    int file = open(words[1], O_RDONLY);
+    struct stat about;
+    fstat(file, &about);
+    uint8_t *data = malloc(about.st_size);
+    for (off_t at = 0; at < about.st_size;) at += read(file, data + at, about.st_size - at);
+    size_t room = atol(words[2]) * XA_ROW_NUMBERS;
+    uint32_t *rows = malloc(room * 4);
+    struct timespec start, end;
+    clock_gettime(CLOCK_MONOTONIC, &start);
+    xa_answer answer = xa_judge(data, about.st_size, rows, room);
+    clock_gettime(CLOCK_MONOTONIC, &end);
+    printf("%u %u %f\n", answer.code, answer.rows, end.tv_sec - start.tv_sec + (end.tv_nsec - start.tv_nsec) / 1e9);
+    return count != 3;
+}
+"""
+
+
+def limited(size):
+    """A limit for all memory of its own that a process takes."""
+    return lambda: resource.setrlimit(resource.RLIMIT_DATA, (size, size))
+
+
+class TestMemory(Desk):
+    bare = False
+
+    def test_together(self):
+        """Twelve files of 20 MB, eight at a time, in 50 MB; without that bound they take more."""
+        size = 20 << 20
+        run = with_head(good_run(frames=1, rows=1, columns=1))
+        for number in range(12):
+            self.put(f"runs/{number:02d}.dcm", run[:-2])
+            os.truncate(self.path("runs", f"{number:02d}.dcm"), size)
+        words = ("judge", "runs", "--jobs", "8")
+        wanted = self.luux(*words, status=REFUSED).stdout
+        for more in ((), ("--timeout", "60")):
+            self.assertEqual(self.luux(*words, *more, "--memory", "50M", status=REFUSED, preexec_fn=limited((50 << 20) + OWN)).stdout, wanted)
+        said = self.luux(*words, status=FAILED, preexec_fn=limited((50 << 20) + OWN)).stdout
+        self.assertIn(b"cannot be read: there is no memory for 20971520 bytes", said)
+
+    def test_one_that_is_too_large(self):
+        """It gets a line, by whatever command, and the others are judged."""
+        self.put("runs/a.dcm", with_head(good_run()))
+        self.put("runs/b.dcm", with_head(good_run()))
+        os.truncate(self.path("runs", "b.dcm"), 5_000_000)
+        line = "cannot be read: it takes 5000000 bytes of memory, and --memory allows 4194304"
+        for more in ((), ("--timeout", "60")):
+            said = self.lines("judge", "runs", "--memory", "4M", *more, status=FAILED)
+            self.assertEqual(said[0], "runs/a.dcm: accepted")
+            self.assertTrue(said[1].startswith(f"runs/b.dcm: {line}"), said[1])
+        for words in (("rows",), ("show", "1"), ("contact",), ("sheet",), ("linear", "1"), ("canonical", "-o", "x")):
+            done = self.luux(words[0], "runs/b.dcm", *words[1:], "--memory", "4M", status=FAILED)
+            self.assertIn(line.encode(), done.stderr)
+        self.luux("judge", "runs", "--memory", "4M", "--map", status=REFUSED)
+        for wrong in ("-1", "many", "4T", "99999999999999999999", "9999999999999G"):
+            self.assertIn(b"such as 800M", self.luux("judge", "runs", f"--memory={wrong}", status=FAILED).stderr)
+
+    def test_rows_count(self):
+        """Rows are part of what a file takes: where they do not fit beside others, it waits; where they never fit, it is told."""
+        items = 100_000
+        data = element_header(0x00081140, "SQ", 8 * items) + item_header(0) * items
+        for number in range(6):
+            self.put(f"runs/{number}", data)
+        takes = len(data) + (items + 1) * ROW
+        for more in ((), ("--timeout", "60")):
+            words = ("judge", "--bare", "runs", "--jobs", "6", *more)
+            said = self.lines(*words, "--memory", str(takes), status=REFUSED)
+            self.assertEqual(said[-1], "6 files: 0 accepted, 6 refused, 0 could not be read")
+            said = self.lines(*words, "--memory", str(takes - 1), status=FAILED)
+            self.assertEqual(said[-1], "6 files: 0 accepted, 0 refused, 6 could not be read")
+            self.assertIn(f"takes {takes} bytes of memory", said[0])
+
+    def worst(self, size):
+        """Nothing but headers: one sequence of empty items. How many rows it has, and what luux says."""
+        items = size // 8 - 2
+        with open(self.path("worst.xa"), "wb") as file:
+            file.write(element_header(0x00081140, "SQ", 8 * items))
+            block = item_header(0) * (1 << 17)
+            for start in range(0, items, 1 << 17):
+                file.write(block[:8 * min(1 << 17, items - start)])
+        return items + 1, os.path.getsize(self.path("worst.xa"))
+
+    def judge_worst(self, size):
+        """Judges it under a limit of its bytes and its rows, and answers the seconds of that and of one call."""
+        rows, bytes_ = self.worst(size)
+        start = time.perf_counter()
+        done = subprocess.run([TOOL, "judge", "--bare", "worst.xa", "--memory", str(bytes_ + rows * ROW)], cwd=self.folder, capture_output=True,
+                              preexec_fn=limited(bytes_ + rows * ROW + OWN), timeout=400)
+        taken = time.perf_counter() - start
+        self.assertEqual(done.stdout.decode().splitlines()[0].split(" Found: ")[0], f"worst.xa: rule 1, frame 0: {SENTENCES[1]}")
+        self.put("call.c", ONE_CALL.encode())
+        subprocess.run(["gcc", "-O2", "-I", os.path.join(ROOT, "include"), "-o", self.path("call"), self.path("call.c"),
+                        os.path.join(ROOT, "target", "staticlib", "libcabi.a")], check=True)
+        code, found, seconds = subprocess.run([self.path("call"), self.path("worst.xa"), str(rows)], check=True, capture_output=True, text=True,
+                                              timeout=400).stdout.split()
+        self.assertEqual((int(code), int(found)), (9, rows))
+        return taken, float(seconds)
+
+    def test_the_worst_file(self):
+        """Room for just its rows; in time, not much more than one call."""
+        taken, call = min(self.judge_worst(WORST) for _ in range(2))
+        print(f"\n{WORST >> 20} MiB of headers: luux judge {taken:.2f} s, one call {call:.2f} s")
+        self.assertLess(taken, 2 * call + 0.5)
+
+    @unittest.skipUnless(os.environ.get("LUUX_LARGE"), "5 GB of memory and a minute, with LUUX_LARGE=1")
+    def test_the_worst_file_there_is(self):
+        taken, call = self.judge_worst(LARGEST)
+        print(f"\n1 GiB of headers: luux judge {taken:.2f} s, one call {call:.2f} s")
+        self.assertLess(taken, 1.5 * call)
+
+
+__all__ = [name for name, one in list(globals().items()) if isinstance(one, type) and issubclass(one, unittest.TestCase) and one is not Desk]
