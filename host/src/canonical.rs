@@ -127,7 +127,13 @@ impl Group {
     }
 
     fn print(&self, out: &mut dyn Write) -> io::Result<()> {
-        writeln!(out, "{} equal data sets, {} bytes in canonical form, SHA-256 {}", self.members.len(), self.length, self.hash_text())?;
+        writeln!(
+            out,
+            "{} equal data sets, {} bytes in canonical form, SHA-256 {}",
+            self.members.len(),
+            self.length,
+            self.hash_text()
+        )?;
         for member in &self.members {
             out.write_all(b"  ")?;
             out.write_all(&files::printed(&member.path))?;
@@ -179,7 +185,8 @@ impl Search {
 
     /// Looks at a file. Whoever names one wants it to be a run.
     fn add(&mut self, path: &Path, named: bool) {
-        let found = form_of(path, self.kind, &mut self.buffer).and_then(|found| self.place(path, &found.form, found.same));
+        let found =
+            form_of(path, self.kind, &mut self.buffer).and_then(|found| self.place(path, &found.form, found.same));
         match found {
             Ok(()) => {}
             Err(Failure::Other(text)) => {
@@ -220,7 +227,13 @@ impl Search {
 }
 
 /// Finds files whose data sets have the same canonical form.
-pub fn duplicates(named: &[PathBuf], kind: Form, choice: &Choice, json: bool, out: &mut dyn Write) -> io::Result<Status> {
+pub fn duplicates(
+    named: &[PathBuf],
+    kind: Form,
+    choice: &Choice,
+    json: bool,
+    out: &mut dyn Write,
+) -> io::Result<Status> {
     let finding = Finding::of(named, None, choice);
     for (path, reason) in &finding.skipped {
         note_of(path, &format!("skipped: {reason}"));

@@ -97,7 +97,14 @@ fn differences(ours: &Image<u8>, theirs: &[u8], tolerance: u64) -> Result<Image<
 }
 
 /// Compares one picture; answers whether it passed.
-fn one(run: &mut Run, from: &Path, frame: u64, path: &Path, wanted: &Wanted, out: &mut dyn Write) -> io::Result<Status> {
+fn one(
+    run: &mut Run,
+    from: &Path,
+    frame: u64,
+    path: &Path,
+    wanted: &Wanted,
+    out: &mut dyn Write,
+) -> io::Result<Status> {
     let cells = match read_cells(path) {
         Ok(cells) => cells,
         Err(trouble) => {
@@ -110,7 +117,8 @@ fn one(run: &mut Run, from: &Path, frame: u64, path: &Path, wanted: &Wanted, out
         let text = format!("it is {theirs_wide} x {theirs_high}, a frame of the run {width} x {height}");
         return picture::explain(path, Failure::Refused(text), out);
     }
-    let compared = run.compare(frame, &cells.levels, wanted.tolerance).and_then(|found| Ok((found, run.draw(frame)?.0)));
+    let compared =
+        run.compare(frame, &cells.levels, wanted.tolerance).and_then(|found| Ok((found, run.draw(frame)?.0)));
     let (found, ours) = match compared {
         Ok(compared) => compared,
         Err(failure) => return picture::explain(path, failure, out),

@@ -33,7 +33,11 @@ impl Form {
         match self {
             Form::File => {
                 let part = library::data_set(content);
-                if part.code == 0 { &content[part.start..] } else { &[] }
+                if part.code == 0 {
+                    &content[part.start..]
+                } else {
+                    &[]
+                }
             }
             Form::Bare => content,
         }

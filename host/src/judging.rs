@@ -17,7 +17,7 @@ use crate::files::{self, State};
 use crate::finding::{Choice, Finding, Found};
 use crate::found;
 use crate::head::{Form, Judged};
-use crate::keeping::{self, Kept, Keeping};
+use crate::keeping::{self, Keeping, Kept};
 use crate::looking::{self, Looked};
 use crate::output::{line, note, note_of, Object, Status};
 
@@ -34,6 +34,8 @@ pub struct Wanted {
     /// Whether the run's identity is told below its line, and whether the patient's is.
     pub long: bool,
     pub patient: bool,
+    /// Whether the sum of the searches is told of what is accepted.
+    pub searches: bool,
 }
 
 impl Wanted {
@@ -41,7 +43,19 @@ impl Wanted {
     pub fn of(named: Vec<PathBuf>, form: Form, jobs: usize) -> Result<Wanted, String> {
         let choice = Choice::of(&[], &[])?;
         let keeping = Keeping::default();
-        Ok(Wanted { named, form, choice, keeping, settle: None, timeout: None, json: false, jobs, long: false, patient: false })
+        Ok(Wanted {
+            named,
+            form,
+            choice,
+            keeping,
+            settle: None,
+            timeout: None,
+            json: false,
+            jobs,
+            long: false,
+            patient: false,
+            searches: false,
+        })
     }
 }
 
@@ -65,8 +79,11 @@ impl Report {
         }
     }
 
-    fn text(&self) -> String {
+    fn text(&self, searches: bool) -> String {
         let mut text = match &self.looked {
+            Looked::Judged(judged) if searches && judged.answer.code == 0 => {
+                format!("{}; {} rows looked at", judged.line(), judged.answer.searches)
+            }
             Looked::Judged(judged) => judged.line(),
             Looked::Other(_, what) => format!("not ours: {what}"),
             Looked::Arriving(why) => format!("arriving: {why}"),
@@ -99,7 +116,7 @@ impl Report {
                 object.put("verdict", "arriving");
                 object.put("error", why.as_str());
             }
-            Looked::Trouble(_) | Looked::Needs(_) => object.put_trouble(&self.text()),
+            Looked::Trouble(_) | Looked::Needs(_) => object.put_trouble(&self.text(false)),
         }
         self.kept.put_into(&mut object);
         object.line()
@@ -109,6 +126,7 @@ impl Report {
 fn put_judged(object: &mut Object, judged: &Judged, patient: bool) {
     let Judged { answer, item_row, start, hint, found, identity } = judged;
     object.put_answer(answer, Some(answer.rows));
+    object.put("searches", answer.searches);
     object.put("item_row", *item_row);
     if let Some(start) = start {
         object.put("start", *start);
@@ -150,7 +168,9 @@ impl<'a> Batch<'a> {
             return Some(String::from("it was written to while luux looked"));
         }
         let age = now.age();
-        (age < settle).then(|| format!("written to {:.0} seconds ago, and --settle asks for {}", age.as_secs_f64(), settle.as_secs_f64()))
+        (age < settle).then(|| {
+            format!("written to {:.0} seconds ago, and --settle asks for {}", age.as_secs_f64(), settle.as_secs_f64())
+        })
     }
 
     fn look(&self, number: usize, before: Option<State>, buffer: &mut RowBuffer) -> Looked {
@@ -295,6 +315,7 @@ struct Printing<'a> {
     json: bool,
     long: bool,
     patient: bool,
+    searches: bool,
     out: &'a mut dyn Write,
     bar: ProgressBar,
     waiting: BTreeMap<usize, Report>,
@@ -311,12 +332,12 @@ impl Printing<'_> {
             self.status = self.status.max(report.status());
             let path = &self.found[self.due].path;
             let (out, json) = (&mut self.out, self.json);
-            let (long, patient) = (self.long, self.patient);
+            let (long, patient, searches) = (self.long, self.patient, self.searches);
             self.due += 1;
             self.bar.suspend(|| match json {
                 true => out.write_all(report.json(path, patient).as_bytes()),
                 false => {
-                    line(*out, path, &report.text())?;
+                    line(*out, path, &report.text(searches))?;
                     out.write_all(if long { report.identity(patient) } else { String::new() }.as_bytes())
                 }
             })?;
@@ -377,6 +398,7 @@ pub fn run(wanted: &Wanted, out: &mut dyn Write) -> io::Result<Status> {
         json: wanted.json,
         long: wanted.long,
         patient: wanted.patient,
+        searches: wanted.searches,
         out,
         bar: progress(finding.found.len()),
         waiting: BTreeMap::new(),

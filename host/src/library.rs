@@ -228,9 +228,7 @@ pub fn show_file(file: &[u8], frame: u64, rows: &mut [u32], image: &mut [u8]) ->
 /// Writes the canonical form of a data set.
 pub fn canonical(data: &[u8], rows: &mut [u32], target: &mut [u8]) -> Rewritten {
     // Sound: as in `show`.
-    unsafe {
-        xa_canonical(data.as_ptr(), data.len(), rows.as_mut_ptr(), rows.len(), target.as_mut_ptr(), target.len())
-    }
+    unsafe { xa_canonical(data.as_ptr(), data.len(), rows.as_mut_ptr(), rows.len(), target.as_mut_ptr(), target.len()) }
 }
 
 /// Maps a frame of an accepted data set back to beam intensity.
@@ -245,16 +243,7 @@ pub fn linear(data: &[u8], frame: u64, rows: &mut [u32], values: &mut [u16]) -> 
 pub fn sheet(data: &[u8], first: u64, last: u64, rows: &mut [u32], sheet: &mut [u64]) -> Answer {
     // Sound: as in `show`.
     unsafe {
-        xa_sheet(
-            data.as_ptr(),
-            data.len(),
-            first,
-            last,
-            rows.as_mut_ptr(),
-            rows.len(),
-            sheet.as_mut_ptr(),
-            sheet.len(),
-        )
+        xa_sheet(data.as_ptr(), data.len(), first, last, rows.as_mut_ptr(), rows.len(), sheet.as_mut_ptr(), sheet.len())
     }
 }
 

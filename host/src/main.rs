@@ -162,6 +162,9 @@ enum Command {
         /// Print the patient's name, ID and birth date too, with --long or --json
         #[arg(long)]
         patient: bool,
+        /// Print how many rows judging is said to look at, where a run is accepted (docs/SEARCHES.md); --json always does
+        #[arg(long)]
+        searches: bool,
         /// How many files to judge at a time [default: as many as there are processors]
         #[arg(long, value_name = "N", value_parser = clap::value_parser!(u16).range(1..=256))]
         jobs: Option<u16>,
@@ -424,10 +427,25 @@ fn run(command: Command, out: &mut dyn Write) -> io::Result<Status> {
             let form = if tree { listing::Form::Tree } else { listing::Form::Numbers };
             listing::rows(&file, Form::of(bare), form, listing::Names::of(names, patient), out)
         }
-        Command::Judge { paths, bare, choosing, keeping, settle, timeout, json, long, patient, jobs } => {
+        Command::Judge { paths, bare, choosing, keeping, settle, timeout, json, long, patient, searches, jobs } => {
             let (choice, jobs) = (choosing.choice(), jobs.map_or_else(processors, usize::from));
             let form = Form::of(bare);
-            judging::run(&judging::Wanted { named: paths, form, choice, keeping, settle, timeout, json, jobs, long, patient }, out)
+            judging::run(
+                &judging::Wanted {
+                    named: paths,
+                    form,
+                    choice,
+                    keeping,
+                    settle,
+                    timeout,
+                    json,
+                    jobs,
+                    long,
+                    patient,
+                    searches,
+                },
+                out,
+            )
         }
         Command::Show { file, bare, frames, output, kind, both } => {
             if let Some(text) = frames::objection(output.as_deref(), frames) {

@@ -191,3 +191,9 @@ class Desk(unittest.TestCase):
         """The lines of a command, without what a refusal found unless that is asked for; it has tests of its own."""
         lines = self.luux(*words, **options).stdout.decode().splitlines()
         return lines if found else [re.sub(r" Found: .*?\.($|; moved to |; not moved |; its )", r"\1", line) for line in lines]
+
+    def check_json(self, one, answer):
+        """An object of --json tells these fields of an answer; whatever others it names are the answer's too."""
+        self.assertLessEqual({"code", "offset", "rows", "rule", "frame", "searches"}, one.keys())
+        named = {name: value for name, value in answer._asdict().items() if name in one}
+        self.assertEqual({name: one[name] for name in named}, named)

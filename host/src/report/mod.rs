@@ -173,7 +173,9 @@ impl Sent {
 /// The senders, those with the most refused runs first. A file that was not read, or is no run, has none.
 fn senders(entries: &[Entry]) -> Vec<Sent> {
     let mut all = std::collections::BTreeMap::<Sender, Vec<usize>>::new();
-    for (place, entry) in entries.iter().enumerate().filter(|(_, entry)| matches!(entry.end(), End::Accepted | End::Refused)) {
+    for (place, entry) in
+        entries.iter().enumerate().filter(|(_, entry)| matches!(entry.end(), End::Accepted | End::Refused))
+    {
         all.entry(entry.sender()).or_default().push(place);
     }
     let mut senders: Vec<Sent> = all.into_iter().map(|(sender, entries)| Sent { sender, entries }).collect();
