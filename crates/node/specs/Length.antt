@@ -15,4 +15,4 @@ use Rattle.node.specs.Find.{filled}
 -- Row i is an element's: an item's VR is 0.
 abbrev pub LengthNotZero : Type 0
 LengthNotZero = (s : List ℕ) (i : ℕ) → i < length (rowsOf s) → (rowAt (rowsOf s) i .vr ≡ 0 → ⊥)
-    → filled (nodesOf s) i ≡ not (eqb (rowAt (rowsOf s) i .size) 0)
+    → filled (nodesOf s) i ≡ not (eqb (rowAt (rowsOf s) i .offset) 0)
