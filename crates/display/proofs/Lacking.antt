@@ -9,7 +9,7 @@ use native.Mathlib.Omega.{arith}
 use lib.ListN.{length, length-append, drop}
 use lib.IntN.{ℤ, pos, _+ℤ_, _-ℤ_}
 use lib.Dec.{eqb, leb}
-use borrow.Author.Tests.{ne-eqb}
+use borrow.Author.Tests.{ne-eqb, le-leb}
 use Rattle.value.specs.declared.Num.{Num}
 use Rattle.value.specs.declared.Num.the-variants.{Is, Lacks}
 use Rattle.shift.specs.declared.Moves.{Moves}
@@ -88,10 +88,10 @@ pub some-bits : (b : ℕ) → 1 ≤ b → eqb b 0 ≡ false
 some-bits b h = ne-eqb b 0 (λ e. omega arith)
 
 pub masked-cell : (g : Geometry) → 1 ≤ g .stored → (v : List ℕ) (f : ℕ) (ks : List ℕ) (m : Moves) (w : Window) → Drawable w → (inverse : Bool) (i : ℕ)
-    → areInside g m i ≡ true → Cell (maskedCell g v f ks m w inverse i)
+    → 1 ≤ length ks → areInside g m i ≡ true → Cell (maskedCell g v f ks m w inverse i)
 unfolding maskedCell
-masked-cell g l v f ks m w d inverse i h =
-    rw (h, some-bits (g .stored) l)
+masked-cell g l v f ks m w d inverse i one h =
+    rw (le-leb 1 (length ks) one, h, some-bits (g .stored) l)
     (level-cell w d inverse (pos (sampleAt g v f i) -ℤ pos (blendedAt g v ks m i) +ℤ pos (2 ^ (g .stored - 1))))
 
 -- ---- The mask frames are frames
@@ -124,7 +124,7 @@ module _ (ns : List Node) (f : ℕ) (o : Object ns) (low : 1 ≤ f) (high : f �
           let c = collect-all (nativeCell (o .g) (o .v) f (w .w) (o .inverse)) (samplesOf (o .g)) (λ i h. native-cell (o .g) (o .v) f (w .w) (w .drawable) (o .inverse) i) in
           record { p = record { masked = false; samples = c .l }; is = e ∙ rw (c .is); size = c .size; levels = c .levels }
       go (maskBy ks mv) s e =
-          let c = collect-all (maskedCell (o .g) (o .v) f ks mv (w .w) (o .inverse)) (samplesOf (o .g)) (λ i h. masked-cell (o .g) (o .stored-low) (o .v) f ks mv (w .w) (w .drawable) (o .inverse) i (are-inside (o .g) mv i h)) in
+          let c = collect-all (maskedCell (o .g) (o .v) f ks mv (w .w) (o .inverse)) (samplesOf (o .g)) (λ i h. masked-cell (o .g) (o .stored-low) (o .v) f ks mv (w .w) (w .drawable) (o .inverse) i (s .0) (are-inside (o .g) mv i h)) in
           record { p = record { masked = true; samples = c .l }; is = e ∙ rw (are-frames (o .g) (o .v) (o .n) (o .whole) ks (s .1 .1 .0), c .is); size = c .size; levels = c .levels }
 
 -- ---- The size of the picture

@@ -11,6 +11,7 @@ use lib.Seq.{drop-cons, set-at}
 use lib.IntN.{ℤ, pos, negsuc, _+ℤ_, _-ℤ_}
 use native.Mathlib.Nat.{pow-suc}
 use lib.Pow.{pow-pos}
+use borrow.Author.Tests.{le-leb}
 use Rattle.value.specs.declared.Num.{Num}
 use Rattle.value.specs.declared.Num.the-variants.{Is, Lacks}
 use Rattle.shift.specs.declared.Moves.{Moves}
@@ -100,5 +101,5 @@ module _ (g : Geometry) (v : List ℕ) (f : ℕ) (low : 1 ≤ g .stored) (w : Wi
       let k : s + q - a < 2 ^ (g .stored + 1) - 1 = omega (arith, twice (g .stored), pow-pos (g .stored)) in
       let x : pos (s + q - a + p) -ℤ pos q ≡ pos s -ℤ pos a +ℤ pos p =
       same (pos (s + q - a + p) -ℤ pos q) (pos s -ℤ pos a +ℤ pos p) (s + q - a + p) q (gap (s + q - a + p) q) (shift (plus (gap s a) (whole p)) (s + q - a + p) q (omega arith)) in
-      rw (are-inside g mv i inside, some-bits (g .stored) low)
+      rw (le-leb 1 (length ks) one, are-inside g mv i inside, some-bits (g .stored) low)
       (shade-cell w d (g .stored) inverse (s + q - a) (pos s -ℤ pos a +ℤ pos p) x ∙ ap Is (sym (t .value (s + q - a) k)))

@@ -102,7 +102,7 @@ maskForBefore ns f = then (applyingTo ns f) (maskOnBefore ns f)
 
 unfoldable pub maskedCellBefore : Geometry → List ℕ → ℕ → List ℕ → Moves → Window → Bool → ℕ → Num
 maskedCellBefore g v f ks m w inverse i =
-    cond (ltb (sourceOf g m i) (samplesOf g))
+    cond (leb 1 (length ks) && ltb (sourceOf g m i) (samplesOf g))
     (shaded inverse
     (cond (eqb (g .stored) 0)
     (levelHalf w (pos (sampleAt g v f i) -ℤ pos (maskAt g v ks (sourceOf g m i))))

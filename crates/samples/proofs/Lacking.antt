@@ -29,7 +29,9 @@ use Rattle.pixel.specs.Pixel.{leBytes, isFrame, sampleAt, sumAt, averageOf, mas
 use Rattle.steps.specs.Given.{collect}
 use Rattle.steps.specs.Steps.{geometryOf, pixelsOf, groupFor, rangeHolds, firstHolding, applyingTo, averageFrames, offsetOf, tidFrame, naming, shiftFor, movesFor, maskBy, maskFor, windowIn, windowFor, inverseOf, nativeCell, maskedCell, areFrames, pictureBy, stepsOf}
 use Rattle.display.specs.Show.{pictureOf, acceptedAnswer, showOf, imageOf}
-use Rattle.samples.specs.Lacking.{Case, lacking}
+use Rattle.value.specs.declared.Num.the-variants.{Lacks}
+use Rattle.window.specs.declared.Window.{Window}
+use Rattle.samples.specs.Lacking.{Case, lacking, cellOfNoFrame}
 
 -- Each line is not accepted, and the steps give what it says.
 pub steps-lack : map (λ k. k .gives) lacking ≡ map (λ k. k .says) lacking
@@ -62,3 +64,8 @@ unfolding
     geometryOf pixelsOf groupFor rangeHolds firstHolding applyingTo averageFrames offsetOf tidFrame naming shiftFor movesFor maskBy maskFor windowIn windowFor inverseOf nativeCell maskedCell areFrames pictureBy stepsOf
     pictureOf acceptedAnswer showOf imageOf
 steps-lack = refl
+
+-- A cell that would divide by 0 lacks.
+pub cell-lacks : (w : Window) → cellOfNoFrame w ≡ Lacks
+unfolding maskedCell
+cell-lacks w = refl

@@ -10,10 +10,12 @@ use mathlib.Core.List.{List, [], _∷_, _++_}
 use mathlib.Core.Option.{Option, none, some}
 use Rattle.node.specs.Nodes.{nodesOf}
 use Rattle.conformance.specs.Judging.{judgeOf, fieldsOf}
-use Rattle.steps.specs.Steps.{Picture, stepsOf}
+use Rattle.steps.specs.Steps.{Picture, maskedCell, stepsOf}
+use Rattle.value.specs.declared.Num.{Num}
 use Rattle.value.specs.Text.{ascii}
+use Rattle.window.specs.declared.Window.{Window}
 use Rattle.samples.specs.Objects.{two, short, long, sequence, item, maskedBy}
-use Rattle.samples.specs.Samples.{manyRows}
+use Rattle.samples.specs.Samples.{manyRows, oneCell, unmoved}
 
 -- What judging says of a data set, and what the steps give at a frame.
 pub record Stepped : Type 0 where
@@ -177,3 +179,7 @@ lacking =
     -- "a divisor above 0 where it divides": the average of no frame
     ∷ lacks (withMask (average (numbers []))) 2
     ∷ []
+
+-- The cell itself lacks where it would divide by 0, whatever was read before it: a masked cell of frame 2, in any window, with no mask frame.
+abbrev pub cellOfNoFrame : Window → Num
+cellOfNoFrame w = maskedCell oneCell (90 ∷ 91 ∷ []) 2 [] unmoved w false 0

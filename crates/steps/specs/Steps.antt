@@ -203,10 +203,11 @@ inverseOf ns =
 unfoldable pub nativeCell : Geometry → List ℕ → ℕ → Window → Bool → ℕ → Num
 nativeCell g v f w inverse i = shaded inverse (levelOf w (pos (sampleAt g v f i)))
 
--- The four mask cells lie inside the picture. 2^(stored - 1) is 1/2 for 0 bits stored.
+-- The mask cells' average divides by the number of mask frames, which is above 0; and the four mask cells lie inside the picture.
+-- 2^(stored - 1) is 1/2 for 0 bits stored.
 unfoldable pub maskedCell : Geometry → List ℕ → ℕ → List ℕ → Moves → Window → Bool → ℕ → Num
 maskedCell g v f ks m w inverse i =
-    cond (areInside g m i)
+    cond (leb 1 (length ks) && areInside g m i)
     (shaded inverse
     (cond (eqb (g .stored) 0)
     (levelHalf w (pos (sampleAt g v f i) -ℤ pos (blendedAt g v ks m i)))

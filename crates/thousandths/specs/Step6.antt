@@ -3,7 +3,8 @@ use Prim.Native.Nat.{ℕ, zero, suc, _+_, _-_, _*_, _/_, _^_}
 use mathlib.Core.Bool.{Bool, true, false, cond, _&&_}
 use mathlib.Core.List.{List}
 use mathlib.Core.Option.{Option, none, some}
-use lib.Dec.{eqb}
+use lib.ListN.{length}
+use lib.Dec.{eqb, leb}
 use lib.IntN.{ℤ, pos, _+ℤ_, _-ℤ_, _*ℤ_}
 use lib.Signed.{leZ, ltZ}
 use Rattle.value.specs.declared.Num.{Num}
@@ -85,7 +86,7 @@ nativeCell g v f w inverse i = shaded inverse (levelOf w (pos (sampleAt g v f i)
 
 unfoldable pub maskedCell : Geometry → List ℕ → ℕ → List ℕ → Moves → Window → Bool → ℕ → Num
 maskedCell g v f ks m w inverse i =
-    cond (areInside g m i)
+    cond (leb 1 (length ks) && areInside g m i)
     (shaded inverse
     (cond (eqb (g .stored) 0)
     (levelHalf w (pos (sampleAt g v f i) -ℤ pos (blendedAt g v ks m i)))
