@@ -2,10 +2,7 @@
 
 import os
 import resource
-import struct
 import subprocess
-import tempfile
-import time
 import unittest
 
 from desk.common import FAILED, REFUSED, ROOT, SENTENCES, TOOL, Desk, good_run, with_head
@@ -16,7 +13,7 @@ OWN = 24 << 20  # what the tool takes besides, with the stacks of its threads
 WORST = 48 << 20  # bytes of the worst file in the gate; the largest there is has 1 GiB
 LARGEST = 1 << 30
 
-# One call of the library, with just the room that it needs: its seconds.
+# One call of the library, with just the room that it needs: its code, its rows and the processor's seconds.
 ONE_CALL = r"""
 #include <fcntl.h>
 #include <stdio.h>
@@ -34,9 +31,9 @@ int main(int count, char **words) {
     size_t room = atol(words[2]) * XA_ROW_NUMBERS;
     uint32_t *rows = malloc(room * 4);
     struct timespec start, end;
-    clock_gettime(CLOCK_MONOTONIC, &start);
+    clock_gettime(CLOCK_PROCESS_CPUTIME_ID, &start);
     xa_answer answer = xa_judge(data, about.st_size, rows, room);
-    clock_gettime(CLOCK_MONOTONIC, &end);
+    clock_gettime(CLOCK_PROCESS_CPUTIME_ID, &end);
     printf("%u %u %f\n", answer.code, answer.rows, end.tv_sec - start.tv_sec + (end.tv_nsec - start.tv_nsec) / 1e9);
     return count != 3;
 }
@@ -108,12 +105,14 @@ class TestMemory(Desk):
         return items + 1, os.path.getsize(self.path("worst.xa"))
 
     def judge_worst(self, size):
-        """Judges it under a limit of its bytes and its rows, and answers the seconds of that and of one call."""
+        """Judges it under a limit of its bytes and its rows, and answers the processor's seconds for that and for one call. The time on the
+        clock says more of what else the machine does."""
         rows, bytes_ = self.worst(size)
-        start = time.perf_counter()
+        before = resource.getrusage(resource.RUSAGE_CHILDREN)
         done = subprocess.run([TOOL, "judge", "--bare", "worst.xa", "--memory", str(bytes_ + rows * ROW)], cwd=self.folder, capture_output=True,
                               preexec_fn=limited(bytes_ + rows * ROW + OWN), timeout=400)
-        taken = time.perf_counter() - start
+        after = resource.getrusage(resource.RUSAGE_CHILDREN)
+        taken = after.ru_utime + after.ru_stime - before.ru_utime - before.ru_stime
         self.assertEqual(done.stdout.decode().splitlines()[0], f"worst.xa: rule 1, frame 0: {SENTENCES[1]}")
         self.put("call.c", ONE_CALL.encode())
         subprocess.run(["gcc", "-O2", "-I", os.path.join(ROOT, "include"), "-o", self.path("call"), self.path("call.c"),
@@ -126,14 +125,14 @@ class TestMemory(Desk):
     def test_the_worst_file(self):
         """Room for just its rows; in time, not much more than one call."""
         taken, call = min(self.judge_worst(WORST) for _ in range(2))
-        print(f"\n{WORST >> 20} MiB of headers: luux judge {taken:.2f} s, one call {call:.2f} s")
-        self.assertLess(taken, 2 * call + 0.5)
+        self.assertLess(taken, 1.5 * call + 0.1)
 
     @unittest.skipUnless(os.environ.get("LUUX_LARGE"), "5 GB of memory and a minute, with LUUX_LARGE=1")
     def test_the_worst_file_there_is(self):
-        taken, call = self.judge_worst(LARGEST)
+        # The first time the system has to find the memory.
+        taken, call = min(self.judge_worst(LARGEST) for _ in range(2))
         print(f"\n1 GiB of headers: luux judge {taken:.2f} s, one call {call:.2f} s")
-        self.assertLess(taken, 1.5 * call)
+        self.assertLess(taken, 1.5 * call)  # 1.2 is the aim; a shared machine adds to both
 
 
 __all__ = [name for name, one in list(globals().items()) if isinstance(one, type) and issubclass(one, unittest.TestCase) and one is not Desk]
