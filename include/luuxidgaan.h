@@ -27,11 +27,15 @@
 extern "C" {
 #endif
 
+/* The version of these calls. It goes up by one each time that a host which was made for the last one has to be made anew;
+ * calls that are only added leave it as it is. */
+#define XA_VERSION 1
+
 /* The most bytes that a data set may have. */
 #define XA_LARGEST 1073741824
 
 /* The numbers in a row. A row has at least 8 bytes in the data set, so a row buffer never needs more than
- * XA_ROW_NUMBERS x (size / 8) numbers. */
+ * XA_ROW_NUMBERS x (size / 8) numbers; `xa_count` says how many rows it has. */
 #define XA_ROW_NUMBERS 7
 
 /* The number of rules. */
@@ -95,6 +99,14 @@ typedef struct {
     uint32_t frame;
     uint32_t masked;
 } xa_answer;
+
+/* The version of the library, to be compared with XA_VERSION. */
+uint32_t xa_version(void);
+
+/* How many rows the data set has, so that a host can lend as much room at once as every other call needs: XA_ROW_NUMBERS x `rows`
+ * numbers. Code 0 and `rows`, or 1 to 7 as `xa_read` answers them. Nothing is written. It takes about half the time of `xa_read`.
+ */
+xa_answer xa_count(const uint8_t *data, size_t size);
 
 /* Reads the `size` bytes at `data` into rows, one for each element and item, in the order of the bytes.
  *

@@ -1,7 +1,9 @@
-"""Compares xa_read with the reference: answers, row buffers, and what must stay untouched."""
+"""Compares xa_read and xa_count with the reference: answers, row buffers, and what must stay untouched."""
 
 import mmap
+import os
 import random
+import re
 
 import objects
 import outside
@@ -28,6 +30,26 @@ def check_read(comparison, name, data, row_buffer_length):
     return outcome.answer
 
 
+def check_count(comparison, name, data):
+    """The rows counted, with no buffer lent."""
+
+    def difference(candidate):
+        found, fault = comparison.library.count(candidate)
+        expected = reading.count(candidate)
+        return fault if found == expected else f"xa_count answers {found}, expected {expected}"
+
+    comparison.check(f"{name}: count", data, difference)
+    comparison.note(("counted", reading.count(data).code))
+
+
+def check_version(comparison):
+    """The library says the version that its header has."""
+    header = os.path.join(os.path.dirname(os.path.abspath(__file__)), "..", "include", "luuxidgaan.h")
+    with open(header) as file:
+        version = int(re.search(r"^#define XA_VERSION (\d+)$", file.read(), re.MULTILINE).group(1))
+    comparison.must_equal("version", comparison.library.version(), version)
+
+
 def check_parents(comparison, name, numbers):
     """What Q-6 says of the last number, of rows that the library wrote as well."""
     table = parents.table_of(numbers)
@@ -36,7 +58,8 @@ def check_parents(comparison, name, numbers):
 
 
 def check_read_with_buffers(comparison, name, data, rng):
-    """A data set with row buffers one number short, exact and larger; a refused one with any length."""
+    """A data set counted, and read with row buffers one number short, exact and larger; a refused one with any length."""
+    check_count(comparison, name, data)
     answer = reading.read(data, enough_numbers(data)).answer
     if answer.code == 0:
         exact = NUMBERS_IN_A_ROW * answer.rows
@@ -188,6 +211,7 @@ def compare_many_rows(comparison, rng):
     many_elements = b"".join(objects.element(0x00100000 + number, "CS", b"") for number in range(50_000))
     for name, data in (("many items", many_items), ("many elements", objects.nest(rng, many_elements, 1))):
         exact = NUMBERS_IN_A_ROW * reading.read(data, enough_numbers(data)).answer.rows
+        check_count(comparison, name, data)
         for length in (exact - 1, exact, exact + 7):
             check_read(comparison, name, data, length)
 
@@ -203,6 +227,8 @@ def compare_size_limit(comparison):
     for name, size, head, expected in cases:
         memory = mmap.mmap(-1, size, flags=mmap.MAP_PRIVATE | mmap.MAP_ANONYMOUS)
         memory[:len(head)] = head
+        comparison.must_equal(f"{name}: count", comparison.library.count_on_mapping(memory), expected)
+        comparison.note(("counted", expected.code))
         for length in (0, NUMBERS_IN_A_ROW - 1, NUMBERS_IN_A_ROW, NUMBERS_IN_A_ROW + 3):
             outcome = reading.read(memory, length)
             if expected.code == 7 or length >= NUMBERS_IN_A_ROW:
@@ -236,6 +262,7 @@ def compare_outside(comparison, rng, required):
 
 def run(comparison, arguments):
     rng = random.Random(comparison.seed)
+    check_version(comparison)
     compare_samples(comparison, rng)
     compare_every_cut(comparison, rng)
     compare_codes_at_depths(comparison, rng, max(3, comparison.count // 400))
@@ -245,10 +272,11 @@ def run(comparison, arguments):
     compare_size_limit(comparison)
     line = compare_outside(comparison, rng, arguments.require_outside)
     comparison.insist([("code", code) for code in range(9)])
+    comparison.insist([("counted", code) for code in range(8)])
     comparison.insist([("code at depth", code, depth) for code in range(6) for depth in range(9)])
     comparison.insist([("steps", steps) for steps in (0, 2, *range(1, parents.MOST_STEPS + 1, 2))])
     return line
 
 
 if __name__ == "__main__":
-    run_as_program("read", ["xa_read"], 10_000, run)
+    run_as_program("read", ["xa_read", "xa_count", "xa_version"], 10_000, run)

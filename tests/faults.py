@@ -73,7 +73,23 @@ def last_number_of(rows, rows_length):
     return rows + 4 * rows_length - 4 if rows_length else None
 
 
+def counted_otherwise(**changes):
+    """A stand-in whose count answers something else where `changes` leave it different."""
+
+    def count(data):
+        answer = reading.count(data)
+        return answer._replace(**{name: function(answer) for name, function in changes.items()})
+
+    return StandIn(count=count)
+
+
 READ_FAULTS = {
+    "count of the numbers, not of the rows": counted_otherwise(rows=lambda a: NUMBERS_IN_A_ROW * a.rows),
+    "count of the rows at depth 0 alone": StandIn(count=lambda data: reading.count(data)._replace(
+        rows=sum(row[2] == 0 for row in table_of(reading.read(data, len(data)).rows)))),
+    "a refusal counted as 0 rows": counted_otherwise(code=lambda a: 0, offset=lambda a: 0),
+    "count refused a byte late": counted_otherwise(offset=lambda a: a.offset + (0 < a.code < 7)),
+    "another version": StandIn(version=2),
     "row count one more": StandIn(answer_changed(rows=lambda a: a.rows + (a.code == 0))),
     "row count told with code 8": StandIn(answer_changed(rows=lambda a: 1 if a.code == 8 else a.rows)),
     "code 4 told as 1": StandIn(answer_changed(code=lambda a: 1 if a.code == 4 else a.code)),

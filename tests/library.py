@@ -52,6 +52,8 @@ class PartStruct(ctypes.Structure):
 ROWS_NOT_KNOWN = 0xFFFFFFFF  # XA_ROWS_NOT_KNOWN of the header
 
 SIGNATURES = {
+    "xa_version": (ctypes.c_uint32, []),
+    "xa_count": (AnswerStruct, [ctypes.c_void_p, ctypes.c_size_t]),
     "xa_read": (AnswerStruct, [ctypes.c_void_p, ctypes.c_size_t, ctypes.c_void_p, ctypes.c_size_t]),
     "xa_judge": (AnswerStruct, [ctypes.c_void_p, ctypes.c_size_t, ctypes.c_void_p, ctypes.c_size_t]),
     "xa_show": (AnswerStruct, [ctypes.c_void_p, ctypes.c_size_t, ctypes.c_uint64, ctypes.c_void_p, ctypes.c_size_t,
@@ -195,6 +197,18 @@ class Library:
         if self.input is None or self.input.capacity < len(data):
             self.input = InputMemory(self.folder, max(1 << 16, 2 * len(data)))
         return self.input.place(data)
+
+    def version(self):
+        return int(self.functions["xa_version"]())
+
+    def count(self, data):
+        """What xa_count answers, and what is wrong with the input afterwards (None: nothing)."""
+        address = self._place(data)
+        return answer_of(self.functions["xa_count"](address, len(data))), self.input.fault()
+
+    def count_on_mapping(self, memory):
+        """The same of a large mapping (for the size limit); whether it changed is not looked at."""
+        return answer_of(self.functions["xa_count"](ctypes.addressof(ctypes.c_char.from_buffer(memory)), len(memory)))
 
     def call_with_rows(self, name, data, row_buffer_length):
         """xa_read, xa_judge, or one of these of a file: the answer, and the buffers to look at."""

@@ -9,6 +9,9 @@ from library import ROWS_NOT_KNOWN, AnswerStruct, ComparedStruct, PartStruct, Re
 from reference import canonical, comparing, drawing, files, intensity, reading, rules, sheet, slips
 
 
+VERSION = 1  # XA_VERSION of the header that the stand-in plays
+
+
 def write(address, content):
     ctypes.memmove(address, bytes(content), len(content))
 
@@ -32,7 +35,7 @@ class StandIn:
                  write_slip=slips.write_slip, read_slip=slips.read_slip, write_canonical=canonical.write_canonical,
                  data_set=files.data_set, read_file=files.read_file, judge_file=files.judge_file, show_file=files.show_file,
                  linear=intensity.linear, root_level=intensity.root_level, root_entry=intensity.root_entry,
-                 sample=sheet.sheet, compare=comparing.compare):
+                 sample=sheet.sheet, compare=comparing.compare, count=reading.count, version=VERSION):
         self.read = read
         self.judge = judge
         self.show = show
@@ -46,6 +49,8 @@ class StandIn:
         self.linear = linear
         self.sample = sample
         self.compare = compare
+        self.count = count
+        self.xa_version = lambda: version
         self.xa_root_level = root_level
         self.xa_root_entry = root_entry
         self.change = change or (lambda outcome, data: outcome)
@@ -65,6 +70,9 @@ class StandIn:
         write(image, outcome.image)
         self.after(outcome, data, rows, rows_length)
         return AnswerStruct(*outcome.answer)
+
+    def xa_count(self, data, size):
+        return AnswerStruct(*self.count(view(data, size)))
 
     def xa_read(self, *given):
         return self.with_rows(self.read, *given)

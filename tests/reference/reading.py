@@ -220,6 +220,12 @@ def read_with_elements(data, row_buffer_length):
     return Outcome(Answer(DONE, rows=len(rows)), rows=numbers), elements
 
 
+def count(data):
+    """How many rows there are: the answer of `read` with room for as many rows as so many bytes can have, a header having at least 8.
+    The papers have no such call."""
+    return read(data, NUMBERS_IN_A_ROW * (len(data) // 8)).answer
+
+
 def read(data, row_buffer_length):
     """The call `read`, with a row buffer of so many numbers."""
     outcome, _ = read_with_elements(data, row_buffer_length)

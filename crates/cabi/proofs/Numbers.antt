@@ -12,9 +12,10 @@ use lib.Seq.{ext-getD}
 use borrow.Author.Tests.{le-leb, lt-leb}
 use Rattle.dataset.specs.declared.ReadAnswer.{ReadAnswer}
 use Rattle.dataset.specs.declared.ReadAnswer.the-variants as readAnswer
-use Rattle.dataset.specs.Reading.{readingOf}
-use Rattle.dataset.specs.Answer.{answerOf}
+use Rattle.dataset.specs.Reading.{Reading, tooLarge, refusedAt, read as reads, readingOf}
+use Rattle.dataset.specs.Answer.{answerOf, countOf}
 use Rattle.dataset.proofs.Laws.{Small as SmallAnswer, answer-small}
+use Rattle.dataset.proofs.Tree.{Reads, reading-reads}
 use Rattle.verdict.specs.Verdict.{possible, writable}
 use Rattle.verdict.specs.declared.RowCount.{RowCount}
 use Rattle.verdict.specs.declared.RowCount.the-variants.{Known, NotKnown}
@@ -61,6 +62,14 @@ small-fits readAnswer.NoRoom m = record { code = omega arith; offset = omega ari
 
 pub read-fits : (s buffer : List ℕ) → ReadFits32 (answerOf (readingOf s) buffer)
 read-fits s buffer = small-fits (answerOf (readingOf s) buffer) (answer-small s buffer)
+
+count-small : (s : List ℕ) (o : Reading) → Reads s o → SmallAnswer (countOf o)
+count-small s tooLarge r = tt
+count-small s (refusedAt code offset) r = r
+count-small s (reads rows) r = r .small
+
+pub count-fits : (s : List ℕ) → ReadFits32 (countOf (readingOf s))
+count-fits s = small-fits (countOf (readingOf s)) (count-small s (readingOf s) (reading-reads s))
 
 -- ---- A judge's answer
 

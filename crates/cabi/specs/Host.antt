@@ -43,13 +43,17 @@ use Rattle.cabi.specs.declared.comparing.Compared.{Compared}
 use Rattle.cabi.specs.declared.rewritten.Rewritten.{Rewritten}
 use Rattle.cabi.specs.declared.slips.Slip.{Slip}
 
+-- The version of the calls for hosts: one more each time that a host which was made for the last one has to be made anew.
+abbrev pub version : ℕ
+version = 1
+
 -- An answer of which nothing but the code is named.
 abbrev pub codeAlone : ℕ → Answer
 codeAlone code = record { code = code; offset = 0; rows = 0; rule = 0; frame = 0; masked = 0 }
 
 -- ---- Reading, judging and drawing
 
--- The answer of `xa_read`: code, offset and number of rows. Reading knows no rule, frame or mask.
+-- The answer of `xa_read` and `xa_count`: code, offset and number of rows. Reading knows no rule, frame or mask.
 abbrev pub readAnswer : ReadAnswer → Answer
 readAnswer a = record {
   code = codeOf a;

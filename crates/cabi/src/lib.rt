@@ -11,7 +11,7 @@ mod show;
 mod slips;
 
 ghost use mathlib.Core.Path.{_≡_};
-ghost use Rattle.cabi.specs.Host.{codeAlone};
+ghost use Rattle.cabi.specs.Host.{codeAlone, version};
 pub use comparing::Compared;
 pub use comparing::xa_compare;
 pub use files::Part;
@@ -23,6 +23,7 @@ pub use judge::xa_judge;
 pub use measure::xa_linear;
 pub use measure::xa_root_entry;
 pub use measure::xa_root_level;
+pub use read::xa_count;
 pub use read::xa_read;
 pub use rewritten::Rewritten;
 pub use rewritten::xa_canonical;
@@ -41,6 +42,14 @@ pub struct Answer {
     pub rule: u32,
     pub frame: u32,
     pub masked: u32,
+}
+
+// The version of the calls for hosts, XA_VERSION of the header.
+#[no_mangle]
+pub extern "C" fn xa_version() -> u32
+    ensures { λ r. ⌜ r ≡ version ⌝ }
+{
+    1
 }
 
 // An answer of which nothing but the code is named.

@@ -4,7 +4,7 @@ use crate::code_alone;
 use dataset::ReadAnswer;
 ghost use mathlib.Core.Path.{_≡_};
 ghost use Rattle.dataset.specs.Reading.{readingOf};
-ghost use Rattle.dataset.specs.Answer.{answerOf, bufferOf};
+ghost use Rattle.dataset.specs.Answer.{answerOf, countOf, bufferOf};
 ghost use Rattle.cabi.specs.Host.{readAnswer, ReadFits32};
 
 // The answer as the struct for hosts.
@@ -41,4 +41,12 @@ pub extern "C" fn xa_read(bytes: &[u8], rows: &mut [u32]) -> Answer
     ensures { λ _. ⌜ now (rows .exit) ≡ bufferOf (readingOf (now (bytes .entry))) (now (rows .entry)) ⌝ }
 {
     read_numbers(dataset::read(bytes, rows))
+}
+
+// How many rows a data set has. No row is stored.
+#[no_mangle]
+pub extern "C" fn xa_count(bytes: &[u8]) -> Answer
+    ensures { λ r. ⌜ r ≡ readAnswer (countOf (readingOf (now (bytes .entry)))) ⌝ }
+{
+    read_numbers(dataset::count(bytes))
 }

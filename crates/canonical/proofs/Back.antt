@@ -237,7 +237,7 @@ abbrev inOf : Kind → ℕ → List ℕ → ℕ → ℕ → Cursor → Run
 inOf elements levels t n vr v = valueAt levels t n vr v
 inOf items levels t n vr v = elementsAt levels t n v
 
-ends : (t : List ℕ) (kind : Kind) (levels end least : ℕ) → headOf kind levels t end end least ≡ head.End end
+ends : (t : List ℕ) (kind : Kind) (levels end least : ℕ) → headOf kind levels t end end least ≡ head.End 0 0 (cursor end end false)
 unfolding headerBy when
 ends t elements levels end least = rw (eq-eqb end end refl)
 ends t items levels end least = rw (eq-eqb end end refl)
@@ -249,7 +249,7 @@ module _ (t : List ℕ) (small : length t ≤ largest) where
   ended kind levels first end least before (suc turns) h =
       record {
         rows = [];
-        is = level-end (headOf kind levels t end) (inOf kind levels t) (8 - levels) first turns end least before end (ends t kind levels end least)
+        is = level-end (headOf kind levels t end) (inOf kind levels t) (8 - levels) first turns end least before 0 0 (cursor end end false) (ends t kind levels end least)
             ∙ ap (done end end) (sym (append-nil before));
         nodes = refl;
       }

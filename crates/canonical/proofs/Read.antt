@@ -46,7 +46,7 @@ record Item (c : Cursor) (tag vr : ℕ) (v : Cursor) : Type 0 where
 abbrev Says : Kind → ℕ → ℕ → Cursor → Head → Type 0
 Says elements least levels c (head.Header tag vr v) = Element c least levels tag vr v
 Says items least levels c (head.Header tag vr v) = Item c tag vr v
-Says kind least levels c (head.End next) = (c .at ≤ next) × (next ≤ c .end)
+Says kind least levels c (head.End tag vr next) = (c .at ≤ next .at) × (next .at ≤ c .end)
 Says kind least levels c (head.Refused code) = Unit {0}
 
 module _ (kind : Kind) (least levels : ℕ) (c : Cursor) where
@@ -62,10 +62,10 @@ module _ (kind : Kind) (least levels : ℕ) (c : Cursor) where
       by-kind elements = tt
       by-kind items = tt
 
-  closes : (next : ℕ) → c .at ≤ next → next ≤ c .end → Says kind least levels c (head.End next)
-  closes next p q = by-kind kind
+  closes : (tag vr : ℕ) (next : Cursor) → c .at ≤ next .at → next .at ≤ c .end → Says kind least levels c (head.End tag vr next)
+  closes tag vr next p q = by-kind kind
     where
-      by-kind : (k : Kind) → Says k least levels c (head.End next)
+      by-kind : (k : Kind) → Says k least levels c (head.End tag vr next)
       by-kind elements = (p, q)
       by-kind items = (p, q)
 
@@ -73,13 +73,13 @@ module _ (kind : Kind) (least levels : ℕ) (c : Cursor) where
   unfolding delimiterBy
   delimiter-says tag due len p =
       by-test _ _ _
-      (λ _. by-test _ _ _ (λ _. by-test _ _ _ (λ _. closes (c .at + 8) (omega arith) p) (λ _. refuses 5)) (λ _. refuses 5))
+      (λ _. by-test _ _ _ (λ _. by-test _ _ _ (λ _. closes tag 0 (moved c (c .at + 8)) (omega arith) p) (λ _. refuses 5)) (λ _. refuses 5))
       (λ _. refuses 5)
 
   header-says : (h : Head) → (c .at + 8 ≤ c .end → Says kind least levels c h) → Says kind least levels c (headerBy c h)
   unfolding headerBy
   header-says h q =
-      by-test _ _ _ (λ e. by-test _ _ _ (λ _. refuses 1) (λ _. closes (c .at) (omega arith) (omega (arith, eqb-true (c .at) (c .end) e))))
+      by-test _ _ _ (λ e. by-test _ _ _ (λ _. refuses 1) (λ _. closes 0 0 c (omega arith) (omega (arith, eqb-true (c .at) (c .end) e))))
       (λ _. by-test _ _ _ (λ _. refuses 1) (λ k. q (omega (arith, ltb-false (c .end - c .at) 8 k))))
 
 module _ (c : Cursor) (least levels tag vr : ℕ) (up : least ≤ tag) (good : Tag tag) (known : formOf vr ≡ 0 → ⊥) (word : vr < 65536) where
@@ -216,7 +216,7 @@ record Grown (s : List ℕ) (kind : Kind) (levels least at end tag : ℕ) (new :
 abbrev Grows : List ℕ → Kind → ℕ → ℕ → ℕ → ℕ → Head → (ℕ → ℕ → Cursor → Run) → Type 0
 Grows s kind levels least at end (head.Header tag vr v) inside = (first n stop next : ℕ) (below : List Row) → inside n vr v ≡ done stop next below
     → Grown s kind levels least at end tag (row tag vr (8 - levels) (v .at) (stop - v .at) (length below) first ∷ below) next
-Grows s kind levels least at end (head.End next) inside = (at ≤ next) × (next ≤ end)
+Grows s kind levels least at end (head.End tag vr next) inside = (at ≤ next .at) × (next .at ≤ end)
 Grows s kind levels least at end (head.Refused code) inside = Unit {0}
 
 module _ (s : List ℕ) (kind : Kind) (levels end first : ℕ) (at-head : ℕ → ℕ → Head) (inside : ℕ → ℕ → Cursor → Run)
@@ -261,7 +261,7 @@ module _ (s : List ℕ) (kind : Kind) (levels end first : ℕ) (at-head : ℕ �
           (λ tag vr v. onRun (inside (first + length before + 1) vr v) (λ stop next below.
           level at-head inside (8 - levels) first turns next (tag + 1) (before ++ (row tag vr (8 - levels) (v .at) (stop - v .at) (length below) first ∷ below)))))
       on-head k (head.Refused code) g = tt
-      on-head k (head.End next) g =
+      on-head k (head.End tag vr next) g =
           record { rest = []; bytes = []; is = sym (append-nil before); shape = none; fits = omega arith; close = g .0; high = g .1 }
       on-head k (head.Header tag vr v) g = on-run k tag vr v (inside (first + length before + 1) vr v) (g first (first + length before + 1))
 
@@ -382,14 +382,14 @@ module _ (s : List ℕ) where
     element-grows : (levels : ℕ) → Deeper levels → (c : Cursor) (least : ℕ) → c .end ≤ length s → (h : Head) → Says elements least levels c h
         → Grows s elements levels least (c .at) (c .end) h (valueAt levels s)
     element-grows levels deeper c least room (head.Refused code) g = tt
-    element-grows levels deeper c least room (head.End next) g = g
+    element-grows levels deeper c least room (head.End tag vr next) g = g
     element-grows levels deeper c least room (head.Header tag vr v) g = value-grows levels deeper c least room tag vr v g (eqb vr SQ) refl
 
     member-grows : (levels : ℕ) → ((n : ℕ) (v : Cursor) → v .end ≤ length s → Makes s elements levels 0 (v .at) (v .end) [] (elementsAt levels s n v))
         → (c : Cursor) (least : ℕ) → c .end ≤ length s → (h : Head) → Says items least levels c h
         → Grows s items levels least (c .at) (c .end) h (λ n vr v. elementsAt levels s n v)
     member-grows levels inner c least room (head.Refused code) g = tt
-    member-grows levels inner c least room (head.End next) g = g
+    member-grows levels inner c least room (head.End tag vr next) g = g
     member-grows levels inner c least room (head.Header tag vr v) g = λ first n stop next below e.
         let m = done-of elements levels 0 (v .at) (v .end) [] (elementsAt levels s n v) (inner n v (omega (arith, g .high))) stop next below e in
         let i : Item c itemTag 0 v = record { tagged = refl; plain = refl; start = g .start; high = g .high } in

@@ -46,7 +46,7 @@ level-deep head inside depth first (suc turns) at least rows d k inner h =
         → RunDeep d (onHead x (λ code. refused code at) (λ next. done at next rows)
         (λ tag vr value. onRun (inside (first + length rows + 1) vr value) (λ stop next below. level head inside depth first turns next (tag + 1) (rows ++ (row tag vr depth (value .at) (stop - value .at) (length below) first ∷ below)))))
     by-head (heads.Refused code) go = tt
-    by-head (heads.End next) go = h
+    by-head (heads.End tag vr next) go = h
     by-head (heads.Header tag vr v) go = by-run (inside (first + length rows + 1) vr v) tag vr v (inner (first + length rows + 1) vr v) go
 
 pub value-deep : (levels d : ℕ) → d ≤ 9 - levels → (s : List ℕ) (first vr : ℕ) (v : Cursor) → RunDeep d (valueAt levels s first vr v)

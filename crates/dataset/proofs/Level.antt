@@ -98,9 +98,9 @@ module _ (head : ℕ → ℕ → Head) (inside : ℕ → ℕ → Cursor → Run)
   unfolding level
   level-refused code e = rw e
 
-  pub level-end : (next : ℕ) → head at least ≡ heads.End next → level head inside depth first (suc turns) at least rows ≡ done at next rows
+  pub level-end : (tag vr : ℕ) (next : Cursor) → head at least ≡ heads.End tag vr next → level head inside depth first (suc turns) at least rows ≡ done at (next .at) rows
   unfolding level
-  level-end next e = rw e
+  level-end tag vr next e = rw e
 
   pub level-stop : (tag vr code offset : ℕ) (v : Cursor) → head at least ≡ heads.Header tag vr v → inside (first + length rows + 1) vr v ≡ refused code offset
       → level head inside depth first (suc turns) at least rows ≡ refused code offset
@@ -145,7 +145,7 @@ level-grows head inside depth first (suc turns) at least rows stop next all e =
     by-head (heads.Refused code) go q =
         let z : _≡_ {A = ℕ} 0 1 = cc in
         absurd (omega arith)
-    by-head (heads.End next′) go q =
+    by-head (heads.End tag vr next′) go q =
         let f : rows ≡ all = cc in
         omega (arith, ap (λ (l : List Row). length l) f)
     by-head (heads.Header tag vr v) go q = by-run (inside (first + length rows + 1) vr v) tag vr v go q
@@ -200,16 +200,16 @@ module _ (head : ℕ → ℕ → Head) (inside : ℕ → ℕ → Cursor → Run)
       }
 
   module _ {buffer : List ℕ} {at n least : ℕ} (i : Here buffer at n least) where
-    pub ended-run : {next : ℕ} → head at least ≡ heads.End next → done at next (i .rows) ≡ o
-    ended-run {next} e =
+    pub ended-run : {tag vr : ℕ} {next : Cursor} → head at least ≡ heads.End tag vr next → done at (next .at) (i .rows) ≡ o
+    ended-run {tag} {vr} {next} e =
         let m = turn at least (i .rows) (i .turns) (i .high) (i .rest) (i .enough) in
-        sym (level-end head inside depth first (m .0) at least (i .rows) next e) ∙ m .1 .0
+        sym (level-end head inside depth first (m .0) at least (i .rows) tag vr next e) ∙ m .1 .0
 
-    pub ended : {next : ℕ} → head at least ≡ heads.End next → at ≤ next → next ≤ c .end → Walked o c first buffer₀ buffer (walk.Done at next n)
-    ended {next} e p q =
-        let d : done at next (i .rows) ≡ o = ended-run e in
-        subst (λ (x : Run). Walked x c first buffer₀ buffer (walk.Done at next n)) d
-        (record { is = ap (λ (k : ℕ). walk.Done at next k) (i .count); within = omega (arith, i .low, i .few); wrote = λ h. i .wrote (omega (arith, i .count)) })
+    pub ended : {tag vr : ℕ} {next : Cursor} → head at least ≡ heads.End tag vr next → at ≤ next .at → next .at ≤ c .end → Walked o c first buffer₀ buffer (walk.Done at (next .at) n)
+    ended {tag} {vr} {next} e p q =
+        let d : done at (next .at) (i .rows) ≡ o = ended-run e in
+        subst (λ (x : Run). Walked x c first buffer₀ buffer (walk.Done at (next .at) n)) d
+        (record { is = ap (λ (k : ℕ). walk.Done at (next .at) k) (i .count); within = omega (arith, i .low, i .few); wrote = λ h. i .wrote (omega (arith, i .count)) })
 
     pub refuses : {code : ℕ} → head at least ≡ heads.Refused code → (1 ≤ code) × (code ≤ 6) → Walked o c first buffer₀ buffer (walk.Refused code at)
     refuses {code} e p =

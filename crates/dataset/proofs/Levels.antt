@@ -14,7 +14,7 @@ use Rattle.dataset.specs.Header.{when, headerBy, delimiterBy, levelBy, d
 
 abbrev Leveled : ℕ → Head → Type 0
 Leveled levels (head.Header tag vr v) = vr ≡ SQ → 1 ≤ levels
-Leveled levels (head.End next) = Unit {0}
+Leveled levels (head.End tag vr next) = Unit {0}
 Leveled levels (head.Refused code) = Unit {0}
 
 module _ (levels : ℕ) where

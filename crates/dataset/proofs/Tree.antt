@@ -37,7 +37,7 @@ Named items least tag vr = (tag ≡ itemTag) × (vr ≡ 0)
 
 abbrev Moves : Kind → ℕ → Cursor → Head → Type 0
 Moves kind least c (head.Header tag vr v) = (c .at + 8 ≤ v .at) × ((v .at ≤ v .end) × ((v .end ≤ c .end) × Named kind least tag vr))
-Moves kind least c (head.End next) = (c .at ≤ next) × (next ≤ c .end)
+Moves kind least c (head.End tag vr next) = (c .at ≤ next .at) × (next .at ≤ c .end)
 Moves kind least c (head.Refused code) = (1 ≤ code) × (code ≤ 6)
 
 module _ (kind : Kind) (least : ℕ) (c : Cursor) where
@@ -199,7 +199,7 @@ module _ (size : ℕ) (kind : Kind) (depth first : ℕ) (header : ℕ → ℕ �
           (λ tag vr v. onRun (inside (first + length before + 1) vr v) (λ stop next below.
           level header inside depth first turns next (tag + 1) (before ++ (row tag vr depth (v .at) (stop - v .at) (length below) first ∷ below)))))
       on-head k (head.Refused code) m = (m .0, (m .1, (omega arith, h)))
-      on-head k (head.End next) m =
+      on-head k (head.End tag vr next) m =
           record { rest = []; is = sym (append-nil before); start = omega arith; close = m .0; high = m .1; few = omega (arith, m .0); forest = empty }
       on-head k (head.Header tag vr v) m =
           on-run k tag vr v (m .0) (m .1 .1 .0) (m .1 .1 .1) (inside (first + length before + 1) vr v)

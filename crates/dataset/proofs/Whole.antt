@@ -1,4 +1,4 @@
--- What `read` answers and leaves in its buffer, from what its walks along the whole data set say.
+-- What `read` answers and leaves in its buffer, and what `count` answers, from what their walks along the whole data set say.
 use mathlib.Core.Path.{_≡_, refl, ap, _∙_, subst}
 use Prim.Native.Nat.{ℕ, _+_, _*_, _/_, _≤_, _<_}
 use native.Mathlib.Omega.{arith}
@@ -13,7 +13,7 @@ use Rattle.dataset.specs.declared.ReadAnswer.{ReadAnswer}
 use Rattle.dataset.specs.declared.ReadAnswer.the-variants as answer
 use Rattle.dataset.specs.Header.{cursor}
 use Rattle.dataset.specs.Reading.{Run, done, elementsAt, whole, readingOf, largest}
-use Rattle.dataset.specs.Answer.{answerOf, bufferOf}
+use Rattle.dataset.specs.Answer.{answerOf, countOf, bufferOf}
 use Rattle.dataset.specs.Walk.{Walked, Wrote}
 use Rattle.dataset.proofs.Level.{below, stopped}
 use Rattle.dataset.proofs.Buffer.{rows-first}
@@ -55,3 +55,18 @@ module _ (s buffer : List ℕ) (h : length s ≤ largest) {part after : List ℕ
         let wrote : Wrote 0 (done stop next (b .rows)) buffer last = subst (λ (o : Run). Wrote 0 o buffer last) (b .is) (v .wrote) in
         rw (reading-small s h ∙ ap whole (b .is), le-leb (7 * length (b .rows)) (length buffer) room)
         (ap (λ (m : ℕ). answer.Done m) (omega (arith, b .count)), wrote (omega arith) ∙ rows-first buffer (b .rows) room)
+
+-- ---- What `count` answers
+
+pub uncounted : (s : List ℕ) → largest < length s → answer.TooLarge ≡ countOf (readingOf s)
+unfolding readingOf
+uncounted s h = rw (lt-ltb largest (length s) h) refl
+
+module _ (s : List ℕ) (h : length s ≤ largest) {part after : List ℕ} where
+  pub refused-count : {code offset : ℕ} → Walked (elementsAt 8 s 0 (all s)) (all s) 0 part after (walk.Refused code offset) → answer.Refused code offset ≡ countOf (readingOf s)
+  refused-count w = rw (reading-small s h ∙ ap whole (stopped (elementsAt 8 s 0 (all s)) w .0)) refl
+
+  pub counted : {stop next n : ℕ} → Walked (elementsAt 8 s 0 (all s)) (all s) 0 part after (walk.Done stop next n) → answer.Done n ≡ countOf (readingOf s)
+  counted w =
+      let b = below (elementsAt 8 s 0 (all s)) w in
+      rw (reading-small s h ∙ ap whole (b .is)) (ap (λ (m : ℕ). answer.Done m) (omega (arith, b .count)))

@@ -1,4 +1,4 @@
--- What `read` answers and what its row buffer then holds (document 01, "What is handed back"), and the paper's numbers
+-- What `read` and `count` answer, what the row buffer of `read` then holds (document 01, "What is handed back"), and the paper's numbers
 -- for each case of the answer.
 use Prim.Native.Nat.{ℕ, _*_}
 use mathlib.Core.List.{List, [], _∷_, _++_}
@@ -27,6 +27,12 @@ abbrev pub answerOf : Reading → List ℕ → ReadAnswer
 answerOf tooLarge buffer = TooLarge
 answerOf (refusedAt code offset) buffer = Refused code offset
 answerOf (read rows) buffer = cond (fits rows buffer) (Done (length rows)) NoRoom
+
+-- What `count` answers: 7, then 1 to 6, as `read`; then how many rows there are, whatever room they need.
+abbrev pub countOf : Reading → ReadAnswer
+countOf tooLarge = TooLarge
+countOf (refusedAt code offset) = Refused code offset
+countOf (read rows) = Done (length rows)
 
 -- The buffer afterwards: the rows, and untouched beyond them; untouched with codes 1 to 8.
 abbrev pub bufferOf : Reading → List ℕ → List ℕ

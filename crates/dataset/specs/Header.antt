@@ -1,5 +1,6 @@
 -- What stands at a cursor (document 01, "Checks at a header"): a header with the cursor moved onto its value, the end
--- of what is read with the offset after it, or a refusal's code. The checks stand in their order; the first that applies decides.
+-- of what is read with the cursor moved after it, or a refusal's code. An end has its delimiter's tag and VR 0, and 0 for both at a
+-- known end. The checks stand in their order; the first that applies decides.
 --
 -- A cursor is an offset, the innermost known end (data set or defined length), and whether what is read there has an
 -- undefined length, so that a delimiter (the paper's end mark) closes it.
@@ -45,7 +46,7 @@ moved c at = cursor at (c .end) (c .delimited)
 -- code 1. Check 1: fewer than 8 bytes.
 unfoldable pub headerBy : Cursor → Head → Head
 headerBy c head =
-    when (eqb (c .at) (c .end)) (when (c .delimited) (Refused 1) (End (c .at)))
+    when (eqb (c .at) (c .end)) (when (c .delimited) (Refused 1) (End 0 0 c))
     (when (ltb (c .end - c .at) 8) (Refused 1) head)
 
 -- Check 2: a delimiter closes where it is due, that is only where that length is undefined, and with length 0.
@@ -53,7 +54,7 @@ unfoldable pub delimiterBy : Cursor → ℕ → ℕ → ℕ → Head
 delimiterBy c tag due len =
     when (c .delimited)
     (when (eqb tag due)
-    (when (eqb len 0) (End (c .at + 8)) (Refused 5))
+    (when (eqb len 0) (End tag 0 (moved c (c .at + 8))) (Refused 5))
     (Refused 5))
     (Refused 5)
 

@@ -34,7 +34,7 @@ pub data Run : Type 0 where
 
 abbrev pub onHead : Head → (ℕ → Run) → (ℕ → Run) → (ℕ → ℕ → Cursor → Run) → Run
 onHead (Refused code) refuse stop go = refuse code
-onHead (End next) refuse stop go = stop next
+onHead (End tag vr next) refuse stop go = stop (next .at)
 onHead (Header tag vr value) refuse stop go = go tag vr value
 
 abbrev pub onRun : Run → (ℕ → ℕ → List Row → Run) → Run

@@ -23,7 +23,7 @@ FormsAfter first forms = (k : ℕ) → k < 32 → forms / 2 ^ (2 * k) % 4 ≡ fo
 -- A header moves on by 8 bytes at least and stays within the known end; a refusal has one of the codes 1 to 6.
 abbrev pub Within : Cursor → Head → Type 0
 Within c (head.Header tag vr value) = (c .at + 8 ≤ value .at) × ((value .at ≤ value .end) × ((value .end ≤ c .end) × ((tag < 4294967296) × (vr < 65536))))
-Within c (head.End next) = (c .at ≤ next) × (next ≤ c .end)
+Within c (head.End tag vr next) = (c .at ≤ next .at) × (next .at ≤ c .end)
 Within c (head.Refused code) = (1 ≤ code) × (code ≤ 6)
 
 abbrev pub told : ℕ → Run → Walk

@@ -9,7 +9,7 @@ ghost use Rattle.dataset.specs.Bytes.{le16, le32, tagAt, vrAt};
 ghost use Rattle.dataset.specs.Vr.{formOf};
 ghost use Rattle.dataset.specs.Header.{moved, delimiterBy, levelBy, definedBy, longBy, typedAt, taggedAt, sizedBy, memberAt, elementAt, itemAt};
 ghost use Rattle.dataset.specs.Reading.{elementsAt, itemsAt, readingOf, row};
-ghost use Rattle.dataset.specs.Answer.{answerOf, bufferOf, flat};
+ghost use Rattle.dataset.specs.Answer.{answerOf, countOf, bufferOf, flat};
 ghost use Rattle.dataset.specs.Walk.{FormsAfter, Within, Walked, LeafWalked, Ready};
 
 // The most bytes that a data set may have.
@@ -38,11 +38,12 @@ pub struct Cursor {
     pub delimited: bool,
 }
 
-// What stands at a cursor: a header's tag and VR, with the cursor moved onto its value; the end of what is read, with
-// the offset after it; or a refusal's code.
+// What stands at a cursor: a header's tag and VR, with the cursor moved onto its value; the end of what is read, with the cursor
+// moved after it; or a refusal's code. An end has the tag of its delimiter and VR 0, and 0 for both where the end was known. It has
+// the fields of a header, in their order, since the readers' loops are quicker so.
 pub enum Head {
     Header(usize, usize, Cursor),
-    End(usize),
+    End(usize, usize, Cursor),
     Refused(usize),
 }
 
@@ -60,7 +61,7 @@ pub enum Leaf {
     Nested,
 }
 
-// The answer of `read`: the number of rows; code and offset; code 7; code 8.
+// The answer of `read` and `count`: the number of rows; code and offset; code 7; code 8.
 pub enum ReadAnswer {
     Done(usize),
     Refused(usize, usize),
@@ -160,7 +161,7 @@ impl Cursor {
         if self.delimited {
             if tag == due {
                 if len == 0 {
-                    Head::End(self.at + 8)
+                    Head::End(tag, 0, self.moved(self.at + 8))
                 } else {
                     Head::Refused(5)
                 }
@@ -230,7 +231,7 @@ impl Cursor {
     }
 
     // Checks 4 to 8 of an element of the tag, VR and form, with the 16 bits after the VR.
-    fn typed(
+    pub fn typed(
         self,
         s: &[u8],
         tag: usize,
@@ -315,7 +316,7 @@ impl Cursor {
             return if self.delimited {
                 Head::Refused(1)
             } else {
-                Head::End(self.at)
+                Head::End(0, 0, self)
             };
         }
         if self.end - self.at < 8 {
@@ -334,7 +335,7 @@ impl Cursor {
             return if self.delimited {
                 Head::Refused(1)
             } else {
-                Head::End(self.at)
+                Head::End(0, 0, self)
             };
         }
         if self.end - self.at < 8 {
@@ -388,8 +389,8 @@ fn read_leaf(s: &[u8], c: Cursor, levels: usize, rows: &mut [u32], first: usize)
             Head::Refused(code) => {
                 return Leaf::Refused(code, at);
             }
-            Head::End(next) => {
-                return Leaf::Done(at, next, n);
+            Head::End(_, _, next) => {
+                return Leaf::Done(at, next.at, n);
             }
             Head::Header(tag, vr, value) => {
                 if vr == SQ {
@@ -411,7 +412,7 @@ fn read_leaf(s: &[u8], c: Cursor, levels: usize, rows: &mut [u32], first: usize)
 // and no more than 8 levels are permitted.
 
 // An item, or the whole data set, element by element.
-fn read_item(s: &[u8], c: Cursor, levels: usize, rows: &mut [u32], first: usize) -> Walk
+pub fn read_item(s: &[u8], c: Cursor, levels: usize, rows: &mut [u32], first: usize) -> Walk
     requires { ⌜ Ready (now s) c levels first (length (now rows)) ⌝ }
     ensures { λ r. ⌜ Walked (elementsAt levels (now (s .entry)) first c) c first (now (rows .entry)) (now (rows .exit)) r ⌝ }
 {
@@ -424,8 +425,8 @@ fn read_item(s: &[u8], c: Cursor, levels: usize, rows: &mut [u32], first: usize)
             Head::Refused(code) => {
                 return Walk::Refused(code, at);
             }
-            Head::End(next) => {
-                return Walk::Done(at, next, n);
+            Head::End(_, _, next) => {
+                return Walk::Done(at, next.at, n);
             }
             Head::Header(tag, vr, value) => {
                 let start = value.at;
@@ -454,7 +455,7 @@ fn read_item(s: &[u8], c: Cursor, levels: usize, rows: &mut [u32], first: usize)
 }
 
 // A sequence, item by item; `levels` more levels are permitted below its items. An item without sequences is read at once.
-pub fn read_sequence(s: &[u8], c: Cursor, levels: usize, rows: &mut [u32], first: usize) -> Walk
+fn read_sequence(s: &[u8], c: Cursor, levels: usize, rows: &mut [u32], first: usize) -> Walk
     requires { ⌜ Ready (now s) c levels first (length (now rows)) ⌝ }
     ensures { λ r. ⌜ Walked (itemsAt levels (now (s .entry)) first c) c first (now (rows .entry)) (now (rows .exit)) r ⌝ }
 {
@@ -466,8 +467,8 @@ pub fn read_sequence(s: &[u8], c: Cursor, levels: usize, rows: &mut [u32], first
             Head::Refused(code) => {
                 return Walk::Refused(code, at);
             }
-            Head::End(next) => {
-                return Walk::Done(at, next, n);
+            Head::End(_, _, next) => {
+                return Walk::Done(at, next.at, n);
             }
             Head::Header(tag, vr, item) => {
                 let start = item.at;
@@ -493,6 +494,26 @@ pub fn read_sequence(s: &[u8], c: Cursor, levels: usize, rows: &mut [u32], first
                 }
             }
         }
+    }
+}
+
+// How many rows a data set has, so that a caller can lend `read` as much room as it needs. No row is stored.
+pub fn count(bytes: &[u8]) -> ReadAnswer
+    ensures { λ r. ⌜ r ≡ countOf (readingOf (now (bytes .entry))) ⌝ }
+{
+    if LARGEST < bytes.len() {
+        return ReadAnswer::TooLarge;
+    }
+    let c = Cursor {
+        at: 0,
+        end: bytes.len(),
+        delimited: false,
+    };
+    let mut room = [0u32; 1];
+    let none: usize = 0;
+    match read_item(bytes, c, DEPTHS, &mut room[none..none], 0) {
+        Walk::Refused(code, offset) => ReadAnswer::Refused(code, offset),
+        Walk::Done(_, _, n) => ReadAnswer::Done(n),
     }
 }
 

@@ -112,7 +112,7 @@ module _ (s : List ℕ) (end : ℕ) where
     )
 
     module _ {none : List ℕ} {here : Cursor} {n least : ℕ} {found : Found} (k : Kept none₀ none here n least found) where
-      pub ended : {next : ℕ} → stands (here .at) least ≡ heads.End next → elements.Good found ≡ walkOf (elementsAt 8 s 0 from)
+      pub ended : {tag vr : ℕ} {next : Cursor} → stands (here .at) least ≡ heads.End tag vr next → elements.Good found ≡ walkOf (elementsAt 8 s 0 from)
       ended e =
           sym (ap elements.Good (k .1 .1 .0))
           ∙ ap walkOf (level.ended-run stands (valueAt 8 s) 0 (elementsAt 8 s 0 from) from 0 none₀ (k .1 .0) e)

@@ -9,9 +9,9 @@ ghost use Prim.Native.Nat.{_+_, _-_, _/_, _≤_};
 ghost use mathlib.Core.Bool.{cond, false};
 ghost use lib.ListN.{length};
 ghost use lib.Dec.{eqb};
-ghost use Rattle.dataset.specs.Reading.{elementsAt, valueAt};
-ghost use Rattle.dataset.specs.Header.{cursor};
-ghost use Rattle.dataset.specs.Walk.{Walked, Ready};
+ghost use Rattle.dataset.specs.Reading.{elementsAt, itemsAt, valueAt};
+ghost use Rattle.dataset.specs.Header.{cursor, elementAt};
+ghost use Rattle.dataset.specs.Walk.{Within, Walked, Ready};
 ghost use Rattle.meta.specs.Meta.{isMarked, hasGroupLength, endOf, headOf, uidAt, noted, named, headedOf, metaOf};
 ghost use Rattle.meta.specs.declared.Uid.the-variants.{At};
 ghost use Rattle.meta.specs.Said.{UidWithin, FoundWithin, walkOf, ElementsWithin, MetaWithin};
@@ -130,13 +130,75 @@ fn note(found: Found, tag: usize, vr: usize, start: usize, stop: usize) -> Found
     }
 }
 
-// What a value comes to whose rows are numbered from `first`, and stored only where there is room.
-fn past(file: &[u8], vr: usize, value: Cursor, rows: &mut [u32], first: usize) -> Walk
-    requires { ⌜ Ready (now file) value 7 first (length (now rows)) ⌝ }
-    ensures { λ r. ⌜ Walked (valueAt 8 (now (file .entry)) first vr value) value first (now (rows .entry)) (now (rows .exit)) r ⌝ }
+// What stands among the head's elements, where no delimiter is due: what `Cursor::element` says. The readers' loops are quicker with
+// that one for themselves.
+fn header(file: &[u8], c: Cursor, least: usize) -> Head
+    requires { ⌜ (c .at ≤ c .end) × ((c .end ≤ length (now file)) × (c .delimited ≡ false)) ⌝ }
+    ensures { λ r. ⌜ r ≡ elementAt (now (file .entry)) c least 8 ⌝ }
+    ensures { λ r. ⌜ Within c r ⌝ }
+{
+    if c.at == c.end {
+        return Head::End(0, 0, c);
+    }
+    if c.end - c.at < 8 {
+        return Head::Refused(1);
+    }
+    let tag = dataset::tag_at(file, c.at);
+    if tag / 65536 == 0xFFFE {
+        return Head::Refused(5);
+    }
+    if tag < least {
+        return Head::Refused(2);
+    }
+    let vr = dataset::vr_at(file, c.at + 4);
+    c.typed(
+        file,
+        tag,
+        vr,
+        dataset::vr_form(vr),
+        dataset::u16_at(file, c.at + 6),
+        DEPTHS,
+    )
+}
+
+// A sequence of the head, item by item. No room is lent for its rows, which are numbered from `first`.
+fn items(file: &[u8], c: Cursor, none: &mut [u32], first: usize) -> Walk
+    requires { ⌜ Ready (now file) c 7 first (length (now none)) × (length (now none) ≡ 0) ⌝ }
+    ensures { λ r. ⌜ Walked (itemsAt 7 (now (file .entry)) first c) c first (now (none .entry)) (now (none .exit)) r ⌝ }
+{
+    let mut here = c;
+    let mut n = first;
+    loop {
+        let at = here.at;
+        match here.item(file) {
+            Head::Refused(code) => {
+                return Walk::Refused(code, at);
+            }
+            Head::End(_, _, next) => {
+                return Walk::Done(at, next.at, n);
+            }
+            Head::Header(_, _, item) => {
+                match dataset::read_item(file, item, DEPTHS - 1, none, n + 1) {
+                    Walk::Refused(code, offset) => {
+                        return Walk::Refused(code, offset);
+                    }
+                    Walk::Done(_, next, m) => {
+                        here = here.moved(next);
+                        n = m;
+                    }
+                }
+            }
+        }
+    }
+}
+
+// What a value comes to.
+fn past(file: &[u8], vr: usize, value: Cursor, none: &mut [u32], first: usize) -> Walk
+    requires { ⌜ Ready (now file) value 7 first (length (now none)) × (length (now none) ≡ 0) ⌝ }
+    ensures { λ r. ⌜ Walked (valueAt 8 (now (file .entry)) first vr value) value first (now (none .entry)) (now (none .exit)) r ⌝ }
 {
     if vr == SQ {
-        dataset::read_sequence(file, value, DEPTHS - 1, rows, first)
+        items(file, value, none, first)
     } else {
         Walk::Done(value.end, value.end, first)
     }
@@ -161,11 +223,11 @@ fn along(file: &[u8], end: usize, none: &mut [u32]) -> Elements
         syntax: Uid::Lacks,
     };
     loop {
-        match here.element(file, least, DEPTHS) {
+        match header(file, here, least) {
             Head::Refused(_) => {
                 return Elements::Refused;
             }
-            Head::End(_) => {
+            Head::End(_, _, _) => {
                 return Elements::Good(found);
             }
             Head::Header(tag, vr, value) => {

@@ -5,15 +5,20 @@ use Rattle.dataset.proofs.Cursor.delimiter.Statement.{statement}
 use Rattle.dataset.proofs.Cursor.delimiter.Tie as tie
 use Rattle.dataset.proofs.Cursor.delimiter.Reads as reads
 use Rattle.dataset.proofs.Cursor.delimiter.Lts as lts
+use Rattle.dataset.proofs.Cursor.moved.Reads as moved-reads
 
--- src/lib.rt:150:31
-add-t11 : tie.Need-add-t11
-add-t11 c = search needs
+-- src/lib.rt:164:50
+add-moved : tie.Need-add-moved
+add-moved c = search needs
 
--- src/lib.rt:142:5
+-- src/lib.rt:164:40
+moved-requires : tie.Need-moved-requires
+moved-requires c κs = search needs
+
+-- src/lib.rt:155:5
 returns : tie.Need-returns
 unfolding delimiterBy
-returns c = (search checks depth 40 fits 4000, search needs)
+returns c = rw (c .moved .ensures) (search checks depth 40 fits 4000, search needs)
 
 -- src/lib.rt:142:5
 returns-2 : tie.Need-returns-2
@@ -31,4 +36,4 @@ unfolding delimiterBy
 returns-4 c = (search checks depth 40 fits 4000, search needs)
 
 pub delimiter-spec : {M : Type 1} → statement M
-delimiter-spec = tie.close (tie.spec add-t11 returns returns-2 returns-3 returns-4)
+delimiter-spec = tie.close (tie.spec add-moved moved-requires returns returns-2 returns-3 returns-4)

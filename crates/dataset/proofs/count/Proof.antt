@@ -1,0 +1,58 @@
+-- The walk is lent no room, so that it only counts.
+use Rattle.dataset.proofs.Level as level
+use Rattle.dataset.proofs.Whole as whole
+use borrow.Author.Needs.{needs}
+use Rattle.dataset.proofs.count.Statement.{statement}
+use Rattle.dataset.proofs.count.Tie as tie
+use Rattle.dataset.proofs.count.Reads as reads
+use Rattle.dataset.proofs.count.Lts as lts
+use Rattle.dataset.proofs.read_item.Reads as read-item-reads
+
+returns : tie.Need-returns
+returns c = whole.uncounted (c .before .before .args .bytes .now) (c .if1 .taken)
+
+mul-room : tie.Need-mul-room
+mul-room c = search needs
+
+sub-read-item : tie.Need-sub-read-item
+sub-read-item c = search needs
+
+part-room-start : tie.Need-part-room-start
+part-room-start c = search needs
+
+part-room-end : tie.Need-part-room-end
+part-room-end c = search needs
+
+read-item-requires : tie.Need-read-item-requires
+read-item-requires c κs = search needs
+
+enum-known-code : tie.Need-enum-known-code
+enum-known-code c = search needs
+
+enum-known-n : tie.Need-enum-known-n
+enum-known-n c = search needs
+
+returns-2 : tie.Need-returns-2
+returns-2 c =
+    whole.refused-count (c .before .before .before .before .before .before .before .before .args .bytes .now) (c .before .before .before .before .before .before .if1 .left)
+    (level.walked (c .before .code .given .1) (c .before .before .before .before .read-item .ensures))
+
+returns-3 : tie.Need-returns-3
+returns-3 c =
+    whole.counted (c .before .before .before .before .before .before .before .before .args .bytes .now) (c .before .before .before .before .before .before .if1 .left)
+    (level.walked (c .before .n .given .1) (c .before .before .before .before .read-item .ensures))
+
+pub count-spec : {M : Type 1} → statement M
+count-spec =
+    tie.close
+    (tie.spec
+    returns
+    mul-room
+    sub-read-item
+    part-room-start
+    part-room-end
+    read-item-requires
+    enum-known-code
+    enum-known-n
+    returns-2
+    returns-3)
