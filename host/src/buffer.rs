@@ -108,14 +108,20 @@ impl RowBuffer {
 
     /// Calls with room for the rows. Bytes that the room was made for before are not counted again; where others lie in their place
     /// by now, the library says so.
-    fn lend<A: Coded>(&mut self, form: Form, data: &[u8], mut call: impl FnMut(&[u8], &mut [u32]) -> A) -> Result<A, String> {
+    fn lend<A: Coded>(
+        &mut self,
+        form: Form,
+        data: &[u8],
+        mut call: impl FnMut(&[u8], &mut [u32]) -> A,
+    ) -> Result<A, String> {
         if self.enough == Some(place(data)) {
             let answer = call(data, self.memory.numbers_mut());
             if answer.code() != NO_ROOM {
                 return Ok(answer);
             }
         }
-        self.fit(form, data).map_err(|NoRoom(bytes)| format!("for its rows {}", memory::too_much(bytes, memory::limit())))?;
+        self.fit(form, data)
+            .map_err(|NoRoom(bytes)| format!("for its rows {}", memory::too_much(bytes, memory::limit())))?;
         Ok(call(data, self.memory.numbers_mut()))
     }
 

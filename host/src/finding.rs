@@ -33,7 +33,8 @@ impl Patterns {
     }
 
     fn match_path(&self, path: &Path) -> bool {
-        self.names.is_match(path.file_name().unwrap_or_default()) || self.paths.is_match(path.strip_prefix(".").unwrap_or(path))
+        self.names.is_match(path.file_name().unwrap_or_default())
+            || self.paths.is_match(path.strip_prefix(".").unwrap_or(path))
     }
 }
 
@@ -113,7 +114,11 @@ impl Finding {
                 Err(error) => {
                     let reason = error.io_error().map_or_else(|| error.to_string(), trouble);
                     let path = error.path().unwrap_or(path).to_path_buf();
-                    self.found.push(Found { path, unreadable: Some(format!("cannot be listed: {reason}")), named: false });
+                    self.found.push(Found {
+                        path,
+                        unreadable: Some(format!("cannot be listed: {reason}")),
+                        named: false,
+                    });
                 }
             }
         }

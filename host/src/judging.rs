@@ -15,7 +15,7 @@ use crate::buffer::RowBuffer;
 use crate::files::{self, State};
 use crate::finding::{Choice, Finding, Found};
 use crate::head::{Form, Judged};
-use crate::keeping::{self, Kept, Keeping};
+use crate::keeping::{self, Keeping, Kept};
 use crate::looking::{self, Looked};
 use crate::output::{line, note, note_of, Object, Status};
 
@@ -132,7 +132,9 @@ impl<'a> Batch<'a> {
             return Some(String::from("it was written to while luux looked"));
         }
         let age = now.age();
-        (age < settle).then(|| format!("written to {:.0} seconds ago, and --settle asks for {}", age.as_secs_f64(), settle.as_secs_f64()))
+        (age < settle).then(|| {
+            format!("written to {:.0} seconds ago, and --settle asks for {}", age.as_secs_f64(), settle.as_secs_f64())
+        })
     }
 
     fn look(&self, number: usize, before: Option<State>, buffer: &mut RowBuffer) -> Looked {

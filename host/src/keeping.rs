@@ -58,7 +58,10 @@ impl Keeping {
                 None => kept.aside = set_aside(&slip),
             }
         }
-        let folder = verdict.and_then(|answer| if answer.code == 0 { self.move_accepted.as_ref() } else { self.move_refused.as_ref() });
+        let folder =
+            verdict.and_then(
+                |answer| if answer.code == 0 { self.move_accepted.as_ref() } else { self.move_refused.as_ref() },
+            );
         // One whose slip is missing stays for the next time.
         if let (Some(folder), false) = (folder, kept.failed()) {
             let to = under(folder, path);

@@ -117,7 +117,10 @@ fn wait(mut child: Child, ends: Instant, limit: Duration) -> io::Result<Looked> 
         child.kill()?;
         // Where a disk hangs, the process stays until the disk answers. It is not waited for.
         child.wait_timeout(Duration::from_secs(1))?;
-        return Ok(Looked::Trouble(format!("took more than {} seconds, the --timeout; there is no verdict", limit.as_secs_f64())));
+        return Ok(Looked::Trouble(format!(
+            "took more than {} seconds, the --timeout; there is no verdict",
+            limit.as_secs_f64()
+        )));
     };
     let mut said = Vec::new();
     if let Some(mut pipe) = child.stdout.take() {

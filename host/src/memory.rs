@@ -123,5 +123,7 @@ pub fn bytes(text: &str) -> Result<u64, &'static str> {
         _ => return Err("a number of bytes, or one with K, M or G behind it, such as 800M"),
     };
     let number: Option<u64> = digits.parse().ok();
-    number.and_then(|number| number.checked_mul(factor)).ok_or("a number of bytes, or one with K, M or G behind it, such as 800M")
+    number
+        .and_then(|number| number.checked_mul(factor))
+        .ok_or("a number of bytes, or one with K, M or G behind it, such as 800M")
 }
