@@ -9,7 +9,7 @@ INSTALL ?= install
 
 name := luuxidgaan
 # A host that was made for one version runs with every later library of that version.
-version := $(or $(shell sed -n 's/^\#define XA_VERSION \([0-9]*\)$$/\1/p' include/$(name).h),0)
+version := $(shell sed -n 's/^\#define XA_VERSION \([0-9]*\)$$/\1/p' include/$(name).h)
 archive := target/staticlib/libcabi.a
 tool := host/target/release/luux
 built := target/install

@@ -50,6 +50,34 @@ extern "C" {
 /* The largest tolerance of `xa_compare`. */
 #define XA_TOLERANCE 255
 
+/* The codes, by name. */
+enum {
+    XA_DONE = 0,
+    XA_CUT_SHORT = 1,
+    XA_TAG_ORDER = 2,
+    XA_UNKNOWN_VR = 3,
+    XA_ODD_LENGTH = 4,
+    XA_OUT_OF_PLACE = 5,
+    XA_TOO_DEEP = 6,
+    XA_TOO_LARGE = 7,
+    XA_NO_ROOM_FOR_ROWS = 8,
+    XA_RULE_BROKEN = 9,
+    XA_NO_SUCH_FRAME = 10,
+    XA_NO_ROOM = 11,
+    XA_NOT_A_SLIP = 12,
+    XA_SLIP_VERSION = 13,
+    XA_IMPOSSIBLE_VERDICT = 14,
+    XA_NOT_A_FILE = 15,
+    XA_BAD_HEAD = 16,
+    XA_OTHER_TRANSFER_SYNTAX = 17,
+    XA_OTHER_SOP_CLASS = 18,
+    XA_FRAMES_REVERSED = 19,
+    XA_NO_TO_LINEAR = 20,
+    XA_NO_ROOM_FOR_TARGET = 21,
+    XA_CELL_COUNT = 22,
+    XA_TOLERANCE_TOO_LARGE = 23
+};
+
 /* What a call answers. Fields that the code does not name are 0.
  *
  *   code  meaning                                                              fields named

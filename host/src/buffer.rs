@@ -5,7 +5,7 @@
 //! half as long as reading it, and just so many are lent.
 
 use crate::head::Form;
-use crate::library::{self, Answer, Coded, Compared, Rewritten, ROW_WIDTH};
+use crate::library::{self, Answer, Coded, Compared, Memory, Rewritten, ROW_WIDTH};
 use crate::memory::{self, Granted};
 use crate::table::Table;
 
@@ -24,7 +24,7 @@ pub struct NoRoom(pub u64);
 /// Room for rows, used for one file after another.
 #[derive(Default)]
 pub struct RowBuffer {
-    numbers: Vec<u32>,
+    memory: Memory,
     /// What was granted for the rows beyond those that are kept.
     granted: Granted,
     /// Where the bytes are, and how many, that the room is known to be enough for.
@@ -78,8 +78,8 @@ impl RowBuffer {
 
     /// The first `rows` rows.
     pub fn table(&self, rows: u32) -> Table<'_> {
-        let end = (rows as usize).saturating_mul(ROW_WIDTH).min(self.numbers.len());
-        Table(&self.numbers[..end])
+        let end = (rows as usize).saturating_mul(ROW_WIDTH).min(self.memory.numbers().len());
+        Table(&self.memory.numbers()[..end])
     }
 
     /// Takes memory for rows that was granted before.
@@ -89,8 +89,8 @@ impl RowBuffer {
 
     /// Gives back what one large file needed.
     pub fn let_go(&mut self) {
-        if self.numbers.len() > KEPT * ROW_WIDTH {
-            self.numbers = Vec::new();
+        if self.memory.numbers().len() > KEPT * ROW_WIDTH {
+            self.memory = Memory::default();
         }
         self.granted = Granted::default();
         self.enough = None;
@@ -115,28 +115,27 @@ impl RowBuffer {
         mut call: impl FnMut(&[u8], &mut [u32]) -> A,
     ) -> Result<A, String> {
         if self.enough == Some(place(data)) {
-            let answer = call(data, &mut self.numbers);
+            let answer = call(data, self.memory.numbers_mut());
             if answer.code() != NO_ROOM {
                 return Ok(answer);
             }
         }
         self.fit(form, data)
             .map_err(|NoRoom(bytes)| format!("for its rows {}", memory::too_much(bytes, memory::limit())))?;
-        Ok(call(data, &mut self.numbers))
+        Ok(call(data, self.memory.numbers_mut()))
     }
 
     fn grow(&mut self, rows: usize) -> Result<(), NoRoom> {
-        let wanted = rows * ROW_WIDTH;
-        if wanted <= self.numbers.len() {
+        if rows * ROW_WIDTH <= self.memory.numbers().len() {
             return Ok(());
         }
+        let bytes = rows.max(KEPT) as u64 * ROW_BYTES;
         // What is in it is not needed, so nothing is copied.
-        self.numbers = Vec::new();
-        let no_room = NoRoom(rows as u64 * ROW_BYTES);
-        if rows > KEPT && !self.granted.grow_to(no_room.0) {
-            return Err(no_room);
+        self.memory = Memory::default();
+        if rows > KEPT && !self.granted.grow_to(bytes) {
+            return Err(NoRoom(bytes));
         }
-        self.numbers = library::zeros(wanted.max(KEPT * ROW_WIDTH)).ok_or(no_room)?;
+        self.memory = Memory::of(bytes as usize).map_err(|_| NoRoom(bytes))?;
         Ok(())
     }
 }

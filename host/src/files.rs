@@ -13,7 +13,7 @@ use std::time::{Duration, SystemTime};
 use rustix::fs::{cwd, renameat_with, RenameFlags};
 use rustix::io::Errno;
 
-use crate::library::Mapping;
+use crate::library::{Mapping, Memory};
 use crate::memory::Granted;
 
 /// Whether files are mapped. Otherwise they are read into memory of our own, which nobody else can change.
@@ -119,7 +119,7 @@ fn resting(file: &File) -> io::Result<Option<State>> {
 }
 
 enum Content {
-    Own(Vec<u8>),
+    Own(Memory),
     Mapped(Mapping),
 }
 
@@ -164,7 +164,7 @@ impl Opened {
 
     pub fn bytes(&self) -> &[u8] {
         match &self.content {
-            Content::Own(bytes) => bytes,
+            Content::Own(memory) => memory.bytes(),
             Content::Mapped(mapping) => mapping.bytes(),
         }
     }
@@ -184,15 +184,14 @@ impl Opened {
 }
 
 /// A copy of a file's bytes.
-fn private(file: &File, size: u64) -> Result<Vec<u8>, String> {
-    let mut bytes = Vec::new();
-    let room = usize::try_from(size).ok().and_then(|size| bytes.try_reserve_exact(size).ok());
-    room.ok_or_else(|| format!("cannot be read: there is no memory for {size} bytes"))?;
-    file.take(size).read_to_end(&mut bytes).map_err(|error| unread(&error))?;
-    match bytes.len() as u64 == size {
-        true => Ok(bytes),
-        false => Err(String::from(CHANGED)),
-    }
+fn private(mut file: &File, size: u64) -> Result<Memory, String> {
+    let memory = usize::try_from(size).ok().and_then(|size| Memory::of(size).ok());
+    let mut memory = memory.ok_or_else(|| format!("cannot be read: there is no memory for {size} bytes"))?;
+    file.read_exact(memory.bytes_mut()).map_err(|error| match error.kind() {
+        io::ErrorKind::UnexpectedEof => String::from(CHANGED),
+        _ => unread(&error),
+    })?;
+    Ok(memory)
 }
 
 /// The folder that a file stands in.

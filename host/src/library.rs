@@ -1,4 +1,4 @@
-//! The calls of the proved library that the tool makes, memory for rows, and the mapping of a file. All `unsafe` code of the host is here.
+//! The calls of the proved library that the tool makes, memory for files and rows, and the mapping of a file. All `unsafe` code of the host is here.
 //!
 //! `include/luuxidgaan.h` says what the calls answer. Of the caller they ask two things: each pointer has as many
 //! elements behind it as its size says, and buffers do not overlap. Slices are so: a shared slice is not changed while
@@ -6,7 +6,6 @@
 
 #![allow(unsafe_code)]
 
-use std::alloc::{alloc_zeroed, Layout};
 use std::fs::File;
 use std::io;
 
@@ -102,6 +101,7 @@ pub const ROW_WIDTH: usize = 7;
 pub const SHEET_NUMBERS: usize = 260;
 
 extern "C" {
+    fn xa_count(data: *const u8, size: usize) -> Answer;
     fn xa_read(data: *const u8, size: usize, rows: *mut u32, rows_len: usize) -> Answer;
     fn xa_judge(data: *const u8, size: usize, rows: *mut u32, rows_len: usize) -> Answer;
     fn xa_show(
@@ -175,16 +175,9 @@ pub fn read(data: &[u8], rows: &mut [u32]) -> Answer {
 
 /// How many rows a data set has; none where it does not read.
 pub fn count(data: &[u8]) -> usize {
-    let most = data.len() / 8;
-    let mut room = most.min(4096);
-    loop {
-        let mut rows = vec![0; room * ROW_WIDTH];
-        let answer = read(data, &mut rows);
-        if answer.code != 8 || room >= most {
-            return answer.rows as usize;
-        }
-        room = most.min(room * 2);
-    }
+    // Sound: the call reads within `data` alone and writes nothing.
+    let answer = unsafe { xa_count(data.as_ptr(), data.len()) };
+    answer.rows as usize
 }
 
 /// The verdict on a data set, and its rows.
@@ -276,30 +269,38 @@ pub fn read_slip(slip: &[u8]) -> Slip {
     unsafe { xa_read_slip(slip.as_ptr(), slip.len()) }
 }
 
-/// Zeros, if there is memory for them. Pages that nobody writes to take none.
-pub fn zeros(count: usize) -> Option<Vec<u32>> {
-    if count == 0 {
-        return Some(Vec::new());
-    }
-    let layout = Layout::array::<u32>(count).ok()?;
-    // Sound: the layout is not empty; memory that was allocated by it is that of a vector of as many numbers, all of them zero.
-    unsafe {
-        let start = alloc_zeroed(layout).cast::<u32>();
-        (!start.is_null()).then(|| Vec::from_raw_parts(start, count, count))
-    }
-}
+/// Memory of our own that no allocator keeps: it goes back to the system as soon as it is dropped, and pages that nobody writes to
+/// take none. It is all zeros at first.
+#[derive(Default)]
+pub struct Memory(Option<memmap2::MmapMut>);
 
-/// The parameter of `mallopt` from which size on memory is taken from the system by itself, and given back to it when it is freed.
-const M_MMAP_THRESHOLD: i32 = -3;
-
-/// Has memory for files and rows go back to the system as soon as it is freed. By itself the allocator keeps tens of megabytes for each
-/// thread, beyond what `--memory` allows.
-pub fn give_memory_back() {
-    extern "C" {
-        fn mallopt(parameter: i32, value: i32) -> i32;
+impl Memory {
+    /// So many bytes, if there is memory for them.
+    pub fn of(size: usize) -> io::Result<Memory> {
+        if size == 0 {
+            return Ok(Memory(None));
+        }
+        Ok(Memory(Some(memmap2::MmapMut::map_anon(size)?)))
     }
-    // Sound: the call of glibc takes two numbers and changes how later calls of the allocator work, not what they promise.
-    unsafe { mallopt(M_MMAP_THRESHOLD, 1 << 18) };
+
+    pub fn bytes(&self) -> &[u8] {
+        self.0.as_deref().unwrap_or(&[])
+    }
+
+    pub fn bytes_mut(&mut self) -> &mut [u8] {
+        self.0.as_deref_mut().unwrap_or(&mut [])
+    }
+
+    /// The same bytes as numbers.
+    pub fn numbers(&self) -> &[u32] {
+        // Sound: any four bytes are a number. Pages start at multiples of four, so no byte is left over in front.
+        unsafe { self.bytes().align_to().1 }
+    }
+
+    pub fn numbers_mut(&mut self) -> &mut [u32] {
+        // Sound: as above.
+        unsafe { self.bytes_mut().align_to_mut().1 }
+    }
 }
 
 /// The bytes of a file, without a copy of them.

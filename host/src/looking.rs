@@ -4,7 +4,7 @@ use std::io::{self, Read, Write};
 use std::os::unix::process::{CommandExt, ExitStatusExt};
 use std::path::Path;
 use std::process::{Child, Command, Stdio};
-use std::time::{Duration, Instant};
+use std::time::Duration;
 
 use serde::{Deserialize, Serialize};
 use wait_timeout::ChildExt;
@@ -72,9 +72,8 @@ pub fn here(path: &Path, form: Form, buffer: &mut RowBuffer) -> Looked {
     Looked::Trouble(format!("cannot be judged: there is no memory for its rows, {more} bytes"))
 }
 
-/// Looks at a file in a process of its own, for so long at most.
+/// Looks at a file in a process of its own, for so long at most. The time begins when there is memory for it.
 pub fn within(limit: Duration, path: &Path, form: Form) -> Looked {
-    let ends = Instant::now() + limit;
     // One that cannot be asked is told by the other process.
     let size = State::at(path).map_or(0, |state| state.size());
     let own = if files::are_mapped() { 0 } else { size };
@@ -88,7 +87,7 @@ pub fn within(limit: Duration, path: &Path, form: Form) -> Looked {
         if let Err(trouble) = &granted {
             return Looked::Trouble(format!("cannot be read: {trouble}"));
         }
-        match start(path, form, bytes).and_then(|child| wait(child, ends, limit)) {
+        match start(path, form, bytes).and_then(|child| wait(child, limit)) {
             Ok(Looked::Needs(more)) => bytes = more,
             Ok(looked) => return looked,
             Err(error) => return Looked::Trouble(format!("cannot be judged in a process of its own: {error}")),
@@ -112,8 +111,8 @@ fn start(path: &Path, form: Form, bytes: u64) -> io::Result<Child> {
 }
 
 /// What the other process says. It says little, which fits into the pipe.
-fn wait(mut child: Child, ends: Instant, limit: Duration) -> io::Result<Looked> {
-    let Some(status) = child.wait_timeout(ends.saturating_duration_since(Instant::now()))? else {
+fn wait(mut child: Child, limit: Duration) -> io::Result<Looked> {
+    let Some(status) = child.wait_timeout(limit)? else {
         child.kill()?;
         // Where a disk hangs, the process stays until the disk answers. It is not waited for.
         child.wait_timeout(Duration::from_secs(1))?;

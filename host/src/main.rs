@@ -522,7 +522,6 @@ fn main() -> ExitCode {
     let arguments = Arguments::parse();
     memory::limit_to(arguments.lending.memory.unwrap_or_else(memory::quarter));
     files::start(arguments.lending.map);
-    library::give_memory_back();
     let mut out = io::stdout().lock();
     let ended = run(arguments.command, &mut out).and_then(|status| out.flush().map(|()| status));
     let status = ended.unwrap_or_else(|error| {

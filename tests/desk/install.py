@@ -23,6 +23,7 @@ int main(void) {
     uint32_t rows[XA_ROW_NUMBERS];
     xa_answer a = xa_read(data, sizeof data, rows, XA_ROW_NUMBERS);
     printf("code %u rows %u tag %08X\n", a.code, a.rows, rows[0]);
+    return xa_version() != XA_VERSION || xa_count(data, sizeof data).rows != 1;
 }
 """
 
@@ -46,8 +47,8 @@ class TestInstall(Desk):
         self.run_quietly("make", "-C", ROOT, "install", *words, env={"PATH": tools})
         prefix = os.path.join(root, "opt", "xa")
         with open(os.path.join(prefix, "include", "luuxidgaan.h"), encoding="utf-8") as file:
-            version = re.search(r"^#define XA_VERSION (\d+)$", file.read(), re.M)
-        shared = f"libluuxidgaan.so.{version[1] if version else 0}"
+            version = re.search(r"^#define XA_VERSION (\d+)$", file.read(), re.M)[1]
+        shared = f"libluuxidgaan.so.{version}"
         self.assertEqual(sorted(os.listdir(os.path.join(prefix, "lib"))), ["libluuxidgaan.a", "libluuxidgaan.so", shared, "pkgconfig"])
         self.assertIn(f"soname: [{shared}]", self.run_quietly("readelf", "-d", os.path.join(prefix, "lib", shared)))
         exported = self.run_quietly("nm", "-D", "--defined-only", os.path.join(prefix, "lib", shared)).split()[2::3]
@@ -72,6 +73,15 @@ class TestInstall(Desk):
         self.luux("judge", "run.dcm", tool=os.path.join(prefix, "bin", "luux"), env={})
         self.run_quietly("make", "-C", ROOT, "uninstall", *words, env={"PATH": tools})
         self.assertEqual([name for _, _, names in os.walk(root) for name in names], [])
+
+    def test_constants(self):
+        """Each code has one name; the sizes are those of the tool's own reader."""
+        with open(os.path.join(ROOT, "include", "luuxidgaan.h"), encoding="utf-8") as file:
+            header = file.read()
+        codes = [int(code) for code in re.findall(r"^    XA_\w+ = (\d+),?$", header, re.M)]
+        self.assertEqual(codes, list(range(24)))
+        for language in ("c", "c++") if shutil.which("g++") else ("c",):
+            subprocess.run(["gcc", "-x", language, "-Wall", "-Wextra", "-Werror", "-fsyntax-only", "-"], input=header.encode(), check=True)
 
     def stack_of(self, data, frame):
         """What each call takes of the stack for a data set."""

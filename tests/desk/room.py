@@ -2,10 +2,7 @@
 
 import os
 import resource
-import struct
 import subprocess
-import tempfile
-import time
 import unittest
 
 from desk.common import FAILED, REFUSED, ROOT, SENTENCES, TOOL, Desk, good_run, with_head
@@ -16,7 +13,8 @@ OWN = 24 << 20  # what the tool takes besides, with the stacks of its threads
 WORST = 48 << 20  # bytes of the worst file in the gate; the largest there is has 1 GiB
 LARGEST = 1 << 30
 
-# One call of the library, with just the room that it needs: its seconds.
+# A host that reads a file and makes one call with just the room that it needs: code, rows, and the processor's seconds for both and for
+# the call alone.
 ONE_CALL = r"""
 #include <fcntl.h>
 #include <stdio.h>
@@ -34,10 +32,11 @@ int main(int count, char **words) {
     size_t room = atol(words[2]) * XA_ROW_NUMBERS;
     uint32_t *rows = malloc(room * 4);
     struct timespec start, end;
-    clock_gettime(CLOCK_MONOTONIC, &start);
+    clock_gettime(CLOCK_PROCESS_CPUTIME_ID, &start);
     xa_answer answer = xa_judge(data, about.st_size, rows, room);
-    clock_gettime(CLOCK_MONOTONIC, &end);
-    printf("%u %u %f\n", answer.code, answer.rows, end.tv_sec - start.tv_sec + (end.tv_nsec - start.tv_nsec) / 1e9);
+    clock_gettime(CLOCK_PROCESS_CPUTIME_ID, &end);
+    double begun = start.tv_sec + start.tv_nsec / 1e9, ended = end.tv_sec + end.tv_nsec / 1e9;
+    printf("%u %u %f %f\n", answer.code, answer.rows, ended, ended - begun);
     return count != 3;
 }
 """
@@ -108,32 +107,34 @@ class TestMemory(Desk):
         return items + 1, os.path.getsize(self.path("worst.xa"))
 
     def judge_worst(self, size):
-        """Judges it under a limit of its bytes and its rows, and answers the seconds of that and of one call."""
+        """Judges it under a limit of its bytes and its rows, and answers the processor's seconds for that, for a host that reads it and makes
+        one call, and for the call alone. The time on the clock says more of what else the machine does."""
         rows, bytes_ = self.worst(size)
-        start = time.perf_counter()
+        before = resource.getrusage(resource.RUSAGE_CHILDREN)
         done = subprocess.run([TOOL, "judge", "--bare", "worst.xa", "--memory", str(bytes_ + rows * ROW)], cwd=self.folder, capture_output=True,
                               preexec_fn=limited(bytes_ + rows * ROW + OWN), timeout=400)
-        taken = time.perf_counter() - start
+        after = resource.getrusage(resource.RUSAGE_CHILDREN)
+        taken = after.ru_utime + after.ru_stime - before.ru_utime - before.ru_stime
         self.assertEqual(done.stdout.decode().splitlines()[0].split(" Found: ")[0], f"worst.xa: rule 1, frame 0: {SENTENCES[1]}")
         self.put("call.c", ONE_CALL.encode())
         subprocess.run(["gcc", "-O2", "-I", os.path.join(ROOT, "include"), "-o", self.path("call"), self.path("call.c"),
                         os.path.join(ROOT, "target", "staticlib", "libcabi.a")], check=True)
-        code, found, seconds = subprocess.run([self.path("call"), self.path("worst.xa"), str(rows)], check=True, capture_output=True, text=True,
+        code, found, host, call = subprocess.run([self.path("call"), self.path("worst.xa"), str(rows)], check=True, capture_output=True, text=True,
                                               timeout=400).stdout.split()
         self.assertEqual((int(code), int(found)), (9, rows))
-        return taken, float(seconds)
+        return taken, float(host), float(call)
 
     def test_the_worst_file(self):
         """Room for just its rows; in time, not much more than one call."""
-        taken, call = min(self.judge_worst(WORST) for _ in range(2))
-        print(f"\n{WORST >> 20} MiB of headers: luux judge {taken:.2f} s, one call {call:.2f} s")
-        self.assertLess(taken, 2 * call + 0.5)
+        taken, host, _ = min(self.judge_worst(WORST) for _ in range(2))
+        self.assertLess(taken, 1.2 * host + 0.1)
 
     @unittest.skipUnless(os.environ.get("LUUX_LARGE"), "5 GB of memory and a minute, with LUUX_LARGE=1")
     def test_the_worst_file_there_is(self):
-        taken, call = self.judge_worst(LARGEST)
-        print(f"\n1 GiB of headers: luux judge {taken:.2f} s, one call {call:.2f} s")
-        self.assertLess(taken, 1.5 * call)
+        # The first time the system has to find the memory.
+        taken, host, call = min(self.judge_worst(LARGEST) for _ in range(2))
+        print(f"\n1 GiB of headers: luux judge {taken:.2f} s of the processor, reading and one call {host:.2f} s, the call {call:.2f} s")
+        self.assertLess(taken, 1.2 * host)
 
 
 __all__ = [name for name, one in list(globals().items()) if isinstance(one, type) and issubclass(one, unittest.TestCase) and one is not Desk]

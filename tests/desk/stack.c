@@ -39,9 +39,7 @@ static void do_write_slip(void) {
     code = xa_write_slip(verdict, 1, target, 17);
 }
 static void do_read_slip(void) { code = xa_read_slip(target, 17).code; }
-#ifdef XA_VERSION
 static void do_count(void) { code = xa_count(data, data_size).code; }
-#endif
 
 static void *start(void *call) {
     ((void (*)(void))call)();
@@ -89,9 +87,7 @@ int main(int count, char **words) {
         {"xa_read", do_read}, {"xa_judge", do_judge}, {"xa_show", do_show}, {"xa_data_set", do_data_set}, {"xa_read_file", do_read_file},
         {"xa_judge_file", do_judge_file}, {"xa_show_file", do_show_file}, {"xa_sheet", do_sheet}, {"xa_compare", do_compare},
         {"xa_canonical", do_canonical}, {"xa_linear", do_linear}, {"xa_write_slip", do_write_slip}, {"xa_read_slip", do_read_slip},
-#ifdef XA_VERSION
         {"xa_count", do_count},
-#endif
     };
     size_t own = touched(nothing);
     for (size_t place = 0; place < sizeof calls / sizeof *calls; place++) {
