@@ -29,7 +29,7 @@ from reference.answers import Answer  # noqa: E402
 
 BATCH = 250  # files that one luux judge gets
 HEAD = len(with_head(b""))
-FIELDS = ("code", "offset", "rows", "rule", "frame")
+FIELDS = ("code", "offset", "rows", "rule", "frame", "searches")
 
 
 def changed(rng, data, others):
@@ -121,7 +121,7 @@ class Fuzz(Desk):
         self.assertEqual([one["path"] for one in objects], [f"runs/{number:03d}" for number in range(len(contents))])
         for one, content in zip(objects, contents):
             answer = (rules.judge if bare else files.judge_file)(content, LARGE).answer
-            self.assertEqual(Answer(*(one[name] for name in FIELDS)), answer, content.hex())
+            self.assertEqual(Answer(**{name: one[name] for name in FIELDS}), answer, content.hex())
             accepted = answer.code == 0
             self.assertEqual(one["verdict"] == "accepted", accepted)
             self.assertEqual("slip" in one, answer.code < 15 and one["verdict"] != "not ours")
