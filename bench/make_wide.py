@@ -230,7 +230,7 @@ def root_low(size):
 
 def root_middle(size):
     """Root elements below the functional groups and the pixel data."""
-    return data_set(1, b"", item(CONTENT), middle=headers(tags(size // 8)[1] or range(HIGH, HIGH + size // 8), PLAIN))
+    return data_set(1, b"", item(CONTENT), middle=headers(range(HIGH, HIGH + size // 8), PLAIN))
 
 
 def root_sequences(size):

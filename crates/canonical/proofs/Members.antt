@@ -67,6 +67,15 @@ module _ (ns : List Node) (i : ℕ) (h : i < length ns) where
             ∙ ap (λ (u : List Node). sets t at (writtenOf u)) (sym drops);
       }
 
+  -- A node with nothing below it.
+  pub wrote-leaf : {t t₁ t₂ : List ℕ} {at inside next tag vr : ℕ} {value : List ℕ}
+      → tag ≡ node .tag → vr ≡ node .vr → value ≡ node .value → next ≡ i + 1 + node .descendants → next ≡ i + 1 → inside ≡ at + headSize vr
+      → Put t t₁ inside value → Put t₁ t₂ at (header tag vr (length value)) → Wrote ns t t₂ i at next (inside + length value)
+  wrote-leaf {t} {t₁} {t₂} {at} {inside} {next} {tag} {vr} {value} a b c e n f x y =
+      wrote-node a b c e f x refl
+      (subst (λ (k : ℕ). Wrote ns t₁ t₁ (i + 1) (inside + length value) k (inside + length value)) (sym n) (wrote-none ns t₁ (i + 1) (inside + length value)))
+      (omega arith) y (omega arith)
+
 pub wrote-all : {ns : List Node} {t t₁ : List ℕ} {n at : ℕ} → Wrote ns t t₁ 0 0 n at → n ≡ length ns → (at ≡ sizeOf ns) × Put t t₁ 0 (writtenOf ns)
 unfolding sizeOf writtenOf
 wrote-all {ns} {t} {t₁} {n} {at} w e =

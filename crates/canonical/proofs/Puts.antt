@@ -4,7 +4,7 @@ use mathlib.Core.Bool.{Bool, true, false, cond}
 use Prim.Native.Nat.{ℕ, suc, _+_, _/_, _%_, _≤_, _<_}
 use native.Mathlib.Omega.{arith}
 use native.Mathlib.Nat.{add-zero}
-use borrow.Author.Tests.{eq-eqb, ne-eqb}
+use borrow.Author.Tests.{eq-eqb, ne-eqb, eqb-true}
 use mathlib.Core.List.{List, _++_}
 use lib.ListN.{length, getD, set, drop, drop-of-length-le, length-set}
 use lib.Seq.{sets, drop-cons}
@@ -48,6 +48,14 @@ head-is vr f = rw f
 pub head-else : (vr : ℕ) → (formOf vr ≡ 2 → ⊥) → headSize vr ≡ 8
 unfolding headSize
 head-else vr f = rw (ne-eqb (formOf vr) 2 f)
+
+pub form-long : (vr : ℕ) → headSize vr ≡ 12 → formOf vr ≡ 2
+unfolding headSize
+form-long vr = go (eqb (formOf vr) 2) refl
+  where
+    go : (b : Bool) → eqb (formOf vr) 2 ≡ b → _≡_ {A = ℕ} (cond b 12 8) 12 → formOf vr ≡ 2
+    go true e h = eqb-true (formOf vr) 2 e
+    go false e h = absurd (omega (arith, h))
 
 pub head-least : (vr : ℕ) → 8 ≤ headSize vr
 unfolding headSize

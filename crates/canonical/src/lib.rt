@@ -52,16 +52,16 @@ fn head_size(vr: usize) -> usize
     if dataset::vr_form(vr) == 2 { 12 } else { 8 }
 }
 
-// What stands in a header after the tag.
-fn put_length(target: &mut [u8], at: usize, vr: usize, size: usize)
-    requires { ⌜ at + headSize vr ≤ length (now target) + 4 ⌝ }
+// What stands after the tag in a header of `head` bytes.
+fn put_length(target: &mut [u8], at: usize, vr: usize, head: usize, size: usize)
+    requires { ⌜ (head ≡ headSize vr) × (at + head ≤ length (now target) + 4) ⌝ }
     ensures { λ _. ⌜ Put (now (target .entry)) (now (target .exit)) at (lengthOf vr size) ⌝ }
 {
     if vr == 0 {
         put_u32(target, at, size)
     } else {
         put_letters(target, at, vr);
-        if dataset::vr_form(vr) == 2 {
+        if head == 12 {
             put_u16(target, at + 2, 0);
             put_u32(target, at + 4, size)
         } else {
@@ -70,13 +70,13 @@ fn put_length(target: &mut [u8], at: usize, vr: usize, size: usize)
     }
 }
 
-fn put_header(target: &mut [u8], at: usize, tag: usize, vr: usize, size: usize)
-    requires { ⌜ at + headSize vr ≤ length (now target) ⌝ }
+fn put_header(target: &mut [u8], at: usize, tag: usize, vr: usize, head: usize, size: usize)
+    requires { ⌜ (head ≡ headSize vr) × (at + head ≤ length (now target)) ⌝ }
     ensures { λ _. ⌜ Put (now (target .entry)) (now (target .exit)) at (header tag vr size) ⌝ }
 {
     put_u16(target, at, tag / 65536);
     put_u16(target, at + 2, tag % 65536);
-    put_length(target, at + 4, vr, size)
+    put_length(target, at + 4, vr, head, size)
 }
 
 fn put_value(target: &mut [u8], at: usize, value: &[u8])
@@ -130,8 +130,8 @@ fn lacks_room(bytes: &[u8], rows: &[u32], room: usize) -> bool
 // ---- Nodes into the target
 
 // Writes the nodes from `from` up to `to`, and answers where the next one goes. What is below a node is written before its header, since its
-// length is then known, and each node is written once. The calls are at most 17 deep: one for each of the 16 levels of sequences and items,
-// and one for a node with nothing below it.
+// length is then known, and each node is written once. The calls are at most 17 deep: the first, and one for each of the 16 levels of
+// sequences and items.
 fn put_members(
     bytes: &[u8],
     rows: &[u32],
@@ -150,10 +150,18 @@ fn put_members(
         let vr = node::vr(bytes, rows, i);
         let next = node::next(bytes, rows, i);
         let value = node::value(bytes, rows, i);
-        let inside = at + head_size(vr);
+        let head = head_size(vr);
+        let inside = at + head;
         put_value(target, inside, value);
-        let end = put_members(bytes, rows, target, i + 1, next, inside + value.len());
-        put_header(target, at, tag, vr, end - inside);
+        let after = inside + value.len();
+        if next == i + 1 {
+            put_header(target, at, tag, vr, head, value.len());
+            at = after;
+            i = next;
+            continue;
+        }
+        let end = put_members(bytes, rows, target, i + 1, next, after);
+        put_header(target, at, tag, vr, head, end - inside);
         at = end;
         i = next;
     }

@@ -6,7 +6,7 @@ use borrow.Author.Needs.{needs}
 use borrow.Fn.Kinds.{In, Out}
 use borrow.Fn.PlainCycle.{Measures, is, falls, and}
 use Rattle.node.specs.Nodes.{nodesOf}
-use Rattle.canonical.proofs.Members.{Going, going-first, going-next, going-last, turn-known, turn-room, turn-fits, turn-next, turn-end, wrote-node}
+use Rattle.canonical.proofs.Members.{Going, going-first, going-next, going-last, turn-known, turn-room, turn-fits, turn-next, turn-end, wrote-node, wrote-leaf}
 use Rattle.canonical.proofs.put_members.Reads as put-members
 use Rattle.canonical.proofs.put_members.Kinds as put-members-kinds
 use Rattle.canonical.proofs.+put_members.Lts-put_members as lts
@@ -50,10 +50,10 @@ claims t = (
   head-size-reads.Learnt,
   put-value-reads.Asked,
   put-value-reads.Learnt,
-  below t,
-  put-members.Post,
   put-header-reads.Asked,
   put-header-reads.Learnt,
+  below t,
+  put-members.Post,
 )
 
 -- A need, at what the callees and the function itself are given.
@@ -92,35 +92,52 @@ put-value-requires : (t : ℕ) → Needed lts.Need-put-value-requires t
 put-value-requires t c κs =
     omega (arith, turn-room (c .before .before .before .before .before .before .before .before .before .before .before .args .bytes .now) (c .before .before .before .before .before .before .before .before .before .before .before .pre .1 .1) (c .before .before .before .before .before .before .before .loop .inv) (omega arith) (c .before .before .before .before .vr .ensures) (c .before .before .value .ensures), c .before .head-size .ensures)
 
-add-put-members : (t : ℕ) → Needed lts.Need-add-put-members t
-add-put-members t c =
-    omega (arith, turn-known (c .before .before .before .before .before .before .before .before .before .before .before .before .before .before .before .args .bytes .now) (c .before .before .before .before .before .before .before .before .before .before .before .before .before .before .before .pre .1 .1) (c .before .before .before .before .before .before .before .before .before .before .before .loop .inv) (omega arith), c .before .before .before .before .before .before .before .before .before .before .before .before .before .before .before .pre .1 .0 .table .few)
+add-after : (t : ℕ) → Needed lts.Need-add-after t
+add-after t c =
+    omega (arith, turn-room (c .before .before .before .before .before .before .before .before .before .before .before .before .before .before .args .bytes .now) (c .before .before .before .before .before .before .before .before .before .before .before .before .before .before .pre .1 .1) (c .before .before .before .before .before .before .before .before .before .before .loop .inv) (omega arith) (c .before .before .before .before .before .before .before .vr .ensures) (c .before .before .before .before .before .value .ensures), c .before .before .before .before .head-size .ensures)
 
-add-put-members-2 : (t : ℕ) → Needed lts.Need-add-put-members-2 t
-add-put-members-2 t c =
-    omega (arith, turn-room (c .before .before .before .before .before .before .before .before .before .before .before .before .before .before .before .args .bytes .now) (c .before .before .before .before .before .before .before .before .before .before .before .before .before .before .before .pre .1 .1) (c .before .before .before .before .before .before .before .before .before .before .before .loop .inv) (omega arith) (c .before .before .before .before .before .before .before .before .vr .ensures) (c .before .before .before .before .before .before .value .ensures), c .before .before .before .before .before .head-size .ensures)
-
-put-members-requires : (t : ℕ) → Needed lts.Need-put-members-requires t
-put-members-requires t c κs =
-    let n = turn-next (c .before .before .before .before .before .before .before .before .before .before .before .before .before .before .before .args .bytes .now) (c .before .before .before .before .before .before .before .before .before .before .before .before .before .before .before .pre .1 .1) (c .before .before .before .before .before .before .before .before .before .before .before .loop .inv) (omega arith) (c .before .before .before .before .before .before .before .next .ensures .0) in
-    (omega (arith, c .before .before .before .before .before .before .before .before .before .before .before .before .before .before .before .pre .0, c .before .before .before .before .before .before .before .before .before .before .before .loop .inv .low, n), (c .before .before .before .before .before .before .before .before .before .before .before .before .before .before .before .pre .1 .0, turn-fits (c .before .before .before .before .before .before .before .before .before .before .before .before .before .before .before .args .bytes .now) (c .before .before .before .before .before .before .before .before .before .before .before .before .before .before .before .pre .1 .1) (c .before .before .before .before .before .before .before .before .before .before .before .loop .inv) (omega arith) (c .before .before .before .before .before .before .before .before .vr .ensures) (c .before .before .before .before .before .before .value .ensures) (omega (arith, c .before .before .before .before .before .head-size .ensures)) refl (c .before .before .before .before .before .before .before .next .ensures .0) (c .before .before .before .put-value .ensures .kept)))
-
-sub-put-header : (t : ℕ) → Needed lts.Need-sub-put-header t
-sub-put-header t c =
-    omega (arith, turn-end (c .before .before .before .before .before .before .before .before .before .before .before .before .before .before .before .before .before .before .before .args .bytes .now) (c .before .before .before .before .before .before .before .before .before .before .before .before .before .before .before .before .before .before .before .pre .1 .1) (c .before .before .before .before .before .before .before .before .before .before .before .before .before .before .before .loop .inv) (omega arith) (c .before .before .before .before .before .before .before .before .before .before .before .next .ensures .0) (c .before .before .before .put-members .ensures))
+add-if1 : (t : ℕ) → Needed lts.Need-add-if1 t
+add-if1 t c =
+    omega (arith, turn-known (c .before .before .before .before .before .before .before .before .before .before .before .before .before .before .args .bytes .now) (c .before .before .before .before .before .before .before .before .before .before .before .before .before .before .pre .1 .1) (c .before .before .before .before .before .before .before .before .before .before .loop .inv) (omega arith), c .before .before .before .before .before .before .before .before .before .before .before .before .before .before .pre .1 .0 .table .few)
 
 put-header-requires : (t : ℕ) → Needed lts.Need-put-header-requires t
 put-header-requires t c κs =
-    omega (arith, turn-room (c .before .before .before .before .before .before .before .before .before .before .before .before .before .before .before .before .before .before .before .args .bytes .now) (c .before .before .before .before .before .before .before .before .before .before .before .before .before .before .before .before .before .before .before .pre .1 .1) (c .before .before .before .before .before .before .before .before .before .before .before .before .before .before .before .loop .inv) (omega arith) (c .before .before .before .before .before .before .before .before .before .before .before .before .vr .ensures) (c .before .before .before .before .before .before .before .before .before .before .value .ensures), c .before .before .before .put-members .ensures .kept, c .before .before .before .before .before .before .before .put-value .ensures .kept)
+    (c .before .before .before .before .before .before .head-size .ensures .0, omega (arith, turn-room (c .before .before .before .before .before .before .before .before .before .before .before .before .before .before .before .before .args .bytes .now) (c .before .before .before .before .before .before .before .before .before .before .before .before .before .before .before .before .pre .1 .1) (c .before .before .before .before .before .before .before .before .before .before .before .before .loop .inv) (omega arith) (c .before .before .before .before .before .before .before .before .before .vr .ensures) (c .before .before .before .before .before .before .before .value .ensures), c .before .before .before .before .put-value .ensures .kept, c .before .before .before .before .before .before .head-size .ensures))
 
 loop-less : (t : ℕ) → Needed lts.Need-loop-less t
 loop-less t c =
-    omega (arith, turn-next (c .before .before .before .before .before .before .before .before .before .before .before .before .before .before .before .before .before .before .before .before .before .before .args .bytes .now) (c .before .before .before .before .before .before .before .before .before .before .before .before .before .before .before .before .before .before .before .before .before .before .pre .1 .1) (c .before .before .before .before .before .before .before .before .before .before .before .before .before .before .before .before .before .before .loop .inv) (omega arith) (c .before .before .before .before .before .before .before .before .before .before .before .before .before .before .next .ensures .0))
+    omega (arith, turn-next (c .before .before .before .before .before .before .before .before .before .before .before .before .before .before .before .before .before .before .before .args .bytes .now) (c .before .before .before .before .before .before .before .before .before .before .before .before .before .before .before .before .before .before .before .pre .1 .1) (c .before .before .before .before .before .before .before .before .before .before .before .before .before .before .before .loop .inv) (omega arith) (c .before .before .before .before .before .before .before .before .before .before .before .next .ensures .0))
 
 loop-again : (t : ℕ) → Needed lts.Need-loop-again t
 loop-again t c =
-    going-next (c .before .before .before .before .before .before .before .before .before .before .before .before .before .before .before .before .before .before .before .before .before .before .args .bytes .now) (c .before .before .before .before .before .before .before .before .before .before .before .before .before .before .before .before .before .before .before .before .before .before .pre .1 .1) (c .before .before .before .before .before .before .before .before .before .before .before .before .before .before .before .before .before .before .loop .inv) (omega arith) (c .before .before .before .before .before .before .before .before .before .before .before .before .before .before .next .ensures .0)
-    (wrote-node (nodesOf (c .before .before .before .before .before .before .before .before .before .before .before .before .before .before .before .before .before .before .before .before .before .before .args .bytes .now)) (c .before .before .before .before .before .before .before .before .before .before .before .before .before .before .before .before .before .before .loop .i) (turn-known (c .before .before .before .before .before .before .before .before .before .before .before .before .before .before .before .before .before .before .before .before .before .before .args .bytes .now) (c .before .before .before .before .before .before .before .before .before .before .before .before .before .before .before .before .before .before .before .before .before .before .pre .1 .1) (c .before .before .before .before .before .before .before .before .before .before .before .before .before .before .before .before .before .before .loop .inv) (omega arith)) (c .before .before .before .before .before .before .before .before .before .before .before .before .before .before .before .before .tag .ensures) (c .before .before .before .before .before .before .before .before .before .before .before .before .before .before .before .vr .ensures) (c .before .before .before .before .before .before .before .before .before .before .before .before .before .value .ensures) (c .before .before .before .before .before .before .before .before .before .before .before .before .before .before .next .ensures .0) (omega (arith, c .before .before .before .before .before .before .before .before .before .before .before .before .head-size .ensures)) (c .before .before .before .before .before .before .before .before .before .before .put-value .ensures) refl (c .before .before .before .before .before .before .put-members .ensures) refl (c .before .before .put-header .ensures) (omega (arith, turn-end (c .before .before .before .before .before .before .before .before .before .before .before .before .before .before .before .before .before .before .before .before .before .before .args .bytes .now) (c .before .before .before .before .before .before .before .before .before .before .before .before .before .before .before .before .before .before .before .before .before .before .pre .1 .1) (c .before .before .before .before .before .before .before .before .before .before .before .before .before .before .before .before .before .before .loop .inv) (omega arith) (c .before .before .before .before .before .before .before .before .before .before .before .before .before .before .next .ensures .0) (c .before .before .before .before .before .before .put-members .ensures))))
+    going-next (c .before .before .before .before .before .before .before .before .before .before .before .before .before .before .before .before .before .before .before .args .bytes .now) (c .before .before .before .before .before .before .before .before .before .before .before .before .before .before .before .before .before .before .before .pre .1 .1) (c .before .before .before .before .before .before .before .before .before .before .before .before .before .before .before .loop .inv) (omega arith) (c .before .before .before .before .before .before .before .before .before .before .before .next .ensures .0)
+    (wrote-leaf (nodesOf (c .before .before .before .before .before .before .before .before .before .before .before .before .before .before .before .before .before .before .before .args .bytes .now)) (c .before .before .before .before .before .before .before .before .before .before .before .before .before .before .before .loop .i) (turn-known (c .before .before .before .before .before .before .before .before .before .before .before .before .before .before .before .before .before .before .before .args .bytes .now) (c .before .before .before .before .before .before .before .before .before .before .before .before .before .before .before .before .before .before .before .pre .1 .1) (c .before .before .before .before .before .before .before .before .before .before .before .before .before .before .before .loop .inv) (omega arith)) (c .before .before .before .before .before .before .before .before .before .before .before .before .before .tag .ensures) (c .before .before .before .before .before .before .before .before .before .before .before .before .vr .ensures) (c .before .before .before .before .before .before .before .before .before .before .value .ensures) (c .before .before .before .before .before .before .before .before .before .before .before .next .ensures .0) (c .before .before .before .before .if1 .taken) (omega (arith, c .before .before .before .before .before .before .before .before .before .head-size .ensures)) (c .before .before .before .before .before .before .before .put-value .ensures) (c .before .before .put-header .ensures))
+
+add-put-members : (t : ℕ) → Needed lts.Need-add-put-members t
+add-put-members t c =
+    omega (arith, turn-known (c .before .before .before .before .before .before .before .before .before .before .before .before .before .before .before .before .args .bytes .now) (c .before .before .before .before .before .before .before .before .before .before .before .before .before .before .before .before .pre .1 .1) (c .before .before .before .before .before .before .before .before .before .before .before .before .loop .inv) (omega arith), c .before .before .before .before .before .before .before .before .before .before .before .before .before .before .before .before .pre .1 .0 .table .few)
+
+put-members-requires : (t : ℕ) → Needed lts.Need-put-members-requires t
+put-members-requires t c κs =
+    let n = turn-next (c .before .before .before .before .before .before .before .before .before .before .before .before .before .before .before .before .args .bytes .now) (c .before .before .before .before .before .before .before .before .before .before .before .before .before .before .before .before .pre .1 .1) (c .before .before .before .before .before .before .before .before .before .before .before .before .loop .inv) (omega arith) (c .before .before .before .before .before .before .before .before .next .ensures .0) in
+    (omega (arith, c .before .before .before .before .before .before .before .before .before .before .before .before .before .before .before .before .pre .0, c .before .before .before .before .before .before .before .before .before .before .before .before .loop .inv .low, n), (c .before .before .before .before .before .before .before .before .before .before .before .before .before .before .before .before .pre .1 .0, turn-fits (c .before .before .before .before .before .before .before .before .before .before .before .before .before .before .before .before .args .bytes .now) (c .before .before .before .before .before .before .before .before .before .before .before .before .before .before .before .before .pre .1 .1) (c .before .before .before .before .before .before .before .before .before .before .before .before .loop .inv) (omega arith) (c .before .before .before .before .before .before .before .before .before .vr .ensures) (c .before .before .before .before .before .before .before .value .ensures) (omega (arith, c .before .before .before .before .before .before .head-size .ensures)) refl (c .before .before .before .before .before .before .before .before .next .ensures .0) (c .before .before .before .before .put-value .ensures .kept)))
+
+sub-put-header : (t : ℕ) → Needed lts.Need-sub-put-header t
+sub-put-header t c =
+    omega (arith, turn-end (c .before .before .before .before .before .before .before .before .before .before .before .before .before .before .before .before .before .before .before .before .args .bytes .now) (c .before .before .before .before .before .before .before .before .before .before .before .before .before .before .before .before .before .before .before .before .pre .1 .1) (c .before .before .before .before .before .before .before .before .before .before .before .before .before .before .before .before .loop .inv) (omega arith) (c .before .before .before .before .before .before .before .before .before .before .before .before .next .ensures .0) (c .before .before .before .put-members .ensures))
+
+put-header-requires-2 : (t : ℕ) → Needed lts.Need-put-header-requires-2 t
+put-header-requires-2 t c κs =
+    (c .before .before .before .before .before .before .before .before .before .before .head-size .ensures .0, omega (arith, turn-room (c .before .before .before .before .before .before .before .before .before .before .before .before .before .before .before .before .before .before .before .before .args .bytes .now) (c .before .before .before .before .before .before .before .before .before .before .before .before .before .before .before .before .before .before .before .before .pre .1 .1) (c .before .before .before .before .before .before .before .before .before .before .before .before .before .before .before .before .loop .inv) (omega arith) (c .before .before .before .before .before .before .before .before .before .before .before .before .before .vr .ensures) (c .before .before .before .before .before .before .before .before .before .before .before .value .ensures), c .before .before .before .put-members .ensures .kept, c .before .before .before .before .before .before .before .before .put-value .ensures .kept, c .before .before .before .before .before .before .before .before .before .before .head-size .ensures))
+
+loop-less-2 : (t : ℕ) → Needed lts.Need-loop-less-2 t
+loop-less-2 t c =
+    omega (arith, turn-next (c .before .before .before .before .before .before .before .before .before .before .before .before .before .before .before .before .before .before .before .before .before .before .before .args .bytes .now) (c .before .before .before .before .before .before .before .before .before .before .before .before .before .before .before .before .before .before .before .before .before .before .before .pre .1 .1) (c .before .before .before .before .before .before .before .before .before .before .before .before .before .before .before .before .before .before .before .loop .inv) (omega arith) (c .before .before .before .before .before .before .before .before .before .before .before .before .before .before .before .next .ensures .0))
+
+loop-again-2 : (t : ℕ) → Needed lts.Need-loop-again-2 t
+loop-again-2 t c =
+    going-next (c .before .before .before .before .before .before .before .before .before .before .before .before .before .before .before .before .before .before .before .before .before .before .before .args .bytes .now) (c .before .before .before .before .before .before .before .before .before .before .before .before .before .before .before .before .before .before .before .before .before .before .before .pre .1 .1) (c .before .before .before .before .before .before .before .before .before .before .before .before .before .before .before .before .before .before .before .loop .inv) (omega arith) (c .before .before .before .before .before .before .before .before .before .before .before .before .before .before .before .next .ensures .0)
+    (wrote-node (nodesOf (c .before .before .before .before .before .before .before .before .before .before .before .before .before .before .before .before .before .before .before .before .before .before .before .args .bytes .now)) (c .before .before .before .before .before .before .before .before .before .before .before .before .before .before .before .before .before .before .before .loop .i) (turn-known (c .before .before .before .before .before .before .before .before .before .before .before .before .before .before .before .before .before .before .before .before .before .before .before .args .bytes .now) (c .before .before .before .before .before .before .before .before .before .before .before .before .before .before .before .before .before .before .before .before .before .before .before .pre .1 .1) (c .before .before .before .before .before .before .before .before .before .before .before .before .before .before .before .before .before .before .before .loop .inv) (omega arith)) (c .before .before .before .before .before .before .before .before .before .before .before .before .before .before .before .before .before .tag .ensures) (c .before .before .before .before .before .before .before .before .before .before .before .before .before .before .before .before .vr .ensures) (c .before .before .before .before .before .before .before .before .before .before .before .before .before .before .value .ensures) (c .before .before .before .before .before .before .before .before .before .before .before .before .before .before .before .next .ensures .0) (omega (arith, c .before .before .before .before .before .before .before .before .before .before .before .before .before .head-size .ensures)) (c .before .before .before .before .before .before .before .before .before .before .before .put-value .ensures) refl (c .before .before .before .before .before .before .put-members .ensures) refl (c .before .before .put-header2 .ensures) (omega (arith, turn-end (c .before .before .before .before .before .before .before .before .before .before .before .before .before .before .before .before .before .before .before .before .before .before .before .args .bytes .now) (c .before .before .before .before .before .before .before .before .before .before .before .before .before .before .before .before .before .before .before .before .before .before .before .pre .1 .1) (c .before .before .before .before .before .before .before .before .before .before .before .before .before .before .before .before .before .before .before .loop .inv) (omega arith) (c .before .before .before .before .before .before .before .before .before .before .before .before .before .before .before .next .ensures .0) (c .before .before .before .before .before .before .put-members .ensures))))
 
 same-length : (t : ℕ) → Needed lts.Need-same-length t
 same-length t c =
@@ -132,4 +149,4 @@ returns t c =
 
 pub +put-members-spec : {M : Type 1} → statement M
 +put-members-spec =
-    close μ λ t. lts.spec (claims t) (at-measure t) put-members.Post Inv μ-loop (loop-holds t) (tag-requires t) (vr-requires t) (next-requires t) (value-requires t) (head-size-requires t) (add-inside t) (put-value-requires t) (add-put-members t) (add-put-members-2 t) (put-members-requires t) (sub-put-header t) (put-header-requires t) (loop-less t) (loop-again t) (same-length t) (returns t)
+    close μ λ t. lts.spec (claims t) (at-measure t) put-members.Post Inv μ-loop (loop-holds t) (tag-requires t) (vr-requires t) (next-requires t) (value-requires t) (head-size-requires t) (add-inside t) (put-value-requires t) (add-after t) (add-if1 t) (put-header-requires t) (loop-less t) (loop-again t) (add-put-members t) (put-members-requires t) (sub-put-header t) (put-header-requires-2 t) (loop-less-2 t) (loop-again-2 t) (same-length t) (returns t)

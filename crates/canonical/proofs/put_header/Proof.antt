@@ -1,53 +1,35 @@
-use mathlib.Core.Path.{_≡_, refl, sym, ap, _∙_}
 use native.Mathlib.Omega.{arith}
 use Rattle.canonical.proofs.Puts.{head-least, header-puts}
+use Rattle.canonical.proofs.put_length.Reads as put-length-reads
+use Rattle.canonical.proofs.put_u16.Reads as put-u16-reads
 use borrow.Author.Needs.{needs}
 use Rattle.canonical.proofs.put_header.Statement.{statement}
 use Rattle.canonical.proofs.put_header.Tie as tie
 use Rattle.canonical.proofs.put_header.Reads as reads
 use Rattle.canonical.proofs.put_header.Lts as lts
-use Rattle.canonical.proofs.put_length.Reads as put-length-reads
-use Rattle.canonical.proofs.put_u16.Reads as put-u16-reads
 
--- src/lib.rt:74:5
 put-u16-requires : tie.Need-put-u16-requires
-put-u16-requires c κs =
-    omega (arith, head-least (c .before .before .args .vr))
+put-u16-requires c κs = omega (arith, head-least (c .before .before .args .vr), c .before .before .pre)
 
--- src/lib.rt:75:21
 add-put-u16 : tie.Need-add-put-u16
 add-put-u16 c = search needs
 
--- src/lib.rt:75:5
 put-u16-requires-2 : tie.Need-put-u16-requires-2
 put-u16-requires-2 c κs =
-    omega (arith, head-least (c .before .before .before .before .before .before .args .vr))
+    omega (arith, head-least (c .before .before .before .before .before .before .args .vr), c .before .before .before .before .before .before .pre)
 
--- src/lib.rt:76:24
 add-put-length : tie.Need-add-put-length
 add-put-length c = search needs
 
--- src/lib.rt:76:5
 put-length-requires : tie.Need-put-length-requires
 put-length-requires c κs = search needs
 
--- src/lib.rt:70:1
 same-length : tie.Need-same-length
 same-length c = search needs
 
--- src/lib.rt:70:1
 returns : tie.Need-returns
 returns c =
     header-puts (c .before .before .before .before .before .before .before .before .before .before .before .before .before .args .tag) (c .before .before .before .before .before .before .before .before .before .before .before .before .before .args .vr) (c .before .before .before .before .before .before .before .before .before .before .before .before .before .args .size) (c .before .before .before .before .before .before .before .before .before .before .put-u16 .ensures) (c .before .before .before .before .before .before .put-u162 .ensures) (c .before .before .put-length .ensures)
 
 pub put-header-spec : {M : Type 1} → statement M
-put-header-spec =
-    tie.close
-    (tie.spec
-    put-u16-requires
-    add-put-u16
-    put-u16-requires-2
-    add-put-length
-    put-length-requires
-    same-length
-    returns)
+put-header-spec = tie.close (tie.spec put-u16-requires add-put-u16 put-u16-requires-2 add-put-length put-length-requires same-length returns)
