@@ -19,21 +19,19 @@ ghost use Rattle.pixel.specs.Said.{longestRow, Masks, shifted, Averaged, quarte
 ghost use Rattle.lines.specs.Lines.{shadesOf, Shaded, MaskedBy};
 ghost use Rattle.display.specs.Said.{shadeBy, MasksReady};
 ghost use Rattle.display.specs.Show.{imageSize, pictureOf};
-ghost use Rattle.sheet.specs.Said.{IsObject, IsScene, IsPixels, IsPlan, FrameReady};
+ghost use Rattle.display.specs.Planned.{IsObject, IsScene, IsPixels, IsPlan};
+ghost use Rattle.sheet.specs.Said.{FrameReady};
 ghost use Rattle.compare.specs.Differences.{within, isOff};
 ghost use Rattle.compare.specs.Answer.{acceptedAnswer, compareOf, fieldsOf};
 ghost use Rattle.compare.specs.Said.{seen, along, nothing, met, Against, LineOf};
 use conformance::JudgeAnswer;
 use dataset::wide;
 use display::Masking;
-use element::tags;
+use display::Plan;
+use display::Scene;
 use lines::Shades;
 use pixel::Geometry;
-use sheet::Plan;
-use sheet::Scene;
 use shift::Moves;
-use steps::Sized;
-use steps::Windowed;
 use value::Num;
 
 // The largest tolerance.
@@ -473,7 +471,7 @@ fn compare_planned(
     )
 }
 
-// A frame of an accepted object of n frames, from the steps. They lack nothing there.
+// A frame of an accepted object of n frames, by its plan.
 fn compare_picture(
     bytes: &[u8],
     rows: &[u32],
@@ -485,21 +483,8 @@ fn compare_picture(
     requires { ⌜ Table (now bytes) (now rows) × (IsObject (now bytes) n × ((1 ≤ frame) × ((frame ≤ n) × Against (now cells) tolerance (imageSize (nodesOf (now bytes)))))) ⌝ }
     ensures { λ r. ⌜ r ≡ along (isOff tolerance (pictureOf (nodesOf (now (bytes .entry))) frame .samples) (now (cells .entry))) 0 (imageSize (nodesOf (now (bytes .entry)))) nothing ⌝ }
 {
-    let Sized::Is(g) = steps::geometry_of(bytes, rows) else {
-        return Differing { first: 0, count: 0 };
-    };
-    let Num::Is(p) = element::find_root(bytes, rows, tags::PIXEL_DATA) else {
-        return Differing { first: 0, count: 0 };
-    };
-    let item = steps::item_at(bytes, rows, frame);
-    let stored = g.stored;
-    let Windowed::Is(window) = steps::window_for(bytes, rows, frame, item, stored) else {
-        return Differing { first: 0, count: 0 };
-    };
-    let inverse = display::is_inverse(bytes, rows);
-    let masking = display::mask_for(bytes, rows, frame, item, n);
-    let scene = Scene { g, p, inverse };
-    let own = Plan { window, masking };
+    let scene = display::scene_of(bytes, rows, n);
+    let own = display::plan_for(bytes, rows, scene, frame, n);
     compare_planned(bytes, rows, scene, frame, own, n, cells, tolerance)
 }
 

@@ -6,7 +6,7 @@ pub mod Masks
 pub mod Lacking
 pub mod Pictures
 pub mod Small
-pub mod Plan
+pub mod Answering
 pub mod Paints
 pub mod Draws
 pub mod Whole
@@ -15,3 +15,4 @@ pub mod Judged
 pub mod Codes
 pub mod Drawing
 pub mod Before
+pub mod Scenes

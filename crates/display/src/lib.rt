@@ -12,6 +12,7 @@ ghost use Rattle.dataset.specs.Fields.{Answers};
 ghost use Rattle.dataset.specs.Answer.{bufferOf};
 ghost use Rattle.conformance.specs.Judging.{numberOf, findingOf};
 ghost use Rattle.display.specs.Show.{imageSize, imageBy, pictureOf, acceptedAnswer, showOf, imageOf, fieldsOf};
+ghost use Rattle.display.specs.Planned.{IsObject, IsScene, IsItem, IsApplying, IsPlan};
 ghost use Rattle.value.specs.Said.{Below};
 ghost use Rattle.node.specs.Nodes.{nodesOf};
 ghost use Rattle.node.specs.Table.{Table};
@@ -34,8 +35,10 @@ use steps::Inverse;
 use steps::Shifts;
 use steps::Sized;
 use steps::Windowed;
+use value::Function;
 use value::Num;
 use value::Signed;
+use window::Window;
 
 // The answer of `show`: drawn, with the number of rows and whether it is masked; code 9, with the number of rows, rule
 // and frame; code and offset of a refusal; codes 7, 8, 10 and 11.
@@ -191,17 +194,6 @@ pub fn mask_on(
     mask_by(bytes, rows, frame, item, j, shared, n)
 }
 
-// Steps 2 to 4: what masks the frame.
-pub fn mask_for(bytes: &[u8], rows: &[u32], frame: usize, item: Num, n: usize) -> Masking
-    requires { ⌜ Table (now bytes) (now rows) × ((item ≡ frameItem (nodesOf (now bytes)) frame) × (Below (length (nodesOf (now bytes))) item × ((frame < 4294967296) × Gives n (maskFor (nodesOf (now bytes)) frame)))) ⌝ }
-    ensures { λ r. ⌜ maskingOf (nodesOf (now (bytes .entry))) r ≡ maskFor (nodesOf (now (bytes .entry))) frame ⌝ }
-    ensures { λ r. ⌜ MaskingBelow (length (nodesOf (now (bytes .entry)))) r ⌝ }
-{
-    let applies = applying(bytes, rows, frame, n);
-    let shared = shared_for(bytes, rows, applies);
-    mask_on(bytes, rows, frame, item, applies, shared, n)
-}
-
 // Paints the frame's samples, from a table of shades; answers whether it is masked.
 fn paint(
     bytes: &[u8],
@@ -256,27 +248,106 @@ pub fn is_inverse(bytes: &[u8], rows: &[u32]) -> bool
     }
 }
 
+// ---- What is worked out once for an object, and once for a frame
+
+// What all frames of an object share: the size of a frame, the pixel bytes' row, and whether pictures are inverted.
+pub struct Scene {
+    pub g: Geometry,
+    pub p: usize,
+    pub inverse: bool,
+}
+
+// What a frame has of its own: its window, and what masks it.
+pub struct Plan {
+    pub window: Window,
+    pub masking: Masking,
+}
+
+// What stands where a step lacks something, which it does in no accepted object.
+fn no_scene() -> Scene {
+    Scene {
+        g: Geometry {
+            rows: 0,
+            columns: 0,
+            width: 0,
+            stored: 0,
+        },
+        p: 0,
+        inverse: false,
+    }
+}
+
+fn no_window() -> Window {
+    Window {
+        center: Signed::Plus(0),
+        width: Signed::Plus(0),
+        function: Function::Linear,
+    }
+}
+
+pub fn scene_of(bytes: &[u8], rows: &[u32], n: usize) -> Scene
+    requires { ⌜ Table (now bytes) (now rows) × IsObject (now bytes) n ⌝ }
+    ensures { λ r. ⌜ IsScene (nodesOf (now (bytes .entry))) r ⌝ }
+{
+    let Sized::Is(g) = steps::geometry_of(bytes, rows) else {
+        return no_scene();
+    };
+    let Num::Is(p) = element::find_root(bytes, rows, tags::PIXEL_DATA) else {
+        return no_scene();
+    };
+    let inverse = is_inverse(bytes, rows);
+    Scene { g, p, inverse }
+}
+
+pub fn plan_of(
+    bytes: &[u8],
+    rows: &[u32],
+    c: Scene,
+    frame: usize,
+    n: usize,
+    item: Num,
+    applies: Applying,
+    shared: Found,
+) -> Plan
+    requires { ⌜ Table (now bytes) (now rows) × (IsObject (now bytes) n × (IsScene (nodesOf (now bytes)) c × (IsItem (nodesOf (now bytes)) frame item × ((1 ≤ frame) × ((frame ≤ n) × IsApplying (nodesOf (now bytes)) frame applies shared))))) ⌝ }
+    ensures { λ r. ⌜ IsPlan (nodesOf (now (bytes .entry))) frame (c .g .stored) r ⌝ }
+{
+    let g = c.g;
+    let stored = g.stored;
+    let masking = mask_on(bytes, rows, frame, item, applies, shared, n);
+    let Windowed::Is(window) = steps::window_for(bytes, rows, frame, item, stored) else {
+        return Plan {
+            window: no_window(),
+            masking,
+        };
+    };
+    Plan { window, masking }
+}
+
+// The plan of one frame, with all that it needs worked out here.
+pub fn plan_for(bytes: &[u8], rows: &[u32], c: Scene, frame: usize, n: usize) -> Plan
+    requires { ⌜ Table (now bytes) (now rows) × (IsObject (now bytes) n × (IsScene (nodesOf (now bytes)) c × ((1 ≤ frame) × (frame ≤ n)))) ⌝ }
+    ensures { λ r. ⌜ IsPlan (nodesOf (now (bytes .entry))) frame (c .g .stored) r ⌝ }
+{
+    let item = steps::item_at(bytes, rows, frame);
+    let applies = applying(bytes, rows, frame, n);
+    let shared = shared_for(bytes, rows, applies);
+    plan_of(bytes, rows, c, frame, n, item, applies, shared)
+}
+
 // Draws a frame of an accepted object of n frames; answers whether it is masked.
 fn draw(bytes: &[u8], rows: &[u32], frame: usize, n: usize, image: &mut [u8]) -> bool
     requires { ⌜ Table (now bytes) (now rows) × (((i : ℕ) → getD (now bytes) i 0 < 256) × ((findingOf (nodesOf (now bytes)) ≡ finding.Accepted) × ((framesOf (nodesOf (now bytes)) ≡ num.Is n) × ((1 ≤ frame) × ((frame ≤ n) × (imageSize (nodesOf (now bytes)) ≤ length (now image))))))) ⌝ }
     ensures { λ r. ⌜ r ≡ pictureOf (nodesOf (now (bytes .entry))) frame .masked ⌝ }
     ensures { λ _. ⌜ now (image .exit) ≡ pictureOf (nodesOf (now (bytes .entry))) frame .samples ++ drop (length (pictureOf (nodesOf (now (bytes .entry))) frame .samples)) (now (image .entry)) ⌝ }
 {
-    let Sized::Is(g) = steps::geometry_of(bytes, rows) else {
-        return false;
-    };
-    let Num::Is(p) = steps::pixel_element(bytes, rows) else {
-        return false;
-    };
-    let item = steps::item_at(bytes, rows, frame);
-    let stored = g.stored;
-    let Windowed::Is(w) = steps::window_for(bytes, rows, frame, item, stored) else {
-        return false;
-    };
-    let inverse = is_inverse(bytes, rows);
-    let table = window::levels(w, stored, inverse);
-    let masking = mask_for(bytes, rows, frame, item, n);
-    paint(bytes, rows, frame, g, p, masking, &table, image)
+    let c = scene_of(bytes, rows, n);
+    let own = plan_for(bytes, rows, c, frame, n);
+    let g = c.g;
+    let window = own.window;
+    let masking = own.masking;
+    let table = window::levels(window, g.stored, c.inverse);
+    paint(bytes, rows, frame, g, c.p, masking, &table, image)
 }
 
 // A number, or 0 where it is lacking.

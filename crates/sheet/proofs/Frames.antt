@@ -23,7 +23,8 @@ use Rattle.display.proofs.Lacking.{nothing-lacks}
 use Rattle.ranges.specs.Ranges.{itemOf}
 use Rattle.display.specs.Said.{ApplyingBelow}
 use Rattle.sheet.specs.Sheet.{levelsOf, nativesOf}
-use Rattle.sheet.specs.Said.{tallied, Room, IsObject, IsItem}
+use Rattle.sheet.specs.Said.{tallied, Room}
+use Rattle.display.specs.Planned.{IsObject, IsItem}
 use Rattle.sheet.proofs.Counts.{tallied-append}
 use Rattle.sheet.proofs.Runs.{tallied-most}
 

@@ -27,15 +27,16 @@ use Rattle.display.proofs.Codes.{was-frame, judged-accepted, was-judged}
 use Rattle.display.proofs.Drawing.{drawing}
 use Rattle.lines.proofs.Lists.{upTo-length}
 use Rattle.sheet.specs.declared.Numbers.{Numbers}
-use Rattle.sheet.specs.declared.Scene.{Scene}
+use Rattle.display.specs.declared.Scene.{Scene}
 use Rattle.sheet.specs.declared.SheetAnswer.{SheetAnswer}
 use Rattle.sheet.specs.declared.SheetAnswer.the-variants as answer
 use Rattle.sheet.specs.Sheet.{times, levelsOf, nativesOf, countsOf, lowestOf, highestOf, sumOf, sheetBy, framesSheet, noSheet}
 use Rattle.sheet.specs.Answer.{acceptedAnswer, answerFor, sheetFor, sheetOf, fieldsOf}
-use Rattle.sheet.specs.Said.{Few, First, Last, IsObject, IsScene}
+use Rattle.sheet.specs.Said.{Few, First, Last}
+use Rattle.display.specs.Planned.{IsObject, IsScene}
 use Rattle.sheet.specs.Sampling.{Range, total, Consistent, HandsBack, Promise, Sampling}
 use Rattle.sheet.proofs.Counts.{counts-add, levels-append, count-is, times-most, upTo-most, sum-weighted}
-use Rattle.sheet.proofs.Scenes.{cells-few}
+use Rattle.display.proofs.Scenes.{cells-few}
 use Rattle.sheet.proofs.Lowest.{first-is, last-is, either, times-same, times-more, low-most, low-none, low-found, high-most, high-none, high-found}
 use Rattle.sheet.proofs.Frames.{natives-few}
 use Rattle.sheet.proofs.Answers.{frames-done}

@@ -23,22 +23,22 @@ ghost use Rattle.lines.specs.Lines.{upTo, shadesOf, Shaded, MaskedBy};
 ghost use Rattle.ranges.specs.Ranges.{Known};
 ghost use Rattle.display.specs.Said.{isMasked, shadeBy, MasksReady, ApplyingBelow, SharedBy};
 ghost use Rattle.display.specs.Show.{imageSize, pictureOf};
+ghost use Rattle.display.specs.Planned.{IsObject, IsScene, IsPixels, IsItem, IsPlan};
 ghost use Rattle.sheet.specs.Sheet.{levelsOf, nativesOf, countsOf, framesSheet, noSheet, numbersIn};
 ghost use Rattle.sheet.specs.Answer.{acceptedAnswer, withSheet, sheetOf, sampledFields};
 ghost use Rattle.sheet.specs.Sampling.{total};
-ghost use Rattle.sheet.specs.Said.{tallied, Room, Few, First, Last, IsObject, IsScene, IsPixels, IsItem, Applies, IsAhead, IsPlan, FrameReady, Rooms, IsHeld, IsNothing};
+ghost use Rattle.sheet.specs.Said.{tallied, Room, Few, First, Last, IsAhead, FrameReady, Rooms, IsHeld, IsNothing};
 use conformance::JudgeAnswer;
 use dataset::wide;
 use display::Masking;
+use display::Plan;
+use display::Scene;
 use element::Items;
-use element::tags;
 use lines::Shades;
 use pixel::Geometry;
 use shift::Moves;
 use steps::Applying;
 use steps::Found;
-use steps::Sized;
-use steps::Windowed;
 use value::Function;
 use value::Num;
 use value::Signed;
@@ -324,81 +324,7 @@ fn count_moved(
     )
 }
 
-// ---- What is worked out once for an object, and once for a frame
-
-// What all frames of an object share: the size of a frame, the pixel bytes' row, and whether pictures are inverted.
-pub struct Scene {
-    pub g: Geometry,
-    pub p: usize,
-    pub inverse: bool,
-}
-
-// What a frame has of its own: its window, and what masks it.
-pub struct Plan {
-    pub window: Window,
-    pub masking: Masking,
-}
-
-// What stands where a step lacks something, which it does in no accepted object.
-fn no_scene() -> Scene {
-    Scene {
-        g: Geometry {
-            rows: 0,
-            columns: 0,
-            width: 0,
-            stored: 0,
-        },
-        p: 0,
-        inverse: false,
-    }
-}
-
-fn no_window() -> Window {
-    Window {
-        center: Signed::Plus(0),
-        width: Signed::Plus(0),
-        function: Function::Linear,
-    }
-}
-
-fn scene_of(bytes: &[u8], rows: &[u32], n: usize) -> Scene
-    requires { ⌜ Table (now bytes) (now rows) × IsObject (now bytes) n ⌝ }
-    ensures { λ r. ⌜ IsScene (nodesOf (now (bytes .entry))) r ⌝ }
-{
-    let Sized::Is(g) = steps::geometry_of(bytes, rows) else {
-        return no_scene();
-    };
-    let Num::Is(p) = element::find_root(bytes, rows, tags::PIXEL_DATA) else {
-        return no_scene();
-    };
-    let inverse = display::is_inverse(bytes, rows);
-    Scene { g, p, inverse }
-}
-
-fn plan_of(
-    bytes: &[u8],
-    rows: &[u32],
-    c: Scene,
-    frame: usize,
-    n: usize,
-    item: Num,
-    applies: Applying,
-    shared: Found,
-) -> Plan
-    requires { ⌜ Table (now bytes) (now rows) × (IsObject (now bytes) n × (IsScene (nodesOf (now bytes)) c × (IsItem (nodesOf (now bytes)) frame item × ((1 ≤ frame) × ((frame ≤ n) × Applies (nodesOf (now bytes)) frame applies shared))))) ⌝ }
-    ensures { λ r. ⌜ IsPlan (nodesOf (now (bytes .entry))) frame (c .g .stored) r ⌝ }
-{
-    let g = c.g;
-    let stored = g.stored;
-    let masking = display::mask_on(bytes, rows, frame, item, applies, shared, n);
-    let Windowed::Is(window) = steps::window_for(bytes, rows, frame, item, stored) else {
-        return Plan {
-            window: no_window(),
-            masking,
-        };
-    };
-    Plan { window, masking }
-}
+// ---- What is worked out ahead of the frames
 
 // What the shared shift group names for the mask item that applies, as it was written down.
 fn shared_of(bytes: &[u8], rows: &[u32], applies: Applying, keys: &[u32], answers: &[u32]) -> Found
@@ -428,7 +354,7 @@ fn plan_at(
 {
     let applies = ranges::applying_at(which, frame);
     let shared = shared_of(bytes, rows, applies, keys, answers);
-    plan_of(bytes, rows, c, frame, n, item, applies, shared)
+    display::plan_of(bytes, rows, c, frame, n, item, applies, shared)
 }
 
 // The item of a frame, at a cursor that is stepped along the items with the frames.
@@ -855,7 +781,7 @@ fn sample_frames(bytes: &[u8], rows: &[u32], n: usize, a: usize, b: usize) -> Nu
     let mut upper: [u32; pixel::LONGEST] = [0; pixel::LONGEST];
     let mut lower: [u32; pixel::LONGEST] = [0; pixel::LONGEST];
     let mut line: [u8; 65535] = [0; 65535];
-    let c = scene_of(bytes, rows, n);
+    let c = display::scene_of(bytes, rows, n);
     let start = items_from(bytes, rows, a);
     let done = count_all(
         bytes,

@@ -3,7 +3,7 @@ use Rattle.element.specs.Elements.{valueAt}
 use Rattle.display.specs.declared.Masking.{Masking}
 use Rattle.display.specs.Said.{MasksReady}
 use Rattle.display.proofs.Paints.{pair-masks, pair-values}
-use Rattle.sheet.proofs.Scenes as scenes
+use Rattle.display.proofs.Scenes as scenes
 use mathlib.Core.Path.{_≡_, refl, sym, ap, _∙_, subst}
 use native.Mathlib.Omega.{arith}
 use borrow.Author.Needs.{needs}

@@ -8,7 +8,8 @@ use Rattle.lines.specs.declared.Shades.{Shades}
 use Rattle.lines.specs.Lines.{shadesOf}
 use Rattle.display.specs.Said.{shadeBy}
 use Rattle.display.specs.Show.{pictureOf}
-use Rattle.sheet.proofs.Scenes as scenes
+use Rattle.display.proofs.Scenes as scenes
+use Rattle.sheet.proofs.Scenes as counted
 use Rattle.compare.specs.Differences.{isOff}
 use Rattle.compare.specs.Said.{along, nothing, Against}
 use Rattle.compare.proofs.Places.{met-list}
@@ -52,7 +53,7 @@ returns : tie.Need-returns
 returns c =
     let b = scenes.based (c .before .before .before .before .before .before .before .before .before .before .before .before .before .before .before .before .args .bytes .now) (c .before .before .before .before .before .before .before .before .before .before .before .before .before .before .before .before .args .n) (c .before .before .before .before .before .before .before .before .before .before .before .before .before .before .before .before .args .frame) (c .before .before .before .before .before .before .before .before .before .before .before .before .before .before .before .before .pre .1 .0) (c .before .before .before .before .before .before .before .before .before .before .before .before .before .before .before .before .pre .1 .1 .1 .1 .0) (c .before .before .before .before .before .before .before .before .before .before .before .before .before .before .before .before .pre .1 .1 .1 .1 .1 .0) (c .before .before .before .before .before .before .before .before .before .before .before .before .before .before .before .before .args .c) (c .before .before .before .before .before .before .before .before .before .before .before .before .before .before .before .before .pre .1 .1 .0) in
     let t : Shades = record { window = c .before .before .before .before .before .before .before .before .before .before .before .before .before .before .before .before .args .own .window; inverse = c .before .before .before .before .before .before .before .before .before .before .before .before .before .before .before .before .args .c .inverse; filled = true } in
-    let d = scenes.picture (c .before .before .before .before .before .before .before .before .before .before .before .before .before .before .before .before .args .bytes .now) (c .before .before .before .before .before .before .before .before .before .before .before .before .before .before .before .before .args .n) (c .before .before .before .before .before .before .before .before .before .before .before .before .before .before .before .before .args .frame) (c .before .before .before .before .before .before .before .before .before .before .before .before .before .before .before .before .pre .1 .0) (c .before .before .before .before .before .before .before .before .before .before .before .before .before .before .before .before .pre .1 .1 .1 .1 .0) (c .before .before .before .before .before .before .before .before .before .before .before .before .before .before .before .before .pre .1 .1 .1 .1 .1 .0) (c .before .before .before .before .before .before .before .before .before .before .before .before .before .before .before .before .args .c) (c .before .before .before .before .before .before .before .before .before .before .before .before .before .before .before .before .pre .1 .1 .0) (c .before .before .before .before .before .before .before .before .before .before .before .before .before .before .before .before .args .own) (c .before .before .before .before .before .before .before .before .before .before .before .before .before .before .before .before .pre .1 .1 .1 .0) t refl refl in
+    let d = counted.picture (c .before .before .before .before .before .before .before .before .before .before .before .before .before .before .before .before .args .bytes .now) (c .before .before .before .before .before .before .before .before .before .before .before .before .before .before .before .before .args .n) (c .before .before .before .before .before .before .before .before .before .before .before .before .before .before .before .before .args .frame) (c .before .before .before .before .before .before .before .before .before .before .before .before .before .before .before .before .pre .1 .0) (c .before .before .before .before .before .before .before .before .before .before .before .before .before .before .before .before .pre .1 .1 .1 .1 .0) (c .before .before .before .before .before .before .before .before .before .before .before .before .before .before .before .before .pre .1 .1 .1 .1 .1 .0) (c .before .before .before .before .before .before .before .before .before .before .before .before .before .before .before .before .args .c) (c .before .before .before .before .before .before .before .before .before .before .before .before .before .before .before .before .pre .1 .1 .0) (c .before .before .before .before .before .before .before .before .before .before .before .before .before .before .before .before .args .own) (c .before .before .before .before .before .before .before .before .before .before .before .before .before .before .before .before .pre .1 .1 .1 .0) t refl refl in
     c .before .before .before .compare-frame .ensures ∙ (met-list (c .before .before .before .before .before .before .before .before .before .before .before .before .before .before .before .before .args .tolerance) (shadeBy (nodesOf (c .before .before .before .before .before .before .before .before .before .before .before .before .before .before .before .before .args .bytes .now)) (shadesOf t (c .before .before .before .before .before .before .before .before .before .before .before .before .before .before .before .before .args .c .g .stored)) (c .before .before .before .before .before .before .before .before .before .before .before .before .before .before .before .before .args .c .g) (valueAt (nodesOf (c .before .before .before .before .before .before .before .before .before .before .before .before .before .before .before .before .args .bytes .now)) (c .before .before .before .before .before .before .before .before .before .before .before .before .before .before .before .before .args .c .p)) (c .before .before .before .before .before .before .before .before .before .before .before .before .before .before .before .before .args .frame) (c .before .before .before .before .before .before .before .before .before .before .before .before .before .before .before .before .args .own .masking)) (c .before .before .before .before .before .before .before .before .before .before .before .before .before .before .before .before .args .cells .now) (pictureOf (nodesOf (c .before .before .before .before .before .before .before .before .before .before .before .before .before .before .before .before .args .bytes .now)) (c .before .before .before .before .before .before .before .before .before .before .before .before .before .before .before .before .args .frame) .samples) (samplesOf (c .before .before .before .before .before .before .before .before .before .before .before .before .before .before .before .before .args .c .g)) (d .cells) ∙ ap (λ (k : ℕ). along (isOff (c .before .before .before .before .before .before .before .before .before .before .before .before .before .before .before .before .args .tolerance) (pictureOf (nodesOf (c .before .before .before .before .before .before .before .before .before .before .before .before .before .before .before .before .args .bytes .now)) (c .before .before .before .before .before .before .before .before .before .before .before .before .before .before .before .before .args .frame) .samples) (c .before .before .before .before .before .before .before .before .before .before .before .before .before .before .before .before .args .cells .now)) 0 k nothing) (b .size))
 
 pub compare-planned-spec : {M : Type 1} → statement M

@@ -1,5 +1,5 @@
 use mathlib.Core.Path.{_≡_, refl, sym, ap, _∙_, subst}
-use Rattle.display.proofs.Plan as plan
+use Rattle.display.proofs.Answering as plan
 use Rattle.steps.proofs.Laws as steps-laws
 use Rattle.node.proofs.Laws as node-laws
 use Rattle.node.specs.Nodes.{nodesOf}

@@ -1,6 +1,6 @@
 use mathlib.Core.Option.{some}
 use mathlib.Core.Path.{_≡_, refl, sym, ap, _∙_, subst}
-use Rattle.display.proofs.Plan as plan
+use Rattle.display.proofs.Answering as plan
 use Rattle.steps.proofs.Laws as steps-laws
 use Rattle.node.specs.Nodes.{nodesOf}
 use Rattle.steps.specs.Said.{shiftsOf}

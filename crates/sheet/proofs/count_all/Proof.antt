@@ -3,7 +3,8 @@ use Prim.Native.Nat.{ℕ, _≤_}
 use native.Mathlib.Omega.{arith}
 use lib.ListN.{length, length-replicate}
 use Rattle.node.specs.Nodes.{nodesOf}
-use Rattle.sheet.proofs.Scenes as scenes
+use Rattle.display.proofs.Scenes as scenes
+use Rattle.sheet.proofs.Scenes as counted
 use borrow.Author.Needs.{needs}
 use Rattle.sheet.proofs.count_all.Statement.{statement}
 use Rattle.sheet.proofs.count_all.Tie as tie
@@ -13,7 +14,7 @@ slice-aggregate-apply-all c = search needs
 
 apply-all-requires : tie.Need-apply-all-requires
 apply-all-requires c κs =
-    (c .before .before .before .before .before .before .before .before .pre .0, (record { few = omega (arith, scenes.few-frames (c .before .before .before .before .before .before .before .before .args .bytes .now) (c .before .before .before .before .before .before .before .before .args .n) (c .before .before .before .before .before .before .before .before .pre .1 .0)); marks = omega (arith, c .before .before .before .before .before .before .before .before .pre .1 .1 .1 .1 .1 .1 .1 .above); frames = omega (arith, scenes.few-frames (c .before .before .before .before .before .before .before .before .args .bytes .now) (c .before .before .before .before .before .before .before .before .args .n) (c .before .before .before .before .before .before .before .before .pre .1 .0), length-replicate {A = ℕ} 65536 0) }, scenes.answering (c .before .before .before .before .before .before .before .before .args .bytes .now) (c .before .before .before .before .before .before .before .before .args .n) (c .before .before .before .before .before .before .before .before .pre .1 .0)))
+    (c .before .before .before .before .before .before .before .before .pre .0, (record { few = omega (arith, scenes.few-frames (c .before .before .before .before .before .before .before .before .args .bytes .now) (c .before .before .before .before .before .before .before .before .args .n) (c .before .before .before .before .before .before .before .before .pre .1 .0)); marks = omega (arith, c .before .before .before .before .before .before .before .before .pre .1 .1 .1 .1 .1 .1 .1 .above); frames = omega (arith, scenes.few-frames (c .before .before .before .before .before .before .before .before .args .bytes .now) (c .before .before .before .before .before .before .before .before .args .n) (c .before .before .before .before .before .before .before .before .pre .1 .0), length-replicate {A = ℕ} 65536 0) }, counted.answering (c .before .before .before .before .before .before .before .before .args .bytes .now) (c .before .before .before .before .before .before .before .before .args .n) (c .before .before .before .before .before .before .before .before .pre .1 .0)))
 
 slice-aggregate-name-all : tie.Need-slice-aggregate-name-all
 slice-aggregate-name-all c = search needs

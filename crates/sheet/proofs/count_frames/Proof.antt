@@ -10,7 +10,7 @@ use Rattle.sheet.specs.Sheet.{levelsOf, nativesOf, countsOf}
 use Rattle.sheet.specs.Said.{tallied, Room, IsHeld}
 use Rattle.sheet.proofs.Counts.{counts-are, room-start}
 use Rattle.sheet.proofs.Frames as frames
-use Rattle.sheet.proofs.Scenes.{based, few-frames, cells-few}
+use Rattle.display.proofs.Scenes.{based, few-frames, cells-few}
 use mathlib.Core.Path.{_≡_, refl, sym, ap, _∙_, subst}
 use native.Mathlib.Omega.{arith}
 use borrow.Author.Needs.{needs}

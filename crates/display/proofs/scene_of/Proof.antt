@@ -2,13 +2,13 @@ use Rattle.node.specs.Nodes.{nodesOf}
 use Rattle.node.proofs.Laws as node-laws
 use Rattle.steps.specs.Said.{sizedOf}
 use Rattle.steps.proofs.Laws as steps-laws
 use Rattle.display.proofs.Given.{never}
-use Rattle.sheet.proofs.Scenes as scenes
+use Rattle.display.proofs.Scenes as scenes
 use mathlib.Core.Path.{_≡_, refl, sym, ap, _∙_, subst}
 use native.Mathlib.Omega.{arith}
 use borrow.Author.Needs.{needs}
-use Rattle.sheet.proofs.scene_of.Statement.{statement}
-use Rattle.sheet.proofs.scene_of.Tie as tie
+use Rattle.display.proofs.scene_of.Statement.{statement}
+use Rattle.display.proofs.scene_of.Tie as tie
 
 geometry-of-requires : tie.Need-geometry-of-requires
 geometry-of-requires c κs =

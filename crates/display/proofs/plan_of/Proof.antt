@@ -2,14 +2,14 @@ use Rattle.node.specs.Nodes.{nodesOf}
 use Rattle.window.specs.Said.{Drawable}
 use Rattle.steps.specs.Said.{windowedOf}
 use Rattle.steps.proofs.Laws as steps-laws
 use Rattle.display.proofs.Given.{never}
 use Rattle.display.proofs.Whole.{same-some}
-use Rattle.sheet.proofs.Scenes as scenes
+use Rattle.display.proofs.Scenes as scenes
 use mathlib.Core.Path.{_≡_, refl, sym, ap, _∙_, subst}
 use native.Mathlib.Omega.{arith}
 use borrow.Author.Needs.{needs}
-use Rattle.sheet.proofs.plan_of.Statement.{statement}
-use Rattle.sheet.proofs.plan_of.Tie as tie
+use Rattle.display.proofs.plan_of.Statement.{statement}
+use Rattle.display.proofs.plan_of.Tie as tie
 
 mask-on-requires : tie.Need-mask-on-requires
 mask-on-requires c κs =
