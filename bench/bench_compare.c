@@ -11,13 +11,6 @@
 #if defined HAVE_XA_SHOW && defined HAVE_XA_COMPARE
 enum { ROUNDS = 61, MOST_ROWS = 65536 };
 
-static double spent(void)
-{
-    struct timespec t;
-    clock_gettime(CLOCK_THREAD_CPUTIME_ID, &t);
-    return (double)t.tv_sec * 1e9 + (double)t.tv_nsec;
-}
-
 typedef struct {
     uint32_t first, count;
 } found;

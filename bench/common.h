@@ -65,6 +65,14 @@ static inline double now(void)
     return (double)t.tv_sec * 1e9 + (double)t.tv_nsec;
 }
 
+/* The thread's processor time. */
+static inline double spent(void)
+{
+    struct timespec t;
+    clock_gettime(CLOCK_THREAD_CPUTIME_ID, &t);
+    return (double)t.tv_sec * 1e9 + (double)t.tv_nsec;
+}
+
 static inline int by_size(const void *a, const void *b)
 {
     double x = *(const double *)a, y = *(const double *)b;
