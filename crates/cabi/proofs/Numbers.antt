@@ -29,7 +29,6 @@ use Rattle.conformance.specs.Judging as judging
 use Rattle.conformance.proofs.Possible.{judge-small, judge-rows}
 use Rattle.conformance.specs.declared.JudgeAnswer.the-variants as judged
 use Rattle.node.specs.Nodes.{Node, nodesOf}
-use Rattle.display.specs.declared.ShowAnswer.{ShowAnswer}
 use Rattle.display.specs.declared.ShowAnswer.the-variants as shown
 use Rattle.display.specs.Show as showing
 use Rattle.display.specs.Show.{isFrameOf, imageSize, pictureOf, acceptedAnswer, answerFor, showOf}
@@ -42,8 +41,8 @@ use Rattle.linear.specs.declared.LinearAnswer.the-variants as linear
 use Rattle.linear.specs.Mapping.{isMapped}
 use Rattle.linear.specs.Answer as mapping
 use Rattle.linear.specs.Answer.{acceptedAnswer as acceptedLinear, answerFor as linearFor, linearOf}
-use Rattle.pixel.specs.Painted.{painted}
-use Rattle.lines.specs.Lines.{upTo}
+use Rattle.pixel.specs.Contracts.{painted}
+use Rattle.lines.specs.Contracts.{upTo}
 use Rattle.lines.proofs.Lists.{upTo-length, upTo-at, painted-list}
 use Rattle.sheet.specs.declared.SheetAnswer.the-variants as sampled
 use Rattle.sheet.specs.declared.Numbers.{Numbers}

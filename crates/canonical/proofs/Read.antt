@@ -1,26 +1,26 @@
 -- From a reading to a shape: what each header that is no refusal says, then level by level.
-use mathlib.Core.Path.{_≡_, refl, sym, ap, _∙_, subst}
+use mathlib.Core.Path.{_≡_, refl, sym, _∙_, subst}
 use mathlib.Core.Bool.{Bool, true, false, cond}
-use Prim.Native.Nat.{ℕ, zero, suc, _+_, _-_, _*_, _/_, _%_, _≤_, _<_}
+use Prim.Native.Nat.{ℕ, zero, suc, _+_, _-_, _/_, _%_, _≤_, _<_}
 use native.Mathlib.Omega.{arith}
-use borrow.Author.Tests.{eqb-true, eqb-false, ltb-true, ltb-false, ne-eqb, eq-eqb}
+use borrow.Author.Tests.{eqb-true, eqb-false, ltb-false, ne-eqb}
 use lib.Dec.{eqb, ltb}
 use mathlib.Core.List.{List, [], _∷_, _++_, map, append-assoc, append-nil, map-append}
-use lib.ListN.{length, getD, take, drop, length-append, length-take, length-drop, length-map}
-use lib.Seq.{getD-drop, getD-take}
+use lib.ListN.{length, take, drop, length-append, length-take, length-drop, length-map}
+use lib.Seq.{getD-drop}
 use Rattle.dataset.specs.declared.Cursor.{Cursor}
 use Rattle.dataset.specs.declared.Head.{Head}
 use Rattle.dataset.specs.declared.Head.the-variants as head
 use Rattle.dataset.specs.Bytes.{le16, le32, tagAt, vrAt}
 use Rattle.dataset.specs.Vr.{formOf, SQ}
-use Rattle.dataset.specs.Header.{when, undefined, itemTag, cursor, moved, headerBy, delimiterBy, levelBy, definedBy, longBy, typedAt, taggedAt, sizedBy, memberAt, elementAt, itemAt}
+use Rattle.dataset.specs.Header.{when, itemTag, cursor, moved, headerBy, delimiterBy, levelBy, definedBy, longBy, typedAt, taggedAt, sizedBy, memberAt, elementAt, itemAt}
 use Rattle.dataset.specs.Reading.{Row, row, Run, done, refused, onHead, onRun, level, valueAt, elementsAt, itemsAt, largest, Reading, tooLarge, refusedAt, read, whole, readingOf}
-use Rattle.dataset.specs.Tree.{Kind, elements, items, rowsOf}
+use Rattle.dataset.specs.Tree.{Kind, elements, items}
 use Rattle.dataset.proofs.Level.{value-plain}
-use Rattle.node.specs.Nodes.{Node, nodeOf, nodesOf, holdsNodes}
+use Rattle.node.specs.Nodes.{nodeOf, holdsNodes}
 use Rattle.canonical.specs.Written.{Bytes, header, headSize}
 use Rattle.canonical.proofs.Back.{value-sq}
-use Rattle.canonical.proofs.Shape.{Tag, Leaf, Shape, none, leaf, sequence, item, node, Form, no, short, long, form, vr-not-0, length-header, head-short, head-long, sq-long, item-short}
+use Rattle.canonical.proofs.Shape.{Tag, Leaf, Shape, none, leaf, sequence, item, node, Form, no, short, long, form, vr-not-0, length-header, head-short, head-long, item-short}
 
 -- ---- What a header says
 

@@ -5,7 +5,7 @@ use mathlib.Core.List.{List}
 use lib.ListN.{length, drop}
 use lib.Seq.{sets}
 use Rattle.node.specs.Nodes.{Node, nodesOf, nextNode}
-use Rattle.node.specs.Table.{Table}
+use Rattle.node.specs.Contracts.{Table}
 use Rattle.canonical.specs.Written.{sizeOf, writtenOf}
 
 -- The row table of a data set that was read. Its nodes take no more bytes than it has, nor than is read.

@@ -1,19 +1,17 @@
 // The canonical form of a data set: defined lengths throughout and no end marks. specs/Written.antt says what is written; `write_canonical`,
 // at the end, is the public call.
 ghost use mathlib.Core.Path.{_≡_};
-ghost use mathlib.Core.List.{_++_};
 ghost use Prim.Native.Nat.{_+_, _-_, _≤_, _<_};
-ghost use lib.ListN.{length, take, drop};
+ghost use lib.ListN.{length};
 ghost use lib.Seq.{slice};
 ghost use lib.Dec.{ltb};
 ghost use Rattle.dataset.specs.Reading.{readingOf};
 ghost use Rattle.dataset.specs.Fields.{Answers};
 ghost use Rattle.dataset.specs.Answer.{bufferOf};
-ghost use Rattle.node.specs.Nodes.{Node, nodesOf, nodeAt};
-ghost use Rattle.node.specs.Table.{Table};
+ghost use Rattle.node.specs.Nodes.{nodesOf, nodeAt};
 ghost use Rattle.canonical.specs.Contracts.{Put, Sized, Fitting, Wrote};
 ghost use Rattle.canonical.specs.Answer.{canonicalOf, targetOf, fieldsOf};
-ghost use Rattle.canonical.specs.Written.{Bytes, le, letters, lengthOf, header, headSize, ownSize, sizeOf, nodeBytes, writtenOf};
+ghost use Rattle.canonical.specs.Written.{Bytes, le, letters, lengthOf, header, headSize, ownSize, sizeOf};
 use dataset::ReadAnswer;
 
 // ---- Bytes into the target

@@ -5,7 +5,7 @@ ghost use mathlib.Core.Path.{_≡_};
 ghost use Prim.Native.Nat.{_*_, _≤_};
 ghost use lib.ListN.{length};
 ghost use Rattle.canonical.specs.Answer.{canonicalOf, targetOf};
-ghost use Rattle.canonical_one.specs.Roomy.{Held, Roomy};
+ghost use Rattle.canonical_one.specs.Contracts.{Held, Roomy};
 
 // The most bytes that are taken.
 const MOST: usize = 65_536;

@@ -3,7 +3,7 @@ use compare::CompareAnswer;
 ghost use mathlib.Core.Path.{_≡_};
 ghost use Prim.Native.Nat.{_≤_};
 ghost use lib.ListN.{length};
-ghost use Rattle.compare_small.specs.Roomy.{roomyCompare};
+ghost use Rattle.compare_small.specs.Contracts.{roomyCompare};
 
 // Room for the rows of a data set of that size, since a row has at least 8 bytes. A function of its own gives the
 // length, so that no proof computes it from the array.

@@ -18,7 +18,7 @@ use Rattle.dataset.specs.declared.Leaf.{Leaf}
 use Rattle.dataset.specs.Header.{moved}
 use Rattle.dataset.specs.Reading.{Row, row, Run, done, refused, onHead, onRun, level, valueAt, itemsAt}
 use Rattle.dataset.specs.Answer.{flat}
-use Rattle.dataset.specs.Walk.{Within, RunWithin, Walked, Replaced, LeafWalked}
+use Rattle.dataset.specs.Contracts.{Within, RunWithin, Walked, Replaced, LeafWalked}
 use Rattle.dataset.proofs.Buffer.{length-flat, flat-append, sets-append, sets-over, row-over}
 
 -- ---- A header and a walk, once it is known which they are

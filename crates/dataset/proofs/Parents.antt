@@ -13,9 +13,9 @@ use lib.ListN.{length}
 use Rattle.dataset.specs.Vr.{SQ}
 use Rattle.dataset.specs.Reading.{Row}
 use Rattle.dataset.specs.Tree.{rowsOf, rowAt, nextRow, Kind, elements, items, Member, insideOf, depthInside, Members}
-use Rattle.dataset.specs.Parents.{parentOf, climb, Counts, Meets, Parented, Parents}
+use Rattle.dataset.specs.Parents.{parentOf, climb, Counts, Meets, Parents}
 use Rattle.dataset.proofs.Tree.{rows-members}
-use Rattle.dataset.proofs.Laws.{IsElement, item-formless, row-found, row-nested, row-deep}
+use Rattle.dataset.proofs.Laws.{item-formless, row-found, row-nested, row-deep}
 
 -- ---- What stands around a row
 

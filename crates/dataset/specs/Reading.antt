@@ -1,8 +1,8 @@
 -- The reading of a data set (document 01, "Reading"): a row for each element and item in byte order, or the first
 -- refusal's code and offset (the paper's place).
-use Prim.Native.Nat.{ℕ, zero, suc, _+_, _-_, _*_}
+use Prim.Native.Nat.{ℕ, zero, suc, _+_, _-_}
 use mathlib.Core.List.{List, [], _∷_, _++_}
-use mathlib.Core.Bool.{true, false, cond}
+use mathlib.Core.Bool.{false, cond}
 use lib.ListN.{length}
 use lib.Dec.{eqb, ltb}
 use Rattle.dataset.specs.declared.Cursor.{Cursor}

@@ -11,7 +11,7 @@ ghost use Rattle.dataset.specs.Header.{moved, delimiterBy, levelBy, defi
 ghost use Rattle.dataset.specs.Reading.{elementsAt, itemsAt, readingOf, row};
 ghost use Rattle.dataset.specs.Fields.{Answers};
 ghost use Rattle.dataset.specs.Answer.{answerOf, countOf, bufferOf, flat, fieldsOf};
-ghost use Rattle.dataset.specs.Walk.{FormsAfter, Within, Walked, LeafWalked, Ready};
+ghost use Rattle.dataset.specs.Contracts.{FormsAfter, Within, Walked, LeafWalked, Ready};
 
 // The most bytes that a data set may have.
 pub const LARGEST: usize = 1_073_741_824;

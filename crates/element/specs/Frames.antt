@@ -10,7 +10,7 @@ use Rattle.value.specs.declared.Signed.{Signed}
 use Rattle.value.specs.declared.Signed.the-variants as signed
 use Rattle.value.specs.Number.{isOf}
 use Rattle.node.specs.Nodes.{Node, root, inside}
-use Rattle.node.specs.Find.{holds, andThen, orElse, find, findVr}
+use Rattle.node.specs.Find.{andThen, orElse, find, findVr}
 use Rattle.element.specs.Tags.{IS, NumberOfFrames, SharedFunctionalGroupsSequence, PerFrameFunctionalGroupsSequence, MaskSubtractionSequence, MaskOperation, SubtractionItemID}
 use Rattle.element.specs.Elements.{valueAt, usIn, csIs, theItem, itemsIn, first}
 

@@ -3,19 +3,18 @@
 pub mod tags;
 
 ghost use mathlib.Core.Path.{_≡_};
-ghost use Prim.Native.Nat.{ℕ, _+_, _-_, _*_, _≤_, _<_};
-ghost use mathlib.Core.Bool.{Bool};
+ghost use Prim.Native.Nat.{_+_, _≤_, _<_};
 ghost use lib.ListN.{length, drop};
-ghost use Rattle.node.specs.Nodes.{Node, nodesOf, nodeAt, nextNode, members, root, inside};
+ghost use Rattle.node.specs.Nodes.{nodesOf, members, root, inside};
 ghost use Rattle.node.specs.Find.{absent, andThen, holds, find, findVr, has};
-ghost use Rattle.node.specs.Table.{Table};
-ghost use Rattle.value.specs.Said.{Below, SizeBelow};
+ghost use Rattle.node.specs.Contracts.{Table};
+ghost use Rattle.value.specs.Contracts.{Below, SizeBelow};
 ghost use Rattle.value.specs.Number.{usOf};
 ghost use Rattle.value.specs.Words.{isWord};
-ghost use Rattle.element.specs.Elements.{valueAt, usIn, csIs, uiIs, oneItem, theItem, insideOf, itemsIn, functionOn, functionIn};
+ghost use Rattle.element.specs.Elements.{valueAt, usIn, csIs, uiIs, oneItem, theItem, itemsIn, functionOn, functionIn};
 ghost use Rattle.value.specs.declared.Num.the-variants as num;
 ghost use Rattle.element.specs.Frames.{counted, framesOf, sharedItem, frameItems, groupOf, maskItems};
-ghost use Rattle.element.specs.Along.{Along};
+ghost use Rattle.element.specs.Contracts.{Along};
 use value::Function;
 use value::Num;
 use value::Signed;

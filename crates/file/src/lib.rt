@@ -12,7 +12,7 @@ ghost use Rattle.dataset.specs.Reading.{readingOf};
 ghost use Rattle.dataset.specs.Fields.{Answers};
 ghost use Rattle.dataset.specs.Answer.{bufferOf};
 ghost use Rattle.node.specs.Nodes.{nodesOf};
-ghost use Rattle.node.specs.Table.{Table};
+ghost use Rattle.node.specs.Contracts.{Table};
 ghost use Rattle.file.specs.File.{startOf, sameClass, readPart, readFileOf, rowsLeft, judgePart, judgeFileOf, showPart, showFileOf, imagePart, imageLeft, startFields, readFields, judgeFields, showFields};
 ghost use Rattle.searches.specs.Searches.{searchesOf};
 ghost use Rattle.file.specs.Searches.{searchesIn, countedPart, countedFileOf, countedFields, LeftIn};

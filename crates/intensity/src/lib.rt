@@ -1,12 +1,11 @@
 // Rule 39's two functional groups: the intensity relationship, and the TO_LINEAR item of the LUTs.
 ghost use mathlib.Core.Path.{_≡_};
-ghost use Prim.Native.Nat.{ℕ, _≤_, _<_};
+ghost use Prim.Native.Nat.{_≤_, _<_};
 ghost use lib.ListN.{length};
 ghost use Rattle.node.specs.Nodes.{nodesOf, members};
-ghost use Rattle.node.specs.Table.{Table};
+ghost use Rattle.node.specs.Contracts.{Table};
 ghost use Rattle.rules.specs.Intensity.{isLinear, linearAmong, entryCount, isLut, hasLut};
-ghost use Rattle.intensity.specs.Grades.{agree, relationOf, lutsOf, tableOf, relationIn, tableIn};
-ghost use Rattle.intensity.specs.Said.{Stops};
+ghost use Rattle.intensity.specs.Contracts.{agree, relationOf, lutsOf, tableOf, relationIn, tableIn, Stops};
 use dataset::u16_at;
 use element::tags;
 use value::Num;

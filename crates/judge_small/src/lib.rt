@@ -5,8 +5,8 @@ ghost use mathlib.Core.Path.{_≡_};
 ghost use Prim.Native.Nat.{_≤_};
 ghost use lib.ListN.{length};
 ghost use Rattle.node.specs.Nodes.{nodesOf};
-ghost use Rattle.node.specs.Table.{Table};
-ghost use Rattle.judge_small.specs.Roomy.{roomyOf};
+ghost use Rattle.node.specs.Contracts.{Table};
+ghost use Rattle.judge_small.specs.Contracts.{roomyOf};
 ghost use Rattle.judge_small.specs.Located.{itemRow, brokenAt, locatedOf};
 
 // The judge's answer and, where a broken rule names a frame, the number of the row of that frame's item, counted from 1;

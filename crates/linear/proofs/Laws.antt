@@ -1,7 +1,7 @@
 -- The TO_LINEAR item by its search; places of entries; what a LUT that rule 39 lets pass has.
 use mathlib.Core.Path.{_≡_, refl, sym, ap, _∙_}
 use mathlib.Core.Bool.{Bool, true, false, cond, _&&_}
-use mathlib.Core.List.{List, [], _∷_}
+use mathlib.Core.List.{List}
 use Prim.Native.Nat.{ℕ, zero, suc, _+_, _-_, _*_, _≤_, _<_}
 use native.Mathlib.Nat.{mul-le-mul}
 use native.Mathlib.Omega.{arith}
@@ -9,17 +9,16 @@ use lib.ListN.{length}
 use lib.Dec.{eqb, ltb}
 use borrow.Author.Tests.{eqb-true, eqb-false, ltb-true, ltb-false, lt-ltb, le-ltb, le-leb}
 use Rattle.dataset.specs.Bytes.{le16}
-use Rattle.value.specs.declared.Num.{Num}
 use Rattle.value.specs.declared.Num.the-variants.{Is, Lacks}
 use Rattle.verdict.proofs.Tests.{and-both}
-use Rattle.node.specs.Nodes.{Node, nextNode, members}
+use Rattle.node.specs.Nodes.{Node, members}
 use Rattle.element.specs.Elements.{first}
 use Rattle.pixel.specs.declared.Geometry.{Geometry}
 use Rattle.pixel.specs.Pixel.{samplesOf, sampleAt}
-use Rattle.pixel.specs.Said.{Shaped, cellAt}
+use Rattle.pixel.specs.Contracts.{Shaped, cellAt}
 use Rattle.pixel.proofs.Laws.{sample-cell}
 use Rattle.rules.specs.Intensity.{linearAmong, entryCount, isLut}
-use Rattle.intensity.specs.Said.{Stops}
+use Rattle.intensity.specs.Contracts.{Stops}
 use Rattle.intensity.proofs.Laws.{linear-here, no-linear}
 use Rattle.linear.specs.Mapping.{placeOf, entryPlace, entryAt, entryOf}
 

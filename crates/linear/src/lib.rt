@@ -1,7 +1,6 @@
 // Maps a frame of a data set that is accepted back to beam intensity.
 ghost use mathlib.Core.Path.{_≡_};
 ghost use Prim.Native.Nat.{ℕ, _+_, _*_, _≤_, _<_};
-ghost use mathlib.Core.Bool.{true};
 ghost use mathlib.Core.List.{_++_};
 ghost use lib.ListN.{length, drop, getD};
 ghost use Rattle.conformance.specs.declared.Finding.the-variants as finding;
@@ -11,14 +10,14 @@ ghost use Rattle.dataset.specs.Fields.{Answers};
 ghost use Rattle.dataset.specs.Answer.{bufferOf};
 ghost use Rattle.conformance.specs.Judging.{findingOf};
 ghost use Rattle.node.specs.Nodes.{nodesOf};
-ghost use Rattle.node.specs.Table.{Table};
+ghost use Rattle.node.specs.Contracts.{Table};
 ghost use Rattle.pixel.specs.Pixel.{samplesOf, sampleAt};
-ghost use Rattle.pixel.specs.Painted.{painted};
+ghost use Rattle.pixel.specs.Contracts.{painted};
 ghost use Rattle.value.specs.declared.Num.the-variants as num;
-ghost use Rattle.steps.specs.Said.{foundOf, FoundBelow};
+ghost use Rattle.steps.specs.Contracts.{foundOf, FoundBelow};
 ghost use Rattle.linear.specs.Mapping.{linearOn, linearFor, placeOf, entryAt, mappingBy};
 ghost use Rattle.linear.specs.Answer.{entriesIn, entriesOf, acceptedAnswer, linearOf, valuesBy, valuesOf, fieldsOf};
-ghost use Rattle.linear.specs.Said.{MapReady, Mappable};
+ghost use Rattle.linear.specs.Contracts.{MapReady, Mappable};
 use conformance::JudgeAnswer;
 use dataset::u16_at;
 use element::tags;

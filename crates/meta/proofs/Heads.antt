@@ -1,7 +1,7 @@
 -- What is found in the head's elements: each element notes itself, and what stands in its value notes nothing, since it stands
 -- deeper. So the loop along the elements keeps what the rows so far come to.
 use mathlib.Core.Path.{_≡_, refl, sym, ap, _∙_, subst}
-use Prim.Native.Nat.{ℕ, _+_, _-_, _*_, _≤_}
+use Prim.Native.Nat.{ℕ, _+_, _-_, _≤_}
 use native.Mathlib.Omega.{arith}
 use borrow.Author.Tests.{ne-eqb}
 use mathlib.Core.Bool.{Bool, true, false, cond}
@@ -13,16 +13,15 @@ use Rattle.dataset.specs.declared.Head.{Head}
 use Rattle.dataset.specs.declared.Head.the-variants as heads
 use Rattle.dataset.specs.declared.Walk.the-variants as walk
 use Rattle.dataset.specs.Header.{cursor, moved, elementAt}
-use Rattle.dataset.specs.Reading.{Row, row, Run, done, refused, elementsAt, valueAt}
-use Rattle.dataset.specs.Walk.{Within, Walked}
+use Rattle.dataset.specs.Reading.{Row, row, Run, elementsAt, valueAt}
+use Rattle.dataset.specs.Contracts.{Within, Walked}
 use Rattle.dataset.proofs.Level as level
 use Rattle.dataset.proofs.Depths.{Deep, RunDeep, value-deep}
 use Rattle.meta.specs.declared.Uid.{Uid}
 use Rattle.meta.specs.declared.Found.{Found}
-use Rattle.meta.specs.declared.Elements.{Elements}
 use Rattle.meta.specs.declared.Elements.the-variants as elements
 use Rattle.meta.specs.Meta.{MediaStorageSOPClassUID, TransferSyntaxUID, UI, uidAt, nothing, noted, foundIn}
-use Rattle.meta.specs.Said.{UidWithin, FoundWithin, walkOf}
+use Rattle.meta.specs.Contracts.{UidWithin, FoundWithin, walkOf}
 
 -- ---- Rows one after another
 

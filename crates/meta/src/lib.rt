@@ -11,10 +11,10 @@ ghost use lib.ListN.{length};
 ghost use lib.Dec.{eqb};
 ghost use Rattle.dataset.specs.Reading.{elementsAt, itemsAt, valueAt};
 ghost use Rattle.dataset.specs.Header.{cursor, elementAt};
-ghost use Rattle.dataset.specs.Walk.{Within, Walked, Ready};
-ghost use Rattle.meta.specs.Meta.{isMarked, hasGroupLength, endOf, headOf, uidAt, noted, named, headedOf, metaOf};
+ghost use Rattle.dataset.specs.Contracts.{Within, Walked, Ready};
+ghost use Rattle.meta.specs.Meta.{isMarked, hasGroupLength, endOf, uidAt, noted, named, headedOf, metaOf};
 ghost use Rattle.meta.specs.declared.Uid.the-variants.{At};
-ghost use Rattle.meta.specs.Said.{UidWithin, FoundWithin, walkOf, ElementsWithin, MetaWithin};
+ghost use Rattle.meta.specs.Contracts.{UidWithin, walkOf, ElementsWithin, MetaWithin};
 
 const SQ: usize = 0x5351;
 

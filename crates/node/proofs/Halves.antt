@@ -2,11 +2,11 @@
 -- members: they ascend among elements, and items all have one tag. So a member's tag says on which side of it the first member stands
 -- whose tag is not below the one that is sought.
 use mathlib.Core.Path.{_≡_, refl, sym, ap, _∙_, subst}
-use Prim.Native.Nat.{ℕ, suc, _+_, _≤_, _<_}
+use Prim.Native.Nat.{ℕ, _+_, _≤_, _<_}
 use native.Mathlib.Omega.{arith}
 use mathlib.Core.List.{List, [], _∷_}
 use mathlib.Core.Logic.{inl, inr}
-use mathlib.Core.Bool.{Bool, true, false, cond}
+use mathlib.Core.Bool.{Bool, true, false}
 use lib.ListN.{length}
 use lib.Dec.{eqb, ltb}
 use borrow.Author.Tests.{lt-ltb, le-ltb, eq-eqb, ne-eqb, ltb-true, ltb-false, eqb-false}
@@ -19,8 +19,7 @@ use Rattle.dataset.proofs.Parents.{Placed, placed}
 use Rattle.value.specs.declared.Num.the-variants.{Is, Lacks}
 use Rattle.node.specs.Nodes.{Node, nodesOf, nodeAt, nextNode, members, root, inside}
 use Rattle.node.specs.Find.{find}
-use Rattle.node.specs.Table.{Table}
-use Rattle.node.specs.Halves.{Ascends, fromTag, firstIs, lower, MemberAbove}
+use Rattle.node.specs.Contracts.{Table, Ascends, fromTag, firstIs, lower, MemberAbove}
 use Rattle.node.proofs.Laws.{nodes-count, node-is}
 use Rattle.node.proofs.Walks.{members-end, members-next, find-later}
 

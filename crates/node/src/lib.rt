@@ -1,13 +1,12 @@
 // The row table of a data set, node by node. What stands above this crate sees no offset and no length.
 ghost use mathlib.Core.Path.{_≡_};
-ghost use Prim.Native.Nat.{ℕ, _+_, _-_, _*_, _≤_, _<_};
+ghost use Prim.Native.Nat.{_+_, _-_, _*_, _≤_, _<_};
 ghost use lib.ListN.{length};
-ghost use Rattle.node.specs.Nodes.{Node, nodesOf, nodeAt, nextNode, members, inside};
+ghost use Rattle.node.specs.Nodes.{nodesOf, nodeAt, nextNode, members, inside};
 ghost use Rattle.node.specs.Find.{find, findVr, filled, has};
-ghost use Rattle.node.specs.Table.{Table};
-ghost use Rattle.node.specs.Halves.{Ascends, fromTag, firstIs, Nearby, lower, MemberAbove};
+ghost use Rattle.node.specs.Contracts.{Table, Ascends, fromTag, firstIs, Nearby, lower, MemberAbove};
 ghost use Rattle.dataset.specs.Tree.{rowsOf, rowAt};
-ghost use Rattle.value.specs.Said.{Below};
+ghost use Rattle.value.specs.Contracts.{Below};
 use value::Num;
 
 pub const SQ: usize = 0x5351;

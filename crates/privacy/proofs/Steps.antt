@@ -1,7 +1,7 @@
 -- The drawing steps and the mapping give the same of lists of nodes that are alike and have the same Pixel Data.
-use mathlib.Core.Path.{_≡_, refl, sym, ap, _∙_}
+use mathlib.Core.Path.{_≡_, refl, ap}
 use Prim.Native.Nat.{ℕ}
-use mathlib.Core.Bool.{Bool, true, false, cond, _&&_, _||_}
+use mathlib.Core.Bool.{cond, _&&_}
 use mathlib.Core.List.{List, [], _∷_}
 use mathlib.Core.Option.{Option, none, some}
 use lib.ListN.{length}
@@ -14,7 +14,7 @@ use Rattle.node.specs.Nodes.{Node, nodeAt, root, inside}
 use Rattle.node.specs.Find.{find, findVr}
 use Rattle.element.specs.Tags
 use Rattle.element.specs.Tags.{CS, DS, FL, OW, US}
-use Rattle.element.specs.Elements.{valueAt, theItem}
+use Rattle.element.specs.Elements.{theItem}
 use Rattle.element.specs.Frames.{sharedItem, frameItem, idIn, operationIs}
 use Rattle.pixel.specs.Pixel.{isFrame}
 use Rattle.steps.specs.declared.Applying.{Applying}

@@ -3,16 +3,16 @@
 // items of the group.
 ghost use mathlib.Core.Path.{_≡_};
 ghost use mathlib.Core.List.{[]};
-ghost use Prim.Native.Nat.{ℕ, _+_, _%_, _≤_, _<_, max};
+ghost use Prim.Native.Nat.{_+_, _%_, _≤_, _<_, max};
 ghost use lib.Dec.{leb};
 ghost use lib.ListN.{length, getD};
 ghost use Rattle.value.specs.declared.Num.the-variants as num;
 ghost use Rattle.value.specs.Number.{usValues};
 ghost use Rattle.node.specs.Nodes.{nodesOf, members};
-ghost use Rattle.node.specs.Table.{Table};
-ghost use Rattle.steps.specs.Said.{FoundBelow, IsShared};
+ghost use Rattle.node.specs.Contracts.{Table};
+ghost use Rattle.steps.specs.Contracts.{FoundBelow, IsShared};
 ghost use Rattle.steps.specs.Steps.{inPairs, rangeHolds, rangeHas};
-ghost use Rattle.ranges.specs.Ranges.{takenBy, itemOf, foundIn, Cleared, Marked, Covered, CoveredBy, CoveredAll, Tried, Held, Left, Answering, Applied, Rooms, Known};
+ghost use Rattle.ranges.specs.Contracts.{takenBy, itemOf, foundIn, Cleared, Marked, Covered, CoveredBy, CoveredAll, Tried, Held, Left, Answering, Applied, Rooms, Known};
 use element::tags;
 use steps::Applying;
 use steps::Found;

@@ -5,9 +5,8 @@ ghost use Prim.Native.Nat.{_+_, _*_, _≤_};
 ghost use lib.ListN.{length};
 ghost use Rattle.dataset.specs.Reading.{readingOf};
 ghost use Rattle.dataset.specs.Answer.{answerOf, bufferOf};
-ghost use Rattle.rowprint.specs.Text.{hexDigit, heading};
-ghost use Rattle.rowprint.specs.Text.{letter as Text·letter};
-ghost use Rattle.rowprint.specs.Listing.{Held, Roomy};
+ghost use Rattle.rowprint.specs.Text.{hexDigit, heading, letter as Text·letter};
+ghost use Rattle.rowprint.specs.Contracts.{Held, Roomy};
 
 // The most bytes that a data set to be printed may have.
 pub const MOST: usize = 65_536;

@@ -1,18 +1,17 @@
 // Rules 27 to 30, 37 and 39, which are asked at each frame, over a row table.
 ghost use mathlib.Core.Path.{_≡_};
-ghost use Prim.Native.Nat.{ℕ, _+_, _-_, _*_, _≤_, _<_};
-ghost use mathlib.Core.Bool.{Bool, _&&_};
+ghost use Prim.Native.Nat.{_+_, _≤_, _<_};
+ghost use mathlib.Core.Bool.{_&&_};
 ghost use lib.Dec.{eqb};
 ghost use Rattle.value.specs.Text.{valuesOf};
 ghost use Rattle.value.specs.Number.{allDecimals, allWidths};
 ghost use lib.ListN.{length};
-ghost use Rattle.node.specs.Nodes.{Node, nodesOf, nodeAt, members, inside};
-ghost use Rattle.node.specs.Find.{absent, ifPresent, find};
-ghost use Rattle.node.specs.Table.{Table};
+ghost use Rattle.node.specs.Nodes.{nodesOf, members, inside};
+ghost use Rattle.node.specs.Find.{absent, find};
+ghost use Rattle.node.specs.Contracts.{Table};
 ghost use Rattle.element.specs.Elements.{every};
 ghost use Rattle.rules.specs.Frame.{repeatsShared, item27, item28, isWindow, hasWindow, isVoi, isShiftItem, isShiftGroup};
-ghost use Rattle.rules_frame.specs.Merge.{isRepeated};
-ghost use Rattle.rules_frame.specs.Parts.{groupTag, groupFits, groupIn, sharedOk, itemBy, sharedPart, itemGrades, itemRule};
+ghost use Rattle.rules_frame.specs.Contracts.{isRepeated, groupTag, groupFits, groupIn, sharedOk, itemBy, sharedPart, itemGrades, itemRule};
 use value::Function;
 use value::Num;
 

@@ -1,19 +1,19 @@
 // Rules 31 to 36: the mask items, which stand in the root's Mask Subtraction Sequence.
 ghost use mathlib.Core.Path.{_≡_};
-ghost use Prim.Native.Nat.{ℕ, _+_, _-_, _*_, _%_, _≤_, _<_};
-ghost use mathlib.Core.Bool.{Bool, _&&_};
+ghost use Prim.Native.Nat.{_+_, _*_, _%_, _≤_, _<_};
+ghost use mathlib.Core.Bool.{_&&_};
 ghost use lib.ListN.{length};
 ghost use lib.Dec.{leb};
 ghost use Rattle.value.specs.Number.{usValues};
-ghost use Rattle.node.specs.Nodes.{Node, nodesOf, nodeAt, members, inside};
+ghost use Rattle.node.specs.Nodes.{nodesOf, members, inside};
 ghost use Rattle.node.specs.Find.{ifPresent, find};
-ghost use Rattle.node.specs.Table.{Table};
+ghost use Rattle.node.specs.Contracts.{Table};
 ghost use Rattle.element.specs.Tags.{ContrastFrameAveraging};
-ghost use Rattle.element.specs.Elements.{every, some};
+ghost use Rattle.element.specs.Elements.{every};
 ghost use Rattle.rules.specs.Frame.{hasId};
 ghost use Rattle.rules.specs.Mask.{isOperation, isMask, rule31, pairsFit, isRange, rangeFits, rule32, allFrames, areMaskFrames, isOne, averageFits, averagesFit, rule33, isOffset, offsetFits, rule34, isShiftAt, shiftFits, rule35, anyShift, masksHaveIds, rule36};
 ghost use Rattle.rules.specs.All.{ruleAt};
-ghost use Rattle.rules_mask.specs.Parts.{shiftIn};
+ghost use Rattle.rules_mask.specs.Contracts.{shiftIn};
 use element::tags;
 use value::Num;
 use value::Signed;

@@ -1,7 +1,7 @@
 -- The samples of later requests, worked out as the starred cases are (proofs/Starred). They are a claim of their own, since one
 -- claim over both lists takes more steps than the checker allows a declaration.
 use mathlib.Core.Path.{_≡_, refl}
-use mathlib.Core.List.{List, map}
+use mathlib.Core.List.{map}
 use Rattle.dataset.specs.Bytes.{le16}
 use Rattle.dataset.specs.Vr.{listed, formOf}
 use Rattle.dataset.specs.Header.{when, headerBy, delimiterBy, levelBy, definedBy, longBy, typedAt, taggedAt, sizedBy, memberAt}
@@ -28,7 +28,7 @@ use Rattle.pixel.specs.Pixel.{leBytes, isFrame, sampleAt, sumAt, averageOf, mas
 use Rattle.steps.specs.Given.{collect}
 use Rattle.steps.specs.Steps.{geometryOf, pixelsOf, groupFor, rangeHolds, firstHolding, applyingTo, averageFrames, offsetOf, tidFrame, shiftFor, movesFor, maskBy, maskFor, windowIn, windowFor, inverseOf, nativeCell, maskedCell, areFrames, pictureBy, stepsOf}
 use Rattle.display.specs.Show.{pictureOf, acceptedAnswer, showOf, imageOf}
-use Rattle.samples.specs.Samples.{Sample, later}
+use Rattle.samples.specs.Samples.{later}
 
 -- Those of later requests.
 pub later-given : map (λ k. k .gives) later ≡ map (λ k. k .says) later

@@ -8,7 +8,7 @@ use Rattle.dataset.specs.Vr.{listed, formOf}
 use Rattle.dataset.specs.Header.{when, headerBy, delimiterBy, levelBy, definedBy, longBy, typedAt, taggedAt, sizedBy, memberAt}
 use Rattle.dataset.specs.Reading.{level, valueAt, readingOf}
 use Rattle.dataset.specs.Tree.{rowsOf}
-use Rattle.value.specs.Text.{equal, valuesOf, trimStart, trimEnd}
+use Rattle.value.specs.Text.{equal, valuesOf, trimStart, trimEnd, ascii}
 use Rattle.value.specs.Words.{wordAt, isWord, isUid, functionOf}
 use Rattle.value.specs.Number.{usOf, usValues, ssOf, digitsOf, signedBy, wholeOf, isOf, exactOf, exponentOf, endOf, sizeOf, decimalOf, all, allDecimals, allWidths}
 use Rattle.node.specs.Nodes.{nodesOf, members, membersBy}
@@ -29,8 +29,6 @@ use Rattle.pixel.specs.Pixel.{leBytes, isFrame, sampleAt, sumAt, averageOf, mas
 use Rattle.steps.specs.Given.{collect}
 use Rattle.steps.specs.Steps.{geometryOf, pixelsOf, groupFor, rangeHolds, firstHolding, applyingTo, averageFrames, offsetOf, tidFrame, shiftFor, movesFor, maskBy, maskFor, windowIn, windowFor, inverseOf, nativeCell, maskedCell, areFrames, pictureBy, stepsOf}
 use Rattle.display.specs.Show.{pictureOf, acceptedAnswer, showOf, imageOf}
-use Rattle.value.specs.Text.{ascii}
-use Rattle.linear.specs.declared.LinearAnswer.the-variants as linear
 use Rattle.linear.specs.Mapping.{linearFor, placeOf, entryPlace, entryAt, entryOf, mappingBy, mappingOf, isMapped}
 use Rattle.linear.specs.Answer.{entriesOf, linearOf, valuesOf as mappedValues, acceptedAnswer as acceptedLinear}
 use Rattle.samples.specs.Objects.{two, short, long, sequence, item, oneFrame}

@@ -6,7 +6,7 @@ ghost use mathlib.Core.Path.{_≡_};
 ghost use Prim.Native.Nat.{_*_, _≤_};
 ghost use lib.ListN.{length};
 ghost use Rattle.node.specs.Nodes.{nodesOf};
-ghost use Rattle.node.specs.Table.{Table};
+ghost use Rattle.node.specs.Contracts.{Table};
 ghost use Rattle.conformance.specs.Judging.{numberOf};
 ghost use Rattle.show_small.specs.Shown.{drawn, shownOf, imageAfter};
 

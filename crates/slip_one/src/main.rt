@@ -7,7 +7,7 @@ ghost use lib.ListN.{length};
 ghost use Rattle.verdict.specs.Verdict.{writable};
 ghost use Rattle.slip.specs.Slip.{slipOf};
 ghost use Rattle.conformance.specs.Judging.{verdictOf};
-ghost use Rattle.judge_small.specs.Roomy.{roomyOf};
+ghost use Rattle.judge_small.specs.Contracts.{roomyOf};
 use verdict::Verdict;
 
 // One byte more than is judged, so that an input that is too long is seen to be.

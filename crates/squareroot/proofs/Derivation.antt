@@ -1,9 +1,8 @@
 -- The claims of specs/Derivation: a level's square and the next square enclose four times its cell, and four times an entry is the
 -- level's square or up to three more.
-use mathlib.Core.Path.{_≡_, refl, sym, _∙_, ap}
-use mathlib.Core.Bool.{Bool, true, false, cond}
-use Prim.Native.Nat.{ℕ, zero, suc, _+_, _*_, _/_, _%_, _≤_, _<_}
-use native.Mathlib.Nat.{mod-lt, mod-eq-of-lt, div-add-mod, div-lt-iff-lt-mul}
+use mathlib.Core.Path.{_≡_, refl}
+use Prim.Native.Nat.{ℕ, zero, suc, _+_, _*_, _≤_, _<_}
+use native.Mathlib.Nat.{mod-eq-of-lt}
 use native.Mathlib.Omega.{arith}
 use Rattle.squareroot.specs.SquareRoot.{rootOf, cell, levelOf, entryOf}
 use Rattle.squareroot.specs.Derivation.{Largest, Near, Derivation}

@@ -1,6 +1,6 @@
 -- For callers: what a bound says of a number that was matched, bounds of the text forms, and the values of a US.
 use mathlib.Core.Path.{_≡_, refl, ap, _∙_, subst}
-use Prim.Native.Nat.{ℕ, zero, suc, _+_, _-_, _*_, _^_, _/_, _%_, _≤_, _<_}
+use Prim.Native.Nat.{ℕ, zero, suc, _+_, _*_, _^_, _/_, _%_, _≤_, _<_}
 use native.Mathlib.Omega.{arith}
 use native.Mathlib.Numerals.{add-one}
 use mathlib.Core.List.{List, [], _∷_}
@@ -15,7 +15,7 @@ use Rattle.value.specs.declared.Signed.{Signed}
 use Rattle.value.specs.declared.Signed.the-variants as signed
 use Rattle.value.specs.Text.{isSingle, valueOf, trimmed}
 use Rattle.value.specs.Number.{Digits, usValues, digitsOf, plus, minus, signedBy, wholeOn, wholeOf, isOf, decimals, sizeLimit, characters, runOf, within, exactOf, scaledBy, isMark, exponentOf, endOf, pointBy, fractionOn, sizeOf, decimalOf}
-use Rattle.value.specs.Said.{Below, SizeBelow}
+use Rattle.value.specs.Contracts.{Below, SizeBelow}
 use Rattle.value.proofs.Runs.{digits-below}
 
 -- ---- A number that was matched

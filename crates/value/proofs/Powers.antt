@@ -2,7 +2,7 @@
 use mathlib.Core.Path.{_≡_, refl, sym, ap, _∙_}
 use Prim.Native.Nat.{ℕ, zero, suc, _+_, _-_, _*_, _/_, _%_, _^_, _≤_, _<_}
 use native.Mathlib.Omega.{arith}
-use native.Mathlib.Nat.{mul-assoc, mul-comm, mul-sub, mul-left-comm, mul-mod-left, mul-mod-right, mul-div-cancel, mul-div-mul-left, mod-def, mod-one, div-one, zero-mod, zero-div, div-add-mod, le-trans, le-mul-of-pos-right, one-le-pow, pow-succ'}
+use native.Mathlib.Nat.{mul-assoc, mul-comm, mul-sub, mul-mod-left, mul-mod-right, mul-div-cancel, mul-div-mul-left, mod-def, mod-one, div-one, zero-mod, zero-div, div-add-mod, le-trans, le-mul-of-pos-right, one-le-pow, pow-succ'}
 use mathlib.Core.Bool.{Bool, true, false}
 use lib.Dec.{eqb}
 use lib.Pow.{pow-add}

@@ -5,8 +5,8 @@ ghost use Prim.Native.Nat.{_+_, _-_, _*_, _^_, _≤_, _<_};
 ghost use lib.ListN.{length, drop, getD};
 ghost use Rattle.value.specs.Text.{equal, valuesOf, valueOf, isSingle, trimStart, trimEnd, trimmed};
 ghost use Rattle.value.specs.Words.{wordAt, isWord, isUid, functionOf, isFunction};
-ghost use Rattle.value.specs.Number.{usOf, usValues, ssOf, digitsOf, plus, minus, signedBy, wholeOf, isOf, decimals, unit, sizeLimit, characters, runOf, within, wholly, exactOf, scaledBy, isMark, exponentOf, endOf, pointBy, sizeOf, decimalOf, isNumber, leastWidth, isWidth, allDecimals, allWidths};
-ghost use Rattle.value.specs.Said.{Below, SizeBelow, DigitsRead, partsAt};
+ghost use Rattle.value.specs.Number.{usOf, usValues, ssOf, plus, minus, signedBy, wholeOf, isOf, sizeLimit, characters, runOf, within, wholly, exactOf, scaledBy, isMark, exponentOf, endOf, pointBy, sizeOf, decimalOf, isNumber, leastWidth, isWidth, allDecimals, allWidths};
+ghost use Rattle.value.specs.Contracts.{Below, SizeBelow, DigitsRead, partsAt};
 use dataset::u16_at;
 use dataset::wide;
 

@@ -8,7 +8,7 @@ use native.Mathlib.Omega.{arith}
 use borrow.Author.Tests.{eqb-true, leb-true}
 use lib.Dec.{eqb, leb}
 use Rattle.verdict.specs.declared.RowCount.{RowCount}
-use Rattle.verdict.specs.declared.RowCount.the-variants.{Known, NotKnown}
+use Rattle.verdict.specs.declared.RowCount.the-variants.{Known}
 use Rattle.verdict.specs.declared.Verdict.{Verdict}
 use Rattle.verdict.specs.Verdict.{perFrame, frameFits, lastFrame, lastRule, lastOffset, alone, possiblePlain, possibleRefusal, possibleBreach, fieldsFit, mostRows, countFits, rowsFit, possible}
 use Rattle.verdict.proofs.Tests.{and-both, or-either}

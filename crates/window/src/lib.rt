@@ -6,7 +6,7 @@ ghost use lib.IntN.{pos, _-ℤ_};
 ghost use mathlib.Core.Option.{some};
 ghost use Rattle.value.specs.Number.{unit, sizeLimit};
 ghost use Rattle.window.specs.Window.{fullWindow, takenOff, levelOf, shaded};
-ghost use Rattle.window.specs.Said.{Drawable, Filled, above, below, rampOf, number, shadeAt};
+ghost use Rattle.window.specs.Contracts.{Drawable, Filled, above, below, rampOf, number, shadeAt};
 use value::Function;
 use value::Signed;
 

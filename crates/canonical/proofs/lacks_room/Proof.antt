@@ -9,10 +9,6 @@ use Rattle.canonical.specs.Written.{sizeOf}
 use Rattle.canonical.proofs.Sizes.{slice-all}
 use Rattle.canonical.proofs.lacks_room.Statement.{statement}
 use Rattle.canonical.proofs.lacks_room.Tie as tie
-use Rattle.canonical.proofs.lacks_room.Reads as reads
-use Rattle.canonical.proofs.lacks_room.Lts as lts
-use Rattle.canonical.proofs.span.Reads as span-reads
-use Rattle.node.proofs.count.Reads as count-reads
 
 count-requires : tie.Need-count-requires
 count-requires c κs = search needs

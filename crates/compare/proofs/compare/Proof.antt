@@ -3,7 +3,7 @@ use lib.Seq.{length-take-le}
 use Rattle.conformance.specs.declared.JudgeAnswer.the-variants as judged
 use Rattle.display.proofs.Judged as laws
 use Rattle.compare.proofs.Answers as answers
-use mathlib.Core.Path.{_≡_, refl, sym, ap, _∙_, subst}
+use mathlib.Core.Path.{sym, _∙_}
 use native.Mathlib.Omega.{arith}
 use Rattle.dataset.proofs.Promised.{promised}
 use borrow.Author.Needs.{needs}

@@ -1,4 +1,3 @@
-use borrow.Author.Needs.{needs}
 use Rattle.compare.proofs.compare_picture.Statement.{statement}
 use Rattle.compare.proofs.compare_picture.Tie as tie
 

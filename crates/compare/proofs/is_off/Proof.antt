@@ -1,5 +1,4 @@
 use Rattle.compare.proofs.Places as places
-use mathlib.Core.Path.{_≡_, refl, sym, ap, _∙_, subst}
 use native.Mathlib.Omega.{arith}
 use borrow.Author.Needs.{needs}
 use Rattle.compare.proofs.is_off.Statement.{statement}

@@ -4,8 +4,6 @@ use Rattle.conformance.specs.Judging.{numberOf}
 use borrow.Author.Needs.{needs}
 use Rattle.display.proofs.number_of.Statement.{statement}
 use Rattle.display.proofs.number_of.Tie as tie
-use Rattle.display.proofs.number_of.Reads as reads
-use Rattle.display.proofs.number_of.Lts as lts
 
 enum-known-n : tie.Need-enum-known-n
 enum-known-n c = search needs

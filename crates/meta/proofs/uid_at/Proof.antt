@@ -4,7 +4,6 @@ use native.Mathlib.Omega.{arith}
 use borrow.Author.Tests.{eq-eqb, ne-eqb}
 use Rattle.meta.specs.declared.Uid.the-variants.{At}
 use Rattle.meta.specs.Meta.{uidAt}
-use borrow.Author.Needs.{needs}
 use Rattle.meta.proofs.uid_at.Statement.{statement}
 use Rattle.meta.proofs.uid_at.Tie as tie
 

@@ -1,8 +1,6 @@
-use mathlib.Core.Path.{_∙_}
+use mathlib.Core.Path.{_∙_, sym}
 use Rattle.ranges.proofs.Names as names
 use native.Mathlib.Omega.{arith}
-use mathlib.Core.Path.{_≡_, sym}
-use borrow.Author.Tests.{eq-eqb, ne-eqb}
 use Rattle.steps.proofs.Laws as steps-laws
 use borrow.Author.Needs.{needs}
 use Rattle.ranges.proofs.number_of.Statement.{statement}

@@ -1,8 +1,7 @@
-use mathlib.Core.Path.{_≡_, refl, sym, ap, _∙_, subst}
-use Prim.Native.Nat.{ℕ, _≤_}
+use mathlib.Core.Path.{_∙_}
+use Prim.Native.Nat.{ℕ}
 use native.Mathlib.Omega.{arith}
-use lib.ListN.{length, length-replicate}
-use Rattle.node.specs.Nodes.{nodesOf}
+use lib.ListN.{length-replicate}
 use Rattle.display.proofs.Scenes as scenes
 use Rattle.sheet.proofs.Scenes as counted
 use borrow.Author.Needs.{needs}

@@ -4,9 +4,8 @@ use native.Mathlib.Nat.{mul-le-mul}
 use Rattle.pixel.proofs.Laws.{full}
 use Rattle.sheet.specs.Sampling.{total}
 use Rattle.sheet.proofs.Counts.{total-more, total-most}
-use mathlib.Core.Path.{_≡_, refl, sym, ap, _∙_, subst}
+use mathlib.Core.Path.{_≡_, refl, ap, _∙_}
 use native.Mathlib.Omega.{arith}
-use borrow.Author.Needs.{needs}
 use Rattle.sheet.proofs.weighted.Statement.{statement}
 use Rattle.sheet.proofs.weighted.Tie as tie
 

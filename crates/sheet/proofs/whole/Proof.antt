@@ -7,7 +7,7 @@ use Rattle.conformance.specs.declared.JudgeAnswer.the-variants as judged
 use Rattle.display.proofs.Judged as laws
 use Rattle.sheet.specs.Answer.{acceptedAnswer, withSheet}
 use Rattle.sheet.proofs.Answers as answers
-use mathlib.Core.Path.{_≡_, refl, sym, ap, _∙_, subst}
+use mathlib.Core.Path.{sym, ap, _∙_}
 use native.Mathlib.Omega.{arith}
 use Rattle.dataset.proofs.Promised.{promised}
 use borrow.Author.Needs.{needs}

@@ -1,5 +1,5 @@
 -- `entry` works its number out: the square of a level is at most 65,025.
-use Prim.Native.Nat.{ℕ, _*_, _≤_}
+use Prim.Native.Nat.{_≤_}
 use native.Mathlib.Omega.{arith}
 use borrow.Author.Needs.{needs}
 use Rattle.squareroot.specs.SquareRoot.{entryOf}

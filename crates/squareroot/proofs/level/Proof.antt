@@ -1,5 +1,5 @@
 -- `level` answers `levelOf`: low × low ≤ t < high × high throughout, and at the end high is low + 1.
-use mathlib.Core.Path.{_≡_, sym, subst}
+use mathlib.Core.Path.{_≡_, sym}
 use Prim.Native.Nat.{ℕ, _+_, _-_, _*_, _/_, _%_, _≤_, _<_}
 use native.Mathlib.Omega.{arith}
 use Rattle.squareroot.specs.SquareRoot.{levelOf}

@@ -1,4 +1,4 @@
-use mathlib.Core.Path.{_≡_, ap, _∙_}
+use mathlib.Core.Path.{ap, _∙_}
 use mathlib.Core.Option.{Option}
 use Rattle.value.specs.declared.Num.{Num}
 use Rattle.node.specs.Nodes.{nodesOf}

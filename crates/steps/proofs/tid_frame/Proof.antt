@@ -1,5 +1,5 @@
 use Rattle.steps.specs.Steps.{tidFrame}
-use Rattle.steps.specs.Said.{signedOf}
+use Rattle.steps.specs.Contracts.{signedOf}
 use borrow.Author.Needs.{needs}
 use native.Mathlib.Omega.{arith}
 use Rattle.steps.proofs.Laws as laws

@@ -5,7 +5,7 @@ use native.Mathlib.Omega.{arith}
 use borrow.Author.Needs.{needs}
 use Rattle.window.proofs.Laws.{filled-more, power-small}
 use Prim.Native.Nat.{ℕ, _+_, _-_, _^_, _≤_}
-use Rattle.window.specs.Said.{Filled, number, shadeAt}
+use Rattle.window.specs.Contracts.{Filled, number, shadeAt}
 use Rattle.window.proofs.levels.Statement.{statement}
 use Rattle.window.proofs.levels.Tie as tie
 

@@ -5,8 +5,7 @@ use Rattle.sheet.specs.Answer.{fieldsOf}
 use Rattle.sheet.proofs.Answers.{counts-many}
 use Rattle.cabi.specs.Host.{hosted, Fits32, sheetFields, holdsSheet, sheetAfter}
 use Rattle.cabi.proofs.Numbers.{sheet-narrow}
-use mathlib.Core.Path.{_≡_, refl, sym, ap, _∙_, subst}
-use native.Mathlib.Omega.{arith}
+use mathlib.Core.Path.{sym, ap, _∙_, subst}
 use borrow.Author.Needs.{needs}
 use Rattle.cabi.proofs.sampling.xa_sheet.Statement.{statement}
 use Rattle.cabi.proofs.sampling.xa_sheet.Tie as tie

@@ -1,8 +1,5 @@
 -- What the functions of this crate say of each other. No paragraph of the papers stands here.
-use mathlib.Core.Path.{_≡_}
 use Prim.Native.Nat.{ℕ, _≤_}
-use mathlib.Core.List.{List}
-use lib.ListN.{length}
 use Rattle.dataset.specs.Reading.{Run, done, refused}
 use Rattle.meta.specs.declared.Uid.{Uid}
 use Rattle.meta.specs.declared.Uid.the-variants.{At, Lacks}

@@ -3,12 +3,12 @@
 use mathlib.Core.Path.{_≡_}
 use mathlib.Core.Bool.{true}
 use mathlib.Core.List.{List, [], _∷_, _++_}
-use Prim.Native.Nat.{ℕ, zero, suc, _+_, _-_, _*_, _^_, _≤_, _<_}
-use lib.ListN.{length, getD}
-use Rattle.window.specs.Said.{Drawable, shadeAt, Filled}
+use Prim.Native.Nat.{ℕ, zero, suc, _+_, _-_, _^_, _≤_, _<_}
+use lib.ListN.{length}
+use Rattle.window.specs.Contracts.{Drawable, shadeAt, Filled}
 use Rattle.pixel.specs.declared.Geometry.{Geometry}
 use Rattle.pixel.specs.Pixel.{isFrame, blendOf}
-use Rattle.pixel.specs.Said.{Shaped, Masks, Row, cellAt, blockAt, Averages, Weights, farthest, farthestMove}
+use Rattle.pixel.specs.Contracts.{Shaped, Masks, Row, cellAt, blockAt, Averages, Weights, farthest, farthestMove}
 use Rattle.lines.specs.declared.Shades.{Shades}
 
 -- f 0, f 1, .. up to f (n - 1).

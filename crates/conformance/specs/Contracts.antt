@@ -2,17 +2,17 @@
 use mathlib.Core.Path.{_≡_}
 use Prim.Native.Nat.{ℕ, _+_, _-_, _≤_}
 use mathlib.Core.List.{List}
-use mathlib.Core.Bool.{Bool, true, false, cond}
+use mathlib.Core.Bool.{true, false, cond}
 use lib.ListN.{drop}
 use Rattle.value.specs.declared.Num.{Num}
 use Rattle.value.specs.declared.Num.the-variants.{Is, Lacks}
 use Rattle.verdict.specs.Verdict.{perFrame, lastRule}
 use Rattle.node.specs.Nodes.{Node}
 use Rattle.element.specs.declared.Items.{Items}
-use Rattle.element.specs.Along.{Along}
+use Rattle.element.specs.Contracts.{Along}
 use Rattle.element.specs.Frames.{frameItems}
 use Rattle.rules_frame.specs.declared.SharedPart.{SharedPart}
-use Rattle.rules_frame.specs.Parts.{sharedPart}
+use Rattle.rules_frame.specs.Contracts.{sharedPart}
 
 -- What a rule comes to that asks nothing of a shared item.
 abbrev pub noPart : SharedPart

@@ -1,17 +1,20 @@
--- How the code takes rule 39 apart: each of its two functional groups comes to a grade, 0 where it is broken, and the rule
--- compares the two. No paragraph of the paper stands here; `Rattle.rules` has the rule.
-use Prim.Native.Nat.{ℕ}
+-- What the functions of this crate ask and say of each other. No paragraph of a paper stands here.
+use Prim.Native.Nat.{ℕ, _<_}
 use mathlib.Core.List.{List}
-use mathlib.Core.Bool.{Bool, cond, _&&_}
+use mathlib.Core.Bool.{Bool, cond, _&&_, true}
 use lib.ListN.{length}
 use lib.Dec.{eqb, leb}
-use Rattle.node.specs.Nodes.{Node, inside}
+use Rattle.node.specs.Nodes.{Node, inside, members}
 use Rattle.node.specs.Find.{find}
 use Rattle.value.specs.declared.Num.{Num}
 use Rattle.value.specs.declared.Num.the-variants.{Is, Lacks}
 use Rattle.element.specs.Tags
 use Rattle.element.specs.Elements.{oneItem}
-use Rattle.rules.specs.Intensity.{areLuts, isLutGroup, hasLinear, isLog}
+use Rattle.rules.specs.Intensity.{areLuts, isLutGroup, hasLinear, isLog, isLinear, linearAmong}
+use mathlib.Core.Path.{_≡_}
+
+-- How the code takes rule 39 apart: each of its two functional groups comes to a grade, 0 where it is broken, and the rule
+-- compares the two. No paragraph of the paper stands here; `Rattle.rules` has the rule.
 
 -- Broken; good; good, and LOG or with a TO_LINEAR item.
 abbrev pub grade : Bool → Bool → ℕ
@@ -40,3 +43,9 @@ tableIn ns i otherwise = gradeOn (find ns Tags.PixelIntensityRelationshipLUTSequ
 -- Rule 39 by the grades of the frame's two groups.
 abbrev pub agree : ℕ → ℕ → Bool
 agree relation table = leb 1 relation && leb relation table
+
+-- Where a search for a TO_LINEAR item stops.
+
+pub record Stops (ns : List Node) (from to r : ℕ) : Type 0 where
+  pub same : linearAmong ns (members ns r to) ≡ linearAmong ns (members ns from to)
+  pub stands : r < to → isLinear ns r ≡ true

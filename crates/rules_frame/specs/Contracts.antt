@@ -1,16 +1,26 @@
--- How the code takes the rules that are asked at each frame apart: what a rule asks of the shared item is worked out once, and
--- what is left is asked of each frame's item. No paragraph of document 01 stands here; `Rattle.rules` has the rules.
+-- What the functions of this crate ask and say of each other. No paragraph of a paper stands here.
 use Prim.Native.Nat.{ℕ}
 use mathlib.Core.List.{List}
-use mathlib.Core.Bool.{Bool, true, cond}
+use mathlib.Core.Bool.{Bool, _&&_, true, cond}
 use lib.Dec.{eqb}
-use Rattle.node.specs.Nodes.{Node, inside}
-use Rattle.node.specs.Find.{holdsOr, absent, find}
+use Rattle.dataset.specs.Vr.{SQ}
+use Rattle.node.specs.Nodes.{Node, nodeAt, inside}
+use Rattle.node.specs.Find.{holds, holdsOr, absent, find}
+use Rattle.node.specs.Contracts.{firstIs}
 use Rattle.element.specs.Tags
 use Rattle.element.specs.Elements.{oneItem}
-use Rattle.intensity.specs.Grades.{relationIn, tableIn, agree}
+use Rattle.intensity.specs.Contracts.{relationIn, tableIn, agree}
 use Rattle.rules_frame.specs.declared.SharedPart.{SharedPart}
 use Rattle.rules.specs.Frame.{item27, item28, isVoi, isShiftGroup}
+
+-- How the code of rule 27 takes the elements of two items together, by their tags.
+
+-- Node j is a sequence, and the first of the members is one of its tag.
+unfoldable pub isRepeated : List Node → ℕ → List ℕ → Bool
+isRepeated ns j ks = eqb (nodeAt ns j .vr) SQ && holds (firstIs ns (nodeAt ns j .tag) ks) (λ k. eqb (nodeAt ns k .vr) SQ)
+
+-- How the code takes the rules that are asked at each frame apart: what a rule asks of the shared item is worked out once, and
+-- what is left is asked of each frame's item. No paragraph of document 01 stands here; `Rattle.rules` has the rules.
 
 -- The functional group that rule 29, 30 or 37 is of, and what it asks of the group.
 unfoldable pub groupTag : ℕ → ℕ

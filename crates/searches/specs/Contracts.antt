@@ -2,12 +2,12 @@
 -- paragraph of the papers stands here.
 use mathlib.Core.Path.{_≡_}
 use Prim.Native.Nat.{ℕ, _+_, _*_, _≤_}
-use mathlib.Core.List.{List, [], _∷_, map}
+use mathlib.Core.List.{List, [], _∷_}
 use mathlib.Core.Bool.{Bool}
 use lib.ListN.{length, take}
 use Rattle.node.specs.Nodes.{Node, inside}
 use Rattle.node.specs.Find.{find}
-use Rattle.node.specs.Table.{Table}
+use Rattle.node.specs.Contracts.{Table}
 use Rattle.element.specs.Elements.{insideOf}
 use Rattle.conformance.specs.declared.JudgeAnswer.{JudgeAnswer}
 use Rattle.conformance.specs.declared.JudgeAnswer.the-variants as judged

@@ -11,8 +11,8 @@ use Rattle.value.specs.declared.Num.the-variants.{Is, Lacks}
 use Rattle.value.specs.declared.Signed.{Signed}
 use Rattle.value.specs.declared.Signed.the-variants as signed
 use Rattle.value.specs.Words.{isFunction}
-use Rattle.value.specs.Number.{unit, sizeLimit, isNumber, leastWidth, isWidth}
-use Rattle.value.specs.Said.{SizeBelow}
+use Rattle.value.specs.Number.{sizeLimit, isNumber, leastWidth, isWidth}
+use Rattle.value.specs.Contracts.{SizeBelow}
 use Rattle.window.specs.declared.Window.{Window}
 use Rattle.window.specs.Window.{levelOf, shaded}
 

@@ -1,6 +1,6 @@
 -- What the tables over all frames hold. No paragraph of a paper stands here: which mask item applies stands in `Rattle.steps`.
 use mathlib.Core.Path.{_≡_}
-use mathlib.Core.Bool.{Bool, true, false, cond}
+use mathlib.Core.Bool.{Bool, true, cond}
 use mathlib.Core.List.{List, [], _∷_}
 use mathlib.Core.Option.{Option, none, some}
 use Prim.Native.Nat.{ℕ, zero, suc, _+_, _-_, _≤_, _<_, max}
@@ -12,7 +12,7 @@ use Rattle.steps.specs.declared.Applying.the-variants.{Item, Nothing}
 use Rattle.steps.specs.declared.Found.{Found}
 use Rattle.steps.specs.declared.Found.the-variants as found
 use Rattle.steps.specs.Steps.{firstHolding, applyingTo}
-use Rattle.steps.specs.Said.{IsShared}
+use Rattle.steps.specs.Contracts.{IsShared}
 
 -- ---- How far pairs reach
 

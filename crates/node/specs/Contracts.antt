@@ -1,14 +1,26 @@
--- How the code finds an element among members: tags never descend among them, so that a search stops at the first tag not below the one
--- sought, and goes by halves where that is far. No paragraph of document 01 stands here.
+-- What the functions of this crate ask and say of each other. No paragraph of a paper stands here.
 use mathlib.Core.Path.{_≡_}
-use Prim.Native.Nat.{ℕ, _+_, _≤_, _<_}
+use Prim.Native.Nat.{ℕ, _*_, _≤_, _+_, _<_}
 use mathlib.Core.List.{List, [], _∷_}
+use lib.ListN.{length}
+use Rattle.dataset.specs.Answer.{flat}
+use Rattle.dataset.specs.Tree.{rowsOf, rowAt}
+use Rattle.node.specs.Nodes.{nodesOf, Node, nodeAt, nextNode, members}
 use mathlib.Core.Bool.{cond}
 use lib.Dec.{eqb, ltb}
 use Rattle.value.specs.declared.Num.{Num}
 use Rattle.value.specs.declared.Num.the-variants.{Is, Lacks}
-use Rattle.dataset.specs.Tree.{rowsOf, rowAt}
-use Rattle.node.specs.Nodes.{Node, nodesOf, nodeAt, nextNode, members}
+
+-- What the functions over a row table ask of it.
+
+-- The row table of a data set that was read.
+pub record Table (s rows : List ℕ) : Type 0 where
+  pub is : rows ≡ flat (rowsOf s)
+  pub size : length rows ≡ 7 * length (nodesOf s)
+  pub few : length (nodesOf s) ≤ 134217728
+
+-- How the code finds an element among members: tags never descend among them, so that a search stops at the first tag not below the one
+-- sought, and goes by halves where that is far.
 
 -- No tag of the members is below `least` or below one before it.
 unfoldable pub Ascends : List Node → ℕ → List ℕ → Type 0

@@ -3,14 +3,14 @@ use mathlib.Core.Path.{_≡_}
 use mathlib.Core.Bool.{Bool, true}
 use mathlib.Core.Logic.{_⊎_}
 use mathlib.Core.List.{List, [], _∷_}
-use Prim.Native.Nat.{ℕ, _+_, _-_, _*_, _≤_, _<_, _^_}
+use Prim.Native.Nat.{ℕ, _+_, _≤_, _<_, _^_}
 use lib.ListN.{length, getD, set, replicate}
 use Rattle.node.specs.Nodes.{Node}
 use Rattle.pixel.specs.declared.Geometry.{Geometry}
 use Rattle.pixel.specs.Pixel.{isFrame}
-use Rattle.pixel.specs.Said.{Shaped, longestRow}
-use Rattle.lines.specs.Lines.{Shaded}
-use Rattle.ranges.specs.Ranges.{Applied, Known}
+use Rattle.pixel.specs.Contracts.{Shaped, longestRow}
+use Rattle.lines.specs.Contracts.{Shaded}
+use Rattle.ranges.specs.Contracts.{Applied, Known}
 use Rattle.sheet.specs.declared.Held.{Held}
 use Rattle.sheet.specs.declared.Counted.{Counted}
 

@@ -1,17 +1,33 @@
--- What contracts say beside the definitions of a picture: what painting needs, and what each part of the code comes to.
+-- What the functions of this crate ask and say of each other. No paragraph of a paper stands here.
+use Prim.Native.Nat.{ℕ, zero, suc, _+_, _-_, _^_, _*_, _/_, _%_, _≤_, _<_, min}
+use mathlib.Core.List.{List, [], _∷_}
+use lib.ListN.{getD, set, length}
+use Rattle.shift.specs.declared.Moves.{Moves}
+use Rattle.pixel.specs.declared.Geometry.{Geometry}
+use Rattle.pixel.specs.Pixel.{sampleAt, blendedAt, leBytes, samplesOf, isFrame, sumAt, averageOf, maskAt, placeOf, restOf, blockOf, weightsOf, blendOf}
 use mathlib.Core.Path.{_≡_}
 use mathlib.Core.Bool.{true}
-use mathlib.Core.List.{List, [], _∷_}
 use mathlib.Core.Logic.{_⊎_}
-use Prim.Native.Nat.{ℕ, zero, suc, _+_, _-_, _*_, _/_, _%_, _^_, _≤_, _<_, min}
-use lib.ListN.{length, getD, set}
 use Rattle.value.specs.Number.{usValues}
 use Rattle.value.specs.declared.Signed.{Signed}
-use Rattle.shift.specs.declared.Moves.{Moves}
 use Rattle.shift.specs.Shift.{shiftUnit, largestShift, largestMove}
-use Rattle.shift.specs.Said.{ShortMoves}
-use Rattle.pixel.specs.declared.Geometry.{Geometry}
-use Rattle.pixel.specs.Pixel.{leBytes, samplesOf, isFrame, sampleAt, sumAt, averageOf, maskAt, placeOf, restOf, blockOf, weightsOf, blendOf}
+use Rattle.shift.specs.Contracts.{ShortMoves}
+
+-- What the painting functions write: one byte for each sample of the frame, from a table of shades. The table stands at
+-- sample - mask + 2^stored - 1; a native sample stands where a mask of 2^(stored - 1) would put it.
+
+-- The first n bytes of an image are f 0, f 1, ..; it is untouched beyond them.
+unfoldable pub painted : (ℕ → ℕ) → ℕ → List ℕ → List ℕ
+painted f zero image = image
+painted f (suc n) image = set (painted f n image) n (f n)
+
+unfoldable pub nativeShade : List ℕ → Geometry → List ℕ → ℕ → ℕ → ℕ
+nativeShade table g v f i = getD table (sampleAt g v f i + (2 ^ g .stored - 1 - 2 ^ (g .stored - 1))) 0
+
+unfoldable pub maskedShade : List ℕ → Geometry → List ℕ → ℕ → List ℕ → Moves → ℕ → ℕ
+maskedShade table g v f ks m i = getD table (sampleAt g v f i + (2 ^ g .stored - 1) - blendedAt g v ks m i) 0
+
+-- What contracts say beside the definitions of a picture: what painting needs, and what each part of the code comes to.
 
 -- ---- Room for moves
 
