@@ -159,7 +159,7 @@ fn end_frame(rule: usize, n: usize) -> usize
 }
 
 // The first broken rule, and at that rule the lowest frame.
-pub fn first_broken(bytes: &[u8], rows: &[u32]) -> Finding
+fn first_broken(bytes: &[u8], rows: &[u32]) -> Finding
     requires { ⌜ Table (now bytes) (now rows) ⌝ }
     ensures { λ r. ⌜ r ≡ findingOf (nodesOf (now (bytes .entry))) ⌝ }
 {

@@ -235,7 +235,7 @@ fn paint(
 }
 
 // Step 7: whether the picture is inverted.
-pub fn is_inverse(bytes: &[u8], rows: &[u32]) -> bool
+fn is_inverse(bytes: &[u8], rows: &[u32]) -> bool
     requires { ⌜ Table (now bytes) (now rows) × GivesInverse (inverseOf (nodesOf (now bytes))) ⌝ }
     ensures { λ r. ⌜ inverseOf (nodesOf (now (bytes .entry))) ≡ some r ⌝ }
 {

@@ -213,7 +213,7 @@ pub fn is_one_item(bytes: &[u8], rows: &[u32], i: usize) -> bool
 }
 
 // The items of the root's sequence of the tag, from the first; none where there is no such sequence.
-pub fn items_root(bytes: &[u8], rows: &[u32], tag: usize) -> Items
+fn items_root(bytes: &[u8], rows: &[u32], tag: usize) -> Items
     requires { ⌜ Table (now bytes) (now rows) ⌝ }
     ensures { λ r. ⌜ Along (nodesOf (now (bytes .entry))) (itemsIn (nodesOf (now (bytes .entry))) tag (root (nodesOf (now (bytes .entry))))) r ⌝ }
 {
@@ -324,7 +324,7 @@ pub fn mask_items(bytes: &[u8], rows: &[u32]) -> Items
 }
 
 // A frame's functional group of the tag: that in its item, else the shared one.
-pub fn group_of(bytes: &[u8], rows: &[u32], tag: usize, shared: usize, item: usize) -> Num
+fn group_of(bytes: &[u8], rows: &[u32], tag: usize, shared: usize, item: usize) -> Num
     requires { ⌜ Table (now bytes) (now rows) × ((shared < length (nodesOf (now bytes))) × (item < length (nodesOf (now bytes)))) ⌝ }
     ensures { λ r. ⌜ r ≡ groupOf (nodesOf (now (bytes .entry))) tag shared item ⌝ }
     ensures { λ r. ⌜ Below (length (nodesOf (now (bytes .entry)))) r ⌝ }

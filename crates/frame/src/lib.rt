@@ -17,7 +17,7 @@ pub struct FrameView<'a> {
 // ---- Slices and numbers
 
 // Block k of blocks of `size` bytes.
-pub fn block(s: &[u8], size: usize, k: usize) -> &[u8]
+fn block(s: &[u8], size: usize, k: usize) -> &[u8]
     requires { ⌜ k * size + size ≤ length (now s) ⌝ }
     ensures { λ r. ⌜ Part (s .entry) (k * size) size r ⌝ }
 {
@@ -27,7 +27,7 @@ pub fn block(s: &[u8], size: usize, k: usize) -> &[u8]
 }
 
 // The bytes of a frame.
-pub fn frame_part(pixels: &[u8], rows: usize, columns: usize, width: usize, frame: usize) -> &[u8]
+fn frame_part(pixels: &[u8], rows: usize, columns: usize, width: usize, frame: usize) -> &[u8]
     requires { ⌜ Fits rows columns width frame (length (now pixels)) ⌝ }
     ensures { λ r. ⌜ Part (pixels .entry) ((frame - 1) * frameSize rows columns width) (frameSize rows columns width) r ⌝ }
 {
@@ -35,7 +35,7 @@ pub fn frame_part(pixels: &[u8], rows: usize, columns: usize, width: usize, fram
 }
 
 // The bytes of a line of a frame's bytes.
-pub fn line_part(samples: &[u8], columns: usize, width: usize, row: usize) -> &[u8]
+fn line_part(samples: &[u8], columns: usize, width: usize, row: usize) -> &[u8]
     requires { ⌜ row * (columns * width) + columns * width ≤ length (now samples) ⌝ }
     ensures { λ r. ⌜ Part (samples .entry) (row * (columns * width)) (columns * width) r ⌝ }
 {
@@ -45,7 +45,7 @@ pub fn line_part(samples: &[u8], columns: usize, width: usize, row: usize) -> &[
 // ---- The view: each function makes it, or takes it apart
 
 // The frame's bytes, with its size.
-pub fn view<'a>(
+fn view<'a>(
     pixels: &'a [u8],
     rows: usize,
     columns: usize,
@@ -64,7 +64,7 @@ pub fn view<'a>(
 }
 
 // A line of the frame.
-pub fn line<'a>(v: FrameView<'a>, width: usize, row: usize) -> &'a [u8]
+fn line<'a>(v: FrameView<'a>, width: usize, row: usize) -> &'a [u8]
     requires { ⌜ row * (v .columns * width) + v .columns * width ≤ length (now (v .samples)) ⌝ }
     ensures { λ r. ⌜ Part (v .entry .samples) (row * (v .entry .columns * width)) (v .entry .columns * width) r ⌝ }
 {

@@ -14,7 +14,7 @@ const SQ: usize = 0x5351;
 
 // ---- The TO_LINEAR items
 
-pub fn is_linear(bytes: &[u8], rows: &[u32], item: usize) -> bool
+fn is_linear(bytes: &[u8], rows: &[u32], item: usize) -> bool
     requires { ⌜ Table (now bytes) (now rows) × (item < length (nodesOf (now bytes))) ⌝ }
     ensures { λ r. ⌜ r ≡ isLinear (nodesOf (now (bytes .entry))) item ⌝ }
 {

@@ -1,5 +1,6 @@
 // The reading of a data set, printed to standard output: `rows N` and a line for each row, or the refusal.
 use dataset::ReadAnswer;
+use room::row_buffer;
 ghost use mathlib.Core.Path.{_≡_};
 ghost use Prim.Native.Nat.{_+_, _*_, _≤_};
 ghost use lib.ListN.{length};
@@ -7,17 +8,6 @@ ghost use Rattle.dataset.specs.Reading.{readingOf};
 ghost use Rattle.dataset.specs.Answer.{answerOf, bufferOf};
 ghost use Rattle.rowprint.specs.Text.{hexDigit, heading, letter as Text·letter};
 ghost use Rattle.rowprint.specs.Contracts.{Held, Roomy};
-
-// The most bytes that a data set to be printed may have.
-pub const MOST: usize = 65_536;
-
-// Room for the rows of a data set of that size, since a row has at least 8 bytes. A function of its own gives the
-// length, so that no proof computes it from the array.
-fn row_buffer() -> [u32; 57_344]
-    ensures { λ r. ⌜ 57344 ≡ length r ⌝ }
-{
-    [0; 57_344]
-}
 
 fn hex_digit(n: u32) -> u8
     ensures { λ r. ⌜ r ≡ hexDigit n ⌝ }
@@ -119,9 +109,9 @@ fn read_roomy(bytes: &[u8], rows: &mut [u32]) -> ReadAnswer
     dataset::read(bytes, rows)
 }
 
-// Prints the reading of a data set of at most `MOST` bytes; of more, that they are too many.
+// Prints the reading of a data set of at most `room::MOST` bytes; of more, that they are too many.
 pub fn print_reading(bytes: &[u8]) {
-    if MOST < bytes.len() {
+    if room::MOST < bytes.len() {
         io::write_all(1, b"too long: at most 65536 bytes\n");
         return;
     }

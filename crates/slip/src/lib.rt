@@ -3,11 +3,14 @@
 // frame from 7, the offset from 9, the row count from 13. Slips of version 1, which are read too, end before the row count.
 ghost use mathlib.Core.Path.{_≡_};
 ghost use mathlib.Core.List.{_++_};
-ghost use Prim.Native.Nat.{_+_, _≤_, _<_};
+ghost use Prim.Native.Nat.{_≤_};
 ghost use lib.ListN.{length, take, drop};
 ghost use Rattle.dataset.specs.Fields.{Answers};
 ghost use Rattle.verdict.specs.declared.RowCount.the-variants.{Known, NotKnown};
 ghost use Rattle.slip.specs.Slip.{headSize, oldSize, slipSize, rowsAt, versionAt, mark, number, equal, recorded, ifPossible, readSized, readVersion, slipWith, readOf, readFields, writeOf, writeFields, bufferOf};
+use dataset::u16_at;
+use dataset::u32_at;
+use dataset::wide;
 use verdict::RowCount;
 use verdict::Verdict;
 
@@ -35,26 +38,6 @@ pub enum WriteAnswer {
 }
 
 // ---- Reading
-
-fn wide(x: u8) -> usize
-    ensures { λ r. ⌜ (r ≡ x) × (r < 256) ⌝ }
-{
-    x as usize
-}
-
-fn u16_at(s: &[u8], p: usize) -> usize
-    requires { ⌜ p + 2 ≤ length (now s) ⌝ }
-    ensures { λ r. ⌜ (r ≡ number 2 (now (s .entry)) p) × (r < 65536) ⌝ }
-{
-    wide(s[p]) + 256 * wide(s[p + 1])
-}
-
-fn u32_at(s: &[u8], p: usize) -> usize
-    requires { ⌜ p + 4 ≤ length (now s) ⌝ }
-    ensures { λ r. ⌜ (r ≡ number 4 (now (s .entry)) p) × (r < 4294967296) ⌝ }
-{
-    u16_at(s, p) + 65536 * u16_at(s, p + 2)
-}
 
 // Whether a slip starts with "XAV".
 fn is_marked(s: &[u8]) -> bool

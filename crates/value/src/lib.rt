@@ -138,7 +138,7 @@ pub fn value_of<'a>(v: &'a [u8], k: usize) -> &'a [u8]
 }
 
 // Without the bytes b in front.
-pub fn trim_start<'a>(v: &'a [u8], b: u8) -> &'a [u8]
+fn trim_start<'a>(v: &'a [u8], b: u8) -> &'a [u8]
     ensures { λ r. ⌜ now r ≡ trimStart b (now (v .entry)) ⌝ }
 {
     let mut i = 0;
@@ -166,7 +166,7 @@ pub fn trim_end<'a>(v: &'a [u8], b: u8) -> &'a [u8]
 }
 
 // Without outer spaces.
-pub fn trimmed<'a>(v: &'a [u8]) -> &'a [u8]
+fn trimmed<'a>(v: &'a [u8]) -> &'a [u8]
     ensures { λ r. ⌜ now r ≡ trimmed (now (v .entry)) ⌝ }
 {
     let t = trim_end(v, SPACE);

@@ -63,7 +63,7 @@ fn ramp(e: usize, up: usize, down: usize, w: usize) -> usize
 }
 
 // The level of x = plus - minus.
-pub fn level(window: Window, plus: usize, minus: usize) -> usize
+fn level(window: Window, plus: usize, minus: usize) -> usize
     requires { ⌜ Drawable window × ((plus < 200000) × (minus < 200000)) ⌝ }
     ensures { λ r. ⌜ (some (pos r) ≡ levelOf window (pos plus -ℤ pos minus)) × (r ≤ 255) ⌝ }
 {
