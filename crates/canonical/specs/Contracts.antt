@@ -4,6 +4,7 @@ use Prim.Native.Nat.{ℕ, _+_, _≤_, _<_}
 use mathlib.Core.List.{List}
 use lib.ListN.{length, drop}
 use lib.Seq.{sets}
+use Rattle.dataset.specs.Reading.{largest}
 use Rattle.node.specs.Nodes.{Node, nodesOf, nextNode}
 use Rattle.node.specs.Contracts.{Table}
 use Rattle.canonical.specs.Written.{sizeOf, writtenOf}
@@ -12,7 +13,7 @@ use Rattle.canonical.specs.Written.{sizeOf, writtenOf}
 pub record Sized (s rows : List ℕ) : Type 0 where
   pub table : Table s rows
   pub fits : sizeOf (nodesOf s) ≤ length s
-  pub small : sizeOf (nodesOf s) ≤ 1073741824
+  pub small : sizeOf (nodesOf s) ≤ largest
 
 -- The bytes stand at `at`, and nothing else is changed.
 pub record Put (before after : List ℕ) (at : ℕ) (bytes : List ℕ) : Type 0 where

@@ -5,7 +5,7 @@ ghost use Prim.Native.Nat.{_+_, _-_, _≤_, _<_};
 ghost use lib.ListN.{length};
 ghost use lib.Seq.{slice};
 ghost use lib.Dec.{ltb};
-ghost use Rattle.dataset.specs.Reading.{readingOf};
+ghost use Rattle.dataset.specs.Reading.{largest, readingOf};
 ghost use Rattle.dataset.specs.Fields.{Answers};
 ghost use Rattle.dataset.specs.Answer.{bufferOf};
 ghost use Rattle.node.specs.Nodes.{nodesOf, nodeAt};
@@ -101,7 +101,7 @@ fn own_size(bytes: &[u8], rows: &[u32], i: usize) -> usize
 // The bytes that the nodes from `from` up to `to` take together.
 fn span(bytes: &[u8], rows: &[u32], from: usize, to: usize) -> usize
     requires { ⌜ Sized (now bytes) (now rows) × ((from ≤ to) × (to ≤ length (nodesOf (now bytes)))) ⌝ }
-    ensures { λ r. ⌜ (r ≡ sizeOf (slice from to (nodesOf (now (bytes .entry))))) × (r ≤ 1073741824) ⌝ }
+    ensures { λ r. ⌜ (r ≡ sizeOf (slice from to (nodesOf (now (bytes .entry))))) × (r ≤ largest) ⌝ }
 {
     let mut sum: usize = 0;
     let mut i = from;

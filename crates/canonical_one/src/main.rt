@@ -6,12 +6,13 @@ use room::row_buffer;
 ghost use mathlib.Core.Path.{_≡_};
 ghost use Prim.Native.Nat.{_*_, _≤_};
 ghost use lib.ListN.{length};
+ghost use Rattle.dataset.specs.Answer.{width};
 ghost use Rattle.canonical.specs.Answer.{canonicalOf, targetOf};
 ghost use Rattle.canonical_one.specs.Contracts.{Held, Roomy};
 
 // Writes the canonical form, with room for seven numbers for each 8 bytes and a target as long as the data set: both suffice.
 fn write_roomy(bytes: &[u8], rows: &mut [u32], target: &mut [u8]) -> CanonicalAnswer
-    requires { ⌜ (7 * length (now bytes) ≤ 8 * length (now rows)) × (length (now bytes) ≤ length (now target)) ⌝ }
+    requires { ⌜ (width * length (now bytes) ≤ 8 * length (now rows)) × (length (now bytes) ≤ length (now target)) ⌝ }
     ensures { λ r. ⌜ r ≡ canonicalOf (now (bytes .entry)) (now (rows .entry)) (now (target .entry)) ⌝ }
     ensures { λ _. ⌜ now (target .exit) ≡ targetOf (now (bytes .entry)) (now (rows .entry)) (now (target .entry)) ⌝ }
     ensures { λ r. ⌜ Held r (now (target .exit)) ⌝ }

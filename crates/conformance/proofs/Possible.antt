@@ -16,7 +16,8 @@ use Rattle.dataset.specs.Answer.{answerOf}
 use Rattle.dataset.proofs.Laws.{answer-small, Small as SmallAnswer}
 use Rattle.value.specs.declared.Num.{Num}
 use Rattle.value.specs.declared.Num.the-variants.{Is, Lacks}
-use Rattle.verdict.specs.Verdict.{lastRule, lastFrame, perFrame, frameFits, mostRows, fieldsFit, countFits, possible, writable}
+use Rattle.dataset.specs.Reading.{mostRows}
+use Rattle.verdict.specs.Verdict.{lastRule, lastFrame, perFrame, frameFits, fieldsFit, countFits, possible, writable}
 use Rattle.verdict.proofs.Tests.{false-is-true, and-both, or-either}
 use Rattle.verdict.proofs.Bounds.{Small, possible-small}
 use Rattle.node.specs.Nodes.{Node, nodesOf}

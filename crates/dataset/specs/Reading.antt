@@ -90,6 +90,10 @@ itemsAt levels s first c = itemsBy (elementsAt levels s) levels s first c
 abbrev pub largest : ℕ
 largest = 1073741824
 
+-- The most rows that it has: a row takes 8 bytes or more.
+abbrev pub mostRows : ℕ
+mostRows = 134217728
+
 -- Too large, refused, or read.
 pub data Reading : Type 0 where
   tooLarge : Reading

@@ -8,13 +8,16 @@ ghost use lib.Seq.{sets};
 ghost use Rattle.dataset.specs.Bytes.{le16, le32, tagAt, vrAt};
 ghost use Rattle.dataset.specs.Vr.{formOf};
 ghost use Rattle.dataset.specs.Header.{moved, delimiterBy, levelBy, definedBy, longBy, typedAt, taggedAt, sizedBy, memberAt, elementAt, itemAt};
-ghost use Rattle.dataset.specs.Reading.{elementsAt, itemsAt, readingOf, row};
+ghost use Rattle.dataset.specs.Reading.{elementsAt, itemsAt, largest, readingOf, row};
 ghost use Rattle.dataset.specs.Fields.{Answers};
-ghost use Rattle.dataset.specs.Answer.{answerOf, countOf, bufferOf, flat, fieldsOf};
+ghost use Rattle.dataset.specs.Answer.{width, answerOf, countOf, bufferOf, flat, fieldsOf};
 ghost use Rattle.dataset.specs.Contracts.{FormsAfter, Within, Walked, LeafWalked, Ready};
 
 // The most bytes that a data set may have.
 pub const LARGEST: usize = 1_073_741_824;
+
+// The most rows that it has.
+pub const MOST_ROWS: usize = 134_217_728;
 
 // How many numbers a row has: tag, VR, depth, offset, length, descendants, parent.
 pub const WIDTH: usize = 7;
@@ -360,8 +363,8 @@ fn put_row(
     first: usize,
 )
     requires { ⌜ (levels ≤ 8) × ((8 * n + 8 ≤ start) × ((start ≤ stop) × ((n < m) × ((first ≤ n) × ((tag < 4294967296) × (vr < 65536)))))) ⌝ }
-    requires { ⌜ (7 * n + 7 ≤ length (now rows) → (stop ≤ 1073741824) × (m ≤ 1073741824)) ⌝ }
-    ensures { λ _. ⌜ (7 * n + 7 ≤ length (now (rows .entry)) → now (rows .exit) ≡ sets (now (rows .entry)) (7 * n) (flat (row tag vr (8 - levels) start (stop - start) (m - n - 1) first ∷ []))) ⌝ }
+    requires { ⌜ (width * n + width ≤ length (now rows) → (stop ≤ largest) × (m ≤ largest)) ⌝ }
+    ensures { λ _. ⌜ (width * n + width ≤ length (now (rows .entry)) → now (rows .exit) ≡ sets (now (rows .entry)) (width * n) (flat (row tag vr (8 - levels) start (stop - start) (m - n - 1) first ∷ []))) ⌝ }
 {
     let i = WIDTH * n;
     if i + WIDTH <= rows.len() {

@@ -3,7 +3,8 @@ use mathlib.Core.Path.{_≡_}
 use Prim.Native.Nat.{ℕ, _*_, _≤_, _+_, _<_}
 use mathlib.Core.List.{List, [], _∷_}
 use lib.ListN.{length}
-use Rattle.dataset.specs.Answer.{flat}
+use Rattle.dataset.specs.Reading.{mostRows}
+use Rattle.dataset.specs.Answer.{width, flat}
 use Rattle.dataset.specs.Tree.{rowsOf, rowAt}
 use Rattle.node.specs.Nodes.{nodesOf, Node, nodeAt, nextNode, members}
 use mathlib.Core.Bool.{cond}
@@ -16,8 +17,8 @@ use Rattle.value.specs.declared.Num.the-variants.{Is, Lacks}
 -- The row table of a data set that was read.
 pub record Table (s rows : List ℕ) : Type 0 where
   pub is : rows ≡ flat (rowsOf s)
-  pub size : length rows ≡ 7 * length (nodesOf s)
-  pub few : length (nodesOf s) ≤ 134217728
+  pub size : length rows ≡ width * length (nodesOf s)
+  pub few : length (nodesOf s) ≤ mostRows
 
 -- How the code finds an element among members: tags never descend among them, so that a search stops at the first tag not below the one
 -- sought, and goes by halves where that is far.

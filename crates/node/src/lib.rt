@@ -5,6 +5,7 @@ ghost use lib.ListN.{length};
 ghost use Rattle.node.specs.Nodes.{nodesOf, nodeAt, nextNode, members, inside};
 ghost use Rattle.node.specs.Find.{find, findVr, filled, has};
 ghost use Rattle.node.specs.Contracts.{Table, Ascends, fromTag, firstIs, Nearby, lower, MemberAbove};
+ghost use Rattle.dataset.specs.Reading.{mostRows};
 ghost use Rattle.dataset.specs.Tree.{rowsOf, rowAt};
 ghost use Rattle.value.specs.Contracts.{Below};
 use value::Num;
@@ -20,7 +21,7 @@ fn wide(x: u32) -> usize
 // How many nodes there are.
 pub fn count(bytes: &[u8], rows: &[u32]) -> usize
     requires { ⌜ Table (now bytes) (now rows) ⌝ }
-    ensures { λ r. ⌜ (r ≡ length (nodesOf (now (bytes .entry)))) × (r ≤ 134217728) ⌝ }
+    ensures { λ r. ⌜ (r ≡ length (nodesOf (now (bytes .entry)))) × (r ≤ mostRows) ⌝ }
 {
     rows.len() / dataset::WIDTH
 }

@@ -6,6 +6,7 @@ ghost use mathlib.Core.List.{[]};
 ghost use Prim.Native.Nat.{_+_, _%_, _≤_, _<_, max};
 ghost use lib.Dec.{leb};
 ghost use lib.ListN.{length, getD};
+ghost use Rattle.dataset.specs.Reading.{mostRows};
 ghost use Rattle.value.specs.declared.Num.the-variants as num;
 ghost use Rattle.value.specs.Number.{usValues};
 ghost use Rattle.node.specs.Nodes.{nodesOf, members};
@@ -197,7 +198,7 @@ pub fn applying_at(which: &[u32], frame: usize) -> Applying
 
 // An answer as a number, and back.
 fn number_of(r: Found) -> u32
-    requires { ⌜ FoundBelow 134217728 r ⌝ }
+    requires { ⌜ FoundBelow mostRows r ⌝ }
     ensures { λ x. ⌜ foundIn x ≡ r ⌝ }
 {
     match r {

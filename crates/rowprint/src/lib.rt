@@ -5,7 +5,7 @@ ghost use mathlib.Core.Path.{_≡_};
 ghost use Prim.Native.Nat.{_+_, _*_, _≤_};
 ghost use lib.ListN.{length};
 ghost use Rattle.dataset.specs.Reading.{readingOf};
-ghost use Rattle.dataset.specs.Answer.{answerOf, bufferOf};
+ghost use Rattle.dataset.specs.Answer.{width, answerOf, bufferOf};
 ghost use Rattle.rowprint.specs.Text.{hexDigit, heading, letter as Text·letter};
 ghost use Rattle.rowprint.specs.Contracts.{Held, Roomy};
 
@@ -51,9 +51,9 @@ fn print_number(n: u64) {
 }
 
 fn print_row(rows: &[u32], i: usize)
-    requires { ⌜ 7 * i + 7 ≤ length (now rows) ⌝ }
+    requires { ⌜ width * i + width ≤ length (now rows) ⌝ }
 {
-    let at = 7 * i;
+    let at = dataset::WIDTH * i;
     let text = row_heading(rows[at], rows[at + 1]);
     io::write_all(1, &text);
     print_number(wide(rows[at + 2]));
@@ -65,7 +65,7 @@ fn print_row(rows: &[u32], i: usize)
 }
 
 fn print_rows(rows: &[u32], n: usize)
-    requires { ⌜ 7 * n ≤ length (now rows) ⌝ }
+    requires { ⌜ width * n ≤ length (now rows) ⌝ }
 {
     io::write_all(1, b"rows");
     print_number(n as u64);
@@ -100,7 +100,7 @@ fn print_answer(answer: ReadAnswer, rows: &[u32])
 
 // Reads a data set into a buffer that has room for seven numbers for each 8 bytes of it, so that the rows fit.
 fn read_roomy(bytes: &[u8], rows: &mut [u32]) -> ReadAnswer
-    requires { ⌜ 7 * length (now bytes) ≤ 8 * length (now rows) ⌝ }
+    requires { ⌜ width * length (now bytes) ≤ 8 * length (now rows) ⌝ }
     ensures { λ r. ⌜ r ≡ answerOf (readingOf (now (bytes .entry))) (now (rows .entry)) ⌝ }
     ensures { λ _. ⌜ now (rows .exit) ≡ bufferOf (readingOf (now (bytes .entry))) (now (rows .entry)) ⌝ }
     ensures { λ r. ⌜ Held r (now (rows .exit)) ⌝ }
