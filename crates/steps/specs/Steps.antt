@@ -1,6 +1,25 @@
 -- Drawing frame f (document 01, steps 1 to 7 and "What a step needs"), over the nodes of a data set that reads well,
 -- accepted or not. No rule is built in: a step that lacks what it needs gives `none`, and a step that is not taken
 -- needs nothing. The samples' arithmetic stands in `Rattle.pixel` and the window's in `Rattle.window`.
+--
+-- step                                              definition
+-- 1  cells of whole bytes, high bits cut off        geometryOf, pixelsOf; sampleAt of Rattle.pixel
+-- 2  the mask item that applies                     applyingTo
+-- 3  its mask frames                                averageFrames, tidFrame
+-- 4  how far they are moved                         shiftFor, movesFor; blendedAt of Rattle.pixel
+-- 5  x                                              nativeCell, maskedCell
+-- 6  the window, and its level                      windowFor; levelOf of Rattle.window
+-- 7  MONOCHROME1                                    inverseOf; shaded of Rattle.window
+--
+-- what a step needs ("What a step needs")           where it can lack
+-- whole frames of cells inside the pixel bytes      isFrame in stepsOf, areFrames in pictureBy
+-- the shared item or item f where it opens one      groupFor, orShared
+-- the one item of a VOI group                       windowOn
+-- at least one item of a Frame Pixel Shift          ownIn
+-- values of the VR, count and form that it reads    geometryOf, pixelsOf, rangeHas, onMask, averageFrames, offsetAt, tidFrame,
+--                                                   naming, itemAt, shiftFrom, movesFor, maskBy, windowIn, inverseOf
+-- mask cells inside the picture                     areInside in maskedCell
+-- a divisor above 0 where it divides                averageFrames, and length ks in maskedCell; levelOf of Rattle.window
 use Prim.Native.Nat.{ℕ, _+_, _-_, _/_, _%_, _^_}
 use mathlib.Core.Bool.{Bool, true, false, cond, _&&_, _||_}
 use mathlib.Core.List.{List, [], _∷_}
