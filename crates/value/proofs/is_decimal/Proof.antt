@@ -1,3 +1,4 @@
+-- A number of either sign has the form; only what lacks has not.
 use borrow.Author.Needs.{needs}
 use Rattle.value.proofs.is_decimal.Statement.{statement}
 use Rattle.value.proofs.is_decimal.Tie as tie
