@@ -1,3 +1,4 @@
+-- Without the sequence no item applies; with it, its items are tried in their order. One of another VR would leave frames without an answer.
 use mathlib.Core.Path.{_≡_, sym, ap, _∙_}
 use Prim.Native.Nat.{ℕ, _+_}
 use native.Mathlib.Omega.{arith}
