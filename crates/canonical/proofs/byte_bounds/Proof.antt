@@ -1,3 +1,4 @@
+-- A byte is below 256, whether it is read or not.
 use native.Mathlib.Omega.{arith}
 use borrow.Author.Needs.{needs}
 use Rattle.canonical.proofs.byte_bounds.Statement.{statement}

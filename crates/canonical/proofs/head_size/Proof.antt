@@ -1,3 +1,4 @@
+-- The form of the VR alone says whether the header has 12 bytes or 8.
 use mathlib.Core.Path.{sym, _∙_}
 use native.Mathlib.Omega.{arith}
 use Rattle.canonical.proofs.Puts.{head-is, head-else}

@@ -1,3 +1,4 @@
+-- A node takes its header and its value, and both are read from its row.
 use Rattle.canonical.specs.Written.{ownSize}
 use borrow.Author.Needs.{needs}
 use Rattle.canonical.proofs.own_size.Statement.{statement}

@@ -1,3 +1,4 @@
+-- The two halves of the tag and what follows them are put side by side, and fill the header.
 use native.Mathlib.Omega.{arith}
 use Rattle.canonical.proofs.Puts.{head-least, header-puts}
 use borrow.Author.Needs.{needs}

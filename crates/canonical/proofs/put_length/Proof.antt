@@ -1,3 +1,4 @@
+-- An item has its length alone; a VR has its letters, then 16 bits, or two zero bytes and 32 bits.
 use mathlib.Core.Path.{sym, _∙_}
 use native.Mathlib.Omega.{arith}
 use Rattle.canonical.proofs.Puts.{head-is, head-least, form-long, item-puts, short-puts, long-puts}

@@ -1,3 +1,4 @@
+-- The first letter is the high byte of the VR, the second the low one, and all other bytes stay.
 use lib.ListN.{length-set}
 use native.Mathlib.Omega.{arith}
 use native.Mathlib.Numerals.{add-one}

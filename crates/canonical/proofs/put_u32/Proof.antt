@@ -1,3 +1,4 @@
+-- The lowest byte comes first, and all other bytes stay.
 use lib.ListN.{length-set}
 use native.Mathlib.Omega.{arith}
 use native.Mathlib.Numerals.{add-one, add-two, add-three}

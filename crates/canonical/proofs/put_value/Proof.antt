@@ -1,3 +1,4 @@
+-- Each turn puts one byte, and what is left of the value goes behind it.
 use borrow.Author.Needs.{needs}
 use Prim.Native.Nat.{_-_}
 use native.Mathlib.Omega.{arith}

@@ -1,3 +1,4 @@
+-- What was added up, with the sizes of the nodes ahead, is the size of all; and all nodes together stay within the largest data set.
 use Prim.Native.Nat.{_-_}
 use native.Mathlib.Omega.{arith}
 use Rattle.node.specs.Nodes.{nodesOf}

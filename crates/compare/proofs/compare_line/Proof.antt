@@ -1,3 +1,4 @@
+-- What was seen of the first k cells, with one cell more, is what is seen of the first k + 1.
 use Prim.Native.Nat.{ℕ, _+_, _-_, _≤_}
 use mathlib.Core.Bool.{not}
 use lib.ListN.{length, getD}

@@ -1,3 +1,4 @@
+-- The two moves of a shift are two offsets in quarters, which draw the same cells.
 use Rattle.value.specs.Number.{usValues}
 use Rattle.pixel.specs.Pixel.{samplesOf}
 use Rattle.pixel.proofs.Blend.{offset-shade}

@@ -1,3 +1,4 @@
+-- The cells of a picture are the shades of its samples, so to compare the shades is to compare its cells.
 use Prim.Native.Nat.{ℕ}
 use mathlib.Core.Bool.{true}
 use lib.ListN.{length-replicate}

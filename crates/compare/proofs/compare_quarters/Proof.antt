@@ -1,3 +1,4 @@
+-- Lines follow one another in the picture, and each line leaves the mask row that the next one starts from.
 use Prim.Native.Nat.{_-_, _*_, _/_, _≤_}
 use lib.ListN.{length}
 use Rattle.value.specs.Number.{usValues}

@@ -1,3 +1,4 @@
+-- The tests come in the order of the definition; past them no cell that is off means yes, and any such cell no.
 use Rattle.node.specs.Nodes.{nodesOf}
 use Rattle.node.proofs.Laws as node-laws
 use Rattle.compare.proofs.Answers as answers

@@ -1,3 +1,4 @@
+-- Two levels are too far apart just where one of them is above the other and the tolerance together.
 use Rattle.compare.proofs.Places as places
 use native.Mathlib.Omega.{arith}
 use borrow.Author.Needs.{needs}

@@ -1,3 +1,4 @@
+-- Only a cell that is off counts, and the first place is kept; no more cells are off than places were passed, so the count does not wrap.
 use mathlib.Core.Bool.{Bool}
 use Rattle.compare.specs.Contracts.{seen}
 use Rattle.compare.proofs.Places as places

@@ -1,3 +1,4 @@
+-- A rule that is asked at each frame ends after frame n; any other is asked at frame 0 alone.
 use native.Mathlib.Omega.{arith}
 use borrow.Author.Needs.{needs}
 use Rattle.conformance.proofs.end_frame.Statement.{statement}

@@ -1,3 +1,4 @@
+-- A rule that is asked at each frame starts at frame 1; any other is asked at frame 0.
 use Rattle.conformance.specs.Judging.{firstFrame}
 use borrow.Author.Needs.{needs}
 use Rattle.conformance.proofs.first_frame.Statement.{statement}

@@ -1,3 +1,4 @@
+-- The first item that is left is the frame's own; without it, or without the shared item, the rule is broken.
 use mathlib.Core.Path.{sym, ap, _∙_}
 use Rattle.node.proofs.Laws as node-laws
 use Rattle.conformance.proofs.FrameRules as frames

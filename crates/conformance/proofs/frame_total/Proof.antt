@@ -1,3 +1,4 @@
+-- The number of frames is handed on with its bound; where there is none, both sides say 0.
 use Rattle.node.proofs.Laws as node-laws
 use native.Mathlib.Omega.{arith}
 use borrow.Author.Needs.{needs}

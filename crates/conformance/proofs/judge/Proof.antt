@@ -1,3 +1,4 @@
+-- Each refusal of reading is handed on; what reads well leaves its rows in the buffer, and the rules are asked of them.
 use mathlib.Core.Path.{sym, _∙_}
 use native.Mathlib.Omega.{arith}
 use Rattle.node.proofs.After.{after-reading}

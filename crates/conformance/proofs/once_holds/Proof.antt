@@ -1,3 +1,4 @@
+-- Of the rules that are asked once, 1 to 26 are of the root, 31 to 36 of the masks, and only 38 is left.
 use mathlib.Core.Path.{sym, ap, _∙_}
 use native.Mathlib.Omega.{arith}
 use Rattle.conformance.proofs.Loops as loops

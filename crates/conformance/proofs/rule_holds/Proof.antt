@@ -1,3 +1,4 @@
+-- A rule is asked at each frame or once, and one that is asked once is asked at frame 0.
 use mathlib.Core.Path.{sym, ap, _∙_}
 use Prim.Native.Nat.{ℕ}
 use Rattle.node.specs.Nodes.{nodesOf}

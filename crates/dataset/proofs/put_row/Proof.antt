@@ -1,3 +1,4 @@
+-- A row that fits has seven numbers of 32 bits, put side by side; of one that does not fit nothing is promised.
 use native.Mathlib.Omega.{arith}
 use native.Mathlib.Numerals.{add-one, add-two, add-three, add-four, add-five, add-six}
 use lib.ListN.{length-set}

@@ -1,3 +1,4 @@
+-- Each turn reads one element as the definition does, writes its row and leaves fewer bytes; at a sequence the walk is given up.
 use Prim.Native.Nat.{_-_}
 use native.Mathlib.Omega.{arith}
 use borrow.Author.Needs.{needs}

@@ -1,3 +1,4 @@
+-- Both bytes are below 256, so the sum is below 65,536.
 use native.Mathlib.Omega.{arith}
 use Rattle.dataset.specs.Bytes.{le16}
 use borrow.Author.Needs.{needs}

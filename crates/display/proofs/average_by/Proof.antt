@@ -1,3 +1,4 @@
+-- The item gives a mask, as is asked, so once its mask frames are found its moves are there.
 use mathlib.Core.Path.{ap}
 use Rattle.display.proofs.Answering as plan
 use Rattle.steps.proofs.Laws as steps-laws

@@ -1,3 +1,4 @@
+-- Two numbers of a US have a product that fits; one that lacks counts as 0.
 use native.Mathlib.Omega.{arith}
 use Rattle.display.proofs.Answers as answers
 use borrow.Author.Needs.{needs}

@@ -1,3 +1,4 @@
+-- The step has an answer, as is asked, so the last arm is never reached.
 use mathlib.Core.Path.{sym, _∙_}
 use Rattle.steps.proofs.Laws as steps-laws
 use Rattle.display.proofs.Given.{never}

@@ -1,3 +1,4 @@
+-- The three words are tried in the order of the definition, and any other lacks.
 use mathlib.Core.Path.{refl}
 use Rattle.display.proofs.Answering as plan
 use Rattle.steps.specs.Steps.{maskBy}

@@ -1,3 +1,4 @@
+-- The step has moves, as is asked, so the arm without a shift is never reached.
 use mathlib.Core.Option.{some}
 use mathlib.Core.Path.{sym, ap, _∙_}
 use Rattle.display.proofs.Answering as plan

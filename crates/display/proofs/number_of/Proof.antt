@@ -1,3 +1,4 @@
+-- A number is handed on with its bound; one that lacks counts as 0.
 use mathlib.Core.Path.{sym, ap}
 use Rattle.node.proofs.Laws as node-laws
 use Rattle.conformance.specs.Judging.{numberOf}

@@ -1,3 +1,4 @@
+-- An accepted object lacks nothing that the steps need, so the arms without it are never reached.
 use Rattle.node.specs.Nodes.{nodesOf}
 use Rattle.node.proofs.Laws as node-laws
 use Rattle.steps.specs.Contracts.{sizedOf}

@@ -1,3 +1,4 @@
+-- For a mask item that applies the shared group is asked; where none applies, nothing is.
 use Rattle.steps.specs.declared.Found.the-variants as found
 use mathlib.Core.Path.{sym, subst}
 use lib.ListN.{length}

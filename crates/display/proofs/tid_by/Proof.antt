@@ -1,3 +1,4 @@
+-- Without a mask frame the picture is native; with one the item gives a mask, as is asked, so its moves are there.
 use mathlib.Core.Path.{ap}
 use Rattle.display.proofs.Answering as plan
 use Rattle.steps.proofs.Laws as steps-laws

@@ -1,3 +1,4 @@
+-- An element is absent just where the search finds none.
 use Rattle.node.proofs.Laws as node-laws
 use borrow.Author.Needs.{needs}
 use Rattle.element.proofs.absent_root.Statement.{statement}

@@ -1,3 +1,4 @@
+-- The items behind the one at hand start where it ends; an empty walk has none to drop.
 use Rattle.element.proofs.Laws as laws
 use borrow.Author.Needs.{needs}
 use Rattle.element.proofs.advance.Statement.{statement}

@@ -1,3 +1,4 @@
+-- Each turn passes one member, and those passed with those ahead are all that stand in the node.
 use borrow.Author.Needs.{needs}
 use mathlib.Core.Path.{_≡_, ap}
 use native.Mathlib.Omega.{arith}

@@ -1,3 +1,4 @@
+-- Only a number without a minus counts for what it is, and it keeps its bound.
 use mathlib.Core.Path.{sym, ap, subst}
 use Rattle.value.specs.declared.Signed.{Signed}
 use Rattle.value.specs.Contracts.{SizeBelow}

@@ -1,3 +1,4 @@
+-- The element that is found is the one of the tag, and both sides test its VR.
 use borrow.Author.Tests.{eq-eqb, ne-eqb}
 use Rattle.node.specs.Find.{ofVr}
 use Rattle.node.proofs.Laws as laws

@@ -1,3 +1,4 @@
+-- What the search finds is read as an IS, whose bound the count keeps; where it finds nothing, both sides lack.
 use Rattle.node.proofs.Laws as node-laws
 use Rattle.element.specs.Frames.{framesOf, counted}
 use borrow.Author.Needs.{needs}

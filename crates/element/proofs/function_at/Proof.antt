@@ -1,3 +1,4 @@
+-- Both sides test the VR, and read the function from the same value.
 use borrow.Author.Tests.{eq-eqb, ne-eqb}
 use mathlib.Core.Path.{ap, _∙_}
 use Rattle.value.specs.Words.{functionOf}

@@ -1,3 +1,4 @@
+-- Without the element the function is LINEAR; else it is the one read at the node that is found.
 use Rattle.node.proofs.Laws as node-laws
 use Rattle.element.specs.Elements.{functionIn}
 use borrow.Author.Needs.{needs}

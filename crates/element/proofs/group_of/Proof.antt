@@ -1,3 +1,4 @@
+-- A group in the frame's own item is taken; only without one is the shared item searched.
 use Rattle.node.proofs.Laws as node-laws
 use borrow.Author.Needs.{needs}
 use Rattle.element.proofs.group_of.Statement.{statement}

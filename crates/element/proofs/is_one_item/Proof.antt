@@ -1,3 +1,4 @@
+-- A node has its one item just where it is a sequence of one item.
 use Rattle.node.proofs.Laws as node-laws
 use Rattle.element.proofs.Laws as laws
 use borrow.Author.Needs.{needs}

@@ -1,3 +1,4 @@
+-- A sequence's items stand between its node and the next; an empty span has none.
 use mathlib.Core.Path.{refl}
 use Rattle.node.proofs.Laws as node-laws
 use Rattle.element.proofs.Laws as laws

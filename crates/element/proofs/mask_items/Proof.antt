@@ -1,3 +1,4 @@
+-- The items are those of the root's sequence of that tag.
 use Rattle.element.specs.Frames.{maskItems}
 use borrow.Author.Needs.{needs}
 use Rattle.element.proofs.mask_items.Statement.{statement}

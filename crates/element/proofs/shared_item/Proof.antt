@@ -1,3 +1,4 @@
+-- The one item is asked of the node that is found; where none is found, both sides lack.
 use Rattle.node.proofs.Laws as node-laws
 use Rattle.element.specs.Frames.{sharedItem}
 use borrow.Author.Needs.{needs}

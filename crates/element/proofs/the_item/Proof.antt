@@ -1,3 +1,4 @@
+-- A sequence has one item just where its first item starts inside it and ends where it does.
 use mathlib.Core.Path.{sym, _∙_}
 use Rattle.element.proofs.Laws as laws
 use native.Mathlib.Omega.{arith}

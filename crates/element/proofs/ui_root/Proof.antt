@@ -1,3 +1,4 @@
+-- The value of the UI that is found is compared; where none is found, the test is false.
 use Rattle.node.proofs.Laws as node-laws
 use borrow.Author.Needs.{needs}
 use Rattle.element.proofs.ui_root.Statement.{statement}

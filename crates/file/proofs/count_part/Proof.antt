@@ -1,3 +1,4 @@
+-- Judging leaves the rows from which the searches are added up, and the sum goes with the answer.
 use Rattle.file.proofs.Counted.{left-in, counted-part}
 use borrow.Author.Needs.{needs}
 use Rattle.file.proofs.count_part.Statement.{statement}

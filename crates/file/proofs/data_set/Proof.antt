@@ -1,3 +1,4 @@
+-- What is handed out is the file's own bytes from there on, up to its end.
 use native.Mathlib.Omega.{arith}
 use Prim.Native.Nat.{_-_}
 use lib.ListN.{length, drop, length-drop}

@@ -1,3 +1,4 @@
+-- A refusal is handed on; else the rows are in the buffer, and the class is compared from them.
 use mathlib.Core.Path.{sym, _∙_}
 use native.Mathlib.Omega.{arith}
 use Prim.Native.Nat.{_*_}

@@ -1,3 +1,4 @@
+-- Without a class in the data set the answer is no; else the two are compared without the zero bytes behind them.
 use mathlib.Core.Path.{ap, _∙_}
 use mathlib.Core.List.{List}
 use Prim.Native.Nat.{ℕ}

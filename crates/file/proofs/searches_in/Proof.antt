@@ -1,3 +1,4 @@
+-- Only an answer of judging can have searches; to any other belongs 0.
 use Rattle.file.proofs.Counted.{left-judged}
 use borrow.Author.Needs.{needs}
 use Rattle.file.proofs.searches_in.Statement.{statement}

@@ -1,3 +1,4 @@
+-- A refusal is handed on; else the class is compared from the rows, and only where it is the same is the image written.
 use mathlib.Core.Path.{refl, sym, ap, _∙_}
 use mathlib.Core.Bool.{true, false}
 use native.Mathlib.Omega.{arith}

@@ -1,3 +1,4 @@
+-- Each answer of the head leads to its own.
 use Rattle.file.specs.File.{startOf}
 use Rattle.dataset.proofs.Promised.{promised}
 use borrow.Author.Needs.{needs}

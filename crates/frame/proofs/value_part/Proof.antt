@@ -1,3 +1,4 @@
+-- The row says where the value starts and how long it is, and both lie within the data set.
 use mathlib.Core.Path.{refl, _∙_}
 use native.Mathlib.Omega.{arith}
 use Rattle.node.proofs.Laws as node-laws

@@ -1,3 +1,4 @@
+-- An item of another ID leaves the search as it was; one of this ID ends it.
 use borrow.Author.Needs.{needs}
 use mathlib.Core.Path.{_≡_, sym, _∙_}
 use Prim.Native.Nat.{_-_}

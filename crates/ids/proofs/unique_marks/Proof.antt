@@ -1,3 +1,4 @@
+-- The IDs that were passed are marked, so an ID stands twice just where its mark is found.
 use lib.ListN.{length-set, length}
 use borrow.Author.Needs.{needs}
 use mathlib.Core.Path.{_≡_, sym, _∙_}

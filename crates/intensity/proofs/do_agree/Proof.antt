@@ -1,3 +1,4 @@
+-- The two tests are those of the definition; the second is made only where the first holds.
 use borrow.Author.Tests.{le-leb, lt-leb}
 use Rattle.intensity.proofs.do_agree.Statement.{statement}
 use Rattle.intensity.proofs.do_agree.Tie as tie

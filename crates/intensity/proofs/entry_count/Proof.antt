@@ -1,3 +1,4 @@
+-- Two bytes make a number below 65,536, and 0 stands for 65,536 itself.
 use mathlib.Core.Path.{sym, _∙_}
 use native.Mathlib.Omega.{arith}
 use borrow.Author.Tests.{ne-eqb}

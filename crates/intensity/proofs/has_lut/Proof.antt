@@ -1,3 +1,4 @@
+-- Descriptor and data are found in turn, and the two values are judged together.
 use Rattle.node.proofs.Laws as node-laws
 use Rattle.rules.specs.Intensity.{hasLut}
 use borrow.Author.Needs.{needs}

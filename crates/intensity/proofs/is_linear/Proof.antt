@@ -1,3 +1,4 @@
+-- The test of the word is that of the definition.
 use Rattle.rules.specs.Intensity.{isLinear}
 use borrow.Author.Needs.{needs}
 use Rattle.intensity.proofs.is_linear.Statement.{statement}

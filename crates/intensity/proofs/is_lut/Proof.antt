@@ -1,3 +1,4 @@
+-- The three tests are those of the definition, in its order.
 use borrow.Author.Tests.{eq-eqb, ne-eqb}
 use Rattle.rules.specs.Intensity.{isLut}
 use borrow.Author.Needs.{needs}

@@ -1,3 +1,4 @@
+-- Two searches tell the cases apart: none is TO_LINEAR, one is, or one more stands behind the first.
 use mathlib.Core.Path.{sym, _∙_}
 use Rattle.intensity.proofs.Laws as laws
 use borrow.Author.Needs.{needs}

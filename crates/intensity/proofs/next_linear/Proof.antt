@@ -1,3 +1,4 @@
+-- An item that is not TO_LINEAR leaves the TO_LINEAR items among those behind it as they were.
 use borrow.Author.Needs.{needs}
 use mathlib.Core.Path.{_≡_, refl, sym, _∙_}
 use native.Mathlib.Omega.{arith}

@@ -1,3 +1,4 @@
+-- A group that is found has its own grade; without one the grade is the one handed in.
 use Rattle.node.proofs.Laws as node-laws
 use Rattle.intensity.specs.Contracts.{relationIn}
 use borrow.Author.Needs.{needs}

@@ -1,3 +1,4 @@
+-- A group without its one item has grade 0, and in that item LOG alone makes grade 2.
 use Rattle.node.proofs.Laws as node-laws
 use Rattle.rules.specs.Intensity.{isLog}
 use Rattle.intensity.specs.Contracts.{relationOf}

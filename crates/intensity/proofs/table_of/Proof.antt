@@ -1,3 +1,4 @@
+-- A sequence has items just where the next node does not follow at once, and their grade is the group's.
 use borrow.Author.Tests.{eq-eqb, ne-eqb}
 use Rattle.rules.specs.Intensity.{isLutGroup, hasLinear}
 use Rattle.element.proofs.Every.{members-some, members-none}

@@ -1,3 +1,4 @@
+-- The search stops at the first TO_LINEAR item, and where there is none, not before the group's end.
 use native.Mathlib.Omega.{arith}
 use borrow.Author.Tests.{eq-eqb, ne-eqb}
 use Rattle.linear.proofs.Laws as laws

@@ -1,3 +1,4 @@
+-- A frame that can be mapped has all four parts, so the arms without one are never reached.
 use mathlib.Core.Path.{refl, _∙_}
 use Rattle.node.specs.Nodes.{nodesOf}
 use Rattle.node.proofs.Laws as node-laws

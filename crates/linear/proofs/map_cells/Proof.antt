@@ -1,3 +1,4 @@
+-- Each turn writes one cell's entry and leaves what is behind it; the place of an entry is always below their number.
 use mathlib.Core.Path.{_≡_, refl, ap, _∙_}
 use Prim.Native.Nat.{ℕ, _-_, _≤_}
 use native.Mathlib.Omega.{arith}

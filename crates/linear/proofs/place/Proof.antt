@@ -1,3 +1,4 @@
+-- A cell before the first entry has the first, one after the last has the last, and any other its own.
 use mathlib.Core.Path.{sym}
 use native.Mathlib.Omega.{arith}
 use Rattle.linear.proofs.Laws as laws

@@ -1,3 +1,4 @@
+-- Each turn reads one element as the definition does and leaves fewer bytes; the rows are counted, but no room is needed for them.
 use Prim.Native.Nat.{_-_}
 use mathlib.Core.Path.{ap, _∙_}
 use native.Mathlib.Omega.{arith}

@@ -1,3 +1,4 @@
+-- The group length says where the head ends: behind the file it is refused, else the elements up to there decide.
 use mathlib.Core.Path.{sym, subst, _∙_}
 use Prim.Native.Nat.{_+_}
 use native.Mathlib.Omega.{arith}

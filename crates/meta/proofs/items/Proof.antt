@@ -1,3 +1,4 @@
+-- Each turn reads one item as the definition does and leaves fewer bytes; the rows are counted, but no room is needed for them.
 use Prim.Native.Nat.{ℕ, _+_, _-_}
 use mathlib.Core.Path.{refl, ap, _∙_}
 use native.Mathlib.Omega.{arith}

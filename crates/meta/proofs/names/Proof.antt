@@ -1,3 +1,4 @@
+-- Both UIDs must be there, and each lies within the file.
 use mathlib.Core.Path.{subst}
 use lib.ListN.{length}
 use Rattle.meta.specs.declared.Uid.{Uid}

@@ -1,3 +1,4 @@
+-- Each of the three parts is kept or replaced as in the definition.
 use Rattle.meta.specs.Meta.{noted}
 use borrow.Author.Needs.{needs}
 use Rattle.meta.proofs.note.Statement.{statement}

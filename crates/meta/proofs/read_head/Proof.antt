@@ -1,3 +1,4 @@
+-- The tests are those of the definition, and a file that has a group length is long enough for the rest.
 use mathlib.Core.Path.{sym, _∙_}
 use Rattle.meta.specs.Meta.{metaOf}
 use Rattle.meta.proofs.Tests as tests

@@ -1,3 +1,4 @@
+-- A UI of at least one byte is a UID, and it stands where the value does.
 use mathlib.Core.Path.{ap}
 use Prim.Native.Nat.{ℕ, _-_}
 use native.Mathlib.Omega.{arith}

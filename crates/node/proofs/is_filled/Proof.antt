@@ -1,3 +1,4 @@
+-- A sequence is filled where the next node does not follow at once, any other node where its value has bytes.
 use borrow.Author.Tests.{eq-eqb, ne-eqb}
 use Rattle.node.specs.Find.{filled}
 use Rattle.node.proofs.Walks.{gap}

@@ -1,3 +1,4 @@
+-- The row says how many nodes are below it, and all of them stand in the table.
 use Rattle.node.proofs.Laws as laws
 use mathlib.Core.Path.{_∙_}
 use native.Mathlib.Omega.{arith}

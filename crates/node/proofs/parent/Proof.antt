@@ -1,3 +1,4 @@
+-- The seventh number of a row is its parent.
 use mathlib.Core.Path.{_∙_}
 use Rattle.node.proofs.Laws as laws
 use borrow.Author.Needs.{needs}

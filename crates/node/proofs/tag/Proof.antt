@@ -1,3 +1,4 @@
+-- The first number of a row is its tag.
 use Rattle.node.proofs.Laws as laws
 use mathlib.Core.Path.{_∙_}
 use borrow.Author.Needs.{needs}

@@ -1,3 +1,4 @@
+-- A sequence and an item have no value of their own; any other row says where its value starts and how long it is.
 use Rattle.node.proofs.Laws as laws
 use mathlib.Core.Path.{_≡_, sym, _∙_}
 use native.Mathlib.Omega.{arith}

@@ -1,3 +1,4 @@
+-- The second number of a row is its VR.
 use Rattle.node.proofs.Laws as laws
 use mathlib.Core.Path.{_∙_}
 use borrow.Author.Needs.{needs}

@@ -1,3 +1,4 @@
+-- Without the sequence no item applies; else its items are tried in order. Another VR is ruled out, since each frame has an answer.
 use mathlib.Core.Path.{_≡_, sym, ap, _∙_}
 use Prim.Native.Nat.{ℕ, _+_}
 use native.Mathlib.Omega.{arith}

@@ -1,3 +1,4 @@
+-- The cells in front of the place are 0, and each turn adds one to them.
 use borrow.Author.Needs.{needs}
 use mathlib.Core.Path.{_≡_, refl, _∙_}
 use Prim.Native.Nat.{ℕ, _-_, _≤_, _<_}

@@ -1,3 +1,4 @@
+-- How far the pairs reach at a frame is the largest mark up to it, and each frame is taken or left by that number.
 use borrow.Author.Needs.{needs}
 use mathlib.Core.Path.{_≡_, refl, sym, ap, _∙_}
 use Prim.Native.Nat.{ℕ, _+_, _-_, _≤_, _<_, max}

@@ -1,3 +1,4 @@
+-- Each item takes only frames that no item before it took, so the first whose range holds a frame has it.
 use borrow.Author.Needs.{needs}
 use mathlib.Core.Path.{_≡_, refl, _∙_}
 use Prim.Native.Nat.{_-_}

@@ -1,3 +1,4 @@
+-- A frame's mark is the largest last frame of the pairs that start there, and each pair can only raise it.
 use borrow.Author.Needs.{needs}
 use mathlib.Core.Path.{_≡_, refl, sym, ap, _∙_}
 use Prim.Native.Nat.{ℕ, _-_, _*_, _/_, _≤_, max}

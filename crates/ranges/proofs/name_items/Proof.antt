@@ -1,3 +1,4 @@
+-- A key is written together with the answer for its item, so that all keys that are written stay right.
 use borrow.Author.Needs.{needs}
 use mathlib.Core.Path.{_≡_, refl, _∙_}
 use Prim.Native.Nat.{_+_, _-_, _≤_}

@@ -1,3 +1,4 @@
+-- A key that is found has its answer beside it; without one the answer is worked out here.
 use borrow.Author.Needs.{needs}
 use mathlib.Core.Path.{sym, subst}
 use Prim.Native.Nat.{_-_, _≤_}

@@ -1,3 +1,4 @@
+-- Two numbers stand for the answers without a node, and a node is small enough to add 2.
 use mathlib.Core.Path.{_∙_, sym}
 use Rattle.ranges.proofs.Names as names
 use native.Mathlib.Omega.{arith}

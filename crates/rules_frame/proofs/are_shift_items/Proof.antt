@@ -1,3 +1,4 @@
+-- An item without an ID and a shift settles the answer; while each has them, the items that are left decide.
 use borrow.Author.Needs.{needs}
 use mathlib.Core.Path.{_≡_, refl, sym, _∙_}
 use native.Mathlib.Omega.{arith}

@@ -1,3 +1,4 @@
+-- The sequence is absent just where the search finds none.
 use Rattle.node.proofs.Laws as node-laws
 use borrow.Author.Needs.{needs}
 use Rattle.rules_frame.proofs.content_absent.Statement.{statement}

@@ -1,3 +1,4 @@
+-- Each rule's number leads to what that rule asks of its group.
 use borrow.Author.Tests.{eq-eqb, ne-eqb}
 use Rattle.rules_frame.specs.Contracts.{groupFits}
 use borrow.Author.Needs.{needs}

@@ -1,3 +1,4 @@
+-- A group that is found is judged; without one the answer is the one handed in.
 use Rattle.node.proofs.Laws as node-laws
 use Rattle.rules_frame.specs.Contracts.{groupIn}
 use borrow.Author.Needs.{needs}

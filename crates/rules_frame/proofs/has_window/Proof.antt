@@ -1,3 +1,4 @@
+-- Centre and width are found in turn, and judged with the function of the same item.
 use Rattle.node.proofs.Laws as node-laws
 use Rattle.rules.specs.Frame.{hasWindow}
 use borrow.Author.Needs.{needs}

@@ -1,3 +1,4 @@
+-- The ID comes first, and the shift is asked only where there is one; the bytes are those of the FL that is found.
 use Rattle.node.proofs.Laws as node-laws
 use Rattle.rules.specs.Frame.{isShiftItem}
 use borrow.Author.Needs.{needs}

@@ -1,3 +1,4 @@
+-- The group must have one item, and the window is looked for in it.
 use Rattle.node.proofs.Laws as node-laws
 use Rattle.rules.specs.Frame.{isVoi}
 use borrow.Author.Needs.{needs}

@@ -1,3 +1,4 @@
+-- The function comes first, and its least width is the one asked of the widths.
 use mathlib.Core.Path.{sym, _∙_}
 use Rattle.rules.specs.Frame.{isWindow}
 use borrow.Author.Needs.{needs}

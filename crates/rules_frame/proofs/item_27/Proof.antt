@@ -1,3 +1,4 @@
+-- The rule is kept just where no sequence is repeated.
 use Rattle.rules.specs.Frame.{item27}
 use borrow.Author.Needs.{needs}
 use Rattle.rules_frame.proofs.item_27.Statement.{statement}

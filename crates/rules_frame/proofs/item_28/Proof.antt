@@ -1,3 +1,4 @@
+-- What is asked of the shared item is given; what is left is asked of the frame's item.
 use Rattle.node.proofs.Laws as node-laws
 use Rattle.rules.specs.Frame.{item28}
 use borrow.Author.Needs.{needs}

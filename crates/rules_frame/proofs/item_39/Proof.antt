@@ -1,3 +1,4 @@
+-- The shared grades are given, and stand in wherever the frame's item has no group of its own.
 use mathlib.Core.Path.{ap}
 use Rattle.rules_frame.specs.declared.SharedPart.{SharedPart}
 use Rattle.rules_frame.specs.Contracts.{sharedPart, itemGrades}

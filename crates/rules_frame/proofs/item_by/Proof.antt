@@ -1,3 +1,4 @@
+-- Each rule's number leads to its own question, and what was found of the shared item is what that question asks for.
 use mathlib.Core.Path.{ap, _∙_}
 use borrow.Author.Tests.{eq-eqb, ne-eqb}
 use mathlib.Core.Bool.{Bool}

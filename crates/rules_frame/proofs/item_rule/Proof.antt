@@ -1,3 +1,4 @@
+-- Rule 39 needs the grades of the shared part, any other rule its test; both stand in the part that is given.
 use mathlib.Core.Path.{ap, _∙_}
 use Prim.Native.Nat.{ℕ}
 use borrow.Author.Tests.{eq-eqb, ne-eqb}

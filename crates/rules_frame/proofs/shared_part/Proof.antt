@@ -1,3 +1,4 @@
+-- Rule 39 has the two grades, any other rule its test; the parts of the other kind are filled as the definition has it.
 use borrow.Author.Tests.{eq-eqb, ne-eqb}
 use Rattle.rules_frame.specs.Contracts.{sharedPart}
 use borrow.Author.Needs.{needs}

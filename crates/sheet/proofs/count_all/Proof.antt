@@ -1,3 +1,4 @@
+-- What applies to each frame and what the shared group names are worked out ahead, and are all that counting the frames asks for.
 use mathlib.Core.Path.{_∙_}
 use Prim.Native.Nat.{ℕ}
 use native.Mathlib.Omega.{arith}

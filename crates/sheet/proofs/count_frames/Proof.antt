@@ -1,3 +1,4 @@
+-- The counts so far with the levels of the frames ahead are the counts of all, and there are too few cells for a count to wrap.
 use Prim.Native.Nat.{_+_, _-_, _*_, _≤_}
 use lib.ListN.{length, drop}
 use Rattle.node.specs.Nodes.{nodesOf}

@@ -1,3 +1,4 @@
+-- The two moves of a shift are two offsets in quarters, which draw the same cells.
 use Prim.Native.Nat.{ℕ}
 use mathlib.Core.List.{List}
 use Rattle.value.specs.Number.{usValues}

@@ -1,3 +1,4 @@
+-- The cells of a picture are the shades of its samples, so to count the shades is to count its levels.
 use Prim.Native.Nat.{ℕ, _+_}
 use mathlib.Core.Bool.{Bool, cond}
 use mathlib.Core.List.{List}

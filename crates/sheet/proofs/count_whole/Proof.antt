@@ -1,3 +1,4 @@
+-- Lines follow one another in the picture, so r lines counted are its first r · columns cells counted.
 use Prim.Native.Nat.{_-_, _*_, _≤_}
 use lib.ListN.{length}
 use Rattle.value.specs.Number.{usValues}

@@ -1,3 +1,4 @@
+-- Each level that is passed has no count, so the first with one is the lowest; where none has, the walk ends at 255.
 use Prim.Native.Nat.{ℕ, _-_, _≤_, _<_}
 use mathlib.Core.Logic.{inl, inr}
 use lib.ListN.{getD}

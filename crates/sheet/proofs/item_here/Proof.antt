@@ -1,3 +1,4 @@
+-- The cursor stands on the frame's item, as long as any items are ahead.
 use Rattle.sheet.proofs.Frames as frames
 use Rattle.sheet.proofs.item_here.Statement.{statement}
 use Rattle.sheet.proofs.item_here.Tie as tie

@@ -1,3 +1,4 @@
+-- Each step passes one item, so a - 1 steps lead to the item of frame a.
 use Prim.Native.Nat.{_-_, _≤_}
 use lib.ListN.{drop}
 use Rattle.node.specs.Nodes.{nodesOf}

@@ -1,3 +1,4 @@
+-- The number of frames is handed on; where there is none, both sides say 0.
 use Rattle.conformance.specs.Judging.{numberOf}
 use mathlib.Core.Path.{sym, ap, _∙_}
 use borrow.Author.Needs.{needs}

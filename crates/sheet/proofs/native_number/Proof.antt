@@ -1,3 +1,4 @@
+-- Only the two maskings that have mask frames are masked; each other one counts as native.
 use borrow.Author.Needs.{needs}
 use Rattle.sheet.proofs.native_number.Statement.{statement}
 use Rattle.sheet.proofs.native_number.Tie as tie

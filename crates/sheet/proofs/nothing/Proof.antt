@@ -1,3 +1,4 @@
+-- Nothing is counted, and shades without a filled table are right whatever the table holds.
 use Rattle.verdict.proofs.Tests.{false-is-true}
 use mathlib.Core.Path.{refl}
 use native.Mathlib.Omega.{arith}

@@ -1,3 +1,4 @@
+-- The 256 counts come first, and the four other numbers follow in their order.
 use mathlib.Core.List.{[], _∷_}
 use Rattle.sheet.proofs.Answers as answers
 use native.Mathlib.Omega.{arith}

@@ -1,3 +1,4 @@
+-- What was written down ahead is what the steps give for this frame, so the plan made from it is the frame's.
 use mathlib.Core.Path.{sym, ap, _∙_, subst}
 use mathlib.Core.Option.{some}
 use native.Mathlib.Omega.{arith}

@@ -1,3 +1,4 @@
+-- Every number of the sheet is 0, as in the definition.
 use mathlib.Core.Path.{refl}
 use Rattle.sheet.proofs.refused.Statement.{statement}
 use Rattle.sheet.proofs.refused.Tie as tie

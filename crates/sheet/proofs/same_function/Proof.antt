@@ -1,3 +1,4 @@
+-- The answer is true only where both are LINEAR or both are LINEAR_EXACT.
 use Rattle.verdict.proofs.Tests.{false-is-true}
 use mathlib.Core.Path.{sym, _∙_}
 use borrow.Author.Needs.{needs}

@@ -1,3 +1,4 @@
+-- The answer is true only where both have the same sign and the same number.
 use borrow.Author.Tests.{eqb-true}
 use Rattle.value.specs.declared.Signed.the-variants as signed
 use Rattle.verdict.proofs.Tests.{false-is-true}

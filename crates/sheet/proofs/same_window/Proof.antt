@@ -1,3 +1,4 @@
+-- A window is its centre, its width and its function, and the answer is true only where all three are the same.
 use Rattle.verdict.proofs.Tests.{false-is-true}
 use Rattle.sheet.proofs.Scenes.{windows-same}
 use borrow.Author.Needs.{needs}

@@ -1,3 +1,4 @@
+-- The counts are those of frames a to b, and the other numbers follow from the counts; no count is large enough for the sum to wrap.
 use Prim.Native.Nat.{ℕ}
 use lib.ListN.{length-replicate}
 use Rattle.sheet.proofs.Sampling as sampling

@@ -1,3 +1,4 @@
+-- A table that was filled from the same window still holds its levels; else the cells spent decide whether one is filled.
 use mathlib.Core.Path.{sym}
 use native.Mathlib.Omega.{arith}
 use borrow.Author.Needs.{needs}

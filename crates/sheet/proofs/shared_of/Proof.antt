@@ -1,3 +1,4 @@
+-- For a mask item that applies, what was written down is taken; where none applies, nothing is asked.
 use mathlib.Core.Path.{sym, subst}
 use lib.ListN.{length}
 use Rattle.node.specs.Nodes.{nodesOf}

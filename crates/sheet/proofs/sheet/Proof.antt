@@ -1,3 +1,4 @@
+-- Each answer of judging leads to its own; an accepted object leaves its rows in the buffer, and the sheet is made from them.
 use Prim.Native.Nat.{_*_}
 use lib.Seq.{length-take-le}
 use Rattle.conformance.specs.declared.JudgeAnswer.the-variants as judged

@@ -1,3 +1,4 @@
+-- The tests come in the order of the definition, and what is left has all frames from first to last.
 use Rattle.node.specs.Nodes.{nodesOf}
 use Rattle.node.proofs.Laws as node-laws
 use Rattle.sheet.proofs.Answers as answers

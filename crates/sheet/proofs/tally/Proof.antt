@@ -1,3 +1,4 @@
+-- Each cell adds one at its level, and the room that is left in each count is at least the cells that are left.
 use Prim.Native.Nat.{ℕ, _+_, _-_, _≤_, _<_, _^_}
 use lib.ListN.{length, getD, drop}
 use Rattle.sheet.specs.Contracts.{tallied}

@@ -1,3 +1,4 @@
+-- No count is above 2^48, so that 256 products with a level add up to less than 2^64.
 use Prim.Native.Nat.{ℕ, _+_, _-_, _*_, _≤_}
 use lib.ListN.{getD}
 use native.Mathlib.Nat.{mul-le-mul}

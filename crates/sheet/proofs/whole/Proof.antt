@@ -1,3 +1,4 @@
+-- As in `sheet`, with the last frame read from the rows that judging left.
 use Prim.Native.Nat.{ℕ, _*_}
 use lib.Seq.{length-take-le}
 use Rattle.node.specs.Nodes.{nodesOf}

@@ -1,3 +1,4 @@
+-- Each number that is asked for is one of the 260 of a sheet.
 use Prim.Native.Nat.{_-_, _≤_}
 use native.Mathlib.Omega.{arith}
 use borrow.Author.Needs.{needs}

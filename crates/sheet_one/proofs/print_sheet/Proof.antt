@@ -1,3 +1,4 @@
+-- Code 8 is ruled out, so its arm is never reached; a sheet that is done has its 256 counts.
 use Rattle.sheet.specs.declared.SheetAnswer.{SheetAnswer}
 use Rattle.sheet.specs.Answer.{fieldsOf}
 use mathlib.Core.Path.{ap}

@@ -1,3 +1,4 @@
+-- `sheet_small` promises 256 counts, and that code 8 never comes.
 use borrow.Author.Needs.{needs}
 use Rattle.sheet_one.proofs.sample.Statement.{statement}
 use Rattle.sheet_one.proofs.sample.Tie as tie

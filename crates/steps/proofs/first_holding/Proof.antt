@@ -1,3 +1,4 @@
+-- An item whose range does not hold the frame leaves the search as it was; any other item ends it.
 use Prim.Native.Nat.{_-_}
 use Rattle.node.specs.Nodes.{nodesOf, members}
 use Rattle.steps.specs.Steps.{firstHolding}

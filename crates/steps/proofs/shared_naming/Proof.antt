@@ -1,3 +1,4 @@
+-- The shared group is found, and the item is looked for in it: the two steps of the definition.
 use mathlib.Core.Path.{ap, _∙_}
 use mathlib.Core.Option.{Option}
 use Rattle.value.specs.declared.Num.{Num}

@@ -1,3 +1,4 @@
+-- A group gives its window, no group the full one, and what lacks still lacks.
 use Rattle.steps.specs.Steps.{windowFor}
 use Rattle.steps.specs.Contracts.{foundOf}
 use borrow.Author.Needs.{needs}

@@ -1,3 +1,4 @@
+-- Centre and width are found in turn, each is read from its first value, and the function comes from the same item.
 use Rattle.node.proofs.Laws as node-laws
 use Rattle.steps.specs.Steps.{windowIn}
 use borrow.Author.Needs.{needs}

@@ -1,3 +1,4 @@
+-- The three tests are those of the definition, in its order.
 use mathlib.Core.Path.{sym, _∙_}
 use borrow.Author.Needs.{needs}
 use Rattle.steps.proofs.window_of.Statement.{statement}

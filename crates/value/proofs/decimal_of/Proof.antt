@@ -1,3 +1,4 @@
+-- Both sides trim, test the length and read the same size; every size that is read was tested against the limit.
 use mathlib.Core.Path.{_≡_, sym, _∙_, subst}
 use lib.ListN.{length}
 use borrow.Author.Tests.{le-leb, lt-leb}

@@ -1,3 +1,4 @@
+-- A number is a multiple of 10^(e + 1) just where it is one of 10 and its tenth is one of 10^e.
 use mathlib.Core.Path.{_≡_, refl, sym, _∙_}
 use Prim.Native.Nat.{_^_}
 use native.Mathlib.Omega.{arith}

@@ -1,3 +1,4 @@
+-- No digits, nothing after them, an exponent and any other byte are the four cases of the definition.
 use mathlib.Core.Path.{sym, ap, _∙_}
 use Rattle.value.specs.Number.{scaledBy, exponentOf}
 use Rattle.value.proofs.Forms as forms

@@ -1,3 +1,4 @@
+-- Zero is zero at any power; else the smaller power cancels out, and one product or one quotient is left.
 use mathlib.Core.Path.{sym, _∙_}
 use Rattle.value.proofs.Powers as powers
 use borrow.Author.Needs.{needs}

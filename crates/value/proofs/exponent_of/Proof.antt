@@ -1,3 +1,4 @@
+-- The definition is a signed number of up to 16 digits, and 16 digits make a number below 10^16.
 use mathlib.Core.Path.{_≡_, sym, subst}
 use Rattle.value.specs.Number.{exponentOf}
 use Rattle.value.specs.Contracts.{SizeBelow}

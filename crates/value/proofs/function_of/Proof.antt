@@ -1,3 +1,4 @@
+-- The two words are tried in the order of the definition, and any other word lacks.
 use mathlib.Core.Path.{sym, _∙_}
 use Rattle.value.specs.Words.{functionOf}
 use borrow.Author.Needs.{needs}

@@ -1,3 +1,4 @@
+-- The two tests are for the two letters of the definition.
 use borrow.Author.Tests.{eq-eqb, ne-eqb}
 use Rattle.value.proofs.is_mark.Statement.{statement}
 use Rattle.value.proofs.is_mark.Tie as tie

@@ -1,3 +1,4 @@
+-- Both sides ask for one value, trim it and read it; 11 digits make a number below 10^11.
 use mathlib.Core.Path.{_≡_, sym, subst}
 use Rattle.value.specs.Number.{isOf}
 use Rattle.value.specs.Contracts.{SizeBelow}

@@ -1,3 +1,4 @@
+-- n · 10^left stays m · 10^e, and what has reached the limit only grows; below the limit ten times n fits.
 use mathlib.Core.Path.{_≡_, refl, sym, ap, _∙_}
 use Prim.Native.Nat.{_*_, _^_, _≤_}
 use native.Mathlib.Omega.{arith}

@@ -1,3 +1,4 @@
+-- All digits after the point are read, so that what follows them is the end; the characters are too few for a number that does not fit.
 use mathlib.Core.Path.{sym, ap, _∙_}
 use Prim.Native.Nat.{ℕ, _+_}
 use mathlib.Core.List.{List}

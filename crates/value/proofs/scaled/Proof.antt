@@ -1,3 +1,4 @@
+-- A plus raises the power to multiply by, a minus the power to divide by, and neither sum is large enough to wrap.
 use mathlib.Core.Path.{sym, ap, _∙_}
 use native.Mathlib.Omega.{arith}
 use Rattle.value.specs.Number.{scaledBy}

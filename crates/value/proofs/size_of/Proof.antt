@@ -1,3 +1,4 @@
+-- After the digits there is nothing, a point or another byte, as in the definition; 16 characters make no number that does not fit.
 use mathlib.Core.Path.{sym, ap, _∙_}
 use Prim.Native.Nat.{ℕ, _+_}
 use mathlib.Core.List.{List}

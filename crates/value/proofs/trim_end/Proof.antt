@@ -1,3 +1,4 @@
+-- Dropping a last byte b changes nothing, and once the last byte is another there is nothing to drop.
 use lib.Seq.{length-take-le, take-length}
 use mathlib.Core.Path.{_≡_, sym, ap, _∙_}
 use Prim.Native.Nat.{_≤_}

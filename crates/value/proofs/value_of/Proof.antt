@@ -1,3 +1,4 @@
+-- Behind a backslash the value sought is one nearer; where there is no further backslash there is no further value.
 use borrow.Author.Needs.{needs}
 use Prim.Native.Nat.{ℕ, _≤_}
 use mathlib.Core.Path.{ap, _≡_, refl, sym, _∙_}

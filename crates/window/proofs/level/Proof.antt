@@ -1,3 +1,4 @@
+-- Each term stands on the side where it is not negative, so that up - down is 2ux - 2C + W without a negative number.
 use mathlib.Core.Path.{sym, ap, _∙_}
 use Prim.Native.Nat.{ℕ, _+_, _-_, _*_}
 use native.Mathlib.Omega.{arith}

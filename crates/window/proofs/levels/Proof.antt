@@ -1,3 +1,4 @@
+-- Each turn fills one place with the shade of its own x, and leaves the places before it.
 use lib.IntN.{pos, _-ℤ_}
 use Rattle.window.specs.Window.{levelOf, shaded}
 use mathlib.Core.Path.{_≡_, ap, _∙_, subst}

@@ -1,3 +1,4 @@
+-- Up to the top of the ramp the quotient is at most 255, and the bounds keep every product from wrapping.
 use Prim.Native.Nat.{_+_, _-_, _*_, _<_}
 use native.Mathlib.Omega.{arith}
 use borrow.Author.Tests.{lt-ltb, le-ltb}

@@ -1,3 +1,4 @@
+-- Every number beside the code is 0, as in the definition.
 use Rattle.cabi.specs.declared.Answer.{Answer}
 use Rattle.cabi.specs.declared.comparing.Compared.{Compared}
 use mathlib.Core.Path.{ap}

@@ -1,3 +1,4 @@
+-- The answer is that of `compare`, case by case; its numbers fit 32 bits since those of every answer are small.
 use mathlib.Core.Path.{ap, sym, _∙_}
 use native.Mathlib.Omega.{arith}
 use Rattle.compare.specs.declared.CompareAnswer.{CompareAnswer}

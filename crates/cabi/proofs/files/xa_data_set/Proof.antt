@@ -1,3 +1,4 @@
+-- The answer is that of `start_of`, case by case.
 use mathlib.Core.Path.{ap, sym, _∙_}
 use Rattle.file.specs.declared.Start.{Start}
 use Rattle.file.specs.File.{startFields}

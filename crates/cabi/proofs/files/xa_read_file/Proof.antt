@@ -1,3 +1,4 @@
+-- The answer is that of `read_file`, case by case; its numbers fit 32 bits since those of every answer are small.
 use mathlib.Core.Path.{ap, sym, _∙_}
 use Rattle.file.specs.declared.ReadFileAnswer.{ReadFileAnswer}
 use Rattle.file.specs.File.{readFields}

@@ -1,3 +1,4 @@
+-- The answer is that of `show_file`, case by case; its numbers fit 32 bits since those of every answer are small.
 use mathlib.Core.Path.{ap, sym, _∙_}
 use Rattle.file.specs.declared.ShowFileAnswer.{ShowFileAnswer}
 use Rattle.file.specs.File.{showFields}

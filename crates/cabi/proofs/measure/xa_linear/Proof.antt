@@ -1,3 +1,4 @@
+-- The answer is that of `linear`, case by case; its numbers fit 32 bits since those of every answer are small.
 use mathlib.Core.Path.{ap, sym, _∙_}
 use Rattle.linear.specs.declared.LinearAnswer.{LinearAnswer}
 use Rattle.linear.specs.Answer.{fieldsOf}

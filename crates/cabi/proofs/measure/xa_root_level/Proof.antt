@@ -1,3 +1,4 @@
+-- A level is below 256 and so fits a byte.
 use native.Mathlib.Omega.{arith}
 use Rattle.squareroot.proofs.Derivation.{derivation}
 use borrow.Author.Needs.{needs}

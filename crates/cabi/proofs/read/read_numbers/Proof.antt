@@ -1,3 +1,4 @@
+-- Each answer leads to its own numbers, which fit 32 bits, as is asked.
 use mathlib.Core.Path.{ap, sym, subst, _∙_}
 use Rattle.dataset.specs.declared.ReadAnswer.{ReadAnswer}
 use Rattle.dataset.specs.Answer.{fieldsOf}

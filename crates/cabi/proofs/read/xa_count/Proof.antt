@@ -1,3 +1,4 @@
+-- The answer is that of `count`, and its numbers fit 32 bits since those of every answer are small.
 use mathlib.Core.Path.{ap, sym, subst, _∙_}
 use Rattle.dataset.specs.declared.ReadAnswer.{ReadAnswer}
 use Rattle.dataset.specs.Answer.{fieldsOf}

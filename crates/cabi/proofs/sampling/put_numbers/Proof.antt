@@ -1,3 +1,4 @@
+-- Each turn puts one number, and all behind it stays as it was.
 use Prim.Native.Nat.{_-_, _≤_}
 use lib.ListN.{length, getD}
 use Rattle.pixel.specs.Contracts.{painted}

@@ -1,3 +1,4 @@
+-- Nothing is written unless all 260 numbers fit.
 use lib.ListN.{length}
 use borrow.Author.Tests.{le-leb, lt-leb}
 use Rattle.cabi.proofs.Numbers.{sheet-put, sheet-kept}

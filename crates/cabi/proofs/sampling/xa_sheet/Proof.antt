@@ -1,3 +1,4 @@
+-- The answer is that of `sheet`, and whatever it is there are 256 counts to put into the buffer.
 use mathlib.Core.Bool.{Bool}
 use lib.ListN.{length}
 use Rattle.sheet.specs.declared.Sampled.{Sampled}

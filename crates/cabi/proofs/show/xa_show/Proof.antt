@@ -1,3 +1,4 @@
+-- The answer is that of `show`, and its numbers fit 32 bits since those of every answer are small.
 use mathlib.Core.Path.{ap, sym, subst, _∙_}
 use Rattle.display.specs.declared.ShowAnswer.{ShowAnswer}
 use Rattle.display.specs.Show.{fieldsOf}

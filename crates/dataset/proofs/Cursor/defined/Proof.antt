@@ -1,3 +1,4 @@
+-- The checks are those of the definition, in its order, and a value that passes them ends within its level.
 use Rattle.dataset.proofs.Checks.{checks}
 use Rattle.dataset.specs.Header.{definedBy}
 use borrow.Author.Needs.{needs}

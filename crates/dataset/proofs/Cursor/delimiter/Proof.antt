@@ -1,3 +1,4 @@
+-- The tests are those of the definition, in its order, and the 8 bytes of a delimiter lie within the level.
 use Rattle.dataset.proofs.Checks.{checks}
 use Rattle.dataset.specs.Header.{delimiterBy}
 use borrow.Author.Needs.{needs}

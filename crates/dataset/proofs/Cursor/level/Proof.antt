@@ -1,3 +1,4 @@
+-- Only a sequence needs a level below it; every value is handed on as it is.
 use borrow.Author.Needs.{needs}
 use Rattle.dataset.proofs.Checks.{checks}
 use Rattle.dataset.specs.Header.{levelBy}

@@ -1,3 +1,4 @@
+-- Only a sequence may have an undefined length, and then reaches as far as its level; any other length is a defined one.
 use Rattle.dataset.proofs.Checks.{checks}
 use Rattle.dataset.specs.Header.{longBy}
 use borrow.Author.Needs.{needs}

@@ -1,3 +1,4 @@
+-- The tag of an item leads to its length, any other tag to the delimiter that may be due.
 use Rattle.dataset.proofs.Checks.{checks}
 use Rattle.dataset.specs.Header.{memberAt}
 use borrow.Author.Needs.{needs}

@@ -1,3 +1,4 @@
+-- An undefined length reaches as far as the level; any other length is a defined one.
 use Rattle.dataset.proofs.Checks.{checks}
 use Rattle.dataset.specs.Header.{sizedBy}
 use borrow.Author.Needs.{needs}

@@ -1,3 +1,4 @@
+-- Group FFFE leads to the delimiter, a tag below the least is refused, and any other leads on to its VR.
 use Rattle.dataset.proofs.Checks.{checks}
 use Rattle.dataset.specs.Header.{taggedAt}
 use borrow.Author.Needs.{needs}

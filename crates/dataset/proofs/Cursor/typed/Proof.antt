@@ -1,3 +1,4 @@
+-- The form says which length follows: none, 16 bits at once, or 32 bits after two zero bytes.
 use Rattle.dataset.proofs.Checks.{checks}
 use Rattle.dataset.specs.Header.{typedAt}
 use borrow.Author.Needs.{needs}
