@@ -20,7 +20,7 @@ if-possible-requires c κs = search needs
 returns : tie.Need-returns
 unfolding readSized
 returns c =
-    let rows = c .before .before .u32-at .ensures .0 ∙ number-four (c .before .before .before .before .args .slip .now) rowsAt in
+    let rows = c .before .before .u32-at .ensures .0 ∙ number-four (c .before .before .before .before .before .args .slip .now) rowsAt in
     simp (eq-eqb _ _ (c .before .before .before .if1 .taken), sym rows) (c .if-possible .ensures ∙ ap ifPossible (c .before .fields .ensures))
 
 returns-2 : tie.Need-returns-2
