@@ -1,6 +1,5 @@
 // Verdict slips: 17 bytes that record a verdict with its row count. specs/ says what a slip is; `write_slip` and
-// `read_slip` are the public calls. A slip's bytes: the mark from 0, the version from 3, the code at 5, the rule at 6, the
-// frame from 7, the offset from 9, the row count from 13. Slips of version 1, which are read too, end before the row count.
+// `read_slip` are the public calls. Slips of version 1, which are read too, end before the row count.
 ghost use mathlib.Core.Path.{_≡_};
 ghost use mathlib.Core.List.{_++_};
 ghost use Prim.Native.Nat.{_≤_};
@@ -20,6 +19,19 @@ const HEAD: usize = 5;
 const OLD_SIZE: usize = 13;
 
 pub const SIZE: usize = 17;
+
+// Where each field stands; the mark is in front.
+const VERSION_AT: usize = 3;
+
+const CODE_AT: usize = 5;
+
+const RULE_AT: usize = 6;
+
+const FRAME_AT: usize = 7;
+
+const OFFSET_AT: usize = 9;
+
+const ROWS_AT: usize = 13;
 
 const OLD_VERSION: usize = 1;
 
@@ -56,10 +68,10 @@ fn fields(s: &[u8], rows: RowCount) -> Verdict
     requires { ⌜ oldSize ≤ length (now s) ⌝ }
     ensures { λ r. ⌜ r ≡ recorded (now (s .entry)) rows ⌝ }
 {
-    let code = wide(s[5]);
-    let rule = wide(s[6]);
-    let frame = u16_at(s, 7);
-    let offset = u32_at(s, 9);
+    let code = wide(s[CODE_AT]);
+    let rule = wide(s[RULE_AT]);
+    let frame = u16_at(s, FRAME_AT);
+    let offset = u32_at(s, OFFSET_AT);
     Verdict {
         code,
         rule,
@@ -95,7 +107,7 @@ fn read_new(slip: &[u8]) -> SlipAnswer
     ensures { λ r. ⌜ r ≡ readSized slipSize (Known (number 4 (now (slip .entry)) rowsAt)) (now (slip .entry)) ⌝ }
 {
     if slip.len() == SIZE {
-        let n = u32_at(slip, 13);
+        let n = u32_at(slip, ROWS_AT);
         if_possible(fields(slip, RowCount::Known(n)))
     } else {
         SlipAnswer::Refused(12)
@@ -107,7 +119,7 @@ fn read_version(slip: &[u8]) -> SlipAnswer
     requires { ⌜ headSize ≤ length (now slip) ⌝ }
     ensures { λ r. ⌜ r ≡ readVersion (number 2 (now (slip .entry)) versionAt) (now (slip .entry)) ⌝ }
 {
-    let version = u16_at(slip, 3);
+    let version = u16_at(slip, VERSION_AT);
     if version == OLD_VERSION {
         return read_old(slip);
     }
