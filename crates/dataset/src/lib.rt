@@ -19,13 +19,25 @@ pub const LARGEST: usize = 1_073_741_824;
 // The most rows that it has.
 pub const MOST_ROWS: usize = 134_217_728;
 
-// How many numbers a row has: tag, VR, depth, offset, length, descendants, parent.
+// How many numbers a row has, and which place each has: the tag is first.
 pub const WIDTH: usize = 7;
+
+pub const VR: usize = 1;
+
+pub const DEPTH: usize = 2;
+
+pub const OFFSET: usize = 3;
+
+pub const LENGTH: usize = 4;
+
+pub const BELOW: usize = 5;
+
+pub const PARENT: usize = 6;
 
 // How deep sequences may stand.
 const DEPTHS: usize = 8;
 
-const SQ: usize = 0x5351;
+pub const SQ: usize = 0x5351;
 
 const UNDEFINED: usize = 0xFFFF_FFFF;
 
@@ -369,12 +381,12 @@ fn put_row(
     let i = WIDTH * n;
     if i + WIDTH <= rows.len() {
         rows[i] = tag as u32;
-        rows[i + 1] = vr as u32;
-        rows[i + 2] = (DEPTHS - levels) as u32;
-        rows[i + 3] = start as u32;
-        rows[i + 4] = (stop - start) as u32;
-        rows[i + 5] = (m - n - 1) as u32;
-        rows[i + 6] = first as u32;
+        rows[i + VR] = vr as u32;
+        rows[i + DEPTH] = (DEPTHS - levels) as u32;
+        rows[i + OFFSET] = start as u32;
+        rows[i + LENGTH] = (stop - start) as u32;
+        rows[i + BELOW] = (m - n - 1) as u32;
+        rows[i + PARENT] = first as u32;
     }
 }
 

@@ -19,8 +19,6 @@ use value::Function;
 use value::Num;
 use value::Signed;
 
-const SQ: usize = 0x5351;
-
 // The items that are left of a sequence: from `at` up to `end`.
 pub struct Items {
     pub at: usize,
@@ -184,7 +182,7 @@ pub fn the_item(bytes: &[u8], rows: &[u32], i: usize) -> Num
     ensures { λ r. ⌜ r ≡ theItem (nodesOf (now (bytes .entry))) i ⌝ }
     ensures { λ r. ⌜ Below (length (nodesOf (now (bytes .entry)))) r ⌝ }
 {
-    if node::vr(bytes, rows, i) == SQ {
+    if node::vr(bytes, rows, i) == dataset::SQ {
         let end = node::next(bytes, rows, i);
         let first = i + 1;
         if first < end {
@@ -217,7 +215,7 @@ fn items_root(bytes: &[u8], rows: &[u32], tag: usize) -> Items
     requires { ⌜ Table (now bytes) (now rows) ⌝ }
     ensures { λ r. ⌜ Along (nodesOf (now (bytes .entry))) (itemsIn (nodesOf (now (bytes .entry))) tag (root (nodesOf (now (bytes .entry))))) r ⌝ }
 {
-    match find_vr_root(bytes, rows, tag, SQ) {
+    match find_vr_root(bytes, rows, tag, dataset::SQ) {
         Num::Lacks => Items { at: 0, end: 0 },
         Num::Is(i) => Items {
             at: i + 1,

@@ -6,6 +6,8 @@ ghost use Rattle.dataset.specs.Tree.{rowsOf, rowAt};
 ghost use Rattle.node.specs.Nodes.{nodesOf};
 ghost use Rattle.node.specs.Contracts.{Table};
 ghost use Rattle.frame.specs.View.{Part, IsView, Fits, frameSize};
+use dataset::WIDTH;
+use node::wide;
 
 // A frame: its bytes, the number of its rows and of its columns.
 pub struct FrameView<'a> {
@@ -88,18 +90,12 @@ pub fn frame_line<'a>(
 
 // ---- In the data set as lent
 
-fn wide(x: u32) -> usize
-    ensures { λ r. ⌜ r ≡ x ⌝ }
-{
-    x as usize
-}
-
 // The value of row p, a part of the data set.
 pub fn value_part<'a, 'b>(bytes: &'a [u8], rows: &'b [u32], p: usize) -> &'a [u8]
     requires { ⌜ Table (now bytes) (now rows) × (p < length (nodesOf (now bytes))) ⌝ }
     ensures { λ r. ⌜ Part (bytes .entry) (rowAt (rowsOf (now (bytes .entry))) p .offset) (rowAt (rowsOf (now (bytes .entry))) p .size) r ⌝ }
 {
-    let start = wide(rows[7 * p + 3]);
-    let end = start + wide(rows[7 * p + 4]);
+    let start = wide(rows[WIDTH * p + dataset::OFFSET]);
+    let end = start + wide(rows[WIDTH * p + dataset::LENGTH]);
     &bytes[start..end]
 }

@@ -10,8 +10,6 @@ use dataset::u16_at;
 use element::tags;
 use value::Num;
 
-const SQ: usize = 0x5351;
-
 // ---- The TO_LINEAR items
 
 fn is_linear(bytes: &[u8], rows: &[u32], item: usize) -> bool
@@ -100,7 +98,7 @@ fn table_of(bytes: &[u8], rows: &[u32], group: usize) -> usize
     requires { ⌜ Table (now bytes) (now rows) × (group < length (nodesOf (now bytes))) ⌝ }
     ensures { λ r. ⌜ r ≡ tableOf (nodesOf (now (bytes .entry))) group ⌝ }
 {
-    if node::vr(bytes, rows, group) == SQ {
+    if node::vr(bytes, rows, group) == dataset::SQ {
         let from = group + 1;
         let to = node::next(bytes, rows, group);
         if from < to {

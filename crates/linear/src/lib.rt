@@ -26,8 +26,6 @@ use steps::Found;
 use steps::Sized;
 use value::Num;
 
-const SQ: usize = 0x5351;
-
 // The answer of `linear`: mapped, with the number of rows; code 9, with the number of rows, rule and frame; code and offset
 // of a refusal; codes 7, 8, 10, 20 and 11.
 pub enum LinearAnswer {
@@ -48,7 +46,7 @@ fn linear_on(bytes: &[u8], rows: &[u32], group: usize) -> Found
     ensures { λ r. ⌜ foundOf r ≡ linearOn (nodesOf (now (bytes .entry))) (num.Is group) ⌝ }
     ensures { λ r. ⌜ FoundBelow (length (nodesOf (now (bytes .entry)))) r ⌝ }
 {
-    if node::vr(bytes, rows, group) == SQ {
+    if node::vr(bytes, rows, group) == dataset::SQ {
         let to = node::next(bytes, rows, group);
         let j = intensity::next_linear(bytes, rows, group + 1, to);
         if j < to { Found::At(j) } else { Found::Absent }

@@ -16,8 +16,6 @@ ghost use Rattle.meta.specs.Meta.{isMarked, hasGroupLength, endOf, uidAt
 ghost use Rattle.meta.specs.declared.Uid.the-variants.{At};
 ghost use Rattle.meta.specs.Contracts.{UidWithin, walkOf, ElementsWithin, MetaWithin};
 
-const SQ: usize = 0x5351;
-
 const UI: usize = 0x5549;
 
 const UL: usize = 0x554C;
@@ -197,7 +195,7 @@ fn past(file: &[u8], vr: usize, value: Cursor, none: &mut [u32], first: usize) -
     requires { ⌜ Ready (now file) value 7 first (length (now none)) × (length (now none) ≡ 0) ⌝ }
     ensures { λ r. ⌜ Walked (valueAt 8 (now (file .entry)) first vr value) value first (now (none .entry)) (now (none .exit)) r ⌝ }
 {
-    if vr == SQ {
+    if vr == dataset::SQ {
         items(file, value, none, first)
     } else {
         Walk::Done(value.end, value.end, first)

@@ -166,7 +166,7 @@ pub fn apply_all(bytes: &[u8], rows: &[u32], n: usize, reach: &mut [u32], which:
     match element::find_root(bytes, rows, tags::MASK_SUBTRACTION_SEQUENCE) {
         Num::Lacks => {}
         Num::Is(m) => {
-            if node::vr(bytes, rows, m) == node::SQ {
+            if node::vr(bytes, rows, m) == dataset::SQ {
                 cover_items(
                     bytes,
                     rows,

@@ -54,13 +54,13 @@ fn print_row(rows: &[u32], i: usize)
     requires { ⌜ width * i + width ≤ length (now rows) ⌝ }
 {
     let at = dataset::WIDTH * i;
-    let text = row_heading(rows[at], rows[at + 1]);
+    let text = row_heading(rows[at], rows[at + dataset::VR]);
     io::write_all(1, &text);
-    print_number(wide(rows[at + 2]));
-    print_number(wide(rows[at + 3]));
-    print_number(wide(rows[at + 4]));
-    print_number(wide(rows[at + 5]));
-    print_number(wide(rows[at + 6]));
+    print_number(wide(rows[at + dataset::DEPTH]));
+    print_number(wide(rows[at + dataset::OFFSET]));
+    print_number(wide(rows[at + dataset::LENGTH]));
+    print_number(wide(rows[at + dataset::BELOW]));
+    print_number(wide(rows[at + dataset::PARENT]));
     io::write_all(1, b"\n");
 }
 

@@ -59,7 +59,7 @@ fn is_mask(bytes: &[u8], rows: &[u32], i: usize) -> bool
     requires { ⌜ Table (now bytes) (now rows) × (i < length (nodesOf (now bytes))) ⌝ }
     ensures { λ r. ⌜ r ≡ isMask (nodesOf (now (bytes .entry))) i ⌝ }
 {
-    if node::vr(bytes, rows, i) == node::SQ {
+    if node::vr(bytes, rows, i) == dataset::SQ {
         let n = element::count_items(bytes, rows, i);
         if 1 <= n {
             if n <= MOST_MASKS {
@@ -417,7 +417,7 @@ fn shift_in(bytes: &[u8], rows: &[u32], item: usize, otherwise: bool) -> bool
     match element::find_item(bytes, rows, item, tags::FRAME_PIXEL_SHIFT_SEQUENCE) {
         Num::Lacks => otherwise,
         Num::Is(g) => {
-            if node::vr(bytes, rows, g) == node::SQ {
+            if node::vr(bytes, rows, g) == dataset::SQ {
                 node::is_filled(bytes, rows, g)
             } else {
                 false

@@ -511,7 +511,7 @@ fn rule_26(bytes: &[u8], rows: &[u32]) -> bool
         bytes,
         rows,
         tags::PER_FRAME_FUNCTIONAL_GROUPS_SEQUENCE,
-        node::SQ,
+        dataset::SQ,
     ) else {
         return false;
     };

@@ -228,7 +228,7 @@ pub fn applying_to(bytes: &[u8], rows: &[u32], frame: usize) -> Applies
     match element::find_root(bytes, rows, tags::MASK_SUBTRACTION_SEQUENCE) {
         Num::Lacks => Applies::Nothing,
         Num::Is(m) => {
-            if node::vr(bytes, rows, m) == node::SQ {
+            if node::vr(bytes, rows, m) == dataset::SQ {
                 first_holding(bytes, rows, frame, m + 1, node::next(bytes, rows, m))
             } else {
                 Applies::Lacks
@@ -351,7 +351,7 @@ fn own_in(bytes: &[u8], rows: &[u32], j: usize, g: usize) -> Found
     ensures { λ r. ⌜ foundOf r ≡ ownIn (nodesOf (now (bytes .entry))) j (num.Is g) ⌝ }
     ensures { λ r. ⌜ FoundBelow (length (nodesOf (now (bytes .entry)))) r ⌝ }
 {
-    if node::vr(bytes, rows, g) == node::SQ {
+    if node::vr(bytes, rows, g) == dataset::SQ {
         let from = g + 1;
         let to = node::next(bytes, rows, g);
         if from < to {
