@@ -18,7 +18,7 @@ use Rattle.node.proofs.Laws.{next-within}
 use Rattle.node.proofs.After.{after-reading, nodes-read}
 use Rattle.canonical.specs.declared.CanonicalAnswer.the-variants as canonical
 use Rattle.canonical.specs.Contracts.{Sized, Fitting, Wrote}
-use Rattle.canonical.specs.Written.{Bytes, sizeOf, writtenOf}
+use Rattle.canonical.specs.Written.{Bytes, writtenSize, writtenOf}
 use Rattle.canonical.specs.Answer.{canonicalOf, targetOf}
 use Rattle.canonical.proofs.Shape.{shape-size}
 use Rattle.canonical.proofs.Read.{Readable, reading-shape}
@@ -32,7 +32,7 @@ record Few (s : List ℕ) (size : ℕ) : Type 0 where
   small : size ≤ 1073741824
 
 nodes-few : (s : List ℕ) → Bytes s → Few s (sizeOf (nodesOf s))
-unfolding nodesOf rowsOf sizeOf
+unfolding nodesOf rowsOf writtenSize
 nodes-few s bytes = go (readingOf s) (reading-shape s bytes)
   where
     go : (o : Reading) → Readable s bytes o → Few s (sizeOf (map (nodeOf s) (rowsIn o)))
@@ -70,11 +70,11 @@ fitting-all s target {buffer} {n} r h =
     }
 
 module _ (s before target : List ℕ) (n : ℕ) (e : answer.Done n ≡ answerOf (readingOf s) before) (c : n ≡ length (nodesOf s)) where
-  pub short-answer : (size : ℕ) → size ≡ sizeOf (slice 0 n (nodesOf s)) → ltb (length target) (sizeOf (nodesOf s)) ≡ true
+  pub short-answer : (size : ℕ) → size ≡ writtenSize (slice 0 n (nodesOf s)) → ltb (length target) (sizeOf (nodesOf s)) ≡ true
       → (canonical.NoTargetRoom size ≡ canonicalOf s before target) × (target ≡ targetOf s before target)
   unfolding canonicalOf targetOf
   short-answer size k h =
-      let q : size ≡ length (writtenOf (nodesOf s)) = k ∙ ap sizeOf (slice-all (nodesOf s) n c) ∙ sym (length-written (nodesOf s)) in
+      let q : size ≡ length (writtenOf (nodesOf s)) = k ∙ ap writtenSize (slice-all (nodesOf s) n c) ∙ sym (length-written (nodesOf s)) in
       let f = lt-leb (length (writtenOf (nodesOf s))) (length target) (omega (arith, length-written (nodesOf s), ltb-true (length target) (sizeOf (nodesOf s)) h)) in
       (rw (← e, f, q), rw (← e, f))
 

@@ -15,7 +15,7 @@ use Rattle.dataset.specs.Bytes.{le16, le32, tagAt, vrAt}
 use Rattle.dataset.specs.Vr.{formOf, SQ}
 use Rattle.dataset.specs.Header.{when, undefined, itemTag, cursor, headerBy, levelBy, definedBy, longBy, typedAt, taggedAt, sizedBy, memberAt, elementAt, itemAt}
 use Rattle.dataset.specs.Tree.{Kind, elements, items, rowsOf}
-use Rattle.dataset.specs.Reading.{Row, row, Run, done, level, valueAt, elementsAt, itemsAt, largest, read, whole, readingOf}
+use Rattle.dataset.specs.Reading.{Row, row, Run, done, level, valueRun, elementsAt, itemsAt, largest, read, whole, readingOf}
 use Rattle.dataset.proofs.Level.{level-on, level-end, value-plain}
 use Rattle.node.specs.Nodes.{Node, nodeOf, nodesOf}
 use Rattle.canonical.specs.Written.{le, letters, lengthOf, header, headSize}
@@ -192,8 +192,8 @@ parts t at k end front inner after post here h e =
 count : (t : List ℕ) (rows : List Row) (ns : List Node) → map (nodeOf t) rows ≡ ns → length rows ≡ length ns
 count t rows ns e = sym (length-map rows (nodeOf t)) ∙ ap length e
 
-pub value-sq : (levels : ℕ) (t : List ℕ) (n : ℕ) (v : Cursor) → valueAt (suc levels) t n SQ v ≡ itemsAt levels t n v
-unfolding valueAt
+pub value-sq : (levels : ℕ) (t : List ℕ) (n : ℕ) (v : Cursor) → valueRun (suc levels) t n SQ v ≡ itemsAt levels t n v
+unfolding valueRun
 value-sq levels t n v = refl
 
 -- A run that reads just these nodes, up to the end.
@@ -233,7 +233,7 @@ headOf elements levels t end at least = elementAt t (cursor at end false) least 
 headOf items levels t end at least = itemAt t (cursor at end false)
 
 abbrev inOf : Kind → ℕ → List ℕ → ℕ → ℕ → Cursor → Run
-inOf elements levels t n vr v = valueAt levels t n vr v
+inOf elements levels t n vr v = valueRun levels t n vr v
 inOf items levels t n vr v = elementsAt levels t n v
 
 ends : (t : List ℕ) (kind : Kind) (levels end least : ℕ) → headOf kind levels t end end least ≡ head.End 0 0 (cursor end end false)

@@ -14,7 +14,7 @@ use Rattle.dataset.specs.declared.Head.the-variants as head
 use Rattle.dataset.specs.Bytes.{le16, le32, tagAt, vrAt}
 use Rattle.dataset.specs.Vr.{formOf, SQ}
 use Rattle.dataset.specs.Header.{when, itemTag, cursor, moved, headerBy, delimiterBy, levelBy, definedBy, longBy, typedAt, taggedAt, sizedBy, memberAt, elementAt, itemAt}
-use Rattle.dataset.specs.Reading.{Row, row, Run, done, refused, onHead, onRun, level, valueAt, elementsAt, itemsAt, largest, Reading, tooLarge, refusedAt, read, whole, readingOf}
+use Rattle.dataset.specs.Reading.{Row, row, Run, done, refused, onHead, onRun, level, valueRun, elementsAt, itemsAt, largest, Reading, tooLarge, refusedAt, read, whole, readingOf}
 use Rattle.dataset.specs.Tree.{Kind, elements, items}
 use Rattle.dataset.proofs.Level.{value-plain}
 use Rattle.node.specs.Nodes.{nodeOf, holdsNodes}
@@ -362,12 +362,12 @@ module _ (s : List ℕ) where
 
     value-grows : (levels : ℕ) → Deeper levels → (c : Cursor) (least : ℕ) → c .end ≤ length s
         → (tag vr : ℕ) (v : Cursor) → Element c least levels tag vr v → (t : Bool) → eqb vr SQ ≡ t
-        → (first n stop next : ℕ) (below : List Row) → valueAt levels s n vr v ≡ done stop next below
+        → (first n stop next : ℕ) (below : List Row) → valueRun levels s n vr v ≡ done stop next below
         → Grown s elements levels least (c .at) (c .end) tag (row tag vr (8 - levels) (v .at) (stop - v .at) (length below) first ∷ below) next
     value-grows zero deeper c least room tag vr v g true q first n stop next below e = absurd (g .deep (eqb-true vr SQ q) refl)
     value-grows (suc levels) deeper c least room tag vr v g true q first n stop next below e =
         let z : vr ≡ SQ = eqb-true vr SQ q in
-        subst (λ (x : ℕ). Element c least (suc levels) tag x v → valueAt (suc levels) s n x v ≡ done stop next below
+        subst (λ (x : ℕ). Element c least (suc levels) tag x v → valueRun (suc levels) s n x v ≡ done stop next below
         → Grown s elements (suc levels) least (c .at) (c .end) tag (row tag x (8 - suc levels) (v .at) (stop - v .at) (length below) first ∷ below) next) (sym z)
         (λ g e. sequence-grows c least levels tag first v g stop next below
         (done-of items levels 0 (v .at) (v .end) [] (itemsAt levels s n v) (deeper n v (omega (arith, g .high))) stop next below (sym (value-sq levels s n v) ∙ e))) g e

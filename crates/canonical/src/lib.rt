@@ -11,7 +11,7 @@ ghost use Rattle.dataset.specs.Answer.{bufferOf};
 ghost use Rattle.node.specs.Nodes.{nodesOf, nodeAt};
 ghost use Rattle.canonical.specs.Contracts.{Put, Sized, Fitting, Wrote};
 ghost use Rattle.canonical.specs.Answer.{canonicalOf, targetOf, fieldsOf};
-ghost use Rattle.canonical.specs.Written.{Bytes, le, letters, lengthOf, header, headSize, ownSize, sizeOf};
+ghost use Rattle.canonical.specs.Written.{Bytes, le, letters, lengthOf, header, headSize, ownSize, writtenSize};
 use dataset::ReadAnswer;
 
 // ---- Bytes into the target
@@ -101,7 +101,7 @@ fn own_size(bytes: &[u8], rows: &[u32], i: usize) -> usize
 // The bytes that the nodes from `from` up to `to` take together.
 fn span(bytes: &[u8], rows: &[u32], from: usize, to: usize) -> usize
     requires { ⌜ Sized (now bytes) (now rows) × ((from ≤ to) × (to ≤ length (nodesOf (now bytes)))) ⌝ }
-    ensures { λ r. ⌜ (r ≡ sizeOf (slice from to (nodesOf (now (bytes .entry))))) × (r ≤ largest) ⌝ }
+    ensures { λ r. ⌜ (r ≡ writtenSize (slice from to (nodesOf (now (bytes .entry))))) × (r ≤ largest) ⌝ }
 {
     let mut sum: usize = 0;
     let mut i = from;

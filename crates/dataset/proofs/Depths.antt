@@ -10,7 +10,7 @@ use Rattle.dataset.specs.declared.Head.{Head}
 use Rattle.dataset.specs.declared.Head.the-variants as heads
 use Rattle.dataset.specs.Vr.{SQ}
 use Rattle.dataset.specs.Header.{moved, elementAt, itemAt}
-use Rattle.dataset.specs.Reading.{Row, row, Run, done, refused, onHead, onRun, level, depths, elementsBy, itemsBy, valueAt}
+use Rattle.dataset.specs.Reading.{Row, row, Run, done, refused, onHead, onRun, level, depths, elementsBy, itemsBy, valueRun}
 
 -- No row stands above depth d.
 abbrev pub Deep : ℕ → List Row → Type 0
@@ -50,7 +50,7 @@ level-deep head inside depth first (suc turns) at least rows d k inner h =
     by-head (heads.Header tag vr v) go = by-run (inside (first + length rows + 1) vr v) tag vr v (inner (first + length rows + 1) vr v) go
 
 pub value-deep : (levels d : ℕ) → d ≤ 9 - levels → (s : List ℕ) (first vr : ℕ) (v : Cursor) → RunDeep d (valueAt levels s first vr v)
-unfolding valueAt
+unfolding valueRun
 value-deep zero d k s first vr v = tt
 value-deep (suc levels) d k s first vr v =
     by-vr (eqb vr SQ) (itemsBy (λ n c. elementsBy (valueAt levels s) levels s n c) levels s first v)

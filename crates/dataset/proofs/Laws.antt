@@ -14,7 +14,7 @@ use Rattle.dataset.specs.declared.ReadAnswer.the-variants as answer
 use Rattle.dataset.specs.Vr.{formOf, listed, SQ}
 use Rattle.dataset.specs.Reading.{Row, Reading, tooLarge, refusedAt, read, readingOf}
 use Rattle.dataset.specs.Answer.{flat, fits, answerOf}
-use Rattle.dataset.specs.Tree.{rowsOf, rowAt, nextRow, Kind, elements, items, Member, insideOf, depthInside, Members}
+use Rattle.dataset.specs.Tree.{rowsOf, rowAt, nextRow, Kind, elements, items, Member, kindInside, depthInside, Members}
 use Rattle.dataset.proofs.Tree.{Reads, reading-reads, rows-read, rows-members}
 
 -- ---- The numbers of an answer and of a buffer

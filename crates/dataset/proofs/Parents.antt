@@ -12,7 +12,7 @@ use mathlib.Core.List.{List}
 use lib.ListN.{length}
 use Rattle.dataset.specs.Vr.{SQ}
 use Rattle.dataset.specs.Reading.{Row}
-use Rattle.dataset.specs.Tree.{rowsOf, rowAt, nextRow, Kind, elements, items, Member, insideOf, depthInside, Members}
+use Rattle.dataset.specs.Tree.{rowsOf, rowAt, nextRow, Kind, elements, items, Member, kindInside, depthInside, Members}
 use Rattle.dataset.specs.Parents.{parentOf, climb, Counts, Meets, Parents}
 use Rattle.dataset.proofs.Tree.{rows-members}
 use Rattle.dataset.proofs.Laws.{item-formless, row-found, row-nested, row-deep}

@@ -16,9 +16,9 @@ use Rattle.dataset.specs.declared.Head.the-variants as head
 use Rattle.dataset.specs.Vr.{formOf, SQ}
 use Rattle.dataset.specs.Bytes.{le32}
 use Rattle.dataset.specs.Header.{when, itemTag, cursor, moved, headerBy, delimiterBy, levelBy, definedBy, longBy, typedAt, taggedAt, sizedBy, memberAt, elementAt, itemAt}
-use Rattle.dataset.specs.Reading.{Row, row, Run, done, refused, onHead, onRun, level, valueAt, elementsAt, itemsAt, largest, Reading, tooLarge, refusedAt, read, whole, readingOf}
+use Rattle.dataset.specs.Reading.{Row, row, Run, done, refused, onHead, onRun, level, valueRun, elementsAt, itemsAt, largest, Reading, tooLarge, refusedAt, read, whole, readingOf}
 use Rattle.dataset.proofs.Levels.{sequence-level}
-use Rattle.dataset.specs.Tree.{rowsIn, rowsOf, noRow, rowAt, nextRow, Kind, elements, items, Member, insideOf, depthInside, Members}
+use Rattle.dataset.specs.Tree.{rowsIn, rowsOf, noRow, rowAt, nextRow, Kind, elements, items, Member, kindInside, depthInside, Members}
 
 -- The members of one container with all that is below them, as a list.
 -- Its first row is row `from`.
@@ -316,7 +316,7 @@ elements-adds levels s d inside first c p q =
 
 value-inside : (levels : ℕ) (s : List ℕ) → levels ≤ 8 → (first vr : ℕ) (v : Cursor) → v .at ≤ v .end → v .end ≤ length s
     → Inside (length s) elements (8 - levels) first vr v (valueAt levels s first vr v)
-unfolding valueAt
+unfolding valueRun
 value-inside zero s d first vr v p q = leaf-inside (length s) 8 first vr v p (λ _ h. omega (arith, h))
 value-inside (suc levels) s d first vr v p q =
     let e : 8 - levels ≡ (8 - suc levels) + 1 = omega arith in

@@ -71,9 +71,9 @@ itemsBy elements levels s first c =
     level (λ at least. itemAt s (moved c at)) (λ n vr value. elements n value) (depths - levels) first (length s + 1) (c .at) 0 []
 
 -- An element's value: the items of a sequence, one level deeper; any other value has no rows, and ends at its end.
-unfoldable pub valueAt : ℕ → List ℕ → ℕ → ℕ → Cursor → Run
-valueAt zero s first vr value = done (value .end) (value .end) []
-valueAt (suc levels) s first vr value =
+unfoldable pub valueRun : ℕ → List ℕ → ℕ → ℕ → Cursor → Run
+valueRun zero s first vr value = done (value .end) (value .end) []
+valueRun (suc levels) s first vr value =
     cond (eqb vr SQ)
     (itemsBy (λ n c. elementsBy (valueAt levels s) levels s n c) levels s first value)
     (done (value .end) (value .end) [])

@@ -56,9 +56,9 @@ pub record Member (size : ℕ) (kind : Kind) (depth holder least : ℕ) (r : Row
   pub bare : IsHolder kind r → r .descendants ≡ 0 → r .size ≡ 0
 
 -- What the members of a member are: items hold elements of their own depth, and sequences items one deeper.
-abbrev pub insideOf : Kind → Kind
-insideOf elements = items
-insideOf items = elements
+abbrev pub kindInside : Kind → Kind
+kindInside elements = items
+kindInside items = elements
 
 abbrev pub depthInside : Kind → ℕ → ℕ
 depthInside elements depth = depth + 1

@@ -44,7 +44,7 @@ use Rattle.window.specs.declared.Window.{Window}
 use Rattle.steps.specs.declared.Applying.{Applying}
 use Rattle.steps.specs.declared.Applying.the-variants.{Item, Nothing}
 use Rattle.steps.specs.Given.{need, check, then, collect}
-use Rattle.steps.specs.Steps.{Mask, native, masked, geometryOf, pixelsOf, applyingTo, averageFrames, tidFrame, naming, ownIn, itemAt, shiftFrom, shiftFor, movesFor, onTid, maskBy, maskOn, maskFor, windowFor, inverseOf, maskedCell, pictureBy, stepsOf}
+use Rattle.steps.specs.Steps.{Mask, native, masked, geometryOf, pixelsOf, applyingTo, averageFrames, tidFrame, naming, ownIn, itemShiftAt, shiftFrom, shiftFor, movesFor, onTid, maskBy, maskOn, maskFor, windowFor, inverseOf, maskedCell, pictureBy, stepsOf}
 use Rattle.display.specs.Before.{wasShiftAt, shiftFitted, rule35Before, wasShiftItem, wasShiftGroup, item37Before, rule37Before, ruleBefore, AcceptedBefore, movesBefore, onTidBefore, maskByBefore, maskOnBefore, maskForBefore, maskedCellBefore, pictureBefore, stepsBefore, KeepsPictures, SamePictures}
 use Rattle.display.proofs.Given.{never, check-some, then-some}
 use Rattle.display.proofs.Small.{us-in-small}

@@ -41,7 +41,7 @@ use Rattle.conformance.proofs.First.{accepted-holds}
 use Rattle.steps.specs.declared.Applying.{Applying}
 use Rattle.steps.specs.declared.Applying.the-variants.{Item, Nothing}
 use Rattle.steps.specs.Given.{need, check, then}
-use Rattle.steps.specs.Steps.{orShared, groupFor, inPairs, rangeHas, rangeHolds, firstHolding, onMask, applyingTo, averageFrames, offsetAt, offsetOf, less, tidFrame, naming, ownIn, itemAt, shiftFrom, shiftFor, movesFor, Mask, native, masked, onTid, maskBy, maskOn, maskFor}
+use Rattle.steps.specs.Steps.{orShared, groupFor, inPairs, rangeHas, rangeHolds, firstHolding, onMask, applyingTo, averageFrames, offsetAt, offsetOf, less, tidFrame, naming, ownIn, itemShiftAt, shiftFrom, shiftFor, movesFor, Mask, native, masked, onTid, maskBy, maskOn, maskFor}
 use Rattle.display.proofs.Accepted.{AllWithin, Sound, Masking}
 
 -- ---- What a test that holds says

@@ -13,7 +13,7 @@ ghost use Rattle.value.specs.Number.{usOf};
 ghost use Rattle.value.specs.Words.{isWord};
 ghost use Rattle.element.specs.Elements.{valueAt, usIn, csIs, uiIs, oneItem, theItem, itemsIn, functionOn, functionIn};
 ghost use Rattle.value.specs.declared.Num.the-variants as num;
-ghost use Rattle.element.specs.Frames.{counted, framesOf, sharedItem, frameItems, groupOf, maskItems};
+ghost use Rattle.element.specs.Frames.{asCount, framesOf, sharedItem, frameItems, groupOf, maskItems};
 ghost use Rattle.element.specs.Contracts.{Along};
 use value::Function;
 use value::Num;
@@ -269,9 +269,9 @@ pub fn function_in(bytes: &[u8], rows: &[u32], item: usize) -> Function
 // ---- Frames
 
 // A signed number that counts: what is below zero counts nothing.
-fn counted(n: Signed) -> Num
+fn asCount(n: Signed) -> Num
     requires { ⌜ SizeBelow 100000000000 n ⌝ }
-    ensures { λ r. ⌜ r ≡ counted n ⌝ }
+    ensures { λ r. ⌜ r ≡ asCount n ⌝ }
     ensures { λ r. ⌜ Below 100000000000 r ⌝ }
 {
     match n {
@@ -289,7 +289,7 @@ pub fn frame_count(bytes: &[u8], rows: &[u32]) -> Num
 {
     match find_vr_root(bytes, rows, tags::NUMBER_OF_FRAMES, tags::IS) {
         Num::Lacks => Num::Lacks,
-        Num::Is(i) => counted(value::is_of(node::value(bytes, rows, i))),
+        Num::Is(i) => asCount(value::is_of(node::value(bytes, rows, i))),
     }
 }
 

@@ -13,7 +13,7 @@ use Rattle.dataset.specs.declared.Head.{Head}
 use Rattle.dataset.specs.declared.Head.the-variants as heads
 use Rattle.dataset.specs.declared.Walk.the-variants as walk
 use Rattle.dataset.specs.Header.{cursor, moved, elementAt}
-use Rattle.dataset.specs.Reading.{Row, row, Run, elementsAt, valueAt}
+use Rattle.dataset.specs.Reading.{Row, row, Run, elementsAt, valueRun}
 use Rattle.dataset.specs.Contracts.{Within, Walked}
 use Rattle.dataset.proofs.Level as level
 use Rattle.dataset.proofs.Depths.{Deep, RunDeep, value-deep}

@@ -9,7 +9,7 @@ ghost use Prim.Native.Nat.{_+_, _-_, _/_, _≤_};
 ghost use mathlib.Core.Bool.{cond, false};
 ghost use lib.ListN.{length};
 ghost use lib.Dec.{eqb};
-ghost use Rattle.dataset.specs.Reading.{elementsAt, itemsAt, valueAt};
+ghost use Rattle.dataset.specs.Reading.{elementsAt, itemsAt, valueRun};
 ghost use Rattle.dataset.specs.Header.{cursor, elementAt};
 ghost use Rattle.dataset.specs.Contracts.{Within, Walked, Ready};
 ghost use Rattle.meta.specs.Meta.{isMarked, hasGroupLength, endOf, uidAt, noted, named, headedOf, metaOf};

@@ -12,7 +12,7 @@ use lib.Dec.{eqb, ltb}
 use borrow.Author.Tests.{lt-ltb, le-ltb, eq-eqb, ne-eqb, ltb-true, ltb-false, eqb-false}
 use Rattle.dataset.specs.Header.{itemTag}
 use Rattle.dataset.specs.Reading.{Row}
-use Rattle.dataset.specs.Tree.{rowsOf, rowAt, nextRow, Kind, elements, items, insideOf, depthInside, Member, Members}
+use Rattle.dataset.specs.Tree.{rowsOf, rowAt, nextRow, Kind, elements, items, kindInside, depthInside, Member, Members}
 use Rattle.dataset.proofs.Tree.{rows-members}
 use Rattle.dataset.proofs.Laws.{Found, row-found, row-next, row-nested}
 use Rattle.dataset.proofs.Parents.{Placed, placed}

@@ -4,7 +4,7 @@ use mathlib.Core.List.{[], _∷_}
 use Rattle.dataset.specs.Bytes.{le16}
 use Rattle.dataset.specs.Vr.{listed, formOf}
 use Rattle.dataset.specs.Header.{when, headerBy, delimiterBy, levelBy, definedBy, longBy, typedAt, taggedAt, sizedBy, memberAt}
-use Rattle.dataset.specs.Reading.{level, valueAt, readingOf}
+use Rattle.dataset.specs.Reading.{level, valueRun, readingOf}
 use Rattle.dataset.specs.Tree.{rowsOf}
 use Rattle.value.specs.Text.{equal, valuesOf, trimStart, trimEnd}
 use Rattle.value.specs.Words.{wordAt, isWord, isUid}
@@ -37,7 +37,7 @@ unfolding
     le16
     listed formOf
     when headerBy delimiterBy levelBy definedBy longBy typedAt taggedAt sizedBy memberAt
-    level valueAt readingOf
+    level valueRun readingOf
     rowsOf
     isPatient
 premise =
@@ -51,7 +51,7 @@ unfolding
     le16
     listed formOf
     when headerBy delimiterBy levelBy definedBy longBy typedAt taggedAt sizedBy memberAt
-    level valueAt readingOf
+    level valueRun readingOf
     rowsOf
     isPatient patientSizes
 sizes = (refl, refl)
@@ -61,7 +61,7 @@ unfolding
     le16
     listed formOf
     when headerBy delimiterBy levelBy definedBy longBy typedAt taggedAt sizedBy memberAt
-    level valueAt readingOf
+    level valueRun readingOf
     rowsOf
     equal valuesOf trimStart trimEnd
     wordAt isWord isUid

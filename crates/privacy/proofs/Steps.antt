@@ -20,7 +20,7 @@ use Rattle.pixel.specs.Pixel.{isFrame}
 use Rattle.steps.specs.declared.Applying.{Applying}
 use Rattle.steps.specs.declared.Applying.the-variants.{Item, Nothing}
 use Rattle.steps.specs.Given.{need, check, then}
-use Rattle.steps.specs.Steps.{Mask, native, masked, geometryOf, pixelsOf, orShared, groupFor, rangeHas, rangeHolds, firstHolding, onMask, applyingTo, averageFrames, offsetAt, offsetOf, tidFrame, naming, ownIn, itemAt, shiftFrom, shiftFor, movesFor, onTid, maskBy, maskOn, maskFor, windowIn, windowOn, windowFor, inverseOf, stepsOf}
+use Rattle.steps.specs.Steps.{Mask, native, masked, geometryOf, pixelsOf, orShared, groupFor, rangeHas, rangeHolds, firstHolding, onMask, applyingTo, averageFrames, offsetAt, offsetOf, tidFrame, naming, ownIn, itemShiftAt, shiftFrom, shiftFor, movesFor, onTid, maskBy, maskOn, maskFor, windowIn, windowOn, windowFor, inverseOf, stepsOf}
 use Rattle.linear.specs.Mapping.{linearOn, linearFor, mappingBy, mappingOf, isMapped}
 use Rattle.privacy.specs.Read.{isRead}
 use Rattle.privacy.specs.Alike.{Alike, SamePixels}
@@ -119,7 +119,7 @@ module _ {ns ms : List Node} (a : Alike ns ms) where
   unfolding isRead
   shift-from-same j Lacks = rw (inside-same a j, ← find-same a Tags.MaskSubPixelShift (inside ms j)) (go (find ns Tags.MaskSubPixelShift (inside ms j)) refl)
     where
-      go : (o : Num) → find ns Tags.MaskSubPixelShift (inside ms j) ≡ o → itemAt ns o ≡ itemAt ms o
+      go : (o : Num) → find ns Tags.MaskSubPixelShift (inside ms j) ≡ o → itemShiftAt ns o ≡ itemShiftAt ms o
       go Lacks e = refl
       go (Is r) e = rw (a .vr r, value-same a Tags.MaskSubPixelShift refl (inside ms j) r e)
   shift-from-same j (Is k) =

@@ -17,7 +17,7 @@ use Rattle.node.specs.Find.{holds, ifPresent, andThen, find, ofVr, findVr, fill
 use Rattle.element.specs.Tags
 use Rattle.element.specs.Tags.{CS, UI, US, IS}
 use Rattle.element.specs.Elements.{valueAt, usIn, csIs, uiIs, oneItem, theItem, insideOf, itemsIn, every, some, functionOn, functionIn}
-use Rattle.element.specs.Frames.{counted, framesOf, sharedItem, frameItems, frameItem, groupOf, maskItems, operationIs, idIn}
+use Rattle.element.specs.Frames.{asCount, framesOf, sharedItem, frameItems, frameItem, groupOf, maskItems, operationIs, idIn}
 use Rattle.privacy.specs.Read.{isRead}
 use Rattle.privacy.specs.Alike.{Alike}
 
@@ -178,7 +178,7 @@ module _ {ns ms : List Node} (a : Alike ns ms) where
 
   pub frames-same : framesOf ns ≡ framesOf ms
   unfolding framesOf isRead
-  frames-same = rw root-same (number-same Tags.NumberOfFrames refl (root ms) IS (λ v. counted (isOf v)))
+  frames-same = rw root-same (number-same Tags.NumberOfFrames refl (root ms) IS (λ v. asCount (isOf v)))
 
   pub shared-same : sharedItem ns ≡ sharedItem ms
   unfolding sharedItem

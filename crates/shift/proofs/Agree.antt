@@ -19,7 +19,7 @@ use Rattle.shift.specs.declared.Moves.{Moves}
 use Rattle.shift.specs.Shift.{signedSize, quartersOf, isShort, movesOf, isShiftOf, itemShift, frameShift, isShift}
 use Rattle.shift.proofs.Laws.{same-of}
 use Rattle.shift.specs.Agree.{SameMoves, Agree, AgreeRule, AgreeBeyond}
-use Rattle.shift.specs.Whole.{wholeOf, wholeMovesOf, isShortWhole, isWholeShiftOf, isWholeShift, inQuarters}
+use Rattle.shift.specs.Whole.{wholeFloat, wholeMovesOf, isShortWhole, isWholeShiftOf, isWholeShift, inQuarters}
 
 never : true ≡ false → ⊥
 never p = subst T p tt
@@ -55,7 +55,7 @@ signed true (suc q) = go (4 * suc q) (omega arith)
 
 -- A whole number is as many quarters, four times.
 pub whole-quarters : (x : Float) → isNumber (wholeOf x) ≡ true → quartersOf x ≡ inQuarters (wholeOf x)
-unfolding wholeOf quartersOf
+unfolding wholeFloat quartersOf
 whole-quarters nan h = refl
 whole-quarters (inf s) h = refl
 whole-quarters (fin s m e) h = go (eqb (m * up e % down e) 0) refl h

@@ -9,7 +9,7 @@ use lib.Dec.{eqb}
 use lib.Seq.{sets, sets-eq}
 use Rattle.dataset.specs.Bytes.{le16, le32}
 use Rattle.verdict.specs.declared.Verdict.{Verdict}
-use Rattle.slip.specs.Slip.{mark, slipSize, le, number, fieldBytes, slipWith, equal}
+use Rattle.slip.specs.Slip.{mark, slipSize, le, number, fieldBytes, slipWith, sameBytes}
 
 pub number-one : (s : List ℕ) (p : ℕ) → number 1 s p ≡ getD s p 0
 unfolding number
@@ -27,8 +27,8 @@ number-four s p =
     omega arith
 
 pub marked : (s : List ℕ) → 3 ≤ length s
-    → equal (take 3 s) mark ≡ eqb (getD s 0 0) 0x58 && (eqb (getD s 1 0) 0x41 && eqb (getD s 2 0) 0x56)
-unfolding equal
+    → sameBytes (take 3 s) mark ≡ eqb (getD s 0 0) 0x58 && (eqb (getD s 1 0) 0x41 && eqb (getD s 2 0) 0x56)
+unfolding sameBytes
 marked [] h = absurd (omega arith)
 marked (x ∷ []) h = absurd (omega arith)
 marked (x ∷ y ∷ []) h = absurd (omega arith)

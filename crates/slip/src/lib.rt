@@ -6,7 +6,7 @@ ghost use Prim.Native.Nat.{_≤_};
 ghost use lib.ListN.{length, take, drop};
 ghost use Rattle.dataset.specs.Fields.{Answers};
 ghost use Rattle.verdict.specs.declared.RowCount.the-variants.{Known, NotKnown};
-ghost use Rattle.slip.specs.Slip.{headSize, oldSize, slipSize, rowsAt, versionAt, mark, number, equal, recorded, ifPossible, readSized, readVersion, slipWith, readOf, readFields, writeOf, writeFields, bufferOf};
+ghost use Rattle.slip.specs.Slip.{headSize, oldSize, slipSize, rowsPlace, versionPlace, mark, number, sameBytes, recorded, ifPossible, readSized, readVersion, slipWith, readOf, readFields, writeOf, writeFields, slipBuffer};
 use dataset::u16_at;
 use dataset::u32_at;
 use dataset::wide;
@@ -54,7 +54,7 @@ pub enum WriteAnswer {
 // Whether a slip starts with "XAV".
 fn is_marked(s: &[u8]) -> bool
     requires { ⌜ 3 ≤ length (now s) ⌝ }
-    ensures { λ r. ⌜ r ≡ equal (take 3 (now (s .entry))) mark ⌝ }
+    ensures { λ r. ⌜ r ≡ sameBytes (take 3 (now (s .entry))) mark ⌝ }
 {
     if s[0] == b'X' {
         if s[1] == b'A' { s[2] == b'V' } else { false }
@@ -104,7 +104,7 @@ fn read_old(slip: &[u8]) -> SlipAnswer
 
 // A slip of version 2.
 fn read_new(slip: &[u8]) -> SlipAnswer
-    ensures { λ r. ⌜ r ≡ readSized slipSize (Known (number 4 (now (slip .entry)) rowsAt)) (now (slip .entry)) ⌝ }
+    ensures { λ r. ⌜ r ≡ readSized slipSize (Known (number 4 (now (slip .entry)) rowsPlace)) (now (slip .entry)) ⌝ }
 {
     if slip.len() == SIZE {
         let n = u32_at(slip, ROWS_AT);
@@ -117,7 +117,7 @@ fn read_new(slip: &[u8]) -> SlipAnswer
 // A slip whose mark is right, by its version.
 fn read_version(slip: &[u8]) -> SlipAnswer
     requires { ⌜ headSize ≤ length (now slip) ⌝ }
-    ensures { λ r. ⌜ r ≡ readVersion (number 2 (now (slip .entry)) versionAt) (now (slip .entry)) ⌝ }
+    ensures { λ r. ⌜ r ≡ readVersion (number 2 (now (slip .entry)) versionPlace) (now (slip .entry)) ⌝ }
 {
     let version = u16_at(slip, VERSION_AT);
     if version == OLD_VERSION {
@@ -181,7 +181,7 @@ fn put_slip(v: Verdict, n: usize, slip: &mut [u8])
 // not known, then 11 where the buffer has fewer than 17 bytes. A refusal leaves the buffer as it was.
 pub fn write_slip(verdict: Verdict, slip: &mut [u8]) -> WriteAnswer
     ensures { λ r. ⌜ Answers writeFields r (writeOf verdict (now (slip .entry))) ⌝ }
-    ensures { λ _. ⌜ now (slip .exit) ≡ bufferOf verdict (now (slip .entry)) ⌝ }
+    ensures { λ _. ⌜ now (slip .exit) ≡ slipBuffer verdict (now (slip .entry)) ⌝ }
 {
     if verdict::is_possible(verdict) {
         let rows = verdict.rows;

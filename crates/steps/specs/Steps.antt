@@ -17,7 +17,7 @@
 -- the one item of a VOI group                       windowOn
 -- at least one item of a Frame Pixel Shift          ownIn
 -- values of the VR, count and form that it reads    geometryOf, pixelsOf, rangeHas, onMask, averageFrames, offsetAt, tidFrame,
---                                                   naming, itemAt, shiftFrom, movesFor, maskBy, windowIn, inverseOf
+--                                                   naming, itemShiftAt, shiftFrom, movesFor, maskBy, windowIn, inverseOf
 -- mask cells inside the picture                     areInside in maskedCell
 -- a divisor above 0 where it divides                averageFrames, and length ks in maskedCell; levelOf of Rattle.window
 use Prim.Native.Nat.{ℕ, _+_, _-_, _/_, _%_, _^_}
@@ -149,13 +149,13 @@ ownIn ns j (Is g) =
     check (eqb (nodeAt ns g .vr) SQ && leb 1 (length (inside ns g))) (need (idIn ns j) (λ id. naming ns id (inside ns g)))
 
 -- The item's own two numbers.
-abbrev pub itemAt : List Node → Num → Option Shift
-itemAt ns Lacks = some shift.None
-itemAt ns (Is k) = check (eqb (nodeAt ns k .vr) FL && eqb (length (valueAt ns k)) 8) (some (itemShift (valueAt ns k)))
+abbrev pub itemShiftAt : List Node → Num → Option Shift
+itemShiftAt ns Lacks = some shift.None
+itemShiftAt ns (Is k) = check (eqb (nodeAt ns k .vr) FL && eqb (length (valueAt ns k)) 8) (some (itemShift (valueAt ns k)))
 
 -- The frame's own win.
 abbrev pub shiftFrom : List Node → ℕ → Num → Option Shift
-shiftFrom ns j Lacks = itemAt ns (find ns Tags.MaskSubPixelShift (inside ns j))
+shiftFrom ns j Lacks = itemShiftAt ns (find ns Tags.MaskSubPixelShift (inside ns j))
 shiftFrom ns j (Is k) =
     need (findVr ns Tags.MaskSubPixelShift FL (inside ns k)) (λ x.
     check (eqb (length (valueAt ns x)) 8) (some (frameShift (valueAt ns x))))

@@ -16,7 +16,7 @@ ghost use Rattle.node.specs.Contracts.{Table};
 ghost use Rattle.element.specs.Tags.{FramePixelShiftSequence};
 ghost use Rattle.element.specs.Frames.{framesOf, frameItem};
 ghost use Rattle.steps.specs.Given.{need, check, then};
-ghost use Rattle.steps.specs.Steps.{orShared, groupFor, inPairs, rangeHas, rangeHolds, firstHolding, applyingTo, averageFrames, offsetAt, offsetOf, tidFrame, naming, ownIn, itemAt, shiftFrom, shiftFor, geometryOf, pixelsOf, windowIn, windowOn, windowFor, inverseOf};
+ghost use Rattle.steps.specs.Steps.{orShared, groupFor, inPairs, rangeHas, rangeHolds, firstHolding, applyingTo, averageFrames, offsetAt, offsetOf, tidFrame, naming, ownIn, itemShiftAt, shiftFrom, shiftFor, geometryOf, pixelsOf, windowIn, windowOn, windowFor, inverseOf};
 ghost use Rattle.steps.specs.Contracts.{foundOf, FoundBelow, holdsOf, appliesOf, AppliesBelow, valueIn, framesIn, signedOf, shiftsOf, sizedOf, SizedSmall, windowedOf, inverseSaid, sharedNaming, IsShared};
 use element::tags;
 use pixel::Geometry;
@@ -383,7 +383,7 @@ fn own(bytes: &[u8], rows: &[u32], j: usize, group: Found) -> Found
 // The two numbers at node k, as a mask item's.
 fn item_shift_at(bytes: &[u8], rows: &[u32], k: usize) -> Shifts
     requires { ⌜ Table (now bytes) (now rows) × (k < length (nodesOf (now bytes))) ⌝ }
-    ensures { λ r. ⌜ shiftsOf r ≡ itemAt (nodesOf (now (bytes .entry))) (num.Is k) ⌝ }
+    ensures { λ r. ⌜ shiftsOf r ≡ itemShiftAt (nodesOf (now (bytes .entry))) (num.Is k) ⌝ }
 {
     if node::vr(bytes, rows, k) == tags::FL {
         let v = node::value(bytes, rows, k);

@@ -14,7 +14,7 @@ use Rattle.value.specs.declared.Num.the-variants as num
 use Rattle.value.specs.declared.Signed.{Signed}
 use Rattle.value.specs.Text.{trimmed}
 use Rattle.value.specs.Number as current
-use Rattle.value.specs.Number.{Digits, isDigit, digitsOf, plus, minus, signedBy, runOf, within, exactOf, endOf, isNumber}
+use Rattle.value.specs.Number.{Digits, isDigit, digitsOf, plus, minus, signedBy, runOf, ifSmall, exactOf, endOf, isNumber}
 use Rattle.value.proofs.Runs.{digits-size, digits-below}
 use Rattle.value.proofs.Powers.{within-is, exact-up}
 use Rattle.thousandths.specs.Number.{decimals, pointOn, fractionOn, sizeOf, decimalOf, scaled}
@@ -91,7 +91,7 @@ powers m after h =
 exact-is : (m after : ℕ) → after ≤ 3 → m * 10 ^ (3 - after) < 1000000000 → exactOf m 6 after ≡ num.Is (1000 * (m * 10 ^ (3 - after)))
 exact-is m after h b =
     exact-up m 6 after (omega arith)
-    ∙ ap within (powers m after h)
+    ∙ ap ifSmall (powers m after h)
     ∙ within-is (1000 * (m * 10 ^ (3 - after))) (omega arith)
 
 end-is : (count m after : ℕ) → (count ≡ 0 → ⊥) → after ≤ 3 → m * 10 ^ (3 - after) < 1000000000 → endOf count m after [] ≡ num.Is (1000 * (m * 10 ^ (3 - after)))

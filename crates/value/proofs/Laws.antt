@@ -14,7 +14,7 @@ use Rattle.value.specs.declared.Num.the-variants as num
 use Rattle.value.specs.declared.Signed.{Signed}
 use Rattle.value.specs.declared.Signed.the-variants as signed
 use Rattle.value.specs.Text.{isSingle, valueOf, trimmed}
-use Rattle.value.specs.Number.{Digits, usValues, digitsOf, plus, minus, signedBy, wholeOn, wholeOf, isOf, decimals, sizeLimit, characters, runOf, within, exactOf, scaledBy, isMark, exponentOf, endOf, pointBy, fractionOn, sizeOf, decimalOf}
+use Rattle.value.specs.Number.{Digits, usValues, digitsOf, plus, minus, signedBy, wholeOn, wholeOf, isOf, decimals, sizeLimit, characters, runOf, ifSmall, exactOf, scaledBy, isMark, exponentOf, endOf, pointBy, fractionOn, sizeOf, decimalOf}
 use Rattle.value.specs.Contracts.{Below, SizeBelow}
 use Rattle.value.proofs.Runs.{digits-below}
 

@@ -105,8 +105,8 @@ abbrev pub runOf : ℕ → List ℕ → Digits
 runOf n s = digitsOf (length s) n 0 s
 
 -- So many units, where a DS number may be of that size.
-abbrev pub within : ℕ → Num
-within n = cond (ltb n sizeLimit) (num.Is n) num.Lacks
+abbrev pub ifSmall : ℕ → Num
+ifSmall n = cond (ltb n sizeLimit) (num.Is n) num.Lacks
 
 -- n / p, where that is a whole number.
 abbrev pub wholly : ℕ → ℕ → Num

@@ -5,7 +5,7 @@ use borrow.Author.Needs.{needs}
 use borrow.Author.Tests.{le-ltb}
 use lib.Dec.{ltb}
 use Rattle.node.specs.Nodes.{nodesOf}
-use Rattle.canonical.specs.Written.{sizeOf}
+use Rattle.canonical.specs.Written.{writtenSize}
 use Rattle.canonical.proofs.Sizes.{slice-all}
 use Rattle.canonical.proofs.lacks_room.Statement.{statement}
 use Rattle.canonical.proofs.lacks_room.Tie as tie
@@ -22,7 +22,7 @@ returns c =
 
 returns-2 : tie.Need-returns-2
 returns-2 c =
-    ap (ltb (c .before .before .before .before .before .args .room)) (c .span .ensures .0 ∙ ap sizeOf (slice-all (nodesOf (c .before .before .before .before .before .args .bytes .now)) (c .before .count .result) (c .before .count .ensures .0)))
+    ap (ltb (c .before .before .before .before .before .args .room)) (c .span .ensures .0 ∙ ap writtenSize (slice-all (nodesOf (c .before .before .before .before .before .args .bytes .now)) (c .before .count .result) (c .before .count .ensures .0)))
 
 pub lacks-room-spec : {M : Type 1} → statement M
 lacks-room-spec = tie.close (tie.spec count-requires span-requires returns returns-2)

@@ -5,7 +5,7 @@ use borrow.Author.Needs.{needs}
 use mathlib.Core.Path.{refl, ap}
 use Rattle.dataset.specs.declared.Cursor.{Cursor}
 use Rattle.dataset.specs.Header.{moved, elementAt}
-use Rattle.dataset.specs.Reading.{elementsAt, valueAt}
+use Rattle.dataset.specs.Reading.{elementsAt, valueRun}
 use Rattle.dataset.proofs.Level as level
 use Rattle.dataset.proofs.read_leaf.Statement.{statement}
 use Rattle.dataset.proofs.read_leaf.Tie as tie

@@ -2,7 +2,7 @@
 use mathlib.Core.Path.{sym, ap, subst}
 use Rattle.value.specs.declared.Signed.{Signed}
 use Rattle.value.specs.Contracts.{SizeBelow}
-use Rattle.element.specs.Frames.{counted}
+use Rattle.element.specs.Frames.{asCount}
 use borrow.Author.Needs.{needs}
 use Rattle.element.proofs.counted.Statement.{statement}
 use Rattle.element.proofs.counted.Tie as tie
@@ -18,7 +18,7 @@ enum-told-2 c = search needs
 
 returns : tie.Need-returns
 returns c =
-    (ap counted (sym (c .before .n .given .1)), subst (λ (x : Signed). SizeBelow 100000000000 x) (c .before .n .given .1) (c .before .before .before .pre))
+    (ap asCount (sym (c .before .n .given .1)), subst (λ (x : Signed). SizeBelow 100000000000 x) (c .before .n .given .1) (c .before .before .before .pre))
 
 returns-2 : tie.Need-returns-2
 returns-2 c = search needs

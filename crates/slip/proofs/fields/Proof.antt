@@ -1,6 +1,6 @@
 -- `fields` answers `recorded`: each field is the number read at its place.
 use mathlib.Core.Path.{sym, _∙_}
-use Rattle.slip.specs.Slip.{codeAt, ruleAt, frameAt, offsetAt}
+use Rattle.slip.specs.Slip.{codePlace, rulePlace, framePlace, offsetPlace}
 use Rattle.slip.proofs.Laws.{number-one, number-two, number-four}
 use borrow.Author.Needs.{needs}
 use Rattle.slip.proofs.fields.Statement.{statement}
@@ -28,10 +28,10 @@ returns : tie.Need-returns
 returns c =
     let s = c .before .before .before .before .before .before .before .args .s .now in
     simp (
-      c .before .before .before .before .wide .ensures .0 ∙ sym (number-one s codeAt),
-      c .before .before .wide2 .ensures .0 ∙ sym (number-one s ruleAt),
-      c .before .u16-at .ensures .0 ∙ number-two s frameAt,
-      c .u32-at .ensures .0 ∙ number-four s offsetAt,
+      c .before .before .before .before .wide .ensures .0 ∙ sym (number-one s codePlace),
+      c .before .before .wide2 .ensures .0 ∙ sym (number-one s rulePlace),
+      c .before .u16-at .ensures .0 ∙ number-two s framePlace,
+      c .u32-at .ensures .0 ∙ number-four s offsetPlace,
     )
 
 pub fields-spec : {M : Type 1} → statement M

@@ -2,7 +2,7 @@
 use mathlib.Core.Path.{_≡_, refl, sym, ap, _∙_}
 use Prim.Native.Nat.{_*_, _^_, _≤_}
 use native.Mathlib.Omega.{arith}
-use Rattle.value.specs.Number.{within}
+use Rattle.value.specs.Number.{ifSmall}
 use Rattle.value.proofs.Powers as powers
 use Rattle.value.proofs.multiplied.Statement.{statement}
 use Rattle.value.proofs.multiplied.Tie as tie
@@ -22,7 +22,7 @@ loop-holds c =
 returns : tie.Need-returns Inv-loop μ-loop
 returns c =
     let l = c .before .before .loop in
-    sym (ap within (sym (l .inv .0)) ∙ powers.too-large (l .n) (l .left) (c .if1 .taken))
+    sym (ap ifSmall (sym (l .inv .0)) ∙ powers.too-large (l .n) (l .left) (c .if1 .taken))
 
 mul-n : tie.Need-mul-n Inv-loop μ-loop
 mul-n c =
@@ -44,12 +44,12 @@ loop-again c =
 returns-2 : tie.Need-returns-2 Inv-loop μ-loop
 returns-2 c =
     let l = c .before .before .loop in
-    sym (ap within (sym (l .inv .0) ∙ powers.times-one (l .n) (l .left) (c .before .loop-test .left)) ∙ powers.within-is (l .n) (c .if2 .taken))
+    sym (ap ifSmall (sym (l .inv .0) ∙ powers.times-one (l .n) (l .left) (c .before .loop-test .left)) ∙ powers.within-is (l .n) (c .if2 .taken))
 
 returns-3 : tie.Need-returns-3 Inv-loop μ-loop
 returns-3 c =
     let l = c .before .before .loop in
-    sym (ap within (sym (l .inv .0) ∙ powers.times-one (l .n) (l .left) (c .before .loop-test .left)) ∙ powers.within-large (l .n) (c .if2 .left))
+    sym (ap ifSmall (sym (l .inv .0) ∙ powers.times-one (l .n) (l .left) (c .before .loop-test .left)) ∙ powers.within-large (l .n) (c .if2 .left))
 
 pub multiplied-spec : {M : Type 1} → statement M
 multiplied-spec =
