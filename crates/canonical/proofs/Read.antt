@@ -380,7 +380,7 @@ module _ (s : List ℕ) where
         rw (a, b, l) (leaf-grows c least levels tag vr first v g room plain)
 
     element-grows : (levels : ℕ) → Deeper levels → (c : Cursor) (least : ℕ) → c .end ≤ length s → (h : Head) → Says elements least levels c h
-        → Grows s elements levels least (c .at) (c .end) h (valueAt levels s)
+        → Grows s elements levels least (c .at) (c .end) h (valueRun levels s)
     element-grows levels deeper c least room (head.Refused code) g = tt
     element-grows levels deeper c least room (head.End tag vr next) g = g
     element-grows levels deeper c least room (head.Header tag vr v) g = value-grows levels deeper c least room tag vr v g (eqb vr SQ) refl
@@ -404,7 +404,7 @@ module _ (s : List ℕ) where
 
     elements-make-by : (levels : ℕ) → Deeper levels → (first : ℕ) (c : Cursor) → c .end ≤ length s → Makes s elements levels 0 (c .at) (c .end) [] (elementsAt levels s first c)
     elements-make-by levels deeper first c room =
-        level-makes s elements levels (c .end) first (λ at least. elementAt s (moved c at) least levels) (valueAt levels s)
+        level-makes s elements levels (c .end) first (λ at least. elementAt s (moved c at) least levels) (valueRun levels s)
         (λ at least. element-grows levels deeper (moved c at) least room (elementAt s (moved c at) least levels) (element-says s bytes (moved c at) least levels))
         (length s + 1) (c .at) 0 []
 

@@ -116,7 +116,7 @@ fn span(bytes: &[u8], rows: &[u32], from: usize, to: usize) -> usize
 // only for a target that is shorter than the data set.
 fn lacks_room(bytes: &[u8], rows: &[u32], room: usize) -> bool
     requires { ⌜ Sized (now bytes) (now rows) ⌝ }
-    ensures { λ r. ⌜ r ≡ ltb room (sizeOf (nodesOf (now (bytes .entry)))) ⌝ }
+    ensures { λ r. ⌜ r ≡ ltb room (writtenSize (nodesOf (now (bytes .entry)))) ⌝ }
 {
     if bytes.len() <= room {
         false

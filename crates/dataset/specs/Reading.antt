@@ -75,11 +75,11 @@ unfoldable pub valueRun : ℕ → List ℕ → ℕ → ℕ → Cursor → Run
 valueRun zero s first vr value = done (value .end) (value .end) []
 valueRun (suc levels) s first vr value =
     cond (eqb vr SQ)
-    (itemsBy (λ n c. elementsBy (valueAt levels s) levels s n c) levels s first value)
+    (itemsBy (λ n c. elementsBy (valueRun levels s) levels s n c) levels s first value)
     (done (value .end) (value .end) [])
 
 abbrev pub elementsAt : ℕ → List ℕ → ℕ → Cursor → Run
-elementsAt levels s first c = elementsBy (valueAt levels s) levels s first c
+elementsAt levels s first c = elementsBy (valueRun levels s) levels s first c
 
 abbrev pub itemsAt : ℕ → List ℕ → ℕ → Cursor → Run
 itemsAt levels s first c = itemsBy (elementsAt levels s) levels s first c

@@ -69,6 +69,6 @@ depthInside items depth = depth
 pub data Members (rows : List Row) (size : ℕ) : Kind → ℕ → ℕ → ℕ → ℕ → ℕ → Type 0 where
   end : {kind : Kind} {depth holder least i to : ℕ} → i ≡ to → Members rows size kind depth holder least i to
   member : {kind : Kind} {depth holder least i to : ℕ} → nextRow rows i ≤ to → Member size kind depth holder least (rowAt rows i)
-      → Members rows size (insideOf kind) (depthInside kind depth) (i + 1) 0 (i + 1) (nextRow rows i)
+      → Members rows size (kindInside kind) (depthInside kind depth) (i + 1) 0 (i + 1) (nextRow rows i)
       → Members rows size kind depth holder (rowAt rows i .tag + 1) (nextRow rows i) to
       → Members rows size kind depth holder least i to

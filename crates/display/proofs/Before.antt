@@ -218,7 +218,7 @@ abbrev Wholly : Option Shift → Type 0
 Wholly o = (s : Shift) × ((o ≡ some s) × (isWholeShiftOf s ≡ true))
 
 module _ (ns : List Node) where
-  item-whole : (o : Num) → ifPresent o (wasShiftAt ns) ≡ true → Wholly (itemAt ns o)
+  item-whole : (o : Num) → ifPresent o (wasShiftAt ns) ≡ true → Wholly (itemShiftAt ns o)
   unfolding wasShiftAt isWholeShiftOf wholeMovesOf
   item-whole Lacks e = (shift.None, (refl, refl))
   item-whole (Is k) e =

@@ -194,7 +194,7 @@ pub data Named (l : List ℕ) (o : Option Num) : Type 0 where
   named : (k : ℕ) → Among k l → o ≡ some (Is k) → Named l o
 
 module _ (ns : List Node) where
-  item-shift : (o : Num) → ifPresent o (isShiftAt ns) ≡ true → Shifted (itemAt ns o)
+  item-shift : (o : Num) → ifPresent o (isShiftAt ns) ≡ true → Shifted (itemShiftAt ns o)
   unfolding isShiftAt isShiftOf movesOf
   item-shift Lacks e = (shift.None, (refl, refl))
   item-shift (Is k) e =

@@ -193,7 +193,7 @@ fn items(file: &[u8], c: Cursor, none: &mut [u32], first: usize) -> Walk
 // What a value comes to.
 fn past(file: &[u8], vr: usize, value: Cursor, none: &mut [u32], first: usize) -> Walk
     requires { ⌜ Ready (now file) value 7 first (length (now none)) × (length (now none) ≡ 0) ⌝ }
-    ensures { λ r. ⌜ Walked (valueAt 8 (now (file .entry)) first vr value) value first (now (none .entry)) (now (none .exit)) r ⌝ }
+    ensures { λ r. ⌜ Walked (valueRun 8 (now (file .entry)) first vr value) value first (now (none .entry)) (now (none .exit)) r ⌝ }
 {
     if vr == dataset::SQ {
         items(file, value, none, first)

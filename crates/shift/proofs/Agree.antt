@@ -54,7 +54,7 @@ signed true (suc q) = go (4 * suc q) (omega arith)
     go (suc k) h = refl
 
 -- A whole number is as many quarters, four times.
-pub whole-quarters : (x : Float) → isNumber (wholeOf x) ≡ true → quartersOf x ≡ inQuarters (wholeOf x)
+pub whole-quarters : (x : Float) → isNumber (wholeFloat x) ≡ true → quartersOf x ≡ inQuarters (wholeFloat x)
 unfolding wholeFloat quartersOf
 whole-quarters nan h = refl
 whole-quarters (inf s) h = refl

@@ -122,7 +122,7 @@ slip-length v h = go (v .rows) (and-both (possible v) (isKnown (v .rows)) h .1)
     go NotKnown k = absurd (false-is-true k)
 
 buffer-back : (v : Verdict) (buffer : List ℕ) → writable v ≡ true → slipSize ≤ length buffer
-    → readOf (take slipSize (bufferOf v buffer)) ≡ read.Read v
+    → readOf (take slipSize (slipBuffer v buffer)) ≡ read.Read v
 unfolding slipBuffer
 buffer-back v buffer h room =
     rw (h, le-leb slipSize (length buffer) room)
@@ -178,7 +178,7 @@ begun : (s : List ℕ) (v : Verdict) → readOf s ≡ read.Read v → Begun s v
 unfolding readOf
 begun s v e =
     let t = marked-first (leb headSize (length s) && sameBytes (take 3 s) mark) (readVersion (number 2 s versionPlace) s) v e in
-    record { marked = and-both (leb headSize (length s)) (equal (take 3 s) mark) (t .0) .1; on = t .1 }
+    record { marked = and-both (leb headSize (length s)) (sameBytes (take 3 s) mark) (t .0) .1; on = t .1 }
 
 read-possible : (s : List ℕ) (v : Verdict) → readOf s ≡ read.Read v → possible v ≡ true
 unfolding readVersion
@@ -219,7 +219,7 @@ equal-true [] [] e = refl
 equal-true [] (y ∷ ys) e = absurd (false-is-true e)
 equal-true (x ∷ xs) [] e = absurd (false-is-true e)
 equal-true (x ∷ xs) (y ∷ ys) e =
-    let m = and-both (eqb x y) (equal xs ys) e in
+    let m = and-both (eqb x y) (sameBytes xs ys) e in
     rw (eqb-true x y (m .0), equal-true xs ys (m .1))
 
 -- The bytes that both versions have are those of the version and the fields that they hold.

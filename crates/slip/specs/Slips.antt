@@ -22,7 +22,7 @@ Bytes s = (i : ℕ) → getD s i 0 < 256
 pub record Slips : Type 0 where
   pub read-back : (v : Verdict) → writable v ≡ true → readOf (slipOf v) ≡ read.Read v
   pub buffer-back : (v : Verdict) (buffer : List ℕ) → writable v ≡ true → slipSize ≤ length buffer
-      → readOf (take slipSize (bufferOf v buffer)) ≡ read.Read v
+      → readOf (take slipSize (slipBuffer v buffer)) ≡ read.Read v
   pub slips-differ : (v w : Verdict) → writable v ≡ true → writable w ≡ true → slipOf v ≡ slipOf w → v ≡ w
   pub read-possible : (s : List ℕ) (v : Verdict) → readOf s ≡ read.Read v → possible v ≡ true
   pub write-back : (s : List ℕ) (v : Verdict) → Bytes s → readOf s ≡ read.Read v → number 2 s versionPlace ≡ version

@@ -19,7 +19,7 @@ level-low : (v : ℕ) → rootLevel v * rootLevel v ≤ 4 * cell v
 unfolding rootLevel
 level-low v = root-low (4 * cell v)
 
-level-high : (v : ℕ) → 4 * cell v < (levelOf v + 1) * (levelOf v + 1)
+level-high : (v : ℕ) → 4 * cell v < (rootLevel v + 1) * (rootLevel v + 1)
 unfolding rootLevel
 level-high v = root-high (4 * cell v)
 
@@ -32,14 +32,14 @@ entry-high : (p : ℕ) → 4 * rootEntry p ≤ p * p + 3
 unfolding rootEntry
 entry-high p = omega arith
 
-back-by : (p : ℕ) → p ≤ 255 → 4 * rootEntry p < (p + 1) * (p + 1) → rootLevel (entryOf p) ≡ p
+back-by : (p : ℕ) → p ≤ 255 → 4 * rootEntry p < (p + 1) * (p + 1) → rootLevel (rootEntry p) ≡ p
 unfolding rootLevel
 back-by p h k =
     let a : p * p ≤ 255 * 255 = square p 255 h in
     let b : rootEntry p < 16384 = omega (arith, entry-high p) in
     rw (mod-eq-of-lt b) (root-is (4 * rootEntry p) p (entry-low p) k)
 
-back : (p : ℕ) → p ≤ 255 → (p ≡ 1 → ⊥) → rootLevel (entryOf p) ≡ p
+back : (p : ℕ) → p ≤ 255 → (p ≡ 1 → ⊥) → rootLevel (rootEntry p) ≡ p
 back zero h k = back-by zero h (omega (arith, entry-high zero, entry-low zero))
 back (suc zero) h k = absurd (k refl)
 back (suc (suc p)) h k = back-by (suc (suc p)) h (omega (arith, entry-high (suc (suc p))))
@@ -54,9 +54,9 @@ never-one v e =
 near : (v : ℕ) → Near v
 near v =
     let a : rootLevel v * rootLevel v ≤ 4 * cell v = level-low v in
-    let b : 4 * cell v < (levelOf v + 1) * (levelOf v + 1) = level-high v in
+    let b : 4 * cell v < (rootLevel v + 1) * (rootLevel v + 1) = level-high v in
     let d : rootLevel v ≤ 255 = eight v in
-    record { under = omega (arith, entry-high (levelOf v)); near = omega (arith, entry-low (levelOf v)) }
+    record { under = omega (arith, entry-high (rootLevel v)); near = omega (arith, entry-low (rootLevel v)) }
 
 pub derivation : Derivation
 derivation = record { largest = largest; eight = eight; back = back; never-one = never-one; near = near }

@@ -13,8 +13,8 @@ pub record Largest (t p : ℕ) : Type 0 where
 
 -- The cell less the entry of what it becomes is 0 to 127: it is not below that entry, and not more than 127 above it.
 pub record Near (v : ℕ) : Type 0 where
-  pub under : rootEntry (levelOf v) ≤ cell v
-  pub near : cell v - rootEntry (levelOf v) ≤ 127
+  pub under : rootEntry (rootLevel v) ≤ cell v
+  pub near : cell v - rootEntry (rootLevel v) ≤ 127
 
 pub record Derivation : Type 0 where
   -- The definition of the root is what its name says.
@@ -22,7 +22,7 @@ pub record Derivation : Type 0 where
   -- 14 bits become 8.
   pub eight : (v : ℕ) → rootLevel v ≤ 255
   -- Each p but 1 comes back as p through its entry.
-  pub back : (p : ℕ) → p ≤ 255 → (p ≡ 1 → ⊥) → rootLevel (entryOf p) ≡ p
+  pub back : (p : ℕ) → p ≤ 255 → (p ≡ 1 → ⊥) → rootLevel (rootEntry p) ≡ p
   -- No cell becomes 1.
   pub never-one : (v : ℕ) → rootLevel v ≡ 1 → ⊥
   -- Every cell is at most 127 above its entry.

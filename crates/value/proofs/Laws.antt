@@ -60,7 +60,7 @@ pub whole-below : (limit : ℕ) (s : List ℕ) → Below (10 ^ limit) (wholeOf l
 unfolding wholeOf
 whole-below limit s = whole-on (10 ^ limit) (digitsOf limit 0 0 s) (digitsOf limit 0 0 s .rest) (omega (arith, digits-below limit 0 s))
 
-within-below : (n : ℕ) → Below sizeLimit (within n)
+within-below : (n : ℕ) → Below sizeLimit (ifSmall n)
 within-below n = go (ltb n sizeLimit) refl
   where
     go : (t : Bool) → ltb n sizeLimit ≡ t → Below sizeLimit (cond t (num.Is n) num.Lacks)
@@ -73,7 +73,7 @@ by-test n false a b p q = q
 
 exact-below : (m up down : ℕ) → Below sizeLimit (exactOf m up down)
 unfolding exactOf
-exact-below m up down = by-test sizeLimit (eqb (m * 10 ^ up % 10 ^ down) 0) (within (m * 10 ^ up / 10 ^ down)) num.Lacks (within-below (m * 10 ^ up / 10 ^ down)) tt
+exact-below m up down = by-test sizeLimit (eqb (m * 10 ^ up % 10 ^ down) 0) (ifSmall (m * 10 ^ up / 10 ^ down)) num.Lacks (within-below (m * 10 ^ up / 10 ^ down)) tt
 
 scaled-below : (m after : ℕ) (e : Signed) → Below sizeLimit (scaledBy m after e)
 scaled-below m after (signed.Plus e) = exact-below m (decimals + e) after

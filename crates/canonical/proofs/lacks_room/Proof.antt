@@ -18,7 +18,7 @@ span-requires c κs = search needs
 
 returns : tie.Need-returns
 returns c =
-    sym (le-ltb (c .before .before .before .args .room) (sizeOf (nodesOf (c .before .before .before .args .bytes .now))) (omega (arith, c .before .before .before .pre .fits)))
+    sym (le-ltb (c .before .before .before .args .room) (writtenSize (nodesOf (c .before .before .before .args .bytes .now))) (omega (arith, c .before .before .before .pre .fits)))
 
 returns-2 : tie.Need-returns-2
 returns-2 c =

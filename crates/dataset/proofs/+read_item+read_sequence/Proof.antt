@@ -51,7 +51,7 @@ sequence-below t = and 2 read-sequence-kinds.ps (falls 2 read-sequence-kinds.ps 
 
 abbrev item-inv : item-lts.InvT-loop
 item-inv s levels rows₀ first here₀ n₀ least₀ rows here n least =
-    level.Along (λ a l. elementAt s (moved here₀ a) l levels) (valueAt levels s) (8 - levels) (elementsAt levels s first here₀) here₀ first rows₀ rows here n least
+    level.Along (λ a l. elementAt s (moved here₀ a) l levels) (valueRun levels s) (8 - levels) (elementsAt levels s first here₀) here₀ first rows₀ rows here n least
 
 abbrev item-μ : item-lts.MeasureT-loop
 item-μ s levels rows₀ first here₀ n₀ least₀ rows here n least = bytes-left here

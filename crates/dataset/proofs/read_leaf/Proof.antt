@@ -12,7 +12,7 @@ use Rattle.dataset.proofs.read_leaf.Tie as tie
 
 abbrev Inv-loop : tie.InvT-loop
 Inv-loop s levels rows₀ first here₀ n₀ least₀ rows here n least =
-    level.Along (λ a l. elementAt s (moved here₀ a) l levels) (valueAt levels s) (8 - levels) (elementsAt levels s first here₀) here₀ first rows₀ rows here n least
+    level.Along (λ a l. elementAt s (moved here₀ a) l levels) (valueRun levels s) (8 - levels) (elementsAt levels s first here₀) here₀ first rows₀ rows here n least
 
 abbrev μ-loop : tie.MeasureT-loop
 μ-loop s levels rows₀ first here₀ n₀ least₀ rows here n least =
