@@ -269,7 +269,7 @@ pub fn function_in(bytes: &[u8], rows: &[u32], item: usize) -> Function
 // ---- Frames
 
 // A signed number that counts: what is below zero counts nothing.
-fn asCount(n: Signed) -> Num
+fn counted(n: Signed) -> Num
     requires { ⌜ SizeBelow 100000000000 n ⌝ }
     ensures { λ r. ⌜ r ≡ asCount n ⌝ }
     ensures { λ r. ⌜ Below 100000000000 r ⌝ }
@@ -289,7 +289,7 @@ pub fn frame_count(bytes: &[u8], rows: &[u32]) -> Num
 {
     match find_vr_root(bytes, rows, tags::NUMBER_OF_FRAMES, tags::IS) {
         Num::Lacks => Num::Lacks,
-        Num::Is(i) => asCount(value::is_of(node::value(bytes, rows, i))),
+        Num::Is(i) => counted(value::is_of(node::value(bytes, rows, i))),
     }
 }
 
