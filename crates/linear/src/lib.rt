@@ -15,7 +15,7 @@ ghost use Rattle.pixel.specs.Pixel.{samplesOf, sampleAt};
 ghost use Rattle.pixel.specs.Contracts.{painted};
 ghost use Rattle.value.specs.declared.Num.the-variants as num;
 ghost use Rattle.steps.specs.Contracts.{foundOf, FoundBelow};
-ghost use Rattle.linear.specs.Mapping.{linearOn, linearFor, entryPlace, entryAt, mappingBy};
+ghost use Rattle.linear.specs.Mapping.{linearOn, linearFor, placeAmong, entryAt, mappingBy};
 ghost use Rattle.linear.specs.Answer.{entriesIn, entriesOf, acceptedAnswer, linearOf, valuesBy, valuesOf, fieldsOf};
 ghost use Rattle.linear.specs.Contracts.{MapReady, Mappable};
 use conformance::JudgeAnswer;
@@ -80,7 +80,7 @@ fn linear_for(bytes: &[u8], rows: &[u32], frame: usize) -> Found
 // The place of cell x's entry.
 fn place(from: usize, count: usize, x: usize) -> usize
     requires { ⌜ (1 ≤ count) × ((count ≤ 65536) × (from < 65536)) ⌝ }
-    ensures { λ r. ⌜ (r ≡ entryPlace from count x) × (r < count) ⌝ }
+    ensures { λ r. ⌜ (r ≡ placeAmong from count x) × (r < count) ⌝ }
 {
     if x < from {
         0

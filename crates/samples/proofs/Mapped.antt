@@ -29,7 +29,7 @@ use Rattle.pixel.specs.Pixel.{leBytes, isFrame, sampleAt, sumAt, averageOf, mas
 use Rattle.steps.specs.Given.{collect}
 use Rattle.steps.specs.Steps.{geometryOf, pixelsOf, groupFor, rangeHolds, firstHolding, applyingTo, averageFrames, offsetOf, tidFrame, shiftFor, movesFor, maskBy, maskFor, windowIn, windowFor, inverseOf, nativeCell, maskedCell, areFrames, pictureBy, stepsOf}
 use Rattle.display.specs.Show.{pictureOf, acceptedAnswer, showOf, imageOf}
-use Rattle.linear.specs.Mapping.{linearFor, entryPlace, entryPlace, entryAt, entryOf, mappingBy, mappingOf, isMapped}
+use Rattle.linear.specs.Mapping.{linearFor, placeAmong, entryPlace, entryAt, entryOf, mappingBy, mappingOf, isMapped}
 use Rattle.linear.specs.Answer.{entriesOf, linearOf, valuesOf as mappedValues, acceptedAnswer as acceptedLinear}
 use Rattle.samples.specs.Objects.{two, short, long, sequence, item, oneFrame}
 use Rattle.samples.specs.Samples.{manyRows}
@@ -65,7 +65,7 @@ unfolding
     operationIs isOperation isMask rangeFits allFrames areMaskFrames averageFits averagesFit isOffset offsetFits shiftFits hasShiftGroup anyShift rule31 rule32 rule33 rule34 rule35 rule36
     isPixelVr isPixelData rule38
     isLinear linearAmong isLut hasLut areLuts isLutGroup hasLinear isLog item39 rule39
-    linearFor entryPlace entryPlace entryAt entryOf mappingBy mappingOf isMapped
+    linearFor placeAmong entryPlace entryAt entryOf mappingBy mappingOf isMapped
     entriesOf linearOf mappedValues acceptedLinear
     ruleList ruleAt
     firstFrame frameCount lowest firstBroken judgeOf
