@@ -72,7 +72,7 @@ pub fn start_of(file: &[u8]) -> Start
 }
 
 // The data set that starts there: the part of the lent file, and no copy.
-pub fn data_set<'a>(file: &'a [u8], from: usize) -> &'a [u8]
+fn data_set<'a>(file: &'a [u8], from: usize) -> &'a [u8]
     requires { ⌜ from ≤ length (now file) ⌝ }
     ensures { λ r. ⌜ Rest (file .entry) from r ⌝ }
 {
