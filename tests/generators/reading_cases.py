@@ -6,8 +6,9 @@ answers; the comparison holds the library to them. As a program it prints the ca
 
 import argparse
 
-from objects import ITEM_END, SEQUENCE_END, UNDEFINED, element, element_header, item, item_header, sequence, tag_bytes
 from reference import reading
+
+from .objects import ITEM_END, SEQUENCE_END, UNDEFINED, element, element_header, item, item_header, sequence, tag_bytes
 
 ROWS = element(0x00280010, "US", b"\2\0")  # 10 bytes
 COLUMNS = element(0x00280011, "US", b"\2\0")  # 10 bytes

@@ -5,7 +5,7 @@ With no fault it must pass every comparison; with a fault it must fail one. So i
 
 import ctypes
 
-from library import ROWS_NOT_KNOWN, ComparedStruct, PartStruct, RewrittenStruct, SlipStruct, answer_of, struct_of
+from comparison.library import ROWS_NOT_KNOWN, ComparedStruct, PartStruct, RewrittenStruct, SlipStruct, answer_of, struct_of
 from reference import canonical, comparing, drawing, files, intensity, reading, rules, sheet, slips
 
 

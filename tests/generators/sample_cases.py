@@ -1,7 +1,8 @@
 """The sample cases of document 01 that are about reading, with the paper's answers written out. Q-6 adds the last number of a row."""
 
 from reference.answers import Answer, Outcome
-from reading_cases import ROWS, nested
+
+from .reading_cases import ROWS, nested
 
 
 def hexed(text):

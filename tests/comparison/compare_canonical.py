@@ -4,16 +4,14 @@ the claims of Q-10: read back, written again, written from other lengths, judged
 import mmap
 import random
 
-import enhanced_xa as xa
-import objects
-import outside
-import reading_cases
-import sample_cases
-from compare_read import cut_and_joined, flipped
-from comparison import DifferenceFound, run_as_program
-from mutations import CHANGES
+from generators import enhanced_xa as xa
+from generators import objects, outside, reading_cases, sample_cases
+from generators.mutations import CHANGES
 from reference import canonical, drawing, reading
 from reference.canonical import CanonicalAnswer
+
+from .common import DifferenceFound, run_as_program
+from .compare_read import cut_and_joined, flipped
 
 AMPLE = 1 << 20
 

@@ -8,12 +8,13 @@ import collections
 import math
 import random
 
-import enhanced_xa as xa
-import objects
-from enhanced_xa import fl, sq, ss, text, us
-from mutations import BAD_DECIMALS, BAD_FUNCTIONS, BAD_IDS, BAD_SHIFTS, CHANGES, GOOD_SHIFTS, NOT_A_NUMBER, OTHER_VRS
 from reference import attributes as tags
 from reference import drawing, reading, values
+
+from . import enhanced_xa as xa
+from . import objects
+from .enhanced_xa import fl, sq, ss, text, us
+from .mutations import BAD_DECIMALS, BAD_FUNCTIONS, BAD_IDS, BAD_SHIFTS, CHANGES, GOOD_SHIFTS, NOT_A_NUMBER, OTHER_VRS
 
 FRAMES = range(5)  # the frames that are asked for; no data set has a frame 0
 LARGE = 1_000_000  # numbers in the row buffer, more than any of these cases takes

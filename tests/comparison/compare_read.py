@@ -1,19 +1,16 @@
 """Compares xa_read and xa_count with the reference: answers, row buffers, and what must stay untouched."""
 
 import mmap
-import os
 import random
 import re
 
-import objects
-import outside
-import parents
-import reading_cases
-import sample_cases
-from comparison import DifferenceFound, enough_numbers, run_as_program
-from reference import reading
+from generators import objects, outside, reading_cases, sample_cases
+from reference import parents, reading
 from reference.answers import Answer
 from reference.reading import NUMBERS_IN_A_ROW
+
+from .common import DifferenceFound, enough_numbers, run_as_program
+from .library import HEADER
 
 
 def check_read(comparison, name, data, row_buffer_length):
@@ -44,8 +41,7 @@ def check_count(comparison, name, data):
 
 def check_version(comparison):
     """The library says the version that its header has."""
-    header = os.path.join(os.path.dirname(os.path.abspath(__file__)), "..", "include", "luuxidgaan.h")
-    with open(header) as file:
+    with open(HEADER) as file:
         version = int(re.search(r"^#define XA_VERSION (\d+)$", file.read(), re.MULTILINE).group(1))
     comparison.must_equal("version", comparison.library.version(), version)
 

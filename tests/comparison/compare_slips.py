@@ -5,9 +5,10 @@ import itertools
 import os
 import random
 
-from comparison import run_as_program
 from reference import slips
 from reference.answers import Answer
+
+from .common import run_as_program
 
 CODES = (*range(0, 17), 127, 128, 255, 256, 257, 264, 265, 511, 512, 65536, 65545, 2 ** 31, 2 ** 32 - 1)
 RULES = (*range(0, 42), 127, 128, 255, 256, 257, 283, 293, 294, 65536, 65563, 2 ** 32 - 1)

@@ -4,13 +4,13 @@ items, must get the same verdict, slip, pictures, sheets and intensities (docume
 import random
 import struct
 
-import enhanced_xa as xa
-import objects
-import outside
-from comparison import DifferenceFound, exact_numbers, run_as_program
-from library import GuardedBuffer
-from mutations import CHANGES
+from generators import enhanced_xa as xa
+from generators import objects, outside
+from generators.mutations import CHANGES
 from reference import drawing, reading, sheet
+
+from .common import DifferenceFound, exact_numbers, run_as_program
+from .library import GuardedBuffer
 
 PATIENT_ITEMS = {0x00100010: ("PN", 64), 0x00100020: ("LO", 64), 0x00100030: ("DA", 8), 0x00204000: ("LT", 10240)}
 OTHER_VRS = ("CS", "UI", "UN", "OB", "UT", "US", "IS")

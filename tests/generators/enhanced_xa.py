@@ -3,7 +3,7 @@
 import dataclasses
 import struct
 
-from objects import encode
+from .objects import encode
 
 # The generator has its own list of tags, apart from the reference's, so that a slip in one of them shows.
 IMAGE_TYPE = 0x00080008

@@ -2,12 +2,13 @@
 
 import ctypes
 
-from parents import table_of
 from reference import canonical, comparing, drawing, files, intensity, reading, rules, searches, sheet, slips
 from reference.answers import Answer
+from reference.parents import table_of
 from reference.reading import ITEM, NUMBERS_IN_A_ROW
 from reference.values import UNIT
-from stand_in import StandIn, write
+
+from .stand_in import StandIn, write
 
 
 def answer_changed(**changes):

@@ -3,15 +3,14 @@ items, LUT groups, elements around each tag that is sought; refused objects and 
 
 import random
 
-import enhanced_xa as xa
-import objects
-import reading_cases
-import search_cases
-from compare_files import CLASSES, elements_of, file_of
-from compare_judge import check_judge, levels_of, meant, places, widen
-from comparison import DifferenceFound, exact_numbers, run_as_program
-from mutations import CHANGES
+from generators import enhanced_xa as xa
+from generators import objects, reading_cases, search_cases
+from generators.mutations import CHANGES
 from reference import comparing, drawing, files, intensity, reading, searches, sheet
+
+from .common import DifferenceFound, exact_numbers, run_as_program
+from .compare_files import CLASSES, elements_of, file_of
+from .compare_judge import check_judge, levels_of, meant, places, widen
 
 GROUPS = {"characteristics": xa.CHARACTERISTICS, "voi": xa.VOI, "frame_shift": xa.FRAME_SHIFT, "properties": xa.PROPERTIES, "luts": xa.LUTS}
 BOTH = "both"  # a sequence in every frame, and in the shared item another VR, which rule 27 allows

@@ -4,9 +4,10 @@ import ctypes
 import random
 import struct
 
-import enhanced_xa as xa
-import objects
-from comparison import exact_numbers
+from generators import enhanced_xa as xa
+from generators import objects
+
+from .common import exact_numbers
 
 FIELD = 26  # bytes of each value of the window: shorter ones are padded with spaces
 PLACES = {xa.CENTER: "DS", xa.WIDTH: "DS", xa.FUNCTION: "CS"}

@@ -4,7 +4,7 @@ Sought and found at place k among the elements of its data set, a tag counts k; 
 more if an element stands above it.
 """
 
-from enhanced_xa import fd, fl, sq, text, us
+from .enhanced_xa import fd, fl, sq, text, us
 
 # The root has 21 elements, in the order below. Rule by rule:
 #    1  (0008,0016)                            2        16  (0018,9004)                               5

@@ -5,15 +5,14 @@ import dataclasses
 import mmap
 import random
 
-import enhanced_xa as xa
-import objects
-import outside
-import reading_cases
-from comparison import DifferenceFound, exact_numbers, run_as_program
-from compare_read import cut_and_joined, flipped
-from mutations import CHANGES
+from generators import enhanced_xa as xa
+from generators import objects, outside, reading_cases
+from generators.mutations import CHANGES
 from reference import reading, rules
 from reference.answers import Answer
+
+from .common import DifferenceFound, exact_numbers, run_as_program
+from .compare_read import cut_and_joined, flipped
 
 
 def check_judge(comparison, name, data, row_buffer_length):

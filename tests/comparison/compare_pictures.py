@@ -6,13 +6,13 @@ import random
 import struct
 import tempfile
 
-import enhanced_xa as xa
-import outside
-import reading_cases
-from compare_show import EXACT_WINDOWS, WINDOWS, base_shape, every_value
-from comparison import DifferenceFound, exact_numbers, run_as_program
-from mutations import CHANGES
+from generators import enhanced_xa as xa
+from generators import outside, reading_cases
+from generators.mutations import CHANGES
 from reference import comparing, drawing, reading
+
+from .common import DifferenceFound, exact_numbers, run_as_program
+from .compare_show import EXACT_WINDOWS, WINDOWS, base_shape, every_value
 
 
 def check_picture(comparison, name, data, frame, cells, tolerance, row_buffer_length):

@@ -5,12 +5,12 @@ import random
 import struct
 import tempfile
 
-import enhanced_xa as xa
-import outside
-import reading_cases
-from comparison import DifferenceFound, enough_numbers, exact_numbers, run_as_program
-from mutations import CHANGES
+from generators import enhanced_xa as xa
+from generators import outside, reading_cases
+from generators.mutations import CHANGES
 from reference import drawing, reading
+
+from .common import DifferenceFound, enough_numbers, exact_numbers, run_as_program
 
 
 def check_show(comparison, name, data, frame, row_buffer_length, image_buffer_length):

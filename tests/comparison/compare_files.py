@@ -1,4 +1,3 @@
-#!/usr/bin/env python3
 """Compares xa_data_set, xa_read_file, xa_judge_file and xa_show_file with the reference."""
 
 import itertools
@@ -6,11 +5,11 @@ import mmap
 import random
 import struct
 
-import enhanced_xa as xa
-import objects
-import outside
-from comparison import DifferenceFound, run_as_program
+from generators import enhanced_xa as xa
+from generators import objects, outside
 from reference import files, reading
+
+from .common import DifferenceFound, run_as_program
 
 LARGE = 1 << 40
 CALLS = ("xa_data_set", "xa_read_file", "xa_judge_file", "xa_show_file")

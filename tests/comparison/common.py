@@ -7,8 +7,9 @@ import sys
 import tempfile
 import time
 
-from library import Library
 from reference import reading
+
+from .library import Library
 
 DEFAULT_SEED = 20240501
 NOT_IN_LIBRARY = 3  # exit status

@@ -18,7 +18,8 @@ from reference.canonical import CanonicalAnswer
 from reference.comparing import Compared
 
 GUARD = 64  # bytes in front of and behind a buffer
-HEADER = os.path.join(os.path.dirname(os.path.dirname(os.path.abspath(__file__))), "include", "luuxidgaan.h")
+ROOT = os.path.dirname(os.path.dirname(os.path.dirname(os.path.abspath(__file__))))
+HEADER = os.path.join(ROOT, "include", "luuxidgaan.h")
 
 with open(HEADER, encoding="utf-8") as header:
     TELLS_SEARCHES = re.search(r"\buint64_t searches;", header.read()) is not None  # the field that Q-11 adds to xa_answer

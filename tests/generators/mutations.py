@@ -8,8 +8,8 @@ import dataclasses
 import struct
 from typing import Callable
 
-import enhanced_xa as xa
-from enhanced_xa import fd, fl, sq, ss, text, us
+from . import enhanced_xa as xa
+from .enhanced_xa import fd, fl, sq, ss, text, us
 
 BIPLANE = {"planes": "BIPLANE"}
 SINGLE = {"planes": "SINGLE PLANE"}

@@ -4,12 +4,13 @@
 
 import random
 
-import enhanced_xa as xa
-from comparison import DifferenceFound, run_as_program
-from mutations import BAD_FUNCTIONS, GOOD_FUNCTIONS
-from probe import FIELD, Probe
+from generators import enhanced_xa as xa
+from generators.mutations import BAD_FUNCTIONS, GOOD_FUNCTIONS
 from reference import drawing, rules
 from reference.values import UNIT
+
+from .common import DifferenceFound, run_as_program
+from .probe import FIELD, Probe
 
 LIMIT = 10 ** 12  # numbers are below it in size, in millionths
 TOP = 65_535

@@ -9,11 +9,13 @@ import os
 import shutil
 import sys
 
-from objects import LONG_HEADER_VRS, SHORT_HEADER_VRS
+import reference
+from generators.objects import LONG_HEADER_VRS, SHORT_HEADER_VRS
 from reference import reading
-from stand_in import StandIn
 
-HERE = os.path.dirname(os.path.abspath(__file__))
+from .stand_in import StandIn
+
+REFERENCE = os.path.dirname(reference.__file__)
 
 # In values.py: text, the text in its place.
 DECIMALS = [
@@ -334,7 +336,7 @@ def mutant(folder, number, file, text, other):
     """A stand-in that plays the changed copy of the reference."""
     name = f"mutant_{number}"
     target = os.path.join(folder, name)
-    shutil.copytree(os.path.join(HERE, "reference"), target, ignore=shutil.ignore_patterns("__pycache__"))
+    shutil.copytree(REFERENCE, target, ignore=shutil.ignore_patterns("__pycache__"))
     path = os.path.join(target, file)
     with open(path) as source:
         content = source.read()

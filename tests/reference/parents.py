@@ -3,7 +3,7 @@ rows below, and reach 0 within 17 steps, the step to 0 counted; an item's depth 
 is its item's." It is worked out from the numbers of the rows alone.
 """
 
-from reference.reading import ITEM, NUMBERS_IN_A_ROW
+from .reading import ITEM, NUMBERS_IN_A_ROW
 
 MOST_STEPS = 17
 TAG, DEPTH, BELOW, PARENT = 0, 2, 5, 6

@@ -1,4 +1,3 @@
-#!/usr/bin/env python3
 """Shows that the comparisons can fail: a stand-in without fault passes, and each stand-in with a fault is found out."""
 
 import argparse
@@ -6,24 +5,15 @@ import shutil
 import sys
 import tempfile
 
-import compare_canonical
-import compare_decimals
-import compare_files
-import compare_judge
-import compare_linear
-import compare_pictures
-import compare_privacy
-import compare_read
-import compare_searches
-import compare_sheet
-import compare_show
-import compare_slips
-import compare_windows
-from comparison import Comparison, DifferenceFound
-from faults import FAULTS
-from library import TELLS_SEARCHES, Library
-from mutants import MUTATIONS, mutant
-from stand_in import StandIn
+from comparison import (compare_canonical, compare_decimals, compare_files, compare_judge, compare_linear, compare_pictures,
+                        compare_privacy, compare_read, compare_searches, compare_sheet, compare_show, compare_slips,
+                        compare_windows)
+from comparison.common import Comparison, DifferenceFound
+from comparison.library import TELLS_SEARCHES, Library
+
+from .faults import FAULTS
+from .mutants import MUTATIONS, mutant
+from .stand_in import StandIn
 
 COUNTS = {"read": 60, "judge": 100, "slips": 200, "decimals": 200, "windows": 40, "show": 30, "canonical": 40,
           "linear": 20, "sheet": 10, "pictures": 5, "files": 20, "privacy": 40, "searches": 10}  # generated cases: as few as find every fault

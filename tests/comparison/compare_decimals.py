@@ -6,12 +6,13 @@ the window is chosen so that one millionth more or less draws another level.
 
 import random
 
-import enhanced_xa as xa
-from comparison import DifferenceFound, exact_numbers, run_as_program
-from mutations import BAD_DECIMALS, GOOD_CENTERS, GOOD_WIDTHS, SMALL_WIDTHS
-from probe import FIELD, Probe
+from generators import enhanced_xa as xa
+from generators.mutations import BAD_DECIMALS, GOOD_CENTERS, GOOD_WIDTHS, SMALL_WIDTHS
 from reference import drawing, rules
 from reference.values import UNIT, millionths
+
+from .common import DifferenceFound, exact_numbers, run_as_program
+from .probe import FIELD, Probe
 
 LIMIT = 10 ** 12  # numbers are below it in size, in millionths
 ALPHABET = "0123456789+-.Ee "
