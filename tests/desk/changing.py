@@ -10,9 +10,9 @@ import threading
 import time
 import unittest
 
-import enhanced_xa as xa
+from generators import enhanced_xa as xa
 from desk.common import FAILED, FINE, LARGE, REFUSED, TOOL, Desk, good_run, read_pgm, with_head
-from objects import element, encode
+from generators.objects import element, encode
 from reference import drawing, files
 
 RUNS = 1000

@@ -10,10 +10,10 @@ import tempfile
 import unittest
 import zlib
 
-import enhanced_xa as xa
-from mutations import CHANGES
-from objects import element, encode
-from parents import table_of
+from generators import enhanced_xa as xa
+from generators.mutations import CHANGES
+from generators.objects import element, encode
+from reference.parents import table_of
 from reference import reading
 
 TESTS = os.path.dirname(os.path.dirname(os.path.abspath(__file__)))

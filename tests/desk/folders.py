@@ -7,9 +7,9 @@ import struct
 import subprocess
 import unittest
 
-import enhanced_xa as xa
+from generators import enhanced_xa as xa
 from desk.common import CLASSES, FAILED, FINE, LARGE, REFUSED, TOOL, Desk, content_left_out, good_run, item_left_out, with_head
-from objects import element, encode, item, sequence
+from generators.objects import element, encode, item, sequence
 from reference import drawing, files, rules, slips
 
 CT = b"1.2.840.10008.5.1.4.1.1.2"

@@ -5,9 +5,9 @@ import random
 import re
 import struct
 
-import enhanced_xa as xa
-from mutations import CHANGES
-from objects import element, element_header, encode, item_header
+from generators import enhanced_xa as xa
+from generators.mutations import CHANGES
+from generators.objects import element, element_header, encode, item_header
 from reference import rules
 
 from .common import LARGE, REFUSED, SENTENCES, Desk, good_run, item_left_out, rows_of, with_head

@@ -5,8 +5,8 @@ import random
 import struct
 import zlib
 
-import enhanced_xa as xa
-from objects import encode
+from generators import enhanced_xa as xa
+from generators.objects import encode
 from reference import drawing
 
 from .common import FAILED, LARGE, REFUSED, Desk, content_left_out, good_run, read_pgm, read_png, unfilter

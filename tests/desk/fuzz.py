@@ -22,7 +22,7 @@ TESTS = os.path.dirname(os.path.dirname(os.path.abspath(__file__)))
 if __name__ == "__main__":
     sys.path.insert(0, TESTS)
 
-import enhanced_xa as xa  # noqa: E402
+from generators import enhanced_xa as xa  # noqa: E402
 from desk.common import CLASSES, LARGE, TOOL, Desk, with_head  # noqa: E402
 from reference import canonical, drawing, files, intensity, reading, rules, sheet, slips  # noqa: E402
 from reference.answers import Answer  # noqa: E402

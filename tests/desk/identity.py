@@ -3,8 +3,8 @@
 import json
 import random
 
-import enhanced_xa as xa
-from objects import element, encode
+from generators import enhanced_xa as xa
+from generators.objects import element, encode
 
 from .common import FINE, REFUSED, Desk, with_head
 

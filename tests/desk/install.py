@@ -7,9 +7,9 @@ import shutil
 import subprocess
 import unittest
 
-import enhanced_xa as xa
+from generators import enhanced_xa as xa
 from desk.common import CLASSES, LARGE, ROOT, Desk, good_run, with_head
-from objects import encode
+from generators.objects import encode
 from reference import drawing
 
 HERE = os.path.dirname(os.path.abspath(__file__))

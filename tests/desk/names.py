@@ -3,8 +3,8 @@
 import random
 import runpy
 
-import enhanced_xa as xa
-from objects import element, encode
+from generators import enhanced_xa as xa
+from generators.objects import element, encode
 
 from .common import FINE, Desk, good_run, rows_of
 

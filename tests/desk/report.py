@@ -8,8 +8,8 @@ import random
 import re
 import unittest
 
-import enhanced_xa as xa
-from objects import encode
+from generators import enhanced_xa as xa
+from generators.objects import encode
 from reference import drawing, sheet
 
 from . import browser

@@ -6,7 +6,7 @@ import subprocess
 import unittest
 
 from desk.common import FAILED, REFUSED, ROOT, SENTENCES, TOOL, Desk, good_run, with_head
-from objects import element_header, item_header
+from generators.objects import element_header, item_header
 
 ROW = 28  # bytes
 OWN = 24 << 20  # what the tool takes besides, with the stacks of its threads

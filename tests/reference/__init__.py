@@ -8,6 +8,7 @@ Layers, each checkable against its paragraph:
     rules.py     "The rule list": rules 1 to 38 and Q-8's 39, first broken rule, lowest frame; Q-3 in rule 30, Q-4 in 35 and 37
     drawing.py   "Drawing frame f": steps 1 to 7, or something is lacking; Q-4 in step 4, Q-3 and Q-9 in step 6
     intensity.py Q-8: a frame mapped back to beam intensity, or something is lacking; the square root derivation
+    parents.py   Q-6: what following a row's last number meets
     slips.py     verdict slips of both versions
     searches.py  Q-11: how many rows judging looks at
     canonical.py a data set written anew in one way (document 02, Q-10)

@@ -13,7 +13,7 @@ use Rattle.value.proofs.Lists.{from-next}
 use Rattle.argument.specs.declared.Decimal.{Decimal}
 use Rattle.argument.specs.declared.Decimal.the-variants.{Number, TooLarge, NotNumber}
 use Rattle.argument.proofs.Decimal.{the-type}
-use Rattle.argument.specs.Digits.{moreOf, withByte, withBytes, decimalOf}
+use Rattle.argument.specs.Digits.{moreOf, withByte, withBytes, argumentOf}
 
 -- ---- A byte more
 
@@ -46,12 +46,12 @@ pub last : (s : List ℕ) (i : ℕ) (d : Decimal) → i ≡ length s → d ≡ w
 unfolding withBytes
 last s i d h = rw (h, drop-length s)
 
-pub no-bytes : (s : List ℕ) → length s ≡ 0 → NotNumber ≡ decimalOf s
-unfolding decimalOf
+pub no-bytes : (s : List ℕ) → length s ≡ 0 → NotNumber ≡ argumentOf s
+unfolding argumentOf
 no-bytes [] h = refl
 no-bytes (c ∷ s) h = absurd (omega (arith, h))
 
-pub some-bytes : (s : List ℕ) → (length s ≡ 0 → ⊥) → withBytes (Number 0) s ≡ decimalOf s
-unfolding decimalOf
+pub some-bytes : (s : List ℕ) → (length s ≡ 0 → ⊥) → withBytes (Number 0) s ≡ argumentOf s
+unfolding argumentOf
 some-bytes [] h = absurd (h refl)
 some-bytes (c ∷ s) h = refl

@@ -21,6 +21,6 @@ unfoldable pub withBytes : Decimal → List ℕ → Decimal
 withBytes d [] = d
 withBytes d (c ∷ s) = withBytes (withByte d c) s
 
-unfoldable pub decimalOf : List ℕ → Decimal
-decimalOf [] = NotNumber
-decimalOf (c ∷ s) = withBytes (Number 0) (c ∷ s)
+unfoldable pub argumentOf : List ℕ → Decimal
+argumentOf [] = NotNumber
+argumentOf (c ∷ s) = withBytes (Number 0) (c ∷ s)

@@ -1,7 +1,7 @@
 // A number in plain decimal digits, as an argument of a program has it.
 ghost use mathlib.Core.Path.{_≡_};
 ghost use Prim.Native.Nat.{_<_};
-ghost use Rattle.argument.specs.Digits.{moreOf, withByte, decimalOf};
+ghost use Rattle.argument.specs.Digits.{moreOf, withByte, argumentOf};
 
 pub enum Decimal {
     Number(u64),
@@ -39,7 +39,7 @@ fn with_byte(before: Decimal, c: u8) -> Decimal
 
 // The number that the text is, or why it is none.
 pub fn read_decimal(text: &[u8]) -> Decimal
-    ensures { λ r. ⌜ r ≡ decimalOf (now (text .entry)) ⌝ }
+    ensures { λ r. ⌜ r ≡ argumentOf (now (text .entry)) ⌝ }
 {
     if text.len() == 0 {
         return Decimal::NotNumber;

@@ -25,8 +25,6 @@ use Rattle.meta.specs.declared.Meta.the-variants as head
 use Rattle.file.specs.File.{sameClass, readIn, readPart, readBy, readFileOf, readFields, judgeIn, judgePart, judgeBy, judgeFileOf, judgeFields, showIn, showPart, showBy, showFileOf, showFields}
 use Rattle.file.specs.declared.ReadFileAnswer.{ReadFileAnswer}
 use Rattle.file.specs.declared.ReadFileAnswer.the-variants as readFile
-use Rattle.file.specs.declared.JudgeFileAnswer.{JudgeFileAnswer}
-use Rattle.file.specs.declared.JudgeFileAnswer.the-variants as judgeFile
 use Rattle.file.specs.declared.ShowFileAnswer.{ShowFileAnswer}
 use Rattle.file.specs.declared.ShowFileAnswer.the-variants as showFile
 use Rattle.cabi.specs.Host.{Fits32}

@@ -29,7 +29,6 @@ use Rattle.conformance.specs.Judging as judging
 use Rattle.conformance.proofs.Possible.{judge-small, judge-rows}
 use Rattle.conformance.specs.declared.JudgeAnswer.the-variants as judged
 use Rattle.node.specs.Nodes.{Node, nodesOf}
-use Rattle.display.specs.declared.ShowAnswer.{ShowAnswer}
 use Rattle.display.specs.declared.ShowAnswer.the-variants as shown
 use Rattle.display.specs.Show as showing
 use Rattle.display.specs.Show.{isFrameOf, imageSize, pictureOf, acceptedAnswer, answerFor, showOf}
@@ -42,8 +41,8 @@ use Rattle.linear.specs.declared.LinearAnswer.the-variants as linear
 use Rattle.linear.specs.Mapping.{isMapped}
 use Rattle.linear.specs.Answer as mapping
 use Rattle.linear.specs.Answer.{acceptedAnswer as acceptedLinear, answerFor as linearFor, linearOf}
-use Rattle.pixel.specs.Painted.{painted}
-use Rattle.lines.specs.Lines.{upTo}
+use Rattle.pixel.specs.Contracts.{painted}
+use Rattle.lines.specs.Contracts.{upTo}
 use Rattle.lines.proofs.Lists.{upTo-length, upTo-at, painted-list}
 use Rattle.sheet.specs.declared.SheetAnswer.the-variants as sampled
 use Rattle.sheet.specs.declared.Numbers.{Numbers}
@@ -54,7 +53,7 @@ use Rattle.slip.specs.declared.SlipAnswer.{SlipAnswer}
 use Rattle.slip.specs.declared.SlipAnswer.the-variants as read
 use Rattle.slip.specs.declared.WriteAnswer.{WriteAnswer}
 use Rattle.slip.specs.declared.WriteAnswer.the-variants as write
-use Rattle.slip.specs.Slip.{mark, version, oldVersion, versionAt, rowsAt, headSize, oldSize, slipSize, number, equal, recorded, ifPossible, readSized, readVersion, readOf, readFields, writeOf, writeFields}
+use Rattle.slip.specs.Slip.{mark, version, oldVersion, versionPlace, rowsPlace, headSize, oldSize, slipSize, number, sameBytes, recorded, ifPossible, readSized, readVersion, readOf, readFields, writeOf, writeFields}
 use Rattle.slip.proofs.Slips.{slips}
 use Rattle.cabi.specs.Host.{rowsNumber, sheetAfter, Narrow, Fits32}
 
@@ -211,13 +210,13 @@ sized-code size rows s = go (eqb (length s) size) (possible (recorded s rows))
 read-code : (s : List ℕ) → readFields (readOf s) .code ≤ 14
 unfolding readOf readVersion
 read-code s =
-    go (leb headSize (length s) && equal (take 3 s) mark) (eqb (number 2 s versionAt) oldVersion) (eqb (number 2 s versionAt) version)
+    go (leb headSize (length s) && sameBytes (take 3 s) mark) (eqb (number 2 s versionPlace) oldVersion) (eqb (number 2 s versionPlace) version)
   where
     go : (a b d : Bool)
-        → readFields (cond (not a) (read.Refused 12) (cond b (readSized oldSize NotKnown s) (cond d (readSized slipSize (Known (number 4 s rowsAt)) s) (read.Refused 13)))) .code ≤ 14
+        → readFields (cond (not a) (read.Refused 12) (cond b (readSized oldSize NotKnown s) (cond d (readSized slipSize (Known (number 4 s rowsPlace)) s) (read.Refused 13)))) .code ≤ 14
     go false b d = omega arith
     go true true d = sized-code oldSize NotKnown s
-    go true false true = sized-code slipSize (Known (number 4 s rowsAt)) s
+    go true false true = sized-code slipSize (Known (number 4 s rowsPlace)) s
     go true false false = omega arith
 
 pub slip-code : {a b : SlipAnswer} (s : List ℕ) → a ≡ readOf s → a ≡ b → readFields b .code ≤ 14

@@ -9,7 +9,7 @@ ghost use mathlib.Core.Path.{_≡_};
 ghost use Rattle.dataset.specs.Reading.{readingOf};
 ghost use Rattle.dataset.specs.Answer.{bufferOf};
 ghost use Rattle.linear.specs.Answer.{linearOf, valuesOf, fieldsOf};
-ghost use Rattle.squareroot.specs.SquareRoot.{levelOf, entryOf};
+ghost use Rattle.squareroot.specs.SquareRoot.{rootLevel, rootEntry};
 ghost use Rattle.cabi.specs.Host.{hosted};
 
 // Reads a data set into rows of seven numbers, judges it and maps a frame of it by its TO_LINEAR item, a number for each
@@ -40,7 +40,7 @@ pub extern "C" fn xa_linear(
 // The level of a 14-bit cell, of a larger number its lowest 14 bits.
 #[no_mangle]
 pub extern "C" fn xa_root_level(cell: u64) -> u8
-    ensures { λ r. ⌜ r ≡ levelOf cell ⌝ }
+    ensures { λ r. ⌜ r ≡ rootLevel cell ⌝ }
 {
     squareroot::level(cell as usize) as u8
 }
@@ -48,7 +48,7 @@ pub extern "C" fn xa_root_level(cell: u64) -> u8
 // The entry of a level.
 #[no_mangle]
 pub extern "C" fn xa_root_entry(level: u8) -> u16
-    ensures { λ r. ⌜ r ≡ entryOf level ⌝ }
+    ensures { λ r. ⌜ r ≡ rootEntry level ⌝ }
 {
     squareroot::entry(level)
 }

@@ -6,7 +6,7 @@ use verdict::RowCount;
 use verdict::Verdict;
 ghost use mathlib.Core.Path.{_≡_};
 ghost use Prim.Native.Nat.{_<_};
-ghost use Rattle.slip.specs.Slip.{readOf, readFields, writeOf, writeFields, bufferOf};
+ghost use Rattle.slip.specs.Slip.{readOf, readFields, writeOf, writeFields, slipBuffer};
 ghost use Rattle.cabi.specs.Host.{countIn, verdictIn, knownNumber, rowsNumber, slipOf, verdictAnswer, Narrow};
 
 // The row count of a verdict that does not know it: no verdict has as many rows.
@@ -49,7 +49,7 @@ fn verdict_in(verdict: Answer, known: u32) -> Verdict
 #[no_mangle]
 pub extern "C" fn xa_write_slip(verdict: Answer, known: u32, slip: &mut [u8]) -> u32
     ensures { λ r. ⌜ r ≡ writeFields (writeOf (verdictIn verdict known) (now (slip .entry))) .code ⌝ }
-    ensures { λ _. ⌜ now (slip .exit) ≡ bufferOf (verdictIn verdict known) (now (slip .entry)) ⌝ }
+    ensures { λ _. ⌜ now (slip .exit) ≡ slipBuffer (verdictIn verdict known) (now (slip .entry)) ⌝ }
 {
     match slip::write_slip(verdict_in(verdict, known), slip) {
         WriteAnswer::Written => 0,

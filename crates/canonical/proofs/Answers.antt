@@ -18,7 +18,7 @@ use Rattle.node.proofs.Laws.{next-within}
 use Rattle.node.proofs.After.{after-reading, nodes-read}
 use Rattle.canonical.specs.declared.CanonicalAnswer.the-variants as canonical
 use Rattle.canonical.specs.Contracts.{Sized, Fitting, Wrote}
-use Rattle.canonical.specs.Written.{Bytes, sizeOf, writtenOf}
+use Rattle.canonical.specs.Written.{Bytes, writtenSize, writtenOf}
 use Rattle.canonical.specs.Answer.{canonicalOf, targetOf}
 use Rattle.canonical.proofs.Shape.{shape-size}
 use Rattle.canonical.proofs.Read.{Readable, reading-shape}
@@ -31,11 +31,11 @@ record Few (s : List ℕ) (size : ℕ) : Type 0 where
   fits : size ≤ length s
   small : size ≤ 1073741824
 
-nodes-few : (s : List ℕ) → Bytes s → Few s (sizeOf (nodesOf s))
-unfolding nodesOf rowsOf sizeOf
+nodes-few : (s : List ℕ) → Bytes s → Few s (writtenSize (nodesOf s))
+unfolding nodesOf rowsOf writtenSize
 nodes-few s bytes = go (readingOf s) (reading-shape s bytes)
   where
-    go : (o : Reading) → Readable s bytes o → Few s (sizeOf (map (nodeOf s) (rowsIn o)))
+    go : (o : Reading) → Readable s bytes o → Few s (writtenSize (map (nodeOf s) (rowsIn o)))
     go tooLarge r = record { fits = omega arith; small = omega arith }
     go (refusedAt code offset) r = record { fits = omega arith; small = omega arith }
     go (read rows) r = record { fits = omega (arith, shape-size (r .shape), r .fits); small = omega (arith, shape-size (r .shape), r .fits, r .small) }
@@ -60,31 +60,31 @@ ready s before buffer n bytes e f =
 
 -- ---- The answer and the target
 
-pub fitting-all : (s target : List ℕ) {buffer : List ℕ} {n : ℕ} → Ready s buffer n → ltb (length target) (sizeOf (nodesOf s)) ≡ false → Fitting (nodesOf s) target 0 n 0
+pub fitting-all : (s target : List ℕ) {buffer : List ℕ} {n : ℕ} → Ready s buffer n → ltb (length target) (writtenSize (nodesOf s)) ≡ false → Fitting (nodesOf s) target 0 n 0
 fitting-all s target {buffer} {n} r h =
     record {
       low = omega arith;
       high = omega (arith, r .count);
       whole = λ k l m. omega (arith, r .count, next-within s (take (7 * n) buffer) (r .sized .table) k (omega (arith, r .count)));
-      room = omega (arith, ltb-false (length target) (sizeOf (nodesOf s)) h);
+      room = omega (arith, ltb-false (length target) (writtenSize (nodesOf s)) h);
     }
 
 module _ (s before target : List ℕ) (n : ℕ) (e : answer.Done n ≡ answerOf (readingOf s) before) (c : n ≡ length (nodesOf s)) where
-  pub short-answer : (size : ℕ) → size ≡ sizeOf (slice 0 n (nodesOf s)) → ltb (length target) (sizeOf (nodesOf s)) ≡ true
+  pub short-answer : (size : ℕ) → size ≡ writtenSize (slice 0 n (nodesOf s)) → ltb (length target) (writtenSize (nodesOf s)) ≡ true
       → (canonical.NoTargetRoom size ≡ canonicalOf s before target) × (target ≡ targetOf s before target)
   unfolding canonicalOf targetOf
   short-answer size k h =
-      let q : size ≡ length (writtenOf (nodesOf s)) = k ∙ ap sizeOf (slice-all (nodesOf s) n c) ∙ sym (length-written (nodesOf s)) in
-      let f = lt-leb (length (writtenOf (nodesOf s))) (length target) (omega (arith, length-written (nodesOf s), ltb-true (length target) (sizeOf (nodesOf s)) h)) in
+      let q : size ≡ length (writtenOf (nodesOf s)) = k ∙ ap writtenSize (slice-all (nodesOf s) n c) ∙ sym (length-written (nodesOf s)) in
+      let f = lt-leb (length (writtenOf (nodesOf s))) (length target) (omega (arith, length-written (nodesOf s), ltb-true (length target) (writtenSize (nodesOf s)) h)) in
       (rw (← e, f, q), rw (← e, f))
 
-  pub done-answer : (size : ℕ) (after : List ℕ) → Wrote (nodesOf s) target after 0 0 n size → ltb (length target) (sizeOf (nodesOf s)) ≡ false
+  pub done-answer : (size : ℕ) (after : List ℕ) → Wrote (nodesOf s) target after 0 0 n size → ltb (length target) (writtenSize (nodesOf s)) ≡ false
       → (canonical.Done n size ≡ canonicalOf s before target) × (after ≡ targetOf s before target)
   unfolding canonicalOf targetOf
   done-answer size after w h =
       let o = wrote-all w c in
       let q : size ≡ length (writtenOf (nodesOf s)) = o .0 ∙ sym (length-written (nodesOf s)) in
-      let l : length (writtenOf (nodesOf s)) ≤ length target = omega (arith, length-written (nodesOf s), ltb-false (length target) (sizeOf (nodesOf s)) h) in
+      let l : length (writtenOf (nodesOf s)) ≤ length target = omega (arith, length-written (nodesOf s), ltb-false (length target) (writtenSize (nodesOf s)) h) in
       let f = le-leb (length (writtenOf (nodesOf s))) (length target) l in
       let z = sets-eq (writtenOf (nodesOf s)) target 0 (omega arith) ∙ ap (λ (j : ℕ). writtenOf (nodesOf s) ++ drop j target) (zero-add (length (writtenOf (nodesOf s)))) in
       (rw (← e, f, q), rw (← e, f) (o .1 .is ∙ z))

@@ -3,24 +3,23 @@ use mathlib.Core.Path.{_≡_, refl, sym, ap, _∙_, subst}
 use mathlib.Core.Bool.{Bool, true, false, cond}
 use Prim.Native.Nat.{ℕ, zero, suc, _+_, _-_, _*_, _/_, _%_, _≤_, _<_}
 use native.Mathlib.Omega.{arith}
-use native.Mathlib.Nat.{zero-add, add-zero}
-use borrow.Author.Tests.{eqb-true, eqb-false, eq-eqb, ne-eqb, le-ltb}
-use lib.Dec.{eqb, ltb}
+use borrow.Author.Tests.{eqb-true, eq-eqb, ne-eqb, le-ltb}
+use lib.Dec.{eqb}
 use mathlib.Core.List.{List, [], _∷_, _++_, map, append-assoc, append-nil, map-append}
-use lib.ListN.{length, getD, take, drop, length-append, length-map}
+use lib.ListN.{length, getD, drop, length-append, length-map}
 use lib.Seq.{take-at, drop-at, drop-drop, getD-drop}
 use Rattle.dataset.specs.declared.Cursor.{Cursor}
 use Rattle.dataset.specs.declared.Head.{Head}
 use Rattle.dataset.specs.declared.Head.the-variants as head
 use Rattle.dataset.specs.Bytes.{le16, le32, tagAt, vrAt}
-use Rattle.dataset.specs.Vr.{formOf, listed, SQ}
+use Rattle.dataset.specs.Vr.{formOf, SQ}
 use Rattle.dataset.specs.Header.{when, undefined, itemTag, cursor, headerBy, levelBy, definedBy, longBy, typedAt, taggedAt, sizedBy, memberAt, elementAt, itemAt}
 use Rattle.dataset.specs.Tree.{Kind, elements, items, rowsOf}
-use Rattle.dataset.specs.Reading.{Row, row, Run, done, refused, level, valueAt, elementsAt, itemsAt, largest, read, whole, readingOf}
-use Rattle.dataset.proofs.Level.{level-on, level-end, value-plain, value-items}
+use Rattle.dataset.specs.Reading.{Row, row, Run, done, level, valueRun, elementsAt, itemsAt, largest, read, whole, readingOf}
+use Rattle.dataset.proofs.Level.{level-on, level-end, value-plain}
 use Rattle.node.specs.Nodes.{Node, nodeOf, nodesOf}
 use Rattle.canonical.specs.Written.{le, letters, lengthOf, header, headSize}
-use Rattle.canonical.proofs.Shape.{Tag, Leaf, Shape, none, leaf, sequence, item, Form, no, short, long, form, vr-not-0, length-header, shape-even, head-short, head-long, sq-long, item-short, node}
+use Rattle.canonical.proofs.Shape.{Tag, Shape, none, leaf, sequence, item, Form, no, short, long, form, vr-not-0, length-header, shape-even, head-short, head-long, sq-long, item-short, node}
 
 -- ---- Numbers that were written
 
@@ -193,8 +192,8 @@ parts t at k end front inner after post here h e =
 count : (t : List ℕ) (rows : List Row) (ns : List Node) → map (nodeOf t) rows ≡ ns → length rows ≡ length ns
 count t rows ns e = sym (length-map rows (nodeOf t)) ∙ ap length e
 
-pub value-sq : (levels : ℕ) (t : List ℕ) (n : ℕ) (v : Cursor) → valueAt (suc levels) t n SQ v ≡ itemsAt levels t n v
-unfolding valueAt
+pub value-sq : (levels : ℕ) (t : List ℕ) (n : ℕ) (v : Cursor) → valueRun (suc levels) t n SQ v ≡ itemsAt levels t n v
+unfolding valueRun
 value-sq levels t n v = refl
 
 -- A run that reads just these nodes, up to the end.
@@ -234,7 +233,7 @@ headOf elements levels t end at least = elementAt t (cursor at end false) least 
 headOf items levels t end at least = itemAt t (cursor at end false)
 
 abbrev inOf : Kind → ℕ → List ℕ → ℕ → ℕ → Cursor → Run
-inOf elements levels t n vr v = valueAt levels t n vr v
+inOf elements levels t n vr v = valueRun levels t n vr v
 inOf items levels t n vr v = elementsAt levels t n v
 
 ends : (t : List ℕ) (kind : Kind) (levels end least : ℕ) → headOf kind levels t end end least ≡ head.End 0 0 (cursor end end false)

@@ -12,7 +12,7 @@ use Rattle.dataset.specs.Answer.{flat}
 use Rattle.node.specs.Nodes.{Node, nodesOf, nodeAt, nextNode, noNode}
 use Rattle.node.proofs.Laws.{table, nodes-count, node-is, next-within}
 use Rattle.canonical.specs.Contracts.{Put, Fitting, Wrote}
-use Rattle.canonical.specs.Written.{header, headSize, ownSize, sizeOf, nodeBytes, writtenOf}
+use Rattle.canonical.specs.Written.{header, headSize, ownSize, writtenSize, nodeBytes, writtenOf}
 use Rattle.canonical.proofs.Shape.{length-header}
 use Rattle.canonical.proofs.Sizes.{size-next, size-split, own-is}
 
@@ -36,10 +36,10 @@ module _ (ns : List Node) (i : ℕ) (h : i < length ns) where
 
   -- The length that the header is given.
   inner-size : (next inside p end size : ℕ) (value : List ℕ) → next ≡ i + 1 + node .descendants → p ≡ inside + length value
-      → end + sizeOf (drop next ns) ≡ p + sizeOf after → size ≡ end - inside → size ≡ length value + sizeOf (take (node .descendants) after)
+      → end + writtenSize (drop next ns) ≡ p + writtenSize after → size ≡ end - inside → size ≡ length value + writtenSize (take (node .descendants) after)
   inner-size next inside p end size value e q w z =
       let d : drop next ns ≡ drop (node .descendants) after = ap (λ (k : ℕ). drop k ns) e ∙ sym (drop-drop (node .descendants) (i + 1) ns) in
-      let s : sizeOf (drop next ns) ≡ sizeOf (drop (node .descendants) after) = ap sizeOf d in
+      let s : writtenSize (drop next ns) ≡ writtenSize (drop (node .descendants) after) = ap writtenSize d in
       omega (arith, size-split (node .descendants) after)
 
   pub wrote-node : {t t₁ t₂ t₃ : List ℕ} {at inside p end next tag vr size : ℕ} {value : List ℕ}
@@ -48,7 +48,7 @@ module _ (ns : List Node) (i : ℕ) (h : i < length ns) where
       → inside ≤ end → Wrote ns t t₃ i at next end
   unfolding nodeBytes writtenOf
   wrote-node {t} {t₁} {t₂} {t₃} {at} {inside} {p} {end} {next} {tag} {vr} {size} {value} a b c e f x q w z y g =
-      let k : size ≡ length value + sizeOf (take (node .descendants) after) = inner-size next inside p end size value e q (w .place) z in
+      let k : size ≡ length value + writtenSize (take (node .descendants) after) = inner-size next inside p end size value e q (w .place) z in
       let head : List ℕ = header tag vr size in
       let l : length head ≡ headSize vr = length-header tag vr size in
       let m : List ℕ = writtenOf after in
@@ -76,13 +76,13 @@ module _ (ns : List Node) (i : ℕ) (h : i < length ns) where
       (subst (λ (k : ℕ). Wrote ns t₁ t₁ (i + 1) (inside + length value) k (inside + length value)) (sym n) (wrote-none ns t₁ (i + 1) (inside + length value)))
       (omega arith) y (omega arith)
 
-pub wrote-all : {ns : List Node} {t t₁ : List ℕ} {n at : ℕ} → Wrote ns t t₁ 0 0 n at → n ≡ length ns → (at ≡ sizeOf ns) × Put t t₁ 0 (writtenOf ns)
-unfolding sizeOf writtenOf
+pub wrote-all : {ns : List Node} {t t₁ : List ℕ} {n at : ℕ} → Wrote ns t t₁ 0 0 n at → n ≡ length ns → (at ≡ writtenSize ns) × Put t t₁ 0 (writtenOf ns)
+unfolding writtenSize writtenOf
 wrote-all {ns} {t} {t₁} {n} {at} w e =
     let d : drop n ns ≡ drop (length ns) ns = ap (λ (k : ℕ). drop k ns) e in
     let o : length ns ≤ length ns = omega arith in
     let z : drop n ns ≡ [] = d ∙ drop-of-length-le ns o in
-    let s : sizeOf (drop n ns) ≡ 0 = ap sizeOf z in
+    let s : writtenSize (drop n ns) ≡ 0 = ap writtenSize z in
     (omega (arith, w .place), record { is = ap (λ (l : List Node). sets t₁ at (writtenOf l)) (sym z) ∙ w .rest; kept = w .kept })
 
 -- ---- The loop: what stands so far, and what a turn needs
@@ -112,7 +112,7 @@ module _ (s : List ℕ) {target₀ target : List ℕ} {from start to i at : ℕ}
   turn-known = omega (arith, f .high)
 
   pub turn-room : {vr : ℕ} {value : List ℕ} → vr ≡ nodeAt (nodesOf s) i .vr → value ≡ nodeAt (nodesOf s) i .value
-      → at + headSize vr + length value + sizeOf (drop (i + 1) (nodesOf s)) ≤ length target
+      → at + headSize vr + length value + writtenSize (drop (i + 1) (nodesOf s)) ≤ length target
   turn-room {vr} {value} a b =
       omega (arith, f .room, g .wrote .place, g .wrote .kept, size-next (nodesOf s) i turn-known, own-is (nodesOf s) i a b)
 
@@ -134,7 +134,7 @@ module _ (s : List ℕ) {target₀ target : List ℕ} {from start to i at : ℕ}
   turn-end {target₁} {target₂} {p} {next} {end} e w =
       let d : drop next (nodesOf s) ≡ drop (nodeAt (nodesOf s) i .descendants) (drop (i + 1) (nodesOf s)) =
       ap (λ (k : ℕ). drop k (nodesOf s)) e ∙ sym (drop-drop (nodeAt (nodesOf s) i .descendants) (i + 1) (nodesOf s)) in
-      let z : sizeOf (drop next (nodesOf s)) ≡ sizeOf (drop (nodeAt (nodesOf s) i .descendants) (drop (i + 1) (nodesOf s))) = ap sizeOf d in
+      let z : writtenSize (drop next (nodesOf s)) ≡ writtenSize (drop (nodeAt (nodesOf s) i .descendants) (drop (i + 1) (nodesOf s))) = ap writtenSize d in
       omega (arith, w .place, size-split (nodeAt (nodesOf s) i .descendants) (drop (i + 1) (nodesOf s)))
 
   pub going-next : {target₁ : List ℕ} {next end : ℕ} → next ≡ nextNode (nodesOf s) i → Wrote (nodesOf s) target target₁ i at next end

@@ -1,26 +1,26 @@
 -- From a reading to a shape: what each header that is no refusal says, then level by level.
-use mathlib.Core.Path.{_≡_, refl, sym, ap, _∙_, subst}
+use mathlib.Core.Path.{_≡_, refl, sym, _∙_, subst}
 use mathlib.Core.Bool.{Bool, true, false, cond}
-use Prim.Native.Nat.{ℕ, zero, suc, _+_, _-_, _*_, _/_, _%_, _≤_, _<_}
+use Prim.Native.Nat.{ℕ, zero, suc, _+_, _-_, _/_, _%_, _≤_, _<_}
 use native.Mathlib.Omega.{arith}
-use borrow.Author.Tests.{eqb-true, eqb-false, ltb-true, ltb-false, ne-eqb, eq-eqb}
+use borrow.Author.Tests.{eqb-true, eqb-false, ltb-false, ne-eqb}
 use lib.Dec.{eqb, ltb}
 use mathlib.Core.List.{List, [], _∷_, _++_, map, append-assoc, append-nil, map-append}
-use lib.ListN.{length, getD, take, drop, length-append, length-take, length-drop, length-map}
-use lib.Seq.{getD-drop, getD-take}
+use lib.ListN.{length, take, drop, length-append, length-take, length-drop, length-map}
+use lib.Seq.{getD-drop}
 use Rattle.dataset.specs.declared.Cursor.{Cursor}
 use Rattle.dataset.specs.declared.Head.{Head}
 use Rattle.dataset.specs.declared.Head.the-variants as head
 use Rattle.dataset.specs.Bytes.{le16, le32, tagAt, vrAt}
 use Rattle.dataset.specs.Vr.{formOf, SQ}
-use Rattle.dataset.specs.Header.{when, undefined, itemTag, cursor, moved, headerBy, delimiterBy, levelBy, definedBy, longBy, typedAt, taggedAt, sizedBy, memberAt, elementAt, itemAt}
-use Rattle.dataset.specs.Reading.{Row, row, Run, done, refused, onHead, onRun, level, valueAt, elementsAt, itemsAt, largest, Reading, tooLarge, refusedAt, read, whole, readingOf}
-use Rattle.dataset.specs.Tree.{Kind, elements, items, rowsOf}
+use Rattle.dataset.specs.Header.{when, itemTag, cursor, moved, headerBy, delimiterBy, levelBy, definedBy, longBy, typedAt, taggedAt, sizedBy, memberAt, elementAt, itemAt}
+use Rattle.dataset.specs.Reading.{Row, row, Run, done, refused, onHead, onRun, level, valueRun, elementsAt, itemsAt, largest, Reading, tooLarge, refusedAt, read, whole, readingOf}
+use Rattle.dataset.specs.Tree.{Kind, elements, items}
 use Rattle.dataset.proofs.Level.{value-plain}
-use Rattle.node.specs.Nodes.{Node, nodeOf, nodesOf, holdsNodes}
+use Rattle.node.specs.Nodes.{nodeOf, holdsNodes}
 use Rattle.canonical.specs.Written.{Bytes, header, headSize}
 use Rattle.canonical.proofs.Back.{value-sq}
-use Rattle.canonical.proofs.Shape.{Tag, Leaf, Shape, none, leaf, sequence, item, node, Form, no, short, long, form, vr-not-0, length-header, head-short, head-long, sq-long, item-short}
+use Rattle.canonical.proofs.Shape.{Tag, Leaf, Shape, none, leaf, sequence, item, node, Form, no, short, long, form, vr-not-0, length-header, head-short, head-long, item-short}
 
 -- ---- What a header says
 
@@ -362,12 +362,12 @@ module _ (s : List ℕ) where
 
     value-grows : (levels : ℕ) → Deeper levels → (c : Cursor) (least : ℕ) → c .end ≤ length s
         → (tag vr : ℕ) (v : Cursor) → Element c least levels tag vr v → (t : Bool) → eqb vr SQ ≡ t
-        → (first n stop next : ℕ) (below : List Row) → valueAt levels s n vr v ≡ done stop next below
+        → (first n stop next : ℕ) (below : List Row) → valueRun levels s n vr v ≡ done stop next below
         → Grown s elements levels least (c .at) (c .end) tag (row tag vr (8 - levels) (v .at) (stop - v .at) (length below) first ∷ below) next
     value-grows zero deeper c least room tag vr v g true q first n stop next below e = absurd (g .deep (eqb-true vr SQ q) refl)
     value-grows (suc levels) deeper c least room tag vr v g true q first n stop next below e =
         let z : vr ≡ SQ = eqb-true vr SQ q in
-        subst (λ (x : ℕ). Element c least (suc levels) tag x v → valueAt (suc levels) s n x v ≡ done stop next below
+        subst (λ (x : ℕ). Element c least (suc levels) tag x v → valueRun (suc levels) s n x v ≡ done stop next below
         → Grown s elements (suc levels) least (c .at) (c .end) tag (row tag x (8 - suc levels) (v .at) (stop - v .at) (length below) first ∷ below) next) (sym z)
         (λ g e. sequence-grows c least levels tag first v g stop next below
         (done-of items levels 0 (v .at) (v .end) [] (itemsAt levels s n v) (deeper n v (omega (arith, g .high))) stop next below (sym (value-sq levels s n v) ∙ e))) g e
@@ -380,7 +380,7 @@ module _ (s : List ℕ) where
         rw (a, b, l) (leaf-grows c least levels tag vr first v g room plain)
 
     element-grows : (levels : ℕ) → Deeper levels → (c : Cursor) (least : ℕ) → c .end ≤ length s → (h : Head) → Says elements least levels c h
-        → Grows s elements levels least (c .at) (c .end) h (valueAt levels s)
+        → Grows s elements levels least (c .at) (c .end) h (valueRun levels s)
     element-grows levels deeper c least room (head.Refused code) g = tt
     element-grows levels deeper c least room (head.End tag vr next) g = g
     element-grows levels deeper c least room (head.Header tag vr v) g = value-grows levels deeper c least room tag vr v g (eqb vr SQ) refl
@@ -404,7 +404,7 @@ module _ (s : List ℕ) where
 
     elements-make-by : (levels : ℕ) → Deeper levels → (first : ℕ) (c : Cursor) → c .end ≤ length s → Makes s elements levels 0 (c .at) (c .end) [] (elementsAt levels s first c)
     elements-make-by levels deeper first c room =
-        level-makes s elements levels (c .end) first (λ at least. elementAt s (moved c at) least levels) (valueAt levels s)
+        level-makes s elements levels (c .end) first (λ at least. elementAt s (moved c at) least levels) (valueRun levels s)
         (λ at least. element-grows levels deeper (moved c at) least room (elementAt s (moved c at) least levels) (element-says s bytes (moved c at) least levels))
         (length s + 1) (c .at) 0 []
 

@@ -1,11 +1,11 @@
 -- What a reading knows of the nodes of one container, and their bytes with defined lengths, built together: the tree that
 -- the flat list of nodes stands for. Every law of writing is an induction over it.
-use mathlib.Core.Path.{_≡_, refl, sym, ap, _∙_, subst}
+use mathlib.Core.Path.{_≡_, refl, sym, ap, _∙_}
 use mathlib.Core.Bool.{Bool, true, false, cond}
-use Prim.Native.Nat.{ℕ, zero, suc, _+_, _-_, _*_, _/_, _%_, _≤_, _<_}
+use Prim.Native.Nat.{ℕ, zero, suc, _+_, _-_, _/_, _%_, _≤_, _<_}
 use native.Mathlib.Omega.{arith}
 use native.Mathlib.Nat.{zero-add, add-zero}
-use borrow.Author.Tests.{eqb-true, eqb-false}
+use borrow.Author.Tests.{eqb-true}
 use lib.Dec.{eqb}
 use mathlib.Core.List.{List, [], _∷_, _++_, append-assoc, append-nil}
 use lib.ListN.{length, take, length-append}
@@ -14,7 +14,7 @@ use Rattle.dataset.specs.Vr.{formOf, listed, SQ}
 use Rattle.dataset.specs.Header.{itemTag}
 use Rattle.dataset.specs.Tree.{Kind, elements, items}
 use Rattle.node.specs.Nodes.{Node}
-use Rattle.canonical.specs.Written.{Bytes, le, letters, lengthOf, header, headSize, ownSize, sizeOf, nodeBytes, writtenOf}
+use Rattle.canonical.specs.Written.{Bytes, le, letters, lengthOf, header, headSize, ownSize, writtenSize, nodeBytes, writtenOf}
 
 -- A tag of 32 bits that is no item's and no end mark's.
 pub record Tag (tag : ℕ) : Type 0 where
@@ -104,13 +104,13 @@ length-header tag vr size = go (eqb vr 0) refl (eqb (formOf vr) 2) refl
 
 -- ---- The bytes are those of the definition
 
-size-append : (ns ms : List Node) → sizeOf (ns ++ ms) ≡ sizeOf ns + sizeOf ms
-unfolding sizeOf ownSize
+size-append : (ns ms : List Node) → writtenSize (ns ++ ms) ≡ writtenSize ns + writtenSize ms
+unfolding writtenSize ownSize
 size-append [] ms = omega arith
 size-append (n ∷ ns) ms = omega (arith, size-append ns ms)
 
-pub shape-size : {kind : Kind} {levels least : ℕ} {ns : List Node} {bs : List ℕ} → Shape kind levels least ns bs → sizeOf ns ≡ length bs
-unfolding sizeOf ownSize
+pub shape-size : {kind : Kind} {levels least : ℕ} {ns : List Node} {bs : List ℕ} → Shape kind levels least ns bs → writtenSize ns ≡ length bs
+unfolding writtenSize ownSize
 shape-size none = refl
 shape-size (leaf {tag = tag} {vr = vr} {value = value} {rest = rest} {after = after} l r) =
     simp (length-append, length-header) (omega (arith, shape-size r))
@@ -120,9 +120,9 @@ shape-size (item {below = below} {rest = rest} {inner = inner} {after = after} b
     simp (length-append, length-header, size-append) (omega (arith, shape-size b, shape-size r))
 
 -- A container in front of what follows it.
-container-written : (tag vr : ℕ) (below rest more : List Node) (inner after : List ℕ) → sizeOf below ≡ length inner
+container-written : (tag vr : ℕ) (below rest more : List Node) (inner after : List ℕ) → writtenSize below ≡ length inner
     → writtenOf (below ++ (rest ++ more)) ≡ inner ++ writtenOf (rest ++ more) → writtenOf (rest ++ more) ≡ after ++ writtenOf more
-    → header tag vr (0 + sizeOf (take (length below) (below ++ rest ++ more))) ++ [] ++ writtenOf (below ++ rest ++ more)
+    → header tag vr (0 + writtenSize (take (length below) (below ++ rest ++ more))) ++ [] ++ writtenOf (below ++ rest ++ more)
     ≡ header tag vr (length inner) ++ (inner ++ after) ++ writtenOf more
 container-written tag vr below rest more inner after p q r =
     rw (append-assoc below rest more, take-append-seam below (rest ++ more), zero-add, p, q, r) (simp (append-assoc, append-nil))
@@ -130,7 +130,7 @@ container-written tag vr below rest more inner after p q r =
 -- Whatever nodes follow, the bytes of these stand in front.
 pub shape-written : {kind : Kind} {levels least : ℕ} {ns : List Node} {bs : List ℕ} → Shape kind levels least ns bs
     → (more : List Node) → writtenOf (ns ++ more) ≡ bs ++ writtenOf more
-unfolding writtenOf nodeBytes sizeOf
+unfolding writtenOf nodeBytes writtenSize
 shape-written none more = refl
 shape-written (leaf {tag = tag} {vr = vr} {value = value} {rest = rest} {after = after} l r) more =
     rw (shape-written r more, add-zero) (simp append-assoc)

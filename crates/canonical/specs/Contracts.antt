@@ -4,15 +4,16 @@ use Prim.Native.Nat.{ℕ, _+_, _≤_, _<_}
 use mathlib.Core.List.{List}
 use lib.ListN.{length, drop}
 use lib.Seq.{sets}
+use Rattle.dataset.specs.Reading.{largest}
 use Rattle.node.specs.Nodes.{Node, nodesOf, nextNode}
-use Rattle.node.specs.Table.{Table}
-use Rattle.canonical.specs.Written.{sizeOf, writtenOf}
+use Rattle.node.specs.Contracts.{Table}
+use Rattle.canonical.specs.Written.{writtenSize, writtenOf}
 
 -- The row table of a data set that was read. Its nodes take no more bytes than it has, nor than is read.
 pub record Sized (s rows : List ℕ) : Type 0 where
   pub table : Table s rows
-  pub fits : sizeOf (nodesOf s) ≤ length s
-  pub small : sizeOf (nodesOf s) ≤ 1073741824
+  pub fits : writtenSize (nodesOf s) ≤ length s
+  pub small : writtenSize (nodesOf s) ≤ largest
 
 -- The bytes stand at `at`, and nothing else is changed.
 pub record Put (before after : List ℕ) (at : ℕ) (bytes : List ℕ) : Type 0 where
@@ -24,10 +25,10 @@ pub record Fitting (ns : List Node) (target : List ℕ) (from to start : ℕ) : 
   pub low : from ≤ to
   pub high : to ≤ length ns
   pub whole : (k : ℕ) → from ≤ k → k < to → nextNode ns k ≤ to
-  pub room : start + sizeOf (drop from ns) ≤ length target
+  pub room : start + writtenSize (drop from ns) ≤ length target
 
 -- The nodes from `from` up to `to` stand from `start` on, and the next one goes to `at`: once the rest is put there, all from `from` on stands.
 pub record Wrote (ns : List Node) (before after : List ℕ) (from start to at : ℕ) : Type 0 where
-  pub place : at + sizeOf (drop to ns) ≡ start + sizeOf (drop from ns)
+  pub place : at + writtenSize (drop to ns) ≡ start + writtenSize (drop from ns)
   pub kept : length after ≡ length before
   pub rest : sets after at (writtenOf (drop to ns)) ≡ sets before start (writtenOf (drop from ns))

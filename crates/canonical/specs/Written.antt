@@ -43,14 +43,14 @@ unfoldable pub ownSize : Node → ℕ
 ownSize n = headSize (n .vr) + length (n .value)
 
 -- The bytes that nodes take together.
-unfoldable pub sizeOf : List Node → ℕ
-sizeOf [] = 0
-sizeOf (n ∷ ns) = ownSize n + sizeOf ns
+unfoldable pub writtenSize : List Node → ℕ
+writtenSize [] = 0
+writtenSize (n ∷ ns) = ownSize n + writtenSize ns
 
 -- A node's header and value; `after` are the nodes that follow it, of which the first stand below it. The length in its header is its
 -- value's and that of all nodes below it: one of the two is 0.
 unfoldable pub nodeBytes : Node → List Node → List ℕ
-nodeBytes n after = header (n .tag) (n .vr) (length (n .value) + sizeOf (take (n .descendants) after)) ++ n .value
+nodeBytes n after = header (n .tag) (n .vr) (length (n .value) + writtenSize (take (n .descendants) after)) ++ n .value
 
 -- The canonical form: node after node. Nothing else is written, so no end mark is.
 unfoldable pub writtenOf : List Node → List ℕ

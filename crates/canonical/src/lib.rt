@@ -1,19 +1,17 @@
 // The canonical form of a data set: defined lengths throughout and no end marks. specs/Written.antt says what is written; `write_canonical`,
 // at the end, is the public call.
 ghost use mathlib.Core.Path.{_≡_};
-ghost use mathlib.Core.List.{_++_};
 ghost use Prim.Native.Nat.{_+_, _-_, _≤_, _<_};
-ghost use lib.ListN.{length, take, drop};
+ghost use lib.ListN.{length};
 ghost use lib.Seq.{slice};
 ghost use lib.Dec.{ltb};
-ghost use Rattle.dataset.specs.Reading.{readingOf};
+ghost use Rattle.dataset.specs.Reading.{largest, readingOf};
 ghost use Rattle.dataset.specs.Fields.{Answers};
 ghost use Rattle.dataset.specs.Answer.{bufferOf};
-ghost use Rattle.node.specs.Nodes.{Node, nodesOf, nodeAt};
-ghost use Rattle.node.specs.Table.{Table};
+ghost use Rattle.node.specs.Nodes.{nodesOf, nodeAt};
 ghost use Rattle.canonical.specs.Contracts.{Put, Sized, Fitting, Wrote};
 ghost use Rattle.canonical.specs.Answer.{canonicalOf, targetOf, fieldsOf};
-ghost use Rattle.canonical.specs.Written.{Bytes, le, letters, lengthOf, header, headSize, ownSize, sizeOf, nodeBytes, writtenOf};
+ghost use Rattle.canonical.specs.Written.{Bytes, le, letters, lengthOf, header, headSize, ownSize, writtenSize};
 use dataset::ReadAnswer;
 
 // ---- Bytes into the target
@@ -103,7 +101,7 @@ fn own_size(bytes: &[u8], rows: &[u32], i: usize) -> usize
 // The bytes that the nodes from `from` up to `to` take together.
 fn span(bytes: &[u8], rows: &[u32], from: usize, to: usize) -> usize
     requires { ⌜ Sized (now bytes) (now rows) × ((from ≤ to) × (to ≤ length (nodesOf (now bytes)))) ⌝ }
-    ensures { λ r. ⌜ (r ≡ sizeOf (slice from to (nodesOf (now (bytes .entry))))) × (r ≤ 1073741824) ⌝ }
+    ensures { λ r. ⌜ (r ≡ writtenSize (slice from to (nodesOf (now (bytes .entry))))) × (r ≤ largest) ⌝ }
 {
     let mut sum: usize = 0;
     let mut i = from;
@@ -118,7 +116,7 @@ fn span(bytes: &[u8], rows: &[u32], from: usize, to: usize) -> usize
 // only for a target that is shorter than the data set.
 fn lacks_room(bytes: &[u8], rows: &[u32], room: usize) -> bool
     requires { ⌜ Sized (now bytes) (now rows) ⌝ }
-    ensures { λ r. ⌜ r ≡ ltb room (sizeOf (nodesOf (now (bytes .entry)))) ⌝ }
+    ensures { λ r. ⌜ r ≡ ltb room (writtenSize (nodesOf (now (bytes .entry)))) ⌝ }
 {
     if bytes.len() <= room {
         false

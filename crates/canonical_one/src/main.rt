@@ -1,33 +1,18 @@
 // Writes the canonical form of the data set on standard input to standard output. A refusal is said on standard error, and so is that
 // the input is too long.
 use canonical::CanonicalAnswer;
+use room::input;
+use room::row_buffer;
 ghost use mathlib.Core.Path.{_≡_};
 ghost use Prim.Native.Nat.{_*_, _≤_};
 ghost use lib.ListN.{length};
+ghost use Rattle.dataset.specs.Answer.{width};
 ghost use Rattle.canonical.specs.Answer.{canonicalOf, targetOf};
-ghost use Rattle.canonical_one.specs.Roomy.{Held, Roomy};
-
-// The most bytes that are taken.
-const MOST: usize = 65_536;
-
-// One byte more than is taken, so that an input that is too long is seen to be.
-fn input() -> [u8; 65_537]
-    ensures { λ r. ⌜ 65537 ≡ length r ⌝ }
-{
-    [0; 65_537]
-}
-
-// Room for the rows of a data set of that size, since a row has at least 8 bytes. A function of its own gives the
-// length, so that no proof computes it from the array.
-fn row_buffer() -> [u32; 57_344]
-    ensures { λ r. ⌜ 57344 ≡ length r ⌝ }
-{
-    [0; 57_344]
-}
+ghost use Rattle.canonical_one.specs.Contracts.{Held, Roomy};
 
 // Writes the canonical form, with room for seven numbers for each 8 bytes and a target as long as the data set: both suffice.
 fn write_roomy(bytes: &[u8], rows: &mut [u32], target: &mut [u8]) -> CanonicalAnswer
-    requires { ⌜ (7 * length (now bytes) ≤ 8 * length (now rows)) × (length (now bytes) ≤ length (now target)) ⌝ }
+    requires { ⌜ (width * length (now bytes) ≤ 8 * length (now rows)) × (length (now bytes) ≤ length (now target)) ⌝ }
     ensures { λ r. ⌜ r ≡ canonicalOf (now (bytes .entry)) (now (rows .entry)) (now (target .entry)) ⌝ }
     ensures { λ _. ⌜ now (target .exit) ≡ targetOf (now (bytes .entry)) (now (rows .entry)) (now (target .entry)) ⌝ }
     ensures { λ r. ⌜ Held r (now (target .exit)) ⌝ }
@@ -81,7 +66,7 @@ fn write_form(bytes: &[u8])
 fn main() {
     let mut bytes = input();
     let n = io::read_full(0, &mut bytes);
-    if MOST < n {
+    if room::MOST < n {
         io::write_all(2, b"too long: at most 65536 bytes\n");
         return;
     }

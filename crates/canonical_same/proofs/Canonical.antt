@@ -1,24 +1,24 @@
 -- The canonical form has the nodes of its data set, and rules and drawing steps see nodes alone. A row's parent is the innermost row that counts it
 -- among its rows below, so it follows from the rows below.
-use mathlib.Core.Path.{_≡_, refl, sym, ap, _∙_, subst}
+use mathlib.Core.Path.{_≡_, refl, sym, ap, _∙_}
 use mathlib.Core.Bool.{Bool, true, false, cond, _||_}
-use mathlib.Core.Logic.{_⊎_, inl, inr}
-use mathlib.Core.List.{List, [], _++_}
-use Prim.Native.Nat.{ℕ, suc, _+_, _≤_, _<_}
+use mathlib.Core.Logic.{inl, inr}
+use mathlib.Core.List.{List, []}
+use Prim.Native.Nat.{ℕ, suc, _+_, _<_}
 use native.Mathlib.Omega.{arith}
-use lib.ListN.{length, length-map, take, drop}
+use lib.ListN.{length, length-map}
 use lib.Seq.{ext-getD}
 use lib.Dec.{eqb, leb, ltb}
-use borrow.Author.Tests.{le-leb, lt-leb, leb-true, leb-false, ltb-true, ltb-false, eqb-true, eqb-false, ne-eqb}
+use borrow.Author.Tests.{le-leb, lt-leb, leb-false, ltb-true, ltb-false, eqb-false, ne-eqb}
 use Rattle.dataset.specs.Vr.{SQ}
-use Rattle.dataset.specs.Reading.{Row, read, readingOf}
+use Rattle.dataset.specs.Reading.{Row, readingOf}
 use Rattle.dataset.specs.Answer as reading
 use Rattle.dataset.specs.declared.ReadAnswer.{ReadAnswer}
 use Rattle.dataset.specs.declared.ReadAnswer.the-variants as read-answer
 use Rattle.dataset.specs.Tree.{rowsOf, rowAt, nextRow, elements}
 use Rattle.dataset.proofs.Laws.{Small, answer-small}
 use Rattle.dataset.proofs.Tree.{rows-members}
-use Rattle.dataset.proofs.Parents.{Innermost, Outermost, Placed, placed}
+use Rattle.dataset.proofs.Parents.{Innermost, Placed, placed}
 use Rattle.node.specs.Nodes.{Node, nodeOf, nodesOf, nodeAt, noNode}
 use Rattle.node.proofs.Laws.{table, nodes-count, node-is}
 use Rattle.conformance.specs.Judging.{judgeOf}
@@ -28,10 +28,9 @@ use Rattle.sheet.specs.Answer.{sheetOf}
 use Rattle.compare.specs.Answer.{compareOf}
 use Rattle.canonical.specs.Written.{writtenOf}
 use Rattle.canonical.specs.Answer.{answerFor, targetBy, canonicalOf, targetOf, fieldsOf}
-use Rattle.canonical.specs.declared.CanonicalAnswer.{CanonicalAnswer}
 use Rattle.canonical.specs.declared.CanonicalAnswer.the-variants as canonical
 use Rattle.canonical.proofs.Theorems.{written-returns}
-use Rattle.canonical_same.specs.Canonical.{canonicalForm, ReadsWell, rowOf, valueOf, AgreeAt, Agree, Alike, Written, Answered, Canonical}
+use Rattle.canonical_same.specs.Canonical.{canonicalForm, ReadsWell, rowOf, valueOf, AgreeAt, Agree, Alike, Answered, Canonical}
 
 -- ---- The same nodes: judged and drawn alike
 

@@ -1,25 +1,22 @@
 -- Which answer an accepted object gets: codes 10, 22 and 23 where their tests say so, and else yes or no.
-use mathlib.Core.Path.{_≡_, refl, sym, ap, _∙_}
-use mathlib.Core.Bool.{Bool, true, false, cond, _&&_}
+use mathlib.Core.Path.{_≡_, sym, ap, _∙_}
+use mathlib.Core.Bool.{Bool}
 use mathlib.Core.List.{List}
 use Prim.Native.Nat.{ℕ, _≤_, _<_}
-use native.Mathlib.Omega.{arith}
 use lib.ListN.{length}
-use lib.Dec.{leb, eqb}
 use borrow.Author.Tests.{le-leb, lt-leb, eq-eqb, ne-eqb}
 use Rattle.value.specs.declared.Num.the-variants.{Is, Lacks}
 use Rattle.node.specs.Nodes.{Node, nodesOf}
 use Rattle.element.specs.Frames.{framesOf}
 use Rattle.conformance.specs.Judging.{judgeOf}
 use Rattle.conformance.specs.declared.JudgeAnswer.{JudgeAnswer}
-use Rattle.display.specs.Show.{isFrameOf, imageSize, pictureOf}
+use Rattle.display.specs.Show.{imageSize, pictureOf}
 use Rattle.display.proofs.Answers.{none-frame, high-frame, low-frame}
 use Rattle.compare.specs.declared.Differing.{Differing}
-use Rattle.compare.specs.declared.CompareAnswer.{CompareAnswer}
 use Rattle.compare.specs.declared.CompareAnswer.the-variants as answer
 use Rattle.compare.specs.Differences.{isOff, howMany, firstOff}
 use Rattle.compare.specs.Answer.{comparedBy, acceptedAnswer, answerFor, compareOf}
-use Rattle.compare.specs.Said.{along, nothing}
+use Rattle.compare.specs.Contracts.{along, nothing}
 use Rattle.compare.proofs.Places.{seen-all}
 
 -- What `compare` answers, by what the judge answered.

@@ -1,16 +1,15 @@
 -- What is promised of comparing: the first place that is off and the count follow by induction over the places, and the codes from
 -- the tests of the answer.
 use mathlib.Core.Path.{_≡_, refl, sym, ap, _∙_, subst}
-use mathlib.Core.Bool.{Bool, true, false, cond, not, _&&_}
+use mathlib.Core.Bool.{Bool, true, false, cond, _&&_}
 use mathlib.Core.List.{List, _++_}
 use mathlib.Core.Option.{Option, some}
-use Prim.Native.Nat.{ℕ, zero, suc, _+_, _*_, _≤_, _<_}
+use Prim.Native.Nat.{ℕ, zero, suc, _+_, _≤_, _<_}
 use native.Mathlib.Omega.{arith}
 use lib.ListN.{length, getD, take, drop}
 use lib.Seq.{take-append-seam}
 use lib.Dec.{leb, eqb}
 use borrow.Author.Tests.{le-leb, leb-true, leb-false, eq-eqb, eqb-true, eqb-false, not-false}
-use Rattle.dataset.specs.Answer.{width}
 use Rattle.dataset.specs.Tree.{rowsOf}
 use Rattle.node.specs.Nodes.{nodesOf}
 use Rattle.element.specs.Frames.{framesOf}
@@ -18,14 +17,14 @@ use Rattle.conformance.specs.Judging.{numberOf}
 use Rattle.steps.specs.Steps.{Picture}
 use Rattle.display.specs.Show as show
 use Rattle.display.specs.Show.{isFrameOf, imageSize, pictureIn, pictureOf, showOf, imageOf}
-use Rattle.display.specs.Drawing.{Bytes, IsAccepted, IsFrame, Whole}
+use Rattle.display.specs.Drawing.{Bytes, IsFrame, Whole}
 use Rattle.display.proofs.Codes.{was-frame, judged-accepted, was-judged}
 use Rattle.display.proofs.Drawing.{drawing}
 use Rattle.compare.specs.declared.CompareAnswer.{CompareAnswer}
 use Rattle.compare.specs.declared.CompareAnswer.the-variants as answer
 use Rattle.compare.specs.Differences.{within, isOff, howMany, firstOff}
 use Rattle.compare.specs.Answer.{comparedBy, acceptedAnswer, answerFor, compareOf, fieldsOf}
-use Rattle.compare.specs.Comparing.{Comparable, Near, Names, Promise, Own, Comparing}
+use Rattle.compare.specs.Comparing.{Comparable, Near, Names, Own, Comparing}
 
 -- ---- Places
 

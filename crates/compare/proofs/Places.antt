@@ -1,6 +1,6 @@
 -- Cells that are off, place by place and line by line: what was seen of the first lines, gone on with, comes to what is seen of all.
 use mathlib.Core.Path.{_≡_, refl, sym, ap, _∙_, subst}
-use mathlib.Core.Bool.{Bool, true, false, cond, not, _&&_, and-false}
+use mathlib.Core.Bool.{Bool, true, false, cond, not, _&&_}
 use mathlib.Core.List.{List}
 use Prim.Native.Nat.{ℕ, zero, suc, _+_, _*_, _≤_, _<_}
 use native.Mathlib.Nat.{add-zero, add-suc, mul-le-mul, mul-le-mul-right}
@@ -8,11 +8,11 @@ use native.Mathlib.Omega.{arith}
 use lib.ListN.{length, getD}
 use lib.Dec.{leb, ltb, eqb}
 use borrow.Author.Tests.{le-leb, lt-leb, lt-ltb, le-ltb, eq-eqb, ne-eqb, leb-true, leb-false}
-use Rattle.lines.specs.Lines.{upTo}
+use Rattle.lines.specs.Contracts.{upTo}
 use Rattle.lines.proofs.Lists.{upTo-length, upTo-at}
 use Rattle.compare.specs.declared.Differing.{Differing}
 use Rattle.compare.specs.Differences.{within, isOff, howMany, firstOff}
-use Rattle.compare.specs.Said.{seen, along, nothing, offBy, met, Against, LineOf}
+use Rattle.compare.specs.Contracts.{seen, along, nothing, offBy, met, Against, LineOf}
 
 -- ---- One cell
 

@@ -1,4 +1,4 @@
 pub mod Differences
 pub mod Answer
 pub mod Comparing
-pub mod Said
+pub mod Contracts

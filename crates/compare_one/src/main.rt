@@ -3,6 +3,9 @@
 // cell that is off and how many are; or the refusal, in a line.
 use argument::Decimal;
 use compare::CompareAnswer;
+use printing::print_broken;
+use printing::print_field;
+use printing::print_unread;
 ghost use mathlib.Core.Path.{_≡_};
 ghost use Prim.Native.Nat.{_≤_};
 ghost use lib.ListN.{length};
@@ -17,29 +20,9 @@ fn input() -> [u8; 131_073]
     [0; 131_073]
 }
 
-// A name and its number.
-fn print_field(name: &[u8], n: usize) {
-    io::write_all(1, name);
-    io::write_all(1, b" ");
-    io::print_decimal(1, n as u64);
-}
-
 fn print_no(first: usize, count: usize) {
     print_field(b"no first", first);
     print_field(b" count", count);
-    io::write_all(1, b"\n");
-}
-
-fn print_broken(rows: usize, rule: usize, frame: usize) {
-    print_field(b"code 9 rule", rule);
-    print_field(b" frame", frame);
-    print_field(b" rows", rows);
-    io::write_all(1, b"\n");
-}
-
-fn print_unread(code: usize, offset: usize) {
-    print_field(b"code", code);
-    print_field(b" place", offset);
     io::write_all(1, b"\n");
 }
 
@@ -77,7 +60,7 @@ fn compare_parts(bytes: &[u8], frame: u64, cells: &[u8], tolerance: u64)
 
 // Parts the input at the data set's end.
 fn compare_input(input: &[u8], frame: u64, tolerance: u64, size: usize) {
-    if judge_small::MOST < size {
+    if room::MOST < size {
         io::write_all(1, b"too long: a data set of at most 65536 bytes\n");
         return;
     }

@@ -6,7 +6,6 @@ use lib.ListN.{length}
 use Rattle.dataset.specs.Answer.{flat}
 use Rattle.dataset.specs.Tree.{rowsOf}
 use Rattle.node.specs.Nodes.{nodesOf}
-use Rattle.conformance.specs.declared.JudgeAnswer.{JudgeAnswer}
 use Rattle.judge_small.proofs.Room.{roomy}
 use Rattle.compare.specs.Answer.{answerFor, compareOf}
 

@@ -1,17 +1,10 @@
 // Comparing with a frame of a data set of at most 65,536 bytes with a row buffer of its own, for the program that compares.
 use compare::CompareAnswer;
+use room::row_buffer;
 ghost use mathlib.Core.Path.{_≡_};
 ghost use Prim.Native.Nat.{_≤_};
 ghost use lib.ListN.{length};
-ghost use Rattle.compare_small.specs.Roomy.{roomyCompare};
-
-// Room for the rows of a data set of that size, since a row has at least 8 bytes. A function of its own gives the
-// length, so that no proof computes it from the array.
-fn row_buffer() -> [u32; 57_344]
-    ensures { λ r. ⌜ 57344 ≡ length r ⌝ }
-{
-    [0; 57_344]
-}
+ghost use Rattle.compare_small.specs.Contracts.{roomyCompare};
 
 // What `compare` answers; never code 8.
 pub fn compare_small(bytes: &[u8], frame: u64, cells: &[u8], tolerance: u64) -> CompareAnswer

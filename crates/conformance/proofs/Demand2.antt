@@ -16,7 +16,7 @@ use Rattle.conformance.specs.declared.Finding.{Finding}
 use Rattle.conformance.specs.declared.Finding.the-variants as finding
 use Rattle.conformance.specs.declared.JudgeAnswer.the-variants as judged
 use Rattle.conformance.specs.Judging.{findingOf, withRows, judgeOf, fieldsOf}
-use Rattle.conformance.specs.Demand2.{Sound, Judged, Demand2}
+use Rattle.conformance.specs.Demand2.{Judged, Demand2}
 use Rattle.conformance.proofs.First.{accepted-holds, holds-accepted, broken-first}
 use Rattle.conformance.proofs.Possible.{judge-possible}
 

@@ -1,14 +1,13 @@
 -- A rule that is asked at each frame is what the code asks of the shared item and the frame's item; any other rule does
 -- not look at the frame.
 use mathlib.Core.Path.{_≡_, refl, sym, ap, _∙_, subst}
-use Prim.Native.Nat.{ℕ, zero, suc, _+_, _-_, _≤_, _<_}
+use Prim.Native.Nat.{ℕ, _-_, _≤_, _<_}
 use native.Mathlib.Omega.{arith}
-use mathlib.Core.List.{List, [], _∷_}
-use mathlib.Core.Bool.{Bool, true, false, cond, not, _&&_, _||_}
-use mathlib.Core.Logic.{_⊎_, inl, inr}
+use mathlib.Core.List.{List}
+use mathlib.Core.Bool.{Bool, true, false, not, _&&_, _||_}
 use lib.ListN.{drop}
 use lib.Dec.{eqb, leb}
-use borrow.Author.Tests.{le-leb, eq-eqb, ne-eqb, eqb-true, eqb-false, leb-true, leb-false}
+use borrow.Author.Tests.{le-leb, eqb-true, eqb-false, leb-true}
 use Rattle.value.specs.declared.Num.{Num}
 use Rattle.value.specs.declared.Num.the-variants.{Is, Lacks}
 use Rattle.verdict.specs.Verdict.{perFrame}
@@ -18,13 +17,13 @@ use Rattle.node.proofs.Walks.{members-end, members-next}
 use Rattle.element.specs.declared.Items.{Items}
 use Rattle.element.specs.Tags
 use Rattle.element.specs.Elements.{first, oneItem}
-use Rattle.element.specs.Along.{Along}
-use Rattle.element.specs.Frames.{sharedItem, frameItem, frameItems, groupOf}
+use Rattle.element.specs.Contracts.{Along}
+use Rattle.element.specs.Frames.{sharedItem, frameItem, frameItems}
 use Rattle.rules.specs.Frame.{atFrame, item27, item28, item29, item30, item37, rule27, rule28, rule29, rule30, rule37}
 use Rattle.rules.specs.Intensity.{isLutGroup, hasLinear, isLog, item39, rule39}
 use Rattle.rules.specs.All.{ruleList, ruleAt}
-use Rattle.intensity.specs.Grades.{grade, gradeOn, agree, relationOf, tableOf, relationIn, tableIn}
-use Rattle.rules_frame.specs.Parts.{groupTag, groupFits, groupIn, itemBy, itemGrades, itemRule}
+use Rattle.intensity.specs.Contracts.{grade, gradeOn, agree, relationOf, tableOf, relationIn, tableIn}
+use Rattle.rules_frame.specs.Contracts.{groupTag, groupFits, groupIn, itemBy, itemGrades, itemRule}
 
 true-not-false : true ≡ false → ⊥
 true-not-false w = let u : _≡_ {A = ℕ} 0 1 = cc in omega arith

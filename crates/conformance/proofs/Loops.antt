@@ -11,13 +11,13 @@ use borrow.Author.Tests.{le-leb, leb-true, leb-false, eqb-true, eqb-false}
 use Rattle.verdict.specs.Verdict.{lastRule, perFrame}
 use Rattle.node.specs.Nodes.{Node, members}
 use Rattle.element.specs.declared.Items.{Items}
-use Rattle.element.specs.Along.{Along}
+use Rattle.element.specs.Contracts.{Along}
 use Rattle.element.specs.Frames.{framesOf, frameItems}
 use Rattle.rules.specs.All.{ruleAt}
 use Rattle.conformance.specs.declared.Finding.{Finding}
 use Rattle.conformance.specs.declared.Finding.the-variants.{Accepted, Broken}
 use Rattle.conformance.specs.Judging.{numberOf, firstFrame, frameCount, lowest, firstBroken}
-use Rattle.conformance.specs.Parts.{endRule, endFrame, Asked}
+use Rattle.conformance.specs.Contracts.{endRule, endFrame, Asked}
 
 -- ---- Which rules are asked once
 

@@ -1,7 +1,7 @@
 -- Every answer of the judge is a possible verdict. A refusal's numbers are small, and a data set has few rows. A broken
 -- rule's frame is 0 where the rule is asked once; else it is 1 to N, and N is at most 65,535, since rule 15 stands before
 -- every rule that is asked at each frame and holds where a later one is named.
-use mathlib.Core.Path.{_≡_, refl, sym, subst}
+use mathlib.Core.Path.{_≡_, refl}
 use mathlib.Core.Bool.{Bool, true, false, cond, _&&_, _||_}
 use mathlib.Core.List.{List}
 use mathlib.Core.Logic.{⊎-elim}
@@ -13,11 +13,11 @@ use Rattle.dataset.specs.declared.ReadAnswer.{ReadAnswer}
 use Rattle.dataset.specs.declared.ReadAnswer.the-variants as read
 use Rattle.dataset.specs.Reading.{readingOf}
 use Rattle.dataset.specs.Answer.{answerOf}
-use Rattle.dataset.proofs.Laws.{answer-small}
-use Rattle.dataset.proofs.Laws.{Small as SmallAnswer}
+use Rattle.dataset.proofs.Laws.{answer-small, Small as SmallAnswer}
 use Rattle.value.specs.declared.Num.{Num}
 use Rattle.value.specs.declared.Num.the-variants.{Is, Lacks}
-use Rattle.verdict.specs.Verdict.{lastRule, lastFrame, perFrame, frameFits, mostRows, fieldsFit, countFits, possible, writable}
+use Rattle.dataset.specs.Reading.{mostRows}
+use Rattle.verdict.specs.Verdict.{lastRule, lastFrame, perFrame, frameFits, fieldsFit, countFits, possible, writable}
 use Rattle.verdict.proofs.Tests.{false-is-true, and-both, or-either}
 use Rattle.verdict.proofs.Bounds.{Small, possible-small}
 use Rattle.node.specs.Nodes.{Node, nodesOf}
@@ -27,7 +27,6 @@ use Rattle.rules.specs.Root.{rule15}
 use Rattle.rules.specs.All.{ruleList, ruleAt}
 use Rattle.conformance.specs.declared.Finding.{Finding}
 use Rattle.conformance.specs.declared.Finding.the-variants as finding
-use Rattle.conformance.specs.declared.JudgeAnswer.{JudgeAnswer}
 use Rattle.conformance.specs.Judging.{numberOf, firstFrame, frameCount, findingOf, answerFor, judgeOf, fieldsOf, verdictOf}
 use Rattle.conformance.specs.Possible.{JudgePossible}
 use Rattle.conformance.specs.Demand2.{Holds, Broke}

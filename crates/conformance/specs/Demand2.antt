@@ -6,7 +6,7 @@
 -- and is read back is that verdict, with its row count. A rule that is asked at each frame is asked at frames 1 to N, any other once,
 -- at frame 0. The proof stands in proofs/Demand2.
 use mathlib.Core.Path.{_≡_}
-use mathlib.Core.Bool.{Bool, true, false}
+use mathlib.Core.Bool.{true, false}
 use mathlib.Core.List.{List, _++_}
 use mathlib.Core.Logic.{_⊎_}
 use Prim.Native.Nat.{ℕ, _+_, _*_, _≤_, _<_}

@@ -2,11 +2,10 @@
 -- and what its row buffer then holds.
 use Prim.Native.Nat.{ℕ, zero, suc, _+_}
 use mathlib.Core.List.{List}
-use mathlib.Core.Bool.{Bool, cond}
-use lib.ListN.{length}
+use mathlib.Core.Bool.{cond}
 use Rattle.dataset.specs.Reading.{readingOf}
 use Rattle.dataset.specs.Fields.{Fields, codeAlone, placed, counted, broken}
-use Rattle.dataset.specs.Answer.{answerOf, bufferOf}
+use Rattle.dataset.specs.Answer.{answerOf}
 use Rattle.dataset.specs.declared.ReadAnswer.{ReadAnswer}
 use Rattle.dataset.specs.declared.ReadAnswer.the-variants as read
 use Rattle.value.specs.declared.Num.{Num}

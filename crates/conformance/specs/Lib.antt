@@ -1,4 +1,4 @@
 pub mod Judging
-pub mod Parts
+pub mod Contracts
 pub mod Possible
 pub mod Demand2

@@ -1,20 +1,20 @@
 // The judge: reads a data set afresh, and finds the first broken rule and at that rule the lowest frame.
 ghost use mathlib.Core.Path.{_≡_};
-ghost use Prim.Native.Nat.{ℕ, _+_, _-_, _*_, _≤_, _<_};
-ghost use mathlib.Core.Bool.{Bool, true, false};
+ghost use Prim.Native.Nat.{_+_, _-_, _*_, _≤_, _<_};
+ghost use mathlib.Core.Bool.{true, false};
 ghost use lib.ListN.{length, drop};
 ghost use Rattle.dataset.specs.Reading.{readingOf};
 ghost use Rattle.dataset.specs.Fields.{Answers};
 ghost use Rattle.dataset.specs.Answer.{bufferOf};
-ghost use Rattle.value.specs.Said.{Below};
+ghost use Rattle.value.specs.Contracts.{Below};
 ghost use Rattle.verdict.specs.Verdict.{lastRule, perFrame};
-ghost use Rattle.node.specs.Nodes.{nodesOf, members};
-ghost use Rattle.node.specs.Table.{Table};
+ghost use Rattle.node.specs.Nodes.{nodesOf};
+ghost use Rattle.node.specs.Contracts.{Table};
 ghost use Rattle.element.specs.Frames.{framesOf, sharedItem, frameItems};
-ghost use Rattle.element.specs.Along.{Along};
+ghost use Rattle.element.specs.Contracts.{Along};
 ghost use Rattle.rules.specs.All.{ruleAt};
 ghost use Rattle.conformance.specs.Judging.{numberOf, firstFrame, findingOf, judgeOf, verdictOf, fieldsOf};
-ghost use Rattle.conformance.specs.Parts.{noPart, okFor, Asked, endFrame};
+ghost use Rattle.conformance.specs.Contracts.{noPart, okFor, Asked, endFrame};
 use dataset::ReadAnswer;
 use element::Items;
 use rules_frame::SharedPart;
@@ -159,7 +159,7 @@ fn end_frame(rule: usize, n: usize) -> usize
 }
 
 // The first broken rule, and at that rule the lowest frame.
-pub fn first_broken(bytes: &[u8], rows: &[u32]) -> Finding
+fn first_broken(bytes: &[u8], rows: &[u32]) -> Finding
     requires { ⌜ Table (now bytes) (now rows) ⌝ }
     ensures { λ r. ⌜ r ≡ findingOf (nodesOf (now (bytes .entry))) ⌝ }
 {

@@ -10,7 +10,7 @@ use Rattle.dataset.specs.declared.Head.{Head}
 use Rattle.dataset.specs.declared.Head.the-variants as heads
 use Rattle.dataset.specs.Vr.{SQ}
 use Rattle.dataset.specs.Header.{moved, elementAt, itemAt}
-use Rattle.dataset.specs.Reading.{Row, row, Run, done, refused, onHead, onRun, level, depths, elementsBy, itemsBy, valueAt}
+use Rattle.dataset.specs.Reading.{Row, row, Run, done, refused, onHead, onRun, level, depths, elementsBy, itemsBy, valueRun}
 
 -- No row stands above depth d.
 abbrev pub Deep : ℕ → List Row → Type 0
@@ -49,13 +49,13 @@ level-deep head inside depth first (suc turns) at least rows d k inner h =
     by-head (heads.End tag vr next) go = h
     by-head (heads.Header tag vr v) go = by-run (inside (first + length rows + 1) vr v) tag vr v (inner (first + length rows + 1) vr v) go
 
-pub value-deep : (levels d : ℕ) → d ≤ 9 - levels → (s : List ℕ) (first vr : ℕ) (v : Cursor) → RunDeep d (valueAt levels s first vr v)
-unfolding valueAt
+pub value-deep : (levels d : ℕ) → d ≤ 9 - levels → (s : List ℕ) (first vr : ℕ) (v : Cursor) → RunDeep d (valueRun levels s first vr v)
+unfolding valueRun
 value-deep zero d k s first vr v = tt
 value-deep (suc levels) d k s first vr v =
-    by-vr (eqb vr SQ) (itemsBy (λ n c. elementsBy (valueAt levels s) levels s n c) levels s first v)
-    (level-deep (λ at least. itemAt s (moved v at)) (λ n _ c. elementsBy (valueAt levels s) levels s n c) (depths - levels) first (length s + 1) (v .at) 0 [] d (omega arith)
-    (λ n _ c. level-deep (λ at least. elementAt s (moved c at) least levels) (valueAt levels s) (depths - levels) n (length s + 1) (c .at) 0 [] d (omega arith)
+    by-vr (eqb vr SQ) (itemsBy (λ n c. elementsBy (valueRun levels s) levels s n c) levels s first v)
+    (level-deep (λ at least. itemAt s (moved v at)) (λ n _ c. elementsBy (valueRun levels s) levels s n c) (depths - levels) first (length s + 1) (v .at) 0 [] d (omega arith)
+    (λ n _ c. level-deep (λ at least. elementAt s (moved c at) least levels) (valueRun levels s) (depths - levels) n (length s + 1) (c .at) 0 [] d (omega arith)
     (λ m vr₁ w. value-deep levels d (omega arith) s m vr₁ w) tt)
     tt)
   where

@@ -14,7 +14,7 @@ use Rattle.dataset.specs.declared.ReadAnswer.the-variants as answer
 use Rattle.dataset.specs.Vr.{formOf, listed, SQ}
 use Rattle.dataset.specs.Reading.{Row, Reading, tooLarge, refusedAt, read, readingOf}
 use Rattle.dataset.specs.Answer.{flat, fits, answerOf}
-use Rattle.dataset.specs.Tree.{rowsOf, rowAt, nextRow, Kind, elements, items, Member, insideOf, depthInside, Members}
+use Rattle.dataset.specs.Tree.{rowsOf, rowAt, nextRow, Kind, elements, items, Member, kindInside, depthInside, Members}
 use Rattle.dataset.proofs.Tree.{Reads, reading-reads, rows-read, rows-members}
 
 -- ---- The numbers of an answer and of a buffer
@@ -57,7 +57,7 @@ members-low (Members.member h m b r) = omega arith
 pub record First (rows : List Row) (size : ℕ) (kind : Kind) (depth holder least i to : ℕ) : Type 0 where
   pub here : Member size kind depth holder least (rowAt rows i)
   pub fit : nextRow rows i ≤ to
-  pub below : Members rows size (insideOf kind) (depthInside kind depth) (i + 1) 0 (i + 1) (nextRow rows i)
+  pub below : Members rows size (kindInside kind) (depthInside kind depth) (i + 1) 0 (i + 1) (nextRow rows i)
   pub after : Members rows size kind depth holder (rowAt rows i .tag + 1) (nextRow rows i) to
 
 pub members-first : {rows : List Row} {size : ℕ} {kind : Kind} {depth holder least i to : ℕ} → Members rows size kind depth holder least i to → i < to

@@ -12,10 +12,10 @@ use mathlib.Core.List.{List}
 use lib.ListN.{length}
 use Rattle.dataset.specs.Vr.{SQ}
 use Rattle.dataset.specs.Reading.{Row}
-use Rattle.dataset.specs.Tree.{rowsOf, rowAt, nextRow, Kind, elements, items, Member, insideOf, depthInside, Members}
-use Rattle.dataset.specs.Parents.{parentOf, climb, Counts, Meets, Parented, Parents}
+use Rattle.dataset.specs.Tree.{rowsOf, rowAt, nextRow, Kind, elements, items, Member, kindInside, depthInside, Members}
+use Rattle.dataset.specs.Parents.{parentOf, climb, Counts, Meets, Parents}
 use Rattle.dataset.proofs.Tree.{rows-members}
-use Rattle.dataset.proofs.Laws.{IsElement, item-formless, row-found, row-nested, row-deep}
+use Rattle.dataset.proofs.Laws.{item-formless, row-found, row-nested, row-deep}
 
 -- ---- What stands around a row
 
@@ -33,7 +33,7 @@ abbrev Under : Row → Row → Type 0
 Under r q = ((r .vr ≡ 0) × ((q .vr ≡ SQ) × (r .depth ≡ q .depth + 1))) ⊎ ((r .vr ≡ 0 → ⊥) × ((q .vr ≡ 0) × (r .depth ≡ q .depth)))
 
 under : (size : ℕ) (kind : Kind) (depth holder least : ℕ) (r q : Row) → Member size kind depth holder least q → (q .descendants ≡ 0 → ⊥)
-    → Stands (insideOf kind) (depthInside kind depth) r → Under r q
+    → Stands (kindInside kind) (depthInside kind depth) r → Under r q
 under size elements depth holder least r q m n x = inl (x .0, (sequence (eqb (q .vr) SQ) refl, omega (arith, x .1, m .level)))
   where
     sequence : (t : Bool) → eqb (q .vr) SQ ≡ t → q .vr ≡ SQ
@@ -75,7 +75,7 @@ placed {rows} {size} (Members.member {kind} {depth} {holder} {least} {i = from} 
             let z : j ≡ from = omega (arith, ltb-false from j e) in
             omega (arith, ap (nextRow rows) z)
 
-    inner : from < i → i < nextRow rows from → Placed rows (insideOf kind) (depthInside kind depth) (from + 1) (from + 1) i → Placed rows kind depth holder from i
+    inner : from < i → i < nextRow rows from → Placed rows (kindInside kind) (depthInside kind depth) (from + 1) (from + 1) i → Placed rows kind depth holder from i
     inner u v (inl o) =
         inr (
           from,
@@ -100,7 +100,7 @@ placed {rows} {size} (Members.member {kind} {depth} {holder} {least} {i = from} 
         before j k l false e = o .least j (ltb-false j (nextRow rows from) e) l
     later u (inr (k, (l, x))) = inr (k, (omega arith, x))
 
-    go : (from + 1 ≤ i → i < nextRow rows from → Placed rows (insideOf kind) (depthInside kind depth) (from + 1) (from + 1) i)
+    go : (from + 1 ≤ i → i < nextRow rows from → Placed rows (kindInside kind) (depthInside kind depth) (from + 1) (from + 1) i)
         → (nextRow rows from ≤ i → i < to → Placed rows kind depth holder (nextRow rows from) i)
         → (t : Bool) → ltb from i ≡ t → (u : Bool) → ltb i (nextRow rows from) ≡ u → Placed rows kind depth holder from i
     go x y false d u e =

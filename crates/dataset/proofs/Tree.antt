@@ -16,9 +16,9 @@ use Rattle.dataset.specs.declared.Head.the-variants as head
 use Rattle.dataset.specs.Vr.{formOf, SQ}
 use Rattle.dataset.specs.Bytes.{le32}
 use Rattle.dataset.specs.Header.{when, itemTag, cursor, moved, headerBy, delimiterBy, levelBy, definedBy, longBy, typedAt, taggedAt, sizedBy, memberAt, elementAt, itemAt}
-use Rattle.dataset.specs.Reading.{Row, row, Run, done, refused, onHead, onRun, level, valueAt, elementsAt, itemsAt, largest, Reading, tooLarge, refusedAt, read, whole, readingOf}
+use Rattle.dataset.specs.Reading.{Row, row, Run, done, refused, onHead, onRun, level, valueRun, elementsAt, itemsAt, largest, Reading, tooLarge, refusedAt, read, whole, readingOf}
 use Rattle.dataset.proofs.Levels.{sequence-level}
-use Rattle.dataset.specs.Tree.{rowsIn, rowsOf, noRow, rowAt, nextRow, Kind, elements, items, Member, insideOf, depthInside, Members}
+use Rattle.dataset.specs.Tree.{rowsIn, rowsOf, noRow, rowAt, nextRow, Kind, elements, items, Member, kindInside, depthInside, Members}
 
 -- The members of one container with all that is below them, as a list.
 -- Its first row is row `from`.
@@ -26,7 +26,7 @@ pub data Forest (size : ℕ) : Kind → ℕ → ℕ → ℕ → ℕ → List Row
   empty : {kind : Kind} {depth holder from least : ℕ} → Forest size kind depth holder from least []
   grow : {kind : Kind} {depth holder from least : ℕ} {r : Row} {below rest : List Row}
       → Member size kind depth holder least r → r .descendants ≡ length below
-      → Forest size (insideOf kind) (depthInside kind depth) (from + 1) (from + 1) 0 below
+      → Forest size (kindInside kind) (depthInside kind depth) (from + 1) (from + 1) 0 below
       → Forest size kind depth holder (from + 1 + length below) (r .tag + 1) rest
       → Forest size kind depth holder from least (r ∷ (below ++ rest))
 
@@ -144,7 +144,7 @@ Leveled items depth vr = Unit {0}
 
 -- A value whose rows start at row `first`.
 abbrev Inside : ℕ → Kind → ℕ → ℕ → ℕ → Cursor → Run → Type 0
-Inside size kind depth first vr v o = Adds size (insideOf kind) (depthInside kind depth) first first 0 (v .at) (v .end) [] o × Childless kind depth vr (v .at) o
+Inside size kind depth first vr v o = Adds size (kindInside kind) (depthInside kind depth) first first 0 (v .at) (v .end) [] o × Childless kind depth vr (v .at) o
 
 named-member : (size : ℕ) (kind : Kind) (depth holder least tag vr at stop next : ℕ) (below : List Row) → Named kind least tag vr
     → Childless kind depth vr at (done stop next below) → Leveled kind depth vr → depth ≤ 8 → at + 8 * length below ≤ stop → stop ≤ size
@@ -173,7 +173,7 @@ named-member size items depth holder least tag vr at stop next below n b u d p q
 -- A member in front of what the turns after it add.
 member-first : (size : ℕ) (kind : Kind) (depth holder from least at next end : ℕ) (before : List Row) (r : Row) (below : List Row)
     → Member size kind depth holder least r → r .descendants ≡ length below
-    → Forest size (insideOf kind) (depthInside kind depth) (from + 1) (from + 1) 0 below
+    → Forest size (kindInside kind) (depthInside kind depth) (from + 1) (from + 1) 0 below
     → at + 8 + 8 * length below ≤ next
     → (o : Run) → Adds size kind depth holder (from + 1 + length below) (r .tag + 1) next end (before ++ (r ∷ below)) o
     → Adds size kind depth holder from least at end before o
@@ -214,8 +214,8 @@ module _ (size : ℕ) (kind : Kind) (depth first : ℕ) (header : ℕ → ℕ �
       on-run k tag vr v m n w u (done stop next below) g =
           let r : Row = row tag vr depth (v .at) (stop - v .at) (length below) first in
           let e : below ≡ g .0 .rest = g .0 .is in
-          let f : Forest size (insideOf kind) (depthInside kind depth) (from + 1) (from + 1) 0 below =
-          subst (λ (l : List Row). Forest size (insideOf kind) (depthInside kind depth) (from + 1) (from + 1) 0 l) (sym e) (g .0 .forest) in
+          let f : Forest size (kindInside kind) (depthInside kind depth) (from + 1) (from + 1) 0 below =
+          subst (λ (l : List Row). Forest size (kindInside kind) (depthInside kind depth) (from + 1) (from + 1) 0 l) (sym e) (g .0 .forest) in
           let l : length below ≡ length (g .0 .rest) = ap length e in
           member-first size kind depth first from least at next (c .end) before r below
           (named-member size kind depth first least tag vr (v .at) stop next below w (g .1) u deep (omega (arith, l, g .0 .few)) (omega (arith, g .0 .close, g .0 .high)))
@@ -305,18 +305,18 @@ items-inside size depth first vr v (refused code offset) e a b = (a, tt)
 items-inside size depth first vr v (done stop next below) e a b = (a, (λ n. absurd (n e), λ _ _. b))
 
 elements-adds : (levels : ℕ) (s : List ℕ) → levels ≤ 8
-    → ((n vr : ℕ) (v : Cursor) → v .at ≤ v .end → v .end ≤ length s → Inside (length s) elements (8 - levels) n vr v (valueAt levels s n vr v))
+    → ((n vr : ℕ) (v : Cursor) → v .at ≤ v .end → v .end ≤ length s → Inside (length s) elements (8 - levels) n vr v (valueRun levels s n vr v))
     → (first : ℕ) (c : Cursor) → c .at ≤ c .end → c .end ≤ length s
     → Adds (length s) elements (8 - levels) first first 0 (c .at) (c .end) [] (elementsAt levels s first c)
 elements-adds levels s d inside first c p q =
-    level-adds (length s) elements (8 - levels) first (λ at least. elementAt s (moved c at) least levels) (valueAt levels s) c q (omega arith)
+    level-adds (length s) elements (8 - levels) first (λ at least. elementAt s (moved c at) least levels) (valueRun levels s) c q (omega arith)
     (λ at least r. header-moves elements least (moved c at) _ r (λ k. tagged-moves s (moved c at) k _ least levels))
     (λ at least tag vr v e q. let k : 1 ≤ levels = sequence-level levels s (moved c at) least e q in omega (arith, d, k)) inside
     (length s + 1) first (c .at) 0 [] (sym (add-zero first)) p (omega arith)
 
 value-inside : (levels : ℕ) (s : List ℕ) → levels ≤ 8 → (first vr : ℕ) (v : Cursor) → v .at ≤ v .end → v .end ≤ length s
-    → Inside (length s) elements (8 - levels) first vr v (valueAt levels s first vr v)
-unfolding valueAt
+    → Inside (length s) elements (8 - levels) first vr v (valueRun levels s first vr v)
+unfolding valueRun
 value-inside zero s d first vr v p q = leaf-inside (length s) 8 first vr v p (λ _ h. omega (arith, h))
 value-inside (suc levels) s d first vr v p q =
     let e : 8 - levels ≡ (8 - suc levels) + 1 = omega arith in
@@ -328,7 +328,7 @@ value-inside (suc levels) s d first vr v p q =
     (λ at least tag r w e. tt)
     (λ n r c k l. (
       elements-adds levels s (omega arith) (value-inside levels s (omega arith)) n c k l,
-      level-bare (λ at least. elementAt s (moved c at) least levels) (valueAt levels s) (8 - levels) n (length s + 1) (c .at) 0,
+      level-bare (λ at least. elementAt s (moved c at) least levels) (valueRun levels s) (8 - levels) n (length s + 1) (c .at) 0,
     ))
     (length s + 1) first (v .at) 0 [] (sym (add-zero first)) p (omega arith)))
     (level-bare (λ at least. itemAt s (moved v at)) (λ n _ c. elementsAt levels s n c) (8 - levels) first (length s + 1) (v .at) 0))

@@ -1,6 +1,6 @@
 -- What `read` answers and leaves in its buffer, and what `count` answers, from what their walks along the whole data set say.
 use mathlib.Core.Path.{_≡_, refl, ap, _∙_, subst}
-use Prim.Native.Nat.{ℕ, _+_, _*_, _/_, _≤_, _<_}
+use Prim.Native.Nat.{ℕ, _*_, _/_, _≤_, _<_}
 use native.Mathlib.Omega.{arith}
 use borrow.Author.Tests.{lt-ltb, le-ltb, le-leb, lt-leb}
 use mathlib.Core.Bool.{false}
@@ -15,7 +15,7 @@ use Rattle.dataset.specs.Header.{cursor}
 use Rattle.dataset.specs.Reading.{Run, done, elementsAt, whole, readingOf, largest}
 use Rattle.dataset.specs.Fields.{Answers}
 use Rattle.dataset.specs.Answer.{answerOf, countOf, bufferOf, fieldsOf}
-use Rattle.dataset.specs.Walk.{Walked, Wrote}
+use Rattle.dataset.specs.Contracts.{Walked, Wrote}
 use Rattle.dataset.proofs.Level.{below, stopped}
 use Rattle.dataset.proofs.Buffer.{rows-first}
 use Rattle.dataset.proofs.Promised.{promised}

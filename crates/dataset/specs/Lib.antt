@@ -4,6 +4,6 @@ pub mod Header
 pub mod Reading
 pub mod Fields
 pub mod Answer
-pub mod Walk
+pub mod Contracts
 pub mod Tree
 pub mod Parents

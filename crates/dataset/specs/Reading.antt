@@ -1,8 +1,8 @@
 -- The reading of a data set (document 01, "Reading"): a row for each element and item in byte order, or the first
 -- refusal's code and offset (the paper's place).
-use Prim.Native.Nat.{ℕ, zero, suc, _+_, _-_, _*_}
+use Prim.Native.Nat.{ℕ, zero, suc, _+_, _-_}
 use mathlib.Core.List.{List, [], _∷_, _++_}
-use mathlib.Core.Bool.{true, false, cond}
+use mathlib.Core.Bool.{false, cond}
 use lib.ListN.{length}
 use lib.Dec.{eqb, ltb}
 use Rattle.dataset.specs.declared.Cursor.{Cursor}
@@ -71,15 +71,15 @@ itemsBy elements levels s first c =
     level (λ at least. itemAt s (moved c at)) (λ n vr value. elements n value) (depths - levels) first (length s + 1) (c .at) 0 []
 
 -- An element's value: the items of a sequence, one level deeper; any other value has no rows, and ends at its end.
-unfoldable pub valueAt : ℕ → List ℕ → ℕ → ℕ → Cursor → Run
-valueAt zero s first vr value = done (value .end) (value .end) []
-valueAt (suc levels) s first vr value =
+unfoldable pub valueRun : ℕ → List ℕ → ℕ → ℕ → Cursor → Run
+valueRun zero s first vr value = done (value .end) (value .end) []
+valueRun (suc levels) s first vr value =
     cond (eqb vr SQ)
-    (itemsBy (λ n c. elementsBy (valueAt levels s) levels s n c) levels s first value)
+    (itemsBy (λ n c. elementsBy (valueRun levels s) levels s n c) levels s first value)
     (done (value .end) (value .end) [])
 
 abbrev pub elementsAt : ℕ → List ℕ → ℕ → Cursor → Run
-elementsAt levels s first c = elementsBy (valueAt levels s) levels s first c
+elementsAt levels s first c = elementsBy (valueRun levels s) levels s first c
 
 abbrev pub itemsAt : ℕ → List ℕ → ℕ → Cursor → Run
 itemsAt levels s first c = itemsBy (elementsAt levels s) levels s first c
@@ -89,6 +89,10 @@ itemsAt levels s first c = itemsBy (elementsAt levels s) levels s first c
 -- The most bytes that a data set may have: 1,073,741,824.
 abbrev pub largest : ℕ
 largest = 1073741824
+
+-- The most rows that it has: a row takes 8 bytes or more.
+abbrev pub mostRows : ℕ
+mostRows = 134217728
 
 -- Too large, refused, or read.
 pub data Reading : Type 0 where

@@ -3,7 +3,7 @@
 use mathlib.Core.Path.{_≡_}
 use Prim.Native.Nat.{ℕ, _+_, _*_, _≤_}
 use mathlib.Core.List.{List, []}
-use lib.ListN.{length, getD}
+use lib.ListN.{getD}
 use Rattle.dataset.specs.Vr.{formOf, SQ}
 use Rattle.dataset.specs.Header.{itemTag}
 use Rattle.dataset.specs.Reading.{Row, row, Reading, tooLarge, refusedAt, read, readingOf, depths}
@@ -56,9 +56,9 @@ pub record Member (size : ℕ) (kind : Kind) (depth holder least : ℕ) (r : Row
   pub bare : IsHolder kind r → r .descendants ≡ 0 → r .size ≡ 0
 
 -- What the members of a member are: items hold elements of their own depth, and sequences items one deeper.
-abbrev pub insideOf : Kind → Kind
-insideOf elements = items
-insideOf items = elements
+abbrev pub kindInside : Kind → Kind
+kindInside elements = items
+kindInside items = elements
 
 abbrev pub depthInside : Kind → ℕ → ℕ
 depthInside elements depth = depth + 1
@@ -69,6 +69,6 @@ depthInside items depth = depth
 pub data Members (rows : List Row) (size : ℕ) : Kind → ℕ → ℕ → ℕ → ℕ → ℕ → Type 0 where
   end : {kind : Kind} {depth holder least i to : ℕ} → i ≡ to → Members rows size kind depth holder least i to
   member : {kind : Kind} {depth holder least i to : ℕ} → nextRow rows i ≤ to → Member size kind depth holder least (rowAt rows i)
-      → Members rows size (insideOf kind) (depthInside kind depth) (i + 1) 0 (i + 1) (nextRow rows i)
+      → Members rows size (kindInside kind) (depthInside kind depth) (i + 1) 0 (i + 1) (nextRow rows i)
       → Members rows size kind depth holder (rowAt rows i .tag + 1) (nextRow rows i) to
       → Members rows size kind depth holder least i to

@@ -1,7 +1,7 @@
 -- The table of VRs (document 01, "Reading"). A VR is its two letters, first × 256 + second.
 use Prim.Native.Nat.{ℕ}
 use mathlib.Core.List.{List, [], _∷_}
-use mathlib.Core.Bool.{Bool, true, false, cond, _||_}
+use mathlib.Core.Bool.{Bool, false, cond, _||_}
 use lib.Dec.{eqb}
 
 -- VRs with two zero bytes and a 32-bit length: OB OD OF OL OV OW SQ SV UC UN UR UT UV.

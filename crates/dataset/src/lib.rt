@@ -8,21 +8,36 @@ ghost use lib.Seq.{sets};
 ghost use Rattle.dataset.specs.Bytes.{le16, le32, tagAt, vrAt};
 ghost use Rattle.dataset.specs.Vr.{formOf};
 ghost use Rattle.dataset.specs.Header.{moved, delimiterBy, levelBy, definedBy, longBy, typedAt, taggedAt, sizedBy, memberAt, elementAt, itemAt};
-ghost use Rattle.dataset.specs.Reading.{elementsAt, itemsAt, readingOf, row};
+ghost use Rattle.dataset.specs.Reading.{elementsAt, itemsAt, largest, readingOf, row};
 ghost use Rattle.dataset.specs.Fields.{Answers};
-ghost use Rattle.dataset.specs.Answer.{answerOf, countOf, bufferOf, flat, fieldsOf};
-ghost use Rattle.dataset.specs.Walk.{FormsAfter, Within, Walked, LeafWalked, Ready};
+ghost use Rattle.dataset.specs.Answer.{width, answerOf, countOf, bufferOf, flat, fieldsOf};
+ghost use Rattle.dataset.specs.Contracts.{FormsAfter, Within, Walked, LeafWalked, Ready};
 
 // The most bytes that a data set may have.
 pub const LARGEST: usize = 1_073_741_824;
 
-// How many numbers a row has: tag, VR, depth, offset, length, descendants, parent.
+// The most rows that it has.
+pub const MOST_ROWS: usize = 134_217_728;
+
+// How many numbers a row has, and which place each has: the tag is first.
 pub const WIDTH: usize = 7;
+
+pub const VR: usize = 1;
+
+pub const DEPTH: usize = 2;
+
+pub const OFFSET: usize = 3;
+
+pub const LENGTH: usize = 4;
+
+pub const BELOW: usize = 5;
+
+pub const PARENT: usize = 6;
 
 // How deep sequences may stand.
 const DEPTHS: usize = 8;
 
-const SQ: usize = 0x5351;
+pub const SQ: usize = 0x5351;
 
 const UNDEFINED: usize = 0xFFFF_FFFF;
 
@@ -360,18 +375,18 @@ fn put_row(
     first: usize,
 )
     requires { ⌜ (levels ≤ 8) × ((8 * n + 8 ≤ start) × ((start ≤ stop) × ((n < m) × ((first ≤ n) × ((tag < 4294967296) × (vr < 65536)))))) ⌝ }
-    requires { ⌜ (7 * n + 7 ≤ length (now rows) → (stop ≤ 1073741824) × (m ≤ 1073741824)) ⌝ }
-    ensures { λ _. ⌜ (7 * n + 7 ≤ length (now (rows .entry)) → now (rows .exit) ≡ sets (now (rows .entry)) (7 * n) (flat (row tag vr (8 - levels) start (stop - start) (m - n - 1) first ∷ []))) ⌝ }
+    requires { ⌜ (width * n + width ≤ length (now rows) → (stop ≤ largest) × (m ≤ largest)) ⌝ }
+    ensures { λ _. ⌜ (width * n + width ≤ length (now (rows .entry)) → now (rows .exit) ≡ sets (now (rows .entry)) (width * n) (flat (row tag vr (8 - levels) start (stop - start) (m - n - 1) first ∷ []))) ⌝ }
 {
     let i = WIDTH * n;
     if i + WIDTH <= rows.len() {
         rows[i] = tag as u32;
-        rows[i + 1] = vr as u32;
-        rows[i + 2] = (DEPTHS - levels) as u32;
-        rows[i + 3] = start as u32;
-        rows[i + 4] = (stop - start) as u32;
-        rows[i + 5] = (m - n - 1) as u32;
-        rows[i + 6] = first as u32;
+        rows[i + VR] = vr as u32;
+        rows[i + DEPTH] = (DEPTHS - levels) as u32;
+        rows[i + OFFSET] = start as u32;
+        rows[i + LENGTH] = (stop - start) as u32;
+        rows[i + BELOW] = (m - n - 1) as u32;
+        rows[i + PARENT] = first as u32;
     }
 }
 

@@ -2,24 +2,20 @@
 -- follows from rules that hold.
 use mathlib.Core.Path.{_≡_}
 use mathlib.Core.Bool.{Bool, true}
-use mathlib.Core.List.{List, [], _∷_}
-use mathlib.Core.Option.{Option, some}
+use mathlib.Core.List.{List}
+use mathlib.Core.Option.{some}
 use mathlib.Core.Logic.{_⊎_}
-use Prim.Native.Nat.{ℕ, _+_, _*_, _≤_, _<_}
-use lib.ListN.{length}
+use Prim.Native.Nat.{ℕ, _*_, _≤_, _<_}
 use Rattle.value.specs.declared.Num.the-variants.{Is}
-use Rattle.value.specs.Number.{isNumber}
-use Rattle.value.specs.Said.{SizeBelow}
-use Rattle.shift.specs.declared.Moves.{Moves}
 use Rattle.node.specs.Nodes.{Node, root}
 use Rattle.element.specs.Elements.{usIn}
 use Rattle.element.specs.Frames.{framesOf}
 use Rattle.pixel.specs.declared.Geometry.{Geometry}
 use Rattle.pixel.specs.Pixel.{isFrame}
 use Rattle.window.specs.declared.Window.{Window}
-use Rattle.window.specs.Said.{Drawable}
+use Rattle.window.specs.Contracts.{Drawable}
 use Rattle.steps.specs.Steps.{geometryOf, pixelsOf, windowFor, inverseOf, maskFor}
-pub use Rattle.display.specs.Said.{AllWithin, Sound, Gives}
+pub use Rattle.display.specs.Contracts.{AllWithin, Sound, Gives}
 
 -- A US of the root is a number of two bytes: so it is where the nodes hold bytes.
 abbrev pub SmallRoot : List Node → Type 0

@@ -1,26 +1,24 @@
 -- What the code's answers say of the steps, where a step is known to give something.
 use mathlib.Core.Path.{_≡_, refl, sym, ap, _∙_, subst}
-use mathlib.Core.Bool.{Bool, true, false, cond, _&&_}
-use mathlib.Core.List.{List, [], _∷_}
+use mathlib.Core.Bool.{Bool, true, false, _&&_}
+use mathlib.Core.List.{List}
 use mathlib.Core.Option.{Option, none, some}
-use Prim.Native.Nat.{ℕ, _+_, _≤_, _<_}
+use Prim.Native.Nat.{ℕ}
 use native.Mathlib.Omega.{arith}
-use lib.Dec.{leb}
 use borrow.Author.Tests.{le-leb}
-use Rattle.value.specs.declared.Num.{Num}
-use Rattle.value.specs.declared.Num.the-variants.{Is, Lacks}
+use Rattle.value.specs.declared.Num.the-variants.{Lacks}
 use Rattle.value.specs.declared.Signed.{Signed}
 use Rattle.value.specs.declared.Signed.the-variants as signed
 use Rattle.value.specs.Number.{isNumber}
-use Rattle.value.specs.Said.{SizeBelow}
+use Rattle.value.specs.Contracts.{SizeBelow}
 use Rattle.shift.specs.declared.Shift.{Shift}
 use Rattle.shift.specs.declared.Moves.{Moves}
 use Rattle.shift.specs.Shift.{isShort, isShiftOf, movesOf, shortMovesOf}
 use Rattle.shift.proofs.Laws.{moves-short}
 use Rattle.node.specs.Nodes.{Node}
 use Rattle.steps.specs.Given.{check, then}
-use Rattle.steps.specs.Steps.{Mask, shiftFor, movesFor, applyingTo, maskFor, maskOn, native as noMask, masked as maskOf}
-use Rattle.display.specs.Said.{Short, Sound, Gives, GivesMoves}
+use Rattle.steps.specs.Steps.{Mask, shiftFor, movesFor, applyingTo, maskFor, masked as maskOf}
+use Rattle.display.specs.Contracts.{Short, Sound, Gives, GivesMoves}
 use Rattle.display.proofs.Given.{never}
 
 short-is : (x : Signed) → isNumber x ≡ true → SizeBelow 257 x → isShort x ≡ true

@@ -1,18 +1,16 @@
 -- Which answer an accepted object gets: codes 10 and 11 where their tests say so, and else the picture.
-use mathlib.Core.Path.{_≡_, refl, sym, ap, _∙_}
-use mathlib.Core.Bool.{Bool, true, false, cond, _&&_, and-false}
+use mathlib.Core.Path.{_≡_, refl}
+use mathlib.Core.Bool.{false, _&&_, and-false}
 use mathlib.Core.List.{List}
-use Prim.Native.Nat.{ℕ, zero, suc, _+_, _*_, _≤_, _<_}
+use Prim.Native.Nat.{ℕ, zero, suc, _*_, _≤_, _<_}
 use native.Mathlib.Nat.{mul-le-mul}
 use native.Mathlib.Omega.{arith}
 use lib.ListN.{length}
 use lib.Dec.{leb}
 use borrow.Author.Tests.{le-leb, lt-leb}
-use Rattle.value.specs.declared.Num.{Num}
 use Rattle.value.specs.declared.Num.the-variants.{Is, Lacks}
 use Rattle.node.specs.Nodes.{Node}
 use Rattle.element.specs.Frames.{framesOf}
-use Rattle.display.specs.declared.ShowAnswer.{ShowAnswer}
 use Rattle.display.specs.declared.ShowAnswer.the-variants as shown
 use Rattle.display.specs.Show.{imageSize, pictureOf, acceptedAnswer}
 

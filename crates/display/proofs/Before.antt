@@ -4,24 +4,21 @@ use mathlib.Core.Path.{_≡_, refl, sym, ap, _∙_, subst}
 use mathlib.Core.Bool.{Bool, true, false, cond, _&&_}
 use mathlib.Core.List.{List, [], _∷_}
 use mathlib.Core.Option.{Option, none, some}
-use Prim.Native.Nat.{ℕ, zero, suc, _+_, _-_, _*_, _/_, _%_, _^_, _≤_, _<_}
+use Prim.Native.Nat.{ℕ, zero, suc, _≤_, _<_}
 use package.native.Mathlib.Omega.{arith}
 use lib.ListN.{length}
-use lib.IntN.{ℤ, pos, _+ℤ_, _-ℤ_}
-use lib.Dec.{eqb, leb, ltb}
+use lib.Dec.{eqb, leb}
 use borrow.Author.Tests.{eqb-true, eq-eqb, lt-ltb}
 use Rattle.dataset.specs.Vr.{SQ}
 use Rattle.value.specs.declared.Num.{Num}
 use Rattle.value.specs.declared.Num.the-variants.{Is, Lacks}
-use Rattle.value.specs.declared.Signed.{Signed}
-use Rattle.value.specs.declared.Signed.the-variants as signed
 use Rattle.value.specs.Text.{ascii}
 use Rattle.value.specs.Number.{isNumber}
 use Rattle.shift.specs.declared.Shift.{Shift}
 use Rattle.shift.specs.declared.Shift.the-variants as shift
 use Rattle.shift.specs.declared.Moves.{Moves}
-use Rattle.shift.specs.Shift.{itemShift, frameShift, movesOf}
-use Rattle.shift.specs.Whole.{isShortWhole, wholeMovesOf, isWholeShiftOf, isWholeShift, movesInQuarters}
+use Rattle.shift.specs.Shift.{itemShift, frameShift}
+use Rattle.shift.specs.Whole.{wholeMovesOf, isWholeShiftOf, isWholeShift, movesInQuarters}
 use Rattle.shift.proofs.Laws.{as-item, shift-length}
 use Rattle.shift.proofs.Agree.{whole-moves, whole-shift, whole-item, whole-frame, whole-both, whole-numbers}
 use Rattle.verdict.specs.Verdict.{perFrame}
@@ -32,30 +29,28 @@ use Rattle.element.specs.Tags
 use Rattle.element.specs.Tags.{FL}
 use Rattle.element.specs.Elements.{valueAt, every}
 use Rattle.element.specs.Frames.{framesOf, frameItem, sharedItem, groupOf, maskItems, idIn, operationIs}
-use Rattle.rules.specs.Frame.{hasId, uniqueIds, isShiftItem, isShiftGroup, item37, rule37}
+use Rattle.rules.specs.Frame.{hasId, isShiftItem, isShiftGroup, item37, rule37}
 use Rattle.rules.specs.Mask.{isShiftAt, shiftFits, rule35, rule36}
 use Rattle.rules.specs.All.{ruleList, ruleAt}
 use Rattle.conformance.specs.declared.Finding.the-variants.{Accepted}
 use Rattle.conformance.specs.Judging.{numberOf, firstFrame, frameCount, findingOf}
 use Rattle.conformance.proofs.First.{holds-accepted}
 use Rattle.pixel.specs.declared.Geometry.{Geometry}
-use Rattle.pixel.specs.Pixel.{samplesOf, isFrame, sampleAt, maskAt, areInside, blendedAt}
+use Rattle.pixel.specs.Pixel.{samplesOf, isFrame}
 use Rattle.pixel.specs.Whole.{sourceOf}
 use Rattle.pixel.proofs.Blend.{source-below, are-inside}
 use Rattle.pixel.proofs.Quarters.{agree}
 use Rattle.window.specs.declared.Window.{Window}
-use Rattle.window.specs.Window.{levelOf, levelHalf, shaded}
 use Rattle.steps.specs.declared.Applying.{Applying}
 use Rattle.steps.specs.declared.Applying.the-variants.{Item, Nothing}
 use Rattle.steps.specs.Given.{need, check, then, collect}
-use Rattle.steps.specs.Steps.{Picture, Mask, native, masked, geometryOf, pixelsOf, applyingTo, averageFrames, tidFrame, naming, ownIn, itemAt, shiftFrom, shiftFor, movesFor, onTid, maskBy, maskOn, maskFor, windowFor, inverseOf, nativeCell, maskedCell, areFrames, pictureBy, stepsOf}
-use Rattle.display.specs.Drawing.{Bytes}
-use Rattle.display.specs.Before.{wasShiftAt, shiftFitted, rule35Before, wasShiftItem, wasShiftGroup, item37Before, rule37Before, ruleBefore, AcceptedBefore, movesBefore, onTidBefore, maskByBefore, maskOnBefore, maskForBefore, maskedCellBefore, pictureBefore, stepsBefore, DrawnAlike, Kept, KeepsPictures, SamePictures}
+use Rattle.steps.specs.Steps.{Mask, native, masked, geometryOf, pixelsOf, applyingTo, averageFrames, tidFrame, naming, ownIn, itemShiftAt, shiftFrom, shiftFor, movesFor, onTid, maskBy, maskOn, maskFor, windowFor, inverseOf, maskedCell, pictureBy, stepsOf}
+use Rattle.display.specs.Before.{wasShiftAt, shiftFitted, rule35Before, wasShiftItem, wasShiftGroup, item37Before, rule37Before, ruleBefore, AcceptedBefore, movesBefore, onTidBefore, maskByBefore, maskOnBefore, maskForBefore, maskedCellBefore, pictureBefore, stepsBefore, KeepsPictures, SamePictures}
 use Rattle.display.proofs.Given.{never, check-some, then-some}
 use Rattle.display.proofs.Small.{us-in-small}
 use Rattle.display.proofs.Objects.{object, windowed}
 use Rattle.display.proofs.Masks as applying
-use Rattle.display.proofs.Masks.{had, held, both-true, checked, Among, every-at, Applies, nothing, applies, Named, unnamed, named, names, id-had, shift-ids, group-for, r31, r36, ranges, masking}
+use Rattle.display.proofs.Masks.{had, both-true, checked, Among, every-at, Applies, nothing, applies, Named, unnamed, named, names, id-had, shift-ids, group-for, r31, r36, ranges, masking}
 use Rattle.display.proofs.Lacking.{nothing-lacks}
 
 -- ---- Rules
@@ -223,7 +218,7 @@ abbrev Wholly : Option Shift → Type 0
 Wholly o = (s : Shift) × ((o ≡ some s) × (isWholeShiftOf s ≡ true))
 
 module _ (ns : List Node) where
-  item-whole : (o : Num) → ifPresent o (wasShiftAt ns) ≡ true → Wholly (itemAt ns o)
+  item-whole : (o : Num) → ifPresent o (wasShiftAt ns) ≡ true → Wholly (itemShiftAt ns o)
   unfolding wasShiftAt isWholeShiftOf wholeMovesOf
   item-whole Lacks e = (shift.None, (refl, refl))
   item-whole (Is k) e =

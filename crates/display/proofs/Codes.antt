@@ -11,7 +11,6 @@ use borrow.Author.Tests.{le-leb, leb-true}
 use Rattle.dataset.specs.Reading.{Row, Reading, tooLarge, refusedAt, read, readingOf}
 use Rattle.dataset.specs.Answer.{width, answerOf}
 use Rattle.dataset.specs.Tree.{rowsIn, rowsOf}
-use Rattle.dataset.specs.declared.ReadAnswer.{ReadAnswer}
 use Rattle.dataset.specs.declared.ReadAnswer.the-variants as answer
 use Rattle.dataset.proofs.Laws.{Small, answer-small}
 use Rattle.node.specs.Nodes.{nodesOf}

@@ -1,32 +1,23 @@
 -- The drawing part of demand 3: every frame of an accepted object can be drawn, and `show` draws exactly those, as the steps
 -- say. The statement stands in specs/Drawing; here is its proof. That no step lacks anything is from Lacking; the rest follows
 -- what `show` answers back to what it was asked.
-use mathlib.Core.Path.{_≡_, refl, sym, ap, _∙_, subst}
-use mathlib.Core.Bool.{Bool, true, false, cond, _&&_}
-use mathlib.Core.List.{List, [], _∷_, _++_}
-use mathlib.Core.Option.{Option, none, some}
-use Prim.Native.Nat.{ℕ, _*_, _≤_, _<_}
+use mathlib.Core.Path.{_≡_, refl, ap, _∙_, subst}
+use mathlib.Core.Bool.{Bool, true, false, cond}
+use mathlib.Core.List.{List, _++_}
+use mathlib.Core.Option.{some}
+use Prim.Native.Nat.{ℕ, _≤_}
 use native.Mathlib.Omega.{arith}
 use lib.ListN.{length, drop}
 use lib.Dec.{leb}
 use borrow.Author.Tests.{le-leb, leb-true}
-use Rattle.dataset.specs.Reading.{Row, Reading, tooLarge, refusedAt, read, readingOf}
-use Rattle.dataset.specs.Answer.{width, answerOf}
-use Rattle.dataset.specs.Tree.{rowsIn, rowsOf}
-use Rattle.dataset.specs.declared.ReadAnswer.{ReadAnswer}
-use Rattle.dataset.specs.declared.ReadAnswer.the-variants as answer
-use Rattle.dataset.proofs.Laws.{Small, answer-small}
-use Rattle.node.specs.Nodes.{Node, nodesOf}
+use Rattle.dataset.specs.Tree.{rowsOf}
+use Rattle.node.specs.Nodes.{nodesOf}
 use Rattle.element.specs.Frames.{framesOf}
-use Rattle.conformance.specs.declared.Finding.{Finding}
-use Rattle.conformance.specs.declared.Finding.the-variants as finding
-use Rattle.conformance.specs.declared.JudgeAnswer.{JudgeAnswer}
-use Rattle.conformance.specs.declared.JudgeAnswer.the-variants as judged
-use Rattle.conformance.specs.Judging.{numberOf, findingOf, answerFor, judgeOf}
+use Rattle.conformance.specs.Judging.{numberOf}
 use Rattle.steps.specs.Steps.{Picture, stepsOf}
 use Rattle.display.specs.declared.ShowAnswer.{ShowAnswer}
 use Rattle.display.specs.declared.ShowAnswer.the-variants as shown
-use Rattle.display.specs.Show.{isFrameOf, imageSize, pictureOf, acceptedAnswer, answerFor as shownFor, imageBy, showOf, imageOf, fieldsOf}
+use Rattle.display.specs.Show.{isFrameOf, imageSize, pictureOf, acceptedAnswer, answerFor as shownFor, showOf, imageOf, fieldsOf}
 use Rattle.display.specs.Drawing.{Bytes, IsAccepted, IsFrame, HasRoom, Whole, HandsBack, Drawing}
 use Rattle.display.proofs.Codes.{was-frame, judged-accepted, was-judged}
 use Rattle.display.proofs.Lacking.{nothing-lacks}

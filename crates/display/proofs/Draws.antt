@@ -1,10 +1,9 @@
 -- Painting from the table of shades gives the picture of the steps, native or masked, and leaves the image untouched beyond it.
-use mathlib.Core.Path.{_≡_, refl, sym, ap, _∙_, subst}
-use mathlib.Core.Bool.{Bool, true, false, cond}
+use mathlib.Core.Path.{_≡_, sym, ap, _∙_, subst}
+use mathlib.Core.Bool.{Bool, true, false}
 use mathlib.Core.List.{List, [], _∷_, _++_}
-use mathlib.Core.Option.{Option, none, some}
-use Prim.Native.Nat.{ℕ, _+_, _-_, _*_, _^_, _≤_, _<_}
-use native.Mathlib.Omega.{arith}
+use mathlib.Core.Option.{some}
+use Prim.Native.Nat.{ℕ, _+_, _-_, _^_, _≤_}
 use lib.ListN.{length, drop}
 use Rattle.value.specs.Number.{usValues}
 use Rattle.shift.specs.declared.Moves.{Moves}
@@ -12,18 +11,17 @@ use Rattle.node.specs.Nodes.{Node}
 use Rattle.element.specs.Elements.{valueAt}
 use Rattle.pixel.specs.declared.Geometry.{Geometry}
 use Rattle.pixel.specs.Pixel.{samplesOf, isFrame}
-use Rattle.pixel.specs.Painted.{painted, nativeShade, maskedShade}
+use Rattle.pixel.specs.Contracts.{painted, nativeShade, maskedShade}
 use Rattle.window.specs.declared.Window.{Window}
-use Rattle.window.specs.Said.{Drawable, shadeAt, Filled}
-use Rattle.steps.specs.Given.{check, then, collect}
-use Rattle.steps.specs.Steps.{Picture, Mask, geometryOf, pixelsOf, maskFor, windowFor, inverseOf, nativeCell, maskedCell, areFrames, pictureBy, stepsOf, native as noMask, masked as maskOf}
+use Rattle.window.specs.Contracts.{Drawable, shadeAt, Filled}
+use Rattle.steps.specs.Steps.{Picture, Mask, geometryOf, pixelsOf, maskFor, windowFor, inverseOf, nativeCell, maskedCell, pictureBy, stepsOf, native as noMask, masked as maskOf}
 use Rattle.display.specs.declared.Masking.{Masking}
 use Rattle.display.specs.declared.Masking.the-variants as masking
 use Rattle.display.specs.Show.{pictureIn, pictureOf}
-use Rattle.display.specs.Said.{Sound, Gives, maskingOf, isMasked, shadeBy}
+use Rattle.display.specs.Contracts.{Sound, Gives, maskingOf, isMasked, shadeBy}
 use Rattle.display.proofs.Given.{never}
 use Rattle.display.proofs.Lacking.{are-frames}
-use Rattle.display.proofs.Pictures.{Collected, collected, native-is, masked-is}
+use Rattle.display.proofs.Pictures.{collected, native-is, masked-is}
 
 -- The picture is p, and painting gives its samples.
 pub record Shows (ns : List Node) (f : ℕ) (masked : Bool) (image after : List ℕ) : Type 0 where

@@ -1,12 +1,12 @@
 -- For a frame of an accepted object no step lacks anything: its cells all answer, and the list of them is the picture. What
 -- demand 3 (Drawing) says of the definitions is `nothing-lacks`.
 use mathlib.Core.Path.{_≡_, refl, sym, ap, _∙_, subst}
-use mathlib.Core.Bool.{Bool, true, false, cond, _&&_}
+use mathlib.Core.Bool.{Bool, true, false, _&&_}
 use mathlib.Core.List.{List, [], _∷_, _++_}
-use mathlib.Core.Option.{Option, none, some}
-use Prim.Native.Nat.{ℕ, zero, suc, _+_, _-_, _*_, _/_, _%_, _^_, _≤_, _<_}
+use mathlib.Core.Option.{some}
+use Prim.Native.Nat.{ℕ, zero, suc, _-_, _*_, _/_, _%_, _^_, _≤_, _<_}
 use native.Mathlib.Omega.{arith}
-use lib.ListN.{length, length-append, drop}
+use lib.ListN.{length, length-append}
 use lib.IntN.{ℤ, pos, _+ℤ_, _-ℤ_}
 use lib.Dec.{eqb, leb}
 use borrow.Author.Tests.{ne-eqb, le-leb}
@@ -19,9 +19,9 @@ use Rattle.pixel.specs.Pixel.{samplesOf, isFrame, sampleAt, areInside, blendedA
 use Rattle.pixel.proofs.Blend.{are-inside}
 use Rattle.window.specs.declared.Window.{Window}
 use Rattle.window.specs.Window.{levelOf, shaded}
-use Rattle.window.specs.Said.{Drawable}
+use Rattle.window.specs.Contracts.{Drawable}
 use Rattle.window.proofs.Laws.{leveled, shadeNumber, shaded-is}
-use Rattle.steps.specs.Given.{need, check, then, collect}
+use Rattle.steps.specs.Given.{need, check, collect}
 use Rattle.steps.specs.Steps.{Picture, Mask, nativeCell, maskedCell, areFrames, pictureBy, geometryOf, stepsOf, native as noMask, masked as maskBy}
 use Rattle.element.specs.Tags
 use Rattle.element.specs.Elements.{usIn}

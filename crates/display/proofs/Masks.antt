@@ -4,7 +4,7 @@ use mathlib.Core.Path.{_≡_, refl, sym, _∙_, ap, subst}
 use mathlib.Core.Bool.{Bool, true, false, cond, not, _&&_, _||_}
 use mathlib.Core.List.{List, [], _∷_}
 use mathlib.Core.Option.{Option, none, some}
-use Prim.Native.Nat.{ℕ, zero, suc, _+_, _-_, _%_, _≤_, _<_}
+use Prim.Native.Nat.{ℕ, zero, suc, _+_, _-_, _%_, _≤_}
 use package.native.Mathlib.Omega.{arith}
 use lib.ListN.{length, drop}
 use lib.Dec.{eqb, leb}
@@ -16,7 +16,7 @@ use Rattle.value.specs.declared.Signed.{Signed}
 use Rattle.value.specs.declared.Signed.the-variants as signed
 use Rattle.value.specs.Text.{ascii}
 use Rattle.value.specs.Number.{usValues, ssOf, isNumber}
-use Rattle.value.specs.Said.{SizeBelow}
+use Rattle.value.specs.Contracts.{SizeBelow}
 use Rattle.shift.specs.declared.Shift.{Shift}
 use Rattle.shift.specs.declared.Shift.the-variants as shift
 use Rattle.shift.specs.declared.Moves.{Moves}
@@ -41,7 +41,7 @@ use Rattle.conformance.proofs.First.{accepted-holds}
 use Rattle.steps.specs.declared.Applying.{Applying}
 use Rattle.steps.specs.declared.Applying.the-variants.{Item, Nothing}
 use Rattle.steps.specs.Given.{need, check, then}
-use Rattle.steps.specs.Steps.{orShared, groupFor, inPairs, rangeHas, rangeHolds, firstHolding, onMask, applyingTo, averageFrames, offsetAt, offsetOf, less, tidFrame, naming, ownIn, itemAt, shiftFrom, shiftFor, movesFor, Mask, native, masked, onTid, maskBy, maskOn, maskFor}
+use Rattle.steps.specs.Steps.{orShared, groupFor, inPairs, rangeHas, rangeHolds, firstHolding, onMask, applyingTo, averageFrames, offsetAt, offsetOf, less, tidFrame, naming, ownIn, itemShiftAt, shiftFrom, shiftFor, movesFor, Mask, native, masked, onTid, maskBy, maskOn, maskFor}
 use Rattle.display.proofs.Accepted.{AllWithin, Sound, Masking}
 
 -- ---- What a test that holds says
@@ -194,7 +194,7 @@ pub data Named (l : List ℕ) (o : Option Num) : Type 0 where
   named : (k : ℕ) → Among k l → o ≡ some (Is k) → Named l o
 
 module _ (ns : List Node) where
-  item-shift : (o : Num) → ifPresent o (isShiftAt ns) ≡ true → Shifted (itemAt ns o)
+  item-shift : (o : Num) → ifPresent o (isShiftAt ns) ≡ true → Shifted (itemShiftAt ns o)
   unfolding isShiftAt isShiftOf movesOf
   item-shift Lacks e = (shift.None, (refl, refl))
   item-shift (Is k) e =

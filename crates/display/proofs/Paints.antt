@@ -1,14 +1,14 @@
 -- What painting is asked: the pixel bytes and the mask frames are those of the nodes, and one frame number as two bytes is a list of that frame.
-use mathlib.Core.Path.{_≡_, refl, sym, ap, _∙_, subst}
+use mathlib.Core.Path.{_≡_, ap, subst}
 use mathlib.Core.Bool.{true}
 use mathlib.Core.List.{List, [], _∷_}
-use Prim.Native.Nat.{ℕ, zero, suc, _+_, _*_, _/_, _%_, _≤_, _<_}
+use Prim.Native.Nat.{ℕ, zero, suc, _+_, _*_, _/_, _%_, _<_}
 use native.Mathlib.Omega.{arith}
 use lib.ListN.{length, getD}
 use Rattle.value.specs.Number.{usValues}
 use Rattle.pixel.specs.declared.Geometry.{Geometry}
 use Rattle.pixel.specs.Pixel.{isFrame}
-use Rattle.pixel.specs.Said.{Masks}
+use Rattle.pixel.specs.Contracts.{Masks}
 
 low-high : (t : ℕ) → t < 65536 → t % 256 + 256 * (t / 256 % 256) ≡ t
 low-high t h = omega arith

@@ -1,10 +1,10 @@
 -- What painting leaves in the image buffer is the picture that the steps give: each place of the table of shades is the
 -- level of the x that the cell has there.
-use mathlib.Core.Path.{_≡_, refl, sym, ap, _∙_, subst}
-use mathlib.Core.Bool.{Bool, true, false, cond}
+use mathlib.Core.Path.{_≡_, refl, sym, ap, _∙_}
+use mathlib.Core.Bool.{Bool}
 use mathlib.Core.List.{List, [], _∷_, _++_, append-assoc}
-use mathlib.Core.Option.{Option, none, some}
-use Prim.Native.Nat.{ℕ, zero, suc, _+_, _-_, _*_, _^_, _≤_, _<_}
+use mathlib.Core.Option.{some}
+use Prim.Native.Nat.{ℕ, zero, suc, _+_, _-_, _^_, _≤_, _<_}
 use native.Mathlib.Omega.{arith}
 use lib.ListN.{length, length-append, drop, getD, set}
 use lib.Seq.{drop-cons, set-at}
@@ -13,19 +13,19 @@ use native.Mathlib.Nat.{pow-suc}
 use lib.Pow.{pow-pos}
 use borrow.Author.Tests.{le-leb}
 use Rattle.value.specs.declared.Num.{Num}
-use Rattle.value.specs.declared.Num.the-variants.{Is, Lacks}
+use Rattle.value.specs.declared.Num.the-variants.{Is}
 use Rattle.shift.specs.declared.Moves.{Moves}
 use Rattle.pixel.specs.declared.Geometry.{Geometry}
 use Rattle.pixel.specs.Pixel.{samplesOf, sampleAt, blendedAt}
-use Rattle.pixel.specs.Painted.{painted, nativeShade, maskedShade}
+use Rattle.pixel.specs.Contracts.{painted, nativeShade, maskedShade}
 use Rattle.pixel.proofs.Laws.{sample-most, half-low}
 use Rattle.pixel.proofs.Blend.{are-inside, blended-most}
 use Rattle.window.specs.declared.Window.{Window}
 use Rattle.window.specs.Window.{levelOf, shaded}
-use Rattle.window.specs.Said.{Drawable, shadeAt, Filled}
+use Rattle.window.specs.Contracts.{Drawable, shadeAt, Filled}
 use Rattle.window.proofs.Laws.{leveled, shaded-is, shade-is}
 use Rattle.window.proofs.Gaps.{Gap, shift, whole, plus, gap}
-use Rattle.steps.specs.Given.{need, then, collect}
+use Rattle.steps.specs.Given.{collect}
 use Rattle.steps.specs.Steps.{nativeCell, maskedCell}
 use Rattle.display.proofs.Lacking.{some-bits}
 

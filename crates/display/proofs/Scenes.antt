@@ -1,10 +1,10 @@
 -- What an accepted object gives to its scene and to the plan of each frame.
-use mathlib.Core.Path.{_≡_, refl, sym, ap, _∙_, subst}
-use mathlib.Core.Bool.{Bool, true, _||_}
+use mathlib.Core.Path.{_≡_, sym, ap, _∙_, subst}
+use mathlib.Core.Bool.{true, _||_}
 use mathlib.Core.List.{List}
 use mathlib.Core.Logic.{_⊎_, inl, inr}
 use mathlib.Core.Option.{Option, none, some}
-use Prim.Native.Nat.{ℕ, _+_, _-_, _*_, _^_, _≤_, _<_}
+use Prim.Native.Nat.{ℕ, _*_, _≤_, _<_}
 use lib.Dec.{eqb}
 use lib.ListN.{length, take, drop}
 use native.Mathlib.Omega.{arith}
@@ -14,7 +14,7 @@ use Rattle.dataset.specs.Tree.{rowsOf, rowAt}
 use Rattle.verdict.proofs.Tests.{or-either}
 use Rattle.node.specs.Nodes.{Node, nodesOf, nodeAt, nodeOf, valueIn, root}
 use Rattle.node.specs.Find.{find}
-use Rattle.node.specs.Table.{Table}
+use Rattle.node.specs.Contracts.{Table}
 use Rattle.node.proofs.Laws.{node-is}
 use Rattle.element.specs.Tags
 use Rattle.element.specs.Tags.{OB, OW}
@@ -24,11 +24,6 @@ use Rattle.value.specs.declared.Num.the-variants.{Is, Lacks}
 use Rattle.element.specs.Elements.{valueAt}
 use Rattle.conformance.specs.Judging.{numberOf}
 use Rattle.pixel.specs.Pixel.{samplesOf}
-use Rattle.value.specs.declared.Signed.{Signed}
-use Rattle.value.specs.declared.Function.{Function}
-use Rattle.window.specs.declared.Window.{Window}
-use Rattle.window.specs.Said.{Drawable, shadeAt, Filled}
-use Rattle.window.proofs.Laws.{power-small}
 use Rattle.pixel.proofs.Laws.{frames-fit}
 use Rattle.steps.specs.Given.{check}
 use Rattle.steps.specs.Steps.{Picture, geometryOf, pixelsOf, maskFor}
@@ -38,10 +33,9 @@ use Rattle.display.proofs.Given.{never, check-some}
 use Rattle.display.proofs.Lacking.{nothing-lacks}
 use Rattle.display.proofs.Accepted.{Windowed}
 use Rattle.display.proofs.Whole as whole
-use Rattle.display.specs.Said.{MasksReady}
+use Rattle.display.specs.Contracts.{MasksReady, IsObject, IsScene, IsPixels, IsPlan}
 use Rattle.display.specs.declared.Scene.{Scene}
 use Rattle.display.specs.declared.Plan.{Plan}
-use Rattle.display.specs.Planned.{IsObject, IsScene, IsPixels, IsPlan}
 
 -- ---- The pixel bytes
 

@@ -1,8 +1,8 @@
 -- A US that is read from bytes is below 65,536: its value is a part of the data set, whose bytes are below 256.
-use mathlib.Core.Path.{_≡_, refl, sym, ap, _∙_, subst}
+use mathlib.Core.Path.{_≡_}
 use mathlib.Core.Bool.{Bool, true, false, cond}
 use mathlib.Core.List.{List, [], _∷_, map}
-use Prim.Native.Nat.{ℕ, zero, suc, _+_, _*_, _<_, _≤_}
+use Prim.Native.Nat.{ℕ, zero, suc, _+_, _*_, _<_}
 use native.Mathlib.Omega.{arith}
 use lib.ListN.{length, getD, take, drop}
 use lib.Dec.{eqb}
@@ -12,8 +12,8 @@ use Rattle.dataset.specs.Tree.{rowsOf}
 use Rattle.value.specs.declared.Num.{Num}
 use Rattle.value.specs.declared.Num.the-variants.{Is, Lacks}
 use Rattle.value.specs.Number.{usOf}
-use Rattle.node.specs.Nodes.{Node, holdsNodes, nodeOf, nodesOf, noNode, nodeAt, root}
-use Rattle.node.specs.Find.{andThen, find, findVr}
+use Rattle.node.specs.Nodes.{holdsNodes, nodeOf, nodesOf, noNode, nodeAt}
+use Rattle.node.specs.Find.{andThen, findVr}
 use Rattle.element.specs.Elements.{usIn}
 use Rattle.display.specs.Drawing.{Bytes}
 

@@ -1,12 +1,11 @@
 -- All that drawing frame f of an accepted object rests on, in one place.
-use mathlib.Core.Path.{_≡_, refl, sym, ap, _∙_, subst}
-use mathlib.Core.Bool.{Bool, true}
+use mathlib.Core.Path.{_≡_, _∙_, subst}
+use mathlib.Core.Bool.{true}
 use mathlib.Core.List.{List, [], _∷_}
-use mathlib.Core.Option.{Option, none, some}
-use Prim.Native.Nat.{ℕ, zero, suc, _+_, _*_, _≤_, _<_}
+use mathlib.Core.Option.{Option, some}
+use Prim.Native.Nat.{ℕ, zero, suc, _≤_, _<_}
 use lib.ListN.{length, getD}
 use native.Mathlib.Omega.{arith}
-use Rattle.value.specs.declared.Num.{Num}
 use Rattle.value.specs.declared.Num.the-variants.{Is}
 use Rattle.node.specs.Nodes.{Node, nodesOf, root}
 use Rattle.element.specs.Frames.{framesOf}
@@ -16,11 +15,11 @@ use Rattle.value.specs.Number.{usValues}
 use Rattle.element.specs.Elements.{valueAt}
 use Rattle.pixel.specs.declared.Geometry.{Geometry}
 use Rattle.pixel.specs.Pixel.{samplesOf, isFrame}
-use Rattle.pixel.specs.Said.{Shaped}
+use Rattle.pixel.specs.Contracts.{Shaped}
 use Rattle.steps.specs.Steps.{Mask, geometryOf, pixelsOf, maskFor, masked as maskOf}
 use Rattle.display.specs.declared.Masking.{Masking}
 use Rattle.display.specs.declared.Masking.the-variants as masking
-use Rattle.display.specs.Said.{AllWithin, Sound, Gives, maskingOf, MaskingBelow, MasksReady}
+use Rattle.display.specs.Contracts.{AllWithin, Sound, Gives, maskingOf, MaskingBelow, MasksReady}
 use Rattle.display.specs.Show.{imageSize}
 use Rattle.display.proofs.Given.{never}
 use Rattle.display.proofs.Lacking.{geometry-size}

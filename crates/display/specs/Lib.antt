@@ -1,5 +1,4 @@
 pub mod Show
-pub mod Said
+pub mod Contracts
 pub mod Drawing
 pub mod Before
-pub mod Planned

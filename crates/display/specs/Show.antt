@@ -1,7 +1,7 @@
 -- What `show` answers, and what its buffers then hold (document 01, "What is handed back"): as judging up to code 9, then
 -- 10 for a frame that is not in 1..N, then 11 for an image buffer under Rows × Columns bytes, then 0.
 use Prim.Native.Nat.{ℕ, _*_}
-use mathlib.Core.Bool.{Bool, true, false, cond, _&&_}
+use mathlib.Core.Bool.{Bool, false, cond, _&&_}
 use mathlib.Core.List.{List, [], _++_}
 use mathlib.Core.Option.{Option, none, some}
 use lib.ListN.{length, drop}

@@ -1,8 +1,8 @@
 // Draws a frame of a data set that is accepted.
 ghost use mathlib.Core.Path.{_≡_};
-ghost use Prim.Native.Nat.{ℕ, _+_, _-_, _*_, _^_, _≤_, _<_};
-ghost use mathlib.Core.Bool.{Bool, true, false};
-ghost use mathlib.Core.Option.{Option, none, some};
+ghost use Prim.Native.Nat.{ℕ, _*_, _≤_, _<_};
+ghost use mathlib.Core.Bool.{true, false};
+ghost use mathlib.Core.Option.{some};
 ghost use mathlib.Core.List.{_++_};
 ghost use lib.ListN.{length, drop, getD};
 ghost use Rattle.value.specs.declared.Num.the-variants as num;
@@ -12,18 +12,16 @@ ghost use Rattle.dataset.specs.Fields.{Answers};
 ghost use Rattle.dataset.specs.Answer.{bufferOf};
 ghost use Rattle.conformance.specs.Judging.{numberOf, findingOf};
 ghost use Rattle.display.specs.Show.{imageSize, imageBy, pictureOf, acceptedAnswer, showOf, imageOf, fieldsOf};
-ghost use Rattle.display.specs.Planned.{IsObject, IsScene, IsItem, IsApplying, IsPlan};
-ghost use Rattle.value.specs.Said.{Below};
+ghost use Rattle.display.specs.Contracts.{IsObject, IsScene, IsItem, IsApplying, IsPlan, Gives, GivesMoves, GivesInverse, averageBy, tidBy, maskingOf, MaskingBelow, ApplyingBelow, SharedBy, isMasked, shadeBy, MasksReady};
+ghost use Rattle.value.specs.Contracts.{Below};
 ghost use Rattle.node.specs.Nodes.{nodesOf};
-ghost use Rattle.node.specs.Table.{Table};
+ghost use Rattle.node.specs.Contracts.{Table};
 ghost use Rattle.element.specs.Frames.{frameItem, framesOf};
 ghost use Rattle.element.specs.Elements.{valueAt};
 ghost use Rattle.pixel.specs.Pixel.{samplesOf};
-ghost use Rattle.pixel.specs.Painted.{painted};
-ghost use Rattle.pixel.specs.Said.{Ready};
+ghost use Rattle.pixel.specs.Contracts.{painted, Ready};
 ghost use Rattle.steps.specs.Steps.{applyingTo, inverseOf, movesFor, maskBy, maskFor};
-ghost use Rattle.steps.specs.Said.{IsShared};
-ghost use Rattle.display.specs.Said.{Gives, GivesMoves, GivesInverse, averageBy, tidBy, maskingOf, MaskingBelow, ApplyingBelow, SharedBy, isMasked, shadeBy, MasksReady};
+ghost use Rattle.steps.specs.Contracts.{IsShared};
 use conformance::JudgeAnswer;
 use element::tags;
 use pixel::Geometry;
@@ -237,7 +235,7 @@ fn paint(
 }
 
 // Step 7: whether the picture is inverted.
-pub fn is_inverse(bytes: &[u8], rows: &[u32]) -> bool
+fn is_inverse(bytes: &[u8], rows: &[u32]) -> bool
     requires { ⌜ Table (now bytes) (now rows) × GivesInverse (inverseOf (nodesOf (now bytes))) ⌝ }
     ensures { λ r. ⌜ inverseOf (nodesOf (now (bytes .entry))) ≡ some r ⌝ }
 {

@@ -5,8 +5,7 @@ use native.Mathlib.Omega.{arith}
 use mathlib.Core.List.{List}
 use lib.ListN.{length}
 use Rattle.node.specs.Nodes.{nodesOf, members}
-use Rattle.node.specs.Table.{Table}
-use Rattle.node.specs.Halves.{Ascends}
+use Rattle.node.specs.Contracts.{Table, Ascends}
 use Rattle.node.proofs.Halves.{root-ascends}
 
 abbrev Searched : List ℕ → List ℕ → ℕ → ℕ → Type 0

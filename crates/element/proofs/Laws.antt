@@ -1,12 +1,12 @@
 -- Items along a sequence: how many there are, which is the one, and where a cursor stands among them.
-use mathlib.Core.Path.{_≡_, refl, sym, ap, _∙_, subst}
-use Prim.Native.Nat.{ℕ, zero, suc, _+_, _≤_, _<_}
+use mathlib.Core.Path.{_≡_, refl, sym}
+use Prim.Native.Nat.{ℕ, suc, _+_, _≤_, _<_}
 use native.Mathlib.Omega.{arith}
 use mathlib.Core.List.{List, [], _∷_}
 use mathlib.Core.Bool.{Bool, true, false, cond, _&&_}
 use lib.ListN.{length, drop}
 use lib.Dec.{eqb}
-use borrow.Author.Tests.{eq-eqb, ne-eqb, eqb-true}
+use borrow.Author.Tests.{eq-eqb, ne-eqb}
 use Rattle.dataset.specs.Vr.{SQ}
 use Rattle.value.specs.declared.Num.{Num}
 use Rattle.value.specs.declared.Num.the-variants.{Is, Lacks}
@@ -14,7 +14,7 @@ use Rattle.node.specs.Nodes.{Node, nodeAt, nextNode, members, inside}
 use Rattle.node.proofs.Walks.{members-end, members-next}
 use Rattle.element.specs.declared.Items.{Items}
 use Rattle.element.specs.Elements.{oneItem, theItem, first}
-use Rattle.element.specs.Along.{Along}
+use Rattle.element.specs.Contracts.{Along}
 
 -- ---- The one item of a sequence
 

@@ -8,15 +8,13 @@ use lib.Dec.{eqb}
 use Rattle.dataset.specs.Vr.{SQ}
 use Rattle.value.specs.declared.Num.{Num}
 use Rattle.value.specs.declared.Num.the-variants.{Is, Lacks}
-use Rattle.value.specs.declared.Signed.{Signed}
-use Rattle.value.specs.declared.Signed.the-variants as signed
-use Rattle.value.specs.Number.{usOf, ssOf}
+use Rattle.value.specs.Number.{usOf}
 use Rattle.value.specs.declared.Function.{Function}
 use Rattle.value.specs.declared.Function.the-variants as function
 use Rattle.value.specs.Words.{isWord, isUid, functionOf}
 use Rattle.node.specs.Nodes.{Node, nodeAt, inside}
 use Rattle.node.specs.Find.{holds, andThen, find, findVr}
-use Rattle.element.specs.Tags.{CS, UI, US, SS, VOILUTFunction}
+use Rattle.element.specs.Tags.{CS, UI, US, VOILUTFunction}
 
 abbrev pub valueAt : List Node → ℕ → List ℕ
 valueAt ns i = nodeAt ns i .value

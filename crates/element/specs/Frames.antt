@@ -10,25 +10,25 @@ use Rattle.value.specs.declared.Signed.{Signed}
 use Rattle.value.specs.declared.Signed.the-variants as signed
 use Rattle.value.specs.Number.{isOf}
 use Rattle.node.specs.Nodes.{Node, root, inside}
-use Rattle.node.specs.Find.{holds, andThen, orElse, find, findVr}
+use Rattle.node.specs.Find.{andThen, orElse, find, findVr}
 use Rattle.element.specs.Tags.{IS, NumberOfFrames, SharedFunctionalGroupsSequence, PerFrameFunctionalGroupsSequence, MaskSubtractionSequence, MaskOperation, SubtractionItemID}
 use Rattle.element.specs.Elements.{valueAt, usIn, csIs, theItem, itemsIn, first}
 
 -- A signed number that counts: what is below zero counts nothing.
-abbrev pub counted : Signed → Num
-counted (signed.Plus n) = Is n
-counted (signed.Minus n) = Is 0
-counted signed.Lacks = Lacks
+abbrev pub asCount : Signed → Num
+asCount (signed.Plus n) = Is n
+asCount (signed.Minus n) = Is 0
+asCount signed.Lacks = Lacks
 
 -- Number of Frames, the paper's N.
 unfoldable pub framesOf : List Node → Num
-framesOf ns = andThen (findVr ns NumberOfFrames IS (root ns)) (λ i. counted (isOf (valueAt ns i)))
+framesOf ns = andThen (findVr ns NumberOfFrames IS (root ns)) (λ i. asCount (isOf (valueAt ns i)))
 
 -- The one item of the shared functional groups.
 unfoldable pub sharedItem : List Node → Num
 sharedItem ns = andThen (find ns SharedFunctionalGroupsSequence (root ns)) (theItem ns)
 
--- The items of the per-frame functional groups, and item f, counted from 1: there is no item 0.
+-- The items of the per-frame functional groups, and item f, asCount from 1: there is no item 0.
 unfoldable pub frameItems : List Node → List ℕ
 frameItems ns = itemsIn ns PerFrameFunctionalGroupsSequence (root ns)
 

@@ -1,4 +1,4 @@
 pub mod Tags
 pub mod Elements
 pub mod Frames
-pub mod Along
+pub mod Contracts

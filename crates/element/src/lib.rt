@@ -3,24 +3,21 @@
 pub mod tags;
 
 ghost use mathlib.Core.Path.{_≡_};
-ghost use Prim.Native.Nat.{ℕ, _+_, _-_, _*_, _≤_, _<_};
-ghost use mathlib.Core.Bool.{Bool};
+ghost use Prim.Native.Nat.{_+_, _≤_, _<_};
 ghost use lib.ListN.{length, drop};
-ghost use Rattle.node.specs.Nodes.{Node, nodesOf, nodeAt, nextNode, members, root, inside};
+ghost use Rattle.node.specs.Nodes.{nodesOf, members, root, inside};
 ghost use Rattle.node.specs.Find.{absent, andThen, holds, find, findVr, has};
-ghost use Rattle.node.specs.Table.{Table};
-ghost use Rattle.value.specs.Said.{Below, SizeBelow};
+ghost use Rattle.node.specs.Contracts.{Table};
+ghost use Rattle.value.specs.Contracts.{Below, SizeBelow};
 ghost use Rattle.value.specs.Number.{usOf};
 ghost use Rattle.value.specs.Words.{isWord};
-ghost use Rattle.element.specs.Elements.{valueAt, usIn, csIs, uiIs, oneItem, theItem, insideOf, itemsIn, functionOn, functionIn};
+ghost use Rattle.element.specs.Elements.{valueAt, usIn, csIs, uiIs, oneItem, theItem, itemsIn, functionOn, functionIn};
 ghost use Rattle.value.specs.declared.Num.the-variants as num;
-ghost use Rattle.element.specs.Frames.{counted, framesOf, sharedItem, frameItems, groupOf, maskItems};
-ghost use Rattle.element.specs.Along.{Along};
+ghost use Rattle.element.specs.Frames.{asCount, framesOf, sharedItem, frameItems, groupOf, maskItems};
+ghost use Rattle.element.specs.Contracts.{Along};
 use value::Function;
 use value::Num;
 use value::Signed;
-
-const SQ: usize = 0x5351;
 
 // The items that are left of a sequence: from `at` up to `end`.
 pub struct Items {
@@ -185,7 +182,7 @@ pub fn the_item(bytes: &[u8], rows: &[u32], i: usize) -> Num
     ensures { λ r. ⌜ r ≡ theItem (nodesOf (now (bytes .entry))) i ⌝ }
     ensures { λ r. ⌜ Below (length (nodesOf (now (bytes .entry)))) r ⌝ }
 {
-    if node::vr(bytes, rows, i) == SQ {
+    if node::vr(bytes, rows, i) == dataset::SQ {
         let end = node::next(bytes, rows, i);
         let first = i + 1;
         if first < end {
@@ -214,11 +211,11 @@ pub fn is_one_item(bytes: &[u8], rows: &[u32], i: usize) -> bool
 }
 
 // The items of the root's sequence of the tag, from the first; none where there is no such sequence.
-pub fn items_root(bytes: &[u8], rows: &[u32], tag: usize) -> Items
+fn items_root(bytes: &[u8], rows: &[u32], tag: usize) -> Items
     requires { ⌜ Table (now bytes) (now rows) ⌝ }
     ensures { λ r. ⌜ Along (nodesOf (now (bytes .entry))) (itemsIn (nodesOf (now (bytes .entry))) tag (root (nodesOf (now (bytes .entry))))) r ⌝ }
 {
-    match find_vr_root(bytes, rows, tag, SQ) {
+    match find_vr_root(bytes, rows, tag, dataset::SQ) {
         Num::Lacks => Items { at: 0, end: 0 },
         Num::Is(i) => Items {
             at: i + 1,
@@ -274,7 +271,7 @@ pub fn function_in(bytes: &[u8], rows: &[u32], item: usize) -> Function
 // A signed number that counts: what is below zero counts nothing.
 fn counted(n: Signed) -> Num
     requires { ⌜ SizeBelow 100000000000 n ⌝ }
-    ensures { λ r. ⌜ r ≡ counted n ⌝ }
+    ensures { λ r. ⌜ r ≡ asCount n ⌝ }
     ensures { λ r. ⌜ Below 100000000000 r ⌝ }
 {
     match n {
@@ -325,7 +322,7 @@ pub fn mask_items(bytes: &[u8], rows: &[u32]) -> Items
 }
 
 // A frame's functional group of the tag: that in its item, else the shared one.
-pub fn group_of(bytes: &[u8], rows: &[u32], tag: usize, shared: usize, item: usize) -> Num
+fn group_of(bytes: &[u8], rows: &[u32], tag: usize, shared: usize, item: usize) -> Num
     requires { ⌜ Table (now bytes) (now rows) × ((shared < length (nodesOf (now bytes))) × (item < length (nodesOf (now bytes)))) ⌝ }
     ensures { λ r. ⌜ r ≡ groupOf (nodesOf (now (bytes .entry))) tag shared item ⌝ }
     ensures { λ r. ⌜ Below (length (nodesOf (now (bytes .entry)))) r ⌝ }

@@ -1,5 +1,5 @@
 -- Judging a file reports the sum of the data set inside, where it accepts it.
-use mathlib.Core.Path.{_≡_, refl, sym, ap, subst}
+use mathlib.Core.Path.{_≡_, refl, sym, subst}
 use Prim.Native.Nat.{ℕ}
 use mathlib.Core.Bool.{Bool, true, false}
 use mathlib.Core.List.{List}
@@ -10,7 +10,7 @@ use Rattle.conformance.specs.declared.JudgeAnswer.{JudgeAnswer}
 use Rattle.conformance.specs.declared.JudgeAnswer.the-variants as judged
 use Rattle.conformance.specs.Judging.{judgeOf}
 use Rattle.searches.specs.Searches.{searchesOf}
-use Rattle.searches.specs.Parts.{Left}
+use Rattle.searches.specs.Contracts.{Left}
 use Rattle.searches.proofs.After.{rows-left}
 use Rattle.file.specs.declared.JudgeFileAnswer.{JudgeFileAnswer}
 use Rattle.file.specs.declared.JudgeFileAnswer.the-variants as judgeFile

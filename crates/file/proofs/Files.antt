@@ -4,13 +4,12 @@ use mathlib.Core.Path.{_≡_, refl, sym, ap, _∙_, subst}
 use Prim.Native.Nat.{ℕ, _+_, _*_, _≤_, _<_}
 use native.Mathlib.Omega.{arith}
 use borrow.Author.Tests.{le-leb}
-use mathlib.Core.Bool.{Bool, true, false, cond}
-use mathlib.Core.List.{List, [], _∷_, _++_}
-use mathlib.Core.Option.{some}
-use lib.ListN.{length, getD, drop}
+use mathlib.Core.Bool.{Bool, true, false}
+use mathlib.Core.List.{List}
+use lib.ListN.{length, drop}
 use lib.Seq.{getD-drop}
 use Rattle.dataset.specs.Reading.{Row, Reading, tooLarge, refusedAt, read, readingOf}
-use Rattle.dataset.specs.Answer.{width, fits, answerOf, bufferOf}
+use Rattle.dataset.specs.Answer.{width, answerOf, bufferOf}
 use Rattle.dataset.specs.Tree.{rowsIn, rowsOf}
 use Rattle.dataset.specs.declared.ReadAnswer.{ReadAnswer}
 use Rattle.dataset.specs.declared.ReadAnswer.the-variants as answer
@@ -20,11 +19,10 @@ use Rattle.conformance.specs.declared.Finding.the-variants as finding
 use Rattle.conformance.specs.declared.JudgeAnswer.{JudgeAnswer}
 use Rattle.conformance.specs.declared.JudgeAnswer.the-variants as judged
 use Rattle.conformance.specs.Judging.{findingOf, answerFor, judgeOf}
-use Rattle.steps.specs.Steps.{Picture, stepsOf}
-use Rattle.display.specs.Show.{imageSize, showOf, imageOf, fieldsOf}
+use Rattle.display.specs.Show.{showOf, imageOf, fieldsOf}
 use Rattle.display.specs.declared.ShowAnswer.{ShowAnswer}
 use Rattle.display.specs.declared.ShowAnswer.the-variants as shown
-use Rattle.display.specs.Drawing.{Bytes, IsAccepted, IsFrame, HasRoom, Drawing}
+use Rattle.display.specs.Drawing.{Bytes, IsAccepted}
 use Rattle.linear.specs.Demand3.{Promise}
 use Rattle.linear.proofs.Demand3.{demand-3}
 use Rattle.meta.specs.declared.Meta.{Meta}
@@ -38,9 +36,8 @@ use Rattle.file.specs.declared.JudgeFileAnswer.the-variants as judgeFile
 use Rattle.file.specs.declared.ShowFileAnswer.{ShowFileAnswer}
 use Rattle.file.specs.declared.ShowFileAnswer.the-variants as showFile
 use Rattle.file.specs.File.{startBy, startOf, startFields, sameClass, readIn, readPart, readBy, readFileOf, rowsBy, rowsLeft, judgeIn, judgePart, judgeBy, judgeFileOf, showIn, showPart, showBy, showFileOf, imageIn, imagePart, imageLeftBy, imageLeft, readFields, judgeFields, showFields}
-use Rattle.searches.specs.Searches.{searchesOf}
-use Rattle.searches.specs.Reported.{ifAccepted, reportedOf}
-use Rattle.file.specs.Searches.{searchesIn, insideSum, searchesFileOf}
+use Rattle.searches.specs.Reported.{reportedOf}
+use Rattle.file.specs.Searches.{searchesFileOf}
 use Rattle.file.specs.Files as files
 
 -- ---- Answers with 18 put in

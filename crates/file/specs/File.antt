@@ -2,8 +2,8 @@
 -- data set is read as the part of the file that it is; then its SOP class is compared with the head's, for 18. So the orders are 15,
 -- 16, 17, 7, 1 to 6, 8, 18, 9, 10, 11. Places count from the data set's start. Each of 15 to 18 answers its code alone.
 use Prim.Native.Nat.{ℕ}
-use mathlib.Core.Bool.{Bool, true, false, cond}
-use mathlib.Core.List.{List, []}
+use mathlib.Core.Bool.{Bool, false, cond}
+use mathlib.Core.List.{List}
 use lib.ListN.{drop}
 use Rattle.dataset.specs.Reading.{readingOf}
 use Rattle.dataset.specs.Fields.{Fields, codeAlone, placed}

@@ -8,7 +8,7 @@ use Rattle.meta.specs.declared.Meta.{Meta}
 use Rattle.meta.specs.declared.Meta.the-variants as head
 use Rattle.searches.specs.Searches.{searchesOf}
 use Rattle.searches.specs.Reported.{Reported, ifAccepted}
-use Rattle.searches.specs.Parts.{Left}
+use Rattle.searches.specs.Contracts.{Left}
 use Rattle.file.specs.declared.JudgeFileAnswer.{JudgeFileAnswer}
 use Rattle.file.specs.declared.JudgeFileAnswer.the-variants as judgeFile
 use Rattle.file.specs.declared.CountedFile.{CountedFile}

@@ -12,7 +12,7 @@ ghost use Rattle.dataset.specs.Reading.{readingOf};
 ghost use Rattle.dataset.specs.Fields.{Answers};
 ghost use Rattle.dataset.specs.Answer.{bufferOf};
 ghost use Rattle.node.specs.Nodes.{nodesOf};
-ghost use Rattle.node.specs.Table.{Table};
+ghost use Rattle.node.specs.Contracts.{Table};
 ghost use Rattle.file.specs.File.{startOf, sameClass, readPart, readFileOf, rowsLeft, judgePart, judgeFileOf, showPart, showFileOf, imagePart, imageLeft, startFields, readFields, judgeFields, showFields};
 ghost use Rattle.searches.specs.Searches.{searchesOf};
 ghost use Rattle.file.specs.Searches.{searchesIn, countedPart, countedFileOf, countedFields, LeftIn};
@@ -72,7 +72,7 @@ pub fn start_of(file: &[u8]) -> Start
 }
 
 // The data set that starts there: the part of the lent file, and no copy.
-pub fn data_set<'a>(file: &'a [u8], from: usize) -> &'a [u8]
+fn data_set<'a>(file: &'a [u8], from: usize) -> &'a [u8]
     requires { ⌜ from ≤ length (now file) ⌝ }
     ensures { λ r. ⌜ Rest (file .entry) from r ⌝ }
 {

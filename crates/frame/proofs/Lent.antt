@@ -1,17 +1,17 @@
 -- The view of a frame in the data set as lent: a part of the pixel bytes, which are a part of the data set; and a frame's cells
 -- stand in its bytes as they do in all pixel bytes, f - 1 frames further on.
-use mathlib.Core.Path.{_≡_, refl, sym, ap, _∙_, subst}
+use mathlib.Core.Path.{_≡_, refl, sym, ap, _∙_}
 use mathlib.Core.List.{List}
 use Prim.Native.Nat.{ℕ, zero, suc, _+_, _-_, _*_, _%_, _^_, _≤_, _<_}
 use native.Mathlib.Nat.{add-mul, mul-assoc, mul-le-mul-right}
 use native.Mathlib.Omega.{arith}
-use lib.ListN.{length, getD, take, drop}
+use lib.ListN.{getD, take, drop}
 use lib.Seq.{getD-take, getD-drop}
 use denote.Ref.{RefT}
 use Rattle.dataset.specs.Tree.{rowsOf, rowAt}
 use Rattle.pixel.specs.declared.Geometry.{Geometry}
 use Rattle.pixel.specs.Pixel.{leBytes, samplesOf, sampleAt}
-use Rattle.pixel.specs.Said.{cellAt}
+use Rattle.pixel.specs.Contracts.{cellAt}
 use Rattle.pixel.proofs.Laws.{sample-cell}
 use Rattle.frame.specs.declared.FrameView.{FrameView}
 use Rattle.frame.specs.View.{Part, IsView, InDataSet, frameSize}

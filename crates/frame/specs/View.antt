@@ -7,7 +7,7 @@ use denote.Ref.{RefT}
 use Rattle.dataset.specs.Tree.{rowsOf, rowAt}
 use Rattle.pixel.specs.declared.Geometry.{Geometry}
 use Rattle.pixel.specs.Pixel.{samplesOf, sampleAt}
-use Rattle.pixel.specs.Said.{cellAt}
+use Rattle.pixel.specs.Contracts.{cellAt}
 use Rattle.frame.specs.declared.FrameView.{FrameView}
 
 -- The reference r is the part of the lent slice s that starts at `at` and has n bytes: it points into the same memory, so many

@@ -1,11 +1,13 @@
 // A frame looked at as its own part of the pixel bytes: the bytes of a line, in the data set as lent.
 ghost use mathlib.Core.Path.{_≡_};
-ghost use Prim.Native.Nat.{_+_, _-_, _*_, _≤_, _<_, _^_};
+ghost use Prim.Native.Nat.{_+_, _-_, _*_, _≤_, _<_};
 ghost use lib.ListN.{length};
 ghost use Rattle.dataset.specs.Tree.{rowsOf, rowAt};
 ghost use Rattle.node.specs.Nodes.{nodesOf};
-ghost use Rattle.node.specs.Table.{Table};
+ghost use Rattle.node.specs.Contracts.{Table};
 ghost use Rattle.frame.specs.View.{Part, IsView, Fits, frameSize};
+use dataset::WIDTH;
+use node::wide;
 
 // A frame: its bytes, the number of its rows and of its columns.
 pub struct FrameView<'a> {
@@ -17,7 +19,7 @@ pub struct FrameView<'a> {
 // ---- Slices and numbers
 
 // Block k of blocks of `size` bytes.
-pub fn block(s: &[u8], size: usize, k: usize) -> &[u8]
+fn block(s: &[u8], size: usize, k: usize) -> &[u8]
     requires { ⌜ k * size + size ≤ length (now s) ⌝ }
     ensures { λ r. ⌜ Part (s .entry) (k * size) size r ⌝ }
 {
@@ -27,7 +29,7 @@ pub fn block(s: &[u8], size: usize, k: usize) -> &[u8]
 }
 
 // The bytes of a frame.
-pub fn frame_part(pixels: &[u8], rows: usize, columns: usize, width: usize, frame: usize) -> &[u8]
+fn frame_part(pixels: &[u8], rows: usize, columns: usize, width: usize, frame: usize) -> &[u8]
     requires { ⌜ Fits rows columns width frame (length (now pixels)) ⌝ }
     ensures { λ r. ⌜ Part (pixels .entry) ((frame - 1) * frameSize rows columns width) (frameSize rows columns width) r ⌝ }
 {
@@ -35,7 +37,7 @@ pub fn frame_part(pixels: &[u8], rows: usize, columns: usize, width: usize, fram
 }
 
 // The bytes of a line of a frame's bytes.
-pub fn line_part(samples: &[u8], columns: usize, width: usize, row: usize) -> &[u8]
+fn line_part(samples: &[u8], columns: usize, width: usize, row: usize) -> &[u8]
     requires { ⌜ row * (columns * width) + columns * width ≤ length (now samples) ⌝ }
     ensures { λ r. ⌜ Part (samples .entry) (row * (columns * width)) (columns * width) r ⌝ }
 {
@@ -45,7 +47,7 @@ pub fn line_part(samples: &[u8], columns: usize, width: usize, row: usize) -> &[
 // ---- The view: each function makes it, or takes it apart
 
 // The frame's bytes, with its size.
-pub fn view<'a>(
+fn view<'a>(
     pixels: &'a [u8],
     rows: usize,
     columns: usize,
@@ -64,7 +66,7 @@ pub fn view<'a>(
 }
 
 // A line of the frame.
-pub fn line<'a>(v: FrameView<'a>, width: usize, row: usize) -> &'a [u8]
+fn line<'a>(v: FrameView<'a>, width: usize, row: usize) -> &'a [u8]
     requires { ⌜ row * (v .columns * width) + v .columns * width ≤ length (now (v .samples)) ⌝ }
     ensures { λ r. ⌜ Part (v .entry .samples) (row * (v .entry .columns * width)) (v .entry .columns * width) r ⌝ }
 {
@@ -88,18 +90,12 @@ pub fn frame_line<'a>(
 
 // ---- In the data set as lent
 
-fn wide(x: u32) -> usize
-    ensures { λ r. ⌜ r ≡ x ⌝ }
-{
-    x as usize
-}
-
 // The value of row p, a part of the data set.
 pub fn value_part<'a, 'b>(bytes: &'a [u8], rows: &'b [u32], p: usize) -> &'a [u8]
     requires { ⌜ Table (now bytes) (now rows) × (p < length (nodesOf (now bytes))) ⌝ }
     ensures { λ r. ⌜ Part (bytes .entry) (rowAt (rowsOf (now (bytes .entry))) p .offset) (rowAt (rowsOf (now (bytes .entry))) p .size) r ⌝ }
 {
-    let start = wide(rows[7 * p + 3]);
-    let end = start + wide(rows[7 * p + 4]);
+    let start = wide(rows[WIDTH * p + dataset::OFFSET]);
+    let end = start + wide(rows[WIDTH * p + dataset::LENGTH]);
     &bytes[start..end]
 }

@@ -1,13 +1,11 @@
 // Subtraction Item IDs: whether an item has one, and whether no two items have the same.
 ghost use mathlib.Core.Path.{_≡_};
-ghost use Prim.Native.Nat.{ℕ, _+_, _-_, _*_, _≤_, _<_};
-ghost use mathlib.Core.Bool.{Bool};
-ghost use lib.ListN.{length, getD};
-ghost use Rattle.node.specs.Nodes.{Node, nodesOf, nodeAt, members};
-ghost use Rattle.node.specs.Table.{Table};
-ghost use Rattle.element.specs.Frames.{idIn};
-ghost use Rattle.rules.specs.Frame.{numberOr0, isIn, uniqueIds, hasId};
-ghost use Rattle.ids.specs.Marks.{AllZero, idOf, idsOf};
+ghost use Prim.Native.Nat.{_≤_, _<_};
+ghost use lib.ListN.{length};
+ghost use Rattle.node.specs.Nodes.{nodesOf, members};
+ghost use Rattle.node.specs.Contracts.{Table};
+ghost use Rattle.rules.specs.Frame.{isIn, uniqueIds, hasId};
+ghost use Rattle.ids.specs.Contracts.{AllZero, idOf, idsOf};
 use element::tags;
 use value::Num;
 

@@ -5,15 +5,14 @@ use native.Mathlib.Omega.{arith}
 use borrow.Author.Tests.{lt-leb}
 use lib.ListN.{length}
 use mathlib.Core.List.{List, [], _∷_}
-use mathlib.Core.Bool.{Bool, true, false, cond}
+use mathlib.Core.Bool.{true, false}
 use lib.Dec.{eqb}
 use Rattle.dataset.specs.Bytes.{le16}
 use Rattle.node.specs.Nodes.{Node, nextNode, members}
 use Rattle.node.proofs.Walks.{members-end, members-next}
 use Rattle.element.specs.Elements.{every}
 use Rattle.rules.specs.Intensity.{isLinear, linearAmong, entryCount, hasLut, areLuts}
-use Rattle.intensity.specs.Grades.{lutsOf}
-use Rattle.intensity.specs.Said.{Stops}
+use Rattle.intensity.specs.Contracts.{lutsOf, Stops}
 
 module _ (ns : List Node) (i to : ℕ) where
   pub linear-end : to ≤ i → linearAmong ns (members ns i to) ≡ []

@@ -1,21 +1,18 @@
 // Rule 39's two functional groups: the intensity relationship, and the TO_LINEAR item of the LUTs.
 ghost use mathlib.Core.Path.{_≡_};
-ghost use Prim.Native.Nat.{ℕ, _≤_, _<_};
+ghost use Prim.Native.Nat.{_≤_, _<_};
 ghost use lib.ListN.{length};
 ghost use Rattle.node.specs.Nodes.{nodesOf, members};
-ghost use Rattle.node.specs.Table.{Table};
+ghost use Rattle.node.specs.Contracts.{Table};
 ghost use Rattle.rules.specs.Intensity.{isLinear, linearAmong, entryCount, isLut, hasLut};
-ghost use Rattle.intensity.specs.Grades.{agree, relationOf, lutsOf, tableOf, relationIn, tableIn};
-ghost use Rattle.intensity.specs.Said.{Stops};
+ghost use Rattle.intensity.specs.Contracts.{agree, relationOf, lutsOf, tableOf, relationIn, tableIn, Stops};
 use dataset::u16_at;
 use element::tags;
 use value::Num;
 
-const SQ: usize = 0x5351;
-
 // ---- The TO_LINEAR items
 
-pub fn is_linear(bytes: &[u8], rows: &[u32], item: usize) -> bool
+fn is_linear(bytes: &[u8], rows: &[u32], item: usize) -> bool
     requires { ⌜ Table (now bytes) (now rows) × (item < length (nodesOf (now bytes))) ⌝ }
     ensures { λ r. ⌜ r ≡ isLinear (nodesOf (now (bytes .entry))) item ⌝ }
 {
@@ -101,7 +98,7 @@ fn table_of(bytes: &[u8], rows: &[u32], group: usize) -> usize
     requires { ⌜ Table (now bytes) (now rows) × (group < length (nodesOf (now bytes))) ⌝ }
     ensures { λ r. ⌜ r ≡ tableOf (nodesOf (now (bytes .entry))) group ⌝ }
 {
-    if node::vr(bytes, rows, group) == SQ {
+    if node::vr(bytes, rows, group) == dataset::SQ {
         let from = group + 1;
         let to = node::next(bytes, rows, group);
         if from < to {

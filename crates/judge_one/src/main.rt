@@ -4,22 +4,8 @@ mod sentence;
 
 use conformance::JudgeAnswer;
 use judge_small::Located;
-ghost use mathlib.Core.Path.{_≡_};
-ghost use lib.ListN.{length};
-
-// One byte more than is judged, so that an input that is too long is seen to be.
-fn input() -> [u8; 65_537]
-    ensures { λ r. ⌜ 65537 ≡ length r ⌝ }
-{
-    [0; 65_537]
-}
-
-// A name and its number.
-fn print_field(name: &[u8], n: usize) {
-    io::write_all(1, name);
-    io::write_all(1, b" ");
-    io::print_decimal(1, n as u64);
-}
+use printing::print_field;
+use room::input;
 
 fn print_accepted(rows: usize) {
     print_field(b"accepted\ncode 0 rows", rows);
@@ -68,7 +54,7 @@ fn print_answer(located: Located) {
 fn main() {
     let mut bytes = input();
     let n = io::read_full(0, &mut bytes);
-    if judge_small::MOST < n {
+    if room::MOST < n {
         io::write_all(1, b"too long: at most 65536 bytes\n");
         return;
     }

@@ -11,7 +11,7 @@ use Rattle.dataset.specs.Answer.{answerOf, bufferOf}
 use Rattle.dataset.specs.declared.ReadAnswer.{ReadAnswer}
 use Rattle.dataset.specs.declared.ReadAnswer.the-variants as read
 use Rattle.node.specs.Nodes.{Node, nodesOf}
-use Rattle.node.specs.Table.{Table}
+use Rattle.node.specs.Contracts.{Table}
 use Rattle.conformance.specs.declared.Finding.{Finding}
 use Rattle.conformance.specs.declared.Finding.the-variants as finding
 use Rattle.conformance.specs.declared.JudgeAnswer.{JudgeAnswer}

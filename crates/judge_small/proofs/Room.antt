@@ -1,7 +1,6 @@
 -- The rows of a data set fit a buffer of seven numbers for each 8 bytes, since a row has at least 8 bytes; and an answer
 -- depends on the buffer only in whether the rows fit.
 use mathlib.Core.Path.{_≡_, refl, ap}
-use mathlib.Core.Bool.{Bool, true, false, cond}
 use Prim.Native.Nat.{ℕ, _*_, _≤_}
 use native.Mathlib.Omega.{arith}
 use borrow.Author.Tests.{le-leb}
@@ -15,7 +14,7 @@ use Rattle.dataset.proofs.Buffer.{length-flat}
 use Rattle.dataset.proofs.Laws.{row-count}
 use Rattle.node.specs.Nodes.{nodesOf}
 use Rattle.conformance.specs.Judging.{findingOf, answerFor, judgeOf}
-use Rattle.judge_small.specs.Roomy.{roomyOf}
+use Rattle.judge_small.specs.Contracts.{roomyOf}
 
 same-answer : (s buffer : List ℕ) → 7 * length s ≤ 8 * length buffer → answerOf (readingOf s) buffer ≡ answerOf (readingOf s) (flat (rowsOf s))
 unfolding rowsOf

@@ -1,2 +1,2 @@
-pub mod Roomy
+pub mod Contracts
 pub mod Located

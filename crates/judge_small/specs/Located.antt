@@ -10,7 +10,7 @@ use Rattle.element.specs.Frames.{frameItem}
 use Rattle.conformance.specs.declared.JudgeAnswer.{JudgeAnswer}
 use Rattle.conformance.specs.declared.JudgeAnswer.the-variants as judged
 use Rattle.judge_small.specs.declared.Located.{Located}
-use Rattle.judge_small.specs.Roomy.{roomyOf}
+use Rattle.judge_small.specs.Contracts.{roomyOf}
 
 -- The number of a node's row, counted from 1; 0 where there is none.
 abbrev pub rowNumber : Num → ℕ

@@ -1,12 +1,13 @@
 // Judging a data set of at most 65,536 bytes with a row buffer of its own, for the programs that judge.
 use conformance::JudgeAnswer;
+use room::row_buffer;
 use value::Num;
 ghost use mathlib.Core.Path.{_≡_};
 ghost use Prim.Native.Nat.{_≤_};
 ghost use lib.ListN.{length};
 ghost use Rattle.node.specs.Nodes.{nodesOf};
-ghost use Rattle.node.specs.Table.{Table};
-ghost use Rattle.judge_small.specs.Roomy.{roomyOf};
+ghost use Rattle.node.specs.Contracts.{Table};
+ghost use Rattle.judge_small.specs.Contracts.{roomyOf};
 ghost use Rattle.judge_small.specs.Located.{itemRow, brokenAt, locatedOf};
 
 // The judge's answer and, where a broken rule names a frame, the number of the row of that frame's item, counted from 1;
@@ -14,17 +15,6 @@ ghost use Rattle.judge_small.specs.Located.{itemRow, brokenAt, locatedOf
 pub struct Located {
     pub answer: JudgeAnswer,
     pub row: usize,
-}
-
-// The most bytes that a data set to be judged may have.
-pub const MOST: usize = 65_536;
-
-// Room for the rows of a data set of that size, since a row has at least 8 bytes. A function of its own gives the
-// length, so that no proof computes it from the array.
-fn row_buffer() -> [u32; 57_344]
-    ensures { λ r. ⌜ 57344 ≡ length r ⌝ }
-{
-    [0; 57_344]
 }
 
 // What the judge answers; never code 8.

@@ -1,16 +1,16 @@
 -- A frame of an accepted object that has a TO_LINEAR item has all that its mapping needs: rule 39 found it.
-use mathlib.Core.Path.{_≡_, refl, sym, ap, _∙_, subst}
-use mathlib.Core.Bool.{Bool, true, false, cond, not, _&&_, _||_}
+use mathlib.Core.Path.{_≡_, subst}
+use mathlib.Core.Bool.{true, not, _&&_, _||_}
 use mathlib.Core.List.{List, [], _∷_}
-use mathlib.Core.Option.{Option, none, some}
-use Prim.Native.Nat.{ℕ, _*_, _≤_, _<_}
+use mathlib.Core.Option.{some}
+use Prim.Native.Nat.{ℕ, _≤_}
 use native.Mathlib.Omega.{arith}
 use lib.ListN.{length}
 use lib.Dec.{eqb, leb}
 use Rattle.dataset.specs.Vr.{SQ}
 use Rattle.value.specs.declared.Num.{Num}
 use Rattle.value.specs.declared.Num.the-variants.{Is, Lacks}
-use Rattle.verdict.proofs.Tests.{false-is-true, and-both}
+use Rattle.verdict.proofs.Tests.{and-both}
 use Rattle.node.specs.Nodes.{Node, nodesOf, nodeAt, root, inside}
 use Rattle.node.specs.Find.{holds, ifPresent}
 use Rattle.element.specs.Tags
@@ -19,18 +19,14 @@ use Rattle.element.specs.Frames.{framesOf, groupOf}
 use Rattle.rules.specs.Intensity.{linearAmong, hasLut, areLuts, isLutGroup, hasLinear, isLog, item39, rule39}
 use Rattle.conformance.specs.declared.Finding.the-variants.{Accepted}
 use Rattle.conformance.specs.Judging.{findingOf}
-use Rattle.pixel.specs.Pixel.{samplesOf}
-use Rattle.steps.specs.Given.{check, then}
-use Rattle.steps.specs.Steps.{groupFor}
 use Rattle.display.specs.Show.{imageSize}
 use Rattle.display.specs.Drawing.{Bytes}
 use Rattle.display.proofs.Small.{us-in-small}
 use Rattle.display.proofs.Objects.{object, at-items, group-is, r39, same-is}
 use Rattle.display.proofs.Lacking.{geometry-size}
-use Rattle.display.proofs.Given.{never, check-some}
-use Rattle.display.proofs.Accepted.{Object}
+use Rattle.display.proofs.Given.{check-some}
 use Rattle.linear.specs.Mapping.{linearOn, linearFor}
-use Rattle.linear.specs.Said.{Mappable}
+use Rattle.linear.specs.Contracts.{Mappable}
 
 -- The first TO_LINEAR item of a group that rule 39 lets pass has its LUT.
 first-has : (ns : List Node) (js : List ℕ) (j : ℕ) → first js ≡ Is j → every (hasLut ns) js ≡ true → hasLut ns j ≡ true

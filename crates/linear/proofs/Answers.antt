@@ -1,23 +1,17 @@
 -- Which answer an accepted object gets: codes 10, 20 and 11 where their tests say so, and else the numbers.
-use mathlib.Core.Path.{_≡_, refl, sym, ap, _∙_}
-use mathlib.Core.Bool.{Bool, true, false, cond, _&&_, and-false}
-use mathlib.Core.List.{List, _++_}
-use mathlib.Core.Option.{Option, none, some}
-use Prim.Native.Nat.{ℕ, zero, suc, _≤_, _<_}
-use native.Mathlib.Omega.{arith}
-use lib.ListN.{length, drop}
-use lib.Dec.{leb}
+use mathlib.Core.Path.{_≡_, ap}
+use mathlib.Core.List.{List}
+use mathlib.Core.Option.{none, some}
+use Prim.Native.Nat.{ℕ, _≤_, _<_}
+use lib.ListN.{length}
 use borrow.Author.Tests.{le-leb, lt-leb}
-use Rattle.value.specs.declared.Num.{Num}
 use Rattle.value.specs.declared.Num.the-variants.{Is, Lacks}
 use Rattle.node.specs.Nodes.{Node, nodesOf}
 use Rattle.element.specs.Frames.{framesOf}
 use Rattle.conformance.specs.declared.JudgeAnswer.{JudgeAnswer}
 use Rattle.conformance.specs.Judging.{judgeOf}
-use Rattle.steps.specs.Given.{need, then}
 use Rattle.display.specs.Show.{imageSize}
 use Rattle.display.proofs.Answers.{none-frame, low-frame, high-frame}
-use Rattle.linear.specs.declared.LinearAnswer.{LinearAnswer}
 use Rattle.linear.specs.declared.LinearAnswer.the-variants as linear
 use Rattle.linear.specs.Mapping.{linearFor, isMapped, mappingBy, mappingOf}
 use Rattle.linear.specs.Answer.{entriesIn, entriesOf, acceptedAnswer, answerFor, linearOf, valuesBy, valuesOf}

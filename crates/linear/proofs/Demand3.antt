@@ -1,45 +1,33 @@
 -- Demand 3 over drawing and mapping, proved: drawing is from `Rattle.display`; that the mapping lacks nothing is from Accepted and
 -- Maps; the rest follows what `linear` answers back to what it was asked.
-use mathlib.Core.Path.{_≡_, refl, sym, ap, _∙_, subst}
-use mathlib.Core.Bool.{Bool, true, false, cond, _&&_}
-use mathlib.Core.List.{List, [], _∷_, _++_}
+use mathlib.Core.Path.{_≡_, refl, ap, _∙_, subst}
+use mathlib.Core.Bool.{Bool, true, false, cond}
+use mathlib.Core.List.{List, _++_}
 use mathlib.Core.Option.{Option, none, some}
-use Prim.Native.Nat.{ℕ, _*_, _≤_, _<_}
+use Prim.Native.Nat.{ℕ, _≤_}
 use native.Mathlib.Omega.{arith}
 use lib.ListN.{length, drop}
 use lib.Dec.{leb}
 use borrow.Author.Tests.{le-leb, leb-true}
-use Rattle.dataset.specs.Reading.{Row, Reading, tooLarge, refusedAt, read, readingOf}
-use Rattle.dataset.specs.Answer.{width, answerOf}
-use Rattle.dataset.specs.Tree.{rowsIn, rowsOf}
-use Rattle.dataset.specs.declared.ReadAnswer.{ReadAnswer}
-use Rattle.dataset.specs.declared.ReadAnswer.the-variants as answer
-use Rattle.dataset.proofs.Laws.{Small, answer-small}
-use Rattle.node.specs.Nodes.{Node, nodesOf}
+use Rattle.dataset.specs.Tree.{rowsOf}
+use Rattle.node.specs.Nodes.{Node, nodesOf, root}
 use Rattle.element.specs.Frames.{framesOf}
-use Rattle.conformance.specs.declared.Finding.{Finding}
-use Rattle.conformance.specs.declared.Finding.the-variants as finding
-use Rattle.conformance.specs.declared.JudgeAnswer.{JudgeAnswer}
-use Rattle.conformance.specs.declared.JudgeAnswer.the-variants as judged
-use Rattle.conformance.specs.Judging.{numberOf, findingOf, answerFor, judgeOf}
+use Rattle.conformance.specs.Judging.{numberOf}
 use Rattle.value.specs.declared.Num.{Num}
 use Rattle.value.specs.declared.Num.the-variants.{Is, Lacks}
-use Rattle.node.specs.Nodes.{root}
-use Rattle.pixel.specs.Pixel.{samplesOf}
 use Rattle.display.specs.Show.{isFrameOf, imageSize}
 use Rattle.display.specs.Drawing.{Bytes, IsAccepted, IsFrame, HasRoom}
 use Rattle.display.proofs.Codes.{was-frame, judged-accepted, was-judged}
-use Rattle.display.proofs.Objects.{object, same-is}
+use Rattle.display.proofs.Objects.{object}
 use Rattle.display.proofs.Small.{us-in-small}
 use Rattle.display.proofs.Lacking.{geometry-size}
 use Rattle.display.proofs.Drawing as display
 use Rattle.linear.specs.declared.LinearAnswer.{LinearAnswer}
 use Rattle.linear.specs.declared.LinearAnswer.the-variants as linear
 use Rattle.linear.specs.Mapping.{linearFor, isItem, isMapped, mappingBy, mappingOf}
-use Rattle.linear.specs.Answer.{entriesOf, acceptedAnswer, answerFor as linearFrom, valuesBy, linearOf, valuesOf, fieldsOf}
-use Rattle.linear.specs.Said.{Mappable}
-use Rattle.linear.specs.Demand3.{Mapped, Measured, Promise, Demand3}
-use Rattle.linear.proofs.Accepted.{mappable, item-lut}
+use Rattle.linear.specs.Answer.{entriesOf, acceptedAnswer, answerFor as linearFrom, linearOf, valuesOf, fieldsOf}
+use Rattle.linear.specs.Demand3.{Mapped, Measured, Demand3}
+use Rattle.linear.proofs.Accepted.{mappable}
 use Rattle.linear.proofs.Maps as maps
 
 -- ---- Where there is room, the answer is the numbers

@@ -1,7 +1,7 @@
 -- The TO_LINEAR item by its search; places of entries; what a LUT that rule 39 lets pass has.
 use mathlib.Core.Path.{_≡_, refl, sym, ap, _∙_}
 use mathlib.Core.Bool.{Bool, true, false, cond, _&&_}
-use mathlib.Core.List.{List, [], _∷_}
+use mathlib.Core.List.{List}
 use Prim.Native.Nat.{ℕ, zero, suc, _+_, _-_, _*_, _≤_, _<_}
 use native.Mathlib.Nat.{mul-le-mul}
 use native.Mathlib.Omega.{arith}
@@ -9,19 +9,18 @@ use lib.ListN.{length}
 use lib.Dec.{eqb, ltb}
 use borrow.Author.Tests.{eqb-true, eqb-false, ltb-true, ltb-false, lt-ltb, le-ltb, le-leb}
 use Rattle.dataset.specs.Bytes.{le16}
-use Rattle.value.specs.declared.Num.{Num}
 use Rattle.value.specs.declared.Num.the-variants.{Is, Lacks}
 use Rattle.verdict.proofs.Tests.{and-both}
-use Rattle.node.specs.Nodes.{Node, nextNode, members}
+use Rattle.node.specs.Nodes.{Node, members}
 use Rattle.element.specs.Elements.{first}
 use Rattle.pixel.specs.declared.Geometry.{Geometry}
 use Rattle.pixel.specs.Pixel.{samplesOf, sampleAt}
-use Rattle.pixel.specs.Said.{Shaped, cellAt}
+use Rattle.pixel.specs.Contracts.{Shaped, cellAt}
 use Rattle.pixel.proofs.Laws.{sample-cell}
 use Rattle.rules.specs.Intensity.{linearAmong, entryCount, isLut}
-use Rattle.intensity.specs.Said.{Stops}
+use Rattle.intensity.specs.Contracts.{Stops}
 use Rattle.intensity.proofs.Laws.{linear-here, no-linear}
-use Rattle.linear.specs.Mapping.{placeOf, entryPlace, entryAt, entryOf}
+use Rattle.linear.specs.Mapping.{placeAmong, entryPlace, entryAt, entryOf}
 
 -- ---- The first TO_LINEAR item
 
@@ -35,21 +34,21 @@ module _ (ns : List Node) (from to k : ℕ) (at : Stops ns from to k) where
 -- ---- Places
 
 module _ (from count x : ℕ) where
-  pub place-below : x < from → placeOf from count x ≡ 0
-  unfolding placeOf
+  pub place-below : x < from → placeAmong from count x ≡ 0
+  unfolding placeAmong
   place-below h = rw (lt-ltb x from h)
 
-  pub place-in : from ≤ x → x < from + count → placeOf from count x ≡ x - from
-  unfolding placeOf
+  pub place-in : from ≤ x → x < from + count → placeAmong from count x ≡ x - from
+  unfolding placeAmong
   place-in h k = rw (le-ltb x from h, lt-ltb x (from + count) k)
 
-  pub place-above : from ≤ x → from + count ≤ x → placeOf from count x ≡ count - 1
-  unfolding placeOf
+  pub place-above : from ≤ x → from + count ≤ x → placeAmong from count x ≡ count - 1
+  unfolding placeAmong
   place-above h k = rw (le-ltb x from h, le-ltb x (from + count) k)
 
 -- A place is one of the entries.
-pub place-most : (from count x : ℕ) → 1 ≤ count → placeOf from count x < count
-unfolding placeOf
+pub place-most : (from count x : ℕ) → 1 ≤ count → placeAmong from count x < count
+unfolding placeAmong
 place-most from count x h = go (ltb x from) refl (ltb x (from + count)) refl
   where
     go : (a : Bool) → ltb x from ≡ a → (b : Bool) → ltb x (from + count) ≡ b → cond a 0 (cond b (x - from) (count - 1)) < count
@@ -88,12 +87,12 @@ pub entry-is : (d t : List ℕ) → isLut d t ≡ true → (x : ℕ) → entryOf
 unfolding entryOf entryPlace
 entry-is d t e x =
     let l = lut-is d t e in
-    let p : placeOf (le16 d 2) (entryCount d) x < entryCount d = place-most (le16 d 2) (entryCount d) x (count-least d) in
-    rw (le-leb (2 * placeOf (le16 d 2) (entryCount d) x + 2) (length t) (omega (arith, l .two)))
+    let p : placeAmong (le16 d 2) (entryCount d) x < entryCount d = place-most (le16 d 2) (entryCount d) x (count-least d) in
+    rw (le-leb (2 * placeAmong (le16 d 2) (entryCount d) x + 2) (length t) (omega (arith, l .two)))
 
 -- The entry of sample i, by the answers on the way.
 pub cell-entry : (g : Geometry) (v : List ℕ) (f : ℕ) (d t : List ℕ) (i x from count place r : ℕ) → x ≡ cellAt g v ((f - 1) * samplesOf g + i)
-    → from ≡ le16 d 2 → count ≡ entryCount d → place ≡ placeOf from count x → r ≡ le16 t (2 * place) → r ≡ entryAt d t (sampleAt g v f i)
+    → from ≡ le16 d 2 → count ≡ entryCount d → place ≡ placeAmong from count x → r ≡ le16 t (2 * place) → r ≡ entryAt d t (sampleAt g v f i)
 unfolding entryAt entryPlace
 cell-entry g v f d t i x from count place r a b c e h =
     rw (sample-cell g v f i, ← a, ← b, ← c, ← e) h

@@ -1,15 +1,12 @@
 -- Mapping a frame whose parts are all there gives what the mapping says.
-use mathlib.Core.Path.{_≡_, refl, sym, ap, _∙_, subst}
-use mathlib.Core.Bool.{Bool, true, false, cond, _&&_}
+use mathlib.Core.Path.{_≡_, sym, ap, _∙_, subst}
+use mathlib.Core.Bool.{true}
 use mathlib.Core.List.{List, [], _∷_, _++_}
 use mathlib.Core.Option.{Option, none, some}
-use Prim.Native.Nat.{ℕ, zero, suc, _*_, _≤_, _<_}
+use Prim.Native.Nat.{ℕ, zero, suc, _≤_}
 use native.Mathlib.Omega.{arith}
 use lib.ListN.{length, drop}
-use lib.Dec.{eqb}
 use borrow.Author.Tests.{eq-eqb}
-use Rattle.dataset.specs.Bytes.{le16}
-use Rattle.value.specs.declared.Num.{Num}
 use Rattle.value.specs.declared.Num.the-variants.{Is, Lacks}
 use Rattle.verdict.proofs.Tests.{false-is-true}
 use Rattle.node.specs.Nodes.{Node, inside}
@@ -20,17 +17,15 @@ use Rattle.element.specs.Elements.{valueAt}
 use Rattle.rules.specs.Intensity.{isLut, hasLut}
 use Rattle.pixel.specs.declared.Geometry.{Geometry}
 use Rattle.pixel.specs.Pixel.{samplesOf, isFrame, sampleAt}
-use Rattle.pixel.specs.Painted.{painted}
-use Rattle.pixel.specs.Said.{Shaped}
-use Rattle.steps.specs.Given.{collect}
+use Rattle.pixel.specs.Contracts.{painted, Shaped}
 use Rattle.steps.specs.Steps.{geometryOf, pixelsOf}
 use Rattle.display.proofs.Objects.{had}
 use Rattle.display.proofs.Given.{never}
 use Rattle.display.proofs.Whole.{same-some}
-use Rattle.display.proofs.Pictures.{Collected, collected}
+use Rattle.display.proofs.Pictures.{collected}
 use Rattle.linear.specs.Mapping.{entryAt, entryOf, mappingBy}
 use Rattle.linear.specs.Answer.{entriesIn}
-use Rattle.linear.specs.Said.{MapReady, Mappable}
+use Rattle.linear.specs.Contracts.{MapReady, Mappable}
 use Rattle.linear.proofs.Laws.{lut-is, entry-is}
 
 abbrev zeros : ℕ → List ℕ

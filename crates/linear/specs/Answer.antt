@@ -1,7 +1,7 @@
 -- What `linear` answers, and what its buffers then hold (document 02, Q-8): as `show` up to code 10, then 20 for a frame that
 -- has no TO_LINEAR item, then 11 for a values buffer under Rows × Columns numbers, then 0.
 use Prim.Native.Nat.{ℕ}
-use mathlib.Core.Bool.{Bool, cond}
+use mathlib.Core.Bool.{cond}
 use mathlib.Core.List.{List, [], _++_}
 use mathlib.Core.Option.{Option, none, some}
 use lib.ListN.{length, drop}

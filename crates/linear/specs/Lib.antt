@@ -1,4 +1,4 @@
 pub mod Mapping
 pub mod Answer
-pub mod Said
+pub mod Contracts
 pub mod Demand3

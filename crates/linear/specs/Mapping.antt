@@ -33,12 +33,12 @@ linearFor ns f = then (groupFor ns f Tags.PixelIntensityRelationshipLUTSequence)
 
 -- The place of cell x's entry among `count` of them, `from` being the first mapped cell: cells below it take the first entry,
 -- cells above the last take the last.
-unfoldable pub placeOf : ℕ → ℕ → ℕ → ℕ
-placeOf from count x = cond (ltb x from) 0 (cond (ltb x (from + count)) (x - from) (count - 1))
+unfoldable pub placeAmong : ℕ → ℕ → ℕ → ℕ
+placeAmong from count x = cond (ltb x from) 0 (cond (ltb x (from + count)) (x - from) (count - 1))
 
 -- The entry of cell x, by a LUT Descriptor d and LUT Data t, two bytes an entry; it may be lacking.
 unfoldable pub entryPlace : List ℕ → ℕ → ℕ
-entryPlace d x = placeOf (le16 d 2) (entryCount d) x
+entryPlace d x = placeAmong (le16 d 2) (entryCount d) x
 
 unfoldable pub entryAt : List ℕ → List ℕ → ℕ → ℕ
 entryAt d t x = le16 t (2 * entryPlace d x)

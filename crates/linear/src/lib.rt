@@ -1,7 +1,6 @@
 // Maps a frame of a data set that is accepted back to beam intensity.
 ghost use mathlib.Core.Path.{_≡_};
 ghost use Prim.Native.Nat.{ℕ, _+_, _*_, _≤_, _<_};
-ghost use mathlib.Core.Bool.{true};
 ghost use mathlib.Core.List.{_++_};
 ghost use lib.ListN.{length, drop, getD};
 ghost use Rattle.conformance.specs.declared.Finding.the-variants as finding;
@@ -11,14 +10,14 @@ ghost use Rattle.dataset.specs.Fields.{Answers};
 ghost use Rattle.dataset.specs.Answer.{bufferOf};
 ghost use Rattle.conformance.specs.Judging.{findingOf};
 ghost use Rattle.node.specs.Nodes.{nodesOf};
-ghost use Rattle.node.specs.Table.{Table};
+ghost use Rattle.node.specs.Contracts.{Table};
 ghost use Rattle.pixel.specs.Pixel.{samplesOf, sampleAt};
-ghost use Rattle.pixel.specs.Painted.{painted};
+ghost use Rattle.pixel.specs.Contracts.{painted};
 ghost use Rattle.value.specs.declared.Num.the-variants as num;
-ghost use Rattle.steps.specs.Said.{foundOf, FoundBelow};
-ghost use Rattle.linear.specs.Mapping.{linearOn, linearFor, placeOf, entryAt, mappingBy};
+ghost use Rattle.steps.specs.Contracts.{foundOf, FoundBelow};
+ghost use Rattle.linear.specs.Mapping.{linearOn, linearFor, placeAmong, entryAt, mappingBy};
 ghost use Rattle.linear.specs.Answer.{entriesIn, entriesOf, acceptedAnswer, linearOf, valuesBy, valuesOf, fieldsOf};
-ghost use Rattle.linear.specs.Said.{MapReady, Mappable};
+ghost use Rattle.linear.specs.Contracts.{MapReady, Mappable};
 use conformance::JudgeAnswer;
 use dataset::u16_at;
 use element::tags;
@@ -26,8 +25,6 @@ use pixel::Geometry;
 use steps::Found;
 use steps::Sized;
 use value::Num;
-
-const SQ: usize = 0x5351;
 
 // The answer of `linear`: mapped, with the number of rows; code 9, with the number of rows, rule and frame; code and offset
 // of a refusal; codes 7, 8, 10, 20 and 11.
@@ -49,7 +46,7 @@ fn linear_on(bytes: &[u8], rows: &[u32], group: usize) -> Found
     ensures { λ r. ⌜ foundOf r ≡ linearOn (nodesOf (now (bytes .entry))) (num.Is group) ⌝ }
     ensures { λ r. ⌜ FoundBelow (length (nodesOf (now (bytes .entry)))) r ⌝ }
 {
-    if node::vr(bytes, rows, group) == SQ {
+    if node::vr(bytes, rows, group) == dataset::SQ {
         let to = node::next(bytes, rows, group);
         let j = intensity::next_linear(bytes, rows, group + 1, to);
         if j < to { Found::At(j) } else { Found::Absent }
@@ -83,7 +80,7 @@ fn linear_for(bytes: &[u8], rows: &[u32], frame: usize) -> Found
 // The place of cell x's entry.
 fn place(from: usize, count: usize, x: usize) -> usize
     requires { ⌜ (1 ≤ count) × ((count ≤ 65536) × (from < 65536)) ⌝ }
-    ensures { λ r. ⌜ (r ≡ placeOf from count x) × (r < count) ⌝ }
+    ensures { λ r. ⌜ (r ≡ placeAmong from count x) × (r < count) ⌝ }
 {
     if x < from {
         0

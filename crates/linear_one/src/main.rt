@@ -3,42 +3,19 @@
 use argument::Decimal;
 use linear::LinearAnswer;
 use linear_small::Mapped;
+use printing::print_broken;
+use printing::print_field;
+use printing::print_unread;
+use room::input;
 ghost use mathlib.Core.Path.{_≡_};
 ghost use Prim.Native.Nat.{_*_, _≤_};
 ghost use lib.ListN.{length};
-
-// One byte more than is mapped, so that an input that is too long is seen to be.
-fn input() -> [u8; 65_537]
-    ensures { λ r. ⌜ 65537 ≡ length r ⌝ }
-{
-    [0; 65_537]
-}
 
 // A number for each cell: an accepted object has as many bytes of pixel data.
 fn values_buffer() -> [u16; 65_536]
     ensures { λ r. ⌜ 65536 ≡ length r ⌝ }
 {
     [0; 65_536]
-}
-
-// A name and its number.
-fn print_field(name: &[u8], n: usize) {
-    io::write_all(1, name);
-    io::write_all(1, b" ");
-    io::print_decimal(1, n as u64);
-}
-
-fn print_broken(rows: usize, rule: usize, frame: usize) {
-    print_field(b"code 9 rule", rule);
-    print_field(b" frame", frame);
-    print_field(b" rows", rows);
-    io::write_all(1, b"\n");
-}
-
-fn print_unread(code: usize, offset: usize) {
-    print_field(b"code", code);
-    print_field(b" place", offset);
-    io::write_all(1, b"\n");
 }
 
 // The head of the image: its kind, its size, and the highest number.
@@ -106,7 +83,7 @@ fn map_frame(bytes: &[u8], frame: u64)
 fn map_input(frame: u64) {
     let mut bytes = input();
     let n = io::read_full(0, &mut bytes);
-    if judge_small::MOST < n {
+    if room::MOST < n {
         io::write_all(1, b"too long: at most 65536 bytes\n");
         return;
     }

@@ -1,12 +1,13 @@
 // Mapping a frame of a data set of at most 65,536 bytes with a row buffer of its own, for the program that maps.
 use element::tags;
 use linear::LinearAnswer;
+use room::row_buffer;
 use show_small::number_of;
 ghost use mathlib.Core.Path.{_≡_};
 ghost use Prim.Native.Nat.{_*_, _≤_};
 ghost use lib.ListN.{length};
 ghost use Rattle.node.specs.Nodes.{nodesOf};
-ghost use Rattle.node.specs.Table.{Table};
+ghost use Rattle.node.specs.Contracts.{Table};
 ghost use Rattle.linear_small.specs.Mapped.{done, mappedOf, valuesAfter};
 
 // The answer of `linear`, and for a frame that was mapped its Columns and Rows, else 0.
@@ -14,14 +15,6 @@ pub struct Mapped {
     pub answer: LinearAnswer,
     pub width: usize,
     pub height: usize,
-}
-
-// Room for the rows of a data set of that size, since a row has at least 8 bytes. A function of its own gives the
-// length, so that no proof computes it from the array.
-fn row_buffer() -> [u32; 57_344]
-    ensures { λ r. ⌜ 57344 ≡ length r ⌝ }
-{
-    [0; 57_344]
 }
 
 // The answer for a frame that was mapped, with its size from the rows.

@@ -1,32 +1,28 @@
 -- A sample read from its line's bytes is the frame's sample, and a level read from a filled table is the window's level.
-use mathlib.Core.Path.{_≡_, refl, sym, ap, _∙_, subst}
+use mathlib.Core.Path.{_≡_, refl, sym, ap, _∙_}
 use mathlib.Core.Bool.{Bool, true}
 use mathlib.Core.List.{List}
-use mathlib.Core.Logic.{_⊎_}
 use Prim.Native.Nat.{ℕ, zero, suc, _+_, _-_, _*_, _/_, _%_, _^_, _≤_, _<_}
 use native.Mathlib.Nat.{add-mul, mul-assoc, mul-le-mul-right, pow-suc}
 use native.Mathlib.Omega.{arith}
 use lib.Pow.{pow-pos}
 use lib.ListN.{length, getD, take, drop}
-use lib.Dec.{leb}
 use borrow.Author.Tests.{le-leb}
 use denote.Ref.{RefT}
-use Rattle.value.specs.Number.{usValues}
 use Rattle.window.specs.declared.Window.{Window}
 use lib.IntN.{pos, _-ℤ_}
 use Rattle.window.specs.Window.{levelOf, shaded}
-use Rattle.window.specs.Said.{Drawable, number, shadeAt, Filled}
+use Rattle.window.specs.Contracts.{number, shadeAt, Filled}
 use Rattle.pixel.specs.declared.Geometry.{Geometry}
-use Rattle.pixel.specs.Pixel.{leBytes, samplesOf, isFrame, sampleAt, weightsOf, blendOf}
-use Rattle.pixel.specs.Painted.{painted, nativeShade}
-use Rattle.pixel.specs.Said.{Shaped, Ready, Row, cellAt, paintedFrom, rowShade, offsetShade, blendShade, quarterShade, Spread, Averaged, shifted, blockAt}
+use Rattle.pixel.specs.Pixel.{samplesOf, isFrame, sampleAt, weightsOf, blendOf}
+use Rattle.pixel.specs.Contracts.{painted, nativeShade, Shaped, Ready, Row, cellAt, paintedFrom, rowShade, blendShade, quarterShade, Spread, Averaged, shifted, blockAt}
 use Rattle.pixel.proofs.Laws.{width-some, frame-facts, sample-cell, sample-most, cell-most, power-most, half-low, painted-same, row-offset}
 use Rattle.pixel.proofs.Blend.{blend-offset, whole-shade}
 use Rattle.frame.specs.View.{Part, Fits, frameSize}
 use Rattle.frame.proofs.Laws.{part-size}
 use Rattle.frame.proofs.Lent.{cell-part}
 use Rattle.lines.specs.declared.Shades.{Shades}
-use Rattle.lines.specs.Lines.{upTo, shadesOf, Shaded, plainPlace, blendPlace}
+use Rattle.lines.specs.Contracts.{shadesOf, plainPlace, blendPlace}
 use Rattle.lines.proofs.Lists.{upTo-at}
 
 -- ---- The bytes of a line

@@ -2,13 +2,13 @@
 use mathlib.Core.Path.{_≡_, refl, sym, ap, _∙_, subst}
 use mathlib.Core.List.{List, [], _∷_, _++_, append-assoc, append-nil}
 use mathlib.Core.Logic.{_⊎_, inl, inr, ⊎-elim}
-use Prim.Native.Nat.{ℕ, zero, suc, _+_, _-_, _*_, _≤_, _<_}
+use Prim.Native.Nat.{ℕ, zero, suc, _+_, _≤_, _<_}
 use native.Mathlib.Nat.{add-zero, add-suc}
 use native.Mathlib.Omega.{arith}
 use lib.ListN.{length, length-append, getD, set, drop, take, List·getD-append}
 use lib.Seq.{drop-cons, set-at, take-append-seam, getD-at}
-use Rattle.pixel.specs.Painted.{painted}
-use Rattle.lines.specs.Lines.{upTo}
+use Rattle.pixel.specs.Contracts.{painted}
+use Rattle.lines.specs.Contracts.{upTo}
 
 pub same-or-not : (a b : ℕ) → (a ≡ b) ⊎ (a ≡ b → ⊥)
 same-or-not zero zero = inl refl

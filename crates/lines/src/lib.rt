@@ -1,13 +1,12 @@
 // Lines of a frame's picture, each drawn by itself from the frame's own bytes.
 ghost use mathlib.Core.Path.{_≡_};
 ghost use mathlib.Core.Bool.{true};
-ghost use Prim.Native.Nat.{ℕ, _+_, _-_, _*_, _/_, _%_, _^_, _≤_, _<_};
+ghost use Prim.Native.Nat.{_+_, _-_, _*_, _/_, _%_, _^_, _≤_};
 ghost use lib.ListN.{length};
 ghost use Rattle.value.specs.Number.{usValues};
-ghost use Rattle.window.specs.Said.{Drawable, shadeAt, Filled};
-ghost use Rattle.pixel.specs.Painted.{painted, nativeShade};
-ghost use Rattle.pixel.specs.Said.{longestRow, Row, shifted, Averaged, quarterShade};
-ghost use Rattle.lines.specs.Lines.{plainPlace, blendPlace, Shaded, shadesOf, LineReady, MaskedBy, Blends};
+ghost use Rattle.window.specs.Contracts.{Drawable, shadeAt, Filled};
+ghost use Rattle.pixel.specs.Contracts.{painted, nativeShade, longestRow, Row, shifted, Averaged, quarterShade};
+ghost use Rattle.lines.specs.Contracts.{plainPlace, blendPlace, Shaded, shadesOf, LineReady, MaskedBy, Blends};
 use pixel::Geometry;
 use window::Window;
 

@@ -1,5 +1,5 @@
 -- Where the head is good the data set starts where the head ends, and that is within the file: it is tested.
-use mathlib.Core.Path.{_≡_, refl, sym, subst}
+use mathlib.Core.Path.{_≡_, refl, subst}
 use Prim.Native.Nat.{ℕ, _≤_}
 use native.Mathlib.Omega.{arith}
 use borrow.Author.Tests.{leb-true}
@@ -15,7 +15,7 @@ use Rattle.meta.specs.declared.Uid.the-variants.{At, Lacks}
 use Rattle.meta.specs.declared.Found.{Found}
 use Rattle.meta.specs.declared.Meta.{Meta}
 use Rattle.meta.specs.declared.Meta.the-variants.{Good, NoMark, BadHead, OtherSyntax}
-use Rattle.meta.specs.Meta.{explicitLittleEndian, isMarked, hasGroupLength, endOf, headOf, nothing, foundIn, part, named, ofFound, ofRun, headedOf, metaOf}
+use Rattle.meta.specs.Meta.{explicitLittleEndian, isMarked, hasGroupLength, endOf, headOf, nothing, foundIn, part, named, ofRun, headedOf, metaOf}
 
 -- Good only at the end named.
 abbrev EndsAt : ℕ → Meta → Type 0

@@ -1,9 +1,9 @@
 -- What each test of the head comes to, and what the tests come to together.
 use mathlib.Core.Path.{_≡_, refl, ap, _∙_}
-use Prim.Native.Nat.{ℕ, _+_, _-_, _≤_, _<_}
+use Prim.Native.Nat.{ℕ, _+_, _≤_, _<_}
 use native.Mathlib.Omega.{arith}
 use borrow.Author.Tests.{le-leb, lt-leb, leb-true, eq-eqb, ne-eqb}
-use mathlib.Core.Bool.{Bool, true, false, cond, _&&_}
+use mathlib.Core.Bool.{Bool, true, false, _&&_}
 use mathlib.Core.List.{List}
 use lib.ListN.{length, take, drop, length-take, length-drop}
 use lib.Dec.{eqb, leb}
@@ -18,7 +18,7 @@ use Rattle.meta.specs.declared.Elements.the-variants as elements
 use Rattle.meta.specs.declared.Meta.{Meta}
 use Rattle.meta.specs.declared.Meta.the-variants.{BadHead}
 use Rattle.meta.specs.Meta.{isMarked, hasGroupLength, endOf, headOf, named, ofFound, ofRun, headedOf}
-use Rattle.meta.specs.Said.{walkOf}
+use Rattle.meta.specs.Contracts.{walkOf}
 
 -- ---- The mark
 

@@ -2,7 +2,7 @@
 -- elements in Explicit VR Little Endian. The first is the group length, which names where the head ends; the data set is all that
 -- follows that end. A file's offsets count from its first byte.
 use Prim.Native.Nat.{ℕ, _+_, _-_, _/_}
-use mathlib.Core.Bool.{Bool, true, false, cond, not, _&&_}
+use mathlib.Core.Bool.{Bool, true, false, cond, _&&_}
 use mathlib.Core.List.{List, [], _∷_}
 use lib.ListN.{length, take, drop}
 use lib.Dec.{eqb, leb}

@@ -9,14 +9,12 @@ ghost use Prim.Native.Nat.{_+_, _-_, _/_, _≤_};
 ghost use mathlib.Core.Bool.{cond, false};
 ghost use lib.ListN.{length};
 ghost use lib.Dec.{eqb};
-ghost use Rattle.dataset.specs.Reading.{elementsAt, itemsAt, valueAt};
+ghost use Rattle.dataset.specs.Reading.{elementsAt, itemsAt, valueRun};
 ghost use Rattle.dataset.specs.Header.{cursor, elementAt};
-ghost use Rattle.dataset.specs.Walk.{Within, Walked, Ready};
-ghost use Rattle.meta.specs.Meta.{isMarked, hasGroupLength, endOf, headOf, uidAt, noted, named, headedOf, metaOf};
+ghost use Rattle.dataset.specs.Contracts.{Within, Walked, Ready};
+ghost use Rattle.meta.specs.Meta.{isMarked, hasGroupLength, endOf, uidAt, noted, named, headedOf, metaOf};
 ghost use Rattle.meta.specs.declared.Uid.the-variants.{At};
-ghost use Rattle.meta.specs.Said.{UidWithin, FoundWithin, walkOf, ElementsWithin, MetaWithin};
-
-const SQ: usize = 0x5351;
+ghost use Rattle.meta.specs.Contracts.{UidWithin, walkOf, ElementsWithin, MetaWithin};
 
 const UI: usize = 0x5549;
 
@@ -195,9 +193,9 @@ fn items(file: &[u8], c: Cursor, none: &mut [u32], first: usize) -> Walk
 // What a value comes to.
 fn past(file: &[u8], vr: usize, value: Cursor, none: &mut [u32], first: usize) -> Walk
     requires { ⌜ Ready (now file) value 7 first (length (now none)) × (length (now none) ≡ 0) ⌝ }
-    ensures { λ r. ⌜ Walked (valueAt 8 (now (file .entry)) first vr value) value first (now (none .entry)) (now (none .exit)) r ⌝ }
+    ensures { λ r. ⌜ Walked (valueRun 8 (now (file .entry)) first vr value) value first (now (none .entry)) (now (none .exit)) r ⌝ }
 {
-    if vr == SQ {
+    if vr == dataset::SQ {
         items(file, value, none, first)
     } else {
         Walk::Done(value.end, value.end, first)

@@ -2,25 +2,24 @@
 -- members: they ascend among elements, and items all have one tag. So a member's tag says on which side of it the first member stands
 -- whose tag is not below the one that is sought.
 use mathlib.Core.Path.{_≡_, refl, sym, ap, _∙_, subst}
-use Prim.Native.Nat.{ℕ, suc, _+_, _≤_, _<_}
+use Prim.Native.Nat.{ℕ, _+_, _≤_, _<_}
 use native.Mathlib.Omega.{arith}
 use mathlib.Core.List.{List, [], _∷_}
 use mathlib.Core.Logic.{inl, inr}
-use mathlib.Core.Bool.{Bool, true, false, cond}
+use mathlib.Core.Bool.{Bool, true, false}
 use lib.ListN.{length}
 use lib.Dec.{eqb, ltb}
 use borrow.Author.Tests.{lt-ltb, le-ltb, eq-eqb, ne-eqb, ltb-true, ltb-false, eqb-false}
 use Rattle.dataset.specs.Header.{itemTag}
 use Rattle.dataset.specs.Reading.{Row}
-use Rattle.dataset.specs.Tree.{rowsOf, rowAt, nextRow, Kind, elements, items, insideOf, depthInside, Member, Members}
+use Rattle.dataset.specs.Tree.{rowsOf, rowAt, nextRow, Kind, elements, items, kindInside, depthInside, Member, Members}
 use Rattle.dataset.proofs.Tree.{rows-members}
 use Rattle.dataset.proofs.Laws.{Found, row-found, row-next, row-nested}
 use Rattle.dataset.proofs.Parents.{Placed, placed}
 use Rattle.value.specs.declared.Num.the-variants.{Is, Lacks}
 use Rattle.node.specs.Nodes.{Node, nodesOf, nodeAt, nextNode, members, root, inside}
 use Rattle.node.specs.Find.{find}
-use Rattle.node.specs.Table.{Table}
-use Rattle.node.specs.Halves.{Ascends, fromTag, firstIs, lower, MemberAbove}
+use Rattle.node.specs.Contracts.{Table, Ascends, fromTag, firstIs, lower, MemberAbove}
 use Rattle.node.proofs.Laws.{nodes-count, node-is}
 use Rattle.node.proofs.Walks.{members-end, members-next, find-later}
 
@@ -197,7 +196,7 @@ module _ (s rows : List ℕ) (t : Table s rows) where
       below : i < m → m < nextRow (rowsOf s) i → At x m i
       below u v = by-place (placed b m (omega arith) v)
         where
-          by-place : Placed (rowsOf s) (insideOf kind) (depthInside kind depth) (i + 1) (i + 1) m → At x m i
+          by-place : Placed (rowsOf s) (kindInside kind) (depthInside kind depth) (i + 1) (i + 1) m → At x m i
           by-place (inl o) = absurd (omega (arith, o .is, d))
           by-place (inr (p, (w, n))) = absurd (omega (arith, n .is, d))
 
@@ -265,7 +264,7 @@ module _ (s rows : List ℕ) (t : Table s rows) where
     around = row-found (rows-members s) holder (omega arith) row-known
 
     pub inside-ascends : Ascends (nodesOf s) 0 (inside (nodesOf s) holder)
-    inside-ascends = rw (next-row holder h) (members-ascend (around .first .below) ends 0 (starts-low (insideOf (around .kind))))
+    inside-ascends = rw (next-row holder h) (members-ascend (around .first .below) ends 0 (starts-low (kindInside (around .kind))))
 
     -- The first member whose tag is not below the tag, by its number.
     abbrev pub First : ℕ → ℕ
@@ -285,7 +284,7 @@ module _ (s rows : List ℕ) (t : Table s rows) where
       first-side tag =
           rw (next-row holder h, next-row m member-known, tag-row m member-known)
           (sides (around .first .below) ends (omega arith) tag m (omega (arith, a .after)) (omega (arith, a .low, next-row holder h)) (a .held) 0
-          (starts-low (insideOf (around .kind))))
+          (starts-low (kindInside (around .kind))))
 
     -- A node below the container is a member of it, or its parent is below the container too.
     pub step-up : (i m : ℕ) → holder < m → m ≤ i → i < nextNode (nodesOf s) m → i < nextNode (nodesOf s) holder
@@ -293,7 +292,7 @@ module _ (s rows : List ℕ) (t : Table s rows) where
         → (p : ℕ) × ((rowAt (rowsOf s) m .parent ≡ p + 1) × ((holder < p) × ((p < m) × (i < nextNode (nodesOf s) p))))
     step-up i m u v w l n = by-place (placed (around .first .below) m (omega arith) (omega (arith, next-row holder h)))
       where
-        by-place : Placed (rowsOf s) (insideOf (around .kind)) (depthInside (around .kind) (around .depthHere)) (holder + 1) (holder + 1) m
+        by-place : Placed (rowsOf s) (kindInside (around .kind)) (depthInside (around .kind) (around .depthHere)) (holder + 1) (holder + 1) m
             → (p : ℕ) × ((rowAt (rowsOf s) m .parent ≡ p + 1) × ((holder < p) × ((p < m) × (i < nextNode (nodesOf s) p))))
         by-place (inl o) = absurd (n (o .is))
         by-place (inr (p, (q, x))) =

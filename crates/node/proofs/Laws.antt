@@ -1,8 +1,8 @@
 -- The join of the two views: node i is row i, and the seven numbers of row i stand from 7i on in the row table.
 use mathlib.Core.Path.{_≡_, refl, sym, ap, _∙_, subst}
-use Prim.Native.Nat.{ℕ, zero, suc, _+_, _-_, _*_, _≤_, _<_}
+use Prim.Native.Nat.{ℕ, zero, suc, _+_, _*_, _≤_, _<_}
 use native.Mathlib.Omega.{arith}
-use mathlib.Core.List.{List, [], _∷_, _++_, map, append-nil}
+use mathlib.Core.List.{List, [], _∷_, map, append-nil}
 use mathlib.Core.Logic.{_⊎_, inl, inr}
 use lib.ListN.{length, getD, take, drop, length-map}
 use borrow.Author.Tests.{ne-eqb}
@@ -15,8 +15,8 @@ use Rattle.dataset.proofs.Laws.{number-at, row-few, row-within, row-next}
 use Rattle.value.specs.declared.Num.{Num}
 use Rattle.value.specs.declared.Num.the-variants.{Is, Lacks}
 use Rattle.node.specs.Nodes.{Node, nodeOf, nodesOf, nodeAt, nextNode, noNode}
-use Rattle.node.specs.Table.{Table}
-use Rattle.value.specs.Said.{Below}
+use Rattle.node.specs.Contracts.{Table}
+use Rattle.value.specs.Contracts.{Below}
 
 pub nodes-count : (s : List ℕ) → length (nodesOf s) ≡ length (rowsOf s)
 unfolding nodesOf

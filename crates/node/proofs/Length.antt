@@ -12,7 +12,7 @@ use Rattle.dataset.specs.Vr.{SQ}
 use Rattle.dataset.specs.Reading.{Row}
 use Rattle.dataset.specs.Tree.{rowsOf, rowAt}
 use Rattle.dataset.proofs.Laws.{row-within, row-roomy, sequence-bare}
-use Rattle.node.specs.Nodes.{Node, nodeOf, nodesOf, nodeAt}
+use Rattle.node.specs.Nodes.{nodeOf, nodesOf, nodeAt}
 use Rattle.node.specs.Find.{filled}
 use Rattle.node.specs.Length.{LengthNotZero}
 use Rattle.node.proofs.Laws.{node-map}

@@ -1,5 +1,4 @@
 pub mod Nodes
 pub mod Find
-pub mod Table
-pub mod Halves
+pub mod Contracts
 pub mod Length

@@ -1,18 +1,17 @@
 // The row table of a data set, node by node. What stands above this crate sees no offset and no length.
 ghost use mathlib.Core.Path.{_≡_};
-ghost use Prim.Native.Nat.{ℕ, _+_, _-_, _*_, _≤_, _<_};
+ghost use Prim.Native.Nat.{_+_, _-_, _*_, _≤_, _<_};
 ghost use lib.ListN.{length};
-ghost use Rattle.node.specs.Nodes.{Node, nodesOf, nodeAt, nextNode, members, inside};
+ghost use Rattle.node.specs.Nodes.{nodesOf, nodeAt, nextNode, members, inside};
 ghost use Rattle.node.specs.Find.{find, findVr, filled, has};
-ghost use Rattle.node.specs.Table.{Table};
-ghost use Rattle.node.specs.Halves.{Ascends, fromTag, firstIs, Nearby, lower, MemberAbove};
+ghost use Rattle.node.specs.Contracts.{Table, Ascends, fromTag, firstIs, Nearby, lower, MemberAbove};
+ghost use Rattle.dataset.specs.Reading.{mostRows};
 ghost use Rattle.dataset.specs.Tree.{rowsOf, rowAt};
-ghost use Rattle.value.specs.Said.{Below};
+ghost use Rattle.value.specs.Contracts.{Below};
+use dataset::WIDTH;
 use value::Num;
 
-pub const SQ: usize = 0x5351;
-
-fn wide(x: u32) -> usize
+pub fn wide(x: u32) -> usize
     ensures { λ r. ⌜ r ≡ x ⌝ }
 {
     x as usize
@@ -21,7 +20,7 @@ fn wide(x: u32) -> usize
 // How many nodes there are.
 pub fn count(bytes: &[u8], rows: &[u32]) -> usize
     requires { ⌜ Table (now bytes) (now rows) ⌝ }
-    ensures { λ r. ⌜ (r ≡ length (nodesOf (now (bytes .entry)))) × (r ≤ 134217728) ⌝ }
+    ensures { λ r. ⌜ (r ≡ length (nodesOf (now (bytes .entry)))) × (r ≤ mostRows) ⌝ }
 {
     rows.len() / dataset::WIDTH
 }
@@ -30,14 +29,14 @@ pub fn tag(bytes: &[u8], rows: &[u32], i: usize) -> usize
     requires { ⌜ Table (now bytes) (now rows) × (i < length (nodesOf (now bytes))) ⌝ }
     ensures { λ r. ⌜ r ≡ nodeAt (nodesOf (now (bytes .entry))) i .tag ⌝ }
 {
-    wide(rows[7 * i])
+    wide(rows[WIDTH * i])
 }
 
 pub fn vr(bytes: &[u8], rows: &[u32], i: usize) -> usize
     requires { ⌜ Table (now bytes) (now rows) × (i < length (nodesOf (now bytes))) ⌝ }
     ensures { λ r. ⌜ r ≡ nodeAt (nodesOf (now (bytes .entry))) i .vr ⌝ }
 {
-    wide(rows[7 * i + 1])
+    wide(rows[WIDTH * i + dataset::VR])
 }
 
 // The node after node i and all below it.
@@ -45,7 +44,7 @@ pub fn next(bytes: &[u8], rows: &[u32], i: usize) -> usize
     requires { ⌜ Table (now bytes) (now rows) × (i < length (nodesOf (now bytes))) ⌝ }
     ensures { λ r. ⌜ (r ≡ nextNode (nodesOf (now (bytes .entry))) i) × (r ≤ length (nodesOf (now (bytes .entry)))) ⌝ }
 {
-    i + 1 + wide(rows[7 * i + 5])
+    i + 1 + wide(rows[WIDTH * i + dataset::BELOW])
 }
 
 // The value of node i, a part of the data set.
@@ -53,15 +52,15 @@ pub fn value<'a, 'b>(bytes: &'a [u8], rows: &'b [u32], i: usize) -> &'a [u8]
     requires { ⌜ Table (now bytes) (now rows) × (i < length (nodesOf (now bytes))) ⌝ }
     ensures { λ r. ⌜ now r ≡ nodeAt (nodesOf (now (bytes .entry))) i .value ⌝ }
 {
-    let kind = wide(rows[7 * i + 1]);
-    if kind == SQ {
+    let kind = wide(rows[WIDTH * i + dataset::VR]);
+    if kind == dataset::SQ {
         return &bytes[..0];
     }
     if kind == 0 {
         return &bytes[..0];
     }
-    let start = wide(rows[7 * i + 3]);
-    let end = start + wide(rows[7 * i + 4]);
+    let start = wide(rows[WIDTH * i + dataset::OFFSET]);
+    let end = start + wide(rows[WIDTH * i + dataset::LENGTH]);
     &bytes[start..end]
 }
 
@@ -116,7 +115,7 @@ pub fn is_filled(bytes: &[u8], rows: &[u32], i: usize) -> bool
     requires { ⌜ Table (now bytes) (now rows) × (i < length (nodesOf (now bytes))) ⌝ }
     ensures { λ r. ⌜ r ≡ filled (nodesOf (now (bytes .entry))) i ⌝ }
 {
-    if vr(bytes, rows, i) == SQ {
+    if vr(bytes, rows, i) == dataset::SQ {
         i + 1 != next(bytes, rows, i)
     } else {
         value(bytes, rows, i).len() != 0
@@ -148,7 +147,7 @@ pub fn parent(bytes: &[u8], rows: &[u32], i: usize) -> usize
     requires { ⌜ Table (now bytes) (now rows) × (i < length (nodesOf (now bytes))) ⌝ }
     ensures { λ r. ⌜ r ≡ rowAt (rowsOf (now (bytes .entry))) i .parent ⌝ }
 {
-    wide(rows[7 * i + 6])
+    wide(rows[WIDTH * i + dataset::PARENT])
 }
 
 // The member of the node `holder` that node i is, or is below. There are at most 16 steps.

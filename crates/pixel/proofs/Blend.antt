@@ -1,24 +1,21 @@
 -- The blend of four mask values: not above what none of them is above, the first of them where all sixteenths fall to it, and
 -- what the code's offsets come to.
-use mathlib.Core.Path.{_≡_, refl, sym, _∙_, ap, subst}
+use mathlib.Core.Path.{_≡_, refl, sym, _∙_, ap}
 use mathlib.Core.List.{List, [], _∷_}
-use Prim.Native.Nat.{ℕ, zero, suc, _+_, _-_, _*_, _/_, _%_, _^_, _≤_, _<_, min, max}
+use Prim.Native.Nat.{ℕ, _+_, _-_, _*_, _/_, _%_, _^_, _≤_, _<_, min}
 use native.Mathlib.Nat.{div-add-mod', mod-lt, mul-add, mul-le-mul, mul-le-mul-right}
 use native.Mathlib.Omega.{arith}
-use mathlib.Core.Bool.{Bool, true}
+use mathlib.Core.Bool.{true}
 use borrow.Author.Tests.{lt-ltb}
 use lib.ListN.{length, getD}
 use lib.Dec.{ltb}
-use Rattle.value.specs.declared.Signed.{Signed}
 use Rattle.shift.specs.declared.Moves.{Moves}
-use Rattle.shift.specs.Whole.{movesInQuarters}
 use Rattle.pixel.specs.declared.Geometry.{Geometry}
-use Rattle.pixel.specs.Pixel.{samplesOf, sumAt, averageOf, maskAt, placeOf, restOf, rowOf, columnOf, neighbourOf, areInside, blockOf, weightsOf, blendOf, blendedAt}
-use Rattle.pixel.specs.Whole.{movedBy, sourceOf}
-use Rattle.pixel.specs.Painted.{painted, maskedShade}
-use Rattle.pixel.specs.Said.{shifted, OffsetOf, Cells, Weights, Spread, Averaged, Averages, cellAt, blockAt, blendShade, quarterShade, offsetShade, paintedFrom}
+use Rattle.pixel.specs.Pixel.{samplesOf, averageOf, maskAt, rowOf, columnOf, neighbourOf, areInside, weightsOf, blendOf, blendedAt}
+use Rattle.pixel.specs.Whole.{sourceOf}
+use Rattle.pixel.specs.Contracts.{painted, maskedShade, shifted, OffsetOf, Cells, Weights, Spread, Averaged, Averages, cellAt, blockAt, blendShade, quarterShade, offsetShade, paintedFrom}
 use Rattle.pixel.proofs.Laws.{row-below, column-below, cell-below, sample-cell, mask-most, sum-fits, spread-most, place-row, place-column, painted-at, from-painted}
-use Rattle.pixel.proofs.Places.{whole-place, moved-below, place-below, rest-below}
+use Rattle.pixel.proofs.Places.{moved-below, place-below, rest-below}
 
 -- ---- Sixteenths
 

@@ -17,8 +17,7 @@ use Rattle.dataset.specs.Bytes.{le16}
 use Rattle.value.specs.Number.{usValues}
 use Rattle.pixel.specs.declared.Geometry.{Geometry}
 use Rattle.pixel.specs.Pixel.{leBytes, samplesOf, isFrame, sampleAt, sumAt, averageOf, maskAt}
-use Rattle.pixel.specs.Painted.{painted, nativeShade}
-use Rattle.pixel.specs.Said.{Masks, cellAt, paintedFrom, Summed, Spread, shifted, rowShade, offsetShade}
+use Rattle.pixel.specs.Contracts.{painted, nativeShade, Masks, cellAt, paintedFrom, Summed, Spread, shifted, rowShade, offsetShade}
 use Rattle.pixel.proofs.Division.{average-most}
 
 both : (p q : Bool) → p && q ≡ true → (p ≡ true) × (q ≡ true)

@@ -1,18 +1,16 @@
 -- Rows and columns in quarters: the whole one below and the rest, from an offset that is never negative.
-use mathlib.Core.Path.{_≡_, refl, sym, _∙_, ap}
+use mathlib.Core.Path.{_≡_, _∙_, ap}
 use Prim.Native.Nat.{ℕ, zero, suc, _+_, _-_, _*_, _/_, _%_, _≤_, _<_, min}
 use native.Mathlib.Nat.{div-add-mod', mod-lt}
 use native.Mathlib.Omega.{arith}
-use lib.IntN.{ℤ, pos, negsuc, natAbs, _+ℤ_, _-ℤ_, _*ℤ_}
+use lib.IntN.{ℤ, pos, negsuc, natAbs, _+ℤ_}
 use Rattle.value.specs.declared.Signed.{Signed}
 use Rattle.value.specs.declared.Signed.the-variants.{Plus, Minus, Lacks}
-use Rattle.value.specs.Said.{SizeBelow}
-use Rattle.window.specs.Window.{integer, floor}
 use Rattle.window.proofs.Gaps.{Gap, shift, whole, plus, less, gap, times, value}
 use Rattle.shift.specs.Whole.{inQuarters}
 use Rattle.pixel.specs.Pixel.{lessShift, wholeBelow, quartersAbove, limitedTo, placeOf, restOf}
 use Rattle.pixel.specs.Whole.{movedBy}
-use Rattle.pixel.specs.Said.{shifted, OffsetOf}
+use Rattle.pixel.specs.Contracts.{shifted, OffsetOf}
 
 -- ---- A number of quarters
 

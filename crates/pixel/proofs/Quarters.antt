@@ -1,12 +1,9 @@
 -- A blend weighs its neighbours by sixteen sixteenths, so it stays between them; on whole shifts all sixteen fall to the first.
-use mathlib.Core.List.{List}
 use Prim.Native.Nat.{ℕ, _/_, _%_, min, max}
 use native.Mathlib.Omega.{arith}
-use Rattle.shift.specs.declared.Moves.{Moves}
-use Rattle.pixel.specs.declared.Geometry.{Geometry}
 use Rattle.pixel.specs.Pixel.{maskAt, neighbourOf, blendedAt}
 use Rattle.pixel.specs.Whole.{sourceOf}
-use Rattle.pixel.specs.Quarters.{Agree, IsBetween, Between}
+use Rattle.pixel.specs.Quarters.{Agree, Between}
 use Rattle.pixel.proofs.Laws.{row-below, column-below}
 use Rattle.pixel.proofs.Places.{whole-place, rest-below}
 use Rattle.pixel.proofs.Blend.{weights-total, blend-first, blend-least, blend-most}

@@ -1,5 +1,4 @@
 pub mod Pixel
-pub mod Painted
-pub mod Said
+pub mod Contracts
 pub mod Whole
 pub mod Quarters

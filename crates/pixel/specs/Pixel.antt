@@ -1,7 +1,7 @@
 -- Drawing steps 1, 3 and 4 over the bytes of Pixel Data: samples (the paper's cells), the average of mask frames, and
 -- the mask value that a sample takes, blended from four. Samples of a frame are numbered row by row from 0, frames from 1.
 use Prim.Native.Nat.{ℕ, zero, suc, _+_, _-_, _*_, _/_, _%_, _^_, min}
-use mathlib.Core.Bool.{Bool, true, false, _&&_}
+use mathlib.Core.Bool.{Bool, _&&_}
 use mathlib.Core.List.{List, [], _∷_}
 use lib.ListN.{length, getD}
 use lib.Dec.{leb, ltb}

@@ -2,13 +2,12 @@
 ghost use mathlib.Core.Path.{_≡_};
 ghost use Prim.Native.Nat.{ℕ, _+_, _-_, _*_, _/_, _^_, _≤_, _<_, min};
 ghost use lib.ListN.{length, getD};
-ghost use Rattle.value.specs.Said.{SizeBelow};
+ghost use Rattle.value.specs.Contracts.{SizeBelow};
 ghost use Rattle.value.specs.Number.{usValues};
 ghost use Rattle.shift.specs.Shift.{largestShift};
-ghost use Rattle.shift.specs.Said.{tooFar};
+ghost use Rattle.shift.specs.Contracts.{tooFar};
 ghost use Rattle.pixel.specs.Pixel.{samplesOf, isFrame, averageOf, weightsOf, blendOf};
-ghost use Rattle.pixel.specs.Painted.{painted, nativeShade, maskedShade};
-ghost use Rattle.pixel.specs.Said.{edges, Ready, Masks, MaskedReady, Small, Shaped, cellAt, Lies, Row, OffsetOf, shifted, Summed, Spread, Averaged, Cells, Weights, paintedFrom, rowShade, offsetShade, blendShade, quarterShade, Drawn, RowsReady, Blended, QuartersReady, BlendReady};
+ghost use Rattle.pixel.specs.Contracts.{painted, nativeShade, maskedShade, edges, Ready, Masks, MaskedReady, Small, Shaped, cellAt, Lies, Row, OffsetOf, shifted, Summed, Spread, Averaged, Cells, Weights, paintedFrom, rowShade, offsetShade, blendShade, quarterShade, Drawn, RowsReady, Blended, QuartersReady, BlendReady};
 use dataset::u16_at;
 use dataset::wide;
 use shift::Moves;

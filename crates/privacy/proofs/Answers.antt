@@ -1,5 +1,5 @@
 -- Data sets with the same rows but for places and lengths, and with nodes that are alike, are judged the same.
-use mathlib.Core.Path.{_≡_, refl, sym, ap, _∙_}
+use mathlib.Core.Path.{_≡_}
 use Prim.Native.Nat.{ℕ}
 use mathlib.Core.List.{List}
 use Rattle.dataset.specs.Reading.{readingOf}

@@ -1,10 +1,9 @@
 -- Rules 27 to 37 and 39 say the same of lists of nodes that are alike.
-use mathlib.Core.Path.{_≡_, refl, sym, ap, _∙_}
+use mathlib.Core.Path.{_≡_, refl, ap}
 use Prim.Native.Nat.{ℕ}
-use mathlib.Core.Bool.{Bool, true, false, cond, not, _&&_, _||_}
+use mathlib.Core.Bool.{Bool, true, false, cond, _&&_}
 use mathlib.Core.List.{List, [], _∷_}
-use lib.ListN.{length}
-use lib.Dec.{eqb, leb}
+use lib.Dec.{eqb}
 use Rattle.dataset.specs.Vr.{SQ}
 use Rattle.value.specs.Text.{ascii}
 use Rattle.value.specs.Number.{usOf}
@@ -15,14 +14,14 @@ use Rattle.node.specs.Nodes.{Node, nodeAt, root, inside}
 use Rattle.node.specs.Find.{holds, ifPresent, absent, andThen, find, findVr, ofVr, filled}
 use Rattle.element.specs.Tags
 use Rattle.element.specs.Tags.{DS, US, FL, OW}
-use Rattle.element.specs.Elements.{valueAt, oneItem, theItem, every, some}
+use Rattle.element.specs.Elements.{valueAt, oneItem, theItem, every}
 use Rattle.element.specs.Frames.{framesOf, sharedItem, frameItems, frameItem, groupOf, maskItems, operationIs}
 use Rattle.rules.specs.Frame.{atFrame, isShared, repeatsShared, item27, rule27, item28, rule28, item29, rule29, hasWindow, isVoi, item30, rule30, numberOr0, unique, uniqueIds, hasId, isShiftItem, isShiftGroup, item37, rule37}
 use Rattle.rules.specs.Mask.{isOperation, isMask, rule31, isRange, rangeFits, rule32, areMaskFrames, isOne, averageFits, averagesFit, rule33, isOffset, offsetFits, rule34, isShiftAt, shiftFits, rule35, hasShiftGroup, anyShift, masksHaveIds, rule36}
-use Rattle.rules.specs.Intensity.{isLinear, linearAmong, isLut, hasLut, areLuts, isLutGroup, hasLinear, isLog, item39, rule39}
+use Rattle.rules.specs.Intensity.{isLinear, linearAmong, hasLut, areLuts, isLutGroup, hasLinear, isLog, item39, rule39}
 use Rattle.privacy.specs.Read.{isRead}
 use Rattle.privacy.specs.Alike.{Alike}
-use Rattle.privacy.proofs.Words.{holds-same, if-same, every-same, some-same, map-same, inside-same, find-same, find-root, vr-same, value-same, value-vr-same, test-same, cs-same, one-same, the-same, frames-same, shared-same, frame-items-same, item-same, mask-items-same, group-same, operation-same, id-same, function-same}
+use Rattle.privacy.proofs.Words.{holds-same, if-same, every-same, some-same, map-same, inside-same, find-same, find-root, vr-same, value-same, value-vr-same, test-same, cs-same, one-same, the-same, frames-same, shared-same, frame-items-same, mask-items-same, group-same, operation-same, id-same, function-same}
 
 module _ {ns ms : List Node} (a : Alike ns ms) where
   at-same : (f : ℕ) (p q : ℕ → ℕ → Bool) → ((s i : ℕ) → p s i ≡ q s i) → atFrame ns f p ≡ atFrame ms f q

@@ -1,5 +1,5 @@
 -- The finding on lists of nodes that are alike is the same, since every rule says the same.
-use mathlib.Core.Path.{_≡_, refl, sym, ap, _∙_}
+use mathlib.Core.Path.{_≡_, refl}
 use Prim.Native.Nat.{ℕ, zero, suc, _+_}
 use mathlib.Core.List.{List}
 use Rattle.node.specs.Nodes.{Node}

@@ -1,5 +1,5 @@
 -- Nodes that are alike and have the same Pixel Data are mapped to the same intensities.
-use mathlib.Core.Path.{_≡_, refl, sym, ap, _∙_}
+use mathlib.Core.Path.{_≡_, refl}
 use Prim.Native.Nat.{ℕ}
 use mathlib.Core.List.{List}
 use Rattle.node.specs.Nodes.{Node}

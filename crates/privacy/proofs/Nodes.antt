@@ -1,10 +1,10 @@
 -- Data sets with the same rows but for places and lengths, and the same values where they are read, have nodes that are alike.
 use mathlib.Core.Path.{_≡_, refl, sym, ap, _∙_}
 use Prim.Native.Nat.{ℕ, zero, suc}
-use mathlib.Core.Bool.{Bool, true}
+use mathlib.Core.Bool.{true}
 use mathlib.Core.List.{List, [], _∷_, map}
 use lib.ListN.{length, length-map, getD}
-use Rattle.dataset.specs.Reading.{Row, readingOf, read}
+use Rattle.dataset.specs.Reading.{Row}
 use Rattle.dataset.specs.Tree.{rowsOf, rowAt, noRow}
 use Rattle.node.specs.Nodes.{Node, nodeOf, nodesOf, nodeAt, noNode, valueIn}
 use Rattle.element.specs.Tags

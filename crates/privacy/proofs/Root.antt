@@ -1,26 +1,23 @@
 -- Rules 1 to 26 and 38 say the same of lists of nodes that are alike.
-use mathlib.Core.Path.{_≡_, refl, sym, ap, _∙_}
+use mathlib.Core.Path.{_≡_, refl, ap}
 use Prim.Native.Nat.{ℕ}
-use mathlib.Core.Bool.{Bool, true, false, cond, _&&_, _||_}
+use mathlib.Core.Bool.{Bool, cond}
 use mathlib.Core.List.{List}
-use lib.ListN.{length}
-use lib.Dec.{eqb}
 use Rattle.dataset.specs.Vr.{SQ}
 use Rattle.value.specs.Text.{ascii}
 use Rattle.value.specs.Words.{wordAt}
-use Rattle.value.specs.declared.Num.{Num}
-use Rattle.value.specs.declared.Num.the-variants.{Is, Lacks}
-use Rattle.node.specs.Nodes.{Node, root, inside}
-use Rattle.node.specs.Find.{holds, absent, find, findVr}
+use Rattle.value.specs.declared.Num.the-variants.{Is}
+use Rattle.node.specs.Nodes.{Node, root}
+use Rattle.node.specs.Find.{absent, find, findVr}
 use Rattle.element.specs.Tags
 use Rattle.element.specs.Tags.{CS, DS, DT, FD}
 use Rattle.element.specs.Elements.{usIn, oneItem}
-use Rattle.element.specs.Frames.{framesOf, sharedItem}
+use Rattle.element.specs.Frames.{framesOf}
 use Rattle.rules.specs.Root.{isXa, isXrf, imageTypeIs, isImageType, planesAre, isOtherPlane, photometricIs, lossyIs, isOriginal, hasRadiation, hasExposure, rule1, rule2, rule3, rule4, rule5, rule6, rule7, rule8, rule9, rule10, rule11, rule12, rule13, rule14, rule15, rule16, rule17, rule18, rule19, rule20, rule21, rule22, rule23, rule24, rule25, rule26}
 use Rattle.rules.specs.Pixels.{isPixelData, rule38}
 use Rattle.privacy.specs.Read.{isRead}
 use Rattle.privacy.specs.Alike.{Alike}
-use Rattle.privacy.proofs.Words.{holds-same, inside-same, root-same, find-root, find-tag, vr-root, cs-root, ui-root, us-root, has-root, test-root, one-same, frames-same, shared-same}
+use Rattle.privacy.proofs.Words.{holds-same, inside-same, find-root, find-tag, vr-root, cs-root, ui-root, us-root, has-root, test-root, one-same, frames-same, shared-same}
 
 module _ {ns ms : List Node} (a : Alike ns ms) where
   -- ---- Words of several rules

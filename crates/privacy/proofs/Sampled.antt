@@ -1,5 +1,5 @@
 -- Nodes that are alike and have the same Pixel Data have the same sheets, which are made of pictures alone.
-use mathlib.Core.Path.{_≡_, refl, sym, ap, _∙_}
+use mathlib.Core.Path.{_≡_, refl}
 use Prim.Native.Nat.{ℕ, zero, suc, _+_, _-_}
 use mathlib.Core.List.{List}
 use Rattle.node.specs.Nodes.{Node}

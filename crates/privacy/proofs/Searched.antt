@@ -1,7 +1,6 @@
 -- The searches that judging is said to make look at tags and at the nodes below alone: their sum is the same of lists of nodes that are alike.
 use mathlib.Core.Path.{_≡_, refl}
 use Prim.Native.Nat.{ℕ}
-use mathlib.Core.Bool.{Bool}
 use mathlib.Core.List.{List, [], _∷_}
 use lib.Dec.{leb}
 use Rattle.value.specs.declared.Num.{Num}

@@ -1,8 +1,8 @@
 -- Nodes that are alike and have the same Pixel Data are drawn the same, and so are the sheets of their frames.
-use mathlib.Core.Path.{_≡_, refl, sym, ap, _∙_}
-use Prim.Native.Nat.{ℕ, zero, suc, _+_, _-_}
+use mathlib.Core.Path.{_≡_, refl}
+use Prim.Native.Nat.{ℕ}
 use mathlib.Core.List.{List}
-use Rattle.node.specs.Nodes.{Node, root}
+use Rattle.node.specs.Nodes.{Node}
 use Rattle.element.specs.Tags
 use Rattle.conformance.specs.declared.JudgeAnswer.{JudgeAnswer}
 use Rattle.conformance.specs.declared.JudgeAnswer.the-variants as judged

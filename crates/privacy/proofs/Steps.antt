@@ -1,7 +1,7 @@
 -- The drawing steps and the mapping give the same of lists of nodes that are alike and have the same Pixel Data.
-use mathlib.Core.Path.{_≡_, refl, sym, ap, _∙_}
+use mathlib.Core.Path.{_≡_, refl, ap}
 use Prim.Native.Nat.{ℕ}
-use mathlib.Core.Bool.{Bool, true, false, cond, _&&_, _||_}
+use mathlib.Core.Bool.{cond, _&&_}
 use mathlib.Core.List.{List, [], _∷_}
 use mathlib.Core.Option.{Option, none, some}
 use lib.ListN.{length}
@@ -14,13 +14,13 @@ use Rattle.node.specs.Nodes.{Node, nodeAt, root, inside}
 use Rattle.node.specs.Find.{find, findVr}
 use Rattle.element.specs.Tags
 use Rattle.element.specs.Tags.{CS, DS, FL, OW, US}
-use Rattle.element.specs.Elements.{valueAt, theItem}
+use Rattle.element.specs.Elements.{theItem}
 use Rattle.element.specs.Frames.{sharedItem, frameItem, idIn, operationIs}
 use Rattle.pixel.specs.Pixel.{isFrame}
 use Rattle.steps.specs.declared.Applying.{Applying}
 use Rattle.steps.specs.declared.Applying.the-variants.{Item, Nothing}
 use Rattle.steps.specs.Given.{need, check, then}
-use Rattle.steps.specs.Steps.{Mask, native, masked, geometryOf, pixelsOf, orShared, groupFor, rangeHas, rangeHolds, firstHolding, onMask, applyingTo, averageFrames, offsetAt, offsetOf, tidFrame, naming, ownIn, itemAt, shiftFrom, shiftFor, movesFor, onTid, maskBy, maskOn, maskFor, windowIn, windowOn, windowFor, inverseOf, stepsOf}
+use Rattle.steps.specs.Steps.{Mask, native, masked, geometryOf, pixelsOf, orShared, groupFor, rangeHas, rangeHolds, firstHolding, onMask, applyingTo, averageFrames, offsetAt, offsetOf, tidFrame, naming, ownIn, itemShiftAt, shiftFrom, shiftFor, movesFor, onTid, maskBy, maskOn, maskFor, windowIn, windowOn, windowFor, inverseOf, stepsOf}
 use Rattle.linear.specs.Mapping.{linearOn, linearFor, mappingBy, mappingOf, isMapped}
 use Rattle.privacy.specs.Read.{isRead}
 use Rattle.privacy.specs.Alike.{Alike, SamePixels}
@@ -119,7 +119,7 @@ module _ {ns ms : List Node} (a : Alike ns ms) where
   unfolding isRead
   shift-from-same j Lacks = rw (inside-same a j, ← find-same a Tags.MaskSubPixelShift (inside ms j)) (go (find ns Tags.MaskSubPixelShift (inside ms j)) refl)
     where
-      go : (o : Num) → find ns Tags.MaskSubPixelShift (inside ms j) ≡ o → itemAt ns o ≡ itemAt ms o
+      go : (o : Num) → find ns Tags.MaskSubPixelShift (inside ms j) ≡ o → itemShiftAt ns o ≡ itemShiftAt ms o
       go Lacks e = refl
       go (Is r) e = rw (a .vr r, value-same a Tags.MaskSubPixelShift refl (inside ms j) r e)
   shift-from-same j (Is k) =

@@ -4,13 +4,11 @@ use Prim.Native.Nat.{ℕ}
 use mathlib.Core.Bool.{Bool, true, cond}
 use mathlib.Core.List.{List, []}
 use lib.ListN.{length}
-use lib.Dec.{eqb}
 use borrow.Author.Tests.{eq-eqb}
 use Rattle.dataset.specs.Tree.{rowAt}
-use Rattle.node.specs.Nodes.{nodesOf, valueIn}
+use Rattle.node.specs.Nodes.{valueIn}
 use Rattle.element.specs.Tags
 use Rattle.privacy.specs.Read.{isRead}
-use Rattle.privacy.specs.Alike.{Alike}
 use Rattle.privacy.specs.Unread.{readValue, pixelLength, SameWhereRead, Unread}
 use Rattle.privacy.proofs.Nodes.{both-at, tag-at, alike}
 use Rattle.privacy.proofs.Answers.{judge-same}

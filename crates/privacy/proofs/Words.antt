@@ -1,25 +1,23 @@
 -- The words in which rules and steps are written say the same of lists of nodes that are alike: they look at tags, VRs and the nodes
 -- below, and at values of tags that are read.
-use mathlib.Core.Path.{_≡_, refl, sym, ap, _∙_, subst}
-use Prim.Native.Nat.{ℕ, zero, suc, _+_}
+use mathlib.Core.Path.{_≡_, refl, ap, _∙_, subst}
+use Prim.Native.Nat.{ℕ, zero, suc}
 use native.Mathlib.Omega.{arith}
 use mathlib.Core.Bool.{Bool, true, false, cond}
 use mathlib.Core.List.{List, [], _∷_, map}
-use lib.ListN.{length}
-use lib.Dec.{eqb, ltb}
+use lib.Dec.{eqb}
 use borrow.Author.Tests.{eqb-true}
 use Rattle.value.specs.declared.Num.{Num}
 use Rattle.value.specs.declared.Num.the-variants.{Is, Lacks}
-use Rattle.value.specs.declared.Function.{Function}
 use Rattle.value.specs.Words.{isWord, isUid}
 use Rattle.value.specs.Number.{usOf, isOf}
 use Rattle.dataset.specs.Vr.{SQ}
 use Rattle.node.specs.Nodes.{Node, nodeAt, nextNode, membersBy, members, root, inside}
-use Rattle.node.specs.Find.{holds, ifPresent, andThen, orElse, find, ofVr, findVr, filled, has}
+use Rattle.node.specs.Find.{holds, ifPresent, andThen, find, ofVr, findVr, filled, has}
 use Rattle.element.specs.Tags
 use Rattle.element.specs.Tags.{CS, UI, US, IS}
-use Rattle.element.specs.Elements.{valueAt, usIn, csIs, uiIs, oneItem, theItem, insideOf, itemsIn, every, some, first, functionOn, functionIn}
-use Rattle.element.specs.Frames.{counted, framesOf, sharedItem, frameItems, frameItem, groupOf, maskItems, operationIs, idIn}
+use Rattle.element.specs.Elements.{valueAt, usIn, csIs, uiIs, oneItem, theItem, insideOf, itemsIn, every, some, functionOn, functionIn}
+use Rattle.element.specs.Frames.{asCount, framesOf, sharedItem, frameItems, frameItem, groupOf, maskItems, operationIs, idIn}
 use Rattle.privacy.specs.Read.{isRead}
 use Rattle.privacy.specs.Alike.{Alike}
 
@@ -180,7 +178,7 @@ module _ {ns ms : List Node} (a : Alike ns ms) where
 
   pub frames-same : framesOf ns ≡ framesOf ms
   unfolding framesOf isRead
-  frames-same = rw root-same (number-same Tags.NumberOfFrames refl (root ms) IS (λ v. counted (isOf v)))
+  frames-same = rw root-same (number-same Tags.NumberOfFrames refl (root ms) IS (λ v. asCount (isOf v)))
 
   pub shared-same : sharedItem ns ≡ sharedItem ms
   unfolding sharedItem

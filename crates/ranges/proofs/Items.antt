@@ -2,21 +2,20 @@
 use mathlib.Core.Path.{_≡_, refl, sym, ap, _∙_, subst}
 use mathlib.Core.Bool.{Bool, true, false, cond}
 use mathlib.Core.List.{List, [], _∷_}
-use mathlib.Core.Logic.{_⊎_, inl, inr, ⊎-elim}
+use mathlib.Core.Logic.{⊎-elim}
 use mathlib.Core.Option.{Option, none, some}
-use Prim.Native.Nat.{ℕ, zero, suc, _+_, _-_, _≤_, _<_, max}
+use Prim.Native.Nat.{ℕ, _+_, _-_, _≤_, _<_, max}
 use native.Mathlib.Nat.{zero-max}
 use native.Mathlib.Omega.{arith}
-use lib.Dec.{eqb, leb}
+use lib.Dec.{leb}
 use lib.ListN.{length, getD}
 use borrow.Author.Tests.{eq-eqb, ne-eqb, le-leb}
 use Rattle.node.specs.Nodes.{Node, nextNode, members}
 use Rattle.node.proofs.Walks.{members-end}
-use Rattle.steps.specs.declared.Applying.{Applying}
-use Rattle.steps.specs.declared.Applying.the-variants.{Item, Nothing}
+use Rattle.steps.specs.declared.Applying.the-variants.{Item}
 use Rattle.steps.specs.Steps.{inPairs, rangeHolds, firstHolding}
 use Rattle.steps.proofs.Laws.{holding-lacks, holding-here, holding-next}
-use Rattle.ranges.specs.Ranges.{markOf, farOf, takenBy, Cleared, Marked, Covered, CoveredBy, CoveredAll, Tried, itemOf, Held, leftOf, Left}
+use Rattle.ranges.specs.Contracts.{markOf, farOf, takenBy, Cleared, Marked, Covered, CoveredBy, CoveredAll, Tried, itemOf, Held, leftOf, Left}
 use Rattle.ranges.proofs.Reach.{in-reach, far-marks, far-first}
 use Rattle.ranges.proofs.Tables.{same-or-not}
 

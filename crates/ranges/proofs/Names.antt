@@ -1,7 +1,7 @@
 -- What the shared shift group names, written down for one mask item after the other.
-use mathlib.Core.Path.{_≡_, refl, sym, ap, _∙_, subst}
+use mathlib.Core.Path.{_≡_, sym, ap, _∙_, subst}
 use mathlib.Core.List.{List}
-use mathlib.Core.Logic.{_⊎_, inl, inr, ⊎-elim}
+use mathlib.Core.Logic.{⊎-elim}
 use Prim.Native.Nat.{ℕ, _+_, _-_, _≤_, _<_}
 use native.Mathlib.Omega.{arith}
 use borrow.Author.Tests.{ne-eqb}
@@ -10,8 +10,8 @@ use lib.Seq.{getD-set-same, getD-set-other}
 use Rattle.node.specs.Nodes.{Node}
 use Rattle.steps.specs.declared.Found.{Found}
 use Rattle.steps.specs.declared.Found.the-variants as found
-use Rattle.steps.specs.Said.{FoundBelow, IsShared}
-use Rattle.ranges.specs.Ranges.{Cleared, foundIn, Known}
+use Rattle.steps.specs.Contracts.{FoundBelow, IsShared}
+use Rattle.ranges.specs.Contracts.{Cleared, foundIn, Known}
 use Rattle.ranges.proofs.Tables.{same-or-not}
 
 pub found-fewer : (n m : ℕ) (r : Found) → n ≤ m → FoundBelow n r → FoundBelow m r

@@ -1,18 +1,16 @@
 -- How far pairs reach, and what a table of marks says of it.
-use mathlib.Core.Path.{_≡_, refl, sym, ap, _∙_, subst}
+use mathlib.Core.Path.{_≡_, refl, sym, ap, _∙_}
 use mathlib.Core.Bool.{Bool, true, false, cond, _&&_, _||_}
 use mathlib.Core.List.{List, [], _∷_}
 use mathlib.Core.Logic.{_⊎_, inl, inr, ⊎-elim}
-use Prim.Native.Nat.{ℕ, zero, suc, _+_, _-_, _*_, _/_, _≤_, _<_, max}
-use native.Mathlib.Nat.{le-max-left, le-max-right, max-eq-left, max-eq-right, max-le, zero-max, max-zero}
+use Prim.Native.Nat.{ℕ, zero, suc, _+_, _-_, _≤_, _<_, max}
+use native.Mathlib.Nat.{le-max-left, le-max-right, max-le, zero-max, max-zero}
 use native.Mathlib.Omega.{arith}
-use native.Mathlib.Numerals.{add-one}
 use lib.Dec.{eqb, leb}
-use lib.ListN.{length, getD, set, drop}
-use lib.Seq.{getD-set-same, getD-set-other}
+use lib.ListN.{getD}
 use borrow.Author.Tests.{eq-eqb, ne-eqb, le-leb, lt-leb}
 use Rattle.steps.specs.Steps.{inPairs}
-use Rattle.ranges.specs.Ranges.{markOf, reachOf, farOf}
+use Rattle.ranges.specs.Contracts.{markOf, reachOf, farOf}
 
 pub either : (a b : ℕ) → (a ≤ b) ⊎ (b < a)
 either zero b = inl (omega arith)

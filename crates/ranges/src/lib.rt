@@ -3,16 +3,17 @@
 // items of the group.
 ghost use mathlib.Core.Path.{_≡_};
 ghost use mathlib.Core.List.{[]};
-ghost use Prim.Native.Nat.{ℕ, _+_, _%_, _≤_, _<_, max};
+ghost use Prim.Native.Nat.{_+_, _%_, _≤_, _<_, max};
 ghost use lib.Dec.{leb};
 ghost use lib.ListN.{length, getD};
+ghost use Rattle.dataset.specs.Reading.{mostRows};
 ghost use Rattle.value.specs.declared.Num.the-variants as num;
 ghost use Rattle.value.specs.Number.{usValues};
 ghost use Rattle.node.specs.Nodes.{nodesOf, members};
-ghost use Rattle.node.specs.Table.{Table};
-ghost use Rattle.steps.specs.Said.{FoundBelow, IsShared};
+ghost use Rattle.node.specs.Contracts.{Table};
+ghost use Rattle.steps.specs.Contracts.{FoundBelow, IsShared};
 ghost use Rattle.steps.specs.Steps.{inPairs, rangeHolds, rangeHas};
-ghost use Rattle.ranges.specs.Ranges.{takenBy, itemOf, foundIn, Cleared, Marked, Covered, CoveredBy, CoveredAll, Tried, Held, Left, Answering, Applied, Rooms, Known};
+ghost use Rattle.ranges.specs.Contracts.{takenBy, itemOf, foundIn, Cleared, Marked, Covered, CoveredBy, CoveredAll, Tried, Held, Left, Answering, Applied, Rooms, Known};
 use element::tags;
 use steps::Applying;
 use steps::Found;
@@ -165,7 +166,7 @@ pub fn apply_all(bytes: &[u8], rows: &[u32], n: usize, reach: &mut [u32], which:
     match element::find_root(bytes, rows, tags::MASK_SUBTRACTION_SEQUENCE) {
         Num::Lacks => {}
         Num::Is(m) => {
-            if node::vr(bytes, rows, m) == node::SQ {
+            if node::vr(bytes, rows, m) == dataset::SQ {
                 cover_items(
                     bytes,
                     rows,
@@ -197,7 +198,7 @@ pub fn applying_at(which: &[u32], frame: usize) -> Applying
 
 // An answer as a number, and back.
 fn number_of(r: Found) -> u32
-    requires { ⌜ FoundBelow 134217728 r ⌝ }
+    requires { ⌜ FoundBelow mostRows r ⌝ }
     ensures { λ x. ⌜ foundIn x ≡ r ⌝ }
 {
     match r {

@@ -1,7 +1,7 @@
 -- How a row begins in print: its tag and its VR, in ASCII.
 use Prim.Native.Nat.{ℕ, _+_, _/_, _%_}
 use mathlib.Core.List.{List, [], _∷_}
-use mathlib.Core.Bool.{Bool, cond}
+use mathlib.Core.Bool.{cond}
 use lib.Dec.{ltb, eqb}
 
 -- The last hexadecimal digit of a number, in upper case.

@@ -1,24 +1,13 @@
 // The reading of a data set, printed to standard output: `rows N` and a line for each row, or the refusal.
 use dataset::ReadAnswer;
+use room::row_buffer;
 ghost use mathlib.Core.Path.{_≡_};
 ghost use Prim.Native.Nat.{_+_, _*_, _≤_};
 ghost use lib.ListN.{length};
 ghost use Rattle.dataset.specs.Reading.{readingOf};
-ghost use Rattle.dataset.specs.Answer.{answerOf, bufferOf};
-ghost use Rattle.rowprint.specs.Text.{hexDigit, heading};
-ghost use Rattle.rowprint.specs.Text.{letter as Text·letter};
-ghost use Rattle.rowprint.specs.Listing.{Held, Roomy};
-
-// The most bytes that a data set to be printed may have.
-pub const MOST: usize = 65_536;
-
-// Room for the rows of a data set of that size, since a row has at least 8 bytes. A function of its own gives the
-// length, so that no proof computes it from the array.
-fn row_buffer() -> [u32; 57_344]
-    ensures { λ r. ⌜ 57344 ≡ length r ⌝ }
-{
-    [0; 57_344]
-}
+ghost use Rattle.dataset.specs.Answer.{width, answerOf, bufferOf};
+ghost use Rattle.rowprint.specs.Text.{hexDigit, heading, letter as Text·letter};
+ghost use Rattle.rowprint.specs.Contracts.{Held, Roomy};
 
 fn hex_digit(n: u32) -> u8
     ensures { λ r. ⌜ r ≡ hexDigit n ⌝ }
@@ -62,21 +51,21 @@ fn print_number(n: u64) {
 }
 
 fn print_row(rows: &[u32], i: usize)
-    requires { ⌜ 7 * i + 7 ≤ length (now rows) ⌝ }
+    requires { ⌜ width * i + width ≤ length (now rows) ⌝ }
 {
-    let at = 7 * i;
-    let text = row_heading(rows[at], rows[at + 1]);
+    let at = dataset::WIDTH * i;
+    let text = row_heading(rows[at], rows[at + dataset::VR]);
     io::write_all(1, &text);
-    print_number(wide(rows[at + 2]));
-    print_number(wide(rows[at + 3]));
-    print_number(wide(rows[at + 4]));
-    print_number(wide(rows[at + 5]));
-    print_number(wide(rows[at + 6]));
+    print_number(wide(rows[at + dataset::DEPTH]));
+    print_number(wide(rows[at + dataset::OFFSET]));
+    print_number(wide(rows[at + dataset::LENGTH]));
+    print_number(wide(rows[at + dataset::BELOW]));
+    print_number(wide(rows[at + dataset::PARENT]));
     io::write_all(1, b"\n");
 }
 
 fn print_rows(rows: &[u32], n: usize)
-    requires { ⌜ 7 * n ≤ length (now rows) ⌝ }
+    requires { ⌜ width * n ≤ length (now rows) ⌝ }
 {
     io::write_all(1, b"rows");
     print_number(n as u64);
@@ -111,7 +100,7 @@ fn print_answer(answer: ReadAnswer, rows: &[u32])
 
 // Reads a data set into a buffer that has room for seven numbers for each 8 bytes of it, so that the rows fit.
 fn read_roomy(bytes: &[u8], rows: &mut [u32]) -> ReadAnswer
-    requires { ⌜ 7 * length (now bytes) ≤ 8 * length (now rows) ⌝ }
+    requires { ⌜ width * length (now bytes) ≤ 8 * length (now rows) ⌝ }
     ensures { λ r. ⌜ r ≡ answerOf (readingOf (now (bytes .entry))) (now (rows .entry)) ⌝ }
     ensures { λ _. ⌜ now (rows .exit) ≡ bufferOf (readingOf (now (bytes .entry))) (now (rows .entry)) ⌝ }
     ensures { λ r. ⌜ Held r (now (rows .exit)) ⌝ }
@@ -120,9 +109,9 @@ fn read_roomy(bytes: &[u8], rows: &mut [u32]) -> ReadAnswer
     dataset::read(bytes, rows)
 }
 
-// Prints the reading of a data set of at most `MOST` bytes; of more, that they are too many.
+// Prints the reading of a data set of at most `room::MOST` bytes; of more, that they are too many.
 pub fn print_reading(bytes: &[u8]) {
-    if MOST < bytes.len() {
+    if room::MOST < bytes.len() {
         io::write_all(1, b"too long: at most 65536 bytes\n");
         return;
     }

@@ -1,11 +1,10 @@
 -- Rules 31 to 36: the mask items, which stand in the root's Mask Subtraction Sequence.
 use Prim.Native.Nat.{ℕ, _%_}
 use mathlib.Core.List.{List, [], _∷_}
-use mathlib.Core.Bool.{Bool, true, false, cond, not, _&&_, _||_}
+use mathlib.Core.Bool.{Bool, true, false, cond, _&&_, _||_}
 use lib.ListN.{length}
 use lib.Dec.{eqb, leb}
 use Rattle.dataset.specs.Vr.{SQ}
-use Rattle.value.specs.declared.Num.{Num}
 use Rattle.value.specs.Text.{ascii}
 use Rattle.value.specs.Number.{usOf, usValues, ssOf, isNumber}
 use Rattle.shift.specs.Shift.{isShift}

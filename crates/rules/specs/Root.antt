@@ -1,8 +1,8 @@
 -- Rules 1 to 26 of document 01's rule list, each over the nodes of a data set. All but 25 and 26 are of elements in the root.
 -- A value that is compared is single and of the VR named; a desk rule of the paper (D) is called a local rule.
 use Prim.Native.Nat.{ℕ, _+_}
-use mathlib.Core.List.{List, []}
-use mathlib.Core.Bool.{Bool, true, false, cond, not, _&&_, _||_}
+use mathlib.Core.List.{List}
+use mathlib.Core.Bool.{Bool, true, cond, not, _&&_, _||_}
 use lib.ListN.{length}
 use lib.Dec.{eqb, leb}
 use Rattle.value.specs.Text.{ascii, valuesOf, isSingle}

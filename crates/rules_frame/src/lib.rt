@@ -1,22 +1,20 @@
 // Rules 27 to 30, 37 and 39, which are asked at each frame, over a row table.
 ghost use mathlib.Core.Path.{_≡_};
-ghost use Prim.Native.Nat.{ℕ, _+_, _-_, _*_, _≤_, _<_};
-ghost use mathlib.Core.Bool.{Bool, _&&_};
+ghost use Prim.Native.Nat.{_+_, _≤_, _<_};
+ghost use mathlib.Core.Bool.{_&&_};
 ghost use lib.Dec.{eqb};
 ghost use Rattle.value.specs.Text.{valuesOf};
 ghost use Rattle.value.specs.Number.{allDecimals, allWidths};
 ghost use lib.ListN.{length};
-ghost use Rattle.node.specs.Nodes.{Node, nodesOf, nodeAt, members, inside};
-ghost use Rattle.node.specs.Find.{absent, ifPresent, find};
-ghost use Rattle.node.specs.Table.{Table};
+ghost use Rattle.node.specs.Nodes.{nodesOf, members, inside};
+ghost use Rattle.node.specs.Find.{absent, find};
+ghost use Rattle.node.specs.Contracts.{Table};
+ghost use Rattle.element.specs.Tags.{FrameContentSequence};
 ghost use Rattle.element.specs.Elements.{every};
 ghost use Rattle.rules.specs.Frame.{repeatsShared, item27, item28, isWindow, hasWindow, isVoi, isShiftItem, isShiftGroup};
-ghost use Rattle.rules_frame.specs.Merge.{isRepeated};
-ghost use Rattle.rules_frame.specs.Parts.{groupTag, groupFits, groupIn, sharedOk, itemBy, sharedPart, itemGrades, itemRule};
+ghost use Rattle.rules_frame.specs.Contracts.{isRepeated, groupTag, groupFits, groupIn, sharedOk, itemBy, sharedPart, itemGrades, itemRule};
 use value::Function;
 use value::Num;
-
-const SQ: usize = 0x5351;
 
 // What a rule comes to in the shared item: of rule 39 the grades of its two functional groups.
 pub struct SharedPart {
@@ -32,10 +30,10 @@ fn is_repeated(bytes: &[u8], rows: &[u32], j: usize, k: usize, to: usize) -> boo
     requires { ⌜ Table (now bytes) (now rows) × ((j < length (nodesOf (now bytes))) × (to ≤ length (nodesOf (now bytes)))) ⌝ }
     ensures { λ r. ⌜ r ≡ isRepeated (nodesOf (now (bytes .entry))) j (members (nodesOf (now (bytes .entry))) k to) ⌝ }
 {
-    if node::vr(bytes, rows, j) == SQ {
+    if node::vr(bytes, rows, j) == dataset::SQ {
         match node::first_is(bytes, rows, k, to, node::tag(bytes, rows, j)) {
             Num::Lacks => false,
-            Num::Is(i) => node::vr(bytes, rows, i) == SQ,
+            Num::Is(i) => node::vr(bytes, rows, i) == dataset::SQ,
         }
     } else {
         false
@@ -79,7 +77,7 @@ fn item_27(bytes: &[u8], rows: &[u32], shared: usize, item: usize) -> bool
 
 fn content_absent(bytes: &[u8], rows: &[u32], shared: usize) -> bool
     requires { ⌜ Table (now bytes) (now rows) × (shared < length (nodesOf (now bytes))) ⌝ }
-    ensures { λ r. ⌜ r ≡ absent (find (nodesOf (now (bytes .entry))) 0x00209111 (inside (nodesOf (now (bytes .entry))) shared)) ⌝ }
+    ensures { λ r. ⌜ r ≡ absent (find (nodesOf (now (bytes .entry))) FrameContentSequence (inside (nodesOf (now (bytes .entry))) shared)) ⌝ }
 {
     match element::find_item(bytes, rows, shared, element::tags::FRAME_CONTENT_SEQUENCE) {
         Num::Lacks => true,
@@ -89,7 +87,7 @@ fn content_absent(bytes: &[u8], rows: &[u32], shared: usize) -> bool
 
 // `ok` is whether the shared item has no Frame Content.
 fn item_28(bytes: &[u8], rows: &[u32], shared: usize, ok: bool, item: usize) -> bool
-    requires { ⌜ Table (now bytes) (now rows) × ((item < length (nodesOf (now bytes))) × (ok ≡ absent (find (nodesOf (now bytes)) 0x00209111 (inside (nodesOf (now bytes)) shared)))) ⌝ }
+    requires { ⌜ Table (now bytes) (now rows) × ((item < length (nodesOf (now bytes))) × (ok ≡ absent (find (nodesOf (now bytes)) FrameContentSequence (inside (nodesOf (now bytes)) shared)))) ⌝ }
     ensures { λ r. ⌜ r ≡ item28 (nodesOf (now (bytes .entry))) shared item ⌝ }
 {
     if ok {
@@ -210,7 +208,7 @@ fn is_shift_group(bytes: &[u8], rows: &[u32], group: usize) -> bool
     requires { ⌜ Table (now bytes) (now rows) × (group < length (nodesOf (now bytes))) ⌝ }
     ensures { λ r. ⌜ r ≡ isShiftGroup (nodesOf (now (bytes .entry))) group ⌝ }
 {
-    if node::vr(bytes, rows, group) == SQ {
+    if node::vr(bytes, rows, group) == dataset::SQ {
         let from = group + 1;
         let to = node::next(bytes, rows, group);
         if from < to {

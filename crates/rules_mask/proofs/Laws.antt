@@ -20,7 +20,7 @@ use Rattle.node.proofs.Walks.{members-end, members-next}
 use Rattle.element.specs.Elements.{every, some}
 use Rattle.element.specs.Tags.{FramePixelShiftSequence}
 use Rattle.rules.specs.Mask.{pairsFit, allFrames, hasShiftGroup}
-use Rattle.rules_mask.specs.Parts.{shiftIn}
+use Rattle.rules_mask.specs.Contracts.{shiftIn}
 
 -- ---- Tests one after the other
 

@@ -1,19 +1,19 @@
 // Rules 31 to 36: the mask items, which stand in the root's Mask Subtraction Sequence.
 ghost use mathlib.Core.Path.{_≡_};
-ghost use Prim.Native.Nat.{ℕ, _+_, _-_, _*_, _%_, _≤_, _<_};
-ghost use mathlib.Core.Bool.{Bool, _&&_};
+ghost use Prim.Native.Nat.{_+_, _*_, _%_, _≤_, _<_};
+ghost use mathlib.Core.Bool.{_&&_};
 ghost use lib.ListN.{length};
 ghost use lib.Dec.{leb};
 ghost use Rattle.value.specs.Number.{usValues};
-ghost use Rattle.node.specs.Nodes.{Node, nodesOf, nodeAt, members, inside};
+ghost use Rattle.node.specs.Nodes.{nodesOf, members, inside};
 ghost use Rattle.node.specs.Find.{ifPresent, find};
-ghost use Rattle.node.specs.Table.{Table};
+ghost use Rattle.node.specs.Contracts.{Table};
 ghost use Rattle.element.specs.Tags.{ContrastFrameAveraging};
-ghost use Rattle.element.specs.Elements.{every, some};
+ghost use Rattle.element.specs.Elements.{every};
 ghost use Rattle.rules.specs.Frame.{hasId};
 ghost use Rattle.rules.specs.Mask.{isOperation, isMask, rule31, pairsFit, isRange, rangeFits, rule32, allFrames, areMaskFrames, isOne, averageFits, averagesFit, rule33, isOffset, offsetFits, rule34, isShiftAt, shiftFits, rule35, anyShift, masksHaveIds, rule36};
 ghost use Rattle.rules.specs.All.{ruleAt};
-ghost use Rattle.rules_mask.specs.Parts.{shiftIn};
+ghost use Rattle.rules_mask.specs.Contracts.{shiftIn};
 use element::tags;
 use value::Num;
 use value::Signed;
@@ -59,7 +59,7 @@ fn is_mask(bytes: &[u8], rows: &[u32], i: usize) -> bool
     requires { ⌜ Table (now bytes) (now rows) × (i < length (nodesOf (now bytes))) ⌝ }
     ensures { λ r. ⌜ r ≡ isMask (nodesOf (now (bytes .entry))) i ⌝ }
 {
-    if node::vr(bytes, rows, i) == node::SQ {
+    if node::vr(bytes, rows, i) == dataset::SQ {
         let n = element::count_items(bytes, rows, i);
         if 1 <= n {
             if n <= MOST_MASKS {
@@ -417,7 +417,7 @@ fn shift_in(bytes: &[u8], rows: &[u32], item: usize, otherwise: bool) -> bool
     match element::find_item(bytes, rows, item, tags::FRAME_PIXEL_SHIFT_SEQUENCE) {
         Num::Lacks => otherwise,
         Num::Is(g) => {
-            if node::vr(bytes, rows, g) == node::SQ {
+            if node::vr(bytes, rows, g) == dataset::SQ {
                 node::is_filled(bytes, rows, g)
             } else {
                 false

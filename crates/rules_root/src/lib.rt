@@ -5,10 +5,9 @@ ghost use lib.ListN.{length};
 ghost use lib.Dec.{eqb, leb};
 ghost use Rattle.node.specs.Nodes.{nodesOf, root};
 ghost use Rattle.node.specs.Find.{holds};
-ghost use Rattle.node.specs.Table.{Table};
+ghost use Rattle.node.specs.Contracts.{Table};
 ghost use Rattle.element.specs.Elements.{usIn};
-ghost use Rattle.rules.specs.Root.{isXa, isXrf, imageTypeIs, isImageType, planesAre, isOtherPlane, photometricIs, bitsFit, lossyIs, isOriginal, hasRadiation, hasExposure};
-ghost use Rattle.rules.specs.Root.{rule1, rule2, rule3, rule4, rule5, rule6, rule7, rule8, rule9, rule10, rule11, rule12, rule13, rule14, rule15, rule16, rule17, rule18, rule19, rule20, rule21, rule22, rule23, rule24, rule25, rule26};
+ghost use Rattle.rules.specs.Root.{isXa, isXrf, imageTypeIs, isImageType, planesAre, isOtherPlane, photometricIs, bitsFit, lossyIs, isOriginal, hasRadiation, hasExposure, rule1, rule2, rule3, rule4, rule5, rule6, rule7, rule8, rule9, rule10, rule11, rule12, rule13, rule14, rule15, rule16, rule17, rule18, rule19, rule20, rule21, rule22, rule23, rule24, rule25, rule26};
 ghost use Rattle.rules.specs.Pixels.{padded, isPixelVr, isPixelData, rule38};
 ghost use Rattle.rules.specs.All.{ruleAt};
 use element::tags;
@@ -512,7 +511,7 @@ fn rule_26(bytes: &[u8], rows: &[u32]) -> bool
         bytes,
         rows,
         tags::PER_FRAME_FUNCTIONAL_GROUPS_SEQUENCE,
-        node::SQ,
+        dataset::SQ,
     ) else {
         return false;
     };

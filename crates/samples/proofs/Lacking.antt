@@ -1,12 +1,12 @@
 -- The steps can lack, in every line of the list `lacking`: nothing is left open on either side, so both are worked out, and are
 -- the same.
 use mathlib.Core.Path.{_≡_, refl}
-use mathlib.Core.List.{List, map}
+use mathlib.Core.List.{map}
 use lib.Ieee.{odd, ofFields, ofBits}
 use Rattle.dataset.specs.Bytes.{le16}
 use Rattle.dataset.specs.Vr.{listed, formOf}
 use Rattle.dataset.specs.Header.{when, headerBy, delimiterBy, levelBy, definedBy, longBy, typedAt, taggedAt, sizedBy, memberAt}
-use Rattle.dataset.specs.Reading.{level, valueAt, readingOf}
+use Rattle.dataset.specs.Reading.{level, valueRun, readingOf}
 use Rattle.dataset.specs.Tree.{rowsOf}
 use Rattle.value.specs.Text.{equal, valuesOf, trimStart, trimEnd}
 use Rattle.value.specs.Words.{wordAt, isWord, isUid, functionOf}
@@ -31,7 +31,7 @@ use Rattle.steps.specs.Steps.{geometryOf, pixelsOf, groupFor, rangeHolds, first
 use Rattle.display.specs.Show.{pictureOf, acceptedAnswer, showOf, imageOf}
 use Rattle.value.specs.declared.Num.the-variants.{Lacks}
 use Rattle.window.specs.declared.Window.{Window}
-use Rattle.samples.specs.Lacking.{Case, lacking, cellOfNoFrame}
+use Rattle.samples.specs.Lacking.{lacking, cellOfNoFrame}
 
 -- Each line is not accepted, and the steps give what it says.
 pub steps-lack : map (λ k. k .gives) lacking ≡ map (λ k. k .says) lacking
@@ -40,7 +40,7 @@ unfolding
     le16
     listed formOf
     when headerBy delimiterBy levelBy definedBy longBy typedAt taggedAt sizedBy memberAt
-    level valueAt readingOf
+    level valueRun readingOf
     rowsOf
     equal valuesOf trimStart trimEnd
     wordAt isWord isUid functionOf

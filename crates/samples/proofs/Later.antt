@@ -1,11 +1,11 @@
 -- The samples of later requests, worked out as the starred cases are (proofs/Starred). They are a claim of their own, since one
 -- claim over both lists takes more steps than the checker allows a declaration.
 use mathlib.Core.Path.{_≡_, refl}
-use mathlib.Core.List.{List, map}
+use mathlib.Core.List.{map}
 use Rattle.dataset.specs.Bytes.{le16}
 use Rattle.dataset.specs.Vr.{listed, formOf}
 use Rattle.dataset.specs.Header.{when, headerBy, delimiterBy, levelBy, definedBy, longBy, typedAt, taggedAt, sizedBy, memberAt}
-use Rattle.dataset.specs.Reading.{level, valueAt, readingOf}
+use Rattle.dataset.specs.Reading.{level, valueRun, readingOf}
 use Rattle.dataset.specs.Tree.{rowsOf}
 use Rattle.value.specs.Text.{equal, valuesOf, trimStart, trimEnd}
 use Rattle.value.specs.Words.{wordAt, isWord, isUid, functionOf}
@@ -28,7 +28,7 @@ use Rattle.pixel.specs.Pixel.{leBytes, isFrame, sampleAt, sumAt, averageOf, mas
 use Rattle.steps.specs.Given.{collect}
 use Rattle.steps.specs.Steps.{geometryOf, pixelsOf, groupFor, rangeHolds, firstHolding, applyingTo, averageFrames, offsetOf, tidFrame, shiftFor, movesFor, maskBy, maskFor, windowIn, windowFor, inverseOf, nativeCell, maskedCell, areFrames, pictureBy, stepsOf}
 use Rattle.display.specs.Show.{pictureOf, acceptedAnswer, showOf, imageOf}
-use Rattle.samples.specs.Samples.{Sample, later}
+use Rattle.samples.specs.Samples.{later}
 
 -- Those of later requests.
 pub later-given : map (λ k. k .gives) later ≡ map (λ k. k .says) later
@@ -36,7 +36,7 @@ unfolding
     le16
     listed formOf
     when headerBy delimiterBy levelBy definedBy longBy typedAt taggedAt sizedBy memberAt
-    level valueAt readingOf
+    level valueRun readingOf
     rowsOf
     equal valuesOf trimStart trimEnd
     wordAt isWord isUid functionOf

@@ -6,9 +6,9 @@ use Prim.Native.Nat.{ℕ}
 use Rattle.dataset.specs.Bytes.{le16}
 use Rattle.dataset.specs.Vr.{listed, formOf}
 use Rattle.dataset.specs.Header.{when, headerBy, delimiterBy, levelBy, definedBy, longBy, typedAt, taggedAt, sizedBy, memberAt}
-use Rattle.dataset.specs.Reading.{level, valueAt, readingOf}
+use Rattle.dataset.specs.Reading.{level, valueRun, readingOf}
 use Rattle.dataset.specs.Tree.{rowsOf}
-use Rattle.value.specs.Text.{equal, valuesOf, trimStart, trimEnd}
+use Rattle.value.specs.Text.{equal, valuesOf, trimStart, trimEnd, ascii}
 use Rattle.value.specs.Words.{wordAt, isWord, isUid, functionOf}
 use Rattle.value.specs.Number.{usOf, usValues, ssOf, digitsOf, signedBy, wholeOf, isOf, exactOf, exponentOf, endOf, sizeOf, decimalOf, all, allDecimals, allWidths}
 use Rattle.node.specs.Nodes.{nodesOf, members, membersBy}
@@ -29,9 +29,7 @@ use Rattle.pixel.specs.Pixel.{leBytes, isFrame, sampleAt, sumAt, averageOf, mas
 use Rattle.steps.specs.Given.{collect}
 use Rattle.steps.specs.Steps.{geometryOf, pixelsOf, groupFor, rangeHolds, firstHolding, applyingTo, averageFrames, offsetOf, tidFrame, shiftFor, movesFor, maskBy, maskFor, windowIn, windowFor, inverseOf, nativeCell, maskedCell, areFrames, pictureBy, stepsOf}
 use Rattle.display.specs.Show.{pictureOf, acceptedAnswer, showOf, imageOf}
-use Rattle.value.specs.Text.{ascii}
-use Rattle.linear.specs.declared.LinearAnswer.the-variants as linear
-use Rattle.linear.specs.Mapping.{linearFor, placeOf, entryPlace, entryAt, entryOf, mappingBy, mappingOf, isMapped}
+use Rattle.linear.specs.Mapping.{linearFor, placeAmong, entryPlace, entryAt, entryOf, mappingBy, mappingOf, isMapped}
 use Rattle.linear.specs.Answer.{entriesOf, linearOf, valuesOf as mappedValues, acceptedAnswer as acceptedLinear}
 use Rattle.samples.specs.Objects.{two, short, long, sequence, item, oneFrame}
 use Rattle.samples.specs.Samples.{manyRows}
@@ -51,7 +49,7 @@ unfolding
     le16
     listed formOf
     when headerBy delimiterBy levelBy definedBy longBy typedAt taggedAt sizedBy memberAt
-    level valueAt readingOf
+    level valueRun readingOf
     rowsOf
     equal valuesOf trimStart trimEnd
     wordAt isWord isUid functionOf
@@ -67,7 +65,7 @@ unfolding
     operationIs isOperation isMask rangeFits allFrames areMaskFrames averageFits averagesFit isOffset offsetFits shiftFits hasShiftGroup anyShift rule31 rule32 rule33 rule34 rule35 rule36
     isPixelVr isPixelData rule38
     isLinear linearAmong isLut hasLut areLuts isLutGroup hasLinear isLog item39 rule39
-    linearFor placeOf entryPlace entryAt entryOf mappingBy mappingOf isMapped
+    linearFor placeAmong entryPlace entryAt entryOf mappingBy mappingOf isMapped
     entriesOf linearOf mappedValues acceptedLinear
     ruleList ruleAt
     firstFrame frameCount lowest firstBroken judgeOf

@@ -6,7 +6,7 @@ use mathlib.Core.List.{List, map, _++_, map-append}
 use Rattle.dataset.specs.Bytes.{le16}
 use Rattle.dataset.specs.Vr.{listed, formOf}
 use Rattle.dataset.specs.Header.{when, headerBy, delimiterBy, levelBy, definedBy, longBy, typedAt, taggedAt, sizedBy, memberAt}
-use Rattle.dataset.specs.Reading.{level, valueAt, readingOf}
+use Rattle.dataset.specs.Reading.{level, valueRun, readingOf}
 use Rattle.dataset.specs.Tree.{rowsOf}
 use Rattle.value.specs.Text.{equal, valuesOf, trimStart, trimEnd}
 use Rattle.value.specs.Words.{wordAt, isWord, isUid, functionOf}
@@ -37,7 +37,7 @@ unfolding
     le16
     listed formOf
     when headerBy delimiterBy levelBy definedBy longBy typedAt taggedAt sizedBy memberAt
-    level valueAt readingOf
+    level valueRun readingOf
     rowsOf
     equal valuesOf trimStart trimEnd
     wordAt isWord isUid functionOf
@@ -67,7 +67,7 @@ unfolding
     le16
     listed formOf
     when headerBy delimiterBy levelBy definedBy longBy typedAt taggedAt sizedBy memberAt
-    level valueAt readingOf
+    level valueRun readingOf
     rowsOf
     equal valuesOf trimStart trimEnd
     wordAt isWord isUid functionOf

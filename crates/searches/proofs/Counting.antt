@@ -1,17 +1,16 @@
 -- The count of one search, one member at a time, and that it is at most the number of members.
-use mathlib.Core.Path.{_≡_, refl, sym, ap, _∙_}
-use Prim.Native.Nat.{ℕ, zero, suc, _+_, _-_, _*_, _≤_, _<_}
+use mathlib.Core.Path.{_≡_, refl}
+use Prim.Native.Nat.{ℕ, zero, suc, _+_, _-_, _≤_, _<_}
 use native.Mathlib.Omega.{arith}
-use native.Mathlib.Nat.{mul-le-mul-left, mul-le-mul-right}
 use mathlib.Core.List.{List, [], _∷_}
-use mathlib.Core.Bool.{Bool, true, false, cond, _||_}
+use mathlib.Core.Bool.{Bool, true, false, cond}
 use lib.ListN.{length, List·getD-eq-default}
-use lib.Dec.{ltb, leb}
+use lib.Dec.{ltb}
 use borrow.Author.Tests.{lt-ltb, le-ltb, lt-leb, le-leb, ltb-true, ltb-false}
 use Rattle.dataset.specs.Answer.{flat}
 use Rattle.dataset.specs.Tree.{rowsOf}
 use Rattle.node.specs.Nodes.{Node, noNode, nodesOf, nodeAt, nextNode, membersBy, members, inside}
-use Rattle.node.specs.Halves.{Ascends}
+use Rattle.node.specs.Contracts.{Ascends}
 use Rattle.node.proofs.Laws.{table, next-within}
 use Rattle.node.proofs.Walks.{members-end, members-next}
 use Rattle.node.proofs.Halves.{ascends-next}

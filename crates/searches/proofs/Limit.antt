@@ -1,10 +1,10 @@
 -- The limit: 33 searches in the root and 7 in each mask item look at no more than 40 times the rows, since mask items do not overlap; those of a
 -- frame at no more than 25 times, and rule 26 says that there are N items of frames.
-use mathlib.Core.Path.{_≡_, refl, sym, ap, _∙_}
+use mathlib.Core.Path.{_≡_, _∙_}
 use Prim.Native.Nat.{ℕ, _+_, _*_, _≤_}
 use native.Mathlib.Omega.{arith}
 use mathlib.Core.List.{List}
-use mathlib.Core.Bool.{Bool, true, false}
+use mathlib.Core.Bool.{true, false}
 use lib.ListN.{length}
 use lib.Dec.{eqb}
 use borrow.Author.Tests.{eqb-true}
@@ -18,14 +18,14 @@ use Rattle.element.specs.Elements.{itemsIn, insideOf}
 use Rattle.element.specs.Frames.{framesOf, sharedItem, frameItems, maskItems}
 use Rattle.rules.specs.Root.{rule26}
 use Rattle.rules.specs.All.{ruleList, ruleAt}
-use Rattle.verdict.specs.Verdict.{lastRule, perFrame}
+use Rattle.verdict.specs.Verdict.{perFrame}
 use Rattle.conformance.specs.declared.Finding.the-variants as finding
 use Rattle.conformance.specs.Judging.{firstFrame, frameCount, findingOf}
 use Rattle.conformance.proofs.First.{accepted-holds}
 use Rattle.searches.specs.Searches.{rootSearches, maskSearches, frameSearches, searchedAmong, maskSum, framesSum, overFrames, searchesOf}
-use Rattle.searches.specs.Parts.{tagsOf, maskTags}
+use Rattle.searches.specs.Contracts.{tagsOf, maskTags}
 use Rattle.searches.specs.Limit.{Limit}
-use Rattle.searches.proofs.Counting.{members-few, Within, nodes-within, inside-few}
+use Rattle.searches.proofs.Counting.{members-few, Within, nodes-within}
 use Rattle.searches.proofs.Sums.{searched-is, mask-is, all-few, group-read, both-few, groups-few, frames-are}
 
 -- Rule 26 holds where a data set is accepted.

@@ -1,10 +1,10 @@
 -- The sums at the places that the loops have reached, and that they fit.
-use mathlib.Core.Path.{_≡_, refl, sym, ap, _∙_}
-use Prim.Native.Nat.{ℕ, suc, _+_, _*_, _≤_, _<_}
+use mathlib.Core.Path.{_≡_, refl, sym}
+use Prim.Native.Nat.{ℕ, _+_, _*_, _≤_, _<_}
 use native.Mathlib.Omega.{arith}
 use native.Mathlib.Nat.{mul-le-mul-left, mul-le-mul-right}
 use native.Mathlib.Numerals.{add-one}
-use mathlib.Core.List.{List, [], _∷_}
+use mathlib.Core.List.{List}
 use mathlib.Core.Bool.{Bool, true, false, _||_}
 use lib.ListN.{length, drop, getD}
 use lib.Seq.{drop-cons, drop-length}
@@ -18,8 +18,8 @@ use Rattle.element.specs.Tags
 use Rattle.element.specs.Elements.{insideOf, itemsIn}
 use Rattle.element.specs.Frames.{frameItems, maskItems}
 use Rattle.searches.specs.Count.{lookedAt}
-use Rattle.searches.specs.Searches.{rootSearches, maskSearches, searchedAmong, maskSum, readIn, readInEach, inShared, groupSum, bothItems}
-use Rattle.searches.specs.Parts.{allLooked, rootTags, maskTags, groupAt, overGroup, overBoth}
+use Rattle.searches.specs.Searches.{rootSearches, maskSearches, searchedAmong, maskSum, readInEach, inShared, groupSum, bothItems}
+use Rattle.searches.specs.Contracts.{allLooked, rootTags, maskTags, groupAt, overGroup, overBoth}
 use Rattle.searches.proofs.Counting.{members-few, Within, nodes-within, inside-few}
 use Rattle.searches.proofs.Sums.{searched-is, mask-is, read-is, all-few, each-few, group-few, over-few, both-few}
 

@@ -1,10 +1,9 @@
 -- The small data sets, by computing.
 use mathlib.Core.Path.{refl}
 use Rattle.node.specs.Nodes.{membersBy, members}
-use Rattle.node.specs.Find.{find}
+use Rattle.node.specs.Find.{find, ofVr}
 use Rattle.element.specs.Elements.{some, oneItem, theItem, itemsIn}
 use Rattle.element.specs.Frames.{sharedItem, frameItems, maskItems}
-use Rattle.node.specs.Find.{ofVr}
 use Rattle.searches.specs.Count.{lowerTags, remains, lookedAt}
 use Rattle.searches.specs.Searches.{rootSearches, maskSearches, frameSearches, searchedAmong, maskSum, readIn, readInEach, inShared, groupSum, groupsSum, frameSum, framesSum, searchesOf}
 use Rattle.searches.specs.Samples.{Samples}

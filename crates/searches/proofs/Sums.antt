@@ -1,8 +1,8 @@
 -- Sums of searches: by tags, over items, and each group over all frames; and that they are at most so many times the nodes.
-use mathlib.Core.Path.{_≡_, refl, sym, ap, _∙_}
-use Prim.Native.Nat.{ℕ, zero, suc, _+_, _-_, _*_, _≤_, _<_}
+use mathlib.Core.Path.{_≡_, refl, ap}
+use Prim.Native.Nat.{ℕ, zero, suc, _+_, _-_, _*_, _≤_}
 use native.Mathlib.Omega.{arith}
-use native.Mathlib.Nat.{mul-le-mul-left, mul-le-mul-right}
+use native.Mathlib.Nat.{mul-le-mul-left}
 use mathlib.Core.List.{List, [], _∷_}
 use mathlib.Core.Bool.{Bool, true, false, cond, _||_}
 use lib.ListN.{length, List·getD-eq-default}
@@ -13,10 +13,10 @@ use Rattle.value.specs.declared.Num.the-variants.{Is, Lacks}
 use Rattle.node.specs.Nodes.{Node, noNode, nodeAt, nextNode, membersBy, members, inside}
 use Rattle.node.specs.Find.{absent, orElse, find}
 use Rattle.element.specs.Elements.{insideOf}
-use Rattle.node.proofs.Walks.{members-end, members-next}
+use Rattle.node.proofs.Walks.{members-end}
 use Rattle.searches.specs.Count.{lookedAt}
-use Rattle.searches.specs.Searches.{Search, GroupSearch, looksFor, rootSearches, maskSearches, frameSearches, searchedAmong, maskSum, readIn, readInEach, inShared, groupSum, groupsSum, bothItems, frameSum, framesSum}
-use Rattle.searches.specs.Parts.{allLooked, tagsOf, rootTags, maskTags, groupAt, overGroup, overGroups, overBoth}
+use Rattle.searches.specs.Searches.{Search, GroupSearch, maskSearches, frameSearches, searchedAmong, maskSum, readIn, readInEach, inShared, groupSum, groupsSum, frameSum, framesSum}
+use Rattle.searches.specs.Contracts.{allLooked, tagsOf, maskTags, groupAt, overGroup, overGroups, overBoth}
 use Rattle.searches.proofs.Counting.{looked-few, Within, inside-below, inside-few}
 
 -- ---- By tags

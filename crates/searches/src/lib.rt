@@ -1,16 +1,14 @@
 // How far judging looks: the searches of document 02, each counted, and their sum, which `judge` reports of an accepted data set.
 ghost use mathlib.Core.Path.{_≡_};
-ghost use mathlib.Core.Bool.{Bool};
-ghost use Prim.Native.Nat.{ℕ, _+_, _*_, _^_, _≤_, _<_};
+ghost use Prim.Native.Nat.{_+_, _*_, _^_, _≤_, _<_};
 ghost use lib.ListN.{length};
-ghost use Rattle.node.specs.Nodes.{nodesOf, members, inside};
-ghost use Rattle.node.specs.Table.{Table};
-ghost use Rattle.node.specs.Halves.{Ascends};
-ghost use Rattle.value.specs.Said.{Below};
+ghost use Rattle.node.specs.Nodes.{nodesOf, members};
+ghost use Rattle.node.specs.Contracts.{Table, Ascends};
+ghost use Rattle.value.specs.Contracts.{Below};
 ghost use Rattle.element.specs.Elements.{insideOf};
 ghost use Rattle.element.specs.Frames.{sharedItem, frameItems};
 ghost use Rattle.searches.specs.Searches.{readInEach, frameSearches, overFrames, searchesOf};
-ghost use Rattle.searches.specs.Parts.{allLooked, groupAt, overGroup, overGroups, overBoth, InShared, Left};
+ghost use Rattle.searches.specs.Contracts.{allLooked, groupAt, overGroup, overGroups, overBoth, InShared, Left};
 ghost use Rattle.dataset.specs.Reading.{readingOf};
 ghost use Rattle.dataset.specs.Fields.{Answers};
 ghost use Rattle.dataset.specs.Answer.{bufferOf};

@@ -1,22 +1,22 @@
 -- Counts and lists of levels.
-use mathlib.Core.Path.{_≡_, refl, sym, ap, _∙_, subst}
-use mathlib.Core.Bool.{Bool, true, false, cond}
+use mathlib.Core.Path.{_≡_, refl, sym, ap, _∙_}
+use mathlib.Core.Bool.{cond}
 use mathlib.Core.List.{List, [], _∷_, _++_}
-use mathlib.Core.Logic.{_⊎_, inl, inr, ⊎-elim}
+use mathlib.Core.Logic.{⊎-elim}
 use Prim.Native.Nat.{ℕ, zero, suc, _+_, _-_, _*_, _≤_, _<_, _^_}
 use native.Mathlib.Omega.{arith}
 use native.Mathlib.Nat.{mul-add}
 use native.Mathlib.Numerals.{add-one}
 use lib.Dec.{eqb}
-use lib.ListN.{length, getD, set, drop, replicate, length-replicate, getD-replicate, length-set, length-append, drop-of-length-le}
+use lib.ListN.{length, getD, set, drop, replicate, length-replicate, getD-replicate, length-set, drop-of-length-le}
 use lib.Seq.{getD-set-same, getD-set-other, drop-cons, ext-getD}
 use borrow.Author.Tests.{eq-eqb, ne-eqb}
 use Rattle.display.specs.Drawing.{AllLevels}
-use Rattle.lines.specs.Lines.{upTo}
+use Rattle.lines.specs.Contracts.{upTo}
 use Rattle.lines.proofs.Lists.{same-or-not, upTo-length, upTo-at}
 use Rattle.sheet.specs.Sheet.{times, sumOf, countsOf}
 use Rattle.sheet.specs.Sampling.{total}
-use Rattle.sheet.specs.Said.{tallied, Room}
+use Rattle.sheet.specs.Contracts.{tallied, Room}
 
 -- ---- Sums of f 0 up to f (n - 1)
 

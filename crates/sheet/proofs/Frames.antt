@@ -1,30 +1,29 @@
 -- One frame after the other: its item, its levels, and the room that is left in the counts.
-use mathlib.Core.Path.{_≡_, refl, sym, ap, _∙_, subst}
+use mathlib.Core.Path.{_≡_, sym, ap, _∙_, subst}
 use mathlib.Core.Bool.{Bool, true, false, cond}
-use mathlib.Core.List.{List, [], _∷_, _++_}
-use mathlib.Core.Option.{Option, some}
-use Prim.Native.Nat.{ℕ, zero, suc, _+_, _-_, _*_, _^_, _≤_, _<_}
+use mathlib.Core.List.{List}
+use mathlib.Core.Option.{Option}
+use Prim.Native.Nat.{ℕ, zero, suc, _+_, _-_, _*_, _≤_, _<_}
 use native.Mathlib.Omega.{arith}
-use lib.ListN.{length, getD, drop}
+use lib.ListN.{length, drop}
 use borrow.Author.Tests.{le-leb, ne-eqb}
 use Rattle.value.specs.declared.Num.{Num}
 use Rattle.value.specs.declared.Num.the-variants.{Is, Lacks}
-use Rattle.node.specs.Nodes.{Node, nodesOf, members}
+use Rattle.node.specs.Nodes.{Node, nodesOf}
 use Rattle.node.proofs.Walks.{members-end, members-next}
 use Rattle.element.specs.declared.Items.{Items}
-use Rattle.element.specs.Along.{Along}
+use Rattle.element.specs.Contracts.{Along}
 use Rattle.element.specs.Elements.{first}
-use Rattle.element.specs.Frames.{framesOf, frameItems}
+use Rattle.element.specs.Frames.{frameItems}
 use Rattle.conformance.specs.Judging.{numberOf}
-use Rattle.steps.specs.Steps.{Picture, stepsOf}
+use Rattle.steps.specs.Steps.{Picture}
 use Rattle.display.specs.Show.{imageSize, pictureIn, pictureOf}
 use Rattle.display.specs.Drawing.{Whole}
 use Rattle.display.proofs.Lacking.{nothing-lacks}
-use Rattle.ranges.specs.Ranges.{itemOf}
-use Rattle.display.specs.Said.{ApplyingBelow}
+use Rattle.ranges.specs.Contracts.{itemOf}
+use Rattle.display.specs.Contracts.{ApplyingBelow, IsObject, IsItem}
 use Rattle.sheet.specs.Sheet.{levelsOf, nativesOf}
-use Rattle.sheet.specs.Said.{tallied, Room}
-use Rattle.display.specs.Planned.{IsObject, IsItem}
+use Rattle.sheet.specs.Contracts.{tallied, Room}
 use Rattle.sheet.proofs.Counts.{tallied-append}
 use Rattle.sheet.proofs.Runs.{tallied-most}
 

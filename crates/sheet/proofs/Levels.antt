@@ -1,24 +1,23 @@
 -- The cells of a picture, one by one: what the painting functions write is what the steps give (display's Draws), so the
 -- cells of frame f are the shades of its samples.
-use mathlib.Core.Path.{_≡_, refl, sym, ap, _∙_, subst}
+use mathlib.Core.Path.{_≡_, sym, _∙_, subst}
 use mathlib.Core.Bool.{Bool, true}
 use mathlib.Core.List.{List, [], _∷_, _++_, append-nil}
 use mathlib.Core.Option.{some}
-use Prim.Native.Nat.{ℕ, _+_, _-_, _^_, _≤_, _<_}
+use Prim.Native.Nat.{ℕ, _+_, _-_, _^_, _≤_}
 use native.Mathlib.Omega.{arith}
 use lib.ListN.{length, drop, drop-of-length-le}
 use Rattle.node.specs.Nodes.{Node}
 use Rattle.pixel.specs.declared.Geometry.{Geometry}
 use Rattle.pixel.specs.Pixel.{samplesOf, isFrame}
-use Rattle.pixel.specs.Painted.{painted}
 use Rattle.window.specs.declared.Window.{Window}
-use Rattle.window.specs.Said.{Drawable, shadeAt, Filled}
+use Rattle.window.specs.Contracts.{Drawable, shadeAt, Filled}
 use Rattle.steps.specs.Steps.{geometryOf, pixelsOf, maskFor, windowFor, inverseOf}
 use Rattle.display.specs.declared.Masking.{Masking}
 use Rattle.display.specs.Show.{pictureOf}
-use Rattle.display.specs.Said.{Gives, maskingOf, isMasked, shadeBy}
+use Rattle.display.specs.Contracts.{Gives, maskingOf, isMasked, shadeBy}
 use Rattle.display.proofs.Draws.{painted-shows}
-use Rattle.lines.specs.Lines.{upTo}
+use Rattle.lines.specs.Contracts.{upTo}
 use Rattle.lines.proofs.Lists.{upTo-length, painted-list}
 
 -- Frame f is masked or not, and its cells are the shades.

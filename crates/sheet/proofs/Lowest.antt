@@ -1,18 +1,16 @@
 -- The lowest and the highest level of a list are the first and the last place with a count above 0.
-use mathlib.Core.Path.{_≡_, refl, sym, ap, _∙_, subst}
-use mathlib.Core.Bool.{Bool, true, false, cond}
+use mathlib.Core.Path.{_≡_, refl, sym, ap, _∙_}
 use mathlib.Core.List.{List, [], _∷_}
 use mathlib.Core.Logic.{_⊎_, inl, inr, ⊎-elim}
 use Prim.Native.Nat.{ℕ, zero, suc, _+_, _-_, _≤_, _<_, min, max}
 use native.Mathlib.Nat.{min-le-left, min-le-right, le-max-left, le-max-right, min-eq-left, min-eq-right, max-eq-left, max-eq-right, max-le}
 use native.Mathlib.Omega.{arith}
-use lib.Dec.{eqb}
-use lib.ListN.{length, getD}
+use lib.ListN.{getD}
 use borrow.Author.Tests.{eq-eqb, ne-eqb}
 use Rattle.display.specs.Drawing.{AllLevels}
 use Rattle.lines.proofs.Lists.{same-or-not}
 use Rattle.sheet.specs.Sheet.{times, countsOf, lowestOf, highestOf}
-use Rattle.sheet.specs.Said.{First, Last}
+use Rattle.sheet.specs.Contracts.{First, Last}
 use Rattle.sheet.proofs.Counts.{count-is}
 
 pub either : (a b : ℕ) → (a ≤ b) ⊎ (b ≤ a)

@@ -1,15 +1,15 @@
 -- Counting a frame line by line.
-use mathlib.Core.Path.{_≡_, refl, sym, ap, _∙_, subst}
-use mathlib.Core.List.{List, [], _∷_, _++_}
-use Prim.Native.Nat.{ℕ, zero, suc, _+_, _-_, _*_, _≤_, _<_, _^_}
+use mathlib.Core.Path.{_≡_, sym, ap, _∙_}
+use mathlib.Core.List.{List, [], _∷_}
+use Prim.Native.Nat.{ℕ, _+_, _*_, _≤_, _<_}
 use native.Mathlib.Nat.{mul-le-mul-right}
 use native.Mathlib.Omega.{arith}
 use lib.ListN.{length, getD, set, take}
-use Rattle.pixel.specs.Painted.{painted}
+use Rattle.pixel.specs.Contracts.{painted}
 use Rattle.pixel.proofs.Laws.{painted-length}
-use Rattle.lines.specs.Lines.{upTo}
+use Rattle.lines.specs.Contracts.{upTo}
 use Rattle.lines.proofs.Lists.{upTo-length, upTo-plus, painted-take}
-use Rattle.sheet.specs.Said.{tallied, Room}
+use Rattle.sheet.specs.Contracts.{tallied, Room}
 use Rattle.sheet.proofs.Counts.{tallied-append, bump-most}
 
 -- ---- Lines

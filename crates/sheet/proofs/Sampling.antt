@@ -2,14 +2,14 @@
 -- counts of all of them add up; the rest follows what `sheet` answers back to what it was asked.
 use mathlib.Core.Path.{_≡_, refl, sym, ap, _∙_, subst}
 use mathlib.Core.Bool.{Bool, true, false, cond, _&&_}
-use mathlib.Core.List.{List, [], _∷_, _++_}
+use mathlib.Core.List.{List, [], _∷_}
 use mathlib.Core.Logic.{_⊎_, inl, inr, ⊎-elim}
 use Prim.Native.Nat.{ℕ, zero, suc, _+_, _-_, _*_, _≤_, _<_, min, max}
 use native.Mathlib.Nat.{mul-le-mul, min-eq-left, min-eq-right, max-eq-left, max-eq-right}
 use native.Mathlib.Omega.{arith}
 use lib.Dec.{leb}
 use lib.ListN.{length, getD, length-append}
-use borrow.Author.Tests.{le-leb, leb-true}
+use borrow.Author.Tests.{leb-true}
 use Rattle.dataset.specs.Answer.{width}
 use Rattle.dataset.specs.Tree.{rowsOf}
 use Rattle.value.specs.declared.Num.{Num}
@@ -19,7 +19,7 @@ use Rattle.element.specs.Frames.{framesOf}
 use Rattle.conformance.specs.Judging.{numberOf}
 use Rattle.steps.specs.Steps.{Picture, stepsOf}
 use Rattle.display.specs.Show.{isFrameOf, imageSize, pictureIn, pictureOf}
-use Rattle.display.specs.Drawing.{Bytes, IsAccepted, IsFrame, Whole, AllLevels}
+use Rattle.display.specs.Drawing.{Bytes, IsAccepted, Whole, AllLevels}
 use Rattle.display.proofs.Small.{us-in-small}
 use Rattle.display.proofs.Objects.{object}
 use Rattle.display.proofs.Lacking.{geometry-size, nothing-lacks}
@@ -32,9 +32,9 @@ use Rattle.sheet.specs.declared.SheetAnswer.{SheetAnswer}
 use Rattle.sheet.specs.declared.SheetAnswer.the-variants as answer
 use Rattle.sheet.specs.Sheet.{times, levelsOf, nativesOf, countsOf, lowestOf, highestOf, sumOf, sheetBy, framesSheet, noSheet}
 use Rattle.sheet.specs.Answer.{acceptedAnswer, answerFor, sheetFor, sheetOf, fieldsOf}
-use Rattle.sheet.specs.Said.{Few, First, Last}
-use Rattle.display.specs.Planned.{IsObject, IsScene}
-use Rattle.sheet.specs.Sampling.{Range, total, Consistent, HandsBack, Promise, Sampling}
+use Rattle.sheet.specs.Contracts.{Few, First, Last}
+use Rattle.display.specs.Contracts.{IsObject, IsScene}
+use Rattle.sheet.specs.Sampling.{Range, total, Consistent, HandsBack, Sampling}
 use Rattle.sheet.proofs.Counts.{counts-add, levels-append, count-is, times-most, upTo-most, sum-weighted}
 use Rattle.display.proofs.Scenes.{cells-few}
 use Rattle.sheet.proofs.Lowest.{first-is, last-is, either, times-same, times-more, low-most, low-none, low-found, high-most, high-none, high-found}

@@ -1,55 +1,29 @@
 -- What an accepted object gives to the counts of a frame.
-use mathlib.Core.Path.{_≡_, refl, sym, ap, _∙_, subst}
-use mathlib.Core.Bool.{Bool, true, _||_}
+use mathlib.Core.Path.{_≡_, sym, ap, _∙_, subst}
 use mathlib.Core.List.{List}
-use mathlib.Core.Logic.{_⊎_, inl, inr}
-use mathlib.Core.Option.{Option, none, some}
-use Prim.Native.Nat.{ℕ, _+_, _-_, _*_, _^_, _≤_, _<_}
-use lib.Dec.{eqb}
-use lib.ListN.{length, take, drop}
+use mathlib.Core.Option.{some}
+use Prim.Native.Nat.{ℕ, _+_, _-_, _^_, _≤_}
 use native.Mathlib.Omega.{arith}
-use borrow.Author.Tests.{eqb-true}
-use Rattle.dataset.specs.Reading.{Row}
-use Rattle.dataset.specs.Tree.{rowsOf, rowAt}
-use Rattle.verdict.proofs.Tests.{or-either}
-use Rattle.node.specs.Nodes.{Node, nodesOf, nodeAt, nodeOf, valueIn, root}
-use Rattle.node.specs.Find.{find}
-use Rattle.node.specs.Table.{Table}
-use Rattle.node.proofs.Laws.{node-is}
-use Rattle.element.specs.Tags
-use Rattle.element.specs.Tags.{OB, OW}
-use Rattle.pixel.specs.declared.Geometry.{Geometry}
-use Rattle.value.specs.declared.Num.{Num}
-use Rattle.value.specs.declared.Num.the-variants.{Is, Lacks}
+use Rattle.node.specs.Nodes.{nodesOf}
 use Rattle.element.specs.Elements.{valueAt}
-use Rattle.conformance.specs.Judging.{numberOf}
 use Rattle.pixel.specs.Pixel.{samplesOf}
 use Rattle.value.specs.declared.Signed.{Signed}
 use Rattle.value.specs.declared.Function.{Function}
 use Rattle.window.specs.declared.Window.{Window}
-use Rattle.window.specs.Said.{Drawable, shadeAt, Filled}
+use Rattle.window.specs.Contracts.{Drawable, shadeAt, Filled}
 use Rattle.window.proofs.Laws.{power-small}
-use Rattle.pixel.proofs.Laws.{frames-fit}
 use Rattle.lines.specs.declared.Shades.{Shades}
-use Rattle.lines.specs.Lines.{shadesOf}
+use Rattle.lines.specs.Contracts.{shadesOf}
 use Rattle.lines.proofs.Lists.{upTo-length}
 use Rattle.lines.proofs.Laws.{ideal-at}
-use Rattle.steps.specs.Given.{check}
-use Rattle.steps.specs.Steps.{Picture, geometryOf, pixelsOf, maskFor}
-use Rattle.display.specs.Show.{imageSize, pictureIn, pictureOf}
-use Rattle.display.specs.Said.{isMasked, shadeBy, MasksReady}
-use Rattle.display.specs.Drawing.{Whole}
-use Rattle.display.proofs.Given.{never, check-some}
-use Rattle.display.proofs.Lacking.{nothing-lacks}
-use Rattle.display.proofs.Accepted.{Windowed}
-use Rattle.display.proofs.Whole as whole
+use Rattle.display.specs.Show.{imageSize}
+use Rattle.display.specs.Contracts.{isMasked, shadeBy, IsObject, IsScene, IsPlan}
 use Rattle.display.proofs.Answering.{applying-some}
-use Rattle.ranges.specs.Ranges.{Answering}
-use Rattle.sheet.specs.Said.{Room}
+use Rattle.ranges.specs.Contracts.{Answering}
+use Rattle.sheet.specs.Contracts.{Room}
 use Rattle.sheet.proofs.Levels.{Drawn, drawn}
 use Rattle.display.specs.declared.Scene.{Scene}
 use Rattle.display.specs.declared.Plan.{Plan}
-use Rattle.display.specs.Planned.{IsObject, IsScene, IsPlan}
 use Rattle.display.proofs.Scenes.{objects, all, based, pixels-are, picture-size}
 
 -- ---- Windows

@@ -1,7 +1,7 @@
 -- What `sheet` answers (document 02, Q-5): as judging up to code 9, then 19 where a is above b, then 10 where either is not a
 -- frame of 1..N, then 0. The sheet that comes with it is that of frames a to b, or zeros.
 use Prim.Native.Nat.{ℕ}
-use mathlib.Core.Bool.{Bool, cond, _&&_}
+use mathlib.Core.Bool.{cond, _&&_}
 use mathlib.Core.List.{List}
 use lib.Dec.{leb}
 use Rattle.dataset.specs.Fields.{Fields, codeAlone, placed, counted, broken}

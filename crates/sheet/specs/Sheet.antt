@@ -2,12 +2,12 @@
 -- frames, the lowest and the highest level, and the sum of all levels. It is made of the pictures that the drawing steps give
 -- (`stepsOf` of `Rattle.steps`) and of nothing else.
 use Prim.Native.Nat.{ℕ, zero, suc, _+_, _-_, min, max}
-use mathlib.Core.Bool.{Bool, cond}
+use mathlib.Core.Bool.{cond}
 use mathlib.Core.List.{List, [], _∷_, _++_}
 use lib.ListN.{replicate}
 use lib.Dec.{eqb}
 use Rattle.node.specs.Nodes.{Node}
-use Rattle.lines.specs.Lines.{upTo}
+use Rattle.lines.specs.Contracts.{upTo}
 use Rattle.display.specs.Show.{pictureOf}
 use Rattle.sheet.specs.declared.Numbers.{Numbers}
 

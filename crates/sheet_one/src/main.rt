@@ -1,6 +1,7 @@
 // Prints the sampling sheet of all frames of the data set on standard input: 256 counts of how often each grey level was drawn, the
 // number of native frames, the lowest and the highest level, and the sum of all levels, a number a line; or a refusal's code
 // alone. More than 65,536 bytes are refused with code 7; code 8 never comes.
+use room::input;
 use sheet::Numbers;
 use sheet::Sampled;
 use sheet::SheetAnswer;
@@ -8,13 +9,6 @@ ghost use mathlib.Core.Path.{_≡_};
 ghost use Prim.Native.Nat.{_≤_};
 ghost use lib.ListN.{length};
 ghost use Rattle.sheet.specs.Answer.{fieldsOf};
-
-// One byte more than is taken, so that an input that is too long is seen to be.
-fn input() -> [u8; 65_537]
-    ensures { λ r. ⌜ 65537 ≡ length r ⌝ }
-{
-    [0; 65_537]
-}
 
 fn print_line(n: u64) {
     io::print_decimal(1, n);
@@ -54,7 +48,7 @@ fn sample(bytes: &[u8])
 fn main() {
     let mut bytes = input();
     let n = io::read_full(0, &mut bytes);
-    if judge_small::MOST < n {
+    if room::MOST < n {
         print_line(7);
         return;
     }

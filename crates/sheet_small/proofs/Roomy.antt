@@ -1,6 +1,6 @@
 -- A sheet depends on the row buffer only in whether the rows fit, as judging does; and where they fit the code is never 8: a
 -- reading is refused with codes 1 to 6.
-use mathlib.Core.Path.{_≡_, refl, sym, ap, _∙_, subst}
+use mathlib.Core.Path.{_≡_, ap}
 use mathlib.Core.Bool.{Bool, true, false, cond, _&&_}
 use mathlib.Core.List.{List}
 use Prim.Native.Nat.{ℕ, _*_, _≤_}
@@ -8,7 +8,7 @@ use native.Mathlib.Omega.{arith}
 use lib.Dec.{leb}
 use lib.ListN.{length}
 use borrow.Author.Tests.{le-leb}
-use Rattle.dataset.specs.Reading.{Row, Reading, tooLarge, refusedAt, read, readingOf}
+use Rattle.dataset.specs.Reading.{Reading, tooLarge, refusedAt, read, readingOf}
 use Rattle.dataset.specs.Answer.{flat, answerOf, width}
 use Rattle.dataset.specs.Tree.{rowsIn, rowsOf}
 use Rattle.dataset.specs.declared.ReadAnswer.the-variants as reads
@@ -19,12 +19,9 @@ use Rattle.node.specs.Nodes.{Node, nodesOf}
 use Rattle.conformance.specs.declared.Finding.{Finding}
 use Rattle.conformance.specs.declared.Finding.the-variants as finding
 use Rattle.conformance.specs.declared.JudgeAnswer.{JudgeAnswer}
-use Rattle.conformance.specs.declared.JudgeAnswer.the-variants as judged
 use Rattle.conformance.specs.Judging.{findingOf, answerFor, judgeOf}
 use Rattle.judge_small.proofs.Room.{roomy}
 use Rattle.display.specs.Show.{isFrameOf}
-use Rattle.sheet.specs.declared.Sampled.{Sampled}
-use Rattle.sheet.specs.declared.SheetAnswer.{SheetAnswer}
 use Rattle.sheet.specs.declared.SheetAnswer.the-variants as answer
 use Rattle.sheet.specs.Answer.{acceptedAnswer, answerFor as sheetFor, withSheet, sheetOf, fieldsOf}
 

@@ -1,18 +1,11 @@
 // The sheet of all frames of a data set of at most 65,536 bytes with a row buffer of its own, for the program that samples.
+use room::row_buffer;
 use sheet::Sampled;
 ghost use mathlib.Core.Path.{_≡_};
 ghost use Prim.Native.Nat.{_≤_};
 ghost use lib.ListN.{length};
 ghost use Rattle.sheet.specs.Answer.{fieldsOf};
 ghost use Rattle.sheet_small.specs.Printed.{wholeSheet};
-
-// Room for the rows of a data set of that size, since a row has at least 8 bytes. A function of its own gives the
-// length, so that no proof computes it from the array.
-fn row_buffer() -> [u32; 57_344]
-    ensures { λ r. ⌜ 57344 ≡ length r ⌝ }
-{
-    [0; 57_344]
-}
 
 // The sheet of frames 1 to N. It is never refused with code 8, and has 256 counts.
 pub fn sheet_small(bytes: &[u8]) -> Sampled

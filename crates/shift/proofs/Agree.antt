@@ -2,25 +2,24 @@
 use mathlib.Core.Path.{_≡_, refl, sym, ap, _∙_, subst}
 use mathlib.Core.Bool.{Bool, true, false, _&&_, cond}
 use mathlib.Core.List.{List}
-use Prim.Native.Nat.{ℕ, zero, suc, _*_, _/_, _%_, _<_, _≤_}
-use native.Mathlib.Nat.{div-add-mod', mul-mod-left, mul-div-cancel-left, mul-right-comm, mul-comm}
+use Prim.Native.Nat.{ℕ, zero, suc, _*_, _/_, _%_, _<_}
+use native.Mathlib.Nat.{div-add-mod', mul-mod-left, mul-div-cancel-left, mul-comm}
 use native.Mathlib.Omega.{arith}
 use lib.Dec.{T, eqb, leb}
-use lib.IntN.{ℤ}
 use lib.ListN.{length}
 use lib.Ieee.{Float, nan, inf, fin, up, down}
 use lib.Ieee.Fits.{down-pos}
-use borrow.Author.Tests.{eqb-true, eq-eqb, leb-true, le-leb}
+use borrow.Author.Tests.{eqb-true, leb-true, le-leb}
 use Rattle.value.specs.declared.Signed.{Signed}
 use Rattle.value.specs.declared.Signed.the-variants.{Plus, Minus, Lacks}
 use Rattle.value.specs.Number.{isNumber}
 use Rattle.shift.specs.declared.Shift.{Shift}
 use Rattle.shift.specs.declared.Shift.the-variants as shift
 use Rattle.shift.specs.declared.Moves.{Moves}
-use Rattle.shift.specs.Shift.{shiftUnit, largestShift, signedSize, quartersOf, isShort, movesOf, isShiftOf, itemShift, frameShift, isShift}
+use Rattle.shift.specs.Shift.{signedSize, quartersOf, isShort, movesOf, isShiftOf, itemShift, frameShift, isShift}
 use Rattle.shift.proofs.Laws.{same-of}
-use Rattle.shift.specs.Agree.{SameMoves, StillShift, Agree, AgreeRule, AgreeBeyond}
-use Rattle.shift.specs.Whole.{wholeOf, wholeMovesOf, isShortWhole, isWholeShiftOf, isWholeShift, inQuarters, movesInQuarters}
+use Rattle.shift.specs.Agree.{SameMoves, Agree, AgreeRule, AgreeBeyond}
+use Rattle.shift.specs.Whole.{wholeFloat, wholeMovesOf, isShortWhole, isWholeShiftOf, isWholeShift, inQuarters}
 
 never : true ≡ false → ⊥
 never p = subst T p tt
@@ -55,8 +54,8 @@ signed true (suc q) = go (4 * suc q) (omega arith)
     go (suc k) h = refl
 
 -- A whole number is as many quarters, four times.
-pub whole-quarters : (x : Float) → isNumber (wholeOf x) ≡ true → quartersOf x ≡ inQuarters (wholeOf x)
-unfolding wholeOf quartersOf
+pub whole-quarters : (x : Float) → isNumber (wholeFloat x) ≡ true → quartersOf x ≡ inQuarters (wholeFloat x)
+unfolding wholeFloat quartersOf
 whole-quarters nan h = refl
 whole-quarters (inf s) h = refl
 whole-quarters (fin s m e) h = go (eqb (m * up e % down e) 0) refl h

@@ -19,8 +19,8 @@ use Rattle.value.specs.declared.Num.the-variants as num
 use Rattle.value.specs.declared.Signed.{Signed}
 use Rattle.value.specs.declared.Signed.the-variants as signed
 use Rattle.value.specs.Number.{plus, minus}
-use Rattle.shift.specs.Shift.{shiftUnit, signedSize, quartersOf, largestMove, isShort, shortOf}
-use Rattle.shift.specs.Said.{upTo, shortSize}
+use Rattle.shift.specs.Shift.{signedSize, quartersOf, largestMove, isShort, shortOf}
+use Rattle.shift.specs.Contracts.{upTo, shortSize}
 
 -- ---- Tests
 

@@ -11,11 +11,11 @@ use borrow.Author.Tests.{eqb-true, eq-eqb, leb-true}
 use Rattle.value.specs.declared.Signed.{Signed}
 use Rattle.value.specs.declared.Signed.the-variants.{Plus, Minus, Lacks}
 use Rattle.value.specs.Number.{isNumber}
-use Rattle.value.specs.Said.{SizeBelow}
+use Rattle.value.specs.Contracts.{SizeBelow}
 use Rattle.shift.specs.declared.Shift.{Shift}
 use Rattle.shift.specs.declared.Shift.the-variants as shift
 use Rattle.shift.specs.Shift.{floatAt, quartersOf, largestMove, isShort, shortOf, movesOf, shortMovesOf, isShiftOf, itemShift, frameShift, isShift, isFrameShift}
-use Rattle.shift.specs.Said.{ShortMoves}
+use Rattle.shift.specs.Contracts.{ShortMoves}
 
 both : (p q : Bool) → p && q ≡ true → (p ≡ true) × (q ≡ true)
 both true q h = (refl, h)

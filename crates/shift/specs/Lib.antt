@@ -1,4 +1,4 @@
 pub mod Shift
-pub mod Said
+pub mod Contracts
 pub mod Whole
 pub mod Agree

@@ -1,7 +1,7 @@
 -- Shifts of whole pixels, as they were before quarters: what the theorems of agreement speak of (`specs/Agree`). No code
 -- follows these definitions.
 use Prim.Native.Nat.{ℕ, _*_, _/_, _%_}
-use mathlib.Core.Bool.{Bool, true, false, cond, _&&_}
+use mathlib.Core.Bool.{Bool, false, cond, _&&_}
 use mathlib.Core.List.{List}
 use lib.ListN.{length}
 use lib.Dec.{eqb, leb}
@@ -14,15 +14,15 @@ use Rattle.shift.specs.declared.Moves.{Moves}
 use Rattle.shift.specs.Shift.{shiftUnit, largestShift, signedSize, itemShift}
 
 -- The whole number that a float is, of any size; NaN, the infinities and fractions are none.
-unfoldable pub wholeOf : Float → Signed
-wholeOf nan = Lacks
-wholeOf (inf s) = Lacks
-wholeOf (fin s m e) = cond (eqb (m * up e % down e) 0) (signedSize s (m * up e / down e)) Lacks
+unfoldable pub wholeFloat : Float → Signed
+wholeFloat nan = Lacks
+wholeFloat (inf s) = Lacks
+wholeFloat (fin s m e) = cond (eqb (m * up e % down e) 0) (signedSize s (m * up e / down e)) Lacks
 
 unfoldable pub wholeMovesOf : Shift → Moves
 wholeMovesOf shift.None = record { vertical = Plus 0; horizontal = Plus 0 }
-wholeMovesOf (shift.Item v h) = record { vertical = wholeOf v; horizontal = wholeOf h }
-wholeMovesOf (shift.Frame v h) = record { vertical = wholeOf v; horizontal = wholeOf h }
+wholeMovesOf (shift.Item v h) = record { vertical = wholeFloat v; horizontal = wholeFloat h }
+wholeMovesOf (shift.Frame v h) = record { vertical = wholeFloat v; horizontal = wholeFloat h }
 
 -- A whole number from -64 to 64.
 abbrev pub isShortWhole : Signed → Bool

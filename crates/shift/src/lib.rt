@@ -5,10 +5,10 @@ ghost use mathlib.Core.Bool.{false};
 ghost use Prim.Native.Nat.{_+_, _≤_};
 ghost use lib.ListN.{length};
 ghost use lib.Ieee.{ofBits, binary32, lt};
-ghost use Rattle.value.specs.Said.{Below, SizeBelow};
+ghost use Rattle.value.specs.Contracts.{Below, SizeBelow};
 ghost use Rattle.value.specs.Number.{isNumber};
 ghost use Rattle.shift.specs.Shift.{floatAt, shortOf, shortMovesOf, isShiftOf, itemShift, frameShift, isShift, isFrameShift};
-ghost use Rattle.shift.specs.Said.{shortSize, tooFar, ShortMoves};
+ghost use Rattle.shift.specs.Contracts.{shortSize, tooFar, ShortMoves};
 use dataset::u32_at;
 use value::Num;
 use value::Signed;
@@ -45,7 +45,7 @@ fn float_of(bits: u32) -> f32
 }
 
 // The FL number at p.
-pub fn float_at(v: &[u8], p: usize) -> f32
+fn float_at(v: &[u8], p: usize) -> f32
     requires { ⌜ p + 4 ≤ length (now v) ⌝ }
     ensures { λ r. ⌜ r ≡ floatAt (now (v .entry)) p ⌝ }
 {
@@ -74,7 +74,7 @@ fn short_size(y: f32) -> Num
     }
 }
 
-pub fn short_of(x: f32) -> Signed
+fn short_of(x: f32) -> Signed
     ensures { λ r. ⌜ r ≡ shortOf x ⌝ }
     ensures { λ r. ⌜ SizeBelow tooFar r ⌝ }
 {
@@ -124,7 +124,7 @@ fn is_number(n: Signed) -> bool
 }
 
 // Both numbers of a shift are whole quarters from -64 to 64.
-pub fn is_shift_of(s: Shift) -> bool
+fn is_shift_of(s: Shift) -> bool
     ensures { λ r. ⌜ r ≡ isShiftOf s ⌝ }
 {
     let m = short_moves_of(s);

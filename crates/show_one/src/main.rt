@@ -2,37 +2,13 @@
 // standard output in the form PGM, which says in a comment whether the frame is masked; or the refusal, in a line.
 use argument::Decimal;
 use display::ShowAnswer;
+use printing::print_broken;
+use printing::print_field;
+use printing::print_unread;
+use room::input;
 use show_small::Shown;
-ghost use mathlib.Core.Path.{_≡_};
 ghost use Prim.Native.Nat.{_*_, _≤_};
 ghost use lib.ListN.{length};
-
-// One byte more than is drawn, so that an input that is too long is seen to be.
-fn input() -> [u8; 65_537]
-    ensures { λ r. ⌜ 65537 ≡ length r ⌝ }
-{
-    [0; 65_537]
-}
-
-// A name and its number.
-fn print_field(name: &[u8], n: usize) {
-    io::write_all(1, name);
-    io::write_all(1, b" ");
-    io::print_decimal(1, n as u64);
-}
-
-fn print_broken(rows: usize, rule: usize, frame: usize) {
-    print_field(b"code 9 rule", rule);
-    print_field(b" frame", frame);
-    print_field(b" rows", rows);
-    io::write_all(1, b"\n");
-}
-
-fn print_unread(code: usize, offset: usize) {
-    print_field(b"code", code);
-    print_field(b" place", offset);
-    io::write_all(1, b"\n");
-}
 
 // The head of the image: its kind, masked or native, its size, and the highest level.
 fn print_head(masked: bool, width: usize, height: usize) {
@@ -90,7 +66,7 @@ fn show_frame(bytes: &[u8], frame: u64)
 fn show_input(frame: u64) {
     let mut bytes = input();
     let n = io::read_full(0, &mut bytes);
-    if judge_small::MOST < n {
+    if room::MOST < n {
         io::write_all(1, b"too long: at most 65536 bytes\n");
         return;
     }

@@ -1,12 +1,13 @@
 // Drawing a frame of a data set of at most 65,536 bytes with a row buffer of its own, for the programs that draw.
 use display::ShowAnswer;
 use element::tags;
+use room::row_buffer;
 use value::Num;
 ghost use mathlib.Core.Path.{_≡_};
 ghost use Prim.Native.Nat.{_*_, _≤_};
 ghost use lib.ListN.{length};
 ghost use Rattle.node.specs.Nodes.{nodesOf};
-ghost use Rattle.node.specs.Table.{Table};
+ghost use Rattle.node.specs.Contracts.{Table};
 ghost use Rattle.conformance.specs.Judging.{numberOf};
 ghost use Rattle.show_small.specs.Shown.{drawn, shownOf, imageAfter};
 
@@ -15,14 +16,6 @@ pub struct Shown {
     pub answer: ShowAnswer,
     pub width: usize,
     pub height: usize,
-}
-
-// Room for the rows of a data set of that size, since a row has at least 8 bytes. A function of its own gives the
-// length, so that no proof computes it from the array.
-fn row_buffer() -> [u32; 57_344]
-    ensures { λ r. ⌜ 57344 ≡ length r ⌝ }
-{
-    [0; 57_344]
 }
 
 // A number, or 0 where it is lacking.

@@ -20,7 +20,7 @@ use Rattle.verdict.proofs.Tests.{false-is-true, and-both}
 use Rattle.verdict.proofs.Bounds.{Small, possible-small, possible-rows}
 use Rattle.slip.specs.declared.SlipAnswer.{SlipAnswer}
 use Rattle.slip.specs.declared.SlipAnswer.the-variants as read
-use Rattle.slip.specs.Slip.{mark, version, oldVersion, versionAt, codeAt, ruleAt, frameAt, offsetAt, rowsAt, headSize, oldSize, slipSize, le, number, fieldBytes, slipWith, slipBy, slipOf, equal, recorded, ifPossible, readSized, readVersion, readOf, bufferOf}
+use Rattle.slip.specs.Slip.{mark, version, oldVersion, versionPlace, codePlace, rulePlace, framePlace, offsetPlace, rowsPlace, headSize, oldSize, slipSize, le, number, fieldBytes, slipWith, slipBy, slipOf, sameBytes, recorded, ifPossible, readSized, readVersion, readOf, slipBuffer}
 use Rattle.slip.specs.Version1.{oldSlipOf}
 use Rattle.slip.specs.Slips.{Bytes, Slips}
 use Rattle.slip.proofs.Laws.{length-slip}
@@ -29,38 +29,38 @@ use Rattle.slip.proofs.Laws.{length-slip}
 
 -- A field that a number fits holds that number, in the bytes that both versions have and whatever follows them.
 module _ (k : ℕ) (v : Verdict) (small : Small v) (rest : List ℕ) where
-  code-back : number 1 (fieldBytes k v ++ rest) codeAt ≡ v .code
+  code-back : number 1 (fieldBytes k v ++ rest) codePlace ≡ v .code
   unfolding fieldBytes le number
   code-back = omega (arith, small .code)
 
-  rule-back : number 1 (fieldBytes k v ++ rest) ruleAt ≡ v .rule
+  rule-back : number 1 (fieldBytes k v ++ rest) rulePlace ≡ v .rule
   unfolding fieldBytes le number
   rule-back = omega (arith, small .rule)
 
-  frame-back : number 2 (fieldBytes k v ++ rest) frameAt ≡ v .frame
+  frame-back : number 2 (fieldBytes k v ++ rest) framePlace ≡ v .frame
   unfolding fieldBytes le number
   frame-back = omega (arith, small .frame)
 
-  offset-back : number 4 (fieldBytes k v ++ rest) offsetAt ≡ v .offset
+  offset-back : number 4 (fieldBytes k v ++ rest) offsetPlace ≡ v .offset
   unfolding fieldBytes le number
   offset-back = omega (arith, small .offset)
 
   fields-back : (rows : RowCount) → v .rows ≡ rows → recorded (fieldBytes k v ++ rest) rows ≡ v
   fields-back rows e = simp (code-back, rule-back, frame-back, offset-back, sym e)
 
-mark-back : (k : ℕ) (v : Verdict) (rest : List ℕ) → equal (take 3 (fieldBytes k v ++ rest)) mark ≡ true
-unfolding fieldBytes equal
+mark-back : (k : ℕ) (v : Verdict) (rest : List ℕ) → sameBytes (take 3 (fieldBytes k v ++ rest)) mark ≡ true
+unfolding fieldBytes sameBytes
 mark-back k v rest = refl
 
-version-back : (v : Verdict) (rest : List ℕ) → number 2 (fieldBytes version v ++ rest) versionAt ≡ version
+version-back : (v : Verdict) (rest : List ℕ) → number 2 (fieldBytes version v ++ rest) versionPlace ≡ version
 unfolding fieldBytes le number
 version-back v rest = refl
 
-old-version-back : (v : Verdict) (rest : List ℕ) → number 2 (fieldBytes oldVersion v ++ rest) versionAt ≡ oldVersion
+old-version-back : (v : Verdict) (rest : List ℕ) → number 2 (fieldBytes oldVersion v ++ rest) versionPlace ≡ oldVersion
 unfolding fieldBytes le number
 old-version-back v rest = refl
 
-rows-back : (v : Verdict) (n : ℕ) → n < 4294967296 → number 4 (slipWith v n) rowsAt ≡ n
+rows-back : (v : Verdict) (n : ℕ) → n < 4294967296 → number 4 (slipWith v n) rowsPlace ≡ n
 unfolding slipWith fieldBytes le number
 rows-back v n h = omega arith
 
@@ -69,7 +69,7 @@ unfolding fieldBytes le
 old-length v = refl
 
 -- The mark, and at least five bytes.
-begins : (s : List ℕ) → headSize ≤ length s → equal (take 3 s) mark ≡ true → readOf s ≡ readVersion (number 2 s versionAt) s
+begins : (s : List ℕ) → headSize ≤ length s → sameBytes (take 3 s) mark ≡ true → readOf s ≡ readVersion (number 2 s versionPlace) s
 unfolding readOf
 begins s h m = rw (le-leb headSize (length s) h, m)
 
@@ -79,11 +79,11 @@ sized : (size : ℕ) (rows : RowCount) (s : List ℕ) (v : Verdict) → length s
 unfolding readSized ifPossible
 sized size rows s v l f h = rw (eq-eqb (length s) size l, f, h)
 
-as-new : (s : List ℕ) → number 2 s versionAt ≡ version → readVersion (number 2 s versionAt) s ≡ readSized slipSize (Known (number 4 s rowsAt)) s
+as-new : (s : List ℕ) → number 2 s versionPlace ≡ version → readVersion (number 2 s versionPlace) s ≡ readSized slipSize (Known (number 4 s rowsPlace)) s
 unfolding readVersion
 as-new s e = rw e
 
-as-old : (s : List ℕ) → number 2 s versionAt ≡ oldVersion → readVersion (number 2 s versionAt) s ≡ readSized oldSize NotKnown s
+as-old : (s : List ℕ) → number 2 s versionPlace ≡ oldVersion → readVersion (number 2 s versionPlace) s ≡ readSized oldSize NotKnown s
 unfolding readVersion
 as-old s e = rw e
 
@@ -93,10 +93,10 @@ unfolding slipWith
 with-back v n h e =
     let s : List ℕ = slipWith v n in
     let l = length-slip v n in
-    let r : number 4 s rowsAt ≡ n = rows-back v n (omega (arith, possible-rows v n h e)) in
+    let r : number 4 s rowsPlace ≡ n = rows-back v n (omega (arith, possible-rows v n h e)) in
     begins s (omega arith) (mark-back version v (le 4 n))
     ∙ as-new s (version-back v (le 4 n))
-    ∙ sized slipSize (Known (number 4 s rowsAt)) s v l (fields-back version v (possible-small v h) (le 4 n) (Known (number 4 s rowsAt)) (e ∙ ap Known (sym r))) h
+    ∙ sized slipSize (Known (number 4 s rowsPlace)) s v l (fields-back version v (possible-small v h) (le 4 n) (Known (number 4 s rowsPlace)) (e ∙ ap Known (sym r))) h
 
 -- A verdict that can be written is possible, and its row count is some number.
 read-back : (v : Verdict) → writable v ≡ true → readOf (slipOf v) ≡ read.Read v
@@ -122,8 +122,8 @@ slip-length v h = go (v .rows) (and-both (possible v) (isKnown (v .rows)) h .1)
     go NotKnown k = absurd (false-is-true k)
 
 buffer-back : (v : Verdict) (buffer : List ℕ) → writable v ≡ true → slipSize ≤ length buffer
-    → readOf (take slipSize (bufferOf v buffer)) ≡ read.Read v
-unfolding bufferOf
+    → readOf (take slipSize (slipBuffer v buffer)) ≡ read.Read v
+unfolding slipBuffer
 buffer-back v buffer h room =
     rw (h, le-leb slipSize (length buffer) room)
     (rw (take-at (slipOf v) (drop slipSize buffer) slipSize (slip-length v h)) (read-back v h))
@@ -171,24 +171,24 @@ marked-first true r v e = (refl, e)
 marked-first false r v e = absurd (let z : _≡_ {A = ℕ} 0 1 = cc in omega arith)
 
 record Begun (s : List ℕ) (v : Verdict) : Type 0 where
-  marked : equal (take 3 s) mark ≡ true
-  on : readVersion (number 2 s versionAt) s ≡ read.Read v
+  marked : sameBytes (take 3 s) mark ≡ true
+  on : readVersion (number 2 s versionPlace) s ≡ read.Read v
 
 begun : (s : List ℕ) (v : Verdict) → readOf s ≡ read.Read v → Begun s v
 unfolding readOf
 begun s v e =
-    let t = marked-first (leb headSize (length s) && equal (take 3 s) mark) (readVersion (number 2 s versionAt) s) v e in
-    record { marked = and-both (leb headSize (length s)) (equal (take 3 s) mark) (t .0) .1; on = t .1 }
+    let t = marked-first (leb headSize (length s) && sameBytes (take 3 s) mark) (readVersion (number 2 s versionPlace) s) v e in
+    record { marked = and-both (leb headSize (length s)) (sameBytes (take 3 s) mark) (t .0) .1; on = t .1 }
 
 read-possible : (s : List ℕ) (v : Verdict) → readOf s ≡ read.Read v → possible v ≡ true
 unfolding readVersion
-read-possible s v e = go (eqb (number 2 s versionAt) oldVersion) (eqb (number 2 s versionAt) version) (begun s v e .on)
+read-possible s v e = go (eqb (number 2 s versionPlace) oldVersion) (eqb (number 2 s versionPlace) version) (begun s v e .on)
   where
     go : (a b : Bool)
-        → cond a (readSized oldSize NotKnown s) (cond b (readSized slipSize (Known (number 4 s rowsAt)) s) (read.Refused 13)) ≡ read.Read v
+        → cond a (readSized oldSize NotKnown s) (cond b (readSized slipSize (Known (number 4 s rowsPlace)) s) (read.Refused 13)) ≡ read.Read v
         → possible v ≡ true
     go true b f = well oldSize NotKnown s v f .can
-    go false true f = well slipSize (Known (number 4 s rowsAt)) s v f .can
+    go false true f = well slipSize (Known (number 4 s rowsPlace)) s v f .can
     go false false f = absurd (let z : _≡_ {A = ℕ} 0 1 = cc in omega arith)
 
 -- The n elements from p on.
@@ -213,30 +213,30 @@ le-number s b (suc n) p =
     let high : (getD s p 0 + 256 * number n s (p + 1)) / 256 ≡ number n s (p + 1) = omega (arith, b p) in
     rw (low, high, le-number s b n (p + 1))
 
-equal-true : (a b : List ℕ) → equal a b ≡ true → a ≡ b
-unfolding equal
+equal-true : (a b : List ℕ) → sameBytes a b ≡ true → a ≡ b
+unfolding sameBytes
 equal-true [] [] e = refl
 equal-true [] (y ∷ ys) e = absurd (false-is-true e)
 equal-true (x ∷ xs) [] e = absurd (false-is-true e)
 equal-true (x ∷ xs) (y ∷ ys) e =
-    let m = and-both (eqb x y) (equal xs ys) e in
+    let m = and-both (eqb x y) (sameBytes xs ys) e in
     rw (eqb-true x y (m .0), equal-true xs ys (m .1))
 
 -- The bytes that both versions have are those of the version and the fields that they hold.
-field-bytes : (s : List ℕ) (rows : RowCount) → Bytes s → take 3 s ≡ listing 3 s 0 → equal (take 3 s) mark ≡ true
-    → listing 13 s 0 ≡ fieldBytes (number 2 s versionAt) (recorded s rows)
+field-bytes : (s : List ℕ) (rows : RowCount) → Bytes s → take 3 s ≡ listing 3 s 0 → sameBytes (take 3 s) mark ≡ true
+    → listing 13 s 0 ≡ fieldBytes (number 2 s versionPlace) (recorded s rows)
 unfolding fieldBytes
 field-bytes s rows b t m =
     let first : listing 3 s 0 ≡ mark = sym t ∙ equal-true (take 3 s) mark m in
-    rw (le-number s b 2 versionAt, le-number s b 1 codeAt, le-number s b 1 ruleAt, le-number s b 2 frameAt, le-number s b 4 offsetAt)
+    rw (le-number s b 2 versionPlace, le-number s b 1 codePlace, le-number s b 1 rulePlace, le-number s b 2 framePlace, le-number s b 4 offsetPlace)
     (ap (λ (l : List ℕ). l ++ listing 10 s 3) first)
 
-write-back : (s : List ℕ) (v : Verdict) → Bytes s → readOf s ≡ read.Read v → number 2 s versionAt ≡ version
+write-back : (s : List ℕ) (v : Verdict) → Bytes s → readOf s ≡ read.Read v → number 2 s versionPlace ≡ version
     → (writable v ≡ true) × (s ≡ slipOf v)
 unfolding writable slipWith
 write-back s v b e k =
     let g = begun s v e in
-    let n : ℕ = number 4 s rowsAt in
+    let n : ℕ = number 4 s rowsPlace in
     let w = well slipSize (Known n) s v (sym (as-new s k) ∙ g .on) in
     let all : s ≡ listing 17 s 0 = listed s ∙ ap (λ (n : ℕ). listing n s 0) (w .long) in
     let same : listing 13 s 0 ≡ fieldBytes version (recorded s (Known n)) =
@@ -245,12 +245,12 @@ write-back s v b e k =
     let known : isKnown (v .rows) ≡ true = ap (λ (v : Verdict). isKnown (v .rows)) (sym (w .gives)) in (
       rw (w .can, known),
       all
-          ∙ ap (λ (l : List ℕ). l ++ listing 4 s rowsAt) same
-          ∙ ap (λ (l : List ℕ). fieldBytes version (recorded s (Known n)) ++ l) (sym (le-number s b 4 rowsAt))
+          ∙ ap (λ (l : List ℕ). l ++ listing 4 s rowsPlace) same
+          ∙ ap (λ (l : List ℕ). fieldBytes version (recorded s (Known n)) ++ l) (sym (le-number s b 4 rowsPlace))
           ∙ ap slipOf (w .gives),
     )
 
-old-back : (s : List ℕ) (v : Verdict) → Bytes s → readOf s ≡ read.Read v → number 2 s versionAt ≡ oldVersion
+old-back : (s : List ℕ) (v : Verdict) → Bytes s → readOf s ≡ read.Read v → number 2 s versionPlace ≡ oldVersion
     → (v .rows ≡ NotKnown) × (s ≡ oldSlipOf v)
 old-back s v b e k =
     let g = begun s v e in

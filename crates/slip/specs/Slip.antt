@@ -30,23 +30,23 @@ abbrev pub oldVersion : ℕ
 oldVersion = 1
 
 -- Where each field stands, and how long a slip of each version is.
-abbrev pub versionAt : ℕ
-versionAt = 3
+abbrev pub versionPlace : ℕ
+versionPlace = 3
 
-abbrev pub codeAt : ℕ
-codeAt = 5
+abbrev pub codePlace : ℕ
+codePlace = 5
 
-abbrev pub ruleAt : ℕ
-ruleAt = 6
+abbrev pub rulePlace : ℕ
+rulePlace = 6
 
-abbrev pub frameAt : ℕ
-frameAt = 7
+abbrev pub framePlace : ℕ
+framePlace = 7
 
-abbrev pub offsetAt : ℕ
-offsetAt = 9
+abbrev pub offsetPlace : ℕ
+offsetPlace = 9
 
-abbrev pub rowsAt : ℕ
-rowsAt = 13
+abbrev pub rowsPlace : ℕ
+rowsPlace = 13
 
 abbrev pub oldSize : ℕ
 oldSize = 13
@@ -82,11 +82,11 @@ slipOf v = slipBy v (v .rows)
 
 -- ---- Reading: 12 for fewer than 5 bytes or a wrong mark; 13; 12 where the length is not the version's; 14
 
-unfoldable pub equal : List ℕ → List ℕ → Bool
-equal [] [] = true
-equal [] (y ∷ ys) = false
-equal (x ∷ xs) [] = false
-equal (x ∷ xs) (y ∷ ys) = eqb x y && equal xs ys
+unfoldable pub sameBytes : List ℕ → List ℕ → Bool
+sameBytes [] [] = true
+sameBytes [] (y ∷ ys) = false
+sameBytes (x ∷ xs) [] = false
+sameBytes (x ∷ xs) (y ∷ ys) = eqb x y && sameBytes xs ys
 
 -- Mark and version.
 abbrev pub headSize : ℕ
@@ -95,10 +95,10 @@ headSize = 5
 -- The verdict that a slip's fields record as they stand, with a row count.
 abbrev pub recorded : List ℕ → RowCount → Verdict
 recorded s rows = record {
-  code = number 1 s codeAt;
-  rule = number 1 s ruleAt;
-  frame = number 2 s frameAt;
-  offset = number 4 s offsetAt;
+  code = number 1 s codePlace;
+  rule = number 1 s rulePlace;
+  frame = number 2 s framePlace;
+  offset = number 4 s offsetPlace;
   rows = rows;
 }
 
@@ -113,13 +113,13 @@ readSized size rows s = cond (not (eqb (length s) size)) (read.Refused 12) (ifPo
 unfoldable pub readVersion : ℕ → List ℕ → SlipAnswer
 readVersion k s =
     cond (eqb k oldVersion) (readSized oldSize NotKnown s)
-    (cond (eqb k version) (readSized slipSize (Known (number 4 s rowsAt)) s)
+    (cond (eqb k version) (readSized slipSize (Known (number 4 s rowsPlace)) s)
     (read.Refused 13))
 
 unfoldable pub readOf : List ℕ → SlipAnswer
 readOf s =
-    cond (not (leb headSize (length s) && equal (take 3 s) mark)) (read.Refused 12)
-    (readVersion (number 2 s versionAt) s)
+    cond (not (leb headSize (length s) && sameBytes (take 3 s) mark)) (read.Refused 12)
+    (readVersion (number 2 s versionPlace) s)
 
 -- The paper's numbers of each case: the code, and with code 0 the verdict read.
 pub record SlipFields : Type 0 where
@@ -139,8 +139,8 @@ writeOf v buffer =
     write.Written)
 
 -- The buffer afterwards: the slip, and untouched beyond it; untouched by a refusal.
-unfoldable pub bufferOf : Verdict → List ℕ → List ℕ
-bufferOf v buffer = cond (writable v && leb slipSize (length buffer)) (slipOf v ++ drop slipSize buffer) buffer
+unfoldable pub slipBuffer : Verdict → List ℕ → List ℕ
+slipBuffer v buffer = cond (writable v && leb slipSize (length buffer)) (slipOf v ++ drop slipSize buffer) buffer
 
 -- The paper's numbers of each case: the code alone.
 abbrev pub writeFields : WriteAnswer → Fields

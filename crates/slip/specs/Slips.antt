@@ -12,7 +12,7 @@ use Rattle.verdict.specs.Verdict.{fieldsFit, possible, writable, withoutCount}
 use Rattle.verdict.specs.declared.RowCount.the-variants.{NotKnown}
 use Rattle.verdict.specs.declared.Verdict.{Verdict}
 use Rattle.slip.specs.declared.SlipAnswer.the-variants as read
-use Rattle.slip.specs.Slip.{version, oldVersion, versionAt, slipSize, number, slipOf, readOf, bufferOf}
+use Rattle.slip.specs.Slip.{version, oldVersion, versionPlace, slipSize, number, slipOf, readOf, slipBuffer}
 use Rattle.slip.specs.Version1.{oldSlipOf}
 
 -- Every element is a byte.
@@ -22,11 +22,11 @@ Bytes s = (i : ℕ) → getD s i 0 < 256
 pub record Slips : Type 0 where
   pub read-back : (v : Verdict) → writable v ≡ true → readOf (slipOf v) ≡ read.Read v
   pub buffer-back : (v : Verdict) (buffer : List ℕ) → writable v ≡ true → slipSize ≤ length buffer
-      → readOf (take slipSize (bufferOf v buffer)) ≡ read.Read v
+      → readOf (take slipSize (slipBuffer v buffer)) ≡ read.Read v
   pub slips-differ : (v w : Verdict) → writable v ≡ true → writable w ≡ true → slipOf v ≡ slipOf w → v ≡ w
   pub read-possible : (s : List ℕ) (v : Verdict) → readOf s ≡ read.Read v → possible v ≡ true
-  pub write-back : (s : List ℕ) (v : Verdict) → Bytes s → readOf s ≡ read.Read v → number 2 s versionAt ≡ version
+  pub write-back : (s : List ℕ) (v : Verdict) → Bytes s → readOf s ≡ read.Read v → number 2 s versionPlace ≡ version
       → (writable v ≡ true) × (s ≡ slipOf v)
   pub old-read : (v : Verdict) → fieldsFit v ≡ true → readOf (oldSlipOf v) ≡ read.Read (withoutCount v)
-  pub old-back : (s : List ℕ) (v : Verdict) → Bytes s → readOf s ≡ read.Read v → number 2 s versionAt ≡ oldVersion
+  pub old-back : (s : List ℕ) (v : Verdict) → Bytes s → readOf s ≡ read.Read v → number 2 s versionPlace ≡ oldVersion
       → (v .rows ≡ NotKnown) × (s ≡ oldSlipOf v)

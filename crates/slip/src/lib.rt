@@ -1,13 +1,15 @@
 // Verdict slips: 17 bytes that record a verdict with its row count. specs/ says what a slip is; `write_slip` and
-// `read_slip` are the public calls. A slip's bytes: the mark from 0, the version from 3, the code at 5, the rule at 6, the
-// frame from 7, the offset from 9, the row count from 13. Slips of version 1, which are read too, end before the row count.
+// `read_slip` are the public calls. Slips of version 1, which are read too, end before the row count.
 ghost use mathlib.Core.Path.{_≡_};
 ghost use mathlib.Core.List.{_++_};
-ghost use Prim.Native.Nat.{_+_, _≤_, _<_};
+ghost use Prim.Native.Nat.{_≤_};
 ghost use lib.ListN.{length, take, drop};
 ghost use Rattle.dataset.specs.Fields.{Answers};
 ghost use Rattle.verdict.specs.declared.RowCount.the-variants.{Known, NotKnown};
-ghost use Rattle.slip.specs.Slip.{headSize, oldSize, slipSize, rowsAt, versionAt, mark, number, equal, recorded, ifPossible, readSized, readVersion, slipWith, readOf, readFields, writeOf, writeFields, bufferOf};
+ghost use Rattle.slip.specs.Slip.{headSize, oldSize, slipSize, rowsPlace, versionPlace, mark, number, sameBytes, recorded, ifPossible, readSized, readVersion, slipWith, readOf, readFields, writeOf, writeFields, slipBuffer};
+use dataset::u16_at;
+use dataset::u32_at;
+use dataset::wide;
 use verdict::RowCount;
 use verdict::Verdict;
 
@@ -17,6 +19,19 @@ const HEAD: usize = 5;
 const OLD_SIZE: usize = 13;
 
 pub const SIZE: usize = 17;
+
+// Where each field stands; the mark is in front.
+const VERSION_AT: usize = 3;
+
+const CODE_AT: usize = 5;
+
+const RULE_AT: usize = 6;
+
+const FRAME_AT: usize = 7;
+
+const OFFSET_AT: usize = 9;
+
+const ROWS_AT: usize = 13;
 
 const OLD_VERSION: usize = 1;
 
@@ -36,30 +51,10 @@ pub enum WriteAnswer {
 
 // ---- Reading
 
-fn wide(x: u8) -> usize
-    ensures { λ r. ⌜ (r ≡ x) × (r < 256) ⌝ }
-{
-    x as usize
-}
-
-fn u16_at(s: &[u8], p: usize) -> usize
-    requires { ⌜ p + 2 ≤ length (now s) ⌝ }
-    ensures { λ r. ⌜ (r ≡ number 2 (now (s .entry)) p) × (r < 65536) ⌝ }
-{
-    wide(s[p]) + 256 * wide(s[p + 1])
-}
-
-fn u32_at(s: &[u8], p: usize) -> usize
-    requires { ⌜ p + 4 ≤ length (now s) ⌝ }
-    ensures { λ r. ⌜ (r ≡ number 4 (now (s .entry)) p) × (r < 4294967296) ⌝ }
-{
-    u16_at(s, p) + 65536 * u16_at(s, p + 2)
-}
-
 // Whether a slip starts with "XAV".
 fn is_marked(s: &[u8]) -> bool
     requires { ⌜ 3 ≤ length (now s) ⌝ }
-    ensures { λ r. ⌜ r ≡ equal (take 3 (now (s .entry))) mark ⌝ }
+    ensures { λ r. ⌜ r ≡ sameBytes (take 3 (now (s .entry))) mark ⌝ }
 {
     if s[0] == b'X' {
         if s[1] == b'A' { s[2] == b'V' } else { false }
@@ -73,10 +68,10 @@ fn fields(s: &[u8], rows: RowCount) -> Verdict
     requires { ⌜ oldSize ≤ length (now s) ⌝ }
     ensures { λ r. ⌜ r ≡ recorded (now (s .entry)) rows ⌝ }
 {
-    let code = wide(s[5]);
-    let rule = wide(s[6]);
-    let frame = u16_at(s, 7);
-    let offset = u32_at(s, 9);
+    let code = wide(s[CODE_AT]);
+    let rule = wide(s[RULE_AT]);
+    let frame = u16_at(s, FRAME_AT);
+    let offset = u32_at(s, OFFSET_AT);
     Verdict {
         code,
         rule,
@@ -109,10 +104,10 @@ fn read_old(slip: &[u8]) -> SlipAnswer
 
 // A slip of version 2.
 fn read_new(slip: &[u8]) -> SlipAnswer
-    ensures { λ r. ⌜ r ≡ readSized slipSize (Known (number 4 (now (slip .entry)) rowsAt)) (now (slip .entry)) ⌝ }
+    ensures { λ r. ⌜ r ≡ readSized slipSize (Known (number 4 (now (slip .entry)) rowsPlace)) (now (slip .entry)) ⌝ }
 {
     if slip.len() == SIZE {
-        let n = u32_at(slip, 13);
+        let n = u32_at(slip, ROWS_AT);
         if_possible(fields(slip, RowCount::Known(n)))
     } else {
         SlipAnswer::Refused(12)
@@ -122,9 +117,9 @@ fn read_new(slip: &[u8]) -> SlipAnswer
 // A slip whose mark is right, by its version.
 fn read_version(slip: &[u8]) -> SlipAnswer
     requires { ⌜ headSize ≤ length (now slip) ⌝ }
-    ensures { λ r. ⌜ r ≡ readVersion (number 2 (now (slip .entry)) versionAt) (now (slip .entry)) ⌝ }
+    ensures { λ r. ⌜ r ≡ readVersion (number 2 (now (slip .entry)) versionPlace) (now (slip .entry)) ⌝ }
 {
-    let version = u16_at(slip, 3);
+    let version = u16_at(slip, VERSION_AT);
     if version == OLD_VERSION {
         return read_old(slip);
     }
@@ -186,7 +181,7 @@ fn put_slip(v: Verdict, n: usize, slip: &mut [u8])
 // not known, then 11 where the buffer has fewer than 17 bytes. A refusal leaves the buffer as it was.
 pub fn write_slip(verdict: Verdict, slip: &mut [u8]) -> WriteAnswer
     ensures { λ r. ⌜ Answers writeFields r (writeOf verdict (now (slip .entry))) ⌝ }
-    ensures { λ _. ⌜ now (slip .exit) ≡ bufferOf verdict (now (slip .entry)) ⌝ }
+    ensures { λ _. ⌜ now (slip .exit) ≡ slipBuffer verdict (now (slip .entry)) ⌝ }
 {
     if verdict::is_possible(verdict) {
         let rows = verdict.rows;

@@ -7,15 +7,9 @@ ghost use lib.ListN.{length};
 ghost use Rattle.verdict.specs.Verdict.{writable};
 ghost use Rattle.slip.specs.Slip.{slipOf};
 ghost use Rattle.conformance.specs.Judging.{verdictOf};
-ghost use Rattle.judge_small.specs.Roomy.{roomyOf};
+ghost use Rattle.judge_small.specs.Contracts.{roomyOf};
+use room::input;
 use verdict::Verdict;
-
-// One byte more than is judged, so that an input that is too long is seen to be.
-fn input() -> [u8; 65_537]
-    ensures { λ r. ⌜ 65537 ≡ length r ⌝ }
-{
-    [0; 65_537]
-}
 
 fn slip_of(v: Verdict) -> [u8; 17]
     requires { ⌜ writable v ≡ true ⌝ }
@@ -37,7 +31,7 @@ fn slip_for(bytes: &[u8]) -> [u8; 17]
 fn main() {
     let mut bytes = input();
     let n = io::read_full(0, &mut bytes);
-    if judge_small::MOST < n {
+    if room::MOST < n {
         io::write_all(2, b"too long: at most 65536 bytes\n");
         return;
     }

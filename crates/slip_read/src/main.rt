@@ -1,17 +1,11 @@
 // Prints the slip on standard input: a line of numbers, then what it means in words.
+use printing::print_field;
 use slip::SlipAnswer;
 use verdict::RowCount;
 use verdict::Verdict;
 
 fn print_words(words: &[u8]) {
     io::write_all(1, words);
-}
-
-// A name and its number.
-fn print_field(name: &[u8], n: usize) {
-    io::write_all(1, name);
-    io::write_all(1, b" ");
-    io::print_decimal(1, n as u64);
 }
 
 // Ends the line of numbers.

@@ -4,7 +4,7 @@
 -- is 0 to 127. The statement says nothing of how the entries are kept. Its proof stands in proofs/Derivation.
 use mathlib.Core.Path.{_≡_}
 use Prim.Native.Nat.{ℕ, _-_, _≤_, _*_}
-use Rattle.squareroot.specs.SquareRoot.{cell, rootOf, levelOf, entryOf}
+use Rattle.squareroot.specs.SquareRoot.{cell, rootOf, rootLevel, rootEntry}
 
 -- p is the largest number with p × p ≤ t.
 pub record Largest (t p : ℕ) : Type 0 where
@@ -13,17 +13,17 @@ pub record Largest (t p : ℕ) : Type 0 where
 
 -- The cell less the entry of what it becomes is 0 to 127: it is not below that entry, and not more than 127 above it.
 pub record Near (v : ℕ) : Type 0 where
-  pub under : entryOf (levelOf v) ≤ cell v
-  pub near : cell v - entryOf (levelOf v) ≤ 127
+  pub under : rootEntry (rootLevel v) ≤ cell v
+  pub near : cell v - rootEntry (rootLevel v) ≤ 127
 
 pub record Derivation : Type 0 where
   -- The definition of the root is what its name says.
   pub largest : (t : ℕ) → Largest t (rootOf t)
   -- 14 bits become 8.
-  pub eight : (v : ℕ) → levelOf v ≤ 255
+  pub eight : (v : ℕ) → rootLevel v ≤ 255
   -- Each p but 1 comes back as p through its entry.
-  pub back : (p : ℕ) → p ≤ 255 → (p ≡ 1 → ⊥) → levelOf (entryOf p) ≡ p
+  pub back : (p : ℕ) → p ≤ 255 → (p ≡ 1 → ⊥) → rootLevel (rootEntry p) ≡ p
   -- No cell becomes 1.
-  pub never-one : (v : ℕ) → levelOf v ≡ 1 → ⊥
+  pub never-one : (v : ℕ) → rootLevel v ≡ 1 → ⊥
   -- Every cell is at most 127 above its entry.
   pub near : (v : ℕ) → Near v

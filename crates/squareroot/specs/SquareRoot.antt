@@ -17,9 +17,9 @@ abbrev pub cell : ℕ → ℕ
 cell v = v % 16384
 
 -- What cell v becomes: the largest p with p × p ≤ 4v.
-unfoldable pub levelOf : ℕ → ℕ
-levelOf v = rootOf (4 * cell v)
+unfoldable pub rootLevel : ℕ → ℕ
+rootLevel v = rootOf (4 * cell v)
 
 -- The entry of level p: p × p / 4, rounded up.
-unfoldable pub entryOf : ℕ → ℕ
-entryOf p = (p * p + 3) / 4
+unfoldable pub rootEntry : ℕ → ℕ
+rootEntry p = (p * p + 3) / 4

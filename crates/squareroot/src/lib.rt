@@ -1,10 +1,10 @@
 // The square root derivation of source document 002, 14 bits to 8, with the desk's own scale.
 ghost use mathlib.Core.Path.{_≡_};
-ghost use Rattle.squareroot.specs.SquareRoot.{levelOf, entryOf};
+ghost use Rattle.squareroot.specs.SquareRoot.{rootLevel, rootEntry};
 
 // The entry of a level, worked out each time.
 pub fn entry(p: u8) -> u16
-    ensures { λ r. ⌜ r ≡ entryOf p ⌝ }
+    ensures { λ r. ⌜ r ≡ rootEntry p ⌝ }
 {
     let n = p as usize;
     ((n * n + 3) / 4) as u16
@@ -12,7 +12,7 @@ pub fn entry(p: u8) -> u16
 
 // The largest p with p × p ≤ 4v, for the lowest 14 bits v of the cell: low × low ≤ 4v < high × high, halved eight times.
 pub fn level(v: usize) -> usize
-    ensures { λ r. ⌜ r ≡ levelOf v ⌝ }
+    ensures { λ r. ⌜ r ≡ rootLevel v ⌝ }
 {
     let t = 4 * (v % 16_384);
     let mut low: usize = 0;

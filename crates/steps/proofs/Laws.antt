@@ -15,7 +15,7 @@ use Rattle.value.specs.declared.Num.the-variants.{Is, Lacks}
 use Rattle.value.specs.declared.Signed.{Signed}
 use Rattle.value.specs.declared.Signed.the-variants as signed
 use Rattle.value.specs.Number.{usValues, isNumber}
-use Rattle.value.specs.Said.{SizeBelow}
+use Rattle.value.specs.Contracts.{SizeBelow}
 use Rattle.value.proofs.Laws.{usValues-length}
 use Rattle.node.specs.Nodes.{Node, nextNode, members}
 use Rattle.node.proofs.Walks.{members-end, members-next}
@@ -28,7 +28,7 @@ use Rattle.steps.specs.declared.Found.{Found}
 use Rattle.steps.specs.declared.Found.the-variants as found
 use Rattle.steps.specs.Given.{check, then}
 use Rattle.steps.specs.Steps.{groupFor, inPairs, rangeHolds, firstHolding, naming, ownIn, shiftFrom, shiftFor}
-use Rattle.steps.specs.Said.{FoundBelow, signedOf}
+use Rattle.steps.specs.Contracts.{FoundBelow, signedOf}
 
 -- ---- Answers
 

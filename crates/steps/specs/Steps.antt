@@ -1,13 +1,32 @@
 -- Drawing frame f (document 01, steps 1 to 7 and "What a step needs"), over the nodes of a data set that reads well,
 -- accepted or not. No rule is built in: a step that lacks what it needs gives `none`, and a step that is not taken
 -- needs nothing. The samples' arithmetic stands in `Rattle.pixel` and the window's in `Rattle.window`.
-use Prim.Native.Nat.{ℕ, zero, suc, _+_, _-_, _*_, _/_, _%_, _^_}
+--
+-- step                                              definition
+-- 1  cells of whole bytes, high bits cut off        geometryOf, pixelsOf; sampleAt of Rattle.pixel
+-- 2  the mask item that applies                     applyingTo
+-- 3  its mask frames                                averageFrames, tidFrame
+-- 4  how far they are moved                         shiftFor, movesFor; blendedAt of Rattle.pixel
+-- 5  x                                              nativeCell, maskedCell
+-- 6  the window, and its level                      windowFor; levelOf of Rattle.window
+-- 7  MONOCHROME1                                    inverseOf; shaded of Rattle.window
+--
+-- what a step needs ("What a step needs")           where it can lack
+-- whole frames of cells inside the pixel bytes      isFrame in stepsOf, areFrames in pictureBy
+-- the shared item or item f where it opens one      groupFor, orShared
+-- the one item of a VOI group                       windowOn
+-- at least one item of a Frame Pixel Shift          ownIn
+-- values of the VR, count and form that it reads    geometryOf, pixelsOf, rangeHas, onMask, averageFrames, offsetAt, tidFrame,
+--                                                   naming, itemShiftAt, shiftFrom, movesFor, maskBy, windowIn, inverseOf
+-- mask cells inside the picture                     areInside in maskedCell
+-- a divisor above 0 where it divides                averageFrames, and length ks in maskedCell; levelOf of Rattle.window
+use Prim.Native.Nat.{ℕ, _+_, _-_, _/_, _%_, _^_}
 use mathlib.Core.Bool.{Bool, true, false, cond, _&&_, _||_}
 use mathlib.Core.List.{List, [], _∷_}
 use mathlib.Core.Option.{Option, none, some}
 use lib.ListN.{length}
 use lib.Dec.{eqb, leb}
-use lib.IntN.{ℤ, pos, _+ℤ_, _-ℤ_}
+use lib.IntN.{pos, _+ℤ_, _-ℤ_}
 use Rattle.dataset.specs.Vr.{SQ}
 use Rattle.value.specs.declared.Num.{Num}
 use Rattle.value.specs.declared.Num.the-variants.{Is, Lacks}
@@ -24,7 +43,7 @@ use Rattle.node.specs.Nodes.{Node, nodeAt, root, inside}
 use Rattle.node.specs.Find.{find, findVr}
 use Rattle.element.specs.Tags
 use Rattle.element.specs.Tags.{CS, DS, FL, OB, OW, SS, US}
-use Rattle.element.specs.Elements.{valueAt, usIn, csIs, theItem, functionIn}
+use Rattle.element.specs.Elements.{valueAt, usIn, theItem, functionIn}
 use Rattle.element.specs.Frames.{framesOf, sharedItem, frameItem, idIn, operationIs}
 use Rattle.pixel.specs.declared.Geometry.{Geometry}
 use Rattle.pixel.specs.Pixel.{samplesOf, isFrame, sampleAt, areInside, blendedAt}
@@ -130,13 +149,13 @@ ownIn ns j (Is g) =
     check (eqb (nodeAt ns g .vr) SQ && leb 1 (length (inside ns g))) (need (idIn ns j) (λ id. naming ns id (inside ns g)))
 
 -- The item's own two numbers.
-abbrev pub itemAt : List Node → Num → Option Shift
-itemAt ns Lacks = some shift.None
-itemAt ns (Is k) = check (eqb (nodeAt ns k .vr) FL && eqb (length (valueAt ns k)) 8) (some (itemShift (valueAt ns k)))
+abbrev pub itemShiftAt : List Node → Num → Option Shift
+itemShiftAt ns Lacks = some shift.None
+itemShiftAt ns (Is k) = check (eqb (nodeAt ns k .vr) FL && eqb (length (valueAt ns k)) 8) (some (itemShift (valueAt ns k)))
 
 -- The frame's own win.
 abbrev pub shiftFrom : List Node → ℕ → Num → Option Shift
-shiftFrom ns j Lacks = itemAt ns (find ns Tags.MaskSubPixelShift (inside ns j))
+shiftFrom ns j Lacks = itemShiftAt ns (find ns Tags.MaskSubPixelShift (inside ns j))
 shiftFrom ns j (Is k) =
     need (findVr ns Tags.MaskSubPixelShift FL (inside ns k)) (λ x.
     check (eqb (length (valueAt ns x)) 8) (some (frameShift (valueAt ns x))))

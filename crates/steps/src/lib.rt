@@ -10,14 +10,14 @@ ghost use Rattle.value.specs.declared.Num.the-variants as num;
 ghost use Rattle.value.specs.Text.{ascii, valueOf, isSingle};
 ghost use Rattle.value.specs.Words.{isWord, isFunction};
 ghost use Rattle.value.specs.Number.{usValues, isNumber, decimalOf};
-ghost use Rattle.value.specs.Said.{Below, SizeBelow};
+ghost use Rattle.value.specs.Contracts.{Below, SizeBelow};
 ghost use Rattle.node.specs.Nodes.{nodesOf, members, inside};
-ghost use Rattle.node.specs.Table.{Table};
+ghost use Rattle.node.specs.Contracts.{Table};
 ghost use Rattle.element.specs.Tags.{FramePixelShiftSequence};
 ghost use Rattle.element.specs.Frames.{framesOf, frameItem};
 ghost use Rattle.steps.specs.Given.{need, check, then};
-ghost use Rattle.steps.specs.Steps.{orShared, groupFor, inPairs, rangeHas, rangeHolds, firstHolding, applyingTo, averageFrames, offsetAt, offsetOf, tidFrame, naming, ownIn, itemAt, shiftFrom, shiftFor, geometryOf, pixelsOf, windowIn, windowOn, windowFor, inverseOf};
-ghost use Rattle.steps.specs.Said.{foundOf, FoundBelow, holdsOf, appliesOf, AppliesBelow, valueIn, framesIn, signedOf, shiftsOf, sizedOf, SizedSmall, windowedOf, inverseSaid, sharedNaming, IsShared};
+ghost use Rattle.steps.specs.Steps.{orShared, groupFor, inPairs, rangeHas, rangeHolds, firstHolding, applyingTo, averageFrames, offsetAt, offsetOf, tidFrame, naming, ownIn, itemShiftAt, shiftFrom, shiftFor, geometryOf, pixelsOf, windowIn, windowOn, windowFor, inverseOf};
+ghost use Rattle.steps.specs.Contracts.{foundOf, FoundBelow, holdsOf, appliesOf, AppliesBelow, valueIn, framesIn, signedOf, shiftsOf, sizedOf, SizedSmall, windowedOf, inverseSaid, sharedNaming, IsShared};
 use element::tags;
 use pixel::Geometry;
 use shift::Shift;
@@ -228,7 +228,7 @@ pub fn applying_to(bytes: &[u8], rows: &[u32], frame: usize) -> Applies
     match element::find_root(bytes, rows, tags::MASK_SUBTRACTION_SEQUENCE) {
         Num::Lacks => Applies::Nothing,
         Num::Is(m) => {
-            if node::vr(bytes, rows, m) == node::SQ {
+            if node::vr(bytes, rows, m) == dataset::SQ {
                 first_holding(bytes, rows, frame, m + 1, node::next(bytes, rows, m))
             } else {
                 Applies::Lacks
@@ -351,7 +351,7 @@ fn own_in(bytes: &[u8], rows: &[u32], j: usize, g: usize) -> Found
     ensures { λ r. ⌜ foundOf r ≡ ownIn (nodesOf (now (bytes .entry))) j (num.Is g) ⌝ }
     ensures { λ r. ⌜ FoundBelow (length (nodesOf (now (bytes .entry)))) r ⌝ }
 {
-    if node::vr(bytes, rows, g) == node::SQ {
+    if node::vr(bytes, rows, g) == dataset::SQ {
         let from = g + 1;
         let to = node::next(bytes, rows, g);
         if from < to {
@@ -383,7 +383,7 @@ fn own(bytes: &[u8], rows: &[u32], j: usize, group: Found) -> Found
 // The two numbers at node k, as a mask item's.
 fn item_shift_at(bytes: &[u8], rows: &[u32], k: usize) -> Shifts
     requires { ⌜ Table (now bytes) (now rows) × (k < length (nodesOf (now bytes))) ⌝ }
-    ensures { λ r. ⌜ shiftsOf r ≡ itemAt (nodesOf (now (bytes .entry))) (num.Is k) ⌝ }
+    ensures { λ r. ⌜ shiftsOf r ≡ itemShiftAt (nodesOf (now (bytes .entry))) (num.Is k) ⌝ }
 {
     if node::vr(bytes, rows, k) == tags::FL {
         let v = node::value(bytes, rows, k);

@@ -7,11 +7,11 @@ use value::Num;
 ghost use mathlib.Core.Path.{_≡_};
 ghost use Prim.Native.Nat.{_≤_, _<_};
 ghost use lib.ListN.{length};
-ghost use Rattle.value.specs.Said.{Below};
+ghost use Rattle.value.specs.Contracts.{Below};
 ghost use Rattle.node.specs.Nodes.{nodesOf, members};
-ghost use Rattle.node.specs.Table.{Table};
+ghost use Rattle.node.specs.Contracts.{Table};
 ghost use Rattle.element.specs.Frames.{frameItem};
-ghost use Rattle.steps.specs.Said.{SizedSmall};
+ghost use Rattle.steps.specs.Contracts.{SizedSmall};
 
 // How many bytes of pixels there are.
 pub fn print_pixels(bytes: &[u8], rows: &[u32], pixels: Num)

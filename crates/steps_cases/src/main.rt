@@ -5,23 +5,17 @@ mod answers;
 mod frames;
 
 use dataset::ReadAnswer;
+use room::row_buffer;
 ghost use mathlib.Core.Path.{_≡_};
 ghost use Prim.Native.Nat.{_+_, _≤_, _<_};
 ghost use lib.ListN.{length};
-ghost use Rattle.node.specs.Table.{Table};
+ghost use Rattle.node.specs.Contracts.{Table};
 
 // All cases together.
 fn input() -> [u8; 262_144]
     ensures { λ r. ⌜ 262144 ≡ length r ⌝ }
 {
     [0; 262_144]
-}
-
-// Room for the rows of a case of at most 65,535 bytes, since a row has at least 8 bytes.
-fn row_buffer() -> [u32; 57_344]
-    ensures { λ r. ⌜ 57344 ≡ length r ⌝ }
-{
-    [0; 57_344]
 }
 
 fn wide(x: u8) -> usize

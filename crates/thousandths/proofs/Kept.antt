@@ -1,9 +1,9 @@
 -- What reading window numbers in millionths keeps: the claim of specs/Kept. A frame of an accepted object has a picture by
 -- demand 3, and where rule 30 held as it was both kinds of steps give the same.
-use mathlib.Core.Path.{_≡_, refl, sym, _∙_}
+use mathlib.Core.Path.{_≡_, sym, _∙_}
 use mathlib.Core.Bool.{true}
 use mathlib.Core.List.{List}
-use Prim.Native.Nat.{ℕ, _≤_}
+use Prim.Native.Nat.{ℕ}
 use native.Mathlib.Omega.{arith}
 use Rattle.verdict.specs.Verdict.{perFrame}
 use Rattle.node.specs.Nodes.{nodesOf}

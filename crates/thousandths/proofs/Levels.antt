@@ -1,8 +1,8 @@
 -- A window that is scaled by 1000, with everything in it, gives the same level.
-use mathlib.Core.Path.{_≡_, refl, sym, ap, _∙_}
-use mathlib.Core.Bool.{Bool, not, cond}
-use Prim.Native.Nat.{ℕ, zero, suc, _+_, _-_, _*_, _/_, _^_, _≤_, _<_}
-use native.Mathlib.Nat.{div-div-eq-div-mul, mul-div-mul-left}
+use mathlib.Core.Path.{_≡_, sym, ap, _∙_}
+use mathlib.Core.Bool.{not}
+use Prim.Native.Nat.{ℕ, zero, suc, _+_, _*_, _/_, _^_}
+use native.Mathlib.Nat.{div-div-eq-div-mul}
 use native.Mathlib.Omega.{arith}
 use lib.IntN.{ℤ, pos, negsuc, natAbs, _+ℤ_, _-ℤ_, _*ℤ_}
 use lib.Signed.{leZ, ltZ}
@@ -13,7 +13,6 @@ use Rattle.value.specs.declared.Function.the-variants as function
 use Rattle.window.specs.declared.Window as present
 use Rattle.window.specs.Window as window
 use Rattle.window.specs.Window.{integer, floor}
-use Rattle.window.specs.Said.{above, below}
 use Rattle.window.proofs.Gaps.{Gap, shift, whole, plus, less, times, same-leb, le-test, ltZ-leZ}
 use Rattle.window.proofs.Laws.{signed-gap, over, under, integer-gap}
 use Rattle.thousandths.specs.Number.{scaled}

@@ -1,5 +1,5 @@
 -- A number that was read as n thousandths is read as 1000 n millionths.
-use mathlib.Core.Path.{_≡_, refl, sym, ap, _∙_}
+use mathlib.Core.Path.{_≡_, refl, ap, _∙_}
 use mathlib.Core.Bool.{Bool, true, false, cond, not}
 use mathlib.Core.List.{List, [], _∷_}
 use Prim.Native.Nat.{ℕ, zero, suc, _+_, _-_, _*_, _^_, _≤_, _<_}
@@ -7,18 +7,17 @@ use native.Mathlib.Nat.{mul-left-comm, one-le-pow}
 use native.Mathlib.Omega.{arith}
 use lib.ListN.{length}
 use lib.Pow.{pow-add}
-use lib.Dec.{eqb, leb}
+use lib.Dec.{eqb}
 use borrow.Author.Tests.{ne-eqb, eqb-true, eqb-false, le-leb}
 use Rattle.value.specs.declared.Num.{Num}
 use Rattle.value.specs.declared.Num.the-variants as num
 use Rattle.value.specs.declared.Signed.{Signed}
-use Rattle.value.specs.declared.Signed.the-variants as signed
 use Rattle.value.specs.Text.{trimmed}
 use Rattle.value.specs.Number as current
-use Rattle.value.specs.Number.{Digits, isDigit, digitsOf, plus, minus, signedBy, runOf, within, exactOf, endOf, isNumber}
+use Rattle.value.specs.Number.{Digits, isDigit, digitsOf, plus, minus, signedBy, runOf, ifSmall, exactOf, endOf, isNumber}
 use Rattle.value.proofs.Runs.{digits-size, digits-below}
 use Rattle.value.proofs.Powers.{within-is, exact-up}
-use Rattle.thousandths.specs.Number.{decimals, pointOn, fractionOn, sizeOf, decimalOf, isWidth, scaled}
+use Rattle.thousandths.specs.Number.{decimals, pointOn, fractionOn, sizeOf, decimalOf, scaled}
 
 -- ---- Digits
 
@@ -92,7 +91,7 @@ powers m after h =
 exact-is : (m after : ℕ) → after ≤ 3 → m * 10 ^ (3 - after) < 1000000000 → exactOf m 6 after ≡ num.Is (1000 * (m * 10 ^ (3 - after)))
 exact-is m after h b =
     exact-up m 6 after (omega arith)
-    ∙ ap within (powers m after h)
+    ∙ ap ifSmall (powers m after h)
     ∙ within-is (1000 * (m * 10 ^ (3 - after))) (omega arith)
 
 end-is : (count m after : ℕ) → (count ≡ 0 → ⊥) → after ≤ 3 → m * 10 ^ (3 - after) < 1000000000 → endOf count m after [] ≡ num.Is (1000 * (m * 10 ^ (3 - after)))

@@ -1,13 +1,12 @@
 -- A picture that the steps gave they give.
-use mathlib.Core.Path.{_≡_, refl, sym, ap, _∙_}
-use mathlib.Core.Bool.{Bool, true, false, cond, _&&_}
-use mathlib.Core.List.{List, [], _∷_, _++_}
+use mathlib.Core.Path.{_≡_, refl, ap, _∙_}
+use mathlib.Core.Bool.{Bool, true, _&&_}
+use mathlib.Core.List.{List}
 use mathlib.Core.Option.{Option, none, some}
-use Prim.Native.Nat.{ℕ, zero, suc, _-_, _+_, _^_, _≤_, _<_}
-use native.Mathlib.Omega.{arith}
-use lib.Dec.{eqb, ltb}
+use Prim.Native.Nat.{ℕ, zero, suc}
+use lib.Dec.{eqb}
 use lib.ListN.{length}
-use lib.IntN.{ℤ, pos, _+ℤ_, _-ℤ_}
+use lib.IntN.{pos}
 use Rattle.value.specs.declared.Num.{Num}
 use Rattle.value.specs.declared.Num.the-variants.{Is, Lacks}
 use Rattle.value.specs.declared.Signed.{Signed}
@@ -15,7 +14,6 @@ use Rattle.value.specs.declared.Signed.the-variants as signed
 use Rattle.value.specs.declared.Function.{Function}
 use Rattle.value.specs.Text.{valuesOf, valueOf}
 use Rattle.value.specs.Words.{isFunction}
-use Rattle.value.specs.Number as current
 use Rattle.value.specs.Number.{isNumber}
 use Rattle.verdict.proofs.Tests.{and-both}
 use Rattle.shift.specs.declared.Moves.{Moves}
@@ -26,18 +24,16 @@ use Rattle.element.specs.Tags.{DS}
 use Rattle.element.specs.Elements.{valueAt, theItem, functionIn}
 use Rattle.element.specs.Frames.{groupOf}
 use Rattle.pixel.specs.declared.Geometry.{Geometry}
-use Rattle.pixel.specs.Pixel.{samplesOf, isFrame, sampleAt, areInside, blendedAt}
-use Rattle.window.specs.declared.Window as present
-use Rattle.window.specs.Window as window
+use Rattle.pixel.specs.Pixel.{samplesOf, isFrame, sampleAt}
 use Rattle.window.specs.Window.{shaded}
-use Rattle.steps.specs.Given.{need, check, then, collect}
+use Rattle.steps.specs.Given.{check, then, collect}
 use Rattle.steps.specs.Steps as steps
-use Rattle.steps.specs.Steps.{Picture, Mask, native as noMask, masked as maskOf, geometryOf, pixelsOf, maskFor, inverseOf, groupFor, areFrames}
+use Rattle.steps.specs.Steps.{Picture, Mask, native as noMask, masked as maskOf, geometryOf, pixelsOf, maskFor, inverseOf, groupFor}
 use Rattle.display.proofs.Given.{check-some, need-some, then-some}
 use Rattle.display.proofs.Objects.{had, all-first, at-items, group-is}
 use Rattle.thousandths.specs.Number.{decimalOf, leastWidth, isWidth, allDecimals, allWidths, scaled}
 use Rattle.thousandths.specs.Rule30.{isWindow, hasWindow, isVoi, item30, rule30}
-use Rattle.thousandths.specs.Step6.{Window, fullWindow, levelOf, levelHalf, windowIn, windowOn, windowFor, nativeCell, maskedCell, pictureBy, stepsOf}
+use Rattle.thousandths.specs.Step6.{Window, fullWindow, windowIn, windowOn, windowFor, nativeCell, maskedCell, pictureBy, stepsOf}
 use Rattle.thousandths.proofs.Numbers.{numbers}
 use Rattle.thousandths.proofs.Levels.{scaledWindow, same-level, same-half, same-full}
 use Rattle.thousandths.proofs.Rules.{width-number}

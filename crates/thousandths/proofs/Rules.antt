@@ -1,10 +1,10 @@
 -- Where rule 30 held as it was, it holds.
-use mathlib.Core.Path.{_≡_, refl, sym, ap, _∙_, subst}
+use mathlib.Core.Path.{_≡_, refl, ap, _∙_}
 use mathlib.Core.Bool.{Bool, true, false, cond, _&&_}
 use mathlib.Core.List.{List, [], _∷_}
-use Prim.Native.Nat.{ℕ, _+_, _*_, _≤_, _<_}
+use Prim.Native.Nat.{ℕ, _*_, _≤_}
 use native.Mathlib.Omega.{arith}
-use lib.Dec.{eqb, leb}
+use lib.Dec.{eqb}
 use lib.ListN.{length}
 use borrow.Author.Tests.{le-leb, leb-true, eqb-true}
 use Rattle.value.specs.declared.Num.{Num}
@@ -17,7 +17,6 @@ use Rattle.value.specs.Text.{valuesOf}
 use Rattle.value.specs.Words.{isFunction}
 use Rattle.value.specs.Number as current
 use Rattle.value.specs.Number.{isNumber, all}
-use Rattle.verdict.specs.Verdict.{lastRule}
 use Rattle.verdict.proofs.Tests.{false-is-true, and-both}
 use Rattle.node.specs.Nodes.{Node, inside}
 use Rattle.node.specs.Find.{holds, ifPresent, findVr}

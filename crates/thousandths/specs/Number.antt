@@ -1,6 +1,6 @@
 -- A DS number as rule 30 read it before: in thousandths, and without an exponent.
 use Prim.Native.Nat.{ℕ, _+_, _-_, _*_, _^_}
-use mathlib.Core.Bool.{Bool, true, false, cond}
+use mathlib.Core.Bool.{Bool, false, cond}
 use mathlib.Core.List.{List, [], _∷_}
 use lib.Dec.{eqb, leb}
 use Rattle.value.specs.declared.Num.{Num}

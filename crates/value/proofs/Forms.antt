@@ -11,7 +11,7 @@ use Rattle.value.specs.declared.Num.{Num}
 use Rattle.value.specs.declared.Num.the-variants as num
 use Rattle.value.specs.declared.Run.{Run}
 use Rattle.value.specs.Number.{digitsOf, plus, minus, signedBy, wholeOf, decimals, runOf, exactOf, scaledBy, isMark, exponentOf, endOf, pointBy, sizeOf}
-use Rattle.value.specs.Said.{DigitsRead}
+use Rattle.value.specs.Contracts.{DigitsRead}
 use Rattle.value.proofs.Lists.{from-next, from-end}
 use Rattle.value.proofs.Runs.{digits-size, digits-below}
 

@@ -2,18 +2,18 @@
 use mathlib.Core.Path.{_≡_, refl, sym, ap, _∙_}
 use Prim.Native.Nat.{ℕ, zero, suc, _+_, _-_, _*_, _/_, _%_, _^_, _≤_, _<_}
 use native.Mathlib.Omega.{arith}
-use native.Mathlib.Nat.{mul-assoc, mul-comm, mul-sub, mul-left-comm, mul-mod-left, mul-mod-right, mul-div-cancel, mul-div-mul-left, mod-def, mod-one, div-one, zero-mod, zero-div, div-add-mod, le-trans, le-mul-of-pos-right, one-le-pow, pow-succ'}
+use native.Mathlib.Nat.{mul-assoc, mul-comm, mul-sub, mul-mod-left, mul-mod-right, mul-div-cancel, mul-div-mul-left, mod-def, mod-one, div-one, zero-mod, zero-div, div-add-mod, le-trans, le-mul-of-pos-right, one-le-pow, pow-succ'}
 use mathlib.Core.Bool.{Bool, true, false}
 use lib.Dec.{eqb}
 use lib.Pow.{pow-add}
 use borrow.Author.Tests.{eq-eqb, ne-eqb, eqb-true, eqb-false, lt-ltb, le-ltb}
 use Rattle.value.specs.declared.Num.the-variants as num
-use Rattle.value.specs.Number.{sizeLimit, within, wholly, exactOf}
+use Rattle.value.specs.Number.{sizeLimit, ifSmall, wholly, exactOf}
 
-pub within-is : (n : ℕ) → n < sizeLimit → within n ≡ num.Is n
+pub within-is : (n : ℕ) → n < sizeLimit → ifSmall n ≡ num.Is n
 within-is n h = rw (lt-ltb n sizeLimit h)
 
-pub within-large : (n : ℕ) → sizeLimit ≤ n → within n ≡ num.Lacks
+pub within-large : (n : ℕ) → sizeLimit ≤ n → ifSmall n ≡ num.Lacks
 within-large n h = rw (le-ltb n sizeLimit h)
 
 -- ---- Multiplying
@@ -27,7 +27,7 @@ grown n (suc l) h =
     let d : suc l - 1 ≡ l = omega arith in
     rw (d, pow-succ' 10 l) (ap (λ (x : ℕ). x * 10 ^ l) (mul-comm 10 n) ∙ mul-assoc n 10 (10 ^ l))
 
-pub too-large : (n left : ℕ) → sizeLimit ≤ n → within (n * 10 ^ left) ≡ num.Lacks
+pub too-large : (n left : ℕ) → sizeLimit ≤ n → ifSmall (n * 10 ^ left) ≡ num.Lacks
 too-large n left h = within-large (n * 10 ^ left) (le-trans h (le-mul-of-pos-right n (power-one left)))
 
 pub times-one : (n left : ℕ) → left ≤ 0 → n * 10 ^ left ≡ n
@@ -36,7 +36,7 @@ times-one n (suc l) h = absurd (omega arith)
 
 -- ---- Dividing
 
-pub over-one : (n left : ℕ) → left ≤ 0 → wholly n (10 ^ left) ≡ within n
+pub over-one : (n left : ℕ) → left ≤ 0 → wholly n (10 ^ left) ≡ ifSmall n
 over-one n zero h = rw (mod-one n, div-one n)
 over-one n (suc l) h = absurd (omega arith)
 
@@ -95,7 +95,7 @@ split up down h =
     let d : up ≡ up - down + down = omega arith in
     ap (λ (x : ℕ). 10 ^ x) d ∙ pow-add 10 (up - down) down
 
-pub exact-up : (m up down : ℕ) → down ≤ up → exactOf m up down ≡ within (m * 10 ^ (up - down))
+pub exact-up : (m up down : ℕ) → down ≤ up → exactOf m up down ≡ ifSmall (m * 10 ^ (up - down))
 unfolding exactOf
 exact-up m up down h =
     let e : m * 10 ^ up ≡ m * 10 ^ (up - down) * 10 ^ down = ap (λ (x : ℕ). m * x) (split up down h) ∙ sym (mul-assoc m (10 ^ (up - down)) (10 ^ down)) in

@@ -9,7 +9,7 @@ use lib.ListN.{length, getD, drop}
 use lib.Dec.{leb}
 use borrow.Author.Tests.{le-leb, lt-leb, leb-true}
 use Rattle.value.specs.Number.{Digits, isDigit, digitsOf}
-use Rattle.value.specs.Said.{DigitsRead}
+use Rattle.value.specs.Contracts.{DigitsRead}
 use Rattle.value.proofs.Lists.{from-next, from-end}
 
 -- What is read where no digit follows.

@@ -105,12 +105,12 @@ abbrev pub runOf : ℕ → List ℕ → Digits
 runOf n s = digitsOf (length s) n 0 s
 
 -- So many units, where a DS number may be of that size.
-abbrev pub within : ℕ → Num
-within n = cond (ltb n sizeLimit) (num.Is n) num.Lacks
+abbrev pub ifSmall : ℕ → Num
+ifSmall n = cond (ltb n sizeLimit) (num.Is n) num.Lacks
 
 -- n / p, where that is a whole number.
 abbrev pub wholly : ℕ → ℕ → Num
-wholly n p = cond (eqb (n % p) 0) (within (n / p)) num.Lacks
+wholly n p = cond (eqb (n % p) 0) (ifSmall (n / p)) num.Lacks
 
 -- The exact number m · 10^up / 10^down, where that is a whole number of units and of a DS number's size.
 unfoldable pub exactOf : ℕ → ℕ → ℕ → Num

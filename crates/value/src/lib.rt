@@ -5,8 +5,8 @@ ghost use Prim.Native.Nat.{_+_, _-_, _*_, _^_, _≤_, _<_};
 ghost use lib.ListN.{length, drop, getD};
 ghost use Rattle.value.specs.Text.{equal, valuesOf, valueOf, isSingle, trimStart, trimEnd, trimmed};
 ghost use Rattle.value.specs.Words.{wordAt, isWord, isUid, functionOf, isFunction};
-ghost use Rattle.value.specs.Number.{usOf, usValues, ssOf, digitsOf, plus, minus, signedBy, wholeOf, isOf, decimals, unit, sizeLimit, characters, runOf, within, wholly, exactOf, scaledBy, isMark, exponentOf, endOf, pointBy, sizeOf, decimalOf, isNumber, leastWidth, isWidth, allDecimals, allWidths};
-ghost use Rattle.value.specs.Said.{Below, SizeBelow, DigitsRead, partsAt};
+ghost use Rattle.value.specs.Number.{usOf, usValues, ssOf, plus, minus, signedBy, wholeOf, isOf, sizeLimit, characters, runOf, ifSmall, wholly, exactOf, scaledBy, isMark, exponentOf, endOf, pointBy, sizeOf, decimalOf, isNumber, leastWidth, isWidth, allDecimals, allWidths};
+ghost use Rattle.value.specs.Contracts.{Below, SizeBelow, DigitsRead, partsAt};
 use dataset::u16_at;
 use dataset::wide;
 
@@ -138,7 +138,7 @@ pub fn value_of<'a>(v: &'a [u8], k: usize) -> &'a [u8]
 }
 
 // Without the bytes b in front.
-pub fn trim_start<'a>(v: &'a [u8], b: u8) -> &'a [u8]
+fn trim_start<'a>(v: &'a [u8], b: u8) -> &'a [u8]
     ensures { λ r. ⌜ now r ≡ trimStart b (now (v .entry)) ⌝ }
 {
     let mut i = 0;
@@ -166,7 +166,7 @@ pub fn trim_end<'a>(v: &'a [u8], b: u8) -> &'a [u8]
 }
 
 // Without outer spaces.
-pub fn trimmed<'a>(v: &'a [u8]) -> &'a [u8]
+fn trimmed<'a>(v: &'a [u8]) -> &'a [u8]
     ensures { λ r. ⌜ now r ≡ trimmed (now (v .entry)) ⌝ }
 {
     let t = trim_end(v, SPACE);
@@ -400,7 +400,7 @@ pub fn is_of(v: &[u8]) -> Signed
 // m · 10^e units. No power is worked out: a number that is not 0 leaves the size of a DS number after at most 12 turns.
 fn multiplied(m: usize, e: usize) -> Num
     requires { ⌜ (0 < m) × (m ≤ 10000000000000000) ⌝ }
-    ensures { λ r. ⌜ r ≡ within (m * 10 ^ e) ⌝ }
+    ensures { λ r. ⌜ r ≡ ifSmall (m * 10 ^ e) ⌝ }
 {
     let mut n = m;
     let mut left = e;

@@ -3,6 +3,7 @@
 use Prim.Native.Nat.{ℕ}
 use mathlib.Core.Bool.{Bool, true, false, cond, _&&_, _||_}
 use lib.Dec.{eqb, leb}
+use Rattle.dataset.specs.Reading.{largest, mostRows}
 use Rattle.verdict.specs.declared.RowCount.{RowCount}
 use Rattle.verdict.specs.declared.RowCount.the-variants.{Known, NotKnown}
 use Rattle.verdict.specs.declared.Verdict.{Verdict}
@@ -17,11 +18,7 @@ lastFrame = 65535
 
 -- The largest offset of a refusal: the size limit.
 abbrev pub lastOffset : ℕ
-lastOffset = 1073741824
-
--- The most rows that a data set has: a row takes 8 bytes.
-abbrev pub mostRows : ℕ
-mostRows = 134217728
+lastOffset = largest
 
 -- The rules that are asked at each frame: 27 to 30, 37 and 39.
 unfoldable pub perFrame : ℕ → Bool

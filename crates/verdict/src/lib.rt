@@ -8,11 +8,8 @@ pub const LAST_RULE: usize = 39;
 // The last frame number that there is.
 pub const LAST_FRAME: usize = 65_535;
 
-// The largest offset of a refusal.
-const LAST_OFFSET: usize = 1_073_741_824;
-
-// The most rows that a data set has.
-const MOST_ROWS: usize = 134_217_728;
+// The largest offset of a refusal: the size limit.
+const LAST_OFFSET: usize = dataset::LARGEST;
 
 // A row count, known or not: a slip of version 1 does not say it.
 pub enum RowCount {
@@ -127,9 +124,13 @@ fn count_fits(code: usize, n: usize) -> bool
     ensures { λ r. ⌜ r ≡ countFits code n ⌝ }
 {
     if code == 0 {
-        return n <= MOST_ROWS;
+        return n <= dataset::MOST_ROWS;
     }
-    if code == 9 { n <= MOST_ROWS } else { n == 0 }
+    if code == 9 {
+        n <= dataset::MOST_ROWS
+    } else {
+        n == 0
+    }
 }
 
 fn rows_fit(code: usize, rows: RowCount) -> bool

@@ -1,8 +1,5 @@
 -- Why y is within 0..255: the third case is reached only between the two others. Its dividend is then above 0 and less than 256
 -- times its divisor.
-use mathlib.Core.Path.{_≡_}
-use mathlib.Core.Option.{some}
-use Prim.Native.Nat.{ℕ, _*_}
 use native.Mathlib.Omega.{arith}
 use lib.IntN.{ℤ, pos, _+ℤ_, _*ℤ_}
 use borrow.Author.Tests.{le-leb}
@@ -10,7 +7,6 @@ use Rattle.value.specs.Number.{unit}
 use Rattle.window.specs.declared.Window.{Window}
 use Rattle.window.specs.Window.{levelAt, levelOf, levelHalf}
 use Rattle.window.specs.Bounded.{Within, Bounded}
-use Rattle.window.proofs.Gaps.{Gap}
 use Rattle.window.proofs.Laws.{over, under, integer-gap, levelled, level-is, level-small}
 
 within : (w : Window) (t : ℤ) → Within (levelAt w t)

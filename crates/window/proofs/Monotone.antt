@@ -6,13 +6,12 @@ use Prim.Native.Nat.{ℕ, _+_, _*_, _-_, _/_, _≤_, _<_}
 use native.Mathlib.Nat.{le-div-iff-mul-le, div-mul-le-self, le-trans}
 use native.Mathlib.Omega.{arith}
 use lib.Dec.{ltb, leb}
-use lib.IntN.{ℤ, pos}
-use lib.Signed.{leZ}
+use lib.IntN.{pos}
 use borrow.Author.Tests.{le-leb, ltb-true, ltb-false, leb-true, leb-false}
 use Rattle.value.specs.Number.{unit}
 use Rattle.window.specs.declared.Window.{Window}
 use Rattle.window.specs.Window.{takenOff, levelOf}
-use Rattle.window.specs.Said.{above, rampOf}
+use Rattle.window.specs.Contracts.{above, rampOf}
 use Rattle.window.specs.Monotone.{Monotone}
 use Rattle.window.proofs.Gaps.{times, le-test}
 use Rattle.window.proofs.Laws.{quotient-small, over, under, integer-gap, raised, lowered, levelled, level-is}

@@ -6,7 +6,7 @@ ghost use lib.IntN.{pos, _-ℤ_};
 ghost use mathlib.Core.Option.{some};
 ghost use Rattle.value.specs.Number.{unit, sizeLimit};
 ghost use Rattle.window.specs.Window.{fullWindow, takenOff, levelOf, shaded};
-ghost use Rattle.window.specs.Said.{Drawable, Filled, above, below, rampOf, number, shadeAt};
+ghost use Rattle.window.specs.Contracts.{Drawable, Filled, above, below, rampOf, number, shadeAt};
 use value::Function;
 use value::Signed;
 
@@ -63,7 +63,7 @@ fn ramp(e: usize, up: usize, down: usize, w: usize) -> usize
 }
 
 // The level of x = plus - minus.
-pub fn level(window: Window, plus: usize, minus: usize) -> usize
+fn level(window: Window, plus: usize, minus: usize) -> usize
     requires { ⌜ Drawable window × ((plus < 200000) × (minus < 200000)) ⌝ }
     ensures { λ r. ⌜ (some (pos r) ≡ levelOf window (pos plus -ℤ pos minus)) × (r ≤ 255) ⌝ }
 {

@@ -1,26 +1,19 @@
+-- A byte is below 256, whether it is read or not.
 use native.Mathlib.Omega.{arith}
-use lib.ListN.{getD, List·getD-eq-default}
 use borrow.Author.Needs.{needs}
 use Rattle.canonical.proofs.byte_bounds.Statement.{statement}
 use Rattle.canonical.proofs.byte_bounds.Tie as tie
-use Rattle.canonical.proofs.byte_bounds.Reads as reads
-use Rattle.canonical.proofs.byte_bounds.Lts as lts
-use Rattle.dataset.proofs.wide.Reads as wide-reads
 
--- src/lib.rt:153:23
 shared-slice-read-wide : tie.Need-shared-slice-read-wide
 shared-slice-read-wide c = search needs
 
--- src/lib.rt:153:9
 wide-requires : tie.Need-wide-requires
 wide-requires c κs = search needs
 
--- src/lib.rt:149:1
 returns : tie.Need-returns
 returns c =
     λ k. omega (arith, c .before .before .before .shared-slice-known .given k)
 
--- src/lib.rt:149:1
 returns-2 : tie.Need-returns-2
 returns-2 c =
     λ k. omega (arith, c .before .shared-slice-known .given k)

@@ -1,23 +1,18 @@
-use mathlib.Core.Path.{_≡_, refl, sym, ap, _∙_}
+-- The form of the VR alone says whether the header has 12 bytes or 8.
+use mathlib.Core.Path.{sym, _∙_}
 use native.Mathlib.Omega.{arith}
 use Rattle.canonical.proofs.Puts.{head-is, head-else}
 use borrow.Author.Needs.{needs}
 use Rattle.canonical.proofs.head_size.Statement.{statement}
 use Rattle.canonical.proofs.head_size.Tie as tie
-use Rattle.canonical.proofs.head_size.Reads as reads
-use Rattle.canonical.proofs.head_size.Lts as lts
-use Rattle.dataset.proofs.vr_form.Reads as vr-form-reads
 
--- src/lib.rt:48:8
 vr-form-requires : tie.Need-vr-form-requires
 vr-form-requires c κs = search needs
 
--- src/lib.rt:45:1
 returns : tie.Need-returns
 returns c =
     (sym (head-is _ (sym (c .before .vr-form .ensures) ∙ c .if1 .taken)), (omega arith, omega arith))
 
--- src/lib.rt:45:1
 returns-2 : tie.Need-returns-2
 returns-2 c =
     (sym (head-else _ (λ e. c .if1 .left (c .before .vr-form .ensures ∙ e))), (omega arith, omega arith))

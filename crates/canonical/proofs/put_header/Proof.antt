@@ -1,12 +1,9 @@
+-- The two halves of the tag and what follows them are put side by side, and fill the header.
 use native.Mathlib.Omega.{arith}
 use Rattle.canonical.proofs.Puts.{head-least, header-puts}
-use Rattle.canonical.proofs.put_length.Reads as put-length-reads
-use Rattle.canonical.proofs.put_u16.Reads as put-u16-reads
 use borrow.Author.Needs.{needs}
 use Rattle.canonical.proofs.put_header.Statement.{statement}
 use Rattle.canonical.proofs.put_header.Tie as tie
-use Rattle.canonical.proofs.put_header.Reads as reads
-use Rattle.canonical.proofs.put_header.Lts as lts
 
 put-u16-requires : tie.Need-put-u16-requires
 put-u16-requires c κs = omega (arith, head-least (c .before .before .args .vr), c .before .before .pre)

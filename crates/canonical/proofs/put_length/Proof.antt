@@ -1,14 +1,10 @@
+-- An item has its length alone; a VR has its letters, then 16 bits, or two zero bytes and 32 bits.
 use mathlib.Core.Path.{sym, _∙_}
 use native.Mathlib.Omega.{arith}
 use Rattle.canonical.proofs.Puts.{head-is, head-least, form-long, item-puts, short-puts, long-puts}
-use Rattle.canonical.proofs.put_letters.Reads as put-letters-reads
-use Rattle.canonical.proofs.put_u16.Reads as put-u16-reads
-use Rattle.canonical.proofs.put_u32.Reads as put-u32-reads
 use borrow.Author.Needs.{needs}
 use Rattle.canonical.proofs.put_length.Statement.{statement}
 use Rattle.canonical.proofs.put_length.Tie as tie
-use Rattle.canonical.proofs.put_length.Reads as reads
-use Rattle.canonical.proofs.put_length.Lts as lts
 
 put-u32-requires : tie.Need-put-u32-requires
 put-u32-requires c κs =

@@ -1,3 +1,4 @@
+-- The first letter is the high byte of the VR, the second the low one, and all other bytes stay.
 use lib.ListN.{length-set}
 use native.Mathlib.Omega.{arith}
 use native.Mathlib.Numerals.{add-one}
@@ -5,35 +6,26 @@ use Rattle.canonical.specs.Written.{letters}
 use borrow.Author.Needs.{needs}
 use Rattle.canonical.proofs.put_letters.Statement.{statement}
 use Rattle.canonical.proofs.put_letters.Tie as tie
-use Rattle.canonical.proofs.put_letters.Reads as reads
-use Rattle.canonical.proofs.put_letters.Lts as lts
 
--- src/lib.rt:42:18
 cast-target : tie.Need-cast-target
 cast-target c = search needs
 
--- src/lib.rt:42:5
 slice-write-target : tie.Need-slice-write-target
 slice-write-target c = search needs
 
--- src/lib.rt:43:22
 cast-target-2 : tie.Need-cast-target-2
 cast-target-2 c = search needs
 
--- src/lib.rt:43:12
 add-target : tie.Need-add-target
 add-target c = search needs
 
--- src/lib.rt:43:5
 slice-write-target-2 : tie.Need-slice-write-target-2
 slice-write-target-2 c =
     simp length-set (omega arith)
 
--- src/lib.rt:38:1
 same-length : tie.Need-same-length
 same-length c = search needs
 
--- src/lib.rt:38:1
 returns : tie.Need-returns
 unfolding letters
 returns c =

@@ -1,3 +1,4 @@
+-- Each turn puts one byte, and what is left of the value goes behind it.
 use borrow.Author.Needs.{needs}
 use Prim.Native.Nat.{_-_}
 use native.Mathlib.Omega.{arith}
@@ -5,8 +6,6 @@ use lib.ListN.{length}
 use Rattle.canonical.proofs.Puts.{Left, value-first, value-next, value-last}
 use Rattle.canonical.proofs.put_value.Statement.{statement}
 use Rattle.canonical.proofs.put_value.Tie as tie
-use Rattle.canonical.proofs.put_value.Reads as reads
-use Rattle.canonical.proofs.put_value.Lts as lts
 
 abbrev Inv-loop : tie.InvT-loop
 Inv-loop target₀ at value i₀ target i =
@@ -16,47 +15,38 @@ abbrev μ-loop : tie.MeasureT-loop
 μ-loop target₀ at value i₀ target i =
     length value - i
 
--- src/lib.rt:84:5
 loop-holds : tie.Need-loop-holds Inv-loop μ-loop
 loop-holds c =
     value-first _ _ _
 
--- src/lib.rt:85:26
 shared-slice-read-target : tie.Need-shared-slice-read-target Inv-loop μ-loop
 shared-slice-read-target c =
     search needs
 
--- src/lib.rt:85:16
 add-target : tie.Need-add-target Inv-loop μ-loop
 add-target c =
     omega arith
 
--- src/lib.rt:85:9
 slice-write-target : tie.Need-slice-write-target Inv-loop μ-loop
 slice-write-target c =
     omega arith
 
--- src/lib.rt:86:9
 add-i : tie.Need-add-i Inv-loop μ-loop
 add-i c =
     omega arith
 
--- src/lib.rt:84:5
 loop-less : tie.Need-loop-less Inv-loop μ-loop
 loop-less c =
     omega arith
 
--- src/lib.rt:84:5
 loop-again : tie.Need-loop-again Inv-loop μ-loop
 loop-again c =
     value-next (c .before .before .loop .inv) (c .before .loop-test .taken)
 
--- src/lib.rt:79:1
 same-length : tie.Need-same-length Inv-loop μ-loop
 same-length c =
     omega arith
 
--- src/lib.rt:79:1
 returns : tie.Need-returns Inv-loop μ-loop
 returns c =
     value-last (c .before .loop .inv) (c .loop-test .left)

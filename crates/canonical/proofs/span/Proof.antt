@@ -1,13 +1,10 @@
-use borrow.Author.Needs.{needs}
+-- What was added up, with the sizes of the nodes ahead, is the size of all; and all nodes together stay within the largest data set.
 use Prim.Native.Nat.{_-_}
 use native.Mathlib.Omega.{arith}
 use Rattle.node.specs.Nodes.{nodesOf}
 use Rattle.canonical.proofs.Sizes.{Summed, summed-first, summed-next, summed-last, size-slice}
 use Rattle.canonical.proofs.span.Statement.{statement}
 use Rattle.canonical.proofs.span.Tie as tie
-use Rattle.canonical.proofs.span.Reads as reads
-use Rattle.canonical.proofs.span.Lts as lts
-use Rattle.canonical.proofs.own_size.Reads as own-size-reads
 
 abbrev Inv-loop : tie.InvT-loop
 Inv-loop bytes rows from to sum₀ i₀ sum i =
@@ -17,38 +14,31 @@ abbrev μ-loop : tie.MeasureT-loop
 μ-loop bytes rows from to sum₀ i₀ sum i =
     to - i
 
--- src/lib.rt:108:5
 loop-holds : tie.Need-loop-holds Inv-loop μ-loop
 loop-holds c =
     summed-first _ _ _ (c .before .before .pre .1 .0)
 
--- src/lib.rt:109:16
 own-size-requires : tie.Need-own-size-requires Inv-loop μ-loop
 own-size-requires c κs =
     (c .before .before .before .before .pre .0, omega arith)
 
--- src/lib.rt:109:9
 add-sum : tie.Need-add-sum Inv-loop μ-loop
 add-sum c =
     let n = summed-next (c .before .before .loop .inv) (c .before .loop-test .taken) (c .before .before .before .before .before .pre .1 .1) in
     omega (arith, n .rest, size-slice (c .before .before .before .before .before .args .from) (c .before .before .before .before .before .args .to) (nodesOf (c .before .before .before .before .before .args .bytes .now)), c .own-size .ensures, c .before .before .before .before .before .pre .0 .small)
 
--- src/lib.rt:110:9
 add-i : tie.Need-add-i Inv-loop μ-loop
 add-i c =
     omega arith
 
--- src/lib.rt:108:5
 loop-less : tie.Need-loop-less Inv-loop μ-loop
 loop-less c =
     omega arith
 
--- src/lib.rt:108:5
 loop-again : tie.Need-loop-again Inv-loop μ-loop
 loop-again c =
     rw (c .own-size .ensures) (summed-next (c .before .before .loop .inv) (c .before .loop-test .taken) (c .before .before .before .before .before .pre .1 .1))
 
--- src/lib.rt:102:1
 returns : tie.Need-returns Inv-loop μ-loop
 returns c =
     let e = summed-last (c .before .loop .inv) (c .loop-test .left) in

@@ -9,13 +9,6 @@ use Rattle.canonical.specs.Answer.{canonicalOf, targetOf}
 use Rattle.canonical.proofs.Answers.{ready, fitting-all, short-answer, done-answer}
 use Rattle.canonical.proofs.write_canonical.Statement.{statement}
 use Rattle.canonical.proofs.write_canonical.Tie as tie
-use Rattle.canonical.proofs.write_canonical.Reads as reads
-use Rattle.canonical.proofs.write_canonical.Lts as lts
-use Rattle.canonical.proofs.byte_bounds.Reads as byte-bounds-reads
-use Rattle.canonical.proofs.lacks_room.Reads as lacks-room-reads
-use Rattle.canonical.proofs.put_members.Reads as put-members-reads
-use Rattle.canonical.proofs.span.Reads as span-reads
-use Rattle.dataset.proofs.read.Reads as read-reads
 
 byte-bounds-requires : tie.Need-byte-bounds-requires
 byte-bounds-requires c κs = search needs

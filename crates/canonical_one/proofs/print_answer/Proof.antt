@@ -1,15 +1,10 @@
 -- What the answer says is written is in the target, by what is required.
 use mathlib.Core.Path.{subst}
 use Rattle.canonical.specs.declared.CanonicalAnswer.{CanonicalAnswer}
-use Rattle.canonical_one.specs.Roomy.{Held}
+use Rattle.canonical_one.specs.Contracts.{Held}
 use borrow.Author.Needs.{needs}
 use Rattle.canonical_one.proofs.print_answer.Statement.{statement}
 use Rattle.canonical_one.proofs.print_answer.Tie as tie
-use Rattle.canonical_one.proofs.print_answer.Reads as reads
-use Rattle.canonical_one.proofs.print_answer.Lts as lts
-use Rattle.canonical_one.proofs.print_form.Reads as print-form-reads
-use Rattle.canonical_one.proofs.print_refusal.Reads as print-refusal-reads
-use Rattle.io.proofs.write_all.Reads as write-all-reads
 
 enum-known-answer : tie.Need-enum-known-answer
 enum-known-answer c = search needs

@@ -4,9 +4,6 @@ use lib.Seq.{length-take-le}
 use borrow.Author.Needs.{needs}
 use Rattle.canonical_one.proofs.print_form.Statement.{statement}
 use Rattle.canonical_one.proofs.print_form.Tie as tie
-use Rattle.canonical_one.proofs.print_form.Reads as reads
-use Rattle.canonical_one.proofs.print_form.Lts as lts
-use Rattle.io.proofs.write_all.Reads as write-all-reads
 
 slice-aggregate-write-all : tie.Need-slice-aggregate-write-all
 slice-aggregate-write-all c = sym (length-take-le _ _ (c .before .before .pre))

@@ -1,15 +1,11 @@
 -- The target's length is as it was, so what is written is in it; and both buffers suffice.
 use mathlib.Core.Path.{sym, subst}
 use Rattle.canonical.specs.declared.CanonicalAnswer.{CanonicalAnswer}
-use Rattle.canonical_one.specs.Roomy.{Held, Roomy}
+use Rattle.canonical_one.specs.Contracts.{Held, Roomy}
 use Rattle.canonical_one.proofs.Room.{held, roomy}
 use borrow.Author.Needs.{needs}
 use Rattle.canonical_one.proofs.write_roomy.Statement.{statement}
 use Rattle.canonical_one.proofs.write_roomy.Tie as tie
-use Rattle.canonical_one.proofs.write_roomy.Reads as reads
-use Rattle.canonical_one.proofs.write_roomy.Lts as lts
-use Rattle.canonical.proofs.byte_bounds.Reads as byte-bounds-reads
-use Rattle.canonical.proofs.write_canonical.Reads as write-canonical-reads
 
 byte-bounds-requires : tie.Need-byte-bounds-requires
 byte-bounds-requires c κs = search needs

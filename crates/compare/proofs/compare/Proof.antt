@@ -1,9 +1,10 @@
+-- Each answer of judging leads to its own; an accepted object leaves its rows in the buffer, and the frame is compared from them.
 use Prim.Native.Nat.{_*_}
 use lib.Seq.{length-take-le}
 use Rattle.conformance.specs.declared.JudgeAnswer.the-variants as judged
 use Rattle.display.proofs.Judged as laws
 use Rattle.compare.proofs.Answers as answers
-use mathlib.Core.Path.{_≡_, refl, sym, ap, _∙_, subst}
+use mathlib.Core.Path.{sym, _∙_}
 use native.Mathlib.Omega.{arith}
 use Rattle.dataset.proofs.Promised.{promised}
 use borrow.Author.Needs.{needs}

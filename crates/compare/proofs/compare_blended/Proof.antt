@@ -1,6 +1,5 @@
-use Prim.Native.Nat.{_/_}
+-- The upper mask row of the first line is averaged here, which is all that `compare_quarters` asks for beside what is given.
 use native.Mathlib.Nat.{div-add-mod'}
-use mathlib.Core.Path.{_≡_, refl, sym, ap, _∙_, subst}
 use native.Mathlib.Omega.{arith}
 use borrow.Author.Needs.{needs}
 use Rattle.compare.proofs.compare_blended.Statement.{statement}

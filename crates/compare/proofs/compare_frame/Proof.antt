@@ -1,11 +1,11 @@
+-- Each masking leads to its own way of drawing; one that lacks is ruled out, since the masks are ready.
 use Rattle.node.specs.Nodes.{nodesOf}
 use Rattle.element.specs.Elements.{valueAt}
 use Rattle.display.specs.declared.Masking.{Masking}
-use Rattle.display.specs.Said.{MasksReady}
+use Rattle.display.specs.Contracts.{MasksReady}
 use Rattle.display.proofs.Paints.{pair-masks, pair-values}
 use Rattle.display.proofs.Scenes as scenes
-use mathlib.Core.Path.{_≡_, refl, sym, ap, _∙_, subst}
-use native.Mathlib.Omega.{arith}
+use mathlib.Core.Path.{_∙_, subst}
 use borrow.Author.Needs.{needs}
 use Rattle.compare.proofs.compare_frame.Statement.{statement}
 use Rattle.compare.proofs.compare_frame.Tie as tie

@@ -1,11 +1,12 @@
-use Prim.Native.Nat.{ℕ, _+_, _-_, _≤_, _<_}
-use mathlib.Core.Bool.{Bool, not}
+-- What was seen of the first k cells, with one cell more, is what is seen of the first k + 1.
+use Prim.Native.Nat.{ℕ, _+_, _-_, _≤_}
+use mathlib.Core.Bool.{not}
 use lib.ListN.{length, getD}
 use Rattle.compare.specs.Differences.{within}
 use Rattle.compare.specs.declared.Differing.{Differing}
-use Rattle.compare.specs.Said.{along}
+use Rattle.compare.specs.Contracts.{along}
 use Rattle.compare.proofs.Places as places
-use mathlib.Core.Path.{_≡_, refl, sym, ap, _∙_, subst}
+use mathlib.Core.Path.{_≡_, refl, sym, _∙_, subst}
 use native.Mathlib.Omega.{arith}
 use borrow.Author.Needs.{needs}
 use Rattle.compare.proofs.compare_line.Statement.{statement}

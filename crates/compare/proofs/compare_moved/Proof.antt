@@ -1,10 +1,10 @@
+-- The two moves of a shift are two offsets in quarters, which draw the same cells.
 use Rattle.value.specs.Number.{usValues}
 use Rattle.pixel.specs.Pixel.{samplesOf}
 use Rattle.pixel.proofs.Blend.{offset-shade}
-use Rattle.lines.specs.Lines.{shadesOf}
+use Rattle.lines.specs.Contracts.{shadesOf}
 use Rattle.compare.proofs.Places.{met-same}
-use mathlib.Core.Path.{_≡_, refl, sym, ap, _∙_, subst}
-use native.Mathlib.Omega.{arith}
+use mathlib.Core.Path.{_∙_}
 use borrow.Author.Needs.{needs}
 use Rattle.compare.proofs.compare_moved.Statement.{statement}
 use Rattle.compare.proofs.compare_moved.Tie as tie

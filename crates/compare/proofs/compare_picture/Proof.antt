@@ -1,4 +1,4 @@
-use borrow.Author.Needs.{needs}
+-- The scene and the plan are made here, and are all that comparing by a plan asks for.
 use Rattle.compare.proofs.compare_picture.Statement.{statement}
 use Rattle.compare.proofs.compare_picture.Tie as tie
 

@@ -1,3 +1,4 @@
+-- The cells of a picture are the shades of its samples, so to compare the shades is to compare its cells.
 use Prim.Native.Nat.{ℕ}
 use mathlib.Core.Bool.{true}
 use lib.ListN.{length-replicate}
@@ -5,15 +6,15 @@ use Rattle.node.specs.Nodes.{nodesOf}
 use Rattle.element.specs.Elements.{valueAt}
 use Rattle.pixel.specs.Pixel.{samplesOf}
 use Rattle.lines.specs.declared.Shades.{Shades}
-use Rattle.lines.specs.Lines.{shadesOf}
-use Rattle.display.specs.Said.{shadeBy}
+use Rattle.lines.specs.Contracts.{shadesOf}
+use Rattle.display.specs.Contracts.{shadeBy}
 use Rattle.display.specs.Show.{pictureOf}
 use Rattle.display.proofs.Scenes as scenes
 use Rattle.sheet.proofs.Scenes as counted
 use Rattle.compare.specs.Differences.{isOff}
-use Rattle.compare.specs.Said.{along, nothing, Against}
+use Rattle.compare.specs.Contracts.{along, nothing, Against}
 use Rattle.compare.proofs.Places.{met-list}
-use mathlib.Core.Path.{_≡_, refl, sym, ap, _∙_, subst}
+use mathlib.Core.Path.{refl, sym, ap, _∙_, subst}
 use native.Mathlib.Omega.{arith}
 use borrow.Author.Needs.{needs}
 use Rattle.compare.proofs.compare_planned.Statement.{statement}

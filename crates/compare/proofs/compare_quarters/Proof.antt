@@ -1,16 +1,16 @@
-use Prim.Native.Nat.{ℕ, _+_, _-_, _*_, _/_, _≤_, _<_}
+-- Lines follow one another in the picture, and each line leaves the mask row that the next one starts from.
+use Prim.Native.Nat.{_-_, _*_, _/_, _≤_}
 use lib.ListN.{length}
 use Rattle.value.specs.Number.{usValues}
-use Rattle.pixel.specs.Said.{Averaged, shifted, quarterShade}
+use Rattle.pixel.specs.Contracts.{Averaged, shifted, quarterShade}
 use Rattle.pixel.proofs.Laws.{full}
-use Rattle.lines.specs.Lines.{shadesOf}
+use Rattle.lines.specs.Contracts.{shadesOf}
 use Rattle.lines.proofs.Lists.{upTo-length}
 use Rattle.sheet.proofs.Runs as runs
-use Rattle.compare.specs.Said.{met}
+use Rattle.compare.specs.Contracts.{met}
 use Rattle.compare.proofs.Places as places
-use mathlib.Core.Path.{_≡_, refl, sym, ap, _∙_, subst}
+use mathlib.Core.Path.{_≡_, refl, sym, ap, _∙_}
 use native.Mathlib.Omega.{arith}
-use borrow.Author.Needs.{needs}
 use Rattle.compare.proofs.compare_quarters.Statement.{statement}
 use Rattle.compare.proofs.compare_quarters.Tie as tie
 

@@ -1,7 +1,8 @@
+-- The tests come in the order of the definition; past them no cell that is off means yes, and any such cell no.
 use Rattle.node.specs.Nodes.{nodesOf}
 use Rattle.node.proofs.Laws as node-laws
 use Rattle.compare.proofs.Answers as answers
-use mathlib.Core.Path.{_≡_, refl, sym, ap, _∙_, subst}
+use mathlib.Core.Path.{sym, _∙_}
 use native.Mathlib.Omega.{arith}
 use borrow.Author.Needs.{needs}
 use Rattle.compare.proofs.compare_table.Statement.{statement}

@@ -1,5 +1,5 @@
+-- Two levels are too far apart just where one of them is above the other and the tolerance together.
 use Rattle.compare.proofs.Places as places
-use mathlib.Core.Path.{_≡_, refl, sym, ap, _∙_, subst}
 use native.Mathlib.Omega.{arith}
 use borrow.Author.Needs.{needs}
 use Rattle.compare.proofs.is_off.Statement.{statement}

@@ -1,9 +1,9 @@
+-- Only a cell that is off counts, and the first place is kept; no more cells are off than places were passed, so the count does not wrap.
 use mathlib.Core.Bool.{Bool}
-use Rattle.compare.specs.Said.{seen}
+use Rattle.compare.specs.Contracts.{seen}
 use Rattle.compare.proofs.Places as places
-use mathlib.Core.Path.{_≡_, refl, sym, ap, _∙_, subst}
+use mathlib.Core.Path.{sym, ap, _∙_}
 use native.Mathlib.Omega.{arith}
-use borrow.Author.Needs.{needs}
 use Rattle.compare.proofs.look.Statement.{statement}
 use Rattle.compare.proofs.look.Tie as tie
 

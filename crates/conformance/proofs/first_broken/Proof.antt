@@ -1,27 +1,17 @@
 -- What is left to find, over the frames and then over the rules, is what is to be found in all.
 use borrow.Author.Needs.{needs}
-use mathlib.Core.Path.{_≡_, refl, sym, ap, _∙_, subst}
+use mathlib.Core.Path.{_≡_, refl, sym, _∙_}
 use native.Mathlib.Omega.{arith}
 use Rattle.conformance.proofs.Loops as loops
-use Prim.Native.Nat.{ℕ, _+_, _-_, _≤_}
+use Prim.Native.Nat.{_+_, _-_, _≤_}
 use lib.ListN.{drop}
 use Rattle.node.specs.Nodes.{nodesOf}
-use Rattle.element.specs.Along.{Along}
+use Rattle.element.specs.Contracts.{Along}
 use Rattle.element.specs.Frames.{frameItems}
-use Rattle.conformance.specs.Parts.{endRule}
+use Rattle.conformance.specs.Contracts.{endRule}
 use Rattle.conformance.specs.Judging.{lowest, firstBroken, findingOf}
 use Rattle.conformance.proofs.first_broken.Statement.{statement}
 use Rattle.conformance.proofs.first_broken.Tie as tie
-use Rattle.conformance.proofs.first_broken.Reads as reads
-use Rattle.conformance.proofs.first_broken.Lts as lts
-use Rattle.conformance.proofs.end_frame.Reads as end-frame-reads
-use Rattle.conformance.proofs.first_frame.Reads as first-frame-reads
-use Rattle.conformance.proofs.frame_total.Reads as frame-total-reads
-use Rattle.conformance.proofs.rule_holds.Reads as rule-holds-reads
-use Rattle.conformance.proofs.shared_ok.Reads as shared-ok-reads
-use Rattle.element.proofs.advance.Reads as advance-reads
-use Rattle.element.proofs.frame_items.Reads as frame-items-reads
-use Rattle.element.proofs.shared_item.Reads as shared-item-reads
 
 abbrev Inv-loop2 : tie.InvT-loop2
 Inv-loop2 bytes rows n shared items rule part first end left₀ frame₀ left frame =
@@ -44,60 +34,50 @@ Inv-judge bytes rows n shared items = Unit
 abbrev μ-judge : tie.MeasureT-judge
 μ-judge bytes rows n shared items = 0
 
--- src/lib.rt:150:9
 frame-total-requires :
     tie.Need-frame-total-requires Inv-loop2 μ-loop2 Inv-loop μ-loop Inv-judge μ-judge
 frame-total-requires c κs =
     search needs
 
--- src/lib.rt:151:9
 shared-item-requires :
     tie.Need-shared-item-requires Inv-loop2 μ-loop2 Inv-loop μ-loop Inv-judge μ-judge
 shared-item-requires c κs =
     search needs
 
--- src/lib.rt:152:9
 frame-items-requires :
     tie.Need-frame-items-requires Inv-loop2 μ-loop2 Inv-loop μ-loop Inv-judge μ-judge
 frame-items-requires c κs =
     search needs
 
--- src/lib.rt:153:9
 judge-holds : tie.Need-judge-holds Inv-loop2 μ-loop2 Inv-loop μ-loop Inv-judge μ-judge
 judge-holds c =
     tt
 
--- src/lib.rt:154:9
 loop-holds : tie.Need-loop-holds Inv-loop2 μ-loop2 Inv-loop μ-loop Inv-judge μ-judge
 loop-holds c =
     (omega arith, (omega arith, refl))
 
--- src/lib.rt:155:17
 shared-ok-requires :
     tie.Need-shared-ok-requires Inv-loop2 μ-loop2 Inv-loop μ-loop Inv-judge μ-judge
 shared-ok-requires c κs =
     (c .before .before .before .before .before .before .before .before .pre, c .before .before .before .before .shared-item .ensures .1)
 
--- src/lib.rt:156:17
 first-frame-requires :
     tie.Need-first-frame-requires Inv-loop2 μ-loop2 Inv-loop μ-loop Inv-judge μ-judge
 first-frame-requires c κs =
     tt
 
--- src/lib.rt:157:17
 end-frame-requires :
     tie.Need-end-frame-requires Inv-loop2 μ-loop2 Inv-loop μ-loop Inv-judge μ-judge
 end-frame-requires c κs =
     c .before .before .before .before .before .before .before .frame-total .ensures .1
 
--- src/lib.rt:159:13
 loop2-holds : tie.Need-loop2-holds Inv-loop2 μ-loop2 Inv-loop μ-loop Inv-judge μ-judge
 loop2-holds c = (
   rw (c .before .first-frame .ensures, c .end-frame .ensures .0, c .before .before .before .before .before .before .before .before .frame-total .ensures .0) (sym (loops.rules-start _ _ (c .before .before .before .loop-test .taken)) ∙ c .before .before .before .before .loop .inv .1 .1),
   (omega arith, loops.along-start _ (c .before .first-frame .result) (c .before .before .before .before .before .before .frame-items .ensures)),
 )
 
--- src/lib.rt:160:20
 rule-holds-requires :
     tie.Need-rule-holds-requires Inv-loop2 μ-loop2 Inv-loop μ-loop Inv-judge μ-judge
 rule-holds-requires c κs = (
@@ -114,49 +94,40 @@ rule-holds-requires c κs = (
   ),
 )
 
--- src/lib.rt:161:21
 advance-requires : tie.Need-advance-requires Inv-loop2 μ-loop2 Inv-loop μ-loop Inv-judge μ-judge
 advance-requires c κs =
     (c .before .before .before .before .before .before .before .before .before .before .before .before .before .before .before .pre, c .before .before .before .loop2 .inv .1 .1 .inner)
 
--- src/lib.rt:159:17
 add-frame : tie.Need-add-frame Inv-loop2 μ-loop2 Inv-loop μ-loop Inv-judge μ-judge
 add-frame c =
     search needs
 
--- src/lib.rt:159:13
 loop2-less : tie.Need-loop2-less Inv-loop2 μ-loop2 Inv-loop μ-loop Inv-judge μ-judge
 loop2-less c =
     search needs
 
--- src/lib.rt:159:13
 loop2-again : tie.Need-loop2-again Inv-loop2 μ-loop2 Inv-loop μ-loop Inv-judge μ-judge
 loop2-again c = (
   sym (loops.frames-pass _ _ _ _ _ (c .before .before .before .loop2-test .taken) (sym (c .before .before .rule-holds .ensures) ∙ c .before .if1 .taken)) ∙ c .before .before .before .before .loop2 .inv .0,
   (omega (arith, c .before .before .before .before .loop2 .inv .1 .0), loops.along-more _ (c .before .before .before .before .before .before .first-frame .result) (c .before .before .before .before .loop2 .frame) (c .before .before .before .before .loop2 .inv .1 .0) (c .before .before .before .before .loop2 .inv .1 .1) (c .advance .ensures)),
 )
 
--- src/lib.rt:154:13
 add-rule : tie.Need-add-rule Inv-loop2 μ-loop2 Inv-loop μ-loop Inv-judge μ-judge
 add-rule c =
     search needs
 
--- src/lib.rt:154:9
 loop-less : tie.Need-loop-less Inv-loop2 μ-loop2 Inv-loop μ-loop Inv-judge μ-judge
 loop-less c =
     search needs
 
--- src/lib.rt:154:9
 loop-again : tie.Need-loop-again Inv-loop2 μ-loop2 Inv-loop μ-loop Inv-judge μ-judge
 loop-again c =
     (omega arith, (omega arith, sym (loops.frames-done _ _ _ _ _ (c .loop2-test .left)) ∙ c .before .loop2 .inv .0))
 
--- src/lib.rt:146:1
 returns : tie.Need-returns Inv-loop2 μ-loop2 Inv-loop μ-loop Inv-judge μ-judge
 returns c =
     sym (loops.frames-hit _ _ _ _ _ (c .before .before .loop2-test .taken) (sym (c .before .rule-holds .ensures) ∙ c .if1 .left)) ∙ c .before .before .before .loop2 .inv .0
 
--- src/lib.rt:146:1
 returns-2 : tie.Need-returns-2 Inv-loop2 μ-loop2 Inv-loop μ-loop Inv-judge μ-judge
 returns-2 c =
     sym (loops.rules-done _ _ (c .loop-test .left)) ∙ c .before .loop .inv .1 .1

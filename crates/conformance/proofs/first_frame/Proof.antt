@@ -1,23 +1,17 @@
-use mathlib.Core.Path.{_≡_, refl, sym, ap, _∙_, subst}
+-- A rule that is asked at each frame starts at frame 1; any other is asked at frame 0.
 use Rattle.conformance.specs.Judging.{firstFrame}
 use borrow.Author.Needs.{needs}
 use Rattle.conformance.proofs.first_frame.Statement.{statement}
 use Rattle.conformance.proofs.first_frame.Tie as tie
-use Rattle.conformance.proofs.first_frame.Reads as reads
-use Rattle.conformance.proofs.first_frame.Lts as lts
-use Rattle.verdict.proofs.per_frame.Reads as per-frame-reads
 
--- src/lib.rt:127:8
 per-frame-requires : tie.Need-per-frame-requires
 per-frame-requires c κs = search needs
 
--- src/lib.rt:124:1
 returns : tie.Need-returns
 unfolding firstFrame
 returns c =
     rw (← c .before .per-frame .ensures, c .if1 .taken)
 
--- src/lib.rt:124:1
 returns-2 : tie.Need-returns-2
 unfolding firstFrame
 returns-2 c =

@@ -1,31 +1,23 @@
-use mathlib.Core.Path.{_≡_, refl, sym, ap, _∙_, subst}
+-- The number of frames is handed on with its bound; where there is none, both sides say 0.
 use Rattle.node.proofs.Laws as node-laws
 use native.Mathlib.Omega.{arith}
 use borrow.Author.Needs.{needs}
 use Rattle.conformance.proofs.frame_total.Statement.{statement}
 use Rattle.conformance.proofs.frame_total.Tie as tie
-use Rattle.conformance.proofs.frame_total.Reads as reads
-use Rattle.conformance.proofs.frame_total.Lts as lts
-use Rattle.element.proofs.frame_count.Reads as frame-count-reads
 
--- src/lib.rt:117:11
 frame-count-requires : tie.Need-frame-count-requires
 frame-count-requires c κs = search needs
 
--- src/lib.rt:118:17
 enum-known-n : tie.Need-enum-known-n
 enum-known-n c = search needs
 
--- src/lib.rt:119:23
 enum-told : tie.Need-enum-told
 enum-told c = search needs
 
--- src/lib.rt:113:1
 returns : tie.Need-returns
 returns c =
     (rw (node-laws.had (c .before .n .given .1) (c .before .before .before .frame-count .ensures .0)), node-laws.within _ (c .before .n .given .1) (c .before .before .before .frame-count .ensures .1))
 
--- src/lib.rt:113:1
 returns-2 : tie.Need-returns-2
 returns-2 c =
     (rw (node-laws.lacked (c .enum-told .given .1) (c .before .before .frame-count .ensures .0)), omega arith)

@@ -1,4 +1,5 @@
-use mathlib.Core.Path.{_≡_, refl, sym, ap, _∙_, subst}
+-- Each refusal of reading is handed on; what reads well leaves its rows in the buffer, and the rules are asked of them.
+use mathlib.Core.Path.{sym, _∙_}
 use native.Mathlib.Omega.{arith}
 use Rattle.node.proofs.After.{after-reading}
 use Prim.Native.Nat.{_*_}
@@ -8,105 +9,80 @@ use Rattle.dataset.proofs.Promised.{promised}
 use borrow.Author.Needs.{needs}
 use Rattle.conformance.proofs.judge.Statement.{statement}
 use Rattle.conformance.proofs.judge.Tie as tie
-use Rattle.conformance.proofs.judge.Reads as reads
-use Rattle.conformance.proofs.judge.Lts as lts
-use Rattle.conformance.proofs.first_broken.Reads as first-broken-reads
-use Rattle.dataset.proofs.read.Reads as read-reads
 
--- src/lib.rt:177:11
 read-requires : tie.Need-read-requires
 read-requires c κs = search needs
 
--- src/lib.rt:178:33
 enum-told : tie.Need-enum-told
 enum-told c = search needs
 
--- src/lib.rt:179:29
 enum-known-code : tie.Need-enum-known-code
 enum-known-code c = search needs
 
--- src/lib.rt:180:31
 enum-told-2 : tie.Need-enum-told-2
 enum-told-2 c = search needs
 
--- src/lib.rt:181:26
 enum-known-n : tie.Need-enum-known-n
 enum-known-n c = search needs
 
--- src/lib.rt:182:23
 mul-end : tie.Need-mul-end
 mul-end c =
     let t = after-reading (c .before .before .before .before .before .before .before .before .before .args .bytes .now) (c .before .before .before .before .before .before .before .before .before .args .rows .now) (c .before .before .before .before .before .read .last .1 .0) (c .before .n .given .0 .0) (sym (c .before .n .given .1) ∙ c .before .before .before .before .before .read .ensures .0 .same) (c .before .before .before .before .before .read .ensures .1) in
     omega (arith, t .1 .size, t .1 .few, length-take-le (7 * c .before .n .given .0 .0) (c .before .before .before .before .before .read .last .1 .0) (t .0))
 
--- src/lib.rt:183:39
 slice-reshare-prefix-first-broken : tie.Need-slice-reshare-prefix-first-broken
 slice-reshare-prefix-first-broken c =
     after-reading (c .before .before .before .before .before .before .before .before .before .args .bytes .now) (c .before .before .before .before .before .before .before .before .before .args .rows .now) (c .before .before .before .before .before .read .last .1 .0) (c .before .n .given .0 .0) (sym (c .before .n .given .1) ∙ c .before .before .before .before .before .read .ensures .0 .same) (c .before .before .before .before .before .read .ensures .1) .0
 
--- src/lib.rt:183:39
 slice-aggregate-first-broken : tie.Need-slice-aggregate-first-broken
 slice-aggregate-first-broken c =
     sym (length-take-le _ _ (after-reading (c .before .before .before .before .before .before .before .before .before .before .args .bytes .now) (c .before .before .before .before .before .before .before .before .before .before .args .rows .now) (c .before .before .before .before .before .before .read .last .1 .0) (c .before .before .n .given .0 .0) (sym (c .before .before .n .given .1) ∙ c .before .before .before .before .before .before .read .ensures .0 .same) (c .before .before .before .before .before .before .read .ensures .1) .0))
 
--- src/lib.rt:183:19
 first-broken-requires : tie.Need-first-broken-requires
 first-broken-requires c κs =
     after-reading (c .before .before .before .before .before .before .before .before .before .before .args .bytes .now) (c .before .before .before .before .before .before .before .before .before .before .args .rows .now) (c .before .before .before .before .before .before .read .last .1 .0) (c .before .before .n .given .0 .0) (sym (c .before .before .n .given .1) ∙ c .before .before .before .before .before .before .read .ensures .0 .same) (c .before .before .before .before .before .before .read .ensures .1) .1
 
--- src/lib.rt:184:38
 enum-told-3 : tie.Need-enum-told-3
 enum-told-3 c = search needs
 
--- src/lib.rt:185:33
 enum-known-rule : tie.Need-enum-known-rule
 enum-known-rule c = search needs
 
--- src/lib.rt:173:1
 same-length : tie.Need-same-length
 same-length c = search needs
 
--- src/lib.rt:173:1
 returns : tie.Need-returns
 unfolding judgeOf
 returns c =
     (promised (rw (← c .before .before .before .before .read .ensures .0 .same, c .enum-told .given .1)), c .before .before .before .before .read .ensures .1)
 
--- src/lib.rt:173:1
 same-length-2 : tie.Need-same-length-2
 same-length-2 c = search needs
 
--- src/lib.rt:173:1
 returns-2 : tie.Need-returns-2
 unfolding judgeOf
 returns-2 c =
     (promised (rw (← c .before .before .before .before .before .read .ensures .0 .same, c .before .code .given .1)), c .before .before .before .before .before .read .ensures .1)
 
--- src/lib.rt:173:1
 same-length-3 : tie.Need-same-length-3
 same-length-3 c = search needs
 
--- src/lib.rt:173:1
 returns-3 : tie.Need-returns-3
 unfolding judgeOf
 returns-3 c =
     (promised (rw (← c .before .before .before .before .read .ensures .0 .same, c .enum-told2 .given .1)), c .before .before .before .before .read .ensures .1)
 
--- src/lib.rt:173:1
 same-length-4 : tie.Need-same-length-4
 same-length-4 c = search needs
 
--- src/lib.rt:173:1
 returns-4 : tie.Need-returns-4
 unfolding judgeOf
 returns-4 c =
     (promised (rw (← c .before .before .before .before .before .before .before .before .before .read .ensures .0 .same, c .before .before .before .before .before .n .given .1, ← c .before .before .first-broken .ensures, c .enum-told3 .given .1)), c .before .before .before .before .before .before .before .before .before .read .ensures .1)
 
--- src/lib.rt:173:1
 same-length-5 : tie.Need-same-length-5
 same-length-5 c = search needs
 
--- src/lib.rt:173:1
 returns-5 : tie.Need-returns-5
 unfolding judgeOf
 returns-5 c =

@@ -1,38 +1,29 @@
-use mathlib.Core.Path.{_≡_, refl, sym, ap, _∙_, subst}
+-- A rule is asked at each frame or once, and one that is asked once is asked at frame 0.
+use mathlib.Core.Path.{sym, ap, _∙_}
 use Prim.Native.Nat.{ℕ}
 use Rattle.node.specs.Nodes.{nodesOf}
 use Rattle.rules.specs.All.{ruleAt}
 use borrow.Author.Needs.{needs}
 use Rattle.conformance.proofs.rule_holds.Statement.{statement}
 use Rattle.conformance.proofs.rule_holds.Tie as tie
-use Rattle.conformance.proofs.rule_holds.Reads as reads
-use Rattle.conformance.proofs.rule_holds.Lts as lts
-use Rattle.conformance.proofs.frame_holds.Reads as frame-holds-reads
-use Rattle.conformance.proofs.once_holds.Reads as once-holds-reads
-use Rattle.verdict.proofs.per_frame.Reads as per-frame-reads
 
--- src/lib.rt:105:8
 per-frame-requires : tie.Need-per-frame-requires
 per-frame-requires c κs = search needs
 
--- src/lib.rt:106:9
 frame-holds-requires : tie.Need-frame-holds-requires
 frame-holds-requires c κs =
     let p = c .before .before .before .before .pre in
     let q = sym (c .before .per-frame .ensures) ∙ c .if1 .taken in
     (p .0, (p .1 .0, (p .1 .1 .0, (p .1 .1 .1 .0, (q, (p .1 .1 .1 .1 .from q, p .1 .1 .1 .1 .along q))))))
 
--- src/lib.rt:108:9
 once-holds-requires : tie.Need-once-holds-requires
 once-holds-requires c κs =
     let p = c .before .before .before .before .pre in
     (p .0, (p .1 .1 .1 .1 .low, (p .1 .1 .1 .1 .high, sym (c .before .per-frame .ensures) ∙ c .if1 .left)))
 
--- src/lib.rt:93:1
 returns : tie.Need-returns
 returns c = search needs
 
--- src/lib.rt:93:1
 returns-2 : tie.Need-returns-2
 returns-2 c =
     c .once-holds .ensures ∙ ap (λ (k : ℕ). ruleAt (nodesOf (c .before .before .before .before .before .args .bytes .now)) (c .before .before .before .before .before .args .rule) k) (sym (c .before .before .before .before .before .pre .1 .1 .1 .1 .once (sym (c .before .before .per-frame .ensures) ∙ c .before .if1 .left)))

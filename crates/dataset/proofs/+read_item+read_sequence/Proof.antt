@@ -1,7 +1,7 @@
 -- The proof of the two readers that call each other. At each call the bytes that the cursor has left fall: what is called
 -- stands behind a header of at least 8 bytes, and ends no later. Each loop keeps `Level.Along`: what is left to read comes
 -- to what the whole level does.
-use Prim.Native.Nat.{ℕ, _<_, _+_, _-_}
+use Prim.Native.Nat.{ℕ, _+_, _-_, _<_}
 use native.Mathlib.Omega.{arith}
 use borrow.Author.Needs.{needs}
 use mathlib.Core.Path.{refl, sym, ap, _∙_}
@@ -9,7 +9,7 @@ use borrow.Fn.Kinds.{In, Out}
 use borrow.Fn.PlainCycle.{Measures, is, falls, and}
 use Rattle.dataset.specs.declared.Cursor.{Cursor}
 use Rattle.dataset.specs.Header.{moved, elementAt, itemAt}
-use Rattle.dataset.specs.Reading.{elementsAt, itemsAt, valueAt}
+use Rattle.dataset.specs.Reading.{elementsAt, itemsAt, valueRun}
 use Rattle.dataset.proofs.Level as level
 use Rattle.dataset.proofs.Levels.{sequence-level}
 use Rattle.dataset.proofs.read_item.Reads as read-item
@@ -51,7 +51,7 @@ sequence-below t = and 2 read-sequence-kinds.ps (falls 2 read-sequence-kinds.ps 
 
 abbrev item-inv : item-lts.InvT-loop
 item-inv s levels rows₀ first here₀ n₀ least₀ rows here n least =
-    level.Along (λ a l. elementAt s (moved here₀ a) l levels) (valueAt levels s) (8 - levels) (elementsAt levels s first here₀) here₀ first rows₀ rows here n least
+    level.Along (λ a l. elementAt s (moved here₀ a) l levels) (valueRun levels s) (8 - levels) (elementsAt levels s first here₀) here₀ first rows₀ rows here n least
 
 abbrev item-μ : item-lts.MeasureT-loop
 item-μ s levels rows₀ first here₀ n₀ least₀ rows here n least = bytes-left here

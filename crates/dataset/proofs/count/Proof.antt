@@ -5,9 +5,6 @@ use Rattle.dataset.proofs.Promised.{promised}
 use borrow.Author.Needs.{needs}
 use Rattle.dataset.proofs.count.Statement.{statement}
 use Rattle.dataset.proofs.count.Tie as tie
-use Rattle.dataset.proofs.count.Reads as reads
-use Rattle.dataset.proofs.count.Lts as lts
-use Rattle.dataset.proofs.read_item.Reads as read-item-reads
 
 returns : tie.Need-returns
 returns c = promised (whole.uncounted (c .before .before .args .bytes .now) (c .if1 .taken))

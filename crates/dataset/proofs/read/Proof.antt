@@ -5,53 +5,40 @@ use lib.ListN.{length}
 use mathlib.Core.List.{List}
 use Prim.Native.Nat.{ℕ}
 use Rattle.dataset.specs.Reading.{elementsAt}
-use Rattle.dataset.specs.Walk.{Walked}
+use Rattle.dataset.specs.Contracts.{Walked}
 use Rattle.dataset.proofs.Level as level
 use Rattle.dataset.proofs.Whole as whole
 use borrow.Author.Needs.{needs}
 use Rattle.dataset.proofs.read.Statement.{statement}
 use Rattle.dataset.proofs.read.Tie as tie
-use Rattle.dataset.proofs.read.Reads as reads
-use Rattle.dataset.proofs.read.Lts as lts
-use Rattle.dataset.proofs.read_item.Reads as read-item-reads
 
--- src/lib.rt:444:9
 returns : tie.Need-returns
 returns c = whole.too-large (c .before .before .before .args .bytes .now) (c .before .before .before .args .rows .now) (c .if1 .taken)
 
--- src/lib.rt:452:39
 mul-read-item : tie.Need-mul-read-item
 mul-read-item c = search needs
 
--- src/lib.rt:452:39
 sub-read-item : tie.Need-sub-read-item
 sub-read-item c = search needs
 
--- src/lib.rt:452:39
 part-read-item-start : tie.Need-part-read-item-start
 part-read-item-start c = search needs
 
--- src/lib.rt:452:39
 part-read-item-end : tie.Need-part-read-item-end
 part-read-item-end c = search needs
 
--- src/lib.rt:452:11
 read-item-requires : tie.Need-read-item-requires
 read-item-requires c κs = search needs
 
--- src/lib.rt:453:23
 enum-known-code : tie.Need-enum-known-code
 enum-known-code c = search needs
 
--- src/lib.rt:454:26
 enum-known-n : tie.Need-enum-known-n
 enum-known-n c = search needs
 
--- src/lib.rt:456:17
 same-length : tie.Need-same-length
 same-length c = search needs
 
--- src/lib.rt:456:17
 returns-2 : tie.Need-returns-2
 returns-2 c =
     let a = c .before .before .before .before .before .before .before .before .before .before .before .args in
@@ -60,15 +47,12 @@ returns-2 c =
     let x = whole.no-room (a .bytes .now) (a .rows .now) (c .before .before .before .before .before .before .before .before .if1 .left) (level.walked (c .before .before .n .given .1) (call .ensures)) (omega (arith, c .if2 .taken, ap (λ (l : List ℕ). length l) e)) in
     (x .0, e ∙ x .1)
 
--- src/lib.rt:458:13
 read-item-requires-2 : tie.Need-read-item-requires-2
 read-item-requires-2 c κs = search needs
 
--- src/lib.rt:439:1
 same-length-2 : tie.Need-same-length-2
 same-length-2 c = search needs
 
--- src/lib.rt:439:1
 returns-3 : tie.Need-returns-3
 returns-3 c =
     let a = c .before .before .before .before .before .before .before .before .before .before .args in
@@ -77,11 +61,9 @@ returns-3 c =
     let x = whole.refusal (a .bytes .now) (a .rows .now) (c .before .before .before .before .before .before .before .if1 .left) (level.walked (c .before .code .given .1) (call .ensures)) in
     (x .0, e ∙ x .1)
 
--- src/lib.rt:439:1
 same-length-3 : tie.Need-same-length-3
 same-length-3 c = search needs
 
--- src/lib.rt:439:1
 returns-4 : tie.Need-returns-4
 returns-4 c =
     let a = c .before .before .before .before .before .before .before .before .before .before .before .before .before .before .before .args in

@@ -1,94 +1,77 @@
+-- Each turn reads one element as the definition does, writes its row and leaves fewer bytes; at a sequence the walk is given up.
 use Prim.Native.Nat.{_-_}
 use native.Mathlib.Omega.{arith}
 use borrow.Author.Needs.{needs}
 use mathlib.Core.Path.{refl, ap}
 use Rattle.dataset.specs.declared.Cursor.{Cursor}
 use Rattle.dataset.specs.Header.{moved, elementAt}
-use Rattle.dataset.specs.Reading.{elementsAt, valueAt}
+use Rattle.dataset.specs.Reading.{elementsAt, valueRun}
 use Rattle.dataset.proofs.Level as level
 use Rattle.dataset.proofs.read_leaf.Statement.{statement}
 use Rattle.dataset.proofs.read_leaf.Tie as tie
-use Rattle.dataset.proofs.read_leaf.Reads as reads
-use Rattle.dataset.proofs.read_leaf.Lts as lts
-use Rattle.dataset.proofs.Cursor.element.Reads as element-reads
-use Rattle.dataset.proofs.Cursor.moved.Reads as moved-reads
-use Rattle.dataset.proofs.put_row.Reads as put-row-reads
 
 abbrev Inv-loop : tie.InvT-loop
 Inv-loop s levels rows₀ first here₀ n₀ least₀ rows here n least =
-    level.Along (λ a l. elementAt s (moved here₀ a) l levels) (valueAt levels s) (8 - levels) (elementsAt levels s first here₀) here₀ first rows₀ rows here n least
+    level.Along (λ a l. elementAt s (moved here₀ a) l levels) (valueRun levels s) (8 - levels) (elementsAt levels s first here₀) here₀ first rows₀ rows here n least
 
 abbrev μ-loop : tie.MeasureT-loop
 μ-loop s levels rows₀ first here₀ n₀ least₀ rows here n least =
     here .end - here .at
 
--- src/lib.rt:384:5
 loop-holds : tie.Need-loop-holds Inv-loop μ-loop
 loop-holds c =
     (refl, level.started _ _ _ _ (c .before .before .args .c) _ _ (c .before .before .args .s .now) (c .before .before .pre .start) (c .before .before .pre .stop) refl)
 
--- src/lib.rt:386:15
 element-requires : tie.Need-element-requires Inv-loop μ-loop
 element-requires c κs =
     omega (arith, c .loop .inv .1 .high, ap (λ (x : Cursor). x .end) (c .loop .inv .0), c .before .before .before .pre .stop)
 
--- src/lib.rt:387:27
 enum-known-code : tie.Need-enum-known-code Inv-loop μ-loop
 enum-known-code c =
     search needs
 
--- src/lib.rt:388:17
 same-length : tie.Need-same-length Inv-loop μ-loop
 same-length c =
     c .before .before .before .before .loop .inv .1 .kept
 
--- src/lib.rt:388:17
 returns : tie.Need-returns Inv-loop μ-loop
 returns c =
     let a = c .before .before .before .before .before .before .before .args in
     let there = level.stands (a .c) (c .before .before .before .before .loop .here) (λ (x : Cursor). elementAt (a .s .now) x (c .before .before .before .before .loop .least) (a .levels)) (c .before .before .before .before .loop .inv .0) (c .before .before .before .element .ensures) (c .before .code .given .1) in
     level.refuses _ _ _ _ (a .c) _ _ (c .before .before .before .before .loop .inv .1) (there .0) (there .1)
 
--- src/lib.rt:390:23
 enum-known-next : tie.Need-enum-known-next Inv-loop μ-loop
 enum-known-next c =
     search needs
 
--- src/lib.rt:391:17
 same-length-2 : tie.Need-same-length-2 Inv-loop μ-loop
 same-length-2 c =
     c .before .before .before .before .loop .inv .1 .kept
 
--- src/lib.rt:391:17
 returns-2 : tie.Need-returns-2 Inv-loop μ-loop
 returns-2 c =
     let a = c .before .before .before .before .before .before .before .args in
     let there = level.stands (a .c) (c .before .before .before .before .loop .here) (λ (x : Cursor). elementAt (a .s .now) x (c .before .before .before .before .loop .least) (a .levels)) (c .before .before .before .before .loop .inv .0) (c .before .before .before .element .ensures) (c .before .next .given .1) in
     level.ended _ _ _ _ (a .c) _ _ (c .before .before .before .before .loop .inv .1) (there .0) (there .1 .0) (there .1 .1)
 
--- src/lib.rt:393:26
 enum-known-tag : tie.Need-enum-known-tag Inv-loop μ-loop
 enum-known-tag c =
     search needs
 
--- src/lib.rt:395:21
 same-length-3 : tie.Need-same-length-3 Inv-loop μ-loop
 same-length-3 c =
     c .before .before .before .before .before .loop .inv .1 .kept
 
--- src/lib.rt:395:21
 returns-3 : tie.Need-returns-3 Inv-loop μ-loop
 returns-3 c =
     level.given-up _ _ _ _ (c .before .before .before .before .before .before .before .before .args .c) _ _ (c .before .before .before .before .before .loop .inv .1)
 
--- src/lib.rt:399:64
 add-put-row : tie.Need-add-put-row Inv-loop μ-loop
 add-put-row c =
     let a = c .before .before .before .before .before .before .before .before .before .args in
     let there = level.stands (a .c) (c .before .before .before .before .before .before .loop .here) (λ (x : Cursor). elementAt (a .s .now) x (c .before .before .before .before .before .before .loop .least) (a .levels)) (c .before .before .before .before .before .before .loop .inv .0) (c .before .before .before .before .before .element .ensures) (c .before .before .before .tag .given .1) in
     omega (arith, c .before .before .before .before .before .before .loop .inv .1 .count, c .before .before .before .before .before .before .loop .inv .1 .few, there .1, c .before .before .before .before .before .before .before .before .before .pre, c .before .before .before .before .before .before .before .before .before .good)
 
--- src/lib.rt:399:17
 put-row-requires : tie.Need-put-row-requires Inv-loop μ-loop
 put-row-requires c κs =
     let a = c .before .before .before .before .before .before .before .before .before .args in
@@ -97,33 +80,28 @@ put-row-requires c κs =
       λ h. omega (arith, c .before .before .before .before .before .before .loop .inv .1 .count, c .before .before .before .before .before .before .loop .inv .1 .few, there .1, c .before .before .before .before .before .before .before .before .before .pre, c .before .before .before .before .before .before .before .before .before .pre .small (omega (arith, h, c .before .before .before .before .before .before .loop .inv .1 .kept))),
     )
 
--- src/lib.rt:400:17
 moved-requires : tie.Need-moved-requires Inv-loop μ-loop
 moved-requires c κs =
     search needs
 
--- src/lib.rt:401:21
 add-n : tie.Need-add-n Inv-loop μ-loop
 add-n c =
     let a = c .before .before .before .before .before .before .before .before .before .before .before .before .before .args in
     let there = level.stands (a .c) (c .before .before .before .before .before .before .before .before .before .before .loop .here) (λ (x : Cursor). elementAt (a .s .now) x (c .before .before .before .before .before .before .before .before .before .before .loop .least) (a .levels)) (c .before .before .before .before .before .before .before .before .before .before .loop .inv .0) (c .before .before .before .before .before .before .before .before .before .element .ensures) (c .before .before .before .before .before .before .before .tag .given .1) in
     omega (arith, c .before .before .before .before .before .before .before .before .before .before .loop .inv .1 .count, c .before .before .before .before .before .before .before .before .before .before .loop .inv .1 .few, there .1, c .before .before .before .before .before .before .before .before .before .before .before .before .before .pre, c .before .before .before .before .before .before .before .before .before .before .before .before .before .good)
 
--- src/lib.rt:402:25
 add-least : tie.Need-add-least Inv-loop μ-loop
 add-least c =
     let a = c .before .before .before .before .before .before .before .before .before .before .before .before .before .args in
     let there = level.stands (a .c) (c .before .before .before .before .before .before .before .before .before .before .loop .here) (λ (x : Cursor). elementAt (a .s .now) x (c .before .before .before .before .before .before .before .before .before .before .loop .least) (a .levels)) (c .before .before .before .before .before .before .before .before .before .before .loop .inv .0) (c .before .before .before .before .before .before .before .before .before .element .ensures) (c .before .before .before .before .before .before .before .tag .given .1) in
     omega (arith, there .1)
 
--- src/lib.rt:384:5
 loop-less : tie.Need-loop-less Inv-loop μ-loop
 loop-less c =
     let a = c .before .before .before .before .before .before .before .before .before .before .before .before .before .args in
     let there = level.stands (a .c) (c .before .before .before .before .before .before .before .before .before .before .loop .here) (λ (x : Cursor). elementAt (a .s .now) x (c .before .before .before .before .before .before .before .before .before .before .loop .least) (a .levels)) (c .before .before .before .before .before .before .before .before .before .before .loop .inv .0) (c .before .before .before .before .before .before .before .before .before .element .ensures) (c .before .before .before .before .before .before .before .tag .given .1) in
     omega (arith, there .1, c .before .before .before .before .before .before .before .before .before .before .loop .inv .1 .high, ap (λ (x : Cursor). x .end) (c .moved .ensures), ap (λ (x : Cursor). x .at) (c .moved .ensures), ap (λ (x : Cursor). x .end) (c .before .before .before .before .before .before .before .before .before .before .loop .inv .0))
 
--- src/lib.rt:384:5
 loop-again : tie.Need-loop-again Inv-loop μ-loop
 loop-again c =
     let a = c .before .before .before .before .before .before .before .before .before .before .before .before .before .args in

@@ -1,4 +1,5 @@
-use mathlib.Core.Path.{_≡_, refl, sym, ap, _∙_, subst}
+-- The item gives a mask, as is asked, so once its mask frames are found its moves are there.
+use mathlib.Core.Path.{ap}
 use Rattle.display.proofs.Answering as plan
 use Rattle.steps.proofs.Laws as steps-laws
 use Rattle.node.proofs.Laws as node-laws
@@ -7,29 +8,21 @@ use mathlib.Core.List.{List}
 use mathlib.Core.Option.{Option, some}
 use Prim.Native.Nat.{ℕ}
 use Rattle.steps.specs.Given.{then}
-use Rattle.steps.specs.Steps.{Mask, movesFor, masked as maskOf}
-use Rattle.steps.specs.Said.{framesIn}
+use Rattle.steps.specs.Steps.{movesFor, masked as maskOf}
+use Rattle.steps.specs.Contracts.{framesIn}
 use borrow.Author.Needs.{needs}
 use Rattle.display.proofs.average_by.Statement.{statement}
 use Rattle.display.proofs.average_by.Tie as tie
-use Rattle.display.proofs.average_by.Reads as reads
-use Rattle.display.proofs.average_by.Lts as lts
-use Rattle.display.proofs.moves_for.Reads as moves-for-reads
-use Rattle.steps.proofs.average_element.Reads as average-element-reads
 
--- src/lib.rt:74:11
 average-element-requires : tie.Need-average-element-requires
 average-element-requires c κs = search needs
 
--- src/lib.rt:75:23
 enum-told : tie.Need-enum-told
 enum-told c = search needs
 
--- src/lib.rt:76:17
 enum-known-k : tie.Need-enum-known-k
 enum-known-k c = search needs
 
--- src/lib.rt:76:43
 moves-for-requires : tie.Need-moves-for-requires
 moves-for-requires c κs =
     let ns = nodesOf (c .before .before .before .before .before .before .args .bytes .now) in
@@ -37,13 +30,11 @@ moves-for-requires c κs =
     let p = c .before .before .before .before .before .before .pre in
     (p .0, (p .1 .0, (p .1 .1 .0, (p .1 .1 .1 .0, (plan.gives-moves (c .before .before .before .before .before .before .args .n) _ (movesFor ns (c .before .before .before .before .before .before .args .frame) (c .before .before .before .before .before .before .args .j)) (plan.gives-same (c .before .before .before .before .before .before .args .n) _ _ (ap (λ (o : Option (List ℕ)). then o (λ ks. then (movesFor ns (c .before .before .before .before .before .before .args .frame) (c .before .before .before .before .before .before .args .j)) (λ m. some (maskOf ks m)))) e) (p .1 .1 .1 .1 .0)), p .1 .1 .1 .1 .1)))))
 
--- src/lib.rt:69:1
 returns : tie.Need-returns
 returns c =
     let ns = nodesOf (c .before .before .before .before .before .args .bytes .now) in
     (rw (steps-laws.said (framesIn ns) (c .enum-told .given .1) (c .before .before .average-element .ensures .0)), tt)
 
--- src/lib.rt:69:1
 returns-2 : tie.Need-returns-2
 returns-2 c =
     let ns = nodesOf (c .before .before .before .before .before .before .before .args .bytes .now) in

@@ -1,9 +1,8 @@
-use mathlib.Core.Path.{_≡_, refl, sym, ap, _∙_, subst}
+use mathlib.Core.Path.{_∙_}
 use native.Mathlib.Omega.{arith}
-use lib.ListN.{length}
 use Rattle.node.specs.Nodes.{nodesOf}
 use Rattle.element.specs.Elements.{valueAt}
-use Rattle.display.specs.Planned.{IsObject}
+use Rattle.display.specs.Contracts.{IsObject}
 use Rattle.display.proofs.Draws.{painted-shows}
 use Rattle.display.proofs.Scenes as scenes
 use borrow.Author.Needs.{needs}

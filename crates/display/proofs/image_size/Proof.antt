@@ -1,12 +1,9 @@
+-- Two numbers of a US have a product that fits; one that lacks counts as 0.
 use native.Mathlib.Omega.{arith}
 use Rattle.display.proofs.Answers as answers
 use borrow.Author.Needs.{needs}
 use Rattle.display.proofs.image_size.Statement.{statement}
 use Rattle.display.proofs.image_size.Tie as tie
-use Rattle.display.proofs.image_size.Reads as reads
-use Rattle.display.proofs.image_size.Lts as lts
-use Rattle.display.proofs.number_of.Reads as number-of-reads
-use Rattle.element.proofs.us_root.Reads as us-root-reads
 
 us-root-requires : tie.Need-us-root-requires
 us-root-requires c κs = search needs

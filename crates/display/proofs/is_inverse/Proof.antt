@@ -1,41 +1,32 @@
-use mathlib.Core.Path.{_≡_, refl, sym, ap, _∙_, subst}
+-- The step has an answer, as is asked, so the last arm is never reached.
+use mathlib.Core.Path.{sym, _∙_}
 use Rattle.steps.proofs.Laws as steps-laws
 use Rattle.display.proofs.Given.{never}
-use Rattle.steps.specs.Said.{inverseSaid}
+use Rattle.steps.specs.Contracts.{inverseSaid}
 use borrow.Author.Needs.{needs}
 use Rattle.display.proofs.is_inverse.Statement.{statement}
 use Rattle.display.proofs.is_inverse.Tie as tie
-use Rattle.display.proofs.is_inverse.Reads as reads
-use Rattle.display.proofs.is_inverse.Lts as lts
-use Rattle.steps.proofs.inverse_of.Reads as inverse-of-reads
 
--- src/lib.rt:192:11
 inverse-of-requires : tie.Need-inverse-of-requires
 inverse-of-requires c κs = search needs
 
--- src/lib.rt:193:25
 enum-told : tie.Need-enum-told
 enum-told c = search needs
 
--- src/lib.rt:194:24
 enum-told-2 : tie.Need-enum-told-2
 enum-told-2 c = search needs
 
--- src/lib.rt:195:27
 enum-told-3 : tie.Need-enum-told-3
 enum-told-3 c = search needs
 
--- src/lib.rt:188:1
 returns : tie.Need-returns
 returns c =
     steps-laws.said inverseSaid (c .enum-told .given .1) (c .before .before .inverse-of .ensures)
 
--- src/lib.rt:188:1
 returns-2 : tie.Need-returns-2
 returns-2 c =
     steps-laws.said inverseSaid (c .enum-told2 .given .1) (c .before .before .inverse-of .ensures)
 
--- src/lib.rt:188:1
 returns-3 : tie.Need-returns-3
 returns-3 c =
     absurd (never (sym (steps-laws.said inverseSaid (c .enum-told3 .given .1) (c .before .before .inverse-of .ensures)) ∙ c .before .before .before .before .before .pre .1 .is))

@@ -1,75 +1,57 @@
-use mathlib.Core.Path.{_≡_, refl, sym, ap, _∙_, subst}
+-- The three words are tried in the order of the definition, and any other lacks.
+use mathlib.Core.Path.{refl}
 use Rattle.display.proofs.Answering as plan
-use Rattle.node.specs.Nodes.{nodesOf}
-use mathlib.Core.Bool.{Bool}
 use Rattle.steps.specs.Steps.{maskBy}
 use borrow.Author.Needs.{needs}
 use Rattle.display.proofs.mask_by.Statement.{statement}
 use Rattle.display.proofs.mask_by.Tie as tie
-use Rattle.display.proofs.mask_by.Reads as reads
-use Rattle.display.proofs.mask_by.Lts as lts
-use Rattle.display.proofs.average_by.Reads as average-by-reads
-use Rattle.display.proofs.tid_by.Reads as tid-by-reads
-use Rattle.element.proofs.cs_item.Reads as cs-item-reads
 use Rattle.element.specs.Frames.{operationIs}
 
--- src/lib.rt:99:63
 slice-aggregate-cs-item : tie.Need-slice-aggregate-cs-item
 slice-aggregate-cs-item c = search needs
 
--- src/lib.rt:99:8
 cs-item-requires : tie.Need-cs-item-requires
 cs-item-requires c κs = search needs
 
--- src/lib.rt:102:67
 slice-aggregate-cs-item-2 : tie.Need-slice-aggregate-cs-item-2
 slice-aggregate-cs-item-2 c = search needs
 
--- src/lib.rt:102:12
 cs-item-requires-2 : tie.Need-cs-item-requires-2
 cs-item-requires-2 c κs = search needs
 
--- src/lib.rt:103:13
 average-by-requires : tie.Need-average-by-requires
 unfolding maskBy operationIs
 average-by-requires c κs =
     let p = c .before .before .before .before .before .before .before .before .pre in
     (p .0, (p .1 .0, (p .1 .1 .0, (p .1 .1 .1 .0, (plan.gives-same (c .before .before .before .before .before .before .before .before .args .n) _ _ (rw (← c .before .before .before .before .cs-item .ensures, c .before .before .before .if1 .left, ← c .before .cs-item2 .ensures, c .if2 .taken) refl) (p .1 .1 .1 .1 .1 .0), p .1 .1 .1 .1 .1 .1)))))
 
--- src/lib.rt:105:71
 slice-aggregate-cs-item-3 : tie.Need-slice-aggregate-cs-item-3
 slice-aggregate-cs-item-3 c = search needs
 
--- src/lib.rt:105:16
 cs-item-requires-3 : tie.Need-cs-item-requires-3
 cs-item-requires-3 c κs = search needs
 
--- src/lib.rt:106:17
 tid-by-requires : tie.Need-tid-by-requires
 unfolding maskBy operationIs
 tid-by-requires c κs =
     let p = c .before .before .before .before .before .before .before .before .before .before .before .pre in
     (p .0, (p .1 .0, (p .1 .1 .0, (p .1 .1 .1 .0, (p .1 .1 .1 .1 .0, (plan.gives-same (c .before .before .before .before .before .before .before .before .before .before .before .args .n) _ _ (rw (← c .before .before .before .before .before .before .before .cs-item .ensures, c .before .before .before .before .before .before .if1 .left, ← c .before .before .before .before .cs-item2 .ensures, c .before .before .before .if2 .left, ← c .before .cs-item3 .ensures, c .if3 .taken) refl) (p .1 .1 .1 .1 .1 .0), p .1 .1 .1 .1 .1 .1))))))
 
--- src/lib.rt:94:1
 returns : tie.Need-returns
 unfolding maskBy operationIs
 returns c =
     (rw (← c .before .cs-item .ensures, c .if1 .taken), tt)
 
--- src/lib.rt:94:1
 returns-2 : tie.Need-returns-2
 unfolding maskBy operationIs
 returns-2 c =
     (rw (← c .before .before .before .before .before .cs-item .ensures, c .before .before .before .before .if1 .left, ← c .before .before .cs-item2 .ensures, c .before .if2 .taken) (c .average-by .ensures .0), c .average-by .ensures .1)
 
--- src/lib.rt:94:1
 returns-3 : tie.Need-returns-3
 unfolding maskBy operationIs
 returns-3 c =
     (rw (← c .before .before .before .before .before .before .before .before .cs-item .ensures, c .before .before .before .before .before .before .before .if1 .left, ← c .before .before .before .before .before .cs-item2 .ensures, c .before .before .before .before .if2 .left, ← c .before .before .cs-item3 .ensures, c .before .if3 .taken) (c .tid-by .ensures .0), c .tid-by .ensures .1)
 
--- src/lib.rt:94:1
 returns-4 : tie.Need-returns-4
 unfolding maskBy operationIs
 returns-4 c =

@@ -1,11 +1,11 @@
-use mathlib.Core.Path.{_≡_, refl, sym, ap, _∙_, subst}
+use mathlib.Core.Path.{refl, ap, _∙_, subst}
 use Rattle.display.proofs.Answering as plan
 use Rattle.node.specs.Nodes.{nodesOf}
 use lib.ListN.{length}
 use mathlib.Core.Option.{some}
 use Rattle.steps.specs.declared.Applying.{Applying}
 use Rattle.steps.specs.Steps.{maskBy, maskFor}
-use Rattle.display.specs.Said.{ApplyingBelow, SharedBy}
+use Rattle.display.specs.Contracts.{ApplyingBelow, SharedBy}
 use borrow.Author.Needs.{needs}
 use Rattle.display.proofs.mask_on.Statement.{statement}
 use Rattle.display.proofs.mask_on.Tie as tie

@@ -1,44 +1,33 @@
+-- The step has moves, as is asked, so the arm without a shift is never reached.
 use mathlib.Core.Option.{some}
-use mathlib.Core.Path.{_≡_, refl, sym, ap, _∙_, subst}
+use mathlib.Core.Path.{sym, ap, _∙_}
 use Rattle.display.proofs.Answering as plan
 use Rattle.steps.proofs.Laws as steps-laws
 use Rattle.node.specs.Nodes.{nodesOf}
-use Rattle.steps.specs.Said.{shiftsOf}
+use Rattle.steps.specs.Contracts.{shiftsOf}
 use borrow.Author.Needs.{needs}
 use Rattle.display.proofs.moves_for.Statement.{statement}
 use Rattle.display.proofs.moves_for.Tie as tie
-use Rattle.display.proofs.moves_for.Reads as reads
-use Rattle.display.proofs.moves_for.Lts as lts
-use Rattle.display.proofs.no_moves.Reads as no-moves-reads
-use Rattle.shift.proofs.short_moves_of.Reads as short-moves-of-reads
-use Rattle.steps.proofs.shift_by.Reads as shift-by-reads
 
--- src/lib.rt:62:11
 shift-by-requires : tie.Need-shift-by-requires
 shift-by-requires c κs = search needs
 
--- src/lib.rt:63:20
 enum-known-s : tie.Need-enum-known-s
 enum-known-s c = search needs
 
--- src/lib.rt:63:26
 short-moves-of-requires : tie.Need-short-moves-of-requires
 short-moves-of-requires c κs = search needs
 
--- src/lib.rt:64:26
 enum-told : tie.Need-enum-told
 enum-told c = search needs
 
--- src/lib.rt:64:26
 no-moves-requires : tie.Need-no-moves-requires
 no-moves-requires c κs = search needs
 
--- src/lib.rt:58:1
 returns : tie.Need-returns
 returns c =
     plan.moves-are (nodesOf (c .before .before .before .before .before .before .before .args .bytes .now)) (c .before .before .before .before .before .before .before .args .frame) (c .before .before .before .before .before .before .before .args .j) (c .before .before .s .given .0 .0) (steps-laws.said shiftsOf (c .before .before .s .given .1) (c .before .before .before .before .shift-by .ensures)) (c .before .before .before .before .before .before .before .pre .1 .1 .1 .1 .0) ∙ ap some (sym (c .short-moves-of .ensures .0))
 
--- src/lib.rt:58:1
 returns-2 : tie.Need-returns-2
 returns-2 c =
     absurd (plan.moves-none (nodesOf (c .before .before .before .before .before .before .args .bytes .now)) (c .before .before .before .before .before .before .args .frame) (c .before .before .before .before .before .before .args .j) (steps-laws.said shiftsOf (c .before .enum-told .given .1) (c .before .before .before .shift-by .ensures)) (c .before .before .before .before .before .before .pre .1 .1 .1 .1 .0))

@@ -1,11 +1,10 @@
+-- A number is handed on with its bound; one that lacks counts as 0.
 use mathlib.Core.Path.{sym, ap}
 use Rattle.node.proofs.Laws as node-laws
 use Rattle.conformance.specs.Judging.{numberOf}
 use borrow.Author.Needs.{needs}
 use Rattle.display.proofs.number_of.Statement.{statement}
 use Rattle.display.proofs.number_of.Tie as tie
-use Rattle.display.proofs.number_of.Reads as reads
-use Rattle.display.proofs.number_of.Lts as lts
 
 enum-known-n : tie.Need-enum-known-n
 enum-known-n c = search needs

@@ -1,105 +1,78 @@
-use mathlib.Core.Path.{_≡_, refl, sym, ap, _∙_, subst}
+use mathlib.Core.Path.{refl, subst}
 use Rattle.node.specs.Nodes.{nodesOf}
-use mathlib.Core.List.{List, [], _∷_}
-use Prim.Native.Nat.{ℕ}
 use Rattle.element.specs.Elements.{valueAt}
-use Rattle.pixel.specs.Said.{Ready, MaskedReady, Masks}
 use Rattle.display.specs.declared.Masking.{Masking}
-use Rattle.display.specs.Said.{MasksReady, isMasked, shadeBy}
+use Rattle.display.specs.Contracts.{MasksReady}
 use Rattle.display.proofs.Paints.{pair-values, pair-masks}
 use borrow.Author.Needs.{needs}
 use Rattle.display.proofs.paint.Statement.{statement}
 use Rattle.display.proofs.paint.Tie as tie
-use Rattle.display.proofs.paint.Reads as reads
-use Rattle.display.proofs.paint.Lts as lts
-use Rattle.node.proofs.value.Reads as value-reads
-use Rattle.pixel.proofs.paint_masked.Reads as paint-masked-reads
-use Rattle.pixel.proofs.paint_native.Reads as paint-native-reads
 
--- src/lib.rt:152:9
 value-requires : tie.Need-value-requires
 value-requires c κs = search needs
 
--- src/lib.rt:155:58
 enum-told : tie.Need-enum-told
 enum-told c = search needs
 
--- src/lib.rt:155:13
 paint-native-requires : tie.Need-paint-native-requires
 paint-native-requires c κs =
     rw (c .before .before .before .value .ensures) (c .before .before .before .before .before .before .before .before .pre .1 .1 .0)
 
--- src/lib.rt:158:26
 enum-known-masking : tie.Need-enum-known-masking
 enum-known-masking c = search needs
 
--- src/lib.rt:159:51
 value-requires-2 : tie.Need-value-requires-2
 value-requires-2 c κs =
     let r = subst (λ (x : Masking). MasksReady (nodesOf (c .before .before .before .before .before .before .before .before .args .bytes .now)) (valueAt (nodesOf (c .before .before .before .before .before .before .before .before .args .bytes .now)) (c .before .before .before .before .before .before .before .before .args .p)) (c .before .before .before .before .before .before .before .before .args .g) x) (c .before .masking .given .1) (c .before .before .before .before .before .before .before .before .pre .1 .1 .1) in
     (c .before .before .before .before .before .before .before .before .pre .0, r .0)
 
--- src/lib.rt:159:13
 paint-masked-requires : tie.Need-paint-masked-requires
 paint-masked-requires c κs =
     let r = subst (λ (x : Masking). MasksReady (nodesOf (c .before .before .before .before .before .before .before .before .before .before .args .bytes .now)) (valueAt (nodesOf (c .before .before .before .before .before .before .before .before .before .before .args .bytes .now)) (c .before .before .before .before .before .before .before .before .before .before .args .p)) (c .before .before .before .before .before .before .before .before .before .before .args .g) x) (c .before .before .before .masking .given .1) (c .before .before .before .before .before .before .before .before .before .before .pre .1 .1 .1) in
     rw (c .before .before .before .before .before .value .ensures, c .before .value2 .ensures) (record { ready = c .before .before .before .before .before .before .before .before .before .before .pre .1 .1 .0; taken = r .1 .0; short = r .1 .1 })
 
--- src/lib.rt:162:22
 enum-known-masking-2 : tie.Need-enum-known-masking-2
 enum-known-masking-2 c = search needs
 
--- src/lib.rt:163:24
 cast-t24 : tie.Need-cast-t24
 cast-t24 c = search needs
 
--- src/lib.rt:163:41
 cast-t27 : tie.Need-cast-t27
 cast-t27 c = search needs
 
--- src/lib.rt:164:51
 slice-aggregate-paint-masked : tie.Need-slice-aggregate-paint-masked
 slice-aggregate-paint-masked c = search needs
 
--- src/lib.rt:164:13
 paint-masked-requires-2 : tie.Need-paint-masked-requires-2
 paint-masked-requires-2 c κs =
     let r = subst (λ (x : Masking). MasksReady (nodesOf (c .before .before .before .before .before .before .before .before .before .before .args .bytes .now)) (valueAt (nodesOf (c .before .before .before .before .before .before .before .before .before .before .args .bytes .now)) (c .before .before .before .before .before .before .before .before .before .before .args .p)) (c .before .before .before .before .before .before .before .before .before .before .args .g) x) (c .before .before .before .masking2 .given .1) (c .before .before .before .before .before .before .before .before .before .before .pre .1 .1 .1) in
     rw (c .before .before .before .before .before .value .ensures) (record { ready = c .before .before .before .before .before .before .before .before .before .before .pre .1 .1 .0; taken = pair-masks (valueAt (nodesOf (c .before .before .before .before .before .before .before .before .before .before .args .bytes .now)) (c .before .before .before .before .before .before .before .before .before .before .args .p)) (c .before .before .before .before .before .before .before .before .before .before .args .g) (c .before .before .before .masking2 .given .0 .0) (r .0) (r .1 .0); short = r .1 .1 })
 
--- src/lib.rt:167:27
 enum-told-2 : tie.Need-enum-told-2
 enum-told-2 c = search needs
 
--- src/lib.rt:138:1
 same-length : tie.Need-same-length
 same-length c = search needs
 
--- src/lib.rt:138:1
 returns : tie.Need-returns
 returns c =
     rw (c .before .before .before .before .enum-told .given .1, ← c .before .before .before .before .before .before .value .ensures) (refl, c .before .before .paint-native .ensures)
 
--- src/lib.rt:138:1
 same-length-2 : tie.Need-same-length-2
 same-length-2 c = search needs
 
--- src/lib.rt:138:1
 returns-2 : tie.Need-returns-2
 returns-2 c =
     rw (c .before .before .before .before .before .before .masking .given .1, ← c .before .before .before .before .before .before .before .before .value .ensures, ← c .before .before .before .before .value2 .ensures) (refl, c .before .before .paint-masked .ensures)
 
--- src/lib.rt:138:1
 same-length-3 : tie.Need-same-length-3
 same-length-3 c = search needs
 
--- src/lib.rt:138:1
 returns-3 : tie.Need-returns-3
 returns-3 c =
     let r = subst (λ (x : Masking). MasksReady (nodesOf (c .before .before .before .before .before .before .before .before .before .before .before .before .before .args .bytes .now)) (valueAt (nodesOf (c .before .before .before .before .before .before .before .before .before .before .before .before .before .args .bytes .now)) (c .before .before .before .before .before .before .before .before .before .before .before .before .before .args .p)) (c .before .before .before .before .before .before .before .before .before .before .before .before .before .args .g) x) (c .before .before .before .before .before .before .masking2 .given .1) (c .before .before .before .before .before .before .before .before .before .before .before .before .before .pre .1 .1 .1) in
     rw (c .before .before .before .before .before .before .masking2 .given .1, ← c .before .before .before .before .before .before .before .before .value .ensures, ← pair-values (c .before .before .before .before .before .before .masking2 .given .0 .0) (r .0)) (refl, c .before .before .paint-masked2 .ensures)
 
--- src/lib.rt:138:1
 returns-4 : tie.Need-returns-4
 returns-4 c =
     absurd (subst (λ (x : Masking). MasksReady (nodesOf (c .before .before .before .before .before .before .before .args .bytes .now)) (valueAt (nodesOf (c .before .before .before .before .before .before .before .args .bytes .now)) (c .before .before .before .before .before .before .before .args .p)) (c .before .before .before .before .before .before .before .args .g) x) (c .enum-told2 .given .1) (c .before .before .before .before .before .before .before .pre .1 .1 .1))

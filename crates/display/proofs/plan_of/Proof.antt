@@ -1,12 +1,10 @@
-use Rattle.node.specs.Nodes.{nodesOf}
-use Rattle.window.specs.Said.{Drawable}
-use Rattle.steps.specs.Said.{windowedOf}
+use Rattle.window.specs.Contracts.{Drawable}
+use Rattle.steps.specs.Contracts.{windowedOf}
 use Rattle.steps.proofs.Laws as steps-laws
 use Rattle.display.proofs.Given.{never}
 use Rattle.display.proofs.Whole.{same-some}
 use Rattle.display.proofs.Scenes as scenes
-use mathlib.Core.Path.{_≡_, refl, sym, ap, _∙_, subst}
-use native.Mathlib.Omega.{arith}
+use mathlib.Core.Path.{sym, _∙_, subst}
 use borrow.Author.Needs.{needs}
 use Rattle.display.proofs.plan_of.Statement.{statement}
 use Rattle.display.proofs.plan_of.Tie as tie

@@ -1,10 +1,11 @@
+-- An accepted object lacks nothing that the steps need, so the arms without it are never reached.
 use Rattle.node.specs.Nodes.{nodesOf}
 use Rattle.node.proofs.Laws as node-laws
-use Rattle.steps.specs.Said.{sizedOf}
+use Rattle.steps.specs.Contracts.{sizedOf}
 use Rattle.steps.proofs.Laws as steps-laws
 use Rattle.display.proofs.Given.{never}
 use Rattle.display.proofs.Scenes as scenes
-use mathlib.Core.Path.{_≡_, refl, sym, ap, _∙_, subst}
+use mathlib.Core.Path.{sym, _∙_}
 use native.Mathlib.Omega.{arith}
 use borrow.Author.Needs.{needs}
 use Rattle.display.proofs.scene_of.Statement.{statement}

@@ -1,9 +1,10 @@
+-- For a mask item that applies the shared group is asked; where none applies, nothing is.
 use Rattle.steps.specs.declared.Found.the-variants as found
-use mathlib.Core.Path.{_≡_, sym, subst}
+use mathlib.Core.Path.{sym, subst}
 use lib.ListN.{length}
 use Rattle.node.specs.Nodes.{nodesOf}
 use Rattle.steps.specs.declared.Applying.{Applying}
-use Rattle.display.specs.Said.{ApplyingBelow, SharedBy}
+use Rattle.display.specs.Contracts.{ApplyingBelow, SharedBy}
 use borrow.Author.Needs.{needs}
 use Rattle.display.proofs.shared_for.Statement.{statement}
 use Rattle.display.proofs.shared_for.Tie as tie

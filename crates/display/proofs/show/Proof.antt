@@ -1,3 +1,4 @@
+-- Each answer of judging leads to its own; an accepted object leaves its rows in the buffer, and the frame is drawn from them.
 use mathlib.Core.Path.{sym, ap, _∙_}
 use native.Mathlib.Omega.{arith}
 use Prim.Native.Nat.{_*_}
@@ -10,10 +11,6 @@ use Rattle.dataset.proofs.Promised.{promised}
 use borrow.Author.Needs.{needs}
 use Rattle.display.proofs.show.Statement.{statement}
 use Rattle.display.proofs.show.Tie as tie
-use Rattle.display.proofs.show.Reads as reads
-use Rattle.display.proofs.show.Lts as lts
-use Rattle.conformance.proofs.judge.Reads as judge-reads
-use Rattle.display.proofs.show_table.Reads as show-table-reads
 
 judge-requires : tie.Need-judge-requires
 judge-requires c κs = search needs

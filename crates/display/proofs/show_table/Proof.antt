@@ -1,3 +1,4 @@
+-- The tests come in the order of the definition, and nothing is written before all are passed.
 use mathlib.Core.Path.{refl}
 use native.Mathlib.Omega.{arith}
 use Rattle.node.specs.Nodes.{nodesOf}
@@ -6,11 +7,6 @@ use Rattle.display.proofs.Answers as answers
 use borrow.Author.Needs.{needs}
 use Rattle.display.proofs.show_table.Statement.{statement}
 use Rattle.display.proofs.show_table.Tie as tie
-use Rattle.display.proofs.show_table.Reads as reads
-use Rattle.display.proofs.show_table.Lts as lts
-use Rattle.display.proofs.draw.Reads as draw-reads
-use Rattle.display.proofs.image_size.Reads as image-size-reads
-use Rattle.element.proofs.frame_count.Reads as frame-count-reads
 
 frame-count-requires : tie.Need-frame-count-requires
 frame-count-requires c κs = search needs

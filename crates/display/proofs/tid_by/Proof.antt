@@ -1,38 +1,30 @@
-use mathlib.Core.Path.{_≡_, refl, sym, ap, _∙_, subst}
+-- Without a mask frame the picture is native; with one the item gives a mask, as is asked, so its moves are there.
+use mathlib.Core.Path.{ap}
 use Rattle.display.proofs.Answering as plan
 use Rattle.steps.proofs.Laws as steps-laws
 use Rattle.node.specs.Nodes.{nodesOf}
-use mathlib.Core.List.{List, [], _∷_}
-use mathlib.Core.Option.{Option, some}
+use mathlib.Core.List.{[], _∷_}
+use mathlib.Core.Option.{Option}
 use Rattle.value.specs.declared.Num.{Num}
 use Rattle.steps.specs.Given.{then}
-use Rattle.steps.specs.Steps.{Mask, movesFor, onTid, masked as maskOf}
-use Rattle.steps.specs.Said.{foundOf}
+use Rattle.steps.specs.Steps.{movesFor, onTid}
+use Rattle.steps.specs.Contracts.{foundOf}
 use borrow.Author.Needs.{needs}
 use Rattle.display.proofs.tid_by.Statement.{statement}
 use Rattle.display.proofs.tid_by.Tie as tie
-use Rattle.display.proofs.tid_by.Reads as reads
-use Rattle.display.proofs.tid_by.Lts as lts
-use Rattle.display.proofs.moves_for.Reads as moves-for-reads
-use Rattle.steps.proofs.tid_frame.Reads as tid-frame-reads
 
--- src/lib.rt:86:11
 tid-frame-requires : tie.Need-tid-frame-requires
 tid-frame-requires c κs = search needs
 
--- src/lib.rt:87:25
 enum-told : tie.Need-enum-told
 enum-told c = search needs
 
--- src/lib.rt:88:26
 enum-told-2 : tie.Need-enum-told-2
 enum-told-2 c = search needs
 
--- src/lib.rt:89:19
 enum-known-t : tie.Need-enum-known-t
 enum-known-t c = search needs
 
--- src/lib.rt:89:41
 moves-for-requires : tie.Need-moves-for-requires
 moves-for-requires c κs =
     let ns = nodesOf (c .before .before .before .before .before .before .args .bytes .now) in
@@ -40,17 +32,14 @@ moves-for-requires c κs =
     let p = c .before .before .before .before .before .before .pre in
     (p .0, (p .1 .0, (p .1 .1 .0, (p .1 .1 .1 .0, (plan.gives-moves (c .before .before .before .before .before .before .args .n) (c .before .t .given .0 .0 ∷ []) (movesFor ns (c .before .before .before .before .before .before .args .frame) (c .before .before .before .before .before .before .args .j)) (plan.gives-same (c .before .before .before .before .before .before .args .n) _ _ (ap (λ (o : Option Num). then o (onTid ns (c .before .before .before .before .before .before .args .frame) (c .before .before .before .before .before .before .args .j))) e) (p .1 .1 .1 .1 .1 .0)), p .1 .1 .1 .1 .1 .1)))))
 
--- src/lib.rt:81:1
 returns : tie.Need-returns
 returns c =
     (rw (steps-laws.said foundOf (c .enum-told .given .1) (c .before .before .tid-frame .ensures)), tt)
 
--- src/lib.rt:81:1
 returns-2 : tie.Need-returns-2
 returns-2 c =
     (rw (steps-laws.said foundOf (c .enum-told2 .given .1) (c .before .before .tid-frame .ensures)), tt)
 
--- src/lib.rt:81:1
 returns-3 : tie.Need-returns-3
 returns-3 c =
     (rw (steps-laws.said foundOf (c .before .before .t .given .1) (c .before .before .before .before .tid-frame .ensures), c .moves-for .ensures), tt)

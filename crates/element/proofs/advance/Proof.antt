@@ -1,23 +1,16 @@
-use mathlib.Core.Path.{_≡_, refl, sym, ap, _∙_}
+-- The items behind the one at hand start where it ends; an empty walk has none to drop.
 use Rattle.element.proofs.Laws as laws
-use native.Mathlib.Omega.{arith}
 use borrow.Author.Needs.{needs}
 use Rattle.element.proofs.advance.Statement.{statement}
 use Rattle.element.proofs.advance.Tie as tie
-use Rattle.element.proofs.advance.Reads as reads
-use Rattle.element.proofs.advance.Lts as lts
-use Rattle.node.proofs.next.Reads as next-reads
 
--- src/lib.rt:192:17
 next-requires : tie.Need-next-requires
 next-requires c κs = search needs
 
--- src/lib.rt:184:1
 returns : tie.Need-returns
 returns c =
     record { ahead = rw (c .next .ensures .0) (laws.rest-next _ _ _ (c .before .if1 .taken)); inner = c .before .before .before .before .pre .1 }
 
--- src/lib.rt:184:1
 returns-2 : tie.Need-returns-2
 returns-2 c =
     record { ahead = laws.rest-end _ _ _ (c .if1 .left); inner = c .before .before .before .pre .1 }

@@ -1,5 +1,6 @@
+-- Each turn passes one member, and those passed with those ahead are all that stand in the node.
 use borrow.Author.Needs.{needs}
-use mathlib.Core.Path.{_≡_, refl, sym, ap, _∙_}
+use mathlib.Core.Path.{_≡_, ap}
 use native.Mathlib.Omega.{arith}
 use mathlib.Core.List.{List}
 use Prim.Native.Nat.{ℕ, _+_, _-_, _≤_, _<_}
@@ -8,9 +9,6 @@ use Rattle.node.specs.Nodes.{nodesOf, members, inside}
 use Rattle.node.proofs.Walks.{members-end, members-next}
 use Rattle.element.proofs.count_items.Statement.{statement}
 use Rattle.element.proofs.count_items.Tie as tie
-use Rattle.element.proofs.count_items.Reads as reads
-use Rattle.element.proofs.count_items.Lts as lts
-use Rattle.node.proofs.next.Reads as next-reads
 
 abbrev Inv-loop : tie.InvT-loop
 Inv-loop bytes rows i end at₀ n₀ at n =
@@ -19,38 +17,31 @@ Inv-loop bytes rows i end at₀ n₀ at n =
 abbrev μ-loop : tie.MeasureT-loop
 μ-loop bytes rows i end at₀ n₀ at n = end - at
 
--- src/lib.rt:125:9
 next-requires : tie.Need-next-requires Inv-loop μ-loop
 next-requires c κs =
     search needs
 
--- src/lib.rt:126:18
 add-at : tie.Need-add-at Inv-loop μ-loop
 add-at c =
     omega (arith, c .before .before .before .pre .1, c .before .before .before .pre .0 .few)
 
--- src/lib.rt:128:5
 loop-holds : tie.Need-loop-holds Inv-loop μ-loop
 loop-holds c =
     let ns = nodesOf (c .before .before .before .args .bytes .now) in
     (omega (arith, ap (λ (k : ℕ). length (members ns (c .before .before .before .args .i + 1) k)) (c .next .ensures .0)), (c .next .ensures .1, omega arith))
 
--- src/lib.rt:129:9
 next-requires-2 : tie.Need-next-requires-2 Inv-loop μ-loop
 next-requires-2 c κs =
     (c .before .before .before .before .before .pre .0, omega (arith, c .loop-test .taken, c .before .loop .inv .1))
 
--- src/lib.rt:130:9
 add-n : tie.Need-add-n Inv-loop μ-loop
 add-n c =
     omega (arith, c .before .loop-test .taken, c .before .before .loop .inv .1, c .before .before .before .before .before .before .pre .0 .few)
 
--- src/lib.rt:128:5
 loop-less : tie.Need-loop-less Inv-loop μ-loop
 loop-less c =
     search needs
 
--- src/lib.rt:128:5
 loop-again : tie.Need-loop-again Inv-loop μ-loop
 loop-again c =
     let ns = nodesOf (c .before .before .before .before .before .before .args .bytes .now) in
@@ -58,7 +49,6 @@ loop-again c =
     let f = ap (λ (k : ℕ). length (members ns k (c .before .before .before .next .result))) (c .next2 .ensures .0) in
     (omega (arith, c .before .before .loop .inv .0, e, f), (c .before .before .loop .inv .1 .0, omega (arith, c .before .before .loop .inv .1 .1, c .next2 .ensures .0)))
 
--- src/lib.rt:121:1
 returns : tie.Need-returns Inv-loop μ-loop
 returns c =
     let ns = nodesOf (c .before .before .before .before .before .args .bytes .now) in

@@ -1,35 +1,28 @@
-use mathlib.Core.Path.{_≡_, refl, sym, ap, subst}
+-- Only a number without a minus counts for what it is, and it keeps its bound.
+use mathlib.Core.Path.{sym, ap, subst}
 use Rattle.value.specs.declared.Signed.{Signed}
-use Rattle.value.specs.Said.{SizeBelow}
-use Rattle.element.specs.Frames.{counted}
+use Rattle.value.specs.Contracts.{SizeBelow}
+use Rattle.element.specs.Frames.{asCount}
 use borrow.Author.Needs.{needs}
 use Rattle.element.proofs.counted.Statement.{statement}
 use Rattle.element.proofs.counted.Tie as tie
-use Rattle.element.proofs.counted.Reads as reads
-use Rattle.element.proofs.counted.Lts as lts
 
--- src/lib.rt:238:22
 enum-known-n : tie.Need-enum-known-n
 enum-known-n c = search needs
 
--- src/lib.rt:239:29
 enum-told : tie.Need-enum-told
 enum-told c = search needs
 
--- src/lib.rt:240:26
 enum-told-2 : tie.Need-enum-told-2
 enum-told-2 c = search needs
 
--- src/lib.rt:232:1
 returns : tie.Need-returns
 returns c =
-    (ap counted (sym (c .before .n .given .1)), subst (λ (x : Signed). SizeBelow 100000000000 x) (c .before .n .given .1) (c .before .before .before .pre))
+    (ap asCount (sym (c .before .n .given .1)), subst (λ (x : Signed). SizeBelow 100000000000 x) (c .before .n .given .1) (c .before .before .before .pre))
 
--- src/lib.rt:232:1
 returns-2 : tie.Need-returns-2
 returns-2 c = search needs
 
--- src/lib.rt:232:1
 returns-3 : tie.Need-returns-3
 returns-3 c = search needs
 

@@ -1,37 +1,28 @@
+-- The element that is found is the one of the tag, and both sides test its VR.
 use borrow.Author.Tests.{eq-eqb, ne-eqb}
 use Rattle.node.specs.Find.{ofVr}
 use Rattle.node.proofs.Laws as laws
 use borrow.Author.Needs.{needs}
 use Rattle.element.proofs.find_vr_item.Statement.{statement}
 use Rattle.element.proofs.find_vr_item.Tie as tie
-use Rattle.element.proofs.find_vr_item.Reads as reads
-use Rattle.element.proofs.find_vr_item.Lts as lts
-use Rattle.element.proofs.find_item.Reads as find-item-reads
-use Rattle.node.proofs.vr.Reads as vr-reads
 
--- src/lib.rt:136:11
 find-item-requires : tie.Need-find-item-requires
 find-item-requires c κs = search needs
 
--- src/lib.rt:137:23
 enum-told : tie.Need-enum-told
 enum-told c = search needs
 
--- src/lib.rt:138:17
 enum-known-i : tie.Need-enum-known-i
 enum-known-i c = search needs
 
--- src/lib.rt:139:16
 vr-requires : tie.Need-vr-requires
 vr-requires c κs =
     let start = c .before .before .before .before .before .before in
     (start .pre .0, laws.within _ (c .before .i .given .1) (c .before .before .before .find-item .ensures .1))
 
--- src/lib.rt:131:1
 returns : tie.Need-returns
 returns c = (rw (laws.lacked (c .enum-told .given .1) (c .before .before .find-item .ensures .0)), tt)
 
--- src/lib.rt:131:1
 returns-2 : tie.Need-returns-2
 unfolding ofVr
 returns-2 c =
@@ -39,7 +30,6 @@ returns-2 c =
     let found = c .before .before .before .i .given .1 in
     (rw (laws.had found (call .ensures .0), ← c .before .vr .ensures, eq-eqb _ _ (c .if1 .taken)), laws.within _ found (call .ensures .1))
 
--- src/lib.rt:131:1
 returns-3 : tie.Need-returns-3
 unfolding ofVr
 returns-3 c =

@@ -1,49 +1,35 @@
-use mathlib.Core.Path.{_≡_, refl, sym, ap, _∙_}
+-- What the search finds is read as an IS, whose bound the count keeps; where it finds nothing, both sides lack.
 use Rattle.node.proofs.Laws as node-laws
-use Rattle.element.specs.Frames.{framesOf, counted}
+use Rattle.element.specs.Frames.{framesOf, asCount}
 use borrow.Author.Needs.{needs}
 use Rattle.element.proofs.frame_count.Statement.{statement}
 use Rattle.element.proofs.frame_count.Tie as tie
-use Rattle.element.proofs.frame_count.Reads as reads
-use Rattle.element.proofs.frame_count.Lts as lts
-use Rattle.element.proofs.counted.Reads as counted-reads
-use Rattle.element.proofs.find_vr_root.Reads as find-vr-root-reads
-use Rattle.node.proofs.value.Reads as value-reads
-use Rattle.value.proofs.is_of.Reads as is-of-reads
 
--- src/lib.rt:250:11
 find-vr-root-requires : tie.Need-find-vr-root-requires
 find-vr-root-requires c κs = search needs
 
--- src/lib.rt:251:23
 enum-told : tie.Need-enum-told
 enum-told c = search needs
 
--- src/lib.rt:252:17
 enum-known-i : tie.Need-enum-known-i
 enum-known-i c = search needs
 
--- src/lib.rt:252:44
 value-requires : tie.Need-value-requires
 value-requires c κs =
     (c .before .before .before .before .before .before .pre, node-laws.within _ (c .before .i .given .1) (c .before .before .before .find-vr-root .ensures .1))
 
--- src/lib.rt:252:31
 is-of-requires : tie.Need-is-of-requires
 is-of-requires c κs = search needs
 
--- src/lib.rt:252:23
 counted-requires : tie.Need-counted-requires
 counted-requires c κs =
     c .is-of .ensures .1
 
--- src/lib.rt:245:1
 returns : tie.Need-returns
 unfolding framesOf
 returns c =
     (rw (node-laws.lacked (c .enum-told .given .1) (c .before .before .find-vr-root .ensures .0)), tt)
 
--- src/lib.rt:245:1
 returns-2 : tie.Need-returns-2
 unfolding framesOf
 returns-2 c =

@@ -1,33 +1,24 @@
+-- Both sides test the VR, and read the function from the same value.
 use borrow.Author.Tests.{eq-eqb, ne-eqb}
-use mathlib.Core.Path.{sym, ap, _∙_}
+use mathlib.Core.Path.{ap, _∙_}
 use Rattle.value.specs.Words.{functionOf}
 use borrow.Author.Needs.{needs}
 use Rattle.element.proofs.function_at.Statement.{statement}
 use Rattle.element.proofs.function_at.Tie as tie
-use Rattle.element.proofs.function_at.Reads as reads
-use Rattle.element.proofs.function_at.Lts as lts
-use Rattle.node.proofs.value.Reads as value-reads
-use Rattle.node.proofs.vr.Reads as vr-reads
-use Rattle.value.proofs.function_of.Reads as function-of-reads
 
--- src/lib.rt:252:8
 vr-requires : tie.Need-vr-requires
 vr-requires c κs = search needs
 
--- src/lib.rt:253:28
 value-requires : tie.Need-value-requires
 value-requires c κs = search needs
 
--- src/lib.rt:253:9
 function-of-requires : tie.Need-function-of-requires
 function-of-requires c κs = search needs
 
--- src/lib.rt:248:1
 returns : tie.Need-returns
 returns c =
     rw (← c .before .before .before .vr .ensures, eq-eqb _ _ (c .before .before .if1 .taken)) (c .function-of .ensures ∙ ap functionOf (c .before .value .ensures))
 
--- src/lib.rt:248:1
 returns-2 : tie.Need-returns-2
 returns-2 c =
     rw (← c .before .vr .ensures, ne-eqb _ _ (c .if1 .left))

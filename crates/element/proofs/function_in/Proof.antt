@@ -1,37 +1,28 @@
+-- Without the element the function is LINEAR; else it is the one read at the node that is found.
 use Rattle.node.proofs.Laws as node-laws
 use Rattle.element.specs.Elements.{functionIn}
 use borrow.Author.Needs.{needs}
 use Rattle.element.proofs.function_in.Statement.{statement}
 use Rattle.element.proofs.function_in.Tie as tie
-use Rattle.element.proofs.function_in.Reads as reads
-use Rattle.element.proofs.function_in.Lts as lts
-use Rattle.element.proofs.find_item.Reads as find-item-reads
-use Rattle.element.proofs.function_at.Reads as function-at-reads
 
--- src/lib.rt:264:11
 find-item-requires : tie.Need-find-item-requires
 find-item-requires c κs = search needs
 
--- src/lib.rt:265:23
 enum-told : tie.Need-enum-told
 enum-told c = search needs
 
--- src/lib.rt:266:17
 enum-known-k : tie.Need-enum-known-k
 enum-known-k c = search needs
 
--- src/lib.rt:266:23
 function-at-requires : tie.Need-function-at-requires
 function-at-requires c κs =
     (c .before .before .before .before .before .before .pre .0, node-laws.within _ (c .before .k .given .1) (c .before .before .before .find-item .ensures .1))
 
--- src/lib.rt:260:1
 returns : tie.Need-returns
 unfolding functionIn
 returns c =
     rw (node-laws.lacked (c .enum-told .given .1) (c .before .before .find-item .ensures .0))
 
--- src/lib.rt:260:1
 returns-2 : tie.Need-returns-2
 unfolding functionIn
 returns-2 c =

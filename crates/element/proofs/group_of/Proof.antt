@@ -1,34 +1,25 @@
-use mathlib.Core.Path.{_≡_, refl, sym, ap, _∙_}
+-- A group in the frame's own item is taken; only without one is the shared item searched.
 use Rattle.node.proofs.Laws as node-laws
 use borrow.Author.Needs.{needs}
 use Rattle.element.proofs.group_of.Statement.{statement}
 use Rattle.element.proofs.group_of.Tie as tie
-use Rattle.element.proofs.group_of.Reads as reads
-use Rattle.element.proofs.group_of.Lts as lts
-use Rattle.element.proofs.find_item.Reads as find-item-reads
 
--- src/lib.rt:236:11
 find-item-requires : tie.Need-find-item-requires
 find-item-requires c κs = search needs
 
--- src/lib.rt:237:17
 enum-known-g : tie.Need-enum-known-g
 enum-known-g c = search needs
 
--- src/lib.rt:238:23
 enum-told : tie.Need-enum-told
 enum-told c = search needs
 
--- src/lib.rt:238:23
 find-item-requires-2 : tie.Need-find-item-requires-2
 find-item-requires-2 c κs = search needs
 
--- src/lib.rt:231:1
 returns : tie.Need-returns
 returns c =
     (rw (node-laws.had (c .before .g .given .1) (c .before .before .before .find-item .ensures .0)), node-laws.within _ (c .before .g .given .1) (c .before .before .before .find-item .ensures .1))
 
--- src/lib.rt:231:1
 returns-2 : tie.Need-returns-2
 returns-2 c =
     (rw (node-laws.lacked (c .before .enum-told .given .1) (c .before .before .before .find-item .ensures .0)) (c .find-item2 .ensures .0), c .find-item2 .ensures .1)

@@ -1,4 +1,5 @@
-use mathlib.Core.Path.{_≡_, refl, sym, ap, _∙_}
+-- A sequence's items stand between its node and the next; an empty span has none.
+use mathlib.Core.Path.{refl}
 use Rattle.node.proofs.Laws as node-laws
 use Rattle.element.proofs.Laws as laws
 use native.Mathlib.Omega.{arith}
@@ -7,40 +8,29 @@ use Rattle.node.specs.Nodes.{nodesOf}
 use borrow.Author.Needs.{needs}
 use Rattle.element.proofs.items_root.Statement.{statement}
 use Rattle.element.proofs.items_root.Tie as tie
-use Rattle.element.proofs.items_root.Reads as reads
-use Rattle.element.proofs.items_root.Lts as lts
-use Rattle.element.proofs.find_vr_root.Reads as find-vr-root-reads
-use Rattle.node.proofs.next.Reads as next-reads
 
--- src/lib.rt:174:11
 find-vr-root-requires : tie.Need-find-vr-root-requires
 find-vr-root-requires c κs = search needs
 
--- src/lib.rt:175:23
 enum-told : tie.Need-enum-told
 enum-told c = search needs
 
--- src/lib.rt:176:17
 enum-known-i : tie.Need-enum-known-i
 enum-known-i c = search needs
 
--- src/lib.rt:177:17
 add-t7 : tie.Need-add-t7
 add-t7 c =
     omega (arith, node-laws.within _ (c .before .i .given .1) (c .before .before .before .find-vr-root .ensures .1), c .before .before .before .before .before .before .pre .few)
 
--- src/lib.rt:178:18
 next-requires : tie.Need-next-requires
 next-requires c κs =
     (c .before .before .before .before .before .before .pre, node-laws.within _ (c .before .i .given .1) (c .before .before .before .find-vr-root .ensures .1))
 
--- src/lib.rt:170:1
 returns : tie.Need-returns
 unfolding itemsIn
 returns c =
     rw (node-laws.lacked (c .enum-told .given .1) (c .before .before .find-vr-root .ensures .0)) (laws.along-none (nodesOf (c .before .before .before .before .before .args .bytes .now)))
 
--- src/lib.rt:170:1
 returns-2 : tie.Need-returns-2
 unfolding itemsIn
 returns-2 c =

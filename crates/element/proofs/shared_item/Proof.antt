@@ -1,38 +1,28 @@
-use mathlib.Core.Path.{_≡_, refl, sym, ap, _∙_}
+-- The one item is asked of the node that is found; where none is found, both sides lack.
 use Rattle.node.proofs.Laws as node-laws
 use Rattle.element.specs.Frames.{sharedItem}
 use borrow.Author.Needs.{needs}
 use Rattle.element.proofs.shared_item.Statement.{statement}
 use Rattle.element.proofs.shared_item.Tie as tie
-use Rattle.element.proofs.shared_item.Reads as reads
-use Rattle.element.proofs.shared_item.Lts as lts
-use Rattle.element.proofs.find_root.Reads as find-root-reads
-use Rattle.element.proofs.the_item.Reads as the-item-reads
 
--- src/lib.rt:208:11
 find-root-requires : tie.Need-find-root-requires
 find-root-requires c κs = search needs
 
--- src/lib.rt:209:23
 enum-told : tie.Need-enum-told
 enum-told c = search needs
 
--- src/lib.rt:210:17
 enum-known-i : tie.Need-enum-known-i
 enum-known-i c = search needs
 
--- src/lib.rt:210:23
 the-item-requires : tie.Need-the-item-requires
 the-item-requires c κs =
     (c .before .before .before .before .before .before .pre, node-laws.within _ (c .before .i .given .1) (c .before .before .before .find-root .ensures .1))
 
--- src/lib.rt:203:1
 returns : tie.Need-returns
 unfolding sharedItem
 returns c =
     (rw (node-laws.lacked (c .enum-told .given .1) (c .before .before .find-root .ensures .0)), tt)
 
--- src/lib.rt:203:1
 returns-2 : tie.Need-returns-2
 unfolding sharedItem
 returns-2 c =

@@ -1,51 +1,39 @@
-use mathlib.Core.Path.{_≡_, refl, sym, ap, _∙_}
-use Rattle.node.proofs.Laws as node-laws
+-- A sequence has one item just where its first item starts inside it and ends where it does.
+use mathlib.Core.Path.{sym, _∙_}
 use Rattle.element.proofs.Laws as laws
 use native.Mathlib.Omega.{arith}
 use Rattle.node.specs.Nodes.{nodesOf}
 use borrow.Author.Needs.{needs}
 use Rattle.element.proofs.the_item.Statement.{statement}
 use Rattle.element.proofs.the_item.Tie as tie
-use Rattle.element.proofs.the_item.Reads as reads
-use Rattle.element.proofs.the_item.Lts as lts
-use Rattle.node.proofs.next.Reads as next-reads
-use Rattle.node.proofs.vr.Reads as vr-reads
 
--- src/lib.rt:141:8
 vr-requires : tie.Need-vr-requires
 vr-requires c κs = search needs
 
--- src/lib.rt:142:13
 next-requires : tie.Need-next-requires
 next-requires c κs = search needs
 
--- src/lib.rt:143:21
 add-first : tie.Need-add-first
 add-first c = search needs
 
--- src/lib.rt:145:16
 next-requires-2 : tie.Need-next-requires-2
 next-requires-2 c κs = search needs
 
--- src/lib.rt:136:1
 returns : tie.Need-returns
 returns c =
     let q = sym (c .before .before .before .before .before .vr .ensures) ∙ c .before .before .before .before .if1 .taken in
     (sym (laws.one-item-many (nodesOf (c .before .before .before .before .before .before .before .before .args .bytes .now)) (c .before .before .before .before .before .before .before .before .args .i) q (omega (arith, c .before .before .before .next .ensures .0, c .before .before .if2 .taken)) (omega (arith, c .before .before .before .next .ensures .0, c .before .next2 .ensures .0, c .if3 .taken))), tt)
 
--- src/lib.rt:136:1
 returns-2 : tie.Need-returns-2
 returns-2 c =
     let q = sym (c .before .before .before .before .before .vr .ensures) ∙ c .before .before .before .before .if1 .taken in
     (sym (laws.one-item-one (nodesOf (c .before .before .before .before .before .before .before .before .args .bytes .now)) (c .before .before .before .before .before .before .before .before .args .i) q (omega (arith, c .before .before .before .next .ensures .0, c .before .before .if2 .taken)) (omega (arith, c .before .before .before .next .ensures .0, c .before .next2 .ensures .0, c .if3 .left))), omega (arith, c .before .before .before .next .ensures .1, c .before .before .if2 .taken))
 
--- src/lib.rt:136:1
 returns-3 : tie.Need-returns-3
 returns-3 c =
     let q = sym (c .before .before .before .vr .ensures) ∙ c .before .before .if1 .taken in
     (sym (laws.one-item-none (nodesOf (c .before .before .before .before .before .before .args .bytes .now)) (c .before .before .before .before .before .before .args .i) q (omega (arith, c .before .next .ensures .0, c .if2 .left))), tt)
 
--- src/lib.rt:136:1
 returns-4 : tie.Need-returns-4
 returns-4 c =
     (sym (laws.one-item-other (nodesOf (c .before .before .before .before .args .bytes .now)) (c .before .before .before .before .args .i) (λ e. c .if1 .left (c .before .vr .ensures ∙ e))), tt)

@@ -1,41 +1,29 @@
-use mathlib.Core.Path.{_≡_, refl, sym, ap, _∙_}
+-- The value of the UI that is found is compared; where none is found, the test is false.
 use Rattle.node.proofs.Laws as node-laws
 use borrow.Author.Needs.{needs}
 use Rattle.element.proofs.ui_root.Statement.{statement}
 use Rattle.element.proofs.ui_root.Tie as tie
-use Rattle.element.proofs.ui_root.Reads as reads
-use Rattle.element.proofs.ui_root.Lts as lts
-use Rattle.element.proofs.find_vr_root.Reads as find-vr-root-reads
-use Rattle.node.proofs.value.Reads as value-reads
-use Rattle.value.proofs.is_uid.Reads as is-uid-reads
 
--- src/lib.rt:87:11
 find-vr-root-requires : tie.Need-find-vr-root-requires
 find-vr-root-requires c κs = search needs
 
--- src/lib.rt:88:23
 enum-told : tie.Need-enum-told
 enum-told c = search needs
 
--- src/lib.rt:89:17
 enum-known-i : tie.Need-enum-known-i
 enum-known-i c = search needs
 
--- src/lib.rt:89:37
 value-requires : tie.Need-value-requires
 value-requires c κs =
     (c .before .before .before .before .before .before .before .pre, node-laws.within _ (c .before .i .given .1) (c .before .before .before .find-vr-root .ensures .1))
 
--- src/lib.rt:89:23
 is-uid-requires : tie.Need-is-uid-requires
 is-uid-requires c κs = search needs
 
--- src/lib.rt:83:1
 returns : tie.Need-returns
 returns c =
     rw (node-laws.lacked (c .enum-told .given .1) (c .before .before .find-vr-root .ensures .0))
 
--- src/lib.rt:83:1
 returns-2 : tie.Need-returns-2
 returns-2 c =
     rw (node-laws.had (c .before .before .before .i .given .1) (c .before .before .before .before .before .find-vr-root .ensures .0), ← c .before .value .ensures) (c .is-uid .ensures)

@@ -1,3 +1,4 @@
+-- What is handed out is the file's own bytes from there on, up to its end.
 use native.Mathlib.Omega.{arith}
 use Prim.Native.Nat.{_-_}
 use lib.ListN.{length, drop, length-drop}
@@ -6,22 +7,16 @@ use mathlib.Core.Path.{refl}
 use borrow.Author.Needs.{needs}
 use Rattle.file.proofs.data_set.Statement.{statement}
 use Rattle.file.proofs.data_set.Tie as tie
-use Rattle.file.proofs.data_set.Reads as reads
-use Rattle.file.proofs.data_set.Lts as lts
 
--- src/lib.rt:70:5
 sub-result : tie.Need-sub-result
 sub-result c = search needs
 
--- src/lib.rt:70:5
 part-result-start : tie.Need-part-result-start
 part-result-start c = search needs
 
--- src/lib.rt:70:5
 part-result-end : tie.Need-part-result-end
 part-result-end c = search needs
 
--- src/lib.rt:66:1
 returns : tie.Need-returns
 returns c =
     record { block = refl; place = omega arith; bytes = take-all (length (c .before .args .file .now) - c .before .args .from) (drop (c .before .args .from) (c .before .args .file .now)) (omega (arith, length-drop (c .before .args .from) (c .before .args .file .now))) }

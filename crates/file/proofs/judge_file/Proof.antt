@@ -1,3 +1,4 @@
+-- A refusal of the head is handed on; else all that the head names lies within the file, and the data set is judged.
 use native.Mathlib.Omega.{arith}
 use mathlib.Core.Path.{ap, subst, _∙_}
 use mathlib.Core.List.{List}
@@ -7,85 +8,65 @@ use Rattle.dataset.specs.Reading.{readingOf}
 use Rattle.dataset.specs.Answer.{bufferOf}
 use Rattle.meta.specs.declared.Meta.{Meta}
 use Rattle.meta.specs.Meta.{part}
-use Rattle.meta.specs.Said.{MetaWithin}
+use Rattle.meta.specs.Contracts.{MetaWithin}
 use Rattle.file.specs.File.{judgePart, judgeFileOf, rowsLeft}
 use Rattle.dataset.proofs.Promised.{promised}
 use borrow.Author.Needs.{needs}
 use Rattle.file.proofs.judge_file.Statement.{statement}
 use Rattle.file.proofs.judge_file.Tie as tie
-use Rattle.file.proofs.judge_file.Reads as reads
-use Rattle.file.proofs.judge_file.Lts as lts
-use Rattle.file.proofs.data_set.Reads as data-set-reads
-use Rattle.file.proofs.judge_part.Reads as judge-part-reads
-use Rattle.meta.proofs.read_head.Reads as read-head-reads
 
--- src/lib.rt:192:11
 read-head-requires : tie.Need-read-head-requires
 read-head-requires c κs = search needs
 
--- src/lib.rt:193:25
 enum-told : tie.Need-enum-told
 enum-told c = search needs
 
--- src/lib.rt:194:26
 enum-told-2 : tie.Need-enum-told-2
 enum-told-2 c = search needs
 
--- src/lib.rt:195:30
 enum-told-3 : tie.Need-enum-told-3
 enum-told-3 c = search needs
 
--- src/lib.rt:196:20
 enum-known-from : tie.Need-enum-known-from
 enum-known-from c = search needs
 
--- src/lib.rt:196:46
 data-set-requires : tie.Need-data-set-requires
 data-set-requires c κs =
     (subst (λ (m : Meta). MetaWithin (length (c .before .before .before .before .before .before .args .file .now)) m) (c .before .from .given .1) (c .before .before .before .read-head .ensures .1)) .0
 
--- src/lib.rt:196:68
 sub-judge-part : tie.Need-sub-judge-part
 sub-judge-part c =
     omega (arith, subst (λ (m : Meta). MetaWithin (length (c .before .before .before .before .before .before .before .args .file .now)) m) (c .before .before .from .given .1) (c .before .before .before .before .read-head .ensures .1))
 
--- src/lib.rt:196:68
 part-judge-part-start : tie.Need-part-judge-part-start
 part-judge-part-start c =
     omega (arith, subst (λ (m : Meta). MetaWithin (length (c .before .before .before .before .before .before .before .args .file .now)) m) (c .before .before .from .given .1) (c .before .before .before .before .read-head .ensures .1))
 
--- src/lib.rt:196:68
 part-judge-part-end : tie.Need-part-judge-part-end
 part-judge-part-end c =
     omega (arith, subst (λ (m : Meta). MetaWithin (length (c .before .before .before .before .before .before .before .args .file .now)) m) (c .before .before .from .given .1) (c .before .before .before .before .read-head .ensures .1))
 
--- src/lib.rt:196:35
 judge-part-requires : tie.Need-judge-part-requires
 judge-part-requires c κs = search needs
 
--- src/lib.rt:188:1
 returns : tie.Need-returns
 unfolding judgeFileOf rowsLeft
 returns c =
     (promised (rw (← c .before .before .read-head .ensures .0, c .enum-told .given .1)), rw (← c .before .before .read-head .ensures .0, c .enum-told .given .1))
 
--- src/lib.rt:188:1
 returns-2 : tie.Need-returns-2
 unfolding judgeFileOf rowsLeft
 returns-2 c =
     (promised (rw (← c .before .before .read-head .ensures .0, c .enum-told2 .given .1)), rw (← c .before .before .read-head .ensures .0, c .enum-told2 .given .1))
 
--- src/lib.rt:188:1
 returns-3 : tie.Need-returns-3
 unfolding judgeFileOf rowsLeft
 returns-3 c =
     (promised (rw (← c .before .before .read-head .ensures .0, c .enum-told3 .given .1)), rw (← c .before .before .read-head .ensures .0, c .enum-told3 .given .1))
 
--- src/lib.rt:188:1
 same-length : tie.Need-same-length
 same-length c = search needs
 
--- src/lib.rt:188:1
 returns-4 : tie.Need-returns-4
 unfolding judgeFileOf rowsLeft
 returns-4 c =

@@ -1,3 +1,4 @@
+-- A refusal of the head has no searches; else all that the head names lies within the file, and the data set is judged.
 use native.Mathlib.Omega.{arith}
 use mathlib.Core.Path.{refl, ap, subst, _∙_}
 use mathlib.Core.List.{List}
@@ -7,86 +8,66 @@ use Rattle.dataset.specs.Reading.{readingOf}
 use Rattle.dataset.specs.Answer.{bufferOf}
 use Rattle.meta.specs.declared.Meta.{Meta}
 use Rattle.meta.specs.Meta.{part}
-use Rattle.meta.specs.Said.{MetaWithin}
+use Rattle.meta.specs.Contracts.{MetaWithin}
 use Rattle.file.specs.File.{judgeFileOf, rowsLeft}
 use Rattle.file.specs.Searches.{searchesFileOf, countedPart}
 use Rattle.dataset.proofs.Promised.{promised}
 use borrow.Author.Needs.{needs}
 use Rattle.file.proofs.judge_file_counted.Statement.{statement}
 use Rattle.file.proofs.judge_file_counted.Tie as tie
-use Rattle.file.proofs.judge_file_counted.Reads as reads
-use Rattle.file.proofs.judge_file_counted.Lts as lts
-use Rattle.file.proofs.count_part.Reads as count-part-reads
-use Rattle.file.proofs.data_set.Reads as data-set-reads
-use Rattle.meta.proofs.read_head.Reads as read-head-reads
 
--- src/lib.rt:236:11
 read-head-requires : tie.Need-read-head-requires
 read-head-requires c κs = search needs
 
--- src/lib.rt:238:21
 enum-told : tie.Need-enum-told
 enum-told c = search needs
 
--- src/lib.rt:242:21
 enum-told-2 : tie.Need-enum-told-2
 enum-told-2 c = search needs
 
--- src/lib.rt:246:21
 enum-told-3 : tie.Need-enum-told-3
 enum-told-3 c = search needs
 
--- src/lib.rt:249:20
 enum-known-from : tie.Need-enum-known-from
 enum-known-from c = search needs
 
--- src/lib.rt:249:46
 data-set-requires : tie.Need-data-set-requires
 data-set-requires c κs =
     (subst (λ (m : Meta). MetaWithin (length (c .before .before .before .before .before .before .args .file .now)) m) (c .before .from .given .1) (c .before .before .before .read-head .ensures .1)) .0
 
--- src/lib.rt:249:68
 sub-count-part : tie.Need-sub-count-part
 sub-count-part c =
     omega (arith, subst (λ (m : Meta). MetaWithin (length (c .before .before .before .before .before .before .before .args .file .now)) m) (c .before .before .from .given .1) (c .before .before .before .before .read-head .ensures .1))
 
--- src/lib.rt:249:68
 part-count-part-start : tie.Need-part-count-part-start
 part-count-part-start c =
     omega (arith, subst (λ (m : Meta). MetaWithin (length (c .before .before .before .before .before .before .before .args .file .now)) m) (c .before .before .from .given .1) (c .before .before .before .before .read-head .ensures .1))
 
--- src/lib.rt:249:68
 part-count-part-end : tie.Need-part-count-part-end
 part-count-part-end c =
     omega (arith, subst (λ (m : Meta). MetaWithin (length (c .before .before .before .before .before .before .before .args .file .now)) m) (c .before .before .from .given .1) (c .before .before .before .before .read-head .ensures .1))
 
--- src/lib.rt:249:35
 count-part-requires : tie.Need-count-part-requires
 count-part-requires c κs = search needs
 
--- src/lib.rt:232:1
 returns : tie.Need-returns
 unfolding judgeFileOf rowsLeft searchesFileOf
 returns c =
     (rw (← c .before .before .read-head .ensures .0, c .enum-told .given .1) (promised refl), rw (← c .before .before .read-head .ensures .0, c .enum-told .given .1))
 
--- src/lib.rt:232:1
 returns-2 : tie.Need-returns-2
 unfolding judgeFileOf rowsLeft searchesFileOf
 returns-2 c =
     (rw (← c .before .before .read-head .ensures .0, c .enum-told2 .given .1) (promised refl), rw (← c .before .before .read-head .ensures .0, c .enum-told2 .given .1))
 
--- src/lib.rt:232:1
 returns-3 : tie.Need-returns-3
 unfolding judgeFileOf rowsLeft searchesFileOf
 returns-3 c =
     (rw (← c .before .before .read-head .ensures .0, c .enum-told3 .given .1) (promised refl), rw (← c .before .before .read-head .ensures .0, c .enum-told3 .given .1))
 
--- src/lib.rt:232:1
 same-length : tie.Need-same-length
 same-length c = search needs
 
--- src/lib.rt:232:1
 returns-4 : tie.Need-returns-4
 unfolding judgeFileOf rowsLeft searchesFileOf
 returns-4 c =

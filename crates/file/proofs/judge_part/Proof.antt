@@ -1,3 +1,4 @@
+-- A refusal is handed on; else the rows are in the buffer, and the class is compared from them.
 use mathlib.Core.Path.{sym, _∙_}
 use native.Mathlib.Omega.{arith}
 use Prim.Native.Nat.{_*_}
@@ -8,142 +9,110 @@ use Rattle.file.proofs.After as after
 use borrow.Author.Needs.{needs}
 use Rattle.file.proofs.judge_part.Statement.{statement}
 use Rattle.file.proofs.judge_part.Tie as tie
-use Rattle.file.proofs.judge_part.Reads as reads
-use Rattle.file.proofs.judge_part.Lts as lts
-use Rattle.conformance.proofs.judge.Reads as judge-reads
-use Rattle.file.proofs.same_class.Reads as same-class-reads
 
--- src/lib.rt:112:11
 judge-requires : tie.Need-judge-requires
 judge-requires c κs = search needs
 
--- src/lib.rt:113:58
 enum-told : tie.Need-enum-told
 enum-told c = search needs
 
--- src/lib.rt:114:30
 enum-known-code : tie.Need-enum-known-code
 enum-known-code c = search needs
 
--- src/lib.rt:117:56
 enum-told-2 : tie.Need-enum-told-2
 enum-told-2 c = search needs
 
--- src/lib.rt:118:29
 enum-known-n : tie.Need-enum-known-n
 enum-known-n c = search needs
 
--- src/lib.rt:119:23
 mul-end : tie.Need-mul-end
 mul-end c =
     let t = after.after-broken (c .before .before .before .before .before .before .before .before .before .before .args .bytes .now) (c .before .before .before .before .before .before .before .before .before .before .args .rows .now) (c .before .before .before .before .before .judge .last .1 .0) (c .before .n .given .0 .0) (c .before .n .given .0 .1 .0) (c .before .n .given .0 .1 .1 .0) (sym (c .before .n .given .1) ∙ c .before .before .before .before .before .judge .ensures .0 .same) (c .before .before .before .before .before .judge .ensures .1) in
     omega (arith, t .1 .size, t .1 .few, length-take-le (7 * c .before .n .given .0 .0) (c .before .before .before .before .before .judge .last .1 .0) (t .0))
 
--- src/lib.rt:120:34
 slice-reshare-prefix-same-class : tie.Need-slice-reshare-prefix-same-class
 slice-reshare-prefix-same-class c =
     after.after-broken (c .before .before .before .before .before .before .before .before .before .before .args .bytes .now) (c .before .before .before .before .before .before .before .before .before .before .args .rows .now) (c .before .before .before .before .before .judge .last .1 .0) (c .before .n .given .0 .0) (c .before .n .given .0 .1 .0) (c .before .n .given .0 .1 .1 .0) (sym (c .before .n .given .1) ∙ c .before .before .before .before .before .judge .ensures .0 .same) (c .before .before .before .before .before .judge .ensures .1) .0
 
--- src/lib.rt:120:34
 slice-aggregate-same-class : tie.Need-slice-aggregate-same-class
 slice-aggregate-same-class c =
     sym (length-take-le _ _ (after.after-broken (c .before .before .before .before .before .before .before .before .before .before .before .args .bytes .now) (c .before .before .before .before .before .before .before .before .before .before .before .args .rows .now) (c .before .before .before .before .before .before .judge .last .1 .0) (c .before .before .n .given .0 .0) (c .before .before .n .given .0 .1 .0) (c .before .before .n .given .0 .1 .1 .0) (sym (c .before .before .n .given .1) ∙ c .before .before .before .before .before .before .judge .ensures .0 .same) (c .before .before .before .before .before .before .judge .ensures .1) .0))
 
--- src/lib.rt:120:16
 same-class-requires : tie.Need-same-class-requires
 same-class-requires c κs =
     after.after-broken (c .before .before .before .before .before .before .before .before .before .before .before .args .bytes .now) (c .before .before .before .before .before .before .before .before .before .before .before .args .rows .now) (c .before .before .before .before .before .before .judge .last .1 .0) (c .before .before .n .given .0 .0) (c .before .before .n .given .0 .1 .0) (c .before .before .n .given .0 .1 .1 .0) (sym (c .before .before .n .given .1) ∙ c .before .before .before .before .before .before .judge .ensures .0 .same) (c .before .before .before .before .before .before .judge .ensures .1) .1
 
--- src/lib.rt:126:31
 enum-known-n-2 : tie.Need-enum-known-n-2
 enum-known-n-2 c = search needs
 
--- src/lib.rt:127:23
 mul-end-2 : tie.Need-mul-end-2
 mul-end-2 c =
     let t = after-judging (c .before .before .before .before .before .before .before .before .before .before .args .bytes .now) (c .before .before .before .before .before .before .before .before .before .before .args .rows .now) (c .before .before .before .before .before .judge .last .1 .0) (c .before .n2 .given .0 .0) (sym (c .before .n2 .given .1) ∙ c .before .before .before .before .before .judge .ensures .0 .same) (c .before .before .before .before .before .judge .ensures .1) .0 in
     omega (arith, t .1 .size, t .1 .few, length-take-le (7 * c .before .n2 .given .0 .0) (c .before .before .before .before .before .judge .last .1 .0) (t .0))
 
--- src/lib.rt:128:34
 slice-reshare-prefix-same-class-2 : tie.Need-slice-reshare-prefix-same-class-2
 slice-reshare-prefix-same-class-2 c =
     after-judging (c .before .before .before .before .before .before .before .before .before .before .args .bytes .now) (c .before .before .before .before .before .before .before .before .before .before .args .rows .now) (c .before .before .before .before .before .judge .last .1 .0) (c .before .n2 .given .0 .0) (sym (c .before .n2 .given .1) ∙ c .before .before .before .before .before .judge .ensures .0 .same) (c .before .before .before .before .before .judge .ensures .1) .0 .0
 
--- src/lib.rt:128:34
 slice-aggregate-same-class-2 : tie.Need-slice-aggregate-same-class-2
 slice-aggregate-same-class-2 c =
     sym (length-take-le _ _ (after-judging (c .before .before .before .before .before .before .before .before .before .before .before .args .bytes .now) (c .before .before .before .before .before .before .before .before .before .before .before .args .rows .now) (c .before .before .before .before .before .before .judge .last .1 .0) (c .before .before .n2 .given .0 .0) (sym (c .before .before .n2 .given .1) ∙ c .before .before .before .before .before .before .judge .ensures .0 .same) (c .before .before .before .before .before .before .judge .ensures .1) .0 .0))
 
--- src/lib.rt:128:16
 same-class-requires-2 : tie.Need-same-class-requires-2
 same-class-requires-2 c κs =
     after-judging (c .before .before .before .before .before .before .before .before .before .before .before .args .bytes .now) (c .before .before .before .before .before .before .before .before .before .before .before .args .rows .now) (c .before .before .before .before .before .before .judge .last .1 .0) (c .before .before .n2 .given .0 .0) (sym (c .before .before .n2 .given .1) ∙ c .before .before .before .before .before .before .judge .ensures .0 .same) (c .before .before .before .before .before .before .judge .ensures .1) .0 .1
 
--- src/lib.rt:108:1
 same-length : tie.Need-same-length
 same-length c = search needs
 
--- src/lib.rt:108:1
 returns : tie.Need-returns
 unfolding judgePart
 returns c =
     (rw (← c .before .before .before .before .judge .ensures .0 .same, c .enum-told .given .1), c .before .before .before .before .judge .ensures .1)
 
--- src/lib.rt:108:1
 same-length-2 : tie.Need-same-length-2
 same-length-2 c = search needs
 
--- src/lib.rt:108:1
 returns-2 : tie.Need-returns-2
 unfolding judgePart
 returns-2 c =
     (rw (← c .before .before .before .before .before .judge .ensures .0 .same, c .before .code .given .1), c .before .before .before .before .before .judge .ensures .1)
 
--- src/lib.rt:108:1
 same-length-3 : tie.Need-same-length-3
 same-length-3 c = search needs
 
--- src/lib.rt:108:1
 returns-3 : tie.Need-returns-3
 unfolding judgePart
 returns-3 c =
     (rw (← c .before .before .before .before .judge .ensures .0 .same, c .enum-told2 .given .1), c .before .before .before .before .judge .ensures .1)
 
--- src/lib.rt:108:1
 same-length-4 : tie.Need-same-length-4
 same-length-4 c = search needs
 
--- src/lib.rt:108:1
 returns-4 : tie.Need-returns-4
 unfolding judgePart
 returns-4 c =
     (rw (← c .before .before .before .before .before .before .before .before .judge .ensures .0 .same, c .before .before .before .before .n .given .1, ← c .before .same-class .ensures, c .if1 .taken), c .before .before .before .before .before .before .before .before .judge .ensures .1)
 
--- src/lib.rt:108:1
 same-length-5 : tie.Need-same-length-5
 same-length-5 c = search needs
 
--- src/lib.rt:108:1
 returns-5 : tie.Need-returns-5
 unfolding judgePart
 returns-5 c =
     (rw (← c .before .before .before .before .before .before .before .before .judge .ensures .0 .same, c .before .before .before .before .n .given .1, ← c .before .same-class .ensures, c .if1 .left), c .before .before .before .before .before .before .before .before .judge .ensures .1)
 
--- src/lib.rt:108:1
 same-length-6 : tie.Need-same-length-6
 same-length-6 c = search needs
 
--- src/lib.rt:108:1
 returns-6 : tie.Need-returns-6
 unfolding judgePart
 returns-6 c =
     (rw (← c .before .before .before .before .before .before .before .before .judge .ensures .0 .same, c .before .before .before .before .n2 .given .1, ← c .before .same-class2 .ensures, c .if2 .taken), c .before .before .before .before .before .before .before .before .judge .ensures .1)
 
--- src/lib.rt:108:1
 same-length-7 : tie.Need-same-length-7
 same-length-7 c = search needs
 
--- src/lib.rt:108:1
 returns-7 : tie.Need-returns-7
 unfolding judgePart
 returns-7 c =

@@ -1,3 +1,4 @@
+-- A refusal of the head is handed on; else all that the head names lies within the file, and the data set is read.
 use native.Mathlib.Omega.{arith}
 use mathlib.Core.Path.{ap, subst, _∙_}
 use mathlib.Core.List.{List}
@@ -7,85 +8,65 @@ use Rattle.dataset.specs.Reading.{readingOf}
 use Rattle.dataset.specs.Answer.{bufferOf}
 use Rattle.meta.specs.declared.Meta.{Meta}
 use Rattle.meta.specs.Meta.{part}
-use Rattle.meta.specs.Said.{MetaWithin}
+use Rattle.meta.specs.Contracts.{MetaWithin}
 use Rattle.file.specs.File.{readPart, readFileOf, rowsLeft}
 use Rattle.dataset.proofs.Promised.{promised}
 use borrow.Author.Needs.{needs}
 use Rattle.file.proofs.read_file.Statement.{statement}
 use Rattle.file.proofs.read_file.Tie as tie
-use Rattle.file.proofs.read_file.Reads as reads
-use Rattle.file.proofs.read_file.Lts as lts
-use Rattle.file.proofs.data_set.Reads as data-set-reads
-use Rattle.file.proofs.read_part.Reads as read-part-reads
-use Rattle.meta.proofs.read_head.Reads as read-head-reads
 
--- src/lib.rt:179:11
 read-head-requires : tie.Need-read-head-requires
 read-head-requires c κs = search needs
 
--- src/lib.rt:180:25
 enum-told : tie.Need-enum-told
 enum-told c = search needs
 
--- src/lib.rt:181:26
 enum-told-2 : tie.Need-enum-told-2
 enum-told-2 c = search needs
 
--- src/lib.rt:182:30
 enum-told-3 : tie.Need-enum-told-3
 enum-told-3 c = search needs
 
--- src/lib.rt:183:20
 enum-known-from : tie.Need-enum-known-from
 enum-known-from c = search needs
 
--- src/lib.rt:183:45
 data-set-requires : tie.Need-data-set-requires
 data-set-requires c κs =
     (subst (λ (m : Meta). MetaWithin (length (c .before .before .before .before .before .before .args .file .now)) m) (c .before .from .given .1) (c .before .before .before .read-head .ensures .1)) .0
 
--- src/lib.rt:183:67
 sub-read-part : tie.Need-sub-read-part
 sub-read-part c =
     omega (arith, subst (λ (m : Meta). MetaWithin (length (c .before .before .before .before .before .before .before .args .file .now)) m) (c .before .before .from .given .1) (c .before .before .before .before .read-head .ensures .1))
 
--- src/lib.rt:183:67
 part-read-part-start : tie.Need-part-read-part-start
 part-read-part-start c =
     omega (arith, subst (λ (m : Meta). MetaWithin (length (c .before .before .before .before .before .before .before .args .file .now)) m) (c .before .before .from .given .1) (c .before .before .before .before .read-head .ensures .1))
 
--- src/lib.rt:183:67
 part-read-part-end : tie.Need-part-read-part-end
 part-read-part-end c =
     omega (arith, subst (λ (m : Meta). MetaWithin (length (c .before .before .before .before .before .before .before .args .file .now)) m) (c .before .before .from .given .1) (c .before .before .before .before .read-head .ensures .1))
 
--- src/lib.rt:183:35
 read-part-requires : tie.Need-read-part-requires
 read-part-requires c κs = search needs
 
--- src/lib.rt:175:1
 returns : tie.Need-returns
 unfolding readFileOf rowsLeft
 returns c =
     (promised (rw (← c .before .before .read-head .ensures .0, c .enum-told .given .1)), rw (← c .before .before .read-head .ensures .0, c .enum-told .given .1))
 
--- src/lib.rt:175:1
 returns-2 : tie.Need-returns-2
 unfolding readFileOf rowsLeft
 returns-2 c =
     (promised (rw (← c .before .before .read-head .ensures .0, c .enum-told2 .given .1)), rw (← c .before .before .read-head .ensures .0, c .enum-told2 .given .1))
 
--- src/lib.rt:175:1
 returns-3 : tie.Need-returns-3
 unfolding readFileOf rowsLeft
 returns-3 c =
     (promised (rw (← c .before .before .read-head .ensures .0, c .enum-told3 .given .1)), rw (← c .before .before .read-head .ensures .0, c .enum-told3 .given .1))
 
--- src/lib.rt:175:1
 same-length : tie.Need-same-length
 same-length c = search needs
 
--- src/lib.rt:175:1
 returns-4 : tie.Need-returns-4
 unfolding readFileOf rowsLeft
 returns-4 c =

@@ -1,3 +1,4 @@
+-- A refusal is handed on; else the rows are in the buffer, and the class is compared from them.
 use mathlib.Core.Path.{sym, _∙_}
 use native.Mathlib.Omega.{arith}
 use Prim.Native.Nat.{_*_}
@@ -7,97 +8,74 @@ use Rattle.file.specs.File.{readPart}
 use borrow.Author.Needs.{needs}
 use Rattle.file.proofs.read_part.Statement.{statement}
 use Rattle.file.proofs.read_part.Tie as tie
-use Rattle.file.proofs.read_part.Reads as reads
-use Rattle.file.proofs.read_part.Lts as lts
-use Rattle.dataset.proofs.read.Reads as read-reads
-use Rattle.file.proofs.same_class.Reads as same-class-reads
 
--- src/lib.rt:90:11
 read-requires : tie.Need-read-requires
 read-requires c κs = search needs
 
--- src/lib.rt:91:54
 enum-told : tie.Need-enum-told
 enum-told c = search needs
 
--- src/lib.rt:92:29
 enum-known-code : tie.Need-enum-known-code
 enum-known-code c = search needs
 
--- src/lib.rt:96:52
 enum-told-2 : tie.Need-enum-told-2
 enum-told-2 c = search needs
 
--- src/lib.rt:97:26
 enum-known-n : tie.Need-enum-known-n
 enum-known-n c = search needs
 
--- src/lib.rt:98:23
 mul-end : tie.Need-mul-end
 mul-end c =
     let t = after-reading (c .before .before .before .before .before .before .before .before .before .before .args .bytes .now) (c .before .before .before .before .before .before .before .before .before .before .args .rows .now) (c .before .before .before .before .before .read .last .1 .0) (c .before .n .given .0 .0) (sym (c .before .n .given .1) ∙ c .before .before .before .before .before .read .ensures .0 .same) (c .before .before .before .before .before .read .ensures .1) in
     omega (arith, t .1 .size, t .1 .few, length-take-le (7 * c .before .n .given .0 .0) (c .before .before .before .before .before .read .last .1 .0) (t .0))
 
--- src/lib.rt:99:34
 slice-reshare-prefix-same-class : tie.Need-slice-reshare-prefix-same-class
 slice-reshare-prefix-same-class c =
     after-reading (c .before .before .before .before .before .before .before .before .before .before .args .bytes .now) (c .before .before .before .before .before .before .before .before .before .before .args .rows .now) (c .before .before .before .before .before .read .last .1 .0) (c .before .n .given .0 .0) (sym (c .before .n .given .1) ∙ c .before .before .before .before .before .read .ensures .0 .same) (c .before .before .before .before .before .read .ensures .1) .0
 
--- src/lib.rt:99:34
 slice-aggregate-same-class : tie.Need-slice-aggregate-same-class
 slice-aggregate-same-class c =
     sym (length-take-le _ _ (after-reading (c .before .before .before .before .before .before .before .before .before .before .before .args .bytes .now) (c .before .before .before .before .before .before .before .before .before .before .before .args .rows .now) (c .before .before .before .before .before .before .read .last .1 .0) (c .before .before .n .given .0 .0) (sym (c .before .before .n .given .1) ∙ c .before .before .before .before .before .before .read .ensures .0 .same) (c .before .before .before .before .before .before .read .ensures .1) .0))
 
--- src/lib.rt:99:16
 same-class-requires : tie.Need-same-class-requires
 same-class-requires c κs =
     after-reading (c .before .before .before .before .before .before .before .before .before .before .before .args .bytes .now) (c .before .before .before .before .before .before .before .before .before .before .before .args .rows .now) (c .before .before .before .before .before .before .read .last .1 .0) (c .before .before .n .given .0 .0) (sym (c .before .before .n .given .1) ∙ c .before .before .before .before .before .before .read .ensures .0 .same) (c .before .before .before .before .before .before .read .ensures .1) .1
 
--- src/lib.rt:86:1
 same-length : tie.Need-same-length
 same-length c = search needs
 
--- src/lib.rt:86:1
 returns : tie.Need-returns
 unfolding readPart
 returns c =
     (rw (← c .before .before .before .before .read .ensures .0 .same, c .enum-told .given .1), c .before .before .before .before .read .ensures .1)
 
--- src/lib.rt:86:1
 same-length-2 : tie.Need-same-length-2
 same-length-2 c = search needs
 
--- src/lib.rt:86:1
 returns-2 : tie.Need-returns-2
 unfolding readPart
 returns-2 c =
     (rw (← c .before .before .before .before .before .read .ensures .0 .same, c .before .code .given .1), c .before .before .before .before .before .read .ensures .1)
 
--- src/lib.rt:86:1
 same-length-3 : tie.Need-same-length-3
 same-length-3 c = search needs
 
--- src/lib.rt:86:1
 returns-3 : tie.Need-returns-3
 unfolding readPart
 returns-3 c =
     (rw (← c .before .before .before .before .read .ensures .0 .same, c .enum-told2 .given .1), c .before .before .before .before .read .ensures .1)
 
--- src/lib.rt:86:1
 same-length-4 : tie.Need-same-length-4
 same-length-4 c = search needs
 
--- src/lib.rt:86:1
 returns-4 : tie.Need-returns-4
 unfolding readPart
 returns-4 c =
     (rw (← c .before .before .before .before .before .before .before .before .read .ensures .0 .same, c .before .before .before .before .n .given .1, ← c .before .same-class .ensures, c .if1 .taken), c .before .before .before .before .before .before .before .before .read .ensures .1)
 
--- src/lib.rt:86:1
 same-length-5 : tie.Need-same-length-5
 same-length-5 c = search needs
 
--- src/lib.rt:86:1
 returns-5 : tie.Need-returns-5
 unfolding readPart
 returns-5 c =

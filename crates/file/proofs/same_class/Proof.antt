@@ -1,3 +1,4 @@
+-- Without a class in the data set the answer is no; else the two are compared without the zero bytes behind them.
 use mathlib.Core.Path.{ap, _∙_}
 use mathlib.Core.List.{List}
 use Prim.Native.Nat.{ℕ}
@@ -7,31 +8,21 @@ use Rattle.file.specs.File.{sameClass}
 use borrow.Author.Needs.{needs}
 use Rattle.file.proofs.same_class.Statement.{statement}
 use Rattle.file.proofs.same_class.Tie as tie
-use Rattle.file.proofs.same_class.Reads as reads
-use Rattle.file.proofs.same_class.Lts as lts
-use Rattle.element.proofs.has_root.Reads as has-root-reads
-use Rattle.element.proofs.ui_root.Reads as ui-root-reads
-use Rattle.value.proofs.trim_end.Reads as trim-end-reads
 
--- src/lib.rt:78:8
 has-root-requires : tie.Need-has-root-requires
 has-root-requires c κs = search needs
 
--- src/lib.rt:79:13
 trim-end-requires : tie.Need-trim-end-requires
 trim-end-requires c κs = search needs
 
--- src/lib.rt:80:9
 ui-root-requires : tie.Need-ui-root-requires
 ui-root-requires c κs = search needs
 
--- src/lib.rt:74:1
 returns : tie.Need-returns
 unfolding sameClass
 returns c =
     rw (← c .before .before .before .has-root .ensures, c .before .before .if1 .taken) (c .ui-root .ensures ∙ ap (λ (x : List ℕ). uiIs (nodesOf (c .before .before .before .before .before .before .before .args .bytes .now)) 0x0008_0016 x (root (nodesOf (c .before .before .before .before .before .before .before .args .bytes .now)))) (c .before .trim-end .ensures))
 
--- src/lib.rt:74:1
 returns-2 : tie.Need-returns-2
 unfolding sameClass
 returns-2 c =

@@ -1,55 +1,41 @@
-use mathlib.Core.Path.{_≡_, refl, sym, ap, _∙_}
+-- Only an answer of judging can have searches; to any other belongs 0.
 use Rattle.file.proofs.Counted.{left-judged}
 use borrow.Author.Needs.{needs}
 use Rattle.file.proofs.searches_in.Statement.{statement}
 use Rattle.file.proofs.searches_in.Tie as tie
-use Rattle.file.proofs.searches_in.Reads as reads
-use Rattle.file.proofs.searches_in.Lts as lts
-use Rattle.searches.proofs.reported.Reads as reported-reads
 
--- src/lib.rt:151:33
 enum-known-answer : tie.Need-enum-known-answer
 enum-known-answer c = search needs
 
--- src/lib.rt:151:39
 reported-requires : tie.Need-reported-requires
 reported-requires c κs =
     left-judged (c .before .before .before .before .before .args .bytes .now) (c .before .before .before .before .before .args .rows .now) (c .before .answer .given .1) (c .before .before .before .before .before .pre)
 
--- src/lib.rt:152:36
 enum-told : tie.Need-enum-told
 enum-told c = search needs
 
--- src/lib.rt:153:37
 enum-told-2 : tie.Need-enum-told-2
 enum-told-2 c = search needs
 
--- src/lib.rt:154:41
 enum-told-3 : tie.Need-enum-told-3
 enum-told-3 c = search needs
 
--- src/lib.rt:155:40
 enum-told-4 : tie.Need-enum-told-4
 enum-told-4 c = search needs
 
--- src/lib.rt:146:1
 returns : tie.Need-returns
 returns c =
     rw (c .before .before .answer .given .1) (c .reported .ensures)
 
--- src/lib.rt:146:1
 returns-2 : tie.Need-returns-2
 returns-2 c = search needs
 
--- src/lib.rt:146:1
 returns-3 : tie.Need-returns-3
 returns-3 c = search needs
 
--- src/lib.rt:146:1
 returns-4 : tie.Need-returns-4
 returns-4 c = search needs
 
--- src/lib.rt:146:1
 returns-5 : tie.Need-returns-5
 returns-5 c = search needs
 

@@ -1,3 +1,4 @@
+-- A refusal of the head is handed on; else all that the head names lies within the file, and the frame is drawn.
 use native.Mathlib.Omega.{arith}
 use mathlib.Core.Path.{ap, subst, _∙_}
 use mathlib.Core.List.{List}
@@ -7,89 +8,68 @@ use Rattle.dataset.specs.Reading.{readingOf}
 use Rattle.dataset.specs.Answer.{bufferOf}
 use Rattle.meta.specs.declared.Meta.{Meta}
 use Rattle.meta.specs.Meta.{part}
-use Rattle.meta.specs.Said.{MetaWithin}
+use Rattle.meta.specs.Contracts.{MetaWithin}
 use Rattle.file.specs.File.{showPart, imagePart, showFileOf, rowsLeft, imageLeft}
 use Rattle.dataset.proofs.Promised.{promised}
 use borrow.Author.Needs.{needs}
 use Rattle.file.proofs.show_file.Statement.{statement}
 use Rattle.file.proofs.show_file.Tie as tie
-use Rattle.file.proofs.show_file.Reads as reads
-use Rattle.file.proofs.show_file.Lts as lts
-use Rattle.file.proofs.data_set.Reads as data-set-reads
-use Rattle.file.proofs.show_part.Reads as show-part-reads
-use Rattle.meta.proofs.read_head.Reads as read-head-reads
 
--- src/lib.rt:206:11
 read-head-requires : tie.Need-read-head-requires
 read-head-requires c κs = search needs
 
--- src/lib.rt:207:25
 enum-told : tie.Need-enum-told
 enum-told c = search needs
 
--- src/lib.rt:208:26
 enum-told-2 : tie.Need-enum-told-2
 enum-told-2 c = search needs
 
--- src/lib.rt:209:30
 enum-told-3 : tie.Need-enum-told-3
 enum-told-3 c = search needs
 
--- src/lib.rt:210:20
 enum-known-from : tie.Need-enum-known-from
 enum-known-from c = search needs
 
--- src/lib.rt:211:23
 data-set-requires : tie.Need-data-set-requires
 data-set-requires c κs =
     (subst (λ (m : Meta). MetaWithin (length (c .before .before .before .before .before .before .before .args .file .now)) m) (c .before .from .given .1) (c .before .before .before .read-head .ensures .1)) .0
 
--- src/lib.rt:211:45
 sub-show-part : tie.Need-sub-show-part
 sub-show-part c =
     omega (arith, subst (λ (m : Meta). MetaWithin (length (c .before .before .before .before .before .before .before .before .args .file .now)) m) (c .before .before .from .given .1) (c .before .before .before .before .read-head .ensures .1))
 
--- src/lib.rt:211:45
 part-show-part-start : tie.Need-part-show-part-start
 part-show-part-start c =
     omega (arith, subst (λ (m : Meta). MetaWithin (length (c .before .before .before .before .before .before .before .before .args .file .now)) m) (c .before .before .from .given .1) (c .before .before .before .before .read-head .ensures .1))
 
--- src/lib.rt:211:45
 part-show-part-end : tie.Need-part-show-part-end
 part-show-part-end c =
     omega (arith, subst (λ (m : Meta). MetaWithin (length (c .before .before .before .before .before .before .before .before .args .file .now)) m) (c .before .before .from .given .1) (c .before .before .before .before .read-head .ensures .1))
 
--- src/lib.rt:211:13
 show-part-requires : tie.Need-show-part-requires
 show-part-requires c κs = search needs
 
--- src/lib.rt:201:1
 returns : tie.Need-returns
 unfolding showFileOf rowsLeft imageLeft
 returns c =
     (promised (rw (← c .before .before .read-head .ensures .0, c .enum-told .given .1)), (rw (← c .before .before .read-head .ensures .0, c .enum-told .given .1), rw (← c .before .before .read-head .ensures .0, c .enum-told .given .1)))
 
--- src/lib.rt:201:1
 returns-2 : tie.Need-returns-2
 unfolding showFileOf rowsLeft imageLeft
 returns-2 c =
     (promised (rw (← c .before .before .read-head .ensures .0, c .enum-told2 .given .1)), (rw (← c .before .before .read-head .ensures .0, c .enum-told2 .given .1), rw (← c .before .before .read-head .ensures .0, c .enum-told2 .given .1)))
 
--- src/lib.rt:201:1
 returns-3 : tie.Need-returns-3
 unfolding showFileOf rowsLeft imageLeft
 returns-3 c =
     (promised (rw (← c .before .before .read-head .ensures .0, c .enum-told3 .given .1)), (rw (← c .before .before .read-head .ensures .0, c .enum-told3 .given .1), rw (← c .before .before .read-head .ensures .0, c .enum-told3 .given .1)))
 
--- src/lib.rt:201:1
 same-length : tie.Need-same-length
 same-length c = search needs
 
--- src/lib.rt:201:1
 same-length-2 : tie.Need-same-length-2
 same-length-2 c = search needs
 
--- src/lib.rt:201:1
 returns-4 : tie.Need-returns-4
 unfolding showFileOf rowsLeft imageLeft
 returns-4 c =

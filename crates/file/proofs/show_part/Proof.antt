@@ -1,3 +1,4 @@
+-- A refusal is handed on; else the class is compared from the rows, and only where it is the same is the image written.
 use mathlib.Core.Path.{refl, sym, ap, _∙_}
 use mathlib.Core.Bool.{true, false}
 use native.Mathlib.Omega.{arith}
@@ -13,159 +14,122 @@ use Rattle.file.proofs.After as after
 use borrow.Author.Needs.{needs}
 use Rattle.file.proofs.show_part.Statement.{statement}
 use Rattle.file.proofs.show_part.Tie as tie
-use Rattle.file.proofs.show_part.Reads as reads
-use Rattle.file.proofs.show_part.Lts as lts
-use Rattle.conformance.proofs.judge.Reads as judge-reads
-use Rattle.display.proofs.show_table.Reads as show-table-reads
-use Rattle.file.proofs.same_class.Reads as same-class-reads
 
--- src/lib.rt:148:11
 judge-requires : tie.Need-judge-requires
 judge-requires c κs = search needs
 
--- src/lib.rt:149:56
 enum-told : tie.Need-enum-told
 enum-told c = search needs
 
--- src/lib.rt:150:30
 enum-known-code : tie.Need-enum-known-code
 enum-known-code c = search needs
 
--- src/lib.rt:153:54
 enum-told-2 : tie.Need-enum-told-2
 enum-told-2 c = search needs
 
--- src/lib.rt:154:29
 enum-known-n : tie.Need-enum-known-n
 enum-known-n c = search needs
 
--- src/lib.rt:155:23
 mul-end : tie.Need-mul-end
 mul-end c =
     let t = after.after-broken (c .before .before .before .before .before .before .before .before .before .before .before .args .bytes .now) (c .before .before .before .before .before .before .before .before .before .before .before .args .rows .now) (c .before .before .before .before .before .judge .last .1 .0) (c .before .n .given .0 .0) (c .before .n .given .0 .1 .0) (c .before .n .given .0 .1 .1 .0) (sym (c .before .n .given .1) ∙ c .before .before .before .before .before .judge .ensures .0 .same) (c .before .before .before .before .before .judge .ensures .1) in
     omega (arith, t .1 .size, t .1 .few, length-take-le (7 * c .before .n .given .0 .0) (c .before .before .before .before .before .judge .last .1 .0) (t .0))
 
--- src/lib.rt:156:34
 slice-reshare-prefix-same-class : tie.Need-slice-reshare-prefix-same-class
 slice-reshare-prefix-same-class c =
     after.after-broken (c .before .before .before .before .before .before .before .before .before .before .before .args .bytes .now) (c .before .before .before .before .before .before .before .before .before .before .before .args .rows .now) (c .before .before .before .before .before .judge .last .1 .0) (c .before .n .given .0 .0) (c .before .n .given .0 .1 .0) (c .before .n .given .0 .1 .1 .0) (sym (c .before .n .given .1) ∙ c .before .before .before .before .before .judge .ensures .0 .same) (c .before .before .before .before .before .judge .ensures .1) .0
 
--- src/lib.rt:156:34
 slice-aggregate-same-class : tie.Need-slice-aggregate-same-class
 slice-aggregate-same-class c =
     sym (length-take-le _ _ (after.after-broken (c .before .before .before .before .before .before .before .before .before .before .before .before .args .bytes .now) (c .before .before .before .before .before .before .before .before .before .before .before .before .args .rows .now) (c .before .before .before .before .before .before .judge .last .1 .0) (c .before .before .n .given .0 .0) (c .before .before .n .given .0 .1 .0) (c .before .before .n .given .0 .1 .1 .0) (sym (c .before .before .n .given .1) ∙ c .before .before .before .before .before .before .judge .ensures .0 .same) (c .before .before .before .before .before .before .judge .ensures .1) .0))
 
--- src/lib.rt:156:16
 same-class-requires : tie.Need-same-class-requires
 same-class-requires c κs =
     after.after-broken (c .before .before .before .before .before .before .before .before .before .before .before .before .args .bytes .now) (c .before .before .before .before .before .before .before .before .before .before .before .before .args .rows .now) (c .before .before .before .before .before .before .judge .last .1 .0) (c .before .before .n .given .0 .0) (c .before .before .n .given .0 .1 .0) (c .before .before .n .given .0 .1 .1 .0) (sym (c .before .before .n .given .1) ∙ c .before .before .before .before .before .before .judge .ensures .0 .same) (c .before .before .before .before .before .before .judge .ensures .1) .1
 
--- src/lib.rt:162:31
 enum-known-n-2 : tie.Need-enum-known-n-2
 enum-known-n-2 c = search needs
 
--- src/lib.rt:163:23
 mul-end-2 : tie.Need-mul-end-2
 mul-end-2 c =
     let t = after-judging (c .before .before .before .before .before .before .before .before .before .before .before .args .bytes .now) (c .before .before .before .before .before .before .before .before .before .before .before .args .rows .now) (c .before .before .before .before .before .judge .last .1 .0) (c .before .n2 .given .0 .0) (sym (c .before .n2 .given .1) ∙ c .before .before .before .before .before .judge .ensures .0 .same) (c .before .before .before .before .before .judge .ensures .1) .0 in
     omega (arith, t .1 .size, t .1 .few, length-take-le (7 * c .before .n2 .given .0 .0) (c .before .before .before .before .before .judge .last .1 .0) (t .0))
 
--- src/lib.rt:164:34
 slice-reshare-prefix-same-class-2 : tie.Need-slice-reshare-prefix-same-class-2
 slice-reshare-prefix-same-class-2 c =
     after-judging (c .before .before .before .before .before .before .before .before .before .before .before .args .bytes .now) (c .before .before .before .before .before .before .before .before .before .before .before .args .rows .now) (c .before .before .before .before .before .judge .last .1 .0) (c .before .n2 .given .0 .0) (sym (c .before .n2 .given .1) ∙ c .before .before .before .before .before .judge .ensures .0 .same) (c .before .before .before .before .before .judge .ensures .1) .0 .0
 
--- src/lib.rt:164:34
 slice-aggregate-same-class-2 : tie.Need-slice-aggregate-same-class-2
 slice-aggregate-same-class-2 c =
     sym (length-take-le _ _ (after-judging (c .before .before .before .before .before .before .before .before .before .before .before .before .args .bytes .now) (c .before .before .before .before .before .before .before .before .before .before .before .before .args .rows .now) (c .before .before .before .before .before .before .judge .last .1 .0) (c .before .before .n2 .given .0 .0) (sym (c .before .before .n2 .given .1) ∙ c .before .before .before .before .before .before .judge .ensures .0 .same) (c .before .before .before .before .before .before .judge .ensures .1) .0 .0))
 
--- src/lib.rt:164:16
 same-class-requires-2 : tie.Need-same-class-requires-2
 same-class-requires-2 c κs =
     after-judging (c .before .before .before .before .before .before .before .before .before .before .before .before .args .bytes .now) (c .before .before .before .before .before .before .before .before .before .before .before .before .args .rows .now) (c .before .before .before .before .before .before .judge .last .1 .0) (c .before .before .n2 .given .0 .0) (sym (c .before .before .n2 .given .1) ∙ c .before .before .before .before .before .before .judge .ensures .0 .same) (c .before .before .before .before .before .before .judge .ensures .1) .0 .1
 
--- src/lib.rt:165:57
 slice-reshare-prefix-show-table : tie.Need-slice-reshare-prefix-show-table
 slice-reshare-prefix-show-table c =
     after-judging (c .before .before .before .before .before .before .before .before .before .before .before .before .before .before .args .bytes .now) (c .before .before .before .before .before .before .before .before .before .before .before .before .before .before .args .rows .now) (c .before .before .before .before .before .before .before .before .judge .last .1 .0) (c .before .before .before .before .n2 .given .0 .0) (sym (c .before .before .before .before .n2 .given .1) ∙ c .before .before .before .before .before .before .before .before .judge .ensures .0 .same) (c .before .before .before .before .before .before .before .before .judge .ensures .1) .0 .0
 
--- src/lib.rt:165:57
 slice-aggregate-show-table : tie.Need-slice-aggregate-show-table
 slice-aggregate-show-table c =
     sym (length-take-le _ _ (after-judging (c .before .before .before .before .before .before .before .before .before .before .before .before .before .before .before .args .bytes .now) (c .before .before .before .before .before .before .before .before .before .before .before .before .before .before .before .args .rows .now) (c .before .before .before .before .before .before .before .before .before .judge .last .1 .0) (c .before .before .before .before .before .n2 .given .0 .0) (sym (c .before .before .before .before .before .n2 .given .1) ∙ c .before .before .before .before .before .before .before .before .before .judge .ensures .0 .same) (c .before .before .before .before .before .before .before .before .before .judge .ensures .1) .0 .0))
 
--- src/lib.rt:165:21
 show-table-requires : tie.Need-show-table-requires
 show-table-requires c κs =
     let t = after-judging (c .before .before .before .before .before .before .before .before .before .before .before .before .before .before .before .before .args .bytes .now) (c .before .before .before .before .before .before .before .before .before .before .before .before .before .before .before .before .args .rows .now) (c .before .before .before .before .before .before .before .before .before .before .judge .last .1 .0) (c .before .before .before .before .before .before .n2 .given .0 .0) (sym (c .before .before .before .before .before .before .n2 .given .1) ∙ c .before .before .before .before .before .before .before .before .before .before .judge .ensures .0 .same) (c .before .before .before .before .before .before .before .before .before .before .judge .ensures .1) in
     (t .0 .1, (λ i. omega (arith, c .before .before .before .before .before .before .before .before .before .before .before .before .before .before .before .shared-slice-known .given i), t .1))
 
--- src/lib.rt:137:1
 same-length : tie.Need-same-length
 same-length c = search needs
 
--- src/lib.rt:137:1
 returns : tie.Need-returns
 returns c =
     (after.part-shown (c .before .before .before .before .before .before .before .before .before .before .args .bytes .now) (c .before .before .before .before .before .before .before .before .before .before .args .class .now) (c .before .before .before .before .before .before .before .before .before .before .args .frame) (c .before .before .before .before .before .before .before .before .before .before .args .rows .now) (c .before .before .before .before .before .before .before .before .before .before .args .image .now) judged.TooLarge (sym (c .enum-told .given .1) ∙ c .before .before .before .before .judge .ensures .0 .same) (sameClass (c .before .before .before .before .before .before .before .before .before .before .args .class .now) (nodesOf (c .before .before .before .before .before .before .before .before .before .before .args .bytes .now))) refl, (c .before .before .before .before .judge .ensures .1, after.part-image (c .before .before .before .before .before .before .before .before .before .before .args .bytes .now) (c .before .before .before .before .before .before .before .before .before .before .args .class .now) (c .before .before .before .before .before .before .before .before .before .before .args .frame) (c .before .before .before .before .before .before .before .before .before .before .args .rows .now) (c .before .before .before .before .before .before .before .before .before .before .args .image .now) judged.TooLarge (sym (c .enum-told .given .1) ∙ c .before .before .before .before .judge .ensures .0 .same) (sameClass (c .before .before .before .before .before .before .before .before .before .before .args .class .now) (nodesOf (c .before .before .before .before .before .before .before .before .before .before .args .bytes .now))) refl))
 
--- src/lib.rt:137:1
 same-length-2 : tie.Need-same-length-2
 same-length-2 c = search needs
 
--- src/lib.rt:137:1
 returns-2 : tie.Need-returns-2
 returns-2 c =
     (after.part-shown (c .before .before .before .before .before .before .before .before .before .before .before .args .bytes .now) (c .before .before .before .before .before .before .before .before .before .before .before .args .class .now) (c .before .before .before .before .before .before .before .before .before .before .before .args .frame) (c .before .before .before .before .before .before .before .before .before .before .before .args .rows .now) (c .before .before .before .before .before .before .before .before .before .before .before .args .image .now) (judged.Refused (c .before .code .given .0 .0) (c .before .code .given .0 .1 .0)) (sym (c .before .code .given .1) ∙ c .before .before .before .before .before .judge .ensures .0 .same) (sameClass (c .before .before .before .before .before .before .before .before .before .before .before .args .class .now) (nodesOf (c .before .before .before .before .before .before .before .before .before .before .before .args .bytes .now))) refl, (c .before .before .before .before .before .judge .ensures .1, after.part-image (c .before .before .before .before .before .before .before .before .before .before .before .args .bytes .now) (c .before .before .before .before .before .before .before .before .before .before .before .args .class .now) (c .before .before .before .before .before .before .before .before .before .before .before .args .frame) (c .before .before .before .before .before .before .before .before .before .before .before .args .rows .now) (c .before .before .before .before .before .before .before .before .before .before .before .args .image .now) (judged.Refused (c .before .code .given .0 .0) (c .before .code .given .0 .1 .0)) (sym (c .before .code .given .1) ∙ c .before .before .before .before .before .judge .ensures .0 .same) (sameClass (c .before .before .before .before .before .before .before .before .before .before .before .args .class .now) (nodesOf (c .before .before .before .before .before .before .before .before .before .before .before .args .bytes .now))) refl))
 
--- src/lib.rt:137:1
 same-length-3 : tie.Need-same-length-3
 same-length-3 c = search needs
 
--- src/lib.rt:137:1
 returns-3 : tie.Need-returns-3
 returns-3 c =
     (after.part-shown (c .before .before .before .before .before .before .before .before .before .before .args .bytes .now) (c .before .before .before .before .before .before .before .before .before .before .args .class .now) (c .before .before .before .before .before .before .before .before .before .before .args .frame) (c .before .before .before .before .before .before .before .before .before .before .args .rows .now) (c .before .before .before .before .before .before .before .before .before .before .args .image .now) judged.NoRoom (sym (c .enum-told2 .given .1) ∙ c .before .before .before .before .judge .ensures .0 .same) (sameClass (c .before .before .before .before .before .before .before .before .before .before .args .class .now) (nodesOf (c .before .before .before .before .before .before .before .before .before .before .args .bytes .now))) refl, (c .before .before .before .before .judge .ensures .1, after.part-image (c .before .before .before .before .before .before .before .before .before .before .args .bytes .now) (c .before .before .before .before .before .before .before .before .before .before .args .class .now) (c .before .before .before .before .before .before .before .before .before .before .args .frame) (c .before .before .before .before .before .before .before .before .before .before .args .rows .now) (c .before .before .before .before .before .before .before .before .before .before .args .image .now) judged.NoRoom (sym (c .enum-told2 .given .1) ∙ c .before .before .before .before .judge .ensures .0 .same) (sameClass (c .before .before .before .before .before .before .before .before .before .before .args .class .now) (nodesOf (c .before .before .before .before .before .before .before .before .before .before .args .bytes .now))) refl))
 
--- src/lib.rt:137:1
 same-length-4 : tie.Need-same-length-4
 same-length-4 c = search needs
 
--- src/lib.rt:137:1
 returns-4 : tie.Need-returns-4
 returns-4 c =
     (after.part-shown (c .before .before .before .before .before .before .before .before .before .before .before .before .before .before .args .bytes .now) (c .before .before .before .before .before .before .before .before .before .before .before .before .before .before .args .class .now) (c .before .before .before .before .before .before .before .before .before .before .before .before .before .before .args .frame) (c .before .before .before .before .before .before .before .before .before .before .before .before .before .before .args .rows .now) (c .before .before .before .before .before .before .before .before .before .before .before .before .before .before .args .image .now) (judged.Broken (c .before .before .before .before .n .given .0 .0) (c .before .before .before .before .n .given .0 .1 .0) (c .before .before .before .before .n .given .0 .1 .1 .0)) (sym (c .before .before .before .before .n .given .1) ∙ c .before .before .before .before .before .before .before .before .judge .ensures .0 .same) true (sym (c .if1 .taken) ∙ c .before .same-class .ensures), (c .before .before .before .before .before .before .before .before .judge .ensures .1, after.part-image (c .before .before .before .before .before .before .before .before .before .before .before .before .before .before .args .bytes .now) (c .before .before .before .before .before .before .before .before .before .before .before .before .before .before .args .class .now) (c .before .before .before .before .before .before .before .before .before .before .before .before .before .before .args .frame) (c .before .before .before .before .before .before .before .before .before .before .before .before .before .before .args .rows .now) (c .before .before .before .before .before .before .before .before .before .before .before .before .before .before .args .image .now) (judged.Broken (c .before .before .before .before .n .given .0 .0) (c .before .before .before .before .n .given .0 .1 .0) (c .before .before .before .before .n .given .0 .1 .1 .0)) (sym (c .before .before .before .before .n .given .1) ∙ c .before .before .before .before .before .before .before .before .judge .ensures .0 .same) true (sym (c .if1 .taken) ∙ c .before .same-class .ensures)))
 
--- src/lib.rt:137:1
 same-length-5 : tie.Need-same-length-5
 same-length-5 c = search needs
 
--- src/lib.rt:137:1
 returns-5 : tie.Need-returns-5
 returns-5 c =
     (after.part-shown (c .before .before .before .before .before .before .before .before .before .before .before .before .before .before .args .bytes .now) (c .before .before .before .before .before .before .before .before .before .before .before .before .before .before .args .class .now) (c .before .before .before .before .before .before .before .before .before .before .before .before .before .before .args .frame) (c .before .before .before .before .before .before .before .before .before .before .before .before .before .before .args .rows .now) (c .before .before .before .before .before .before .before .before .before .before .before .before .before .before .args .image .now) (judged.Broken (c .before .before .before .before .n .given .0 .0) (c .before .before .before .before .n .given .0 .1 .0) (c .before .before .before .before .n .given .0 .1 .1 .0)) (sym (c .before .before .before .before .n .given .1) ∙ c .before .before .before .before .before .before .before .before .judge .ensures .0 .same) false (sym (c .if1 .left) ∙ c .before .same-class .ensures), (c .before .before .before .before .before .before .before .before .judge .ensures .1, after.part-image (c .before .before .before .before .before .before .before .before .before .before .before .before .before .before .args .bytes .now) (c .before .before .before .before .before .before .before .before .before .before .before .before .before .before .args .class .now) (c .before .before .before .before .before .before .before .before .before .before .before .before .before .before .args .frame) (c .before .before .before .before .before .before .before .before .before .before .before .before .before .before .args .rows .now) (c .before .before .before .before .before .before .before .before .before .before .before .before .before .before .args .image .now) (judged.Broken (c .before .before .before .before .n .given .0 .0) (c .before .before .before .before .n .given .0 .1 .0) (c .before .before .before .before .n .given .0 .1 .1 .0)) (sym (c .before .before .before .before .n .given .1) ∙ c .before .before .before .before .before .before .before .before .judge .ensures .0 .same) false (sym (c .if1 .left) ∙ c .before .same-class .ensures)))
 
--- src/lib.rt:137:1
 same-length-6 : tie.Need-same-length-6
 same-length-6 c = search needs
 
--- src/lib.rt:137:1
 same-length-7 : tie.Need-same-length-7
 same-length-7 c = search needs
 
--- src/lib.rt:137:1
 returns-6 : tie.Need-returns-6
 returns-6 c =
     let e = sym (c .before .before .before .before .before .before .before .before .before .n2 .given .1) ∙ c .before .before .before .before .before .before .before .before .before .before .before .before .before .judge .ensures .0 .same in
     let q = sym (c .before .before .before .before .before .if2 .taken) ∙ c .before .before .before .before .before .before .same-class2 .ensures in
     (ap showFile.Shown (c .before .before .show-table .ensures .0) ∙ after.same-shown (c .before .before .before .before .before .before .before .before .before .before .before .before .before .before .before .before .before .before .before .args .bytes .now) (c .before .before .before .before .before .before .before .before .before .before .before .before .before .before .before .before .before .before .before .args .class .now) (c .before .before .before .before .before .before .before .before .before .before .before .before .before .before .before .before .before .before .before .args .frame) (c .before .before .before .before .before .before .before .before .before .before .before .before .before .before .before .before .before .before .before .args .rows .now) (c .before .before .before .before .before .before .before .before .before .before .before .before .before .before .before .before .before .before .before .args .image .now) (c .before .before .before .before .before .before .before .before .before .n2 .given .0 .0) e q, (c .before .before .before .before .before .before .before .before .before .before .before .before .before .judge .ensures .1, c .before .before .show-table .ensures .1 ∙ (ap (imageBy (pictureOf (nodesOf (c .before .before .before .before .before .before .before .before .before .before .before .before .before .before .before .before .before .before .before .args .bytes .now)) (c .before .before .before .before .before .before .before .before .before .before .before .before .before .before .before .before .before .before .before .args .frame)) (c .before .before .before .before .before .before .before .before .before .before .before .before .before .before .before .before .before .before .before .args .image .now)) (c .before .before .show-table .ensures .0) ∙ after.same-image (c .before .before .before .before .before .before .before .before .before .before .before .before .before .before .before .before .before .before .before .args .bytes .now) (c .before .before .before .before .before .before .before .before .before .before .before .before .before .before .before .before .before .before .before .args .class .now) (c .before .before .before .before .before .before .before .before .before .before .before .before .before .before .before .before .before .before .before .args .frame) (c .before .before .before .before .before .before .before .before .before .before .before .before .before .before .before .before .before .before .before .args .rows .now) (c .before .before .before .before .before .before .before .before .before .before .before .before .before .before .before .before .before .before .before .args .image .now) (c .before .before .before .before .before .before .before .before .before .n2 .given .0 .0) e q)))
 
--- src/lib.rt:137:1
 same-length-8 : tie.Need-same-length-8
 same-length-8 c = search needs
 
--- src/lib.rt:137:1
 returns-7 : tie.Need-returns-7
 returns-7 c =
     let e = sym (c .before .before .before .before .n2 .given .1) ∙ c .before .before .before .before .before .before .before .before .judge .ensures .0 .same in

@@ -1,51 +1,40 @@
+-- Each answer of the head leads to its own.
 use Rattle.file.specs.File.{startOf}
 use Rattle.dataset.proofs.Promised.{promised}
 use borrow.Author.Needs.{needs}
 use Rattle.file.proofs.start_of.Statement.{statement}
 use Rattle.file.proofs.start_of.Tie as tie
-use Rattle.file.proofs.start_of.Reads as reads
-use Rattle.file.proofs.start_of.Lts as lts
-use Rattle.meta.proofs.read_head.Reads as read-head-reads
 
--- src/lib.rt:57:11
 read-head-requires : tie.Need-read-head-requires
 read-head-requires c κs = search needs
 
--- src/lib.rt:58:25
 enum-told : tie.Need-enum-told
 enum-told c = search needs
 
--- src/lib.rt:59:26
 enum-told-2 : tie.Need-enum-told-2
 enum-told-2 c = search needs
 
--- src/lib.rt:60:30
 enum-told-3 : tie.Need-enum-told-3
 enum-told-3 c = search needs
 
--- src/lib.rt:61:20
 enum-known-from : tie.Need-enum-known-from
 enum-known-from c = search needs
 
--- src/lib.rt:54:1
 returns : tie.Need-returns
 unfolding startOf
 returns c =
     promised (rw (← c .before .before .read-head .ensures .0, c .enum-told .given .1))
 
--- src/lib.rt:54:1
 returns-2 : tie.Need-returns-2
 unfolding startOf
 returns-2 c =
     promised (rw (← c .before .before .read-head .ensures .0, c .enum-told2 .given .1))
 
--- src/lib.rt:54:1
 returns-3 : tie.Need-returns-3
 unfolding startOf
 returns-3 c =
     promised (rw (← c .before .before .read-head .ensures .0, c .enum-told3 .given .1))
 
--- src/lib.rt:54:1
 returns-4 : tie.Need-returns-4
 unfolding startOf
 returns-4 c =

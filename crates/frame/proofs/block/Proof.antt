@@ -3,11 +3,8 @@ use mathlib.Core.Path.{_≡_, refl}
 use Prim.Native.Nat.{_+_, _-_, _*_}
 use native.Mathlib.Omega.{arith}
 use borrow.Author.Needs.{needs}
-use Rattle.frame.specs.View.{Part}
 use Rattle.frame.proofs.block.Statement.{statement}
 use Rattle.frame.proofs.block.Tie as tie
-use Rattle.frame.proofs.block.Reads as reads
-use Rattle.frame.proofs.block.Lts as lts
 
 mul-from : tie.Need-mul-from
 mul-from c = search needs

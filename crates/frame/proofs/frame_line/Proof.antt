@@ -1,6 +1,6 @@
 -- `frame::frame_line` meets its contract: a walk of its MIR, by hand. The view that one call returns is held in a local and passed to the next. All that the proof knows of `view` and of `line` is that each meets its contract.
 -- In a local of a body MIR erases the lifetime of the struct's type. What the numbers own is made anew at each call and at the exit.
-use mathlib.Core.Path.{_≡_, refl}
+use mathlib.Core.Path.{refl}
 use Prim.Native.Nat.{ℕ, _+_, _-_, _*_, _<_, _^_}
 use mathlib.Core.List.{List, [], _∷_}
 use lib.ListN.{length}

@@ -1,13 +1,9 @@
 -- The products fit, since the frame lies inside the pixel bytes.
 use native.Mathlib.Omega.{arith}
-use lib.ListN.{length}
 use borrow.Author.Needs.{needs}
 use Rattle.frame.proofs.Laws.{frame-fits}
 use Rattle.frame.proofs.frame_part.Statement.{statement}
 use Rattle.frame.proofs.frame_part.Tie as tie
-use Rattle.frame.proofs.frame_part.Reads as reads
-use Rattle.frame.proofs.frame_part.Lts as lts
-use Rattle.frame.proofs.block.Reads as block-reads
 
 mul-block : tie.Need-mul-block
 mul-block c = omega (arith, frame-fits _ _ _ _ _ (c .before .pre))

@@ -1,6 +1,6 @@
 -- `frame::view` meets its contract: a walk of its MIR, by hand. `frame_part` is called on what was passed, and the struct is made of the slice that it hands back and of two numbers.
 -- A `&[u8]` is Copy, so what it owns is had twice: once for the callee, and once for the exit. What the numbers own is made anew.
-use mathlib.Core.Path.{_≡_, refl, ap}
+use mathlib.Core.Path.{refl, ap}
 use Prim.Native.Nat.{ℕ, _-_, _*_, _<_, _^_}
 use mathlib.Core.List.{List, [], _∷_}
 use lib.ListN.{length}
@@ -37,7 +37,7 @@ use denote.Triple.Table.{entered, cited}
 use denote.Triple.Walked.{says, needs, Stays, stay-none, stay-none-slice, walkOf, goes-none, goes-none-slice, Walks, ends-at, walked, walk-meets}
 use denote.Exit.{yes}
 use denote.Triple.Clauses.{ensured, lasts}
-use Rattle.frame.specs.View.{Part, IsView, Fits, frameSize}
+use Rattle.frame.specs.View.{Part, Fits, frameSize}
 use Rattle.frame.specs.declared.FrameView.{FrameView}
 use Rattle.frame.proofs.FrameView as T
 use Rattle.frame.proofs.FrameView.Laws as T′

@@ -1,3 +1,4 @@
+-- Nothing is promised of the answer; each turn goes on by an item, so the walk ends.
 use borrow.Author.Needs.{needs}
 use Prim.Native.Nat.{_-_}
 use Rattle.ids.proofs.are_few.Statement.{statement}

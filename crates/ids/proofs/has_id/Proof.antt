@@ -1,3 +1,4 @@
+-- An item has an ID just where it has a single US of the tag.
 use Rattle.node.proofs.Laws as node-laws
 use Rattle.rules.specs.Frame.{hasId}
 use borrow.Author.Needs.{needs}

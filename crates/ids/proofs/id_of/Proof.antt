@@ -1,3 +1,4 @@
+-- An ID is a US and so below 65,536; an item without one counts as 0.
 use native.Mathlib.Omega.{arith}
 use Rattle.node.proofs.Laws as node-laws
 use borrow.Author.Needs.{needs}

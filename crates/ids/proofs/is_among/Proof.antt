@@ -1,9 +1,10 @@
+-- An item of another ID leaves the search as it was; one of this ID ends it.
 use borrow.Author.Needs.{needs}
 use mathlib.Core.Path.{_≡_, sym, _∙_}
 use Prim.Native.Nat.{_-_}
 use Rattle.node.specs.Nodes.{nodesOf, members}
 use Rattle.rules.specs.Frame.{isIn}
-use Rattle.ids.specs.Marks.{idsOf}
+use Rattle.ids.specs.Contracts.{idsOf}
 use Rattle.ids.proofs.Laws as laws
 use Rattle.ids.proofs.is_among.Statement.{statement}
 use Rattle.ids.proofs.is_among.Tie as tie

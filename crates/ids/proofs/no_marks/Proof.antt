@@ -1,3 +1,4 @@
+-- Every place of the table is 0.
 use Rattle.ids.proofs.Laws as laws
 use Rattle.ids.proofs.no_marks.Statement.{statement}
 use Rattle.ids.proofs.no_marks.Tie as tie

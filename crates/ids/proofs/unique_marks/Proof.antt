@@ -1,12 +1,12 @@
-use lib.ListN.{length-set}
+-- The IDs that were passed are marked, so an ID stands twice just where its mark is found.
+use lib.ListN.{length-set, length}
 use borrow.Author.Needs.{needs}
 use mathlib.Core.Path.{_≡_, sym, _∙_}
 use native.Mathlib.Omega.{arith}
 use Prim.Native.Nat.{_-_}
-use lib.ListN.{length}
 use Rattle.node.specs.Nodes.{nodesOf, members}
 use Rattle.rules.specs.Frame.{uniqueIds}
-use Rattle.ids.specs.Marks.{idsOf}
+use Rattle.ids.specs.Contracts.{idsOf}
 use Rattle.ids.proofs.Laws as laws
 use Rattle.ids.proofs.unique_marks.Statement.{statement}
 use Rattle.ids.proofs.unique_marks.Tie as tie

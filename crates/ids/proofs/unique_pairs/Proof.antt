@@ -1,3 +1,4 @@
+-- IDs are unique just where the first is not among the others, and those are unique.
 use borrow.Author.Needs.{needs}
 use mathlib.Core.Path.{_≡_, sym, _∙_}
 use Prim.Native.Nat.{_-_}

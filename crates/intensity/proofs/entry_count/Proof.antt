@@ -1,24 +1,19 @@
-use mathlib.Core.Path.{_≡_, refl, sym, ap, _∙_}
+-- Two bytes make a number below 65,536, and 0 stands for 65,536 itself.
+use mathlib.Core.Path.{sym, _∙_}
 use native.Mathlib.Omega.{arith}
 use borrow.Author.Tests.{ne-eqb}
 use Rattle.intensity.proofs.Laws as laws
 use borrow.Author.Needs.{needs}
 use Rattle.intensity.proofs.entry_count.Statement.{statement}
 use Rattle.intensity.proofs.entry_count.Tie as tie
-use Rattle.intensity.proofs.entry_count.Reads as reads
-use Rattle.intensity.proofs.entry_count.Lts as lts
-use Rattle.dataset.proofs.u16_at.Reads as u16-at-reads
 
--- src/lib.rt:88:9
 u16-at-requires : tie.Need-u16-at-requires
 u16-at-requires c κs = search needs
 
--- src/lib.rt:83:1
 returns : tie.Need-returns
 returns c =
     (sym (laws.count-zero _ (sym (c .before .u16-at .ensures .0) ∙ c .if1 .taken)), omega arith)
 
--- src/lib.rt:83:1
 returns-2 : tie.Need-returns-2
 returns-2 c =
     (sym (laws.count-some _ _ (c .before .u16-at .ensures .0) (ne-eqb _ _ (c .if1 .left))), (omega (arith, c .if1 .left), omega (arith, c .before .u16-at .ensures .1)))

@@ -1,65 +1,49 @@
+-- Descriptor and data are found in turn, and the two values are judged together.
 use Rattle.node.proofs.Laws as node-laws
 use Rattle.rules.specs.Intensity.{hasLut}
 use borrow.Author.Needs.{needs}
 use Rattle.intensity.proofs.has_lut.Statement.{statement}
 use Rattle.intensity.proofs.has_lut.Tie as tie
-use Rattle.intensity.proofs.has_lut.Reads as reads
-use Rattle.intensity.proofs.has_lut.Lts as lts
-use Rattle.element.proofs.find_vr_item.Reads as find-vr-item-reads
-use Rattle.intensity.proofs.is_lut.Reads as is-lut-reads
-use Rattle.node.proofs.value.Reads as value-reads
 
--- src/lib.rt:65:22
 find-vr-item-requires : tie.Need-find-vr-item-requires
 find-vr-item-requires c κs = search needs
 
--- src/lib.rt:65:17
 enum-known-d : tie.Need-enum-known-d
 enum-known-d c = search needs
 
--- src/lib.rt:66:9
 enum-told : tie.Need-enum-told
 enum-told c = search needs
 
--- src/lib.rt:66:9
 returns : tie.Need-returns
 unfolding hasLut
 returns c =
     rw (node-laws.lacked (c .enum-told .given .1) (c .before .before .find-vr-item .ensures .0))
 
--- src/lib.rt:68:22
 find-vr-item-requires-2 : tie.Need-find-vr-item-requires-2
 find-vr-item-requires-2 c κs = search needs
 
--- src/lib.rt:68:17
 enum-known-t : tie.Need-enum-known-t
 enum-known-t c = search needs
 
--- src/lib.rt:69:9
 enum-told-2 : tie.Need-enum-told-2
 enum-told-2 c = search needs
 
--- src/lib.rt:69:9
 returns-2 : tie.Need-returns-2
 unfolding hasLut
 returns-2 c =
     rw (node-laws.had (c .before .before .before .before .d .given .1) (c .before .before .before .before .before .before .find-vr-item .ensures .0), node-laws.lacked (c .enum-told2 .given .1) (c .before .before .find-vr-item2 .ensures .0))
 
--- src/lib.rt:71:12
 value-requires : tie.Need-value-requires
 value-requires c κs =
     (c .before .before .before .before .before .before .before .before .before .before .pre .0, node-laws.within _ (c .before .before .before .before .before .d .given .1) (c .before .before .before .before .before .before .before .find-vr-item .ensures .1))
 
--- src/lib.rt:71:41
 value-requires-2 : tie.Need-value-requires-2
 value-requires-2 c κs =
     (c .before .before .before .before .before .before .before .before .before .before .before .pre .0, node-laws.within _ (c .before .before .t .given .1) (c .before .before .before .before .find-vr-item2 .ensures .1))
 
--- src/lib.rt:71:5
 is-lut-requires : tie.Need-is-lut-requires
 is-lut-requires c κs = search needs
 
--- src/lib.rt:61:1
 returns-3 : tie.Need-returns-3
 unfolding hasLut
 returns-3 c =

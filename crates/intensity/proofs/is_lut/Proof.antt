@@ -1,14 +1,9 @@
-use mathlib.Core.Path.{_≡_, refl, sym, ap, _∙_}
-use native.Mathlib.Omega.{arith}
+-- The three tests are those of the definition, in its order.
 use borrow.Author.Tests.{eq-eqb, ne-eqb}
 use Rattle.rules.specs.Intensity.{isLut}
 use borrow.Author.Needs.{needs}
 use Rattle.intensity.proofs.is_lut.Statement.{statement}
 use Rattle.intensity.proofs.is_lut.Tie as tie
-use Rattle.intensity.proofs.is_lut.Reads as reads
-use Rattle.intensity.proofs.is_lut.Lts as lts
-use Rattle.intensity.proofs.entry_count.Reads as entry-count-reads
-use Rattle.dataset.proofs.u16_at.Reads as u16-at-reads
 
 u16-at-requires : tie.Need-u16-at-requires
 u16-at-requires c κs = search needs

@@ -1,37 +1,28 @@
+-- A group that is found has its own grade; without one the grade is the one handed in.
 use Rattle.node.proofs.Laws as node-laws
-use Rattle.intensity.specs.Grades.{relationIn}
+use Rattle.intensity.specs.Contracts.{relationIn}
 use borrow.Author.Needs.{needs}
 use Rattle.intensity.proofs.relation_in.Statement.{statement}
 use Rattle.intensity.proofs.relation_in.Tie as tie
-use Rattle.intensity.proofs.relation_in.Reads as reads
-use Rattle.intensity.proofs.relation_in.Lts as lts
-use Rattle.element.proofs.find_item.Reads as find-item-reads
-use Rattle.intensity.proofs.relation_of.Reads as relation-of-reads
 
--- src/lib.rt:133:11
 find-item-requires : tie.Need-find-item-requires
 find-item-requires c κs = search needs
 
--- src/lib.rt:134:23
 enum-told : tie.Need-enum-told
 enum-told c = search needs
 
--- src/lib.rt:135:17
 enum-known-g : tie.Need-enum-known-g
 enum-known-g c = search needs
 
--- src/lib.rt:135:23
 relation-of-requires : tie.Need-relation-of-requires
 relation-of-requires c κs =
     (c .before .before .before .before .before .before .pre .0, node-laws.within _ (c .before .g .given .1) (c .before .before .before .find-item .ensures .1))
 
--- src/lib.rt:129:1
 returns : tie.Need-returns
 unfolding relationIn
 returns c =
     rw (node-laws.lacked (c .enum-told .given .1) (c .before .before .find-item .ensures .0))
 
--- src/lib.rt:129:1
 returns-2 : tie.Need-returns-2
 unfolding relationIn
 returns-2 c =

@@ -1,50 +1,38 @@
-use mathlib.Core.Path.{_≡_, refl, sym, ap, _∙_}
+-- A group without its one item has grade 0, and in that item LOG alone makes grade 2.
 use Rattle.node.proofs.Laws as node-laws
 use Rattle.rules.specs.Intensity.{isLog}
-use Rattle.intensity.specs.Grades.{relationOf}
+use Rattle.intensity.specs.Contracts.{relationOf}
 use Rattle.element.proofs.Laws as element-laws
 use borrow.Author.Needs.{needs}
 use Rattle.intensity.proofs.relation_of.Statement.{statement}
 use Rattle.intensity.proofs.relation_of.Tie as tie
-use Rattle.intensity.proofs.relation_of.Reads as reads
-use Rattle.intensity.proofs.relation_of.Lts as lts
-use Rattle.element.proofs.cs_item.Reads as cs-item-reads
-use Rattle.element.proofs.the_item.Reads as the-item-reads
 
--- src/lib.rt:116:11
 the-item-requires : tie.Need-the-item-requires
 the-item-requires c κs = search needs
 
--- src/lib.rt:117:23
 enum-told : tie.Need-enum-told
 enum-told c = search needs
 
--- src/lib.rt:118:17
 enum-known-j : tie.Need-enum-known-j
 enum-known-j c = search needs
 
--- src/lib.rt:119:85
 slice-aggregate-cs-item : tie.Need-slice-aggregate-cs-item
 slice-aggregate-cs-item c = search needs
 
--- src/lib.rt:119:16
 cs-item-requires : tie.Need-cs-item-requires
 cs-item-requires c κs =
     (c .before .before .before .before .before .before .before .pre .0, node-laws.within _ (c .before .before .j .given .1) (c .before .before .before .before .the-item .ensures .1))
 
--- src/lib.rt:112:1
 returns : tie.Need-returns
 unfolding relationOf
 returns c =
     rw (← element-laws.one-item-not _ _ (node-laws.lacked (c .enum-told .given .1) (c .before .before .the-item .ensures .0)))
 
--- src/lib.rt:112:1
 returns-2 : tie.Need-returns-2
 unfolding relationOf isLog
 returns-2 c =
     rw (← element-laws.one-item-is _ _ _ (node-laws.had (c .before .before .before .before .j .given .1) (c .before .before .before .before .before .before .the-item .ensures .0)), node-laws.had (c .before .before .before .before .j .given .1) (c .before .before .before .before .before .before .the-item .ensures .0), ← c .before .cs-item .ensures, c .if1 .taken)
 
--- src/lib.rt:112:1
 returns-3 : tie.Need-returns-3
 unfolding relationOf isLog
 returns-3 c =

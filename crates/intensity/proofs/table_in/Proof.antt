@@ -1,37 +1,28 @@
+-- A group that is found has its own grade; without one the grade is the one handed in.
 use Rattle.node.proofs.Laws as node-laws
-use Rattle.intensity.specs.Grades.{tableIn}
+use Rattle.intensity.specs.Contracts.{tableIn}
 use borrow.Author.Needs.{needs}
 use Rattle.intensity.proofs.table_in.Statement.{statement}
 use Rattle.intensity.proofs.table_in.Tie as tie
-use Rattle.intensity.proofs.table_in.Reads as reads
-use Rattle.intensity.proofs.table_in.Lts as lts
-use Rattle.element.proofs.find_item.Reads as find-item-reads
-use Rattle.intensity.proofs.table_of.Reads as table-of-reads
 
--- src/lib.rt:143:11
 find-item-requires : tie.Need-find-item-requires
 find-item-requires c κs = search needs
 
--- src/lib.rt:144:23
 enum-told : tie.Need-enum-told
 enum-told c = search needs
 
--- src/lib.rt:145:17
 enum-known-g : tie.Need-enum-known-g
 enum-known-g c = search needs
 
--- src/lib.rt:145:23
 table-of-requires : tie.Need-table-of-requires
 table-of-requires c κs =
     (c .before .before .before .before .before .before .pre .0, node-laws.within _ (c .before .g .given .1) (c .before .before .before .find-item .ensures .1))
 
--- src/lib.rt:139:1
 returns : tie.Need-returns
 unfolding tableIn
 returns c =
     rw (node-laws.lacked (c .enum-told .given .1) (c .before .before .find-item .ensures .0))
 
--- src/lib.rt:139:1
 returns-2 : tie.Need-returns-2
 unfolding tableIn
 returns-2 c =

@@ -1,46 +1,34 @@
-use mathlib.Core.Path.{_≡_, refl, sym, ap, _∙_}
+-- A sequence has items just where the next node does not follow at once, and their grade is the group's.
 use borrow.Author.Tests.{eq-eqb, ne-eqb}
 use Rattle.rules.specs.Intensity.{isLutGroup, hasLinear}
 use Rattle.element.proofs.Every.{members-some, members-none}
-use Rattle.intensity.specs.Grades.{tableOf, lutsOf}
+use Rattle.intensity.specs.Contracts.{tableOf, lutsOf}
 use borrow.Author.Needs.{needs}
 use Rattle.intensity.proofs.table_of.Statement.{statement}
 use Rattle.intensity.proofs.table_of.Tie as tie
-use Rattle.intensity.proofs.table_of.Reads as reads
-use Rattle.intensity.proofs.table_of.Lts as lts
-use Rattle.intensity.proofs.luts_of.Reads as luts-of-reads
-use Rattle.node.proofs.next.Reads as next-reads
-use Rattle.node.proofs.vr.Reads as vr-reads
 
--- src/lib.rt:99:8
 vr-requires : tie.Need-vr-requires
 vr-requires c κs = search needs
 
--- src/lib.rt:100:20
 add-from : tie.Need-add-from
 add-from c = search needs
 
--- src/lib.rt:101:13
 next-requires : tie.Need-next-requires
 next-requires c κs = search needs
 
--- src/lib.rt:103:13
 luts-of-requires : tie.Need-luts-of-requires
 luts-of-requires c κs = search needs
 
--- src/lib.rt:95:1
 returns : tie.Need-returns
 unfolding tableOf isLutGroup hasLinear lutsOf
 returns c =
     rw (← c .before .before .before .before .vr .ensures, eq-eqb _ _ (c .before .before .before .if1 .taken), ← c .before .before .next .ensures .0, members-some _ _ _ (c .before .if2 .taken)) (c .luts-of .ensures)
 
--- src/lib.rt:95:1
 returns-2 : tie.Need-returns-2
 unfolding tableOf isLutGroup
 returns-2 c =
     rw (← c .before .before .before .vr .ensures, eq-eqb _ _ (c .before .before .if1 .taken), ← c .before .next .ensures .0, members-none _ _ _ (c .if2 .left))
 
--- src/lib.rt:95:1
 returns-3 : tie.Need-returns-3
 unfolding tableOf isLutGroup
 returns-3 c =

@@ -1,5 +1,4 @@
 -- The row of node i is number i + 1.
-use mathlib.Core.Path.{sym, _∙_}
 use native.Mathlib.Omega.{arith}
 use borrow.Author.Tests.{eq-eqb, ne-eqb}
 use Rattle.node.proofs.Laws as node-laws

@@ -1,3 +1,4 @@
+-- Each answer of judging leads to its own; an accepted object leaves its rows in the buffer, and the frame is mapped from them.
 use mathlib.Core.Path.{sym, ap, _∙_}
 use native.Mathlib.Omega.{arith}
 use Prim.Native.Nat.{_*_}
@@ -11,10 +12,6 @@ use Rattle.dataset.proofs.Promised.{promised}
 use borrow.Author.Needs.{needs}
 use Rattle.linear.proofs.linear.Statement.{statement}
 use Rattle.linear.proofs.linear.Tie as tie
-use Rattle.linear.proofs.linear.Reads as reads
-use Rattle.linear.proofs.linear.Lts as lts
-use Rattle.conformance.proofs.judge.Reads as judge-reads
-use Rattle.linear.proofs.linear_table.Reads as linear-table-reads
 
 judge-requires : tie.Need-judge-requires
 judge-requires c κs = search needs

@@ -1,115 +1,85 @@
-use mathlib.Core.Path.{_≡_, refl, sym, ap, _∙_, subst}
-use mathlib.Core.List.{List}
+-- A frame that can be mapped has all four parts, so the arms without one are never reached.
+use mathlib.Core.Path.{refl, _∙_}
 use Rattle.node.specs.Nodes.{nodesOf}
 use Rattle.node.proofs.Laws as node-laws
-use Rattle.steps.specs.Said.{sizedOf, valueIn}
+use Rattle.steps.specs.Contracts.{sizedOf, valueIn}
 use Rattle.steps.proofs.Laws as steps-laws
-use Rattle.linear.specs.Said.{MapReady}
 use Rattle.linear.proofs.Maps as maps
 use borrow.Author.Needs.{needs}
 use Rattle.linear.proofs.map.Statement.{statement}
 use Rattle.linear.proofs.map.Tie as tie
-use Rattle.linear.proofs.map.Reads as reads
-use Rattle.linear.proofs.map.Lts as lts
-use Rattle.element.proofs.find_vr_item.Reads as find-vr-item-reads
-use Rattle.linear.proofs.map_cells.Reads as map-cells-reads
-use Rattle.node.proofs.value.Reads as value-reads
-use Rattle.steps.proofs.geometry_of.Reads as geometry-of-reads
-use Rattle.steps.proofs.pixel_element.Reads as pixel-element-reads
 
--- src/lib.rt:139:24
 geometry-of-requires : tie.Need-geometry-of-requires
 geometry-of-requires c κs = search needs
 
--- src/lib.rt:139:19
 enum-known-g : tie.Need-enum-known-g
 enum-known-g c = search needs
 
--- src/lib.rt:140:9
 enum-told : tie.Need-enum-told
 enum-told c = search needs
 
--- src/lib.rt:140:9
 returns : tie.Need-returns
 returns c =
     absurd (maps.no-geometry _ _ _ _ (c .before .before .before .before .before .before .pre .1 .1) (steps-laws.said sizedOf (c .enum-told .given .1) (c .before .before .geometry-of .ensures .0)))
 
--- src/lib.rt:142:22
 pixel-element-requires : tie.Need-pixel-element-requires
 pixel-element-requires c κs = search needs
 
--- src/lib.rt:142:17
 enum-known-p : tie.Need-enum-known-p
 enum-known-p c = search needs
 
--- src/lib.rt:143:9
 enum-told-2 : tie.Need-enum-told-2
 enum-told-2 c = search needs
 
--- src/lib.rt:143:9
 returns-2 : tie.Need-returns-2
 returns-2 c =
     absurd (maps.no-pixels _ _ _ _ (c .before .before .before .before .before .before .before .before .before .before .pre .1 .1) (steps-laws.said (valueIn (nodesOf (c .before .before .before .before .before .before .before .before .before .before .args .bytes .now))) (c .enum-told2 .given .1) (c .before .before .pixel-element .ensures .0)))
 
--- src/lib.rt:145:22
 find-vr-item-requires : tie.Need-find-vr-item-requires
 find-vr-item-requires c κs = search needs
 
--- src/lib.rt:145:17
 enum-known-d : tie.Need-enum-known-d
 enum-known-d c = search needs
 
--- src/lib.rt:146:9
 enum-told-3 : tie.Need-enum-told-3
 enum-told-3 c = search needs
 
--- src/lib.rt:146:9
 returns-3 : tie.Need-returns-3
 returns-3 c =
     absurd (maps.no-descriptor _ _ _ _ (c .before .before .before .before .before .before .before .before .before .before .before .before .before .before .pre .1 .1) (node-laws.lacked (c .enum-told3 .given .1) (c .before .before .find-vr-item .ensures .0)))
 
--- src/lib.rt:148:22
 find-vr-item-requires-2 : tie.Need-find-vr-item-requires-2
 find-vr-item-requires-2 c κs = search needs
 
--- src/lib.rt:148:17
 enum-known-t : tie.Need-enum-known-t
 enum-known-t c = search needs
 
--- src/lib.rt:149:9
 enum-told-4 : tie.Need-enum-told-4
 enum-told-4 c = search needs
 
--- src/lib.rt:149:9
 returns-4 : tie.Need-returns-4
 returns-4 c =
     absurd (maps.no-data _ _ _ _ (c .before .before .before .before .before .before .before .before .before .before .before .before .before .before .before .before .before .before .pre .1 .1) _ (node-laws.had (c .before .before .before .before .d .given .1) (c .before .before .before .before .before .before .find-vr-item .ensures .0)) (node-laws.lacked (c .enum-told4 .given .1) (c .before .before .find-vr-item2 .ensures .0)))
 
--- src/lib.rt:152:9
 value-requires : tie.Need-value-requires
 value-requires c κs =
     (c .before .before .before .before .before .before .before .before .before .before .before .before .before .before .before .before .before .before .before .pre .0, node-laws.within _ (c .before .before .before .before .before .before .before .before .before .p .given .1) (c .before .before .before .before .before .before .before .before .before .before .before .pixel-element .ensures .1))
 
--- src/lib.rt:155:9
 value-requires-2 : tie.Need-value-requires-2
 value-requires-2 c κs =
     (c .before .before .before .before .before .before .before .before .before .before .before .before .before .before .before .before .before .before .before .before .pre .0, node-laws.within _ (c .before .before .before .before .before .before .d .given .1) (c .before .before .before .before .before .before .before .before .find-vr-item .ensures .1))
 
--- src/lib.rt:156:9
 value-requires-3 : tie.Need-value-requires-3
 value-requires-3 c κs =
     (c .before .before .before .before .before .before .before .before .before .before .before .before .before .before .before .before .before .before .before .before .before .pre .0, node-laws.within _ (c .before .before .before .t .given .1) (c .before .before .before .before .before .find-vr-item2 .ensures .1))
 
--- src/lib.rt:151:5
 map-cells-requires : tie.Need-map-cells-requires
 map-cells-requires c κs =
     rw (c .before .before .before .value .ensures, c .before .before .value2 .ensures, c .before .value3 .ensures) (maps.ready _ _ _ _ (c .before .before .before .before .before .before .before .before .before .before .before .before .before .before .before .before .before .before .before .before .before .before .before .pre .1 .1) _ _ _ _ (steps-laws.said sizedOf (c .before .before .before .before .before .before .before .before .before .before .before .before .before .before .before .before .before .g .given .1) (c .before .before .before .before .before .before .before .before .before .before .before .before .before .before .before .before .before .before .before .geometry-of .ensures .0)) (steps-laws.said (valueIn (nodesOf (c .before .before .before .before .before .before .before .before .before .before .before .before .before .before .before .before .before .before .before .before .before .before .before .args .bytes .now))) (c .before .before .before .before .before .before .before .before .before .before .before .before .before .p .given .1) (c .before .before .before .before .before .before .before .before .before .before .before .before .before .before .before .pixel-element .ensures .0)) (node-laws.had (c .before .before .before .before .before .before .before .before .before .d .given .1) (c .before .before .before .before .before .before .before .before .before .before .before .find-vr-item .ensures .0)) (node-laws.had (c .before .before .before .before .before .t .given .1) (c .before .before .before .before .before .before .before .find-vr-item2 .ensures .0)) (c .before .before .before .before .before .before .before .before .before .before .before .before .before .before .before .before .before .before .before .before .before .before .before .args .values .now) refl)
 
--- src/lib.rt:135:1
 same-length : tie.Need-same-length
 same-length c = search needs
 
--- src/lib.rt:135:1
 returns-5 : tie.Need-returns-5
 returns-5 c =
     c .before .before .map-cells .ensures ∙ rw (c .before .before .before .before .before .before .value .ensures, c .before .before .before .before .before .value2 .ensures, c .before .before .before .before .value3 .ensures) (maps.leaves _ _ _ _ (c .before .before .before .before .before .before .before .before .before .before .before .before .before .before .before .before .before .before .before .before .before .before .before .before .before .before .pre .1 .1) _ _ _ _ (steps-laws.said sizedOf (c .before .before .before .before .before .before .before .before .before .before .before .before .before .before .before .before .before .before .before .before .g .given .1) (c .before .before .before .before .before .before .before .before .before .before .before .before .before .before .before .before .before .before .before .before .before .before .geometry-of .ensures .0)) (steps-laws.said (valueIn (nodesOf (c .before .before .before .before .before .before .before .before .before .before .before .before .before .before .before .before .before .before .before .before .before .before .before .before .before .before .args .bytes .now))) (c .before .before .before .before .before .before .before .before .before .before .before .before .before .before .before .before .p .given .1) (c .before .before .before .before .before .before .before .before .before .before .before .before .before .before .before .before .before .before .pixel-element .ensures .0)) (node-laws.had (c .before .before .before .before .before .before .before .before .before .before .before .before .d .given .1) (c .before .before .before .before .before .before .before .before .before .before .before .before .before .before .find-vr-item .ensures .0)) (node-laws.had (c .before .before .before .before .before .before .before .before .t .given .1) (c .before .before .before .before .before .before .before .before .before .before .find-vr-item2 .ensures .0)) (c .before .before .before .before .before .before .before .before .before .before .before .before .before .before .before .before .before .before .before .before .before .before .before .before .before .before .args .values .now) refl)

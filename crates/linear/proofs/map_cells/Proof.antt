@@ -1,24 +1,17 @@
-use mathlib.Core.Path.{_≡_, refl, sym, ap, _∙_}
+-- Each turn writes one cell's entry and leaves what is behind it; the place of an entry is always below their number.
+use mathlib.Core.Path.{_≡_, refl, ap, _∙_}
 use Prim.Native.Nat.{ℕ, _-_, _≤_}
 use native.Mathlib.Omega.{arith}
 use borrow.Author.Needs.{needs}
 use lib.ListN.{length}
 use lib.Pow.{pow-pos}
 use Rattle.pixel.specs.Pixel.{samplesOf, sampleAt}
-use Rattle.pixel.specs.Painted.{painted}
+use Rattle.pixel.specs.Contracts.{painted}
 use Rattle.pixel.proofs.Laws.{full, frame-facts, native-run, painted-more, painted-length}
 use Rattle.linear.specs.Mapping.{entryAt}
 use Rattle.linear.proofs.Laws as laws
 use Rattle.linear.proofs.map_cells.Statement.{statement}
 use Rattle.linear.proofs.map_cells.Tie as tie
-use Rattle.linear.proofs.map_cells.Reads as reads
-use Rattle.linear.proofs.map_cells.Lts as lts
-use Rattle.dataset.proofs.u16_at.Reads as u16-at-reads
-use Rattle.linear.proofs.entry.Reads as entry-reads
-use Rattle.intensity.proofs.entry_count.Reads as entry-count-reads
-use Rattle.linear.proofs.place.Reads as place-reads
-use Rattle.pixel.proofs.power.Reads as power-reads
-use Rattle.pixel.proofs.sample.Reads as sample-reads
 
 abbrev Inv-loop : tie.InvT-loop
 Inv-loop pixels g frame descriptor entries values₀ n first low from count i₀ values i =
@@ -27,53 +20,43 @@ Inv-loop pixels g frame descriptor entries values₀ n first low from count i₀
 abbrev μ-loop : tie.MeasureT-loop
 μ-loop pixels g frame descriptor entries values₀ n first low from count i₀ values i = n - i
 
--- src/lib.rt:123:13
 mul-n : tie.Need-mul-n Inv-loop μ-loop
 mul-n c =
     omega (arith, c .before .before .before .before .before .pre .room)
 
--- src/lib.rt:124:18
 sub-first : tie.Need-sub-first Inv-loop μ-loop
 sub-first c =
     omega (arith, frame-facts _ _ _ (c .before .before .before .before .before .pre .inside) .0)
 
--- src/lib.rt:124:17
 mul-first : tie.Need-mul-first Inv-loop μ-loop
 mul-first c =
     omega (arith, native-run (c .before .before .before .before .before .args .g) (c .before .before .before .before .before .args .pixels .now) (c .before .before .before .before .before .args .frame) (c .before .before .before .before .before .pre .shape .width) (c .before .before .before .before .before .pre .inside) .1)
 
--- src/lib.rt:125:15
 power-requires : tie.Need-power-requires Inv-loop μ-loop
 power-requires c κs =
     c .before .before .before .before .before .pre .shape .stored-most
 
--- src/lib.rt:125:15
 sub-low : tie.Need-sub-low Inv-loop μ-loop
 sub-low c =
     omega (arith, c .power .ensures, pow-pos (c .before .before .before .before .before .before .args .g .stored))
 
--- src/lib.rt:126:9
 u16-at-requires : tie.Need-u16-at-requires Inv-loop μ-loop
 u16-at-requires c κs =
     omega (arith, laws.lut-is _ _ (c .before .before .before .before .before .before .pre .lut) .three)
 
--- src/lib.rt:127:9
 entry-count-requires : tie.Need-entry-count-requires Inv-loop μ-loop
 entry-count-requires c κs =
     omega (arith, laws.lut-is _ _ (c .before .before .before .before .before .before .before .pre .lut) .three)
 
--- src/lib.rt:128:5
 loop-holds : tie.Need-loop-holds Inv-loop μ-loop
 unfolding painted
 loop-holds c =
     (omega arith, refl)
 
--- src/lib.rt:129:47
 add-sample : tie.Need-add-sample Inv-loop μ-loop
 add-sample c =
     omega (arith, native-run (c .before .before .before .before .before .before .before .before .before .before .args .g) (c .before .before .before .before .before .before .before .before .before .before .args .pixels .now) (c .before .before .before .before .before .before .before .before .before .before .args .frame) (c .before .before .before .before .before .before .before .before .before .before .pre .shape .width) (c .before .before .before .before .before .before .before .before .before .before .pre .inside) .0 (c .before .loop .i) (c .loop-test .taken) .1)
 
--- src/lib.rt:129:13
 sample-requires : tie.Need-sample-requires Inv-loop μ-loop
 sample-requires c κs =
     record {
@@ -82,47 +65,38 @@ sample-requires c κs =
       inside = native-run (c .before .before .before .before .before .before .before .before .before .before .args .g) (c .before .before .before .before .before .before .before .before .before .before .args .pixels .now) (c .before .before .before .before .before .before .before .before .before .before .args .frame) (c .before .before .before .before .before .before .before .before .before .before .pre .shape .width) (c .before .before .before .before .before .before .before .before .before .before .pre .inside) .0 (c .before .loop .i) (c .loop-test .taken) .0;
     }
 
--- src/lib.rt:130:36
 place-requires : tie.Need-place-requires Inv-loop μ-loop
 place-requires c κs =
     (c .before .before .before .entry-count .ensures .1 .0, (c .before .before .before .entry-count .ensures .1 .1, c .before .before .before .before .u16-at .ensures .1))
 
--- src/lib.rt:130:21
 entry-requires : tie.Need-entry-requires Inv-loop μ-loop
 entry-requires c κs =
     omega (arith, c .place .ensures .1, laws.lut-is _ _ (c .before .before .before .before .before .before .before .before .before .before .before .before .pre .lut) .two, c .before .before .before .before .entry-count .ensures .0)
 
--- src/lib.rt:130:9
 mul-values : tie.Need-mul-values Inv-loop μ-loop
 mul-values c =
     omega (arith, laws.samples-few (c .before .before .before .before .before .before .before .before .before .before .before .before .before .args .g) (c .before .before .before .before .before .before .before .before .before .before .before .before .before .pre .shape), c .before .before .before .loop-test .taken)
 
--- src/lib.rt:130:9
 slice-write-values : tie.Need-slice-write-values Inv-loop μ-loop
 slice-write-values c =
     omega (arith, ap length (c .before .before .before .before .loop .inv .1) ∙ painted-length _ _ _, c .before .before .before .before .before .before .before .before .before .before .before .before .before .pre .room, c .before .before .before .loop-test .taken)
 
--- src/lib.rt:128:9
 add-i : tie.Need-add-i Inv-loop μ-loop
 add-i c =
     search needs
 
--- src/lib.rt:128:5
 loop-less : tie.Need-loop-less Inv-loop μ-loop
 loop-less c =
     omega (arith, c .before .before .before .loop-test .taken)
 
--- src/lib.rt:128:5
 loop-again : tie.Need-loop-again Inv-loop μ-loop
 loop-again c =
     (omega (arith, c .before .before .before .loop-test .taken), rw (c .before .before .before .before .loop .inv .1, laws.cell-entry (c .before .before .before .before .before .before .before .before .before .before .before .before .before .args .g) (c .before .before .before .before .before .before .before .before .before .before .before .before .before .args .pixels .now) (c .before .before .before .before .before .before .before .before .before .before .before .before .before .args .frame) (c .before .before .before .before .before .before .before .before .before .before .before .before .before .args .descriptor .now) (c .before .before .before .before .before .before .before .before .before .before .before .before .before .args .entries .now) (c .before .before .before .before .loop .i) _ _ _ _ _ (c .before .before .sample .ensures .0) (c .before .before .before .before .before .before .u16-at .ensures .0) (c .before .before .before .before .before .entry-count .ensures .0) (c .before .place .ensures .0) (c .entry .ensures)) (painted-more _ _ _))
 
--- src/lib.rt:112:1
 same-length : tie.Need-same-length Inv-loop μ-loop
 same-length c =
     ap length (c .before .loop .inv .1) ∙ painted-length _ _ _
 
--- src/lib.rt:112:1
 returns : tie.Need-returns Inv-loop μ-loop
 returns c =
     rw (full (c .before .loop .inv .0) (c .loop-test .left)) at (c .before .loop .inv .1)

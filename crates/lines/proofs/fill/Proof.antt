@@ -4,14 +4,10 @@ use native.Mathlib.Omega.{arith}
 use borrow.Author.Needs.{needs}
 use lib.IntN.{pos, _-ℤ_}
 use Rattle.window.specs.Window.{levelOf, shaded}
-use Rattle.window.specs.Said.{Filled, number, shadeAt}
+use Rattle.window.specs.Contracts.{Filled, number, shadeAt}
 use Rattle.window.proofs.Laws.{filled-more, power-small}
 use Rattle.lines.proofs.fill.Statement.{statement}
 use Rattle.lines.proofs.fill.Tie as tie
-use Rattle.lines.proofs.fill.Reads as reads
-use Rattle.lines.proofs.fill.Lts as lts
-use Rattle.window.proofs.power.Reads as power-reads
-use Rattle.window.proofs.shade.Reads as shade-reads
 
 abbrev Inv-loop : tie.InvT-loop
 Inv-loop window stored inverse table₀ half least n i₀ table i =
@@ -21,72 +17,58 @@ abbrev μ-loop : tie.MeasureT-loop
 μ-loop window stored inverse table₀ half least n i₀ table i =
     n - i
 
--- src/lib.rt:26:30
 sub-power : tie.Need-sub-power Inv-loop μ-loop
 sub-power c =
     search needs
 
--- src/lib.rt:26:9
 power-requires : tie.Need-power-requires Inv-loop μ-loop
 power-requires c κs =
     search needs
 
--- src/lib.rt:27:17
 power-requires-2 : tie.Need-power-requires-2 Inv-loop μ-loop
 power-requires-2 c κs =
     search needs
 
--- src/lib.rt:27:17
 sub-least : tie.Need-sub-least Inv-loop μ-loop
 sub-least c =
     search needs
 
--- src/lib.rt:28:27
 add-power : tie.Need-add-power Inv-loop μ-loop
 add-power c =
     search needs
 
--- src/lib.rt:28:13
 power-requires-3 : tie.Need-power-requires-3 Inv-loop μ-loop
 power-requires-3 c κs =
     search needs
 
--- src/lib.rt:28:13
 sub-n : tie.Need-sub-n Inv-loop μ-loop
 sub-n c =
     search needs
 
--- src/lib.rt:29:5
 loop-holds : tie.Need-loop-holds Inv-loop μ-loop
 loop-holds c =
     (omega arith, record { size = c .before .before .before .before .pre .1 .1 .1; value = λ i h. absurd (omega arith) })
 
--- src/lib.rt:30:42
 add-shade : tie.Need-add-shade Inv-loop μ-loop
 add-shade c =
     omega (arith, c .before .before .before .before .power .ensures .1 .1, c .before .before .power3 .ensures .1 .1, c .loop-test .taken)
 
--- src/lib.rt:30:20
 shade-requires : tie.Need-shade-requires Inv-loop μ-loop
 shade-requires c κs =
     (c .before .before .before .before .before .before .pre .0, omega (arith, c .before .before .before .before .power .ensures .1 .1, c .before .before .before .power2 .ensures .1 .1, c .before .before .power3 .ensures .1 .1, c .loop-test .taken, power-small (c .before .before .before .before .before .before .args .stored - 1) 15 (omega arith), c .before .before .before .before .power .ensures .0))
 
--- src/lib.rt:30:9
 slice-write-table : tie.Need-slice-write-table Inv-loop μ-loop
 slice-write-table c =
     omega (arith, c .before .before .loop .inv .1 .size, c .before .before .before .power3 .ensures .1 .1, c .before .loop-test .taken)
 
--- src/lib.rt:29:9
 add-i : tie.Need-add-i Inv-loop μ-loop
 add-i c =
     omega (arith, c .before .before .before .power3 .ensures .1 .1, c .before .loop-test .taken)
 
--- src/lib.rt:29:5
 loop-less : tie.Need-loop-less Inv-loop μ-loop
 loop-less c =
     omega (arith, c .before .loop-test .taken)
 
--- src/lib.rt:29:5
 loop-again : tie.Need-loop-again Inv-loop μ-loop
 unfolding shadeAt
 loop-again c =
@@ -98,12 +80,10 @@ loop-again c =
     ∙ ap (λ (l : ℕ). number (shaded (a .inverse) (levelOf (a .window) (pos (i + 2 ^ (a .stored - 1)) -ℤ pos (l - 1))))) (c .before .before .before .before .power2 .ensures .0) in
     (omega (arith, c .before .loop-test .taken), rw e (filled-more (shadeAt (a .window) (a .stored) (a .inverse)) i (c .before .before .loop .table) (c .before .before .loop .inv .1) (omega (arith, c .before .before .before .power3 .ensures .1 .1, c .before .loop-test .taken))))
 
--- src/lib.rt:22:1
 same-length : tie.Need-same-length Inv-loop μ-loop
 same-length c =
     c .before .loop .inv .1 .size ∙ sym (c .before .before .before .before .before .before .pre .1 .1 .1)
 
--- src/lib.rt:22:1
 returns : tie.Need-returns Inv-loop μ-loop
 returns c =
     let a = c .before .before .before .before .before .before .args in

@@ -1,5 +1,5 @@
 use Rattle.lines.proofs.Laws as laws
-use mathlib.Core.Path.{_≡_, refl, sym, ap, _∙_, subst}
+use mathlib.Core.Path.{_∙_}
 use native.Mathlib.Omega.{arith}
 use borrow.Author.Needs.{needs}
 use Rattle.lines.proofs.native_line.Statement.{statement}

@@ -1,21 +1,16 @@
-use mathlib.Core.Path.{_≡_, refl, sym, ap, _∙_}
-use Prim.Native.Nat.{ℕ, _+_, _-_, _*_, _^_, _≤_}
+use mathlib.Core.Path.{_≡_, refl, ap, _∙_}
+use Prim.Native.Nat.{ℕ, _-_, _≤_}
 use native.Mathlib.Omega.{arith}
 use borrow.Author.Needs.{needs}
 use lib.ListN.{length}
 use lib.Pow.{pow-pos}
-use Rattle.window.specs.Said.{shadeAt}
-use Rattle.pixel.specs.Painted.{painted}
+use Rattle.window.specs.Contracts.{shadeAt}
+use Rattle.pixel.specs.Contracts.{painted}
 use Rattle.pixel.proofs.Laws.{full, power-most, half-low, run-at, width-some, painted-more, painted-length}
-use Rattle.lines.specs.Lines.{plainPlace}
+use Rattle.lines.specs.Contracts.{plainPlace}
 use Rattle.lines.proofs.Laws.{shade-at, plain-place}
 use Rattle.lines.proofs.plain_by_window.Statement.{statement}
 use Rattle.lines.proofs.plain_by_window.Tie as tie
-use Rattle.lines.proofs.plain_by_window.Reads as reads
-use Rattle.lines.proofs.plain_by_window.Lts as lts
-use Rattle.pixel.proofs.power.Reads as power-reads
-use Rattle.pixel.proofs.sample.Reads as sample-reads
-use Rattle.window.proofs.shade.Reads as shade-reads
 
 abbrev Inv-loop : tie.InvT-loop
 Inv-loop line g window inverse levels₀ columns half low middle c₀ levels c =
@@ -25,38 +20,31 @@ abbrev μ-loop : tie.MeasureT-loop
 μ-loop line g window inverse levels₀ columns half low middle c₀ levels c =
     columns - c
 
--- src/lib.rt:42:29
 sub-power : tie.Need-sub-power Inv-loop μ-loop
 sub-power c =
     c .before .before .before .pre .0 .shape .stored-some
 
--- src/lib.rt:42:9
 power-requires : tie.Need-power-requires Inv-loop μ-loop
 power-requires c κs =
     omega (arith, c .before .before .before .pre .0 .shape .stored-most)
 
--- src/lib.rt:43:15
 power-requires-2 : tie.Need-power-requires-2 Inv-loop μ-loop
 power-requires-2 c κs =
     c .before .before .before .before .pre .0 .shape .stored-most
 
--- src/lib.rt:43:15
 sub-low : tie.Need-sub-low Inv-loop μ-loop
 sub-low c =
     omega (arith, c .power2 .ensures, pow-pos (c .before .before .before .before .before .args .g .stored))
 
--- src/lib.rt:44:18
 sub-middle : tie.Need-sub-middle Inv-loop μ-loop
 sub-middle c =
     omega (arith, c .before .power .ensures, c .power2 .ensures, half-low (c .before .before .before .before .before .args .g .stored) (c .before .before .before .before .before .pre .0 .shape .stored-some))
 
--- src/lib.rt:45:5
 loop-holds : tie.Need-loop-holds Inv-loop μ-loop
 unfolding painted
 loop-holds c =
     (omega arith, refl)
 
--- src/lib.rt:46:21
 sample-requires : tie.Need-sample-requires Inv-loop μ-loop
 sample-requires c κs =
     record {
@@ -65,37 +53,30 @@ sample-requires c κs =
       inside = omega (arith, run-at 0 (c .before .before .before .before .before .before .before .args .g .columns) (c .before .before .before .before .before .before .before .args .g .width) (length (c .before .before .before .before .before .before .before .args .line .now)) (c .before .loop .c) (width-some _ (c .before .before .before .before .before .before .before .pre .0 .shape .width)) (c .before .before .before .before .before .before .before .pre .0 .inside) (c .loop-test .taken) .0);
     }
 
--- src/lib.rt:46:21
 add-place : tie.Need-add-place Inv-loop μ-loop
 add-place c =
     omega (arith, c .sample .ensures .1, power-most (c .before .before .before .before .before .before .before .before .args .g .stored) (c .before .before .before .before .before .before .before .before .pre .0 .shape .stored-most), c .before .before .before .power2 .ensures)
 
--- src/lib.rt:47:43
 add-shade : tie.Need-add-shade Inv-loop μ-loop
 add-shade c =
     omega (arith, c .sample .ensures .1, power-most (c .before .before .before .before .before .before .before .before .args .g .stored) (c .before .before .before .before .before .before .before .before .pre .0 .shape .stored-most), c .before .before .before .before .power .ensures, c .before .before .before .power2 .ensures, half-low (c .before .before .before .before .before .before .before .before .args .g .stored) (c .before .before .before .before .before .before .before .before .pre .0 .shape .stored-some))
 
--- src/lib.rt:47:21
 shade-requires : tie.Need-shade-requires Inv-loop μ-loop
 shade-requires c κs =
     (c .before .before .before .before .before .before .before .before .pre .1 .0, omega (arith, c .sample .ensures .1, power-most (c .before .before .before .before .before .before .before .before .args .g .stored) (c .before .before .before .before .before .before .before .before .pre .0 .shape .stored-most), c .before .before .before .before .power .ensures, c .before .before .before .power2 .ensures, half-low (c .before .before .before .before .before .before .before .before .args .g .stored) (c .before .before .before .before .before .before .before .before .pre .0 .shape .stored-some)))
 
--- src/lib.rt:47:9
 slice-write-levels : tie.Need-slice-write-levels Inv-loop μ-loop
 slice-write-levels c =
     omega (arith, ap length (c .before .before .before .loop .inv .1) ∙ painted-length _ _ _, c .before .before .before .before .before .before .before .before .before .pre .1 .1, c .before .before .loop-test .taken)
 
--- src/lib.rt:45:9
 add-c : tie.Need-add-c Inv-loop μ-loop
 add-c c =
     search needs
 
--- src/lib.rt:45:5
 loop-less : tie.Need-loop-less Inv-loop μ-loop
 loop-less c =
     omega (arith, c .before .before .loop-test .taken)
 
--- src/lib.rt:45:5
 loop-again : tie.Need-loop-again Inv-loop μ-loop
 loop-again c =
     let a = c .before .before .before .before .before .before .before .before .before .args in
@@ -103,12 +84,10 @@ loop-again c =
     c .shade .ensures ∙ shade-at (a .window) (a .g .stored) (a .inverse) _ (c .before .before .before .before .before .power .result) (c .before .before .before .before .power2 .result) _ (c .before .before .before .before .before .power .ensures) (c .before .before .before .before .power2 .ensures) (plain-place (a .g) (a .line .now) (c .before .before .before .loop .c) _ _ _ (c .before .sample .ensures .0) (c .before .before .before .before .power2 .ensures) (c .before .before .before .before .before .power .ensures)) in
     (omega (arith, c .before .before .loop-test .taken), rw (c .before .before .before .loop .inv .1, e) (painted-more (λ i. shadeAt (a .window) (a .g .stored) (a .inverse) (plainPlace (a .g) (a .line .now) i)) _ _))
 
--- src/lib.rt:37:1
 same-length : tie.Need-same-length Inv-loop μ-loop
 same-length c =
     ap length (c .before .loop .inv .1) ∙ painted-length _ _ _
 
--- src/lib.rt:37:1
 returns : tie.Need-returns Inv-loop μ-loop
 returns c =
     rw (full (c .before .loop .inv .0) (c .loop-test .left)) at (c .before .loop .inv .1)

@@ -1,13 +1,11 @@
-use Prim.Native.Nat.{ℕ, _+_, _-_, _*_, _/_, _%_, _^_, _≤_}
+use Prim.Native.Nat.{_/_, _%_}
 use native.Mathlib.Nat.{div-add-mod'}
-use lib.ListN.{length, getD}
 use Rattle.value.specs.Number.{usValues}
-use Rattle.pixel.specs.Said.{shifted}
+use Rattle.pixel.specs.Contracts.{shifted}
 use Rattle.pixel.proofs.Laws.{painted-length}
 use Rattle.pixel.proofs.Places.{fourths}
 use Rattle.pixel.proofs.Blend.{weights-total, averages, averaged-copy, next-row}
 use Rattle.lines.proofs.Laws as laws
-use mathlib.Core.Path.{_≡_, refl, sym, ap, _∙_, subst}
 use native.Mathlib.Omega.{arith}
 use borrow.Author.Needs.{needs}
 use Rattle.lines.proofs.quarter_line.Statement.{statement}

@@ -1,8 +1,6 @@
-use mathlib.Core.Path.{_≡_, refl, sym, ap, _∙_}
-use Prim.Native.Nat.{ℕ, _+_, _-_, _*_, _/_, _%_, _^_, _≤_}
+use mathlib.Core.Path.{sym, _∙_}
 use native.Mathlib.Nat.{div-add-mod'}
 use native.Mathlib.Omega.{arith}
-use lib.ListN.{length, getD}
 use Rattle.value.specs.Number.{usValues}
 use Rattle.value.proofs.Laws.{usValues-length}
 use Rattle.pixel.proofs.Laws.{spread-most}
@@ -10,29 +8,19 @@ use Rattle.lines.proofs.Laws as laws
 use borrow.Author.Needs.{needs}
 use Rattle.lines.proofs.whole_line.Statement.{statement}
 use Rattle.lines.proofs.whole_line.Tie as tie
-use Rattle.lines.proofs.whole_line.Reads as reads
-use Rattle.lines.proofs.whole_line.Lts as lts
-use Rattle.frame.proofs.frame_line.Reads as frame-line-reads
-use Rattle.pixel.proofs.draw_row.Reads as draw-row-reads
-use Rattle.pixel.proofs.mask_row.Reads as mask-row-reads
-use Rattle.pixel.proofs.moved.Reads as moved-reads
 
--- src/lib.rt:101:9
 frame-line-requires : tie.Need-frame-line-requires
 frame-line-requires c κs =
     (laws.fits (c .before .before .before .before .before .args .g) (c .before .before .before .before .before .args .pixels) (c .before .before .before .before .before .args .frame) (c .before .before .before .before .before .args .row) (c .before .before .before .before .before .pre .0 .shape) (c .before .before .before .before .before .pre .0 .inside), c .before .before .before .before .before .pre .0 .lies)
 
--- src/lib.rt:102:39
 moved-requires : tie.Need-moved-requires
 moved-requires c κs =
     (c .before .before .before .before .before .before .pre .0 .lies, (c .before .before .before .before .before .before .pre .0 .shape .rows-most, omega (arith, c .before .before .before .before .before .before .pre .1 .0 .down-most, div-add-mod' (c .before .before .before .before .before .before .args .down) 4)))
 
--- src/lib.rt:102:5
 mask-row-requires : tie.Need-mask-row-requires
 mask-row-requires c κs =
     (c .before .before .before .before .before .before .before .before .pre .0 .shape, (c .before .before .before .before .before .before .before .before .pre .1 .0 .taken, (c .before .moved .ensures .1, omega (arith, c .before .before .before .before .before .before .before .before .pre .1 .1 .1 .1 .1 .1, c .before .before .before .before .before .before .before .before .pre .0 .shape .columns-most))))
 
--- src/lib.rt:103:5
 draw-row-requires : tie.Need-draw-row-requires
 draw-row-requires c κs =
     record {
@@ -45,15 +33,12 @@ draw-row-requires c κs =
       room = omega (arith, c .before .before .before .before .before .before .before .before .before .before .before .before .before .pre .0 .room);
     }
 
--- src/lib.rt:84:1
 same-length : tie.Need-same-length
 same-length c = search needs
 
--- src/lib.rt:84:1
 same-length-2 : tie.Need-same-length-2
 same-length-2 c = search needs
 
--- src/lib.rt:84:1
 returns : tie.Need-returns
 returns c =
     c .before .before .draw-row .ensures ∙ laws.whole-by-table (c .before .before .before .before .before .before .before .before .before .before .before .before .before .before .before .before .args .g) (c .before .before .before .before .before .before .before .before .before .before .before .before .before .before .before .before .pre .0 .shape) (c .before .before .before .before .before .before .before .before .before .before .before .before .before .before .before .before .args .pixels) (c .before .before .before .before .before .before .before .before .before .before .before .before .before .before .before .before .args .frame) (c .before .before .before .before .before .before .before .before .before .before .before .before .before .before .before .before .args .row) _ (c .before .before .before .before .before .before .before .before .before .before .frame-line .ensures) (c .before .before .before .before .before .before .before .before .before .before .before .before .before .before .before .before .args .shades) (c .before .before .before .before .before .before .before .before .before .before .before .before .before .before .before .before .args .table .now) (c .before .before .before .before .before .before .before .before .before .before .before .before .before .before .before .before .args .levels .now) (usValues (c .before .before .before .before .before .before .before .before .before .before .before .before .before .before .before .before .args .masks .now)) (c .before .before .before .before .before .before .before .before .before .before .before .before .before .before .before .before .args .down) (c .before .before .before .before .before .before .before .before .before .before .before .before .before .before .before .before .args .right) (c .before .before .before .before .before .before .before .before .before .before .before .before .before .before .before .before .pre .1 .0 .right-most) (c .before .before .before .before .before .before .before .before .before .before .before .before .before .before .before .before .pre .1 .1 .0 .shades (c .before .before .before .before .before .before .before .before .before .before .before .before .before .before .before .before .pre .1 .1 .1 .0)) _ _ (c .before .before .before .before .before .before .before .before .before .before .before .before .before .before .before .before .pre .1 .1 .1 .1 .0) (c .before .before .before .before .before .before .before .before .before .before .before .before .before .before .before .before .pre .1 .1 .1 .1 .1 .0) (omega (arith, c .before .before .before .before .before .before .before .before .before .before .before .before .before .before .before .before .pre .1 .0 .right-most, div-add-mod' (c .before .before .before .before .before .before .before .before .before .before .before .before .before .before .before .before .args .right) 4)) (sym (usValues-length (c .before .before .before .before .before .before .before .before .before .before .before .before .before .before .before .before .args .masks .now))) (rw (← c .before .before .before .before .before .before .before .before .before .moved .ensures .0) (c .before .before .before .before .before .before .before .mask-row .ensures))

@@ -1,4 +1,5 @@
-use Prim.Native.Nat.{ℕ, _-_}
+-- Each turn reads one element as the definition does and leaves fewer bytes; the rows are counted, but no room is needed for them.
+use Prim.Native.Nat.{_-_}
 use mathlib.Core.Path.{ap, _∙_}
 use native.Mathlib.Omega.{arith}
 use borrow.Author.Needs.{needs}
@@ -8,12 +9,6 @@ use Rattle.dataset.proofs.Level as level
 use Rattle.meta.proofs.Heads as heads
 use Rattle.meta.proofs.along.Statement.{statement}
 use Rattle.meta.proofs.along.Tie as tie
-use Rattle.meta.proofs.along.Reads as reads
-use Rattle.meta.proofs.along.Lts as lts
-use Rattle.meta.proofs.header.Reads as header-reads
-use Rattle.dataset.proofs.Cursor.moved.Reads as moved-reads
-use Rattle.meta.proofs.note.Reads as note-reads
-use Rattle.meta.proofs.past.Reads as past-reads
 
 abbrev Inv-loop : tie.InvT-loop
 Inv-loop file end none₀ here₀ n₀ least₀ found₀ none here n least found =
@@ -23,61 +18,50 @@ abbrev μ-loop : tie.MeasureT-loop
 μ-loop file end none₀ here₀ n₀ least₀ found₀ none here n least found =
     here .end - here .at
 
--- src/lib.rt:163:5
 loop-holds : tie.Need-loop-holds Inv-loop μ-loop
 loop-holds c =
     heads.begun (c .before .before .args .file .now) (c .before .before .args .end) (c .before .before .args .none .now) (c .before .before .pre .0) (c .before .before .pre .1 .0)
 
--- src/lib.rt:164:15
 header-requires : tie.Need-header-requires Inv-loop μ-loop
 header-requires c κs =
     let e = ap (λ (x : Cursor). x .end) (c .loop .inv .0) in
     (omega (arith, c .loop .inv .1 .0 .high, e), (omega (arith, e, c .before .before .before .pre), ap (λ (x : Cursor). x .delimited) (c .loop .inv .0)))
 
--- src/lib.rt:166:17
 enum-told : tie.Need-enum-told Inv-loop μ-loop
 enum-told c =
     search needs
 
--- src/lib.rt:166:17
 same-length : tie.Need-same-length Inv-loop μ-loop
 same-length c =
     c .before .before .before .loop .inv .1 .0 .kept
 
--- src/lib.rt:166:17
 returns : tie.Need-returns Inv-loop μ-loop
 returns c =
     let there = level.stands (heads.from (c .before .before .before .before .before .before .args .file .now) (c .before .before .before .before .before .before .args .end)) (c .before .before .before .loop .here) (λ (x : Cursor). elementAt (c .before .before .before .before .before .before .args .file .now) x (c .before .before .before .loop .least) 8) (c .before .before .before .loop .inv .0) (c .before .before .header .ensures) (c .enum-told .given .1) in
     (heads.refuses (c .before .before .before .before .before .before .args .file .now) (c .before .before .before .before .before .before .args .end) (c .before .before .before .before .before .before .args .none .now) (c .before .before .before .loop .inv) (there .0) (there .1), tt)
 
--- src/lib.rt:169:17
 enum-told-2 : tie.Need-enum-told-2 Inv-loop μ-loop
 enum-told-2 c =
     search needs
 
--- src/lib.rt:169:17
 same-length-2 : tie.Need-same-length-2 Inv-loop μ-loop
 same-length-2 c =
     c .before .before .before .loop .inv .1 .0 .kept
 
--- src/lib.rt:169:17
 returns-2 : tie.Need-returns-2 Inv-loop μ-loop
 returns-2 c =
     let there = level.stands (heads.from (c .before .before .before .before .before .before .args .file .now) (c .before .before .before .before .before .before .args .end)) (c .before .before .before .loop .here) (λ (x : Cursor). elementAt (c .before .before .before .before .before .before .args .file .now) x (c .before .before .before .loop .least) 8) (c .before .before .before .loop .inv .0) (c .before .before .header .ensures) (c .enum-told2 .given .1) in
     (heads.ended (c .before .before .before .before .before .before .args .file .now) (c .before .before .before .before .before .before .args .end) (c .before .before .before .before .before .before .args .none .now) (c .before .before .before .loop .inv) (there .0), c .before .before .before .loop .inv .1 .1 .1)
 
--- src/lib.rt:171:26
 enum-known-tag : tie.Need-enum-known-tag Inv-loop μ-loop
 enum-known-tag c =
     search needs
 
--- src/lib.rt:173:51
 add-past : tie.Need-add-past Inv-loop μ-loop
 add-past c =
     let there = level.stands (heads.from (c .before .before .before .before .before .before .before .before .args .file .now) (c .before .before .before .before .before .before .before .before .args .end)) (c .before .before .before .before .before .loop .here) (λ (x : Cursor). elementAt (c .before .before .before .before .before .before .before .before .args .file .now) x (c .before .before .before .before .before .loop .least) 8) (c .before .before .before .before .before .loop .inv .0) (c .before .before .before .before .header .ensures) (c .before .before .tag .given .1) in
     omega (arith, c .before .before .before .before .before .loop .inv .1 .0 .count, c .before .before .before .before .before .loop .inv .1 .0 .few, there .1, c .before .before .before .before .before .before .before .before .pre, c .before .before .before .before .before .before .before .before .good)
 
--- src/lib.rt:173:23
 past-requires : tie.Need-past-requires Inv-loop μ-loop
 past-requires c κs =
     let there = level.stands (heads.from (c .before .before .before .before .before .before .before .before .args .file .now) (c .before .before .before .before .before .before .before .before .args .end)) (c .before .before .before .before .before .loop .here) (λ (x : Cursor). elementAt (c .before .before .before .before .before .before .before .before .args .file .now) x (c .before .before .before .before .before .loop .least) 8) (c .before .before .before .before .before .loop .inv .0) (c .before .before .before .before .header .ensures) (c .before .before .tag .given .1) in (
@@ -91,53 +75,44 @@ past-requires c κs =
       c .before .before .before .before .before .loop .inv .1 .0 .kept ∙ c .before .before .before .before .before .before .before .before .pre .1 .1,
     )
 
--- src/lib.rt:175:25
 enum-told-3 : tie.Need-enum-told-3 Inv-loop μ-loop
 enum-told-3 c =
     search needs
 
--- src/lib.rt:175:25
 same-length-3 : tie.Need-same-length-3 Inv-loop μ-loop
 same-length-3 c =
     c .before .before .before .before .past .kept .1 .1 .1 .0 ∙ c .before .before .before .before .before .before .before .before .before .before .loop .inv .1 .0 .kept
 
--- src/lib.rt:175:25
 returns-3 : tie.Need-returns-3 Inv-loop μ-loop
 returns-3 c =
     let there = level.stands (heads.from (c .before .before .before .before .before .before .before .before .before .before .before .before .before .args .file .now) (c .before .before .before .before .before .before .before .before .before .before .before .before .before .args .end)) (c .before .before .before .before .before .before .before .before .before .before .loop .here) (λ (x : Cursor). elementAt (c .before .before .before .before .before .before .before .before .before .before .before .before .before .args .file .now) x (c .before .before .before .before .before .before .before .before .before .before .loop .least) 8) (c .before .before .before .before .before .before .before .before .before .before .loop .inv .0) (c .before .before .before .before .before .before .before .before .before .header .ensures) (c .before .before .before .before .before .before .before .tag .given .1) in
     (heads.fails (c .before .before .before .before .before .before .before .before .before .before .before .before .before .args .file .now) (c .before .before .before .before .before .before .before .before .before .before .before .before .before .args .end) (c .before .before .before .before .before .before .before .before .before .before .before .before .before .args .none .now) (c .before .before .before .before .before .before .before .before .before .before .loop .inv) (there .0) (there .1) (level.walked (c .enum-told3 .given .1) (c .before .before .before .before .past .ensures)), tt)
 
--- src/lib.rt:177:32
 enum-known-stop : tie.Need-enum-known-stop Inv-loop μ-loop
 enum-known-stop c =
     search needs
 
--- src/lib.rt:178:25
 note-requires : tie.Need-note-requires Inv-loop μ-loop
 note-requires c κs =
     let there = level.stands (heads.from (c .before .before .before .before .before .before .before .before .before .before .before .before .before .before .args .file .now) (c .before .before .before .before .before .before .before .before .before .before .before .before .before .before .args .end)) (c .before .before .before .before .before .before .before .before .before .before .before .loop .here) (λ (x : Cursor). elementAt (c .before .before .before .before .before .before .before .before .before .before .before .before .before .before .args .file .now) x (c .before .before .before .before .before .before .before .before .before .before .before .loop .least) 8) (c .before .before .before .before .before .before .before .before .before .before .before .loop .inv .0) (c .before .before .before .before .before .before .before .before .before .before .header .ensures) (c .before .before .before .before .before .before .before .before .tag .given .1) in
     let d = level.below _ (level.walked (c .before .stop .given .1) (c .before .before .before .before .before .past .ensures)) in
     omega (arith, d .within, there .1)
 
--- src/lib.rt:179:25
 moved-requires : tie.Need-moved-requires Inv-loop μ-loop
 moved-requires c κs =
     search needs
 
--- src/lib.rt:181:33
 add-least : tie.Need-add-least Inv-loop μ-loop
 add-least c =
     let there = level.stands (heads.from (c .before .before .before .before .before .before .before .before .before .before .before .before .before .before .before .before .args .file .now) (c .before .before .before .before .before .before .before .before .before .before .before .before .before .before .before .before .args .end)) (c .before .before .before .before .before .before .before .before .before .before .before .before .before .loop .here) (λ (x : Cursor). elementAt (c .before .before .before .before .before .before .before .before .before .before .before .before .before .before .before .before .args .file .now) x (c .before .before .before .before .before .before .before .before .before .before .before .before .before .loop .least) 8) (c .before .before .before .before .before .before .before .before .before .before .before .before .before .loop .inv .0) (c .before .before .before .before .before .before .before .before .before .before .before .before .header .ensures) (c .before .before .before .before .before .before .before .before .before .before .tag .given .1) in
     omega (arith, there .1)
 
--- src/lib.rt:163:5
 loop-less : tie.Need-loop-less Inv-loop μ-loop
 loop-less c =
     let there = level.stands (heads.from (c .before .before .before .before .before .before .before .before .before .before .before .before .before .before .before .before .args .file .now) (c .before .before .before .before .before .before .before .before .before .before .before .before .before .before .before .before .args .end)) (c .before .before .before .before .before .before .before .before .before .before .before .before .before .loop .here) (λ (x : Cursor). elementAt (c .before .before .before .before .before .before .before .before .before .before .before .before .before .before .before .before .args .file .now) x (c .before .before .before .before .before .before .before .before .before .before .before .before .before .loop .least) 8) (c .before .before .before .before .before .before .before .before .before .before .before .before .before .loop .inv .0) (c .before .before .before .before .before .before .before .before .before .before .before .before .header .ensures) (c .before .before .before .before .before .before .before .before .before .before .tag .given .1) in
     let d = level.below _ (level.walked (c .before .before .before .stop .given .1) (c .before .before .before .before .before .before .before .past .ensures)) in
     omega (arith, there .1, d .within, c .before .before .before .before .before .before .before .before .before .before .before .before .before .loop .inv .1 .0 .high, ap (λ (x : Cursor). x .end) (c .moved .ensures), ap (λ (x : Cursor). x .at) (c .moved .ensures), ap (λ (x : Cursor). x .end) (c .before .before .before .before .before .before .before .before .before .before .before .before .before .loop .inv .0))
 
--- src/lib.rt:163:5
 loop-again : tie.Need-loop-again Inv-loop μ-loop
 loop-again c =
     let there = level.stands (heads.from (c .before .before .before .before .before .before .before .before .before .before .before .before .before .before .before .before .args .file .now) (c .before .before .before .before .before .before .before .before .before .before .before .before .before .before .before .before .args .end)) (c .before .before .before .before .before .before .before .before .before .before .before .before .before .loop .here) (λ (x : Cursor). elementAt (c .before .before .before .before .before .before .before .before .before .before .before .before .before .before .before .before .args .file .now) x (c .before .before .before .before .before .before .before .before .before .before .before .before .before .loop .least) 8) (c .before .before .before .before .before .before .before .before .before .before .before .before .before .loop .inv .0) (c .before .before .before .before .before .before .before .before .before .before .before .before .header .ensures) (c .before .before .before .before .before .before .before .before .before .before .tag .given .1) in

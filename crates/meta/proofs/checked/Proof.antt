@@ -1,3 +1,4 @@
+-- The three tests are those of the definition, in its order, and both UIDs lie within the file.
 use mathlib.Core.Path.{ap}
 use Prim.Native.Nat.{ℕ}
 use native.Mathlib.Omega.{arith}

@@ -1,5 +1,5 @@
+-- The test of the tag is that of the definition.
 use borrow.Author.Tests.{eq-eqb, ne-eqb}
-use borrow.Author.Needs.{needs}
 use Rattle.meta.proofs.chosen.Statement.{statement}
 use Rattle.meta.proofs.chosen.Tie as tie
 

@@ -1,91 +1,71 @@
+-- The group length says where the head ends: behind the file it is refused, else the elements up to there decide.
 use mathlib.Core.Path.{sym, subst, _∙_}
 use Prim.Native.Nat.{_+_}
 use native.Mathlib.Omega.{arith}
 use lib.ListN.{length}
 use Rattle.meta.specs.declared.Elements.{Elements}
 use Rattle.meta.specs.declared.Elements.the-variants as elements
-use Rattle.meta.specs.Said.{ElementsWithin}
+use Rattle.meta.specs.Contracts.{ElementsWithin}
 use Rattle.meta.proofs.Tests as tests
 use borrow.Author.Needs.{needs}
 use Rattle.meta.proofs.headed.Statement.{statement}
 use Rattle.meta.proofs.headed.Tie as tie
-use Rattle.meta.proofs.headed.Reads as reads
-use Rattle.meta.proofs.headed.Lts as lts
-use Rattle.dataset.proofs.u32_at.Reads as u32-at-reads
-use Rattle.meta.proofs.along.Reads as along-reads
-use Rattle.meta.proofs.names.Reads as names-reads
 
--- src/lib.rt:231:15
 add-end : tie.Need-add-end
 add-end c = search needs
 
--- src/lib.rt:231:50
 add-u32-at : tie.Need-add-u32-at
 add-u32-at c = search needs
 
--- src/lib.rt:231:28
 u32-at-requires : tie.Need-u32-at-requires
 u32-at-requires c κs = search needs
 
--- src/lib.rt:231:15
 add-end-2 : tie.Need-add-end-2
 add-end-2 c = search needs
 
--- src/lib.rt:233:9
 returns : tie.Need-returns
 returns c =
     let ends = tests.ends (c .before .before .before .args .file .now) (c .before .u32-at .result) (c .before .u32-at .ensures .0) in
     (tests.past-the-file (c .before .before .before .args .file .now) (omega (arith, ends, c .if1 .taken)), tt)
 
--- src/lib.rt:237:28
 mul-room : tie.Need-mul-room
 mul-room c = search needs
 
--- src/lib.rt:237:28
 sub-along : tie.Need-sub-along
 sub-along c = search needs
 
--- src/lib.rt:237:28
 part-room-start : tie.Need-part-room-start
 part-room-start c = search needs
 
--- src/lib.rt:237:28
 part-room-end : tie.Need-part-room-end
 part-room-end c = search needs
 
--- src/lib.rt:237:11
 along-requires : tie.Need-along-requires
 along-requires c κs = search needs
 
--- src/lib.rt:238:30
 enum-told : tie.Need-enum-told
 enum-told c = search needs
 
--- src/lib.rt:239:24
 enum-known-found : tie.Need-enum-known-found
 enum-known-found c = search needs
 
--- src/lib.rt:243:17
 names-requires : tie.Need-names-requires
 names-requires c κs =
     let ends = tests.ends (c .before .before .before .before .before .before .before .before .before .before .args .file .now) (c .before .before .before .before .before .before .before .before .u32-at .result) (c .before .before .before .before .before .before .before .before .u32-at .ensures .0) in
     let w = subst (λ (x : Elements). ElementsWithin (length (c .before .before .before .before .before .before .before .before .before .before .args .file .now)) x) (c .before .before .found .given .1) (c .before .before .before .before .before .along .ensures .1) in
     ((ends, omega (arith, c .before .before .before .before .before .before .before .if1 .left)), (w .class-in, w .syntax-in))
 
--- src/lib.rt:226:1
 returns-2 : tie.Need-returns-2
 returns-2 c =
     let ends = tests.ends (c .before .before .before .before .before .before .before .before .args .file .now) (c .before .before .before .before .before .before .u32-at .result) (c .before .before .before .before .before .before .u32-at .ensures .0) in
     (tests.walked (c .before .before .before .before .before .before .before .before .args .file .now) (144 + c .before .before .before .before .before .before .u32-at .result) ends (omega (arith, c .before .before .before .before .before .if1 .left)) elements.Refused (sym (c .enum-told .given .1) ∙ c .before .before .before .along .ensures .0), tt)
 
--- src/lib.rt:226:1
 returns-3 : tie.Need-returns-3
 returns-3 c =
     let f = c .before .before .before .found .given .0 .0 in
     let ends = tests.ends (c .before .before .before .before .before .before .before .before .before .before .before .args .file .now) (c .before .before .before .before .before .before .before .before .before .u32-at .result) (c .before .before .before .before .before .before .before .before .before .u32-at .ensures .0) in
     (c .names .ensures .0 ∙ tests.only-these (c .before .before .before .before .before .before .before .before .before .before .before .args .file .now) f (c .before .if2 .taken) ∙ tests.walked (c .before .before .before .before .before .before .before .before .before .before .before .args .file .now) (144 + c .before .before .before .before .before .before .before .before .before .u32-at .result) ends (omega (arith, c .before .before .before .before .before .before .before .before .if1 .left)) (elements.Good f) (sym (c .before .before .before .found .given .1) ∙ c .before .before .before .before .before .before .along .ensures .0), c .names .ensures .1)
 
--- src/lib.rt:226:1
 returns-4 : tie.Need-returns-4
 returns-4 c =
     let f = c .before .before .found .given .0 .0 in

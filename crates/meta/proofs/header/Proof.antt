@@ -1,16 +1,9 @@
 -- The checks of `Cursor::element`, where no delimiter is due.
 use Rattle.dataset.proofs.Checks.{checks}
 use Rattle.dataset.specs.Header.{headerBy, taggedAt, delimiterBy}
-use Rattle.dataset.proofs.Cursor.typed.Reads as typed-reads
-use Rattle.dataset.proofs.tag_at.Reads as tag-at-reads
-use Rattle.dataset.proofs.u16_at.Reads as u16-at-reads
-use Rattle.dataset.proofs.vr_at.Reads as vr-at-reads
-use Rattle.dataset.proofs.vr_form.Reads as vr-form-reads
 use borrow.Author.Needs.{needs}
 use Rattle.meta.proofs.header.Statement.{statement}
 use Rattle.meta.proofs.header.Tie as tie
-use Rattle.meta.proofs.header.Reads as reads
-use Rattle.meta.proofs.header.Lts as lts
 
 returns : tie.Need-returns
 unfolding headerBy

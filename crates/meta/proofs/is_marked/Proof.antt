@@ -1,3 +1,4 @@
+-- A shorter file has no mark; in any other the four bytes are compared.
 use mathlib.Core.Path.{sym}
 use native.Mathlib.Omega.{arith}
 use Rattle.meta.specs.Meta.{isMarked}

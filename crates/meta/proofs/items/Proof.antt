@@ -1,3 +1,4 @@
+-- Each turn reads one item as the definition does and leaves fewer bytes; the rows are counted, but no room is needed for them.
 use Prim.Native.Nat.{ℕ, _+_, _-_}
 use mathlib.Core.Path.{refl, ap, _∙_}
 use native.Mathlib.Omega.{arith}
@@ -5,14 +6,9 @@ use Rattle.dataset.specs.declared.Cursor.{Cursor}
 use Rattle.dataset.specs.Header.{moved, itemAt}
 use Rattle.dataset.specs.Reading.{elementsAt, itemsAt}
 use Rattle.dataset.proofs.Level as level
-use Rattle.dataset.proofs.Cursor.item.Reads as item-reads
-use Rattle.dataset.proofs.Cursor.moved.Reads as moved-reads
-use Rattle.dataset.proofs.read_item.Reads as read-item-reads
 use borrow.Author.Needs.{needs}
 use Rattle.meta.proofs.items.Statement.{statement}
 use Rattle.meta.proofs.items.Tie as tie
-use Rattle.meta.proofs.items.Reads as reads
-use Rattle.meta.proofs.items.Lts as lts
 
 abbrev Inv-loop : tie.InvT-loop
 Inv-loop file none₀ first here₀ n₀ none here n =

@@ -1,7 +1,8 @@
+-- Both UIDs must be there, and each lies within the file.
 use mathlib.Core.Path.{subst}
 use lib.ListN.{length}
 use Rattle.meta.specs.declared.Uid.{Uid}
-use Rattle.meta.specs.Said.{UidWithin}
+use Rattle.meta.specs.Contracts.{UidWithin}
 use borrow.Author.Needs.{needs}
 use Rattle.meta.proofs.names.Statement.{statement}
 use Rattle.meta.proofs.names.Tie as tie

@@ -1,3 +1,4 @@
+-- One element of another group settles it; one of group 0002 leaves it as it was.
 use Prim.Native.Nat.{_/_}
 use borrow.Author.Tests.{eq-eqb, ne-eqb}
 use Rattle.meta.proofs.only_group_2.Statement.{statement}

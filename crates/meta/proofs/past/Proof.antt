@@ -1,3 +1,4 @@
+-- A sequence is walked item by item; any other value ends where its length says.
 use mathlib.Core.Path.{sym}
 use native.Mathlib.Omega.{arith}
 use Rattle.dataset.proofs.Level as level

@@ -1,41 +1,31 @@
+-- The tests are those of the definition, and a file that has a group length is long enough for the rest.
 use mathlib.Core.Path.{sym, _∙_}
 use Rattle.meta.specs.Meta.{metaOf}
 use Rattle.meta.proofs.Tests as tests
 use borrow.Author.Needs.{needs}
 use Rattle.meta.proofs.read_head.Statement.{statement}
 use Rattle.meta.proofs.read_head.Tie as tie
-use Rattle.meta.proofs.read_head.Reads as reads
-use Rattle.meta.proofs.read_head.Lts as lts
-use Rattle.meta.proofs.has_group_length.Reads as has-group-length-reads
-use Rattle.meta.proofs.headed.Reads as headed-reads
-use Rattle.meta.proofs.is_marked.Reads as is-marked-reads
 
--- src/lib.rt:256:8
 is-marked-requires : tie.Need-is-marked-requires
 is-marked-requires c κs = search needs
 
--- src/lib.rt:257:12
 has-group-length-requires : tie.Need-has-group-length-requires
 has-group-length-requires c κs = search needs
 
--- src/lib.rt:258:13
 headed-requires : tie.Need-headed-requires
 headed-requires c κs =
     tests.long-enough (c .before .before .before .before .before .args .file .now) (sym (c .before .has-group-length .ensures) ∙ c .if2 .taken)
 
--- src/lib.rt:252:1
 returns : tie.Need-returns
 unfolding metaOf
 returns c =
     (rw (← c .before .before .before .before .is-marked .ensures, c .before .before .before .if1 .taken, ← c .before .before .has-group-length .ensures, c .before .if2 .taken) (c .headed .ensures .0), c .headed .ensures .1)
 
--- src/lib.rt:252:1
 returns-2 : tie.Need-returns-2
 unfolding metaOf
 returns-2 c =
     (rw (← c .before .before .before .is-marked .ensures, c .before .before .if1 .taken, ← c .before .has-group-length .ensures, c .if2 .left), tt)
 
--- src/lib.rt:252:1
 returns-3 : tie.Need-returns-3
 unfolding metaOf
 returns-3 c =

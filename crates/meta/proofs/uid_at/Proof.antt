@@ -1,10 +1,10 @@
+-- A UI of at least one byte is a UID, and it stands where the value does.
 use mathlib.Core.Path.{ap}
 use Prim.Native.Nat.{ℕ, _-_}
 use native.Mathlib.Omega.{arith}
 use borrow.Author.Tests.{eq-eqb, ne-eqb}
 use Rattle.meta.specs.declared.Uid.the-variants.{At}
 use Rattle.meta.specs.Meta.{uidAt}
-use borrow.Author.Needs.{needs}
 use Rattle.meta.proofs.uid_at.Statement.{statement}
 use Rattle.meta.proofs.uid_at.Tie as tie
 

@@ -1,10 +1,9 @@
 -- The element sought is the first whose tag is not below, if it has that tag.
-use mathlib.Core.Path.{_≡_, refl, sym, ap, _∙_}
-use native.Mathlib.Omega.{arith}
+use mathlib.Core.Path.{sym, ap, _∙_}
 use borrow.Author.Needs.{needs}
 use lib.ListN.{length}
 use Rattle.node.specs.Nodes.{nodesOf, inside}
-use Rattle.node.specs.Halves.{firstIs}
+use Rattle.node.specs.Contracts.{firstIs}
 use Rattle.node.proofs.Halves as halves
 use Rattle.node.proofs.Laws.{below-more}
 use Rattle.node.proofs.find_inside.Statement.{statement}

@@ -3,16 +3,11 @@ use Prim.Native.Nat.{_-_, _≤_, _<_}
 use native.Mathlib.Omega.{arith}
 use borrow.Author.Needs.{needs}
 use Rattle.node.specs.Nodes.{nodesOf, nextNode, inside}
-use Rattle.node.specs.Halves.{lower}
+use Rattle.node.specs.Contracts.{lower}
 use Rattle.node.proofs.Halves as halves
 use Rattle.node.proofs.Laws.{next-within}
 use Rattle.node.proofs.first_from.Statement.{statement}
 use Rattle.node.proofs.first_from.Tie as tie
-use Rattle.node.proofs.first_from.Reads as reads
-use Rattle.node.proofs.first_from.Lts as lts
-use Rattle.node.proofs.member_above.Reads as member-above-reads
-use Rattle.node.proofs.next.Reads as next-reads
-use Rattle.node.proofs.tag.Reads as tag-reads
 
 abbrev Inv-loop : tie.InvT-loop
 Inv-loop bytes rows holder wanted low₀ high₀ low high =
@@ -22,38 +17,31 @@ Inv-loop bytes rows holder wanted low₀ high₀ low high =
 abbrev μ-loop : tie.MeasureT-loop
 μ-loop bytes rows holder wanted low₀ high₀ low high = high - low
 
--- src/lib.rt:170:19
 add-low : tie.Need-add-low Inv-loop μ-loop
 add-low c = omega (arith, c .before .before .pre .1, c .before .before .pre .0 .few)
 
--- src/lib.rt:171:9
 next-requires : tie.Need-next-requires Inv-loop μ-loop
 next-requires c κs = search needs
 
--- src/lib.rt:172:5
 loop-holds : tie.Need-loop-holds Inv-loop μ-loop
 loop-holds c =
     let start = c .before .before .before in
     omega (arith, c .next .ensures, halves.first-within _ _ (start .pre .0) (start .args .holder) (start .pre .1) (start .args .wanted))
 
--- src/lib.rt:173:58
 sub-member-above : tie.Need-sub-member-above Inv-loop μ-loop
 sub-member-above c = omega (arith, c .loop-test .taken)
 
--- src/lib.rt:173:51
 add-member-above : tie.Need-add-member-above Inv-loop μ-loop
 add-member-above c =
     let start = c .before .before .before .before .before in
     omega (arith, c .loop-test .taken, c .before .loop .inv, next-within _ _ (start .pre .0) (start .args .holder) (start .pre .1), start .pre .0 .few)
 
--- src/lib.rt:173:13
 member-above-requires : tie.Need-member-above-requires Inv-loop μ-loop
 member-above-requires c κs =
     let start = c .before .before .before .before .before in
     let inv = c .before .loop .inv in
     (start .pre .0, (omega (arith, c .loop-test .taken, inv), (omega (arith, c .loop-test .taken, inv), start .pre .1)))
 
--- src/lib.rt:174:12
 tag-requires : tie.Need-tag-requires Inv-loop μ-loop
 tag-requires c κs =
     let start = c .before .before .before .before .before .before in
@@ -63,7 +51,6 @@ tag-requires c κs =
     let up = c .member-above in
     (p .0, halves.member-known _ _ (p .0) (start .args .holder) (p .1) _ (up .result) (up .ensures) (omega (arith, inside, inv)))
 
--- src/lib.rt:175:13
 next-requires-2 : tie.Need-next-requires-2 Inv-loop μ-loop
 next-requires-2 c κs =
     let start = c .before .before .before .before .before .before .before .before in
@@ -73,7 +60,6 @@ next-requires-2 c κs =
     let up = c .before .before .member-above in
     (p .0, halves.member-known _ _ (p .0) (start .args .holder) (p .1) _ (up .result) (up .ensures) (omega (arith, inside, inv)))
 
--- src/lib.rt:172:5
 loop-less : tie.Need-loop-less Inv-loop μ-loop
 loop-less c =
     let start = c .before .before .before .before .before .before .before .before .before in
@@ -83,7 +69,6 @@ loop-less c =
     let up = c .before .before .before .member-above in
     omega (arith, inside, c .next2 .ensures .0, up .ensures .high)
 
--- src/lib.rt:172:5
 loop-again : tie.Need-loop-again Inv-loop μ-loop
 loop-again c =
     let start = c .before .before .before .before .before .before .before .before .before in
@@ -95,7 +80,6 @@ loop-again c =
     let r = s .right (omega (arith, c .before .before .tag .ensures, c .before .if1 .taken)) in
     omega (arith, inv, up .ensures .after, c .next2 .ensures .0, r)
 
--- src/lib.rt:172:5
 loop-less-2 : tie.Need-loop-less-2 Inv-loop μ-loop
 loop-less-2 c =
     let start = c .before .before .before .before .before .before .before .before in
@@ -105,7 +89,6 @@ loop-less-2 c =
     let up = c .before .before .member-above in
     omega (arith, inside, up .ensures .low)
 
--- src/lib.rt:172:5
 loop-again-2 : tie.Need-loop-again-2 Inv-loop μ-loop
 loop-again-2 c =
     let start = c .before .before .before .before .before .before .before .before in
@@ -117,7 +100,6 @@ loop-again-2 c =
     let r = s .left (omega (arith, c .before .tag .ensures, c .if1 .left)) in
     omega (arith, inv, inside, up .ensures .low, r)
 
--- src/lib.rt:166:1
 returns : tie.Need-returns Inv-loop μ-loop
 returns c = omega (arith, c .before .loop .inv, c .loop-test .left)
 

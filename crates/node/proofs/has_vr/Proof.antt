@@ -1,39 +1,28 @@
-use mathlib.Core.Path.{_≡_, refl, sym, ap, _∙_}
 use native.Mathlib.Omega.{arith}
 use Rattle.node.specs.Find.{has}
 use Rattle.node.proofs.Laws as laws
 use borrow.Author.Needs.{needs}
 use Rattle.node.proofs.has_vr.Statement.{statement}
 use Rattle.node.proofs.has_vr.Tie as tie
-use Rattle.node.proofs.has_vr.Reads as reads
-use Rattle.node.proofs.has_vr.Lts as lts
-use Rattle.node.proofs.find_vr.Reads as find-vr-reads
-use Rattle.node.proofs.is_filled.Reads as is-filled-reads
 
--- src/lib.rt:116:11
 find-vr-requires : tie.Need-find-vr-requires
 find-vr-requires c κs = search needs
 
--- src/lib.rt:117:23
 enum-told : tie.Need-enum-told
 enum-told c = search needs
 
--- src/lib.rt:118:17
 enum-known-i : tie.Need-enum-known-i
 enum-known-i c = search needs
 
--- src/lib.rt:118:23
 is-filled-requires : tie.Need-is-filled-requires
 is-filled-requires c κs =
     (c .before .before .before .before .before .before .pre .0, omega (arith, laws.within (c .before .before .before .before .before .before .args .to) (c .before .i .given .1) (c .before .before .before .find-vr .ensures .1), c .before .before .before .before .before .before .pre .1 .0))
 
--- src/lib.rt:112:1
 returns : tie.Need-returns
 unfolding has
 returns c =
     rw (laws.lacked (c .enum-told .given .1) (c .before .before .find-vr .ensures .0))
 
--- src/lib.rt:112:1
 returns-2 : tie.Need-returns-2
 unfolding has
 returns-2 c =

@@ -1,17 +1,12 @@
 -- The loop keeps that node i is m or below it.
-use mathlib.Core.Path.{_≡_}
+use mathlib.Core.Path.{_≡_, sym, _∙_}
 use Prim.Native.Nat.{_-_, _≤_, _<_}
-use mathlib.Core.Path.{sym, _∙_}
 use native.Mathlib.Omega.{arith}
-use borrow.Author.Needs.{needs}
 use Rattle.node.specs.Nodes.{nodesOf, nextNode}
 use Rattle.node.proofs.Halves as halves
 use Rattle.node.proofs.Laws.{next-within}
 use Rattle.node.proofs.member_above.Statement.{statement}
 use Rattle.node.proofs.member_above.Tie as tie
-use Rattle.node.proofs.member_above.Reads as reads
-use Rattle.node.proofs.member_above.Lts as lts
-use Rattle.node.proofs.parent.Reads as parent-reads
 
 abbrev Inv-loop : tie.InvT-loop
 Inv-loop bytes rows holder i m₀ m = (holder < m) × ((m ≤ i) × (i < nextNode (nodesOf bytes) m))
@@ -19,30 +14,25 @@ Inv-loop bytes rows holder i m₀ m = (holder < m) × ((m ≤ i) × (i < nextNod
 abbrev μ-loop : tie.MeasureT-loop
 μ-loop bytes rows holder i m₀ m = m
 
--- src/lib.rt:155:5
 loop-holds : tie.Need-loop-holds Inv-loop μ-loop
 loop-holds c = omega (arith, c .before .before .pre)
 
--- src/lib.rt:156:13
 parent-requires : tie.Need-parent-requires Inv-loop μ-loop
 parent-requires c κs =
     let start = c .before .before .before in
     let p = start .pre in
     (p .0, omega (arith, c .loop .inv, p, next-within _ _ (p .0) (start .args .holder) (p .1 .1 .1)))
 
--- src/lib.rt:157:18
 add-if1 : tie.Need-add-if1 Inv-loop μ-loop
 add-if1 c =
     let p = c .before .before .before .before .pre in
     omega (arith, p .1, p .0 .few)
 
--- src/lib.rt:158:13
 returns : tie.Need-returns Inv-loop μ-loop
 returns c =
     let inv = c .before .before .loop .inv in
     record { held = sym (c .before .parent .ensures) ∙ c .if1 .taken; after = inv .0; low = inv .1 .0; high = inv .1 .1 }
 
--- src/lib.rt:160:13
 sub-m : tie.Need-sub-m Inv-loop μ-loop
 sub-m c =
     let start = c .before .before .before .before .before in
@@ -51,7 +41,6 @@ sub-m c =
     let n = halves.step-up _ _ (p .0) (start .args .holder) (p .1 .1 .1) (start .args .i) (c .before .before .loop .m) (inv .0) (inv .1 .0) (inv .1 .1) (p .1 .1 .0) (λ e. c .if1 .left (c .before .parent .ensures ∙ e)) in
     omega (arith, c .before .parent .ensures, n .1 .0)
 
--- src/lib.rt:155:5
 loop-less : tie.Need-loop-less Inv-loop μ-loop
 loop-less c =
     let start = c .before .before .before .before .before in
@@ -60,7 +49,6 @@ loop-less c =
     let n = halves.step-up _ _ (p .0) (start .args .holder) (p .1 .1 .1) (start .args .i) (c .before .before .loop .m) (inv .0) (inv .1 .0) (inv .1 .1) (p .1 .1 .0) (λ e. c .if1 .left (c .before .parent .ensures ∙ e)) in
     omega (arith, c .before .parent .ensures, n .1)
 
--- src/lib.rt:155:5
 loop-again : tie.Need-loop-again Inv-loop μ-loop
 loop-again c =
     let start = c .before .before .before .before .before in

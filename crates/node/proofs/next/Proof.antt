@@ -1,44 +1,34 @@
+-- The row says how many nodes are below it, and all of them stand in the table.
 use Rattle.node.proofs.Laws as laws
-use mathlib.Core.Path.{_≡_, refl, sym, ap, _∙_}
+use mathlib.Core.Path.{_∙_}
 use native.Mathlib.Omega.{arith}
 use borrow.Author.Needs.{needs}
 use Rattle.node.proofs.next.Statement.{statement}
 use Rattle.node.proofs.next.Tie as tie
-use Rattle.node.proofs.next.Reads as reads
-use Rattle.node.proofs.next.Lts as lts
-use Rattle.node.proofs.wide.Reads as wide-reads
 
--- src/lib.rt:45:5
 add-result : tie.Need-add-result
 add-result c = search needs
 
--- src/lib.rt:45:23
 mul-wide : tie.Need-mul-wide
 mul-wide c = search needs
 
--- src/lib.rt:45:23
 add-wide : tie.Need-add-wide
 add-wide c = search needs
 
--- src/lib.rt:45:18
 mul-wide-2 : tie.Need-mul-wide-2
 mul-wide-2 c = search needs
 
--- src/lib.rt:45:18
 shared-slice-read-wide : tie.Need-shared-slice-read-wide
 shared-slice-read-wide c = search needs
 
--- src/lib.rt:45:13
 wide-requires : tie.Need-wide-requires
 wide-requires c κs = search needs
 
--- src/lib.rt:45:5
 add-result-2 : tie.Need-add-result-2
 add-result-2 c =
     let e = c .wide .ensures ∙ laws.descendants-is (c .before .before .before .before .args .bytes .now) (c .before .before .before .before .args .rows .now) (c .before .before .before .before .pre .0) (c .before .before .before .before .args .i) (c .before .before .before .before .pre .1) in
     omega (arith, e, laws.next-within (c .before .before .before .before .args .bytes .now) (c .before .before .before .before .args .rows .now) (c .before .before .before .before .pre .0) (c .before .before .before .before .args .i) (c .before .before .before .before .pre .1), c .before .before .before .before .pre .0 .few)
 
--- src/lib.rt:41:1
 returns : tie.Need-returns
 returns c =
     let e = c .wide .ensures ∙ laws.descendants-is (c .before .before .before .before .args .bytes .now) (c .before .before .before .before .args .rows .now) (c .before .before .before .before .pre .0) (c .before .before .before .before .args .i) (c .before .before .before .before .pre .1) in

@@ -1,33 +1,25 @@
+-- The seventh number of a row is its parent.
 use mathlib.Core.Path.{_∙_}
 use Rattle.node.proofs.Laws as laws
 use borrow.Author.Needs.{needs}
 use Rattle.node.proofs.parent.Statement.{statement}
 use Rattle.node.proofs.parent.Tie as tie
-use Rattle.node.proofs.parent.Reads as reads
-use Rattle.node.proofs.parent.Lts as lts
-use Rattle.node.proofs.wide.Reads as wide-reads
 
--- src/lib.rt:146:15
 mul-wide : tie.Need-mul-wide
 mul-wide c = search needs
 
--- src/lib.rt:146:15
 add-wide : tie.Need-add-wide
 add-wide c = search needs
 
--- src/lib.rt:146:10
 mul-wide-2 : tie.Need-mul-wide-2
 mul-wide-2 c = search needs
 
--- src/lib.rt:146:10
 shared-slice-read-wide : tie.Need-shared-slice-read-wide
 shared-slice-read-wide c = search needs
 
--- src/lib.rt:146:5
 wide-requires : tie.Need-wide-requires
 wide-requires c κs = search needs
 
--- src/lib.rt:142:1
 returns : tie.Need-returns
 returns c =
     let start = c .before .before .before .before in

@@ -1,10 +1,10 @@
 -- Where plain steps did not come so far, halves do.
-use mathlib.Core.Path.{_≡_, refl, sym, _∙_, subst}
+use mathlib.Core.Path.{_∙_, subst}
 use native.Mathlib.Omega.{arith}
 use borrow.Author.Needs.{needs}
 use Rattle.value.specs.declared.Num.{Num}
 use Rattle.node.specs.Nodes.{nodesOf}
-use Rattle.node.specs.Halves.{Nearby}
+use Rattle.node.specs.Contracts.{Nearby}
 use Rattle.node.proofs.Halves as halves
 use Rattle.node.proofs.Laws.{next-within}
 use Rattle.node.proofs.reach.Statement.{statement}

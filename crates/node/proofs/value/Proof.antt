@@ -1,116 +1,89 @@
+-- A sequence and an item have no value of their own; any other row says where its value starts and how long it is.
 use Rattle.node.proofs.Laws as laws
-use mathlib.Core.Path.{_≡_, refl, sym, ap, _∙_}
+use mathlib.Core.Path.{_≡_, sym, _∙_}
 use native.Mathlib.Omega.{arith}
 use mathlib.Core.Logic.{inl, inr}
-use mathlib.Core.List.{List}
-use Prim.Native.Nat.{ℕ, _+_, _-_, _*_}
-use lib.ListN.{take, drop, getD}
+use Prim.Native.Nat.{_+_, _-_, _*_}
+use lib.ListN.{getD}
 use borrow.Author.Needs.{needs}
 use Rattle.node.proofs.value.Statement.{statement}
 use Rattle.node.proofs.value.Tie as tie
-use Rattle.node.proofs.value.Reads as reads
-use Rattle.node.proofs.value.Lts as lts
-use Rattle.node.proofs.wide.Reads as wide-reads
 
--- src/lib.rt:53:26
 mul-wide : tie.Need-mul-wide
 mul-wide c = search needs
 
--- src/lib.rt:53:26
 add-wide : tie.Need-add-wide
 add-wide c = search needs
 
--- src/lib.rt:53:21
 mul-wide-2 : tie.Need-mul-wide-2
 mul-wide-2 c = search needs
 
--- src/lib.rt:53:21
 shared-slice-read-wide : tie.Need-shared-slice-read-wide
 shared-slice-read-wide c = search needs
 
--- src/lib.rt:53:9
 wide-requires : tie.Need-wide-requires
 wide-requires c κs = search needs
 
--- src/lib.rt:55:9
 slice-aggregate-result : tie.Need-slice-aggregate-result
 slice-aggregate-result c = search needs
 
--- src/lib.rt:55:9
 returns : tie.Need-returns
 returns c =
     laws.value-none (c .before .before .before .before .before .before .args .bytes .now) (c .before .before .before .before .before .before .args .rows .now) (c .before .before .before .before .before .before .pre .0) (c .before .before .before .before .before .before .args .i) (c .before .before .before .before .before .before .pre .1)
     (inl (sym (laws.vr-is (c .before .before .before .before .before .before .args .bytes .now) (c .before .before .before .before .before .before .args .rows .now) (c .before .before .before .before .before .before .pre .0) (c .before .before .before .before .before .before .args .i) (c .before .before .before .before .before .before .pre .1)) ∙ sym (c .before .before .wide .ensures) ∙ c .before .if1 .taken))
 
--- src/lib.rt:58:9
 slice-aggregate-result-2 : tie.Need-slice-aggregate-result-2
 slice-aggregate-result-2 c = search needs
 
--- src/lib.rt:58:9
 returns-2 : tie.Need-returns-2
 returns-2 c =
     laws.value-none (c .before .before .before .before .before .before .before .args .bytes .now) (c .before .before .before .before .before .before .before .args .rows .now) (c .before .before .before .before .before .before .before .pre .0) (c .before .before .before .before .before .before .before .args .i) (c .before .before .before .before .before .before .before .pre .1)
     (inr (sym (laws.vr-is (c .before .before .before .before .before .before .before .args .bytes .now) (c .before .before .before .before .before .before .before .args .rows .now) (c .before .before .before .before .before .before .before .pre .0) (c .before .before .before .before .before .before .before .args .i) (c .before .before .before .before .before .before .before .pre .1)) ∙ sym (c .before .before .before .wide .ensures) ∙ c .before .if2 .taken))
 
--- src/lib.rt:60:27
 mul-wide-3 : tie.Need-mul-wide-3
 mul-wide-3 c = search needs
 
--- src/lib.rt:60:27
 add-wide-2 : tie.Need-add-wide-2
 add-wide-2 c = search needs
 
--- src/lib.rt:60:22
 mul-wide-4 : tie.Need-mul-wide-4
 mul-wide-4 c = search needs
 
--- src/lib.rt:60:22
 shared-slice-read-wide-2 : tie.Need-shared-slice-read-wide-2
 shared-slice-read-wide-2 c = search needs
 
--- src/lib.rt:60:9
 wide-requires-2 : tie.Need-wide-requires-2
 wide-requires-2 c κs = search needs
 
--- src/lib.rt:61:33
 mul-wide-5 : tie.Need-mul-wide-5
 mul-wide-5 c = search needs
 
--- src/lib.rt:61:33
 add-wide-3 : tie.Need-add-wide-3
 add-wide-3 c = search needs
 
--- src/lib.rt:61:28
 mul-wide-6 : tie.Need-mul-wide-6
 mul-wide-6 c = search needs
 
--- src/lib.rt:61:28
 shared-slice-read-wide-3 : tie.Need-shared-slice-read-wide-3
 shared-slice-read-wide-3 c = search needs
 
--- src/lib.rt:61:23
 wide-requires-3 : tie.Need-wide-requires-3
 wide-requires-3 c κs = search needs
 
--- src/lib.rt:61:15
 add-end : tie.Need-add-end
 add-end c =
     omega (arith, c .before .before .wide2 .ensures, c .wide3 .ensures, laws.value-within (c .before .before .before .before .before .before .before .before .before .before .args .bytes .now) (c .before .before .before .before .before .before .before .before .before .before .args .rows .now) (c .before .before .before .before .before .before .before .before .before .before .pre .0) (c .before .before .before .before .before .before .before .before .before .before .args .i) (c .before .before .before .before .before .before .before .before .before .before .pre .1))
 
--- src/lib.rt:62:5
 sub-result : tie.Need-sub-result
 sub-result c = search needs
 
--- src/lib.rt:62:5
 part-result-start : tie.Need-part-result-start
 part-result-start c = search needs
 
--- src/lib.rt:62:5
 part-result-end : tie.Need-part-result-end
 part-result-end c =
     omega (arith, c .before .before .wide2 .ensures, c .wide3 .ensures, laws.value-within (c .before .before .before .before .before .before .before .before .before .before .args .bytes .now) (c .before .before .before .before .before .before .before .before .before .before .args .rows .now) (c .before .before .before .before .before .before .before .before .before .before .pre .0) (c .before .before .before .before .before .before .before .before .before .before .args .i) (c .before .before .before .before .before .before .before .before .before .before .pre .1))
 
--- src/lib.rt:49:1
 returns-3 : tie.Need-returns-3
 returns-3 c =
     let s = c .before .before .before .before .before .before .before .before .before .before .before .args .bytes .now in

@@ -1,5 +1,5 @@
 -- Invariant: to the first c sums their samples are added, the others are untouched.
-use Rattle.pixel.proofs.Laws.{added-more}
+use Rattle.pixel.proofs.Laws.{added-more, full, power-most, run-at, width-some, painted-length, painted-beyond}
 use mathlib.Core.Path.{_≡_, refl, ap, _∙_}
 use mathlib.Core.List.{List}
 use Prim.Native.Nat.{ℕ, _+_, _-_, _≤_}
@@ -7,9 +7,7 @@ use native.Mathlib.Omega.{arith}
 use borrow.Author.Needs.{needs}
 use lib.ListN.{length, getD}
 use lib.Pow.{pow-pos}
-use Rattle.pixel.specs.Painted.{painted}
-use Rattle.pixel.specs.Said.{cellAt}
-use Rattle.pixel.proofs.Laws.{full, power-most, run-at, width-some, painted-length, painted-beyond}
+use Rattle.pixel.specs.Contracts.{painted, cellAt}
 use Rattle.pixel.proofs.add_row.Statement.{statement}
 use Rattle.pixel.proofs.add_row.Tie as tie
 

@@ -5,8 +5,7 @@ use native.Mathlib.Omega.{arith}
 use borrow.Author.Needs.{needs}
 use lib.ListN.{length}
 use lib.Pow.{pow-pos}
-use Rattle.pixel.specs.Pixel.{blendOf}
-use Rattle.pixel.specs.Said.{paintedFrom, blockAt, blendShade}
+use Rattle.pixel.specs.Contracts.{paintedFrom, blockAt, blendShade}
 use Rattle.pixel.proofs.Laws.{full, power-most, run-at, width-some, from-more, from-length}
 use Rattle.pixel.proofs.Blend.{blend-most, block-cells, cells-more, blend-shade}
 use Rattle.pixel.proofs.blend_row.Statement.{statement}

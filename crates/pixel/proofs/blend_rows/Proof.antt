@@ -1,13 +1,11 @@
 -- Invariant: r rows are painted, and the lower row is the one that row r takes as its upper.
 use mathlib.Core.Path.{_≡_, refl, sym, ap, _∙_}
-use Prim.Native.Nat.{ℕ, _+_, _-_, _*_, _/_, _%_, _≤_}
+use Prim.Native.Nat.{_-_, _*_, _/_, _%_, _≤_}
 use native.Mathlib.Nat.{div-add-mod'}
 use native.Mathlib.Omega.{arith}
-use borrow.Author.Needs.{needs}
 use lib.ListN.{length}
 use Rattle.value.specs.Number.{usValues}
-use Rattle.pixel.specs.Painted.{painted}
-use Rattle.pixel.specs.Said.{shifted, Averaged, quarterShade}
+use Rattle.pixel.specs.Contracts.{painted, shifted, Averaged, quarterShade}
 use Rattle.pixel.proofs.Laws.{full, cells-fit, frame-facts, frame-row, native-run, row-end, painted-none, painted-length}
 use Rattle.pixel.proofs.Places.{fourths}
 use Rattle.pixel.proofs.Blend.{weights-total, averages, averaged-copy, row-blended, next-row}

@@ -8,7 +8,7 @@ use borrow.Author.Needs.{needs}
 use lib.ListN.{length}
 use lib.Pow.{pow-pos}
 use Rattle.pixel.specs.Pixel.{averageOf}
-use Rattle.pixel.specs.Said.{paintedFrom, rowShade}
+use Rattle.pixel.specs.Contracts.{paintedFrom, rowShade}
 use Rattle.pixel.proofs.Division.{average-most}
 use Rattle.pixel.proofs.Laws.{full, power-most, run-at, width-some, sum-fits, row-shade, from-more, from-length}
 use Rattle.pixel.proofs.draw_row.Statement.{statement}

@@ -1,9 +1,6 @@
 -- 256 less a number from -256 to 256 is from 0 to 512 (`Places`).
-use mathlib.Core.Path.{sym, subst}
 use native.Mathlib.Omega.{arith}
-use Rattle.value.specs.declared.Signed.{Signed}
 use Rattle.value.proofs.Laws.{below-plus, below-minus}
-use Rattle.pixel.specs.Said.{OffsetOf}
 use Rattle.pixel.proofs.Places.{offset-plus, offset-minus, offset-none}
 use borrow.Author.Needs.{needs}
 use Rattle.pixel.proofs.offset_of.Statement.{statement}

@@ -6,7 +6,7 @@ use borrow.Author.Needs.{needs}
 use lib.ListN.{length}
 use lib.Pow.{pow-pos}
 use Rattle.pixel.specs.Pixel.{samplesOf}
-use Rattle.pixel.specs.Painted.{painted, nativeShade}
+use Rattle.pixel.specs.Contracts.{painted, nativeShade}
 use Rattle.pixel.proofs.Laws.{full, power-most, half-low, frame-facts, native-run, native-shade, painted-more, painted-length}
 use Rattle.pixel.proofs.paint_native.Statement.{statement}
 use Rattle.pixel.proofs.paint_native.Tie as tie

@@ -6,8 +6,7 @@ use borrow.Author.Needs.{needs}
 use lib.ListN.{length}
 use Rattle.value.specs.Number.{usValues}
 use Rattle.value.proofs.Laws.{usValues-length}
-use Rattle.pixel.specs.Painted.{painted}
-use Rattle.pixel.specs.Said.{offsetShade}
+use Rattle.pixel.specs.Contracts.{painted, offsetShade}
 use Rattle.pixel.proofs.Laws.{full, cells-fit, frame-facts, frame-row, native-run, row-end, spread-most, painted-none, painted-length, row-painted}
 use Rattle.pixel.proofs.paint_rows.Statement.{statement}
 use Rattle.pixel.proofs.paint_rows.Tie as tie

@@ -1,12 +1,12 @@
 -- Invariant: the sums are those of the mask frames from number k on.
 use mathlib.Core.Path.{_≡_, refl, sym, ap, _∙_}
-use Prim.Native.Nat.{ℕ, _-_, _≤_}
+use Prim.Native.Nat.{ℕ, _≤_}
 use native.Mathlib.Omega.{arith}
 use borrow.Author.Needs.{needs}
 use lib.ListN.{length, drop}
 use Rattle.value.specs.Number.{usValues}
 use Rattle.value.proofs.Laws.{usValues-length}
-use Rattle.pixel.specs.Said.{Summed}
+use Rattle.pixel.specs.Contracts.{Summed}
 use Rattle.pixel.proofs.Laws.{cells-fit, frame-facts, frame-row, mask-frame, native-run, painted-length, from-length, summed-none, summed-more, summed-most}
 use Rattle.pixel.proofs.sum_row.Statement.{statement}
 use Rattle.pixel.proofs.sum_row.Tie as tie

@@ -1,13 +1,11 @@
-use mathlib.Core.Path.{_≡_, refl, sym, ap, _∙_, subst}
-use mathlib.Core.Option.{Option, none, some}
-use Prim.Native.Nat.{ℕ, _+_, _≤_, _<_}
+-- Without the sequence no item applies; else its items are tried in order. Another VR is ruled out, since each frame has an answer.
+use mathlib.Core.Path.{_≡_, sym, ap, _∙_}
+use Prim.Native.Nat.{ℕ, _+_}
 use native.Mathlib.Omega.{arith}
-use lib.ListN.{length, getD}
 use borrow.Author.Tests.{eq-eqb, ne-eqb}
 use Rattle.node.specs.Nodes.{nodesOf, inside, members}
 use Rattle.node.proofs.Laws as node-laws
 use Rattle.steps.specs.Steps.{firstHolding, applyingTo}
-use Rattle.ranges.specs.Ranges.{itemOf}
 use Rattle.ranges.proofs.Items as items
 use borrow.Author.Needs.{needs}
 use Rattle.ranges.proofs.apply_all.Statement.{statement}

@@ -1,4 +1,4 @@
-use mathlib.Core.Path.{sym, ap, _∙_}
+-- What is written is one more than the item's node, and 0 where none applies.
 use borrow.Author.Tests.{eq-eqb, ne-eqb}
 use borrow.Author.Needs.{needs}
 use Rattle.ranges.proofs.applying_at.Statement.{statement}

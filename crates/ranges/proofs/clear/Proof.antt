@@ -1,13 +1,12 @@
+-- The cells in front of the place are 0, and each turn adds one to them.
 use borrow.Author.Needs.{needs}
-use mathlib.Core.Path.{_≡_, refl, sym, ap, _∙_}
-use Prim.Native.Nat.{ℕ, _+_, _-_, _≤_, _<_}
+use mathlib.Core.Path.{_≡_, refl, _∙_}
+use Prim.Native.Nat.{ℕ, _-_, _≤_, _<_}
 use native.Mathlib.Omega.{arith}
 use lib.ListN.{length, getD, length-set}
 use Rattle.ranges.proofs.Tables as tables
 use Rattle.ranges.proofs.clear.Statement.{statement}
 use Rattle.ranges.proofs.clear.Tie as tie
-use Rattle.ranges.proofs.clear.Reads as reads
-use Rattle.ranges.proofs.clear.Lts as lts
 
 abbrev Inv-loop : tie.InvT-loop
 Inv-loop count cells₀ i₀ cells i =
@@ -17,42 +16,34 @@ abbrev μ-loop : tie.MeasureT-loop
 μ-loop count cells₀ i₀ cells i =
     count - i
 
--- src/lib.rt:39:5
 loop-holds : tie.Need-loop-holds Inv-loop μ-loop
 loop-holds c =
     (omega arith, (refl, λ j h. absurd (omega arith)))
 
--- src/lib.rt:40:9
 mul-cells : tie.Need-mul-cells Inv-loop μ-loop
 mul-cells c =
     search needs
 
--- src/lib.rt:40:9
 slice-write-cells : tie.Need-slice-write-cells Inv-loop μ-loop
 slice-write-cells c =
     omega (arith, c .before .loop .inv .1 .0, c .before .before .pre)
 
--- src/lib.rt:39:9
 add-i : tie.Need-add-i Inv-loop μ-loop
 add-i c =
     search needs
 
--- src/lib.rt:39:5
 loop-less : tie.Need-loop-less Inv-loop μ-loop
 loop-less c =
     omega (arith, c .loop-test .taken)
 
--- src/lib.rt:39:5
 loop-again : tie.Need-loop-again Inv-loop μ-loop
 loop-again c =
     (omega (arith, c .loop-test .taken), (length-set (c .before .loop .cells) (c .before .loop .i) 0 ∙ c .before .loop .inv .1 .0, tables.zero-more (c .before .loop .cells) (c .before .loop .i) (omega (arith, c .loop-test .taken, c .before .loop .inv .1 .0, c .before .before .pre)) (c .before .loop .inv .1 .1)))
 
--- src/lib.rt:35:1
 same-length : tie.Need-same-length Inv-loop μ-loop
 same-length c =
     c .before .loop .inv .1 .0
 
--- src/lib.rt:35:1
 returns : tie.Need-returns Inv-loop μ-loop
 returns c =
     record { each = λ j h. c .before .loop .inv .1 .1 j (omega (arith, h, c .loop-test .left)) }

@@ -1,18 +1,15 @@
+-- How far the pairs reach at a frame is the largest mark up to it, and each frame is taken or left by that number.
 use borrow.Author.Needs.{needs}
 use mathlib.Core.Path.{_≡_, refl, sym, ap, _∙_}
 use Prim.Native.Nat.{ℕ, _+_, _-_, _≤_, _<_, max}
 use native.Mathlib.Omega.{arith}
 use lib.Dec.{leb}
 use lib.ListN.{length, getD, length-set}
-use Rattle.ranges.specs.Ranges.{takenBy, farOf}
+use Rattle.ranges.specs.Contracts.{takenBy, farOf}
 use Rattle.ranges.proofs.Reach as reaching
 use Rattle.ranges.proofs.Tables as tables
 use Rattle.ranges.proofs.cover.Statement.{statement}
 use Rattle.ranges.proofs.cover.Tie as tie
-use Rattle.ranges.proofs.cover.Reads as reads
-use Rattle.ranges.proofs.cover.Lts as lts
-use Rattle.ranges.proofs.larger.Reads as larger-reads
-use Rattle.ranges.proofs.taken.Reads as taken-reads
 
 abbrev Inv-loop : tie.InvT-loop
 Inv-loop n item reach which₀ end far₀ frame₀ which far frame =
@@ -22,73 +19,59 @@ abbrev μ-loop : tie.MeasureT-loop
 μ-loop n item reach which₀ end far₀ frame₀ which far frame =
     end - frame
 
--- src/lib.rt:73:15
 add-end : tie.Need-add-end Inv-loop μ-loop
 add-end c =
     omega (arith, c .before .before .pre .few)
 
--- src/lib.rt:74:19
 shared-slice-read-far : tie.Need-shared-slice-read-far Inv-loop μ-loop
 shared-slice-read-far c =
     omega (arith, c .before .before .before .pre .marks)
 
--- src/lib.rt:75:5
 loop-holds : tie.Need-loop-holds Inv-loop μ-loop
 unfolding farOf
 loop-holds c =
     (omega arith, (omega arith, (refl, (refl, (λ i a b. absurd (omega arith), λ i h. refl)))))
 
--- src/lib.rt:76:27
 mul-larger : tie.Need-mul-larger Inv-loop μ-loop
 mul-larger c =
     search needs
 
--- src/lib.rt:76:27
 shared-slice-read-larger : tie.Need-shared-slice-read-larger Inv-loop μ-loop
 shared-slice-read-larger c =
     omega (arith, c .before .loop-test .taken, c .before .before .before .before .before .before .pre .marks, c .before .before .before .before .before .before .pre .few)
 
--- src/lib.rt:76:9
 larger-requires : tie.Need-larger-requires Inv-loop μ-loop
 larger-requires c κs =
     search needs
 
--- src/lib.rt:77:30
 mul-taken : tie.Need-mul-taken Inv-loop μ-loop
 mul-taken c =
     search needs
 
--- src/lib.rt:77:30
 slice-read-taken : tie.Need-slice-read-taken Inv-loop μ-loop
 slice-read-taken c =
     omega (arith, c .before .before .before .loop-test .taken, c .before .before .before .before .before .before .before .before .pre .frames, c .before .before .before .before .loop .inv .1 .1 .1 .0)
 
--- src/lib.rt:77:24
 taken-requires : tie.Need-taken-requires Inv-loop μ-loop
 taken-requires c κs =
     search needs
 
--- src/lib.rt:77:9
 mul-which : tie.Need-mul-which Inv-loop μ-loop
 mul-which c =
     search needs
 
--- src/lib.rt:77:9
 slice-write-which : tie.Need-slice-write-which Inv-loop μ-loop
 slice-write-which c =
     omega (arith, c .before .before .before .before .loop-test .taken, c .before .before .before .before .before .before .before .before .before .pre .frames, c .before .before .before .before .before .loop .inv .1 .1 .1 .0)
 
--- src/lib.rt:75:9
 add-frame : tie.Need-add-frame Inv-loop μ-loop
 add-frame c =
     omega (arith, c .before .before .before .before .loop-test .taken, c .before .before .before .before .before .before .before .before .before .pre .few)
 
--- src/lib.rt:75:5
 loop-less : tie.Need-loop-less Inv-loop μ-loop
 loop-less c =
     omega (arith, c .before .before .before .before .loop-test .taken)
 
--- src/lib.rt:75:5
 loop-again : tie.Need-loop-again Inv-loop μ-loop
 loop-again c =
     let f = c .before .before .before .before .before .loop .frame in
@@ -96,12 +79,10 @@ loop-again c =
     let e : f + 1 - 1 ≡ f = omega arith in
     (omega arith, (omega (arith, c .before .before .before .before .loop-test .taken), (far ∙ ap (farOf (c .before .before .before .before .before .before .before .before .before .args .reach .now)) (sym e), (length-set (c .before .before .before .before .before .loop .which) (c .before .before .before .before .before .loop .frame) (c .taken .result) ∙ c .before .before .before .before .before .loop .inv .1 .1 .1 .0, (tables.done-more (λ i. leb i (farOf (c .before .before .before .before .before .before .before .before .before .args .reach .now) i)) (c .before .before .before .before .before .before .before .before .before .args .item) f (c .before .before .before .before .before .before .before .before .before .args .which .now) (c .before .before .before .before .before .loop .which) (c .taken .result) (omega (arith, c .before .before .before .before .loop-test .taken, c .before .before .before .before .before .before .before .before .before .pre .frames, c .before .before .before .before .before .loop .inv .1 .1 .1 .0)) (c .taken .ensures ∙ ap (λ (x : ℕ). takenBy (getD (c .before .before .before .before .before .loop .which) f 0) (leb f x) (c .before .before .before .before .before .before .before .before .before .args .item)) far) (c .before .before .before .before .before .loop .inv .1 .1 .1 .1 .1 f (omega arith)) (c .before .before .before .before .before .loop .inv .1 .1 .1 .1 .0), tables.rest-more (λ i. leb i (farOf (c .before .before .before .before .before .before .before .before .before .args .reach .now) i)) (c .before .before .before .before .before .before .before .before .before .args .item) f (c .before .before .before .before .before .before .before .before .before .args .which .now) (c .before .before .before .before .before .loop .which) (c .taken .result) (c .before .before .before .before .before .loop .inv .1 .1 .1 .1 .1))))))
 
--- src/lib.rt:69:1
 same-length : tie.Need-same-length Inv-loop μ-loop
 same-length c =
     c .before .loop .inv .1 .1 .1 .0
 
--- src/lib.rt:69:1
 returns : tie.Need-returns Inv-loop μ-loop
 returns c =
     record { each = λ i low high. c .before .loop .inv .1 .1 .1 .1 .0 i low (omega (arith, high, c .loop-test .left)) }

@@ -1,3 +1,4 @@
+-- A mark of 65,535 at frame 0 reaches every frame.
 use native.Mathlib.Omega.{arith}
 use lib.Seq.{getD-set-same}
 use Rattle.ranges.proofs.Items as items

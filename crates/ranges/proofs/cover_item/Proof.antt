@@ -1,3 +1,4 @@
+-- Without a range every frame is held; else the range at the node that is found decides.
 use mathlib.Core.Bool.{true}
 use Rattle.value.specs.declared.Num.the-variants as num
 use Rattle.node.specs.Nodes.{nodesOf}

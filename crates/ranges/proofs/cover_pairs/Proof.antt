@@ -1,3 +1,4 @@
+-- Some pair holds a frame just where the pairs that start up to it reach as far as it.
 use Rattle.ranges.proofs.Items as items
 use borrow.Author.Needs.{needs}
 use Rattle.ranges.proofs.cover_pairs.Statement.{statement}

@@ -1,3 +1,4 @@
+-- The tests are those of the definition; a range that fails one has no answer, and the frames stay as they were.
 use borrow.Author.Tests.{eq-eqb, ne-eqb, le-leb, lt-leb}
 use Rattle.value.specs.Number.{usValues}
 use Rattle.value.specs.declared.Num.the-variants as num

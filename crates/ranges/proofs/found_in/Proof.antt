@@ -1,3 +1,4 @@
+-- 0 and 1 stand for the answers without a node, and any other number for the node two below it.
 use borrow.Author.Tests.{eq-eqb, ne-eqb}
 use borrow.Author.Needs.{needs}
 use Rattle.ranges.proofs.found_in.Statement.{statement}

@@ -1,18 +1,15 @@
+-- A frame's mark is the largest last frame of the pairs that start there, and each pair can only raise it.
 use borrow.Author.Needs.{needs}
 use mathlib.Core.Path.{_≡_, refl, sym, ap, _∙_}
-use Prim.Native.Nat.{ℕ, _+_, _-_, _*_, _/_, _≤_, _<_, max}
+use Prim.Native.Nat.{ℕ, _-_, _*_, _/_, _≤_, max}
 use native.Mathlib.Omega.{arith}
 use native.Mathlib.Nat.{max-zero}
 use lib.ListN.{length, getD, drop, length-set}
 use Rattle.value.specs.Number.{usValues}
-use Rattle.ranges.specs.Ranges.{markOf}
+use Rattle.ranges.specs.Contracts.{markOf}
 use Rattle.ranges.proofs.Tables as tables
 use Rattle.ranges.proofs.mark.Statement.{statement}
 use Rattle.ranges.proofs.mark.Tie as tie
-use Rattle.ranges.proofs.mark.Reads as reads
-use Rattle.ranges.proofs.mark.Lts as lts
-use Rattle.ranges.proofs.larger.Reads as larger-reads
-use Rattle.value.proofs.us_value.Reads as us-value-reads
 
 abbrev Inv-loop : tie.InvT-loop
 Inv-loop v reach₀ pairs k₀ reach k =
@@ -22,87 +19,70 @@ abbrev μ-loop : tie.MeasureT-loop
 μ-loop v reach₀ pairs k₀ reach k =
     pairs - k
 
--- src/lib.rt:50:5
 loop-holds : tie.Need-loop-holds Inv-loop μ-loop
 loop-holds c =
     (omega arith, (refl, (refl, λ i. refl)))
 
--- src/lib.rt:51:40
 mul-us-value : tie.Need-mul-us-value Inv-loop μ-loop
 mul-us-value c =
     omega (arith, c .loop-test .taken, c .before .loop .inv .1 .0)
 
--- src/lib.rt:51:13
 us-value-requires : tie.Need-us-value-requires Inv-loop μ-loop
 us-value-requires c κs =
     omega (arith, c .loop-test .taken, c .before .loop .inv .1 .0, c .before .before .before .before .pre .0)
 
--- src/lib.rt:52:39
 mul-us-value-2 : tie.Need-mul-us-value-2 Inv-loop μ-loop
 mul-us-value-2 c =
     omega (arith, c .before .loop-test .taken, c .before .before .loop .inv .1 .0)
 
--- src/lib.rt:52:39
 add-us-value : tie.Need-add-us-value Inv-loop μ-loop
 add-us-value c =
     omega (arith, c .before .loop-test .taken, c .before .before .loop .inv .1 .0)
 
--- src/lib.rt:52:13
 us-value-requires-2 : tie.Need-us-value-requires-2 Inv-loop μ-loop
 us-value-requires-2 c κs =
     omega (arith, c .before .loop-test .taken, c .before .before .loop .inv .1 .0, c .before .before .before .before .before .pre .0)
 
--- src/lib.rt:53:31
 mul-larger : tie.Need-mul-larger Inv-loop μ-loop
 mul-larger c =
     search needs
 
--- src/lib.rt:53:31
 slice-read-larger : tie.Need-slice-read-larger Inv-loop μ-loop
 slice-read-larger c =
     omega (arith, c .before .before .us-value .ensures .1, c .before .before .before .before .loop .inv .1 .1 .0, c .before .before .before .before .before .before .before .pre .1)
 
--- src/lib.rt:53:45
 cast-larger : tie.Need-cast-larger Inv-loop μ-loop
 cast-larger c =
     omega (arith, c .before .us-value2 .ensures .1)
 
--- src/lib.rt:53:24
 larger-requires : tie.Need-larger-requires Inv-loop μ-loop
 larger-requires c κs =
     search needs
 
--- src/lib.rt:53:9
 mul-reach : tie.Need-mul-reach Inv-loop μ-loop
 mul-reach c =
     search needs
 
--- src/lib.rt:53:9
 slice-write-reach : tie.Need-slice-write-reach Inv-loop μ-loop
 slice-write-reach c =
     omega (arith, c .before .before .before .us-value .ensures .1, c .before .before .before .before .before .loop .inv .1 .1 .0, c .before .before .before .before .before .before .before .before .pre .1)
 
--- src/lib.rt:50:9
 add-k : tie.Need-add-k Inv-loop μ-loop
 add-k c =
     omega (arith, c .before .before .before .before .loop-test .taken)
 
--- src/lib.rt:50:5
 loop-less : tie.Need-loop-less Inv-loop μ-loop
 loop-less c =
     omega (arith, c .before .before .before .before .loop-test .taken)
 
--- src/lib.rt:50:5
 loop-again : tie.Need-loop-again Inv-loop μ-loop
 loop-again c =
     (omega (arith, c .before .before .before .before .loop-test .taken), (c .before .before .before .before .before .loop .inv .1 .0, (length-set (c .before .before .before .before .before .loop .reach) (c .before .before .before .us-value .result) (c .larger .result) ∙ c .before .before .before .before .before .loop .inv .1 .1 .0, λ i. tables.mark-more (c .before .before .before .before .before .before .before .before .args .v .now) (c .before .before .before .before .before .loop .k) (c .before .before .before .us-value .result) (c .before .before .us-value2 .result) (c .before .before .before .us-value .ensures .0) (c .before .before .us-value2 .ensures .0) (omega (arith, c .before .before .before .before .loop-test .taken, c .before .before .before .before .before .loop .inv .1 .0, c .before .before .before .before .before .before .before .before .pre .0)) (c .before .before .before .before .before .loop .reach) (c .larger .result) i (omega (arith, c .before .before .before .us-value .ensures .1, c .before .before .before .before .before .loop .inv .1 .1 .0, c .before .before .before .before .before .before .before .before .pre .1)) (c .larger .ensures) ∙ c .before .before .before .before .before .loop .inv .1 .1 .1 i)))
 
--- src/lib.rt:45:1
 same-length : tie.Need-same-length Inv-loop μ-loop
 same-length c =
     c .before .loop .inv .1 .1 .0
 
--- src/lib.rt:45:1
 returns : tie.Need-returns Inv-loop μ-loop
 returns c =
     record { each = λ i. sym (max-zero (getD (c .before .loop .reach) i 0)) ∙ (ap (max (getD (c .before .loop .reach) i 0)) (sym (tables.marks-end i (c .before .before .before .before .args .v .now) (c .before .loop .k) (omega (arith, c .loop-test .left, c .before .loop .inv .0, c .before .loop .inv .1 .0, c .before .before .before .before .pre .0)))) ∙ c .before .loop .inv .1 .1 .1 i) }

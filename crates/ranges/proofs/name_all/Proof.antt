@@ -1,3 +1,4 @@
+-- Keys that are all 0 name no item, and each that is written later has its answer beside it.
 use native.Mathlib.Omega.{arith}
 use Rattle.ranges.proofs.Names as names
 use borrow.Author.Needs.{needs}

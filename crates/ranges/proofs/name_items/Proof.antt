@@ -1,18 +1,14 @@
+-- A key is written together with the answer for its item, so that all keys that are written stay right.
 use borrow.Author.Needs.{needs}
-use mathlib.Core.Path.{_≡_, refl, sym, ap, _∙_}
-use Prim.Native.Nat.{ℕ, _+_, _-_, _≤_, _<_}
+use mathlib.Core.Path.{_≡_, refl, _∙_}
+use Prim.Native.Nat.{_+_, _-_, _≤_}
 use native.Mathlib.Omega.{arith}
 use lib.ListN.{length, length-set}
 use Rattle.node.specs.Nodes.{nodesOf}
-use Rattle.ranges.specs.Ranges.{Known}
+use Rattle.ranges.specs.Contracts.{Known}
 use Rattle.ranges.proofs.Names as names
 use Rattle.ranges.proofs.name_items.Statement.{statement}
 use Rattle.ranges.proofs.name_items.Tie as tie
-use Rattle.ranges.proofs.name_items.Reads as reads
-use Rattle.ranges.proofs.name_items.Lts as lts
-use Rattle.node.proofs.next.Reads as next-reads
-use Rattle.ranges.proofs.number_of.Reads as number-of-reads
-use Rattle.steps.proofs.shared_naming.Reads as shared-naming-reads
 
 abbrev Inv-loop : tie.InvT-loop
 Inv-loop bytes rows from to keys₀ answers₀ at₀ i₀ keys answers at i =
@@ -22,97 +18,78 @@ abbrev μ-loop : tie.MeasureT-loop
 μ-loop bytes rows from to keys₀ answers₀ at₀ i₀ keys answers at i =
     16 - i
 
--- src/lib.rt:244:5
 loop-holds : tie.Need-loop-holds Inv-loop μ-loop
 loop-holds c =
     (omega arith, (refl, (refl, c .before .before .before .before .pre .1 .1 .1 .1)))
 
--- src/lib.rt:246:17
 shared-naming-requires : tie.Need-shared-naming-requires Inv-loop μ-loop
 shared-naming-requires c κs =
     (c .before .before .before .before .before .before .before .pre .0, omega (arith, c .if1 .taken, c .before .before .before .before .before .before .before .pre .1 .0))
 
--- src/lib.rt:247:26
 number-of-requires : tie.Need-number-of-requires Inv-loop μ-loop
 number-of-requires c κs =
     names.found-fewer (length (nodesOf (c .before .before .before .before .before .before .before .before .args .bytes .now))) 134217728 (c .shared-naming .result) (c .before .before .before .before .before .before .before .before .pre .0 .few) (c .shared-naming .ensures .1)
 
--- src/lib.rt:247:13
 mul-answers : tie.Need-mul-answers Inv-loop μ-loop
 mul-answers c =
     search needs
 
--- src/lib.rt:247:13
 slice-write-answers : tie.Need-slice-write-answers Inv-loop μ-loop
 slice-write-answers c =
     omega (arith, c .before .before .before .before .loop .inv .1 .1 .0, c .before .before .before .loop-test .taken, c .before .before .before .before .before .before .before .before .before .pre .1 .1 .1 .0)
 
--- src/lib.rt:248:24
 add-keys : tie.Need-add-keys Inv-loop μ-loop
 add-keys c =
     omega (arith, c .before .before .if1 .taken, c .before .before .before .before .before .before .before .before .before .pre .1 .0, c .before .before .before .before .before .before .before .before .before .pre .0 .few)
 
--- src/lib.rt:248:23
 cast-keys : tie.Need-cast-keys Inv-loop μ-loop
 cast-keys c =
     omega (arith, c .before .before .if1 .taken, c .before .before .before .before .before .before .before .before .before .pre .1 .0, c .before .before .before .before .before .before .before .before .before .pre .0 .few)
 
--- src/lib.rt:248:13
 mul-keys : tie.Need-mul-keys Inv-loop μ-loop
 mul-keys c =
     search needs
 
--- src/lib.rt:248:13
 slice-write-keys : tie.Need-slice-write-keys Inv-loop μ-loop
 slice-write-keys c =
     omega (arith, c .before .before .before .before .loop .inv .1 .0, c .before .before .before .loop-test .taken, c .before .before .before .before .before .before .before .before .before .pre .1 .1 .0)
 
--- src/lib.rt:249:13
 next-requires : tie.Need-next-requires Inv-loop μ-loop
 next-requires c κs =
     (c .before .before .before .before .before .before .before .before .before .pre .0, omega (arith, c .before .before .if1 .taken, c .before .before .before .before .before .before .before .before .before .pre .1 .0))
 
--- src/lib.rt:251:13
 same-length : tie.Need-same-length Inv-loop μ-loop
 same-length c =
     c .before .before .loop .inv .1 .0
 
--- src/lib.rt:251:13
 same-length-2 : tie.Need-same-length-2 Inv-loop μ-loop
 same-length-2 c =
     c .before .before .loop .inv .1 .1 .0
 
--- src/lib.rt:251:13
 returns : tie.Need-returns Inv-loop μ-loop
 returns c =
     c .before .before .loop .inv .1 .1 .1
 
--- src/lib.rt:244:9
 add-i : tie.Need-add-i Inv-loop μ-loop
 add-i c =
     omega (arith, c .before .before .before .before .loop-test .taken)
 
--- src/lib.rt:244:5
 loop-less : tie.Need-loop-less Inv-loop μ-loop
 loop-less c =
     omega (arith, c .before .before .before .before .loop-test .taken)
 
--- src/lib.rt:244:5
 loop-again : tie.Need-loop-again Inv-loop μ-loop
 loop-again c =
     (omega (arith, c .before .before .before .before .loop-test .taken), (length-set (c .before .before .before .before .before .loop .keys) (c .before .before .before .before .before .loop .i) (c .before .before .before .before .before .loop .at + 1) ∙ c .before .before .before .before .before .loop .inv .1 .0, (length-set (c .before .before .before .before .before .loop .answers) (c .before .before .before .before .before .loop .i) (c .before .number-of .result) ∙ c .before .before .before .before .before .loop .inv .1 .1 .0, names.known-more _ (c .before .before .before .before .before .loop .keys) (c .before .before .before .before .before .loop .answers) (c .before .before .before .before .before .loop .i) (c .before .before .before .before .before .loop .at) (c .before .number-of .result) _ (omega (arith, c .before .before .before .before .before .loop .inv .1 .0, c .before .before .before .before .loop-test .taken, c .before .before .before .before .before .before .before .before .before .before .pre .1 .1 .0)) (omega (arith, c .before .before .before .before .before .loop .inv .1 .1 .0, c .before .before .before .before .loop-test .taken, c .before .before .before .before .before .before .before .before .before .before .pre .1 .1 .1 .0)) (c .before .before .before .before .before .loop .inv .1 .1 .1) (c .before .number-of .ensures) (record { is = c .before .before .shared-naming .ensures .0; below = c .before .before .shared-naming .ensures .1 }))))
 
--- src/lib.rt:232:1
 same-length-3 : tie.Need-same-length-3 Inv-loop μ-loop
 same-length-3 c =
     c .before .loop .inv .1 .0
 
--- src/lib.rt:232:1
 same-length-4 : tie.Need-same-length-4 Inv-loop μ-loop
 same-length-4 c =
     c .before .loop .inv .1 .1 .0
 
--- src/lib.rt:232:1
 returns-2 : tie.Need-returns-2 Inv-loop μ-loop
 returns-2 c =
     c .before .loop .inv .1 .1 .1

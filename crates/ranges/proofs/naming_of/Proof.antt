@@ -1,15 +1,12 @@
+-- A key that is found has its answer beside it; without one the answer is worked out here.
 use borrow.Author.Needs.{needs}
-use mathlib.Core.Path.{_≡_, refl, sym, ap, _∙_, subst}
-use Prim.Native.Nat.{ℕ, _+_, _-_, _≤_, _<_}
+use mathlib.Core.Path.{sym, subst}
+use Prim.Native.Nat.{_-_, _≤_}
 use native.Mathlib.Omega.{arith}
 use Rattle.node.specs.Nodes.{nodesOf}
-use Rattle.steps.specs.Said.{IsShared}
+use Rattle.steps.specs.Contracts.{IsShared}
 use Rattle.ranges.proofs.naming_of.Statement.{statement}
 use Rattle.ranges.proofs.naming_of.Tie as tie
-use Rattle.ranges.proofs.naming_of.Reads as reads
-use Rattle.ranges.proofs.naming_of.Lts as lts
-use Rattle.ranges.proofs.found_in.Reads as found-in-reads
-use Rattle.steps.proofs.shared_naming.Reads as shared-naming-reads
 
 abbrev Inv-loop : tie.InvT-loop
 Inv-loop bytes rows j keys answers key i₀ i =
@@ -19,72 +16,58 @@ abbrev μ-loop : tie.MeasureT-loop
 μ-loop bytes rows j keys answers key i₀ i =
     16 - i
 
--- src/lib.rt:272:16
 add-key : tie.Need-add-key Inv-loop μ-loop
 add-key c =
     omega (arith, c .before .before .before .before .pre .1 .0, c .before .before .before .before .pre .0 .few)
 
--- src/lib.rt:272:15
 cast-key : tie.Need-cast-key Inv-loop μ-loop
 cast-key c =
     omega (arith, c .before .before .before .before .pre .1 .0, c .before .before .before .before .pre .0 .few)
 
--- src/lib.rt:274:5
 loop-holds : tie.Need-loop-holds Inv-loop μ-loop
 loop-holds c =
     omega arith
 
--- src/lib.rt:275:12
 mul-if1 : tie.Need-mul-if1 Inv-loop μ-loop
 mul-if1 c =
     search needs
 
--- src/lib.rt:275:12
 shared-slice-read-if1 : tie.Need-shared-slice-read-if1 Inv-loop μ-loop
 shared-slice-read-if1 c =
     omega (arith, c .before .loop-test .taken, c .before .before .before .before .before .before .before .pre .1 .1 .0)
 
--- src/lib.rt:276:29
 mul-found-in : tie.Need-mul-found-in Inv-loop μ-loop
 mul-found-in c =
     search needs
 
--- src/lib.rt:276:29
 shared-slice-read-found-in : tie.Need-shared-slice-read-found-in Inv-loop μ-loop
 shared-slice-read-found-in c =
     omega (arith, c .before .before .before .loop-test .taken, c .before .before .before .before .before .before .before .before .before .pre .1 .1 .1 .0)
 
--- src/lib.rt:276:13
 found-in-requires : tie.Need-found-in-requires Inv-loop μ-loop
 found-in-requires c κs =
     search needs
 
--- src/lib.rt:276:13
 returns : tie.Need-returns Inv-loop μ-loop
 returns c =
     subst (IsShared (nodesOf (c .before .before .before .before .before .before .before .before .before .before .args .bytes .now)) (c .before .before .before .before .before .before .before .before .before .before .args .j)) (sym (c .found-in .ensures)) (c .before .before .before .before .before .before .before .before .before .before .pre .1 .1 .1 .1 .each (c .before .before .before .before .before .loop .i) (c .before .before .before .before .before .before .before .before .before .before .args .j) (c .before .before .before .before .loop-test .taken) (c .before .before .if1 .taken))
 
--- src/lib.rt:278:13
 add-i : tie.Need-add-i Inv-loop μ-loop
 add-i c =
     omega (arith, c .before .before .loop-test .taken)
 
--- src/lib.rt:274:5
 loop-less : tie.Need-loop-less Inv-loop μ-loop
 loop-less c =
     omega (arith, c .before .before .loop-test .taken)
 
--- src/lib.rt:274:5
 loop-again : tie.Need-loop-again Inv-loop μ-loop
 loop-again c =
     omega (arith, c .before .before .loop-test .taken)
 
--- src/lib.rt:281:5
 shared-naming-requires : tie.Need-shared-naming-requires Inv-loop μ-loop
 shared-naming-requires c κs =
     (c .before .before .before .before .before .before .pre .0, c .before .before .before .before .before .before .pre .1 .0)
 
--- src/lib.rt:268:1
 returns-2 : tie.Need-returns-2 Inv-loop μ-loop
 returns-2 c =
     record { is = c .shared-naming .ensures .0; below = c .shared-naming .ensures .1 }

@@ -1,8 +1,7 @@
-use mathlib.Core.Path.{_∙_}
+-- Two numbers stand for the answers without a node, and a node is small enough to add 2.
+use mathlib.Core.Path.{_∙_, sym}
 use Rattle.ranges.proofs.Names as names
 use native.Mathlib.Omega.{arith}
-use mathlib.Core.Path.{_≡_, sym}
-use borrow.Author.Tests.{eq-eqb, ne-eqb}
 use Rattle.steps.proofs.Laws as steps-laws
 use borrow.Author.Needs.{needs}
 use Rattle.ranges.proofs.number_of.Statement.{statement}

@@ -1,23 +1,19 @@
+-- A frame that was taken stays so; a free one is taken where it is within reach.
 use borrow.Author.Tests.{eq-eqb, ne-eqb, le-leb, lt-leb}
-use Rattle.ranges.specs.Ranges.{takenBy}
+use Rattle.ranges.specs.Contracts.{takenBy}
 use Rattle.ranges.proofs.taken.Statement.{statement}
 use Rattle.ranges.proofs.taken.Tie as tie
-use Rattle.ranges.proofs.taken.Reads as reads
-use Rattle.ranges.proofs.taken.Lts as lts
 
--- src/lib.rt:58:1
 returns : tie.Need-returns
 unfolding takenBy
 returns c =
     rw (eq-eqb _ _ (c .before .if1 .taken), le-leb _ _ (c .if2 .taken))
 
--- src/lib.rt:58:1
 returns-2 : tie.Need-returns-2
 unfolding takenBy
 returns-2 c =
     rw (eq-eqb _ _ (c .before .if1 .taken), lt-leb _ _ (c .if2 .left))
 
--- src/lib.rt:58:1
 returns-3 : tie.Need-returns-3
 unfolding takenBy
 returns-3 c =

@@ -2,7 +2,7 @@
 use mathlib.Core.Path.{subst}
 use borrow.Author.Needs.{needs}
 use Rattle.dataset.specs.declared.ReadAnswer.{ReadAnswer}
-use Rattle.rowprint.specs.Listing.{Held}
+use Rattle.rowprint.specs.Contracts.{Held}
 use Rattle.rowprint.proofs.print_answer.Statement.{statement}
 use Rattle.rowprint.proofs.print_answer.Tie as tie
 

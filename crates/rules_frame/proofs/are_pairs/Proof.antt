@@ -1,41 +1,29 @@
-use mathlib.Core.Path.{_≡_, refl, sym, ap, _∙_}
+-- The three tests are those of the definition, in its order.
 use borrow.Author.Tests.{eq-eqb, ne-eqb}
 use borrow.Author.Needs.{needs}
 use Rattle.rules_frame.proofs.are_pairs.Statement.{statement}
 use Rattle.rules_frame.proofs.are_pairs.Tie as tie
-use Rattle.rules_frame.proofs.are_pairs.Reads as reads
-use Rattle.rules_frame.proofs.are_pairs.Lts as lts
-use Rattle.value.proofs.all_decimals.Reads as all-decimals-reads
-use Rattle.value.proofs.all_widths.Reads as all-widths-reads
-use Rattle.value.proofs.count_values.Reads as count-values-reads
 
--- src/lib.rt:90:8
 count-values-requires : tie.Need-count-values-requires
 count-values-requires c κs = search needs
 
--- src/lib.rt:90:40
 count-values-requires-2 : tie.Need-count-values-requires-2
 count-values-requires-2 c κs = search needs
 
--- src/lib.rt:91:12
 all-decimals-requires : tie.Need-all-decimals-requires
 all-decimals-requires c κs = search needs
 
--- src/lib.rt:92:13
 all-widths-requires : tie.Need-all-widths-requires
 all-widths-requires c κs = search needs
 
--- src/lib.rt:87:1
 returns : tie.Need-returns
 returns c =
     rw (← c .before .before .before .before .before .count-values .ensures .0, ← c .before .before .before .before .count-values2 .ensures .0, eq-eqb _ _ (c .before .before .before .if1 .taken), ← c .before .before .all-decimals .ensures, c .before .if2 .taken) (c .all-widths .ensures)
 
--- src/lib.rt:87:1
 returns-2 : tie.Need-returns-2
 returns-2 c =
     rw (← c .before .before .before .before .count-values .ensures .0, ← c .before .before .before .count-values2 .ensures .0, eq-eqb _ _ (c .before .before .if1 .taken), ← c .before .all-decimals .ensures, c .if2 .left)
 
--- src/lib.rt:87:1
 returns-3 : tie.Need-returns-3
 returns-3 c =
     rw (← c .before .before .count-values .ensures .0, ← c .before .count-values2 .ensures .0, ne-eqb _ _ (c .if1 .left))

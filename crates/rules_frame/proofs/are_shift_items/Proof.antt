@@ -1,5 +1,6 @@
+-- An item without an ID and a shift settles the answer; while each has them, the items that are left decide.
 use borrow.Author.Needs.{needs}
-use mathlib.Core.Path.{_≡_, refl, sym, ap, _∙_}
+use mathlib.Core.Path.{_≡_, refl, sym, _∙_}
 use native.Mathlib.Omega.{arith}
 use Rattle.rules.specs.Frame.{isShiftItem}
 use Prim.Native.Nat.{_-_}
@@ -8,10 +9,6 @@ use Rattle.element.specs.Elements.{every}
 use Rattle.element.proofs.Every.{every-end, every-no, every-later}
 use Rattle.rules_frame.proofs.are_shift_items.Statement.{statement}
 use Rattle.rules_frame.proofs.are_shift_items.Tie as tie
-use Rattle.rules_frame.proofs.are_shift_items.Reads as reads
-use Rattle.rules_frame.proofs.are_shift_items.Lts as lts
-use Rattle.node.proofs.next.Reads as next-reads
-use Rattle.rules_frame.proofs.is_shift_item.Reads as is-shift-item-reads
 
 abbrev Inv-loop : tie.InvT-loop
 Inv-loop bytes rows from to j₀ j =
@@ -20,37 +17,30 @@ Inv-loop bytes rows from to j₀ j =
 abbrev μ-loop : tie.MeasureT-loop
 μ-loop bytes rows from to j₀ j = to - j
 
--- src/lib.rt:147:5
 loop-holds : tie.Need-loop-holds Inv-loop μ-loop
 loop-holds c =
     refl
 
--- src/lib.rt:148:12
 is-shift-item-requires : tie.Need-is-shift-item-requires Inv-loop μ-loop
 is-shift-item-requires c κs =
     (c .before .before .before .before .pre .0, omega (arith, c .loop-test .taken, c .before .before .before .before .pre .1))
 
--- src/lib.rt:149:13
 next-requires : tie.Need-next-requires Inv-loop μ-loop
 next-requires c κs =
     (c .before .before .before .before .before .before .pre .0, omega (arith, c .before .before .loop-test .taken, c .before .before .before .before .before .before .pre .1))
 
--- src/lib.rt:147:5
 loop-less : tie.Need-loop-less Inv-loop μ-loop
 loop-less c =
     search needs
 
--- src/lib.rt:147:5
 loop-again : tie.Need-loop-again Inv-loop μ-loop
 loop-again c =
     rw (c .next .ensures .0) (sym (every-later _ _ _ _ (c .before .before .before .loop-test .taken) (sym (c .before .before .is-shift-item .ensures) ∙ c .before .if1 .taken)) ∙ c .before .before .before .before .loop .inv)
 
--- src/lib.rt:151:13
 returns : tie.Need-returns Inv-loop μ-loop
 returns c =
     sym (every-no _ _ _ _ (c .before .before .loop-test .taken) (sym (c .before .is-shift-item .ensures) ∙ c .if1 .left)) ∙ c .before .before .before .loop .inv
 
--- src/lib.rt:142:1
 returns-2 : tie.Need-returns-2 Inv-loop μ-loop
 returns-2 c =
     sym (every-end _ _ _ _ (c .loop-test .left)) ∙ c .before .loop .inv

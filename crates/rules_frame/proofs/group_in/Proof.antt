@@ -1,43 +1,31 @@
-use mathlib.Core.Path.{_≡_, refl, sym, ap, _∙_}
+-- A group that is found is judged; without one the answer is the one handed in.
 use Rattle.node.proofs.Laws as node-laws
-use Rattle.rules_frame.specs.Parts.{groupIn}
+use Rattle.rules_frame.specs.Contracts.{groupIn}
 use borrow.Author.Needs.{needs}
 use Rattle.rules_frame.proofs.group_in.Statement.{statement}
 use Rattle.rules_frame.proofs.group_in.Tie as tie
-use Rattle.rules_frame.proofs.group_in.Reads as reads
-use Rattle.rules_frame.proofs.group_in.Lts as lts
-use Rattle.element.proofs.find_item.Reads as find-item-reads
-use Rattle.rules_frame.proofs.group_fits.Reads as group-fits-reads
-use Rattle.rules_frame.proofs.group_tag.Reads as group-tag-reads
 
--- src/lib.rt:215:49
 group-tag-requires : tie.Need-group-tag-requires
 group-tag-requires c κs = search needs
 
--- src/lib.rt:215:11
 find-item-requires : tie.Need-find-item-requires
 find-item-requires c κs = search needs
 
--- src/lib.rt:216:23
 enum-told : tie.Need-enum-told
 enum-told c = search needs
 
--- src/lib.rt:217:17
 enum-known-g : tie.Need-enum-known-g
 enum-known-g c = search needs
 
--- src/lib.rt:217:23
 group-fits-requires : tie.Need-group-fits-requires
 group-fits-requires c κs =
     (c .before .before .before .before .before .before .before .pre .0, node-laws.within _ (c .before .g .given .1) (c .before .before .before .find-item .ensures .1))
 
--- src/lib.rt:211:1
 returns : tie.Need-returns
 unfolding groupIn
 returns c =
     rw (← c .before .before .before .group-tag .ensures, node-laws.lacked (c .enum-told .given .1) (c .before .before .find-item .ensures .0))
 
--- src/lib.rt:211:1
 returns-2 : tie.Need-returns-2
 unfolding groupIn
 returns-2 c =

@@ -1,24 +1,19 @@
-use mathlib.Core.Path.{_≡_, refl, sym, ap, _∙_}
+-- Each rule's number leads to its own tag, as in the definition.
 use borrow.Author.Tests.{eq-eqb, ne-eqb}
-use Rattle.rules_frame.specs.Parts.{groupTag}
+use Rattle.rules_frame.specs.Contracts.{groupTag}
 use Rattle.rules_frame.proofs.group_tag.Statement.{statement}
 use Rattle.rules_frame.proofs.group_tag.Tie as tie
-use Rattle.rules_frame.proofs.group_tag.Reads as reads
-use Rattle.rules_frame.proofs.group_tag.Lts as lts
 
--- src/lib.rt:180:1
 returns : tie.Need-returns
 unfolding groupTag
 returns c =
     rw (eq-eqb _ _ (c .if1 .taken))
 
--- src/lib.rt:180:1
 returns-2 : tie.Need-returns-2
 unfolding groupTag
 returns-2 c =
     rw (ne-eqb _ _ (c .before .if1 .left), eq-eqb _ _ (c .if2 .taken))
 
--- src/lib.rt:180:1
 returns-3 : tie.Need-returns-3
 unfolding groupTag
 returns-3 c =

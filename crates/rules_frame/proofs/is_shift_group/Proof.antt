@@ -1,56 +1,41 @@
-use mathlib.Core.Path.{_≡_, refl, sym, ap, _∙_}
+-- A sequence has items just where the next node does not follow at once, and its items stand between the two.
 use borrow.Author.Tests.{eq-eqb, ne-eqb}
 use Rattle.rules.specs.Frame.{isShiftGroup}
 use Rattle.element.proofs.Every.{members-some, members-none}
 use borrow.Author.Needs.{needs}
 use Rattle.rules_frame.proofs.is_shift_group.Statement.{statement}
 use Rattle.rules_frame.proofs.is_shift_group.Tie as tie
-use Rattle.rules_frame.proofs.is_shift_group.Reads as reads
-use Rattle.rules_frame.proofs.is_shift_group.Lts as lts
-use Rattle.ids.proofs.unique_ids.Reads as unique-ids-reads
-use Rattle.node.proofs.next.Reads as next-reads
-use Rattle.node.proofs.vr.Reads as vr-reads
-use Rattle.rules_frame.proofs.are_shift_items.Reads as are-shift-items-reads
 
--- src/lib.rt:161:8
 vr-requires : tie.Need-vr-requires
 vr-requires c κs = search needs
 
--- src/lib.rt:162:20
 add-from : tie.Need-add-from
 add-from c = search needs
 
--- src/lib.rt:163:13
 next-requires : tie.Need-next-requires
 next-requires c κs = search needs
 
--- src/lib.rt:165:16
 are-shift-items-requires : tie.Need-are-shift-items-requires
 are-shift-items-requires c κs = search needs
 
--- src/lib.rt:166:17
 unique-ids-requires : tie.Need-unique-ids-requires
 unique-ids-requires c κs = search needs
 
--- src/lib.rt:157:1
 returns : tie.Need-returns
 unfolding isShiftGroup
 returns c =
     rw (← c .before .before .before .before .before .before .vr .ensures, eq-eqb _ _ (c .before .before .before .before .before .if1 .taken), ← c .before .before .before .before .next .ensures .0, members-some _ _ _ (c .before .before .before .if2 .taken), ← c .before .before .are-shift-items .ensures, c .before .if3 .taken) (c .unique-ids .ensures)
 
--- src/lib.rt:157:1
 returns-2 : tie.Need-returns-2
 unfolding isShiftGroup
 returns-2 c =
     rw (← c .before .before .before .before .before .vr .ensures, eq-eqb _ _ (c .before .before .before .before .if1 .taken), ← c .before .before .before .next .ensures .0, members-some _ _ _ (c .before .before .if2 .taken), ← c .before .are-shift-items .ensures, c .if3 .left)
 
--- src/lib.rt:157:1
 returns-3 : tie.Need-returns-3
 unfolding isShiftGroup
 returns-3 c =
     rw (← c .before .before .before .vr .ensures, eq-eqb _ _ (c .before .before .if1 .taken), ← c .before .next .ensures .0, members-none _ _ _ (c .if2 .left))
 
--- src/lib.rt:157:1
 returns-4 : tie.Need-returns-4
 unfolding isShiftGroup
 returns-4 c =

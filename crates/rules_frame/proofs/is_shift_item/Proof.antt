@@ -1,54 +1,39 @@
-use mathlib.Core.Path.{_≡_, refl, sym, ap, _∙_}
+-- The ID comes first, and the shift is asked only where there is one; the bytes are those of the FL that is found.
 use Rattle.node.proofs.Laws as node-laws
 use Rattle.rules.specs.Frame.{isShiftItem}
 use borrow.Author.Needs.{needs}
 use Rattle.rules_frame.proofs.is_shift_item.Statement.{statement}
 use Rattle.rules_frame.proofs.is_shift_item.Tie as tie
-use Rattle.rules_frame.proofs.is_shift_item.Reads as reads
-use Rattle.rules_frame.proofs.is_shift_item.Lts as lts
-use Rattle.element.proofs.find_vr_item.Reads as find-vr-item-reads
-use Rattle.ids.proofs.has_id.Reads as has-id-reads
-use Rattle.node.proofs.value.Reads as value-reads
-use Rattle.shift.proofs.is_frame_shift.Reads as is-frame-shift-reads
 
--- src/lib.rt:131:8
 has-id-requires : tie.Need-has-id-requires
 has-id-requires c κs = search needs
 
--- src/lib.rt:132:15
 find-vr-item-requires : tie.Need-find-vr-item-requires
 find-vr-item-requires c κs = search needs
 
--- src/lib.rt:133:27
 enum-told : tie.Need-enum-told
 enum-told c = search needs
 
--- src/lib.rt:134:21
 enum-known-k : tie.Need-enum-known-k
 enum-known-k c = search needs
 
--- src/lib.rt:134:43
 value-requires : tie.Need-value-requires
 value-requires c κs =
     (c .before .before .before .before .before .before .before .before .pre .0, node-laws.within _ (c .before .k .given .1) (c .before .before .before .find-vr-item .ensures .1))
 
--- src/lib.rt:134:27
 is-frame-shift-requires : tie.Need-is-frame-shift-requires
 is-frame-shift-requires c κs = search needs
 
--- src/lib.rt:127:1
 returns : tie.Need-returns
 unfolding isShiftItem
 returns c =
     rw (← c .before .before .before .before .has-id .ensures, c .before .before .before .if1 .taken, node-laws.lacked (c .enum-told .given .1) (c .before .before .find-vr-item .ensures .0))
 
--- src/lib.rt:127:1
 returns-2 : tie.Need-returns-2
 unfolding isShiftItem
 returns-2 c =
     rw (← c .before .before .before .before .before .before .before .has-id .ensures, c .before .before .before .before .before .before .if1 .taken, node-laws.had (c .before .before .before .k .given .1) (c .before .before .before .before .before .find-vr-item .ensures .0), ← c .before .value .ensures) (c .is-frame-shift .ensures)
 
--- src/lib.rt:127:1
 returns-3 : tie.Need-returns-3
 unfolding isShiftItem
 returns-3 c =

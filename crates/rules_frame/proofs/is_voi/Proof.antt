@@ -1,38 +1,28 @@
-use mathlib.Core.Path.{_≡_, refl, sym, ap, _∙_}
+-- The group must have one item, and the window is looked for in it.
 use Rattle.node.proofs.Laws as node-laws
 use Rattle.rules.specs.Frame.{isVoi}
 use borrow.Author.Needs.{needs}
 use Rattle.rules_frame.proofs.is_voi.Statement.{statement}
 use Rattle.rules_frame.proofs.is_voi.Tie as tie
-use Rattle.rules_frame.proofs.is_voi.Reads as reads
-use Rattle.rules_frame.proofs.is_voi.Lts as lts
-use Rattle.element.proofs.the_item.Reads as the-item-reads
-use Rattle.rules_frame.proofs.has_window.Reads as has-window-reads
 
--- src/lib.rt:118:11
 the-item-requires : tie.Need-the-item-requires
 the-item-requires c κs = search needs
 
--- src/lib.rt:119:23
 enum-told : tie.Need-enum-told
 enum-told c = search needs
 
--- src/lib.rt:120:17
 enum-known-j : tie.Need-enum-known-j
 enum-known-j c = search needs
 
--- src/lib.rt:120:23
 has-window-requires : tie.Need-has-window-requires
 has-window-requires c κs =
     (c .before .before .before .before .before .before .pre .0, node-laws.within _ (c .before .j .given .1) (c .before .before .before .the-item .ensures .1))
 
--- src/lib.rt:114:1
 returns : tie.Need-returns
 unfolding isVoi
 returns c =
     rw (node-laws.lacked (c .enum-told .given .1) (c .before .before .the-item .ensures .0))
 
--- src/lib.rt:114:1
 returns-2 : tie.Need-returns-2
 unfolding isVoi
 returns-2 c =

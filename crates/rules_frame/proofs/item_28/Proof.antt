@@ -1,44 +1,33 @@
-use mathlib.Core.Path.{_≡_, refl, sym, ap, _∙_}
+-- What is asked of the shared item is given; what is left is asked of the frame's item.
 use Rattle.node.proofs.Laws as node-laws
 use Rattle.rules.specs.Frame.{item28}
 use borrow.Author.Needs.{needs}
 use Rattle.rules_frame.proofs.item_28.Statement.{statement}
 use Rattle.rules_frame.proofs.item_28.Tie as tie
-use Rattle.rules_frame.proofs.item_28.Reads as reads
-use Rattle.rules_frame.proofs.item_28.Lts as lts
-use Rattle.element.proofs.find_item.Reads as find-item-reads
-use Rattle.element.proofs.is_one_item.Reads as is-one-item-reads
 
--- src/lib.rt:76:15
 find-item-requires : tie.Need-find-item-requires
 find-item-requires c κs = search needs
 
--- src/lib.rt:77:27
 enum-told : tie.Need-enum-told
 enum-told c = search needs
 
--- src/lib.rt:78:21
 enum-known-g : tie.Need-enum-known-g
 enum-known-g c = search needs
 
--- src/lib.rt:78:27
 is-one-item-requires : tie.Need-is-one-item-requires
 is-one-item-requires c κs =
     (c .before .before .before .before .before .before .before .pre .0, node-laws.within _ (c .before .g .given .1) (c .before .before .before .find-item .ensures .1))
 
--- src/lib.rt:71:1
 returns : tie.Need-returns
 unfolding item28
 returns c =
     rw (← c .before .before .before .before .before .before .pre .1 .1, c .before .before .before .if1 .taken, node-laws.lacked (c .enum-told .given .1) (c .before .before .find-item .ensures .0))
 
--- src/lib.rt:71:1
 returns-2 : tie.Need-returns-2
 unfolding item28
 returns-2 c =
     rw (← c .before .before .before .before .before .before .before .before .pre .1 .1, c .before .before .before .before .before .if1 .taken, node-laws.had (c .before .before .g .given .1) (c .before .before .before .before .find-item .ensures .0)) (c .is-one-item .ensures)
 
--- src/lib.rt:71:1
 returns-3 : tie.Need-returns-3
 unfolding item28
 returns-3 c =

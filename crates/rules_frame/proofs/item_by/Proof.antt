@@ -1,44 +1,34 @@
-use mathlib.Core.Path.{_≡_, refl, sym, ap, _∙_}
+-- Each rule's number leads to its own question, and what was found of the shared item is what that question asks for.
+use mathlib.Core.Path.{ap, _∙_}
 use borrow.Author.Tests.{eq-eqb, ne-eqb}
 use mathlib.Core.Bool.{Bool}
 use Rattle.node.specs.Nodes.{nodesOf}
-use Rattle.rules_frame.specs.Parts.{groupIn, sharedOk, itemBy}
+use Rattle.rules_frame.specs.Contracts.{groupIn, sharedOk, itemBy}
 use borrow.Author.Needs.{needs}
 use Rattle.rules_frame.proofs.item_by.Statement.{statement}
 use Rattle.rules_frame.proofs.item_by.Tie as tie
-use Rattle.rules_frame.proofs.item_by.Reads as reads
-use Rattle.rules_frame.proofs.item_by.Lts as lts
-use Rattle.rules_frame.proofs.group_in.Reads as group-in-reads
-use Rattle.rules_frame.proofs.item_27.Reads as item-27-reads
-use Rattle.rules_frame.proofs.item_28.Reads as item-28-reads
 
--- src/lib.rt:243:9
 item-27-requires : tie.Need-item-27-requires
 item-27-requires c κs = search needs
 
--- src/lib.rt:246:13
 item-28-requires : tie.Need-item-28-requires
 unfolding sharedOk
 item-28-requires c κs =
     (c .before .before .before .before .pre .0, (c .before .before .before .before .pre .1 .1 .0, rw (ne-eqb _ _ (c .before .if1 .left), eq-eqb _ _ (c .if2 .taken)) at (c .before .before .before .before .pre .1 .1 .1)))
 
--- src/lib.rt:248:13
 group-in-requires : tie.Need-group-in-requires
 group-in-requires c κs = search needs
 
--- src/lib.rt:238:1
 returns : tie.Need-returns
 unfolding itemBy
 returns c =
     rw (eq-eqb _ _ (c .before .if1 .taken)) (c .item-27 .ensures)
 
--- src/lib.rt:238:1
 returns-2 : tie.Need-returns-2
 unfolding itemBy
 returns-2 c =
     rw (ne-eqb _ _ (c .before .before .if1 .left), eq-eqb _ _ (c .before .if2 .taken)) (c .item-28 .ensures)
 
--- src/lib.rt:238:1
 returns-3 : tie.Need-returns-3
 unfolding itemBy sharedOk
 returns-3 c =

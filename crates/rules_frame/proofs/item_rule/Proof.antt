@@ -1,34 +1,27 @@
-use mathlib.Core.Path.{_≡_, refl, sym, ap, _∙_, subst}
+-- Rule 39 needs the grades of the shared part, any other rule its test; both stand in the part that is given.
+use mathlib.Core.Path.{ap, _∙_}
 use Prim.Native.Nat.{ℕ}
 use borrow.Author.Tests.{eq-eqb, ne-eqb}
 use Rattle.node.specs.Nodes.{nodesOf}
 use Rattle.rules_frame.specs.declared.SharedPart.{SharedPart}
-use Rattle.rules_frame.specs.Parts.{sharedPart, itemRule}
+use Rattle.rules_frame.specs.Contracts.{sharedPart, itemRule}
 use Rattle.rules_frame.proofs.item_rule.Statement.{statement}
 use Rattle.rules_frame.proofs.item_rule.Tie as tie
-use Rattle.rules_frame.proofs.item_rule.Reads as reads
-use Rattle.rules_frame.proofs.item_rule.Lts as lts
-use Rattle.rules_frame.proofs.item_39.Reads as item-39-reads
-use Rattle.rules_frame.proofs.item_by.Reads as item-by-reads
 
--- src/lib.rt:365:9
 item-39-requires : tie.Need-item-39-requires
 item-39-requires c κs =
     (c .before .before .before .pre .0, (c .before .before .before .pre .1 .1 .0, c .before .before .before .pre .1 .1 .1 ∙ ap (λ (k : ℕ). sharedPart (nodesOf (c .before .before .before .args .bytes .now)) k (c .before .before .before .args .shared)) (c .if1 .taken)))
 
--- src/lib.rt:367:9
 item-by-requires : tie.Need-item-by-requires
 unfolding sharedPart
 item-by-requires c κs =
     (c .before .before .before .pre .0, (c .before .before .before .pre .1 .0, (c .before .before .before .pre .1 .1 .0, ap (λ (p : SharedPart). p .ok) (rw (ne-eqb _ _ (c .if1 .left)) at (c .before .before .before .pre .1 .1 .1)))))
 
--- src/lib.rt:353:1
 returns : tie.Need-returns
 unfolding itemRule
 returns c =
     rw (eq-eqb _ _ (c .before .if1 .taken)) (c .item-39 .ensures)
 
--- src/lib.rt:353:1
 returns-2 : tie.Need-returns-2
 unfolding itemRule
 returns-2 c =

@@ -3,8 +3,8 @@ use mathlib.Core.Path.{_≡_, sym, ap, _∙_}
 use Prim.Native.Nat.{ℕ, _-_}
 use native.Mathlib.Omega.{arith}
 use borrow.Author.Needs.{needs}
-use Rattle.node.specs.Nodes.{nodesOf, nodeAt, members, inside}
-use Rattle.node.specs.Halves.{fromTag}
+use Rattle.node.specs.Nodes.{nodesOf, members, inside}
+use Rattle.node.specs.Contracts.{fromTag}
 use Rattle.node.proofs.Halves.{inside-ascends}
 use Rattle.element.specs.Elements.{some}
 use Rattle.element.proofs.Every.{some-end, some-here, some-later}

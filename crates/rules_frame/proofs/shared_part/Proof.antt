@@ -1,34 +1,24 @@
-use mathlib.Core.Path.{_≡_, refl, sym, ap, _∙_}
+-- Rule 39 has the two grades, any other rule its test; the parts of the other kind are filled as the definition has it.
 use borrow.Author.Tests.{eq-eqb, ne-eqb}
-use Rattle.rules_frame.specs.Parts.{sharedPart}
+use Rattle.rules_frame.specs.Contracts.{sharedPart}
 use borrow.Author.Needs.{needs}
 use Rattle.rules_frame.proofs.shared_part.Statement.{statement}
 use Rattle.rules_frame.proofs.shared_part.Tie as tie
-use Rattle.rules_frame.proofs.shared_part.Reads as reads
-use Rattle.rules_frame.proofs.shared_part.Lts as lts
-use Rattle.intensity.proofs.relation_in.Reads as relation-in-reads
-use Rattle.intensity.proofs.table_in.Reads as table-in-reads
-use Rattle.rules_frame.proofs.shared_ok.Reads as shared-ok-reads
 
--- src/lib.rt:340:23
 relation-in-requires : tie.Need-relation-in-requires
 relation-in-requires c κs = search needs
 
--- src/lib.rt:341:20
 table-in-requires : tie.Need-table-in-requires
 table-in-requires c κs = search needs
 
--- src/lib.rt:345:17
 shared-ok-requires : tie.Need-shared-ok-requires
 shared-ok-requires c κs = search needs
 
--- src/lib.rt:333:1
 returns : tie.Need-returns
 unfolding sharedPart
 returns c =
     rw (eq-eqb _ _ (c .before .before .if1 .taken), ← c .before .relation-in .ensures, ← c .table-in .ensures)
 
--- src/lib.rt:333:1
 returns-2 : tie.Need-returns-2
 unfolding sharedPart
 returns-2 c =

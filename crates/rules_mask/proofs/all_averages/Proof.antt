@@ -1,3 +1,4 @@
+-- An item that does not fit settles the answer; while each fits, the items that are left decide.
 use borrow.Author.Needs.{needs}
 use mathlib.Core.Path.{_≡_, sym, _∙_}
 use Prim.Native.Nat.{_-_}

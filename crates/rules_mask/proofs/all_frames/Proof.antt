@@ -1,3 +1,4 @@
+-- A number that is no frame settles the answer; while each is one, the numbers that are left decide.
 use borrow.Author.Needs.{needs}
 use mathlib.Core.Path.{_≡_, sym, _∙_}
 use Prim.Native.Nat.{_-_, _/_, _≤_}

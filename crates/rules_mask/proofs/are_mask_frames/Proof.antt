@@ -1,3 +1,4 @@
+-- Half the bytes is the number of the values, and the tests are those of the definition.
 use mathlib.Core.Path.{sym}
 use Rattle.value.proofs.Laws.{usValues-length}
 use borrow.Author.Tests.{eq-eqb, ne-eqb}

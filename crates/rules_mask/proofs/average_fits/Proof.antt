@@ -1,3 +1,4 @@
+-- The mask frames come first, and the averaging is asked only where they fit.
 use mathlib.Core.Path.{sym, _∙_}
 use Rattle.rules_mask.proofs.Laws as laws
 use Rattle.node.proofs.Laws as node-laws

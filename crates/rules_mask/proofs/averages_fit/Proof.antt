@@ -1,3 +1,4 @@
+-- Only an item that averages is asked for more; any other fits.
 use mathlib.Core.Path.{refl, sym, _∙_}
 use Rattle.rules_mask.proofs.Laws as laws
 use Rattle.rules.specs.Mask.{averagesFit}

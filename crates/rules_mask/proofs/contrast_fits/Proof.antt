@@ -1,3 +1,4 @@
+-- An absent element fits; a present one fits where it is 1.
 use Rattle.node.proofs.Laws as node-laws
 use borrow.Author.Needs.{needs}
 use Rattle.rules_mask.proofs.contrast_fits.Statement.{statement}

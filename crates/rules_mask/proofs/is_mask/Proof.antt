@@ -1,3 +1,4 @@
+-- The tests are those of the definition in its order, and the items are those between the node and the next.
 use mathlib.Core.Path.{sym}
 use Rattle.rules_mask.proofs.Laws as laws
 use Rattle.rules.specs.Mask.{isMask}

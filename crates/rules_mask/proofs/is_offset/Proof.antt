@@ -1,3 +1,4 @@
+-- The VR is tested on both sides, and a number of either sign is an offset.
 use mathlib.Core.Path.{sym, _∙_}
 use Rattle.rules_mask.proofs.Laws as laws
 use Rattle.rules.specs.Mask.{isOffset}

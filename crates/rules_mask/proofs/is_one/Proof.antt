@@ -1,3 +1,4 @@
+-- The VR is tested on both sides, and a value that is no single US is not 1.
 use Rattle.rules_mask.proofs.Laws as laws
 use Rattle.node.proofs.Laws as node-laws
 use Rattle.node.specs.Find.{ofVr}

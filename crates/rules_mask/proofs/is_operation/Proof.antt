@@ -1,3 +1,4 @@
+-- The three words are tried in turn; the first that fits decides, as in the definition.
 use mathlib.Core.Path.{sym, _∙_}
 use Rattle.rules_mask.proofs.Laws as laws
 use Rattle.rules.specs.Mask.{isOperation}

@@ -1,3 +1,4 @@
+-- The tests are those of the definition, and the pairs are read from the same bytes.
 use mathlib.Core.Path.{sym, ap, _∙_}
 use Prim.Native.Nat.{ℕ, _%_}
 use mathlib.Core.List.{List}

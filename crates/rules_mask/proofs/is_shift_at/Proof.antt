@@ -1,3 +1,4 @@
+-- The VR is tested on both sides, and the same bytes are asked whether they are a shift.
 use mathlib.Core.Path.{sym}
 use Rattle.rules_mask.proofs.Laws as laws
 use Rattle.rules.specs.Mask.{isShiftAt}

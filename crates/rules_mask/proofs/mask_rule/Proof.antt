@@ -1,3 +1,4 @@
+-- Each number leads to its own rule in the list, and what is left between 31 and 36 is 36.
 use Prim.Native.Nat.{ℕ}
 use Rattle.rules_mask.proofs.Laws as laws
 use mathlib.Core.Path.{sym, ap, _∙_}

@@ -1,3 +1,4 @@
+-- The items are walked twice: for an ID each, then for two that are the same.
 use mathlib.Core.Path.{sym, _∙_}
 use Rattle.rules_mask.proofs.Laws as laws
 use Rattle.rules.specs.Mask.{masksHaveIds}

@@ -1,3 +1,4 @@
+-- Only an item that is TID is asked, and of it only an offset that is there.
 use mathlib.Core.Path.{refl, sym, _∙_}
 use Rattle.rules_mask.proofs.Laws as laws
 use Rattle.node.proofs.Laws as node-laws

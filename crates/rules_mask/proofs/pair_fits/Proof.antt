@@ -1,3 +1,4 @@
+-- The three tests are those of the definition; each is made only where those before it hold.
 use mathlib.Core.Path.{refl, sym}
 use Rattle.rules_mask.proofs.Laws as laws
 use borrow.Author.Tests.{le-leb, lt-leb}

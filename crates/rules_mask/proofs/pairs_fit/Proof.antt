@@ -1,3 +1,4 @@
+-- Two values make a pair: a pair that does not fit settles it, while each fits the pairs that are left decide.
 use borrow.Author.Needs.{needs}
 use mathlib.Core.Path.{_≡_, sym, _∙_}
 use Prim.Native.Nat.{_-_, _*_, _/_, _≤_}

@@ -1,3 +1,4 @@
+-- An absent sequence keeps the rule; a present one is judged at its node.
 use Rattle.node.proofs.Laws as node-laws
 use Rattle.rules.specs.Mask.{rule31}
 use borrow.Author.Needs.{needs}

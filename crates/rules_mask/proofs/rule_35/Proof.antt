@@ -1,3 +1,4 @@
+-- The rule asks each mask item in turn.
 use Rattle.rules.specs.Mask.{rule35}
 use borrow.Author.Needs.{needs}
 use Rattle.rules_mask.proofs.rule_35.Statement.{statement}

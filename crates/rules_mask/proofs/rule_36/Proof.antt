@@ -1,3 +1,4 @@
+-- The rule needs the shared item, and asks for IDs only where some frame has a shift group.
 use mathlib.Core.Path.{refl, sym, _∙_}
 use Rattle.rules_mask.proofs.Laws as laws
 use Rattle.node.proofs.Laws as node-laws

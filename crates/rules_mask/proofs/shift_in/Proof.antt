@@ -2,7 +2,7 @@
 use Rattle.rules_mask.proofs.Laws as laws
 use Rattle.node.proofs.Laws as node-laws
 use Rattle.node.specs.Find.{ofVr}
-use Rattle.rules_mask.specs.Parts.{shiftIn}
+use Rattle.rules_mask.specs.Contracts.{shiftIn}
 use borrow.Author.Needs.{needs}
 use Rattle.rules_mask.proofs.shift_in.Statement.{statement}
 use Rattle.rules_mask.proofs.shift_in.Tie as tie

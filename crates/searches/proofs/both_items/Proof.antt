@@ -1,20 +1,15 @@
-use mathlib.Core.Path.{_≡_, refl, sym, ap, _∙_}
+use mathlib.Core.Path.{_≡_, ap}
 use Prim.Native.Nat.{ℕ, _+_, _-_, _≤_}
 use native.Mathlib.Omega.{arith}
 use borrow.Author.Needs.{needs}
 use mathlib.Core.List.{List}
 use lib.ListN.{length}
-use Rattle.node.specs.Nodes.{nodesOf, members, inside}
+use Rattle.node.specs.Nodes.{nodesOf, members}
 use Rattle.element.specs.Frames.{frameItems}
-use Rattle.searches.specs.Parts.{overBoth}
+use Rattle.searches.specs.Contracts.{overBoth}
 use Rattle.searches.proofs.Loops.{both-end, both-next, both-fits}
 use Rattle.searches.proofs.both_items.Statement.{statement}
 use Rattle.searches.proofs.both_items.Tie as tie
-use Rattle.searches.proofs.both_items.Reads as reads
-use Rattle.searches.proofs.both_items.Lts as lts
-use Rattle.element.proofs.count_items.Reads as count-items-reads
-use Rattle.element.proofs.frame_items.Reads as frame-items-reads
-use Rattle.node.proofs.next.Reads as next-reads
 
 abbrev Inv-loop : tie.InvT-loop
 Inv-loop bytes rows shared own end at₀ sum₀ at sum =
@@ -25,17 +20,14 @@ abbrev μ-loop : tie.MeasureT-loop
 μ-loop bytes rows shared own end at₀ sum₀ at sum =
     end - at
 
--- src/lib.rt:256:9
 count-items-requires : tie.Need-count-items-requires Inv-loop μ-loop
 count-items-requires c κs =
     search needs
 
--- src/lib.rt:257:9
 frame-items-requires : tie.Need-frame-items-requires Inv-loop μ-loop
 frame-items-requires c κs =
     search needs
 
--- src/lib.rt:261:5
 loop-holds : tie.Need-loop-holds Inv-loop μ-loop
 loop-holds c =
     let a = c .before .before .before .before .args in
@@ -43,36 +35,30 @@ loop-holds c =
     let e = ap (λ (l : List ℕ). overBoth ns (a .shared) l) (c .frame-items .ensures .ahead) in
     (c .frame-items .ensures .inner, omega (arith, e))
 
--- src/lib.rt:262:16
 count-items-requires-2 : tie.Need-count-items-requires-2 Inv-loop μ-loop
 count-items-requires-2 c κs =
     (c .before .before .before .before .before .before .pre .0, omega (arith, c .loop-test .taken, c .before .loop .inv .0))
 
--- src/lib.rt:262:16
 add-sum : tie.Need-add-sum Inv-loop μ-loop
 add-sum c =
     let a = c .before .before .before .before .before .before .before .args in
     let ns = nodesOf (a .bytes .now) in
     omega (arith, c .before .before .loop .inv .1, both-next ns (c .before .before .loop .at) (c .before .before .before .frame-items .result .end) (a .shared) (c .before .loop-test .taken), c .before .before .before .before .count-items .ensures, c .count-items2 .ensures, both-fits (a .bytes .now) (c .before .before .before .before .before .before .before .pre .0 .few) (a .shared))
 
--- src/lib.rt:262:9
 add-sum-2 : tie.Need-add-sum-2 Inv-loop μ-loop
 add-sum-2 c =
     let a = c .before .before .before .before .before .before .before .args in
     let ns = nodesOf (a .bytes .now) in
     omega (arith, c .before .before .loop .inv .1, both-next ns (c .before .before .loop .at) (c .before .before .before .frame-items .result .end) (a .shared) (c .before .loop-test .taken), c .before .before .before .before .count-items .ensures, c .count-items2 .ensures, both-fits (a .bytes .now) (c .before .before .before .before .before .before .before .pre .0 .few) (a .shared))
 
--- src/lib.rt:263:9
 next-requires : tie.Need-next-requires Inv-loop μ-loop
 next-requires c κs =
     (c .before .before .before .before .before .before .before .pre .0, omega (arith, c .before .loop-test .taken, c .before .before .loop .inv .0))
 
--- src/lib.rt:261:5
 loop-less : tie.Need-loop-less Inv-loop μ-loop
 loop-less c =
     omega (arith, c .before .before .loop-test .taken, c .next .ensures .0)
 
--- src/lib.rt:261:5
 loop-again : tie.Need-loop-again Inv-loop μ-loop
 loop-again c =
     let a = c .before .before .before .before .before .before .before .before .args in
@@ -80,7 +66,6 @@ loop-again c =
     let f = ap (λ (k : ℕ). overBoth ns (a .shared) (members ns k (c .before .before .before .before .frame-items .result .end))) (c .next .ensures .0) in
     (c .before .before .before .loop .inv .0, omega (arith, c .before .before .before .loop .inv .1, both-next ns (c .before .before .before .loop .at) (c .before .before .before .before .frame-items .result .end) (a .shared) (c .before .before .loop-test .taken), c .before .before .before .before .before .count-items .ensures, c .before .count-items2 .ensures, f))
 
--- src/lib.rt:252:1
 returns : tie.Need-returns Inv-loop μ-loop
 returns c =
     let a = c .before .before .before .before .before .before .args in

@@ -1,4 +1,3 @@
-use mathlib.Core.Path.{_≡_, refl, sym, ap, _∙_}
 use native.Mathlib.Omega.{arith}
 use Rattle.node.specs.Nodes.{nodesOf}
 use Rattle.element.specs.Frames.{frameItems}
@@ -8,45 +7,32 @@ use Rattle.searches.proofs.Loops.{both-fits}
 use borrow.Author.Needs.{needs}
 use Rattle.searches.proofs.frames_sum.Statement.{statement}
 use Rattle.searches.proofs.frames_sum.Tie as tie
-use Rattle.searches.proofs.frames_sum.Reads as reads
-use Rattle.searches.proofs.frames_sum.Lts as lts
-use Rattle.element.proofs.shared_item.Reads as shared-item-reads
-use Rattle.searches.proofs.both_items.Reads as both-items-reads
-use Rattle.searches.proofs.groups_over.Reads as groups-over-reads
 
--- src/lib.rt:294:11
 shared-item-requires : tie.Need-shared-item-requires
 shared-item-requires c κs = search needs
 
--- src/lib.rt:295:23
 enum-told : tie.Need-enum-told
 enum-told c = search needs
 
--- src/lib.rt:296:17
 enum-known-s : tie.Need-enum-known-s
 enum-known-s c = search needs
 
--- src/lib.rt:296:23
 both-items-requires : tie.Need-both-items-requires
 both-items-requires c κs =
     (c .before .before .before .before .before .before .pre, node-laws.within _ (c .before .s .given .1) (c .before .before .before .shared-item .ensures .1))
 
--- src/lib.rt:296:52
 groups-over-requires : tie.Need-groups-over-requires
 groups-over-requires c κs =
     (c .before .before .before .before .before .before .before .pre, node-laws.within _ (c .before .before .s .given .1) (c .before .before .before .before .shared-item .ensures .1))
 
--- src/lib.rt:296:23
 add-result : tie.Need-add-result
 add-result c =
     omega (arith, c .before .both-items .ensures, both-fits (c .before .before .before .before .before .before .before .before .args .bytes .now) (c .before .before .before .before .before .before .before .before .pre .few) (c .before .before .before .s .given .0 .0), c .groups-over .ensures .1)
 
--- src/lib.rt:289:1
 returns : tie.Need-returns
 returns c =
     (rw (node-laws.lacked (c .enum-told .given .1) (c .before .before .shared-item .ensures .0)), omega arith)
 
--- src/lib.rt:289:1
 returns-2 : tie.Need-returns-2
 returns-2 c =
     let ns = nodesOf (c .before .before .before .before .before .before .before .before .args .bytes .now) in (

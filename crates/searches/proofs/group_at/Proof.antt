@@ -1,26 +1,18 @@
-use mathlib.Core.Path.{_≡_, refl, sym, ap, _∙_}
 use native.Mathlib.Omega.{arith}
-use Rattle.node.specs.Nodes.{nodesOf, inside}
+use Rattle.node.specs.Nodes.{nodesOf}
 use Rattle.node.proofs.Laws as node-laws
-use Rattle.searches.specs.Parts.{groupAt}
 use Rattle.searches.proofs.Loops.{group-lacks, group-both, group-own, group-fits}
 use borrow.Author.Needs.{needs}
 use Rattle.searches.proofs.group_at.Statement.{statement}
 use Rattle.searches.proofs.group_at.Tie as tie
 use Rattle.searches.proofs.group_at.Reads as reads
-use Rattle.searches.proofs.group_at.Lts as lts
-use Rattle.searches.proofs.look_group.Reads as look-group-reads
-use Rattle.searches.proofs.look_item.Reads as look-item-reads
 
--- src/lib.rt:212:9
 look-item-requires : tie.Need-look-item-requires
 look-item-requires c κs = search needs
 
--- src/lib.rt:216:23
 enum-told : tie.Need-enum-told
 enum-told c = search needs
 
--- src/lib.rt:216:23
 add-result : tie.Need-add-result
 add-result c =
     let a = c .before .before .before .before .before .before .before .args in
@@ -29,7 +21,6 @@ add-result c =
     let sum = group-lacks ns (a .group) (a .reads .now) (a .shared) (a .item) (a .always) (node-laws.lacked (c .before .enum-told .given .1) (c .before .before .before .look-item .ensures .finds)) in
     omega (arith, sum, fits, c .before .before .before .look-item .ensures .counts, c .before .before .before .before .before .before .before .pre .1 .1 .0 .looked, c .before .before .before .before .before .before .before .pre .1 .1 .0 .read)
 
--- src/lib.rt:216:23
 add-result-2 : tie.Need-add-result-2
 add-result-2 c =
     let a = c .before .before .before .before .before .before .before .before .args in
@@ -38,16 +29,13 @@ add-result-2 c =
     let sum = group-lacks ns (a .group) (a .reads .now) (a .shared) (a .item) (a .always) (node-laws.lacked (c .before .before .enum-told .given .1) (c .before .before .before .before .look-item .ensures .finds)) in
     omega (arith, sum, fits, c .before .before .before .before .look-item .ensures .counts, c .before .before .before .before .before .before .before .before .pre .1 .1 .0 .looked, c .before .before .before .before .before .before .before .before .pre .1 .1 .0 .read)
 
--- src/lib.rt:217:17
 enum-known-found : tie.Need-enum-known-found
 enum-known-found c = search needs
 
--- src/lib.rt:218:17
 look-group-requires : tie.Need-look-group-requires
 look-group-requires c κs =
     (c .before .before .before .before .before .before .before .pre .0, (node-laws.within _ (c .before .found .given .1) (c .before .before .before .look-item .ensures .within), omega (arith, c .before .before .before .before .before .before .before .pre .1 .1 .1)))
 
--- src/lib.rt:220:17
 add-result-3 : tie.Need-add-result-3
 add-result-3 c =
     let a = c .before .before .before .before .before .before .before .before .before .before .args in
@@ -56,7 +44,6 @@ add-result-3 c =
     let sum = group-both ns (a .group) (a .reads .now) (a .shared) (a .item) (a .always) (c .before .if1 .taken) (c .before .before .before .before .found .given .0 .0) (node-laws.had (c .before .before .before .before .found .given .1) (c .before .before .before .before .before .before .look-item .ensures .finds)) in
     omega (arith, sum, fits, c .before .before .before .before .before .before .look-item .ensures .counts, c .before .before .before .before .before .before .before .before .before .before .pre .1 .1 .0 .looked, c .before .before .look-group .ensures)
 
--- src/lib.rt:220:17
 add-result-4 : tie.Need-add-result-4
 add-result-4 c =
     let a = c .before .before .before .before .before .before .before .before .before .before .args in
@@ -65,7 +52,6 @@ add-result-4 c =
     let sum = group-both ns (a .group) (a .reads .now) (a .shared) (a .item) (a .always) (c .before .if1 .taken) (c .before .before .before .before .found .given .0 .0) (node-laws.had (c .before .before .before .before .found .given .1) (c .before .before .before .before .before .before .look-item .ensures .finds)) in
     omega (arith, sum, fits, c .before .before .before .before .before .before .look-item .ensures .counts, c .before .before .before .before .before .before .before .before .before .before .pre .1 .1 .0 .looked, c .before .before .look-group .ensures)
 
--- src/lib.rt:222:17
 add-result-5 : tie.Need-add-result-5
 add-result-5 c =
     let a = c .before .before .before .before .before .before .before .before .before .args in
@@ -74,7 +60,6 @@ add-result-5 c =
     let sum = group-own ns (a .group) (a .reads .now) (a .shared) (a .item) (a .always) (c .if1 .left) (c .before .before .before .found .given .0 .0) (node-laws.had (c .before .before .before .found .given .1) (c .before .before .before .before .before .look-item .ensures .finds)) in
     omega (arith, sum, fits, c .before .before .before .before .before .look-item .ensures .counts, c .before .before .before .before .before .before .before .before .before .pre .1 .1 .0 .looked, c .before .look-group .ensures)
 
--- src/lib.rt:199:1
 returns : tie.Need-returns
 returns c =
     let a = c .before .before .before .before .before .before .before .before .args in
@@ -83,7 +68,6 @@ returns c =
     let sum = group-lacks ns (a .group) (a .reads .now) (a .shared) (a .item) (a .always) (node-laws.lacked (c .before .before .enum-told .given .1) (c .before .before .before .before .look-item .ensures .finds)) in
     omega (arith, sum, fits, c .before .before .before .before .look-item .ensures .counts, c .before .before .before .before .before .before .before .before .pre .1 .1 .0 .looked, c .before .before .before .before .before .before .before .before .pre .1 .1 .0 .read)
 
--- src/lib.rt:199:1
 returns-2 : tie.Need-returns-2
 returns-2 c =
     let a = c .before .before .before .before .before .before .before .before .before .before .args in
@@ -92,7 +76,6 @@ returns-2 c =
     let sum = group-both ns (a .group) (a .reads .now) (a .shared) (a .item) (a .always) (c .before .if1 .taken) (c .before .before .before .before .found .given .0 .0) (node-laws.had (c .before .before .before .before .found .given .1) (c .before .before .before .before .before .before .look-item .ensures .finds)) in
     omega (arith, sum, fits, c .before .before .before .before .before .before .look-item .ensures .counts, c .before .before .before .before .before .before .before .before .before .before .pre .1 .1 .0 .looked, c .before .before .look-group .ensures)
 
--- src/lib.rt:199:1
 returns-3 : tie.Need-returns-3
 returns-3 c =
     let a = c .before .before .before .before .before .before .before .before .before .args in

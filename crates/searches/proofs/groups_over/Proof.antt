@@ -1,114 +1,86 @@
-use mathlib.Core.Path.{_≡_, refl, sym, ap, _∙_}
 use native.Mathlib.Omega.{arith}
 use Rattle.searches.specs.Searches.{frameSearches}
-use Rattle.searches.specs.Parts.{overGroups}
+use Rattle.searches.specs.Contracts.{overGroups}
 use borrow.Author.Needs.{needs}
 use Rattle.searches.proofs.groups_over.Statement.{statement}
 use Rattle.searches.proofs.groups_over.Tie as tie
-use Rattle.searches.proofs.groups_over.Reads as reads
-use Rattle.searches.proofs.groups_over.Lts as lts
-use Rattle.searches.proofs.over_frames.Reads as over-frames-reads
 
--- src/lib.rt:279:74
 array-share-prefix-window : tie.Need-array-share-prefix-window
 array-share-prefix-window c = search needs
 
--- src/lib.rt:279:74
 slice-aggregate-over-frames : tie.Need-slice-aggregate-over-frames
 slice-aggregate-over-frames c = search needs
 
--- src/lib.rt:279:5
 over-frames-requires : tie.Need-over-frames-requires
 over-frames-requires c κs = search needs
 
--- src/lib.rt:280:89
 array-share-prefix-window-2 : tie.Need-array-share-prefix-window-2
 array-share-prefix-window-2 c = search needs
 
--- src/lib.rt:280:89
 slice-aggregate-over-frames-2 : tie.Need-slice-aggregate-over-frames-2
 slice-aggregate-over-frames-2 c = search needs
 
--- src/lib.rt:280:11
 over-frames-requires-2 : tie.Need-over-frames-requires-2
 over-frames-requires-2 c κs = search needs
 
--- src/lib.rt:279:5
 add-result : tie.Need-add-result
 add-result c =
     omega (arith, c .before .before .over-frames .ensures .1, c .over-frames2 .ensures .1)
 
--- src/lib.rt:281:81
 slice-aggregate-over-frames-3 : tie.Need-slice-aggregate-over-frames-3
 slice-aggregate-over-frames-3 c = search needs
 
--- src/lib.rt:281:11
 over-frames-requires-3 : tie.Need-over-frames-requires-3
 over-frames-requires-3 c κs = search needs
 
--- src/lib.rt:279:5
 add-result-2 : tie.Need-add-result-2
 add-result-2 c =
     omega (arith, c .before .before .before .before .over-frames .ensures .1, c .before .before .over-frames2 .ensures .1, c .over-frames3 .ensures .1)
 
--- src/lib.rt:282:85
 array-share-prefix-window-3 : tie.Need-array-share-prefix-window-3
 array-share-prefix-window-3 c = search needs
 
--- src/lib.rt:282:85
 slice-aggregate-over-frames-4 : tie.Need-slice-aggregate-over-frames-4
 slice-aggregate-over-frames-4 c = search needs
 
--- src/lib.rt:282:11
 over-frames-requires-4 : tie.Need-over-frames-requires-4
 over-frames-requires-4 c κs = search needs
 
--- src/lib.rt:279:5
 add-result-3 : tie.Need-add-result-3
 add-result-3 c =
     omega (arith, c .before .before .before .before .before .before .over-frames .ensures .1, c .before .before .before .before .over-frames2 .ensures .1, c .before .before .over-frames3 .ensures .1, c .over-frames4 .ensures .1)
 
--- src/lib.rt:283:85
 slice-aggregate-over-frames-5 : tie.Need-slice-aggregate-over-frames-5
 slice-aggregate-over-frames-5 c = search needs
 
--- src/lib.rt:283:11
 over-frames-requires-5 : tie.Need-over-frames-requires-5
 over-frames-requires-5 c κs = search needs
 
--- src/lib.rt:279:5
 add-result-4 : tie.Need-add-result-4
 add-result-4 c =
     omega (arith, c .before .before .before .before .before .before .before .before .over-frames .ensures .1, c .before .before .before .before .before .before .over-frames2 .ensures .1, c .before .before .before .before .over-frames3 .ensures .1, c .before .before .over-frames4 .ensures .1, c .over-frames5 .ensures .1)
 
--- src/lib.rt:284:95
 slice-aggregate-over-frames-6 : tie.Need-slice-aggregate-over-frames-6
 slice-aggregate-over-frames-6 c = search needs
 
--- src/lib.rt:284:11
 over-frames-requires-6 : tie.Need-over-frames-requires-6
 over-frames-requires-6 c κs = search needs
 
--- src/lib.rt:279:5
 add-result-5 : tie.Need-add-result-5
 add-result-5 c =
     omega (arith, c .before .before .before .before .before .before .before .before .before .before .over-frames .ensures .1, c .before .before .before .before .before .before .before .before .over-frames2 .ensures .1, c .before .before .before .before .before .before .over-frames3 .ensures .1, c .before .before .before .before .over-frames4 .ensures .1, c .before .before .over-frames5 .ensures .1, c .over-frames6 .ensures .1)
 
--- src/lib.rt:285:100
 slice-aggregate-over-frames-7 : tie.Need-slice-aggregate-over-frames-7
 slice-aggregate-over-frames-7 c = search needs
 
--- src/lib.rt:285:11
 over-frames-requires-7 : tie.Need-over-frames-requires-7
 over-frames-requires-7 c κs =
     (c .before .before .before .before .before .before .before .before .before .before .before .before .before .before .before .pre .0, (c .before .before .before .before .before .before .before .before .before .before .before .before .before .before .before .pre .1, omega arith))
 
--- src/lib.rt:279:5
 add-result-6 : tie.Need-add-result-6
 add-result-6 c =
     omega (arith, c .before .before .before .before .before .before .before .before .before .before .before .before .over-frames .ensures .1, c .before .before .before .before .before .before .before .before .before .before .over-frames2 .ensures .1, c .before .before .before .before .before .before .before .before .over-frames3 .ensures .1, c .before .before .before .before .before .before .over-frames4 .ensures .1, c .before .before .before .before .over-frames5 .ensures .1, c .before .before .over-frames6 .ensures .1, c .over-frames7 .ensures .1)
 
--- src/lib.rt:270:1
 returns : tie.Need-returns
 unfolding overGroups frameSearches
 returns c =

@@ -1,28 +1,19 @@
-use mathlib.Core.Path.{_≡_, refl, sym, ap, _∙_}
 use Rattle.searches.proofs.After.{rows-left, counted-is}
 use Rattle.dataset.proofs.Promised.{promised}
 use borrow.Author.Needs.{needs}
 use Rattle.searches.proofs.judge_counted.Statement.{statement}
 use Rattle.searches.proofs.judge_counted.Tie as tie
-use Rattle.searches.proofs.judge_counted.Reads as reads
-use Rattle.searches.proofs.judge_counted.Lts as lts
-use Rattle.conformance.proofs.judge.Reads as judge-reads
-use Rattle.searches.proofs.reported.Reads as reported-reads
 
--- src/lib.rt:397:9
 judge-requires : tie.Need-judge-requires
 judge-requires c κs = search needs
 
--- src/lib.rt:398:9
 reported-requires : tie.Need-reported-requires
 reported-requires c κs =
     rows-left (c .before .before .before .before .before .before .before .args .bytes .now) (c .before .before .before .before .before .before .before .args .rows .now) (c .before .before .before .judge .last .1 .0) (c .before .before .before .judge .result) (c .before .before .before .judge .ensures .0 .same) (c .before .before .before .judge .ensures .1)
 
--- src/lib.rt:393:1
 same-length : tie.Need-same-length
 same-length c = search needs
 
--- src/lib.rt:393:1
 returns : tie.Need-returns
 returns c =
     (promised (counted-is (c .before .before .before .before .before .before .before .before .args .bytes .now) (c .before .before .before .before .before .before .before .before .args .rows .now) (c .before .before .before .before .judge .result) (c .reported .result) (c .before .before .before .before .judge .ensures .0 .same) (c .reported .ensures)), c .before .before .before .before .judge .ensures .1)

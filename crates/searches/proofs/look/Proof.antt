@@ -4,17 +4,13 @@ use native.Mathlib.Omega.{arith}
 use borrow.Author.Needs.{needs}
 use Rattle.node.specs.Nodes.{nodesOf, members, nodeAt}
 use Rattle.node.specs.Find.{find}
-use Rattle.node.specs.Halves.{Ascends}
+use Rattle.node.specs.Contracts.{Ascends}
 use Rattle.node.proofs.Walks.{find-end, find-here, find-later}
 use Rattle.node.proofs.Halves.{ascends-next, find-past}
 use Rattle.searches.specs.Count.{lookedAt}
 use Rattle.searches.proofs.Counting.{looked-end, looked-later, looked-here, looked-few, members-few}
 use Rattle.searches.proofs.look.Statement.{statement}
 use Rattle.searches.proofs.look.Tie as tie
-use Rattle.searches.proofs.look.Reads as reads
-use Rattle.searches.proofs.look.Lts as lts
-use Rattle.node.proofs.next.Reads as next-reads
-use Rattle.node.proofs.tag.Reads as tag-reads
 
 abbrev Inv-loop : tie.InvT-loop
 Inv-loop bytes rows from to wanted count₀ i₀ count i =
@@ -26,24 +22,20 @@ abbrev μ-loop : tie.MeasureT-loop
 μ-loop bytes rows from to wanted count₀ i₀ count i =
     to - i
 
--- src/lib.rt:30:5
 loop-holds : tie.Need-loop-holds Inv-loop μ-loop
 loop-holds c =
     (refl, (omega arith, (0, c .before .before .pre .1 .1)))
 
--- src/lib.rt:31:13
 tag-requires : tie.Need-tag-requires Inv-loop μ-loop
 tag-requires c κs =
     (c .before .before .before .before .pre .0, omega (arith, c .loop-test .taken, c .before .before .before .before .pre .1 .0))
 
--- src/lib.rt:32:9
 add-count : tie.Need-add-count Inv-loop μ-loop
 add-count c =
     let a = c .before .before .before .before .before .args in
     let ns = nodesOf (a .bytes .now) in
     omega (arith, c .before .before .loop .inv .1 .0, looked-few ns (a .wanted) (members ns (a .from) (a .to)), members-few ns (a .from) (a .to), c .before .before .before .before .before .pre .1 .0, c .before .before .before .before .before .pre .0 .few)
 
--- src/lib.rt:34:13
 returns : tie.Need-returns Inv-loop μ-loop
 returns c =
     let inside = c .before .before .before .loop-test .taken in
@@ -54,7 +46,6 @@ returns c =
       within = inside;
     }
 
--- src/lib.rt:34:13
 returns-2 : tie.Need-returns-2 Inv-loop μ-loop
 returns-2 c =
     let inside = c .before .before .before .loop-test .taken in
@@ -65,17 +56,14 @@ returns-2 c =
       within = tt;
     }
 
--- src/lib.rt:46:9
 next-requires : tie.Need-next-requires Inv-loop μ-loop
 next-requires c κs =
     (c .before .before .before .before .before .before .pre .0, omega (arith, c .before .before .loop-test .taken, c .before .before .before .before .before .before .pre .1 .0))
 
--- src/lib.rt:30:5
 loop-less : tie.Need-loop-less Inv-loop μ-loop
 loop-less c =
     search needs
 
--- src/lib.rt:30:5
 loop-again : tie.Need-loop-again Inv-loop μ-loop
 loop-again c =
     let inside = c .before .before .before .loop-test .taken in
@@ -88,7 +76,6 @@ loop-again c =
       ),
     )
 
--- src/lib.rt:24:1
 returns-3 : tie.Need-returns-3 Inv-loop μ-loop
 returns-3 c =
     let inv = c .before .loop .inv in

@@ -1,16 +1,13 @@
-use mathlib.Core.Path.{_≡_, refl, sym, _∙_}
-use Prim.Native.Nat.{ℕ, _+_, _-_, _≤_}
+use mathlib.Core.Path.{_≡_}
+use Prim.Native.Nat.{_+_, _-_, _≤_}
 use native.Mathlib.Omega.{arith}
 use borrow.Author.Needs.{needs}
-use lib.ListN.{length, drop, getD}
+use lib.ListN.{length, drop}
 use Rattle.node.specs.Nodes.{nodesOf, members}
-use Rattle.searches.specs.Parts.{allLooked}
+use Rattle.searches.specs.Contracts.{allLooked}
 use Rattle.searches.proofs.Loops.{all-end, all-next, all-fits}
 use Rattle.searches.proofs.look_all.Statement.{statement}
 use Rattle.searches.proofs.look_all.Tie as tie
-use Rattle.searches.proofs.look_all.Reads as reads
-use Rattle.searches.proofs.look_all.Lts as lts
-use Rattle.searches.proofs.look.Reads as look-reads
 
 abbrev Inv-loop : tie.InvT-loop
 Inv-loop bytes rows from to wanted sum₀ k₀ sum k =
@@ -21,51 +18,42 @@ abbrev μ-loop : tie.MeasureT-loop
 μ-loop bytes rows from to wanted sum₀ k₀ sum k =
     length wanted - k
 
--- src/lib.rt:131:5
 loop-holds : tie.Need-loop-holds Inv-loop μ-loop
 loop-holds c =
     (omega arith, omega arith)
 
--- src/lib.rt:132:45
 mul-look : tie.Need-mul-look Inv-loop μ-loop
 mul-look c =
     search needs
 
--- src/lib.rt:132:45
 shared-slice-read-look : tie.Need-shared-slice-read-look Inv-loop μ-loop
 shared-slice-read-look c =
     search needs
 
--- src/lib.rt:132:13
 look-requires : tie.Need-look-requires Inv-loop μ-loop
 look-requires c κs =
     (c .before .before .before .before .before .before .pre .0, (c .before .before .before .before .before .before .pre .1 .0, c .before .before .before .before .before .before .pre .1 .1 .0))
 
--- src/lib.rt:133:9
 add-sum : tie.Need-add-sum Inv-loop μ-loop
 add-sum c =
     let a = c .before .before .before .before .before .before .before .before .args in
     let ns = nodesOf (a .bytes .now) in
     omega (arith, c .before .before .before .before .loop .inv .1, all-next ns (a .wanted .now) (members ns (a .from) (a .to)) (c .before .before .before .before .loop .k) (c .before .before .before .loop-test .taken), c .before .look .ensures .counts, all-fits (a .bytes .now) (c .before .before .before .before .before .before .before .before .pre .0 .few) (a .wanted .now) (a .from) (a .to) (c .before .before .before .before .before .before .before .before .pre .1 .1 .1) (c .before .before .before .before .before .before .before .before .pre .1 .0))
 
--- src/lib.rt:134:9
 add-k : tie.Need-add-k Inv-loop μ-loop
 add-k c =
     search needs
 
--- src/lib.rt:131:5
 loop-less : tie.Need-loop-less Inv-loop μ-loop
 loop-less c =
     search needs
 
--- src/lib.rt:131:5
 loop-again : tie.Need-loop-again Inv-loop μ-loop
 loop-again c =
     let a = c .before .before .before .before .before .before .before .before .args in
     let ns = nodesOf (a .bytes .now) in
     (omega (arith, c .before .before .before .loop-test .taken), omega (arith, c .before .before .before .before .loop .inv .1, all-next ns (a .wanted .now) (members ns (a .from) (a .to)) (c .before .before .before .before .loop .k) (c .before .before .before .loop-test .taken), c .before .look .ensures .counts))
 
--- src/lib.rt:125:1
 returns : tie.Need-returns Inv-loop μ-loop
 returns c =
     let a = c .before .before .before .before .before .args in

@@ -1,18 +1,13 @@
-use mathlib.Core.Path.{_≡_, refl, sym, ap, _∙_}
-use Prim.Native.Nat.{ℕ, _+_, _-_, _≤_}
+use mathlib.Core.Path.{_≡_, ap}
+use Prim.Native.Nat.{ℕ, _+_, _-_}
 use native.Mathlib.Omega.{arith}
-use borrow.Author.Needs.{needs}
 use Rattle.node.specs.Nodes.{nodesOf, members}
 use Rattle.node.proofs.Halves.{inside-ascends}
 use Rattle.searches.specs.Searches.{readInEach}
-use Rattle.searches.specs.Parts.{allLooked}
+use Rattle.searches.specs.Contracts.{allLooked}
 use Rattle.searches.proofs.Loops.{each-end, each-next, each-fits}
 use Rattle.searches.proofs.look_each.Statement.{statement}
 use Rattle.searches.proofs.look_each.Tie as tie
-use Rattle.searches.proofs.look_each.Reads as reads
-use Rattle.searches.proofs.look_each.Lts as lts
-use Rattle.node.proofs.next.Reads as next-reads
-use Rattle.searches.proofs.look_all.Reads as look-all-reads
 
 abbrev Inv-loop : tie.InvT-loop
 Inv-loop bytes rows from to wanted sum₀ j₀ sum j =
@@ -22,28 +17,23 @@ abbrev μ-loop : tie.MeasureT-loop
 μ-loop bytes rows from to wanted sum₀ j₀ sum j =
     to - j
 
--- src/lib.rt:146:5
 loop-holds : tie.Need-loop-holds Inv-loop μ-loop
 loop-holds c =
     omega arith
 
--- src/lib.rt:147:13
 next-requires : tie.Need-next-requires Inv-loop μ-loop
 next-requires c κs =
     (c .before .before .before .before .before .pre .0, omega (arith, c .loop-test .taken, c .before .before .before .before .before .pre .1 .0))
 
--- src/lib.rt:148:38
 add-look-all : tie.Need-add-look-all Inv-loop μ-loop
 add-look-all c =
     omega (arith, c .before .loop-test .taken, c .before .before .before .before .before .before .pre .1 .0, c .before .before .before .before .before .before .pre .0 .few)
 
--- src/lib.rt:148:16
 look-all-requires : tie.Need-look-all-requires Inv-loop μ-loop
 look-all-requires c κs =
     let n = c .next .ensures in
     (c .before .before .before .before .before .before .pre .0, (n .1, (rw (n .0) (inside-ascends _ _ (c .before .before .before .before .before .before .pre .0) (c .before .before .loop .j) (omega (arith, c .before .loop-test .taken, c .before .before .before .before .before .before .pre .1 .0))), c .before .before .before .before .before .before .pre .1 .1)))
 
--- src/lib.rt:148:9
 add-sum : tie.Need-add-sum Inv-loop μ-loop
 add-sum c =
     let a = c .before .before .before .before .before .before .before .args in
@@ -51,12 +41,10 @@ add-sum c =
     let e = ap (λ (k : ℕ). allLooked ns (a .wanted .now) (members ns (c .before .before .before .loop .j + 1) k)) (c .before .next .ensures .0) in
     omega (arith, c .before .before .before .loop .inv, each-next ns (c .before .before .before .loop .j) (a .to) (a .wanted .now) (c .before .before .loop-test .taken), c .look-all .ensures, e, each-fits (a .bytes .now) (c .before .before .before .before .before .before .before .pre .0 .few) (a .wanted .now) (a .from) (a .to) (c .before .before .before .before .before .before .before .pre .1 .1) (c .before .before .before .before .before .before .before .pre .1 .0))
 
--- src/lib.rt:146:5
 loop-less : tie.Need-loop-less Inv-loop μ-loop
 loop-less c =
     omega (arith, c .before .before .loop-test .taken, c .before .next .ensures .0)
 
--- src/lib.rt:146:5
 loop-again : tie.Need-loop-again Inv-loop μ-loop
 loop-again c =
     let a = c .before .before .before .before .before .before .before .args in
@@ -65,7 +53,6 @@ loop-again c =
     let f = ap (λ (k : ℕ). readInEach ns (a .wanted .now) (members ns k (a .to))) (c .before .next .ensures .0) in
     omega (arith, c .before .before .before .loop .inv, each-next ns (c .before .before .before .loop .j) (a .to) (a .wanted .now) (c .before .before .loop-test .taken), c .look-all .ensures, e, f)
 
--- src/lib.rt:140:1
 returns : tie.Need-returns Inv-loop μ-loop
 returns c =
     let a = c .before .before .before .before .before .args in

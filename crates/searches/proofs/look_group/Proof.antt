@@ -1,43 +1,30 @@
-use mathlib.Core.Path.{_≡_, refl, sym, ap, _∙_}
-use native.Mathlib.Omega.{arith}
 use Rattle.node.proofs.Laws as node-laws
 use Rattle.searches.specs.Searches.{readInEach}
 use borrow.Author.Needs.{needs}
 use Rattle.searches.proofs.look_group.Statement.{statement}
 use Rattle.searches.proofs.look_group.Tie as tie
-use Rattle.searches.proofs.look_group.Reads as reads
-use Rattle.searches.proofs.look_group.Lts as lts
-use Rattle.node.proofs.next.Reads as next-reads
-use Rattle.searches.proofs.look_each.Reads as look-each-reads
 
--- src/lib.rt:162:23
 enum-told : tie.Need-enum-told
 enum-told c = search needs
 
--- src/lib.rt:163:17
 enum-known-found : tie.Need-enum-known-found
 enum-known-found c = search needs
 
--- src/lib.rt:164:17
 next-requires : tie.Need-next-requires
 next-requires c κs =
     (c .before .before .before .before .before .before .pre .0, node-laws.within _ (c .before .found .given .1) (c .before .before .before .before .before .before .pre .1 .0))
 
--- src/lib.rt:165:36
 add-look-each : tie.Need-add-look-each
 add-look-each c = search needs
 
--- src/lib.rt:165:13
 look-each-requires : tie.Need-look-each-requires
 look-each-requires c κs = search needs
 
--- src/lib.rt:157:1
 returns : tie.Need-returns
 unfolding readInEach
 returns c =
     rw (c .enum-told .given .1)
 
--- src/lib.rt:157:1
 returns-2 : tie.Need-returns-2
 returns-2 c =
     rw (c .before .before .before .found .given .1, ← c .before .next .ensures .0) (c .look-each .ensures)

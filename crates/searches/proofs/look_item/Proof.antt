@@ -1,34 +1,22 @@
-use mathlib.Core.Path.{_≡_, refl, sym, ap, _∙_}
-use native.Mathlib.Omega.{arith}
 use lib.ListN.{length}
-use Rattle.node.specs.Nodes.{nodesOf, members}
-use Rattle.node.specs.Find.{find}
-use Rattle.searches.specs.Count.{lookedAt}
+use Rattle.node.specs.Nodes.{nodesOf}
 use Rattle.node.proofs.Laws.{below-more}
 use Rattle.node.proofs.Halves.{inside-ascends}
 use borrow.Author.Needs.{needs}
 use Rattle.searches.proofs.look_item.Statement.{statement}
 use Rattle.searches.proofs.look_item.Tie as tie
-use Rattle.searches.proofs.look_item.Reads as reads
-use Rattle.searches.proofs.look_item.Lts as lts
-use Rattle.node.proofs.next.Reads as next-reads
-use Rattle.searches.proofs.look.Reads as look-reads
 
--- src/lib.rt:175:9
 next-requires : tie.Need-next-requires
 next-requires c κs = search needs
 
--- src/lib.rt:176:23
 add-look : tie.Need-add-look
 add-look c = search needs
 
--- src/lib.rt:176:5
 look-requires : tie.Need-look-requires
 look-requires c κs =
     let n = c .next .ensures in
     (c .before .before .before .pre .0, (n .1, rw (n .0) (inside-ascends _ _ (c .before .before .before .pre .0) (c .before .before .before .args .item) (c .before .before .before .pre .1))))
 
--- src/lib.rt:171:1
 returns : tie.Need-returns
 returns c =
     let n = c .before .next in

@@ -1,4 +1,4 @@
-use mathlib.Core.Path.{_≡_, refl, sym, ap, _∙_}
+use mathlib.Core.Path.{_≡_, ap}
 use Prim.Native.Nat.{ℕ, _+_, _-_, _≤_}
 use native.Mathlib.Omega.{arith}
 use borrow.Author.Needs.{needs}
@@ -6,16 +6,11 @@ use mathlib.Core.List.{List}
 use lib.ListN.{length}
 use Rattle.node.specs.Nodes.{nodesOf, members}
 use Rattle.element.specs.Frames.{frameItems}
-use Rattle.searches.specs.Parts.{overGroup, InShared}
+use Rattle.searches.specs.Contracts.{overGroup}
 use Rattle.searches.proofs.Loops.{over-end, over-next, over-fits}
 use Rattle.searches.proofs.over_frames.Statement.{statement}
 use Rattle.searches.proofs.over_frames.Tie as tie
 use Rattle.searches.proofs.over_frames.Reads as reads
-use Rattle.searches.proofs.over_frames.Lts as lts
-use Rattle.element.proofs.frame_items.Reads as frame-items-reads
-use Rattle.node.proofs.next.Reads as next-reads
-use Rattle.searches.proofs.group_at.Reads as group-at-reads
-use Rattle.searches.proofs.shared_group.Reads as shared-group-reads
 
 abbrev Inv-loop : tie.InvT-loop
 Inv-loop bytes rows shared group always reads part end at₀ sum₀ at sum =
@@ -27,17 +22,14 @@ abbrev μ-loop : tie.MeasureT-loop
 μ-loop bytes rows shared group always reads part end at₀ sum₀ at sum =
     end - at
 
--- src/lib.rt:239:9
 shared-group-requires : tie.Need-shared-group-requires Inv-loop μ-loop
 shared-group-requires c κs =
     search needs
 
--- src/lib.rt:240:9
 frame-items-requires : tie.Need-frame-items-requires Inv-loop μ-loop
 frame-items-requires c κs =
     search needs
 
--- src/lib.rt:244:5
 loop-holds : tie.Need-loop-holds Inv-loop μ-loop
 loop-holds c =
     let a = c .before .before .before .before .before .args in
@@ -45,29 +37,24 @@ loop-holds c =
     let e = ap (λ (l : List ℕ). overGroup ns (a .group) (a .always) (a .reads .now) (a .shared) l) (c .frame-items .ensures .ahead) in
     (c .frame-items .ensures .inner, omega (arith, e))
 
--- src/lib.rt:245:16
 group-at-requires : tie.Need-group-at-requires Inv-loop μ-loop
 group-at-requires c κs =
     (c .before .before .before .before .before .before .before .pre .0, (omega (arith, c .loop-test .taken, c .before .loop .inv .0), (c .before .before .before .shared-group .ensures, c .before .before .before .before .before .before .before .pre .1 .1)))
 
--- src/lib.rt:245:9
 add-sum : tie.Need-add-sum Inv-loop μ-loop
 add-sum c =
     let a = c .before .before .before .before .before .before .before .before .args in
     let ns = nodesOf (a .bytes .now) in
     omega (arith, c .before .before .loop .inv .1, over-next ns (c .before .before .loop .at) (c .before .before .before .frame-items .result .end) (a .group) (a .always) (a .reads .now) (a .shared) (c .before .loop-test .taken), c .group-at .ensures, over-fits (a .bytes .now) (c .before .before .before .before .before .before .before .before .pre .0 .few) (a .group) (a .always) (a .reads .now) (a .shared) (c .before .before .before .before .before .before .before .before .pre .1 .1))
 
--- src/lib.rt:246:9
 next-requires : tie.Need-next-requires Inv-loop μ-loop
 next-requires c κs =
     (c .before .before .before .before .before .before .before .before .pre .0, omega (arith, c .before .loop-test .taken, c .before .before .loop .inv .0))
 
--- src/lib.rt:244:5
 loop-less : tie.Need-loop-less Inv-loop μ-loop
 loop-less c =
     omega (arith, c .before .before .loop-test .taken, c .next .ensures .0)
 
--- src/lib.rt:244:5
 loop-again : tie.Need-loop-again Inv-loop μ-loop
 loop-again c =
     let a = c .before .before .before .before .before .before .before .before .before .args in
@@ -75,7 +62,6 @@ loop-again c =
     let f = ap (λ (k : ℕ). overGroup ns (a .group) (a .always) (a .reads .now) (a .shared) (members ns k (c .before .before .before .before .frame-items .result .end))) (c .next .ensures .0) in
     (c .before .before .before .loop .inv .0, omega (arith, c .before .before .before .loop .inv .1, over-next ns (c .before .before .before .loop .at) (c .before .before .before .before .frame-items .result .end) (a .group) (a .always) (a .reads .now) (a .shared) (c .before .before .loop-test .taken), c .before .group-at .ensures, f))
 
--- src/lib.rt:228:1
 returns : tie.Need-returns Inv-loop μ-loop
 returns c =
     let a = c .before .before .before .before .before .before .before .args in

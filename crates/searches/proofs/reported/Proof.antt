@@ -1,4 +1,4 @@
-use mathlib.Core.Path.{_≡_, refl, sym, ap, _∙_}
+use mathlib.Core.Path.{sym}
 use Prim.Native.Nat.{_*_}
 use native.Mathlib.Omega.{arith}
 use lib.Seq.{length-take-le}
@@ -6,64 +6,48 @@ use Rattle.searches.proofs.After.{left-accepted}
 use borrow.Author.Needs.{needs}
 use Rattle.searches.proofs.reported.Statement.{statement}
 use Rattle.searches.proofs.reported.Tie as tie
-use Rattle.searches.proofs.reported.Reads as reads
-use Rattle.searches.proofs.reported.Lts as lts
-use Rattle.searches.proofs.sum.Reads as sum-reads
 
--- src/lib.rt:381:31
 enum-known-answer : tie.Need-enum-known-answer
 enum-known-answer c = search needs
 
--- src/lib.rt:382:23
 mul-end : tie.Need-mul-end
 mul-end c =
     let t = left-accepted (c .before .before .before .before .before .args .bytes .now) (c .before .before .before .before .before .args .rows .now) (c .before .answer .given .1) (c .before .before .before .before .before .pre) in
     omega (arith, t .0, t .1 .size, t .1 .few, length-take-le (7 * c .before .answer .given .0 .0) (c .before .before .before .before .before .args .rows .now) (t .0))
 
--- src/lib.rt:383:24
 slice-aggregate-sum : tie.Need-slice-aggregate-sum
 slice-aggregate-sum c =
     sym (length-take-le _ _ (left-accepted (c .before .before .before .before .before .before .args .bytes .now) (c .before .before .before .before .before .before .args .rows .now) (c .before .before .answer .given .1) (c .before .before .before .before .before .before .pre) .0))
 
--- src/lib.rt:383:13
 sum-requires : tie.Need-sum-requires
 sum-requires c κs =
     left-accepted (c .before .before .before .before .before .before .args .bytes .now) (c .before .before .before .before .before .before .args .rows .now) (c .before .before .answer .given .1) (c .before .before .before .before .before .before .pre) .1
 
--- src/lib.rt:385:41
 enum-told : tie.Need-enum-told
 enum-told c = search needs
 
--- src/lib.rt:386:39
 enum-told-2 : tie.Need-enum-told-2
 enum-told-2 c = search needs
 
--- src/lib.rt:387:34
 enum-told-3 : tie.Need-enum-told-3
 enum-told-3 c = search needs
 
--- src/lib.rt:388:32
 enum-told-4 : tie.Need-enum-told-4
 enum-told-4 c = search needs
 
--- src/lib.rt:376:1
 returns : tie.Need-returns
 returns c =
     rw (c .before .before .before .answer .given .1) (c .sum .ensures)
 
--- src/lib.rt:376:1
 returns-2 : tie.Need-returns-2
 returns-2 c = search needs
 
--- src/lib.rt:376:1
 returns-3 : tie.Need-returns-3
 returns-3 c = search needs
 
--- src/lib.rt:376:1
 returns-4 : tie.Need-returns-4
 returns-4 c = search needs
 
--- src/lib.rt:376:1
 returns-5 : tie.Need-returns-5
 returns-5 c = search needs
 

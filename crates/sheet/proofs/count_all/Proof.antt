@@ -1,8 +1,8 @@
-use mathlib.Core.Path.{_≡_, refl, sym, ap, _∙_, subst}
-use Prim.Native.Nat.{ℕ, _≤_}
+-- What applies to each frame and what the shared group names are worked out ahead, and are all that counting the frames asks for.
+use mathlib.Core.Path.{_∙_}
+use Prim.Native.Nat.{ℕ}
 use native.Mathlib.Omega.{arith}
-use lib.ListN.{length, length-replicate}
-use Rattle.node.specs.Nodes.{nodesOf}
+use lib.ListN.{length-replicate}
 use Rattle.display.proofs.Scenes as scenes
 use Rattle.sheet.proofs.Scenes as counted
 use borrow.Author.Needs.{needs}

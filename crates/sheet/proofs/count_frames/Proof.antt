@@ -1,19 +1,18 @@
-use Prim.Native.Nat.{ℕ, _+_, _-_, _*_, _≤_, _<_}
-use mathlib.Core.List.{List}
+-- The counts so far with the levels of the frames ahead are the counts of all, and there are too few cells for a count to wrap.
+use Prim.Native.Nat.{_+_, _-_, _*_, _≤_}
 use lib.ListN.{length, drop}
 use Rattle.node.specs.Nodes.{nodesOf}
-use Rattle.element.specs.Along.{Along}
+use Rattle.element.specs.Contracts.{Along}
 use Rattle.element.specs.Frames.{frameItems}
 use Rattle.display.specs.Show.{imageSize, pictureOf}
 use Rattle.conformance.proofs.Loops.{along-more}
 use Rattle.sheet.specs.Sheet.{levelsOf, nativesOf, countsOf}
-use Rattle.sheet.specs.Said.{tallied, Room, IsHeld}
+use Rattle.sheet.specs.Contracts.{tallied, Room, IsHeld}
 use Rattle.sheet.proofs.Counts.{counts-are, room-start}
 use Rattle.sheet.proofs.Frames as frames
 use Rattle.display.proofs.Scenes.{based, few-frames, cells-few}
-use mathlib.Core.Path.{_≡_, refl, sym, ap, _∙_, subst}
+use mathlib.Core.Path.{_≡_, refl, sym, ap, _∙_}
 use native.Mathlib.Omega.{arith}
-use borrow.Author.Needs.{needs}
 use Rattle.sheet.proofs.count_frames.Statement.{statement}
 use Rattle.sheet.proofs.count_frames.Tie as tie
 

@@ -1,13 +1,13 @@
+-- The two moves of a shift are two offsets in quarters, which draw the same cells.
 use Prim.Native.Nat.{ℕ}
 use mathlib.Core.List.{List}
 use Rattle.value.specs.Number.{usValues}
 use Rattle.pixel.specs.Pixel.{samplesOf}
 use Rattle.pixel.proofs.Blend.{offset-shade}
-use Rattle.lines.specs.Lines.{shadesOf}
+use Rattle.lines.specs.Contracts.{shadesOf}
 use Rattle.lines.proofs.Lists.{upTo-same}
-use Rattle.sheet.specs.Said.{tallied}
-use mathlib.Core.Path.{_≡_, refl, sym, ap, _∙_, subst}
-use native.Mathlib.Omega.{arith}
+use Rattle.sheet.specs.Contracts.{tallied}
+use mathlib.Core.Path.{ap, _∙_}
 use borrow.Author.Needs.{needs}
 use Rattle.sheet.proofs.count_moved.Statement.{statement}
 use Rattle.sheet.proofs.count_moved.Tie as tie

@@ -1,13 +1,14 @@
+-- The cells of a picture are the shades of its samples, so to count the shades is to count its levels.
 use Prim.Native.Nat.{ℕ, _+_}
 use mathlib.Core.Bool.{Bool, cond}
 use mathlib.Core.List.{List}
 use Rattle.pixel.proofs.Laws.{cells-fit}
-use Rattle.display.specs.Said.{isMasked}
-use Rattle.sheet.specs.Said.{tallied}
+use Rattle.display.specs.Contracts.{isMasked}
+use Rattle.sheet.specs.Contracts.{tallied}
 use Rattle.display.proofs.Scenes as scenes
 use Rattle.sheet.proofs.Scenes as counted
 use Rattle.sheet.proofs.Frames.{one-most}
-use mathlib.Core.Path.{_≡_, refl, sym, ap, _∙_, subst}
+use mathlib.Core.Path.{sym, ap, _∙_}
 use native.Mathlib.Omega.{arith}
 use borrow.Author.Needs.{needs}
 use Rattle.sheet.proofs.count_picture.Statement.{statement}

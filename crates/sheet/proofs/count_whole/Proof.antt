@@ -1,15 +1,15 @@
-use Prim.Native.Nat.{ℕ, _+_, _-_, _*_, _/_, _≤_, _<_}
+-- Lines follow one another in the picture, so r lines counted are its first r · columns cells counted.
+use Prim.Native.Nat.{_-_, _*_, _≤_}
 use lib.ListN.{length}
 use Rattle.value.specs.Number.{usValues}
-use Rattle.pixel.specs.Said.{Averaged, shifted, quarterShade}
+use Rattle.pixel.specs.Contracts.{quarterShade}
 use Rattle.pixel.proofs.Laws.{full}
-use Rattle.lines.specs.Lines.{upTo, shadesOf}
+use Rattle.lines.specs.Contracts.{upTo, shadesOf}
 use Rattle.lines.proofs.Lists.{upTo-length}
-use Rattle.sheet.specs.Said.{tallied}
+use Rattle.sheet.specs.Contracts.{tallied}
 use Rattle.sheet.proofs.Runs as runs
-use mathlib.Core.Path.{_≡_, refl, sym, ap, _∙_, subst}
+use mathlib.Core.Path.{_≡_, refl, sym, ap, _∙_}
 use native.Mathlib.Omega.{arith}
-use borrow.Author.Needs.{needs}
 use Rattle.sheet.proofs.count_whole.Statement.{statement}
 use Rattle.sheet.proofs.count_whole.Tie as tie
 

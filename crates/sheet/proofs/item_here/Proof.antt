@@ -1,7 +1,5 @@
+-- The cursor stands on the frame's item, as long as any items are ahead.
 use Rattle.sheet.proofs.Frames as frames
-use mathlib.Core.Path.{_≡_, refl, sym, ap, _∙_, subst}
-use native.Mathlib.Omega.{arith}
-use borrow.Author.Needs.{needs}
 use Rattle.sheet.proofs.item_here.Statement.{statement}
 use Rattle.sheet.proofs.item_here.Tie as tie
 

@@ -1,11 +1,11 @@
-use Prim.Native.Nat.{ℕ, _-_, _≤_}
+-- Each step passes one item, so a - 1 steps lead to the item of frame a.
+use Prim.Native.Nat.{_-_, _≤_}
 use lib.ListN.{drop}
 use Rattle.node.specs.Nodes.{nodesOf}
-use Rattle.element.specs.Along.{Along}
+use Rattle.element.specs.Contracts.{Along}
 use Rattle.element.specs.Frames.{frameItems}
 use Rattle.pixel.proofs.Laws.{full}
 use Rattle.conformance.proofs.Loops.{along-more}
-use mathlib.Core.Path.{_≡_, refl, sym, ap, _∙_, subst}
 use native.Mathlib.Omega.{arith}
 use borrow.Author.Needs.{needs}
 use Rattle.sheet.proofs.items_from.Statement.{statement}

@@ -1,7 +1,6 @@
-use Rattle.value.specs.declared.Num.{Num}
+-- The number of frames is handed on; where there is none, both sides say 0.
 use Rattle.conformance.specs.Judging.{numberOf}
-use mathlib.Core.Path.{_≡_, refl, sym, ap, _∙_, subst}
-use native.Mathlib.Omega.{arith}
+use mathlib.Core.Path.{sym, ap, _∙_}
 use borrow.Author.Needs.{needs}
 use Rattle.sheet.proofs.last_frame.Statement.{statement}
 use Rattle.sheet.proofs.last_frame.Tie as tie

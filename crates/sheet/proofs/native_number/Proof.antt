@@ -1,5 +1,4 @@
-use mathlib.Core.Path.{_≡_, refl, sym, ap, _∙_, subst}
-use native.Mathlib.Omega.{arith}
+-- Only the two maskings that have mask frames are masked; each other one counts as native.
 use borrow.Author.Needs.{needs}
 use Rattle.sheet.proofs.native_number.Statement.{statement}
 use Rattle.sheet.proofs.native_number.Tie as tie

@@ -1,7 +1,7 @@
+-- Nothing is counted, and shades without a filled table are right whatever the table holds.
 use Rattle.verdict.proofs.Tests.{false-is-true}
-use mathlib.Core.Path.{_≡_, refl, sym, ap, _∙_, subst}
+use mathlib.Core.Path.{refl}
 use native.Mathlib.Omega.{arith}
-use borrow.Author.Needs.{needs}
 use Rattle.sheet.proofs.nothing.Statement.{statement}
 use Rattle.sheet.proofs.nothing.Tie as tie
 

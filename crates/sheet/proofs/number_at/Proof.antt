@@ -1,9 +1,7 @@
-use Prim.Native.Nat.{ℕ, _+_}
-use mathlib.Core.List.{List, [], _∷_}
+-- The 256 counts come first, and the four other numbers follow in their order.
+use mathlib.Core.List.{[], _∷_}
 use Rattle.sheet.proofs.Answers as answers
-use mathlib.Core.Path.{_≡_, refl, sym, ap, _∙_, subst}
 use native.Mathlib.Omega.{arith}
-use borrow.Author.Needs.{needs}
 use Rattle.sheet.proofs.number_at.Statement.{statement}
 use Rattle.sheet.proofs.number_at.Tie as tie
 

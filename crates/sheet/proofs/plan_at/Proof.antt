@@ -1,10 +1,11 @@
-use mathlib.Core.Path.{_≡_, refl, sym, ap, _∙_, subst}
+-- What was written down ahead is what the steps give for this frame, so the plan made from it is the frame's.
+use mathlib.Core.Path.{sym, ap, _∙_, subst}
 use mathlib.Core.Option.{some}
 use native.Mathlib.Omega.{arith}
 use lib.ListN.{length, getD}
 use Rattle.node.specs.Nodes.{nodesOf}
 use Rattle.steps.specs.declared.Applying.{Applying}
-use Rattle.display.specs.Said.{ApplyingBelow}
+use Rattle.display.specs.Contracts.{ApplyingBelow}
 use Rattle.sheet.proofs.Frames as frames
 use borrow.Author.Needs.{needs}
 use Rattle.sheet.proofs.plan_at.Statement.{statement}

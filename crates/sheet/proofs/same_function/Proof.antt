@@ -1,6 +1,6 @@
+-- The answer is true only where both are LINEAR or both are LINEAR_EXACT.
 use Rattle.verdict.proofs.Tests.{false-is-true}
-use mathlib.Core.Path.{_≡_, refl, sym, ap, _∙_, subst}
-use native.Mathlib.Omega.{arith}
+use mathlib.Core.Path.{sym, _∙_}
 use borrow.Author.Needs.{needs}
 use Rattle.sheet.proofs.same_function.Statement.{statement}
 use Rattle.sheet.proofs.same_function.Tie as tie

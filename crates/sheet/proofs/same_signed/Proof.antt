@@ -1,8 +1,8 @@
+-- The answer is true only where both have the same sign and the same number.
 use borrow.Author.Tests.{eqb-true}
 use Rattle.value.specs.declared.Signed.the-variants as signed
 use Rattle.verdict.proofs.Tests.{false-is-true}
-use mathlib.Core.Path.{_≡_, refl, sym, ap, _∙_, subst}
-use native.Mathlib.Omega.{arith}
+use mathlib.Core.Path.{sym, ap, _∙_}
 use borrow.Author.Needs.{needs}
 use Rattle.sheet.proofs.same_signed.Statement.{statement}
 use Rattle.sheet.proofs.same_signed.Tie as tie

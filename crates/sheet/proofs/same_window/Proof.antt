@@ -1,7 +1,6 @@
+-- A window is its centre, its width and its function, and the answer is true only where all three are the same.
 use Rattle.verdict.proofs.Tests.{false-is-true}
 use Rattle.sheet.proofs.Scenes.{windows-same}
-use mathlib.Core.Path.{_≡_, refl, sym, ap, _∙_, subst}
-use native.Mathlib.Omega.{arith}
 use borrow.Author.Needs.{needs}
 use Rattle.sheet.proofs.same_window.Statement.{statement}
 use Rattle.sheet.proofs.same_window.Tie as tie

@@ -1,8 +1,7 @@
-use Prim.Native.Nat.{ℕ, _+_, _-_}
+-- The counts are those of frames a to b, and the other numbers follow from the counts; no count is large enough for the sum to wrap.
+use Prim.Native.Nat.{ℕ}
 use lib.ListN.{length-replicate}
-use Rattle.node.specs.Nodes.{nodesOf}
 use Rattle.sheet.proofs.Sampling as sampling
-use mathlib.Core.Path.{_≡_, refl, sym, ap, _∙_, subst}
 use native.Mathlib.Omega.{arith}
 use borrow.Author.Needs.{needs}
 use Rattle.sheet.proofs.sample_frames.Statement.{statement}

@@ -1,9 +1,10 @@
-use mathlib.Core.Path.{_≡_, sym, subst}
+-- For a mask item that applies, what was written down is taken; where none applies, nothing is asked.
+use mathlib.Core.Path.{sym, subst}
 use lib.ListN.{length}
 use Rattle.node.specs.Nodes.{nodesOf}
 use Rattle.steps.specs.declared.Applying.{Applying}
 use Rattle.steps.specs.declared.Found.the-variants as found
-use Rattle.display.specs.Said.{ApplyingBelow, SharedBy}
+use Rattle.display.specs.Contracts.{ApplyingBelow, SharedBy}
 use borrow.Author.Needs.{needs}
 use Rattle.sheet.proofs.shared_of.Statement.{statement}
 use Rattle.sheet.proofs.shared_of.Tie as tie

@@ -1,7 +1,8 @@
+-- The tests come in the order of the definition, and what is left has all frames from first to last.
 use Rattle.node.specs.Nodes.{nodesOf}
 use Rattle.node.proofs.Laws as node-laws
 use Rattle.sheet.proofs.Answers as answers
-use mathlib.Core.Path.{_≡_, refl, sym, ap, _∙_, subst}
+use mathlib.Core.Path.{_∙_}
 use native.Mathlib.Omega.{arith}
 use borrow.Author.Needs.{needs}
 use Rattle.sheet.proofs.sheet_table.Statement.{statement}

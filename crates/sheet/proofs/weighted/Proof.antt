@@ -1,12 +1,12 @@
+-- No count is above 2^48, so that 256 products with a level add up to less than 2^64.
 use Prim.Native.Nat.{ℕ, _+_, _-_, _*_, _≤_}
 use lib.ListN.{getD}
 use native.Mathlib.Nat.{mul-le-mul}
 use Rattle.pixel.proofs.Laws.{full}
 use Rattle.sheet.specs.Sampling.{total}
 use Rattle.sheet.proofs.Counts.{total-more, total-most}
-use mathlib.Core.Path.{_≡_, refl, sym, ap, _∙_, subst}
+use mathlib.Core.Path.{_≡_, refl, ap, _∙_}
 use native.Mathlib.Omega.{arith}
-use borrow.Author.Needs.{needs}
 use Rattle.sheet.proofs.weighted.Statement.{statement}
 use Rattle.sheet.proofs.weighted.Tie as tie
 

@@ -1,3 +1,4 @@
+-- As in `sheet`, with the last frame read from the rows that judging left.
 use Prim.Native.Nat.{ℕ, _*_}
 use lib.Seq.{length-take-le}
 use Rattle.node.specs.Nodes.{nodesOf}
@@ -7,7 +8,7 @@ use Rattle.conformance.specs.declared.JudgeAnswer.the-variants as judged
 use Rattle.display.proofs.Judged as laws
 use Rattle.sheet.specs.Answer.{acceptedAnswer, withSheet}
 use Rattle.sheet.proofs.Answers as answers
-use mathlib.Core.Path.{_≡_, refl, sym, ap, _∙_, subst}
+use mathlib.Core.Path.{sym, ap, _∙_}
 use native.Mathlib.Omega.{arith}
 use Rattle.dataset.proofs.Promised.{promised}
 use borrow.Author.Needs.{needs}

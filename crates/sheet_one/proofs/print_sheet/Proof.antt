@@ -1,7 +1,7 @@
+-- Code 8 is ruled out, so its arm is never reached; a sheet that is done has its 256 counts.
 use Rattle.sheet.specs.declared.SheetAnswer.{SheetAnswer}
 use Rattle.sheet.specs.Answer.{fieldsOf}
-use mathlib.Core.Path.{_≡_, refl, sym, ap, _∙_, subst}
-use native.Mathlib.Omega.{arith}
+use mathlib.Core.Path.{ap}
 use borrow.Author.Needs.{needs}
 use Rattle.sheet_one.proofs.print_sheet.Statement.{statement}
 use Rattle.sheet_one.proofs.print_sheet.Tie as tie

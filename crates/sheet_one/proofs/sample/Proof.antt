@@ -1,5 +1,4 @@
-use mathlib.Core.Path.{_≡_, refl, sym, ap, _∙_, subst}
-use native.Mathlib.Omega.{arith}
+-- `sheet_small` promises 256 counts, and that code 8 never comes.
 use borrow.Author.Needs.{needs}
 use Rattle.sheet_one.proofs.sample.Statement.{statement}
 use Rattle.sheet_one.proofs.sample.Tie as tie

@@ -1,6 +1,7 @@
 -- `fields` answers `recorded`: each field is the number read at its place.
 use mathlib.Core.Path.{sym, _∙_}
-use Rattle.slip.proofs.Laws.{number-one}
+use Rattle.slip.specs.Slip.{codePlace, rulePlace, framePlace, offsetPlace}
+use Rattle.slip.proofs.Laws.{number-one, number-two, number-four}
 use borrow.Author.Needs.{needs}
 use Rattle.slip.proofs.fields.Statement.{statement}
 use Rattle.slip.proofs.fields.Tie as tie
@@ -25,7 +26,13 @@ u32-at-requires c κs = search needs
 
 returns : tie.Need-returns
 returns c =
-    simp (c .before .before .before .before .wide .ensures .0 ∙ sym (number-one (c .before .before .before .before .before .before .before .args .s .now) 5), c .before .before .wide2 .ensures .0 ∙ sym (number-one (c .before .before .before .before .before .before .before .args .s .now) 6), c .before .u16-at .ensures .0, c .u32-at .ensures .0)
+    let s = c .before .before .before .before .before .before .before .args .s .now in
+    simp (
+      c .before .before .before .before .wide .ensures .0 ∙ sym (number-one s codePlace),
+      c .before .before .wide2 .ensures .0 ∙ sym (number-one s rulePlace),
+      c .before .u16-at .ensures .0 ∙ number-two s framePlace,
+      c .u32-at .ensures .0 ∙ number-four s offsetPlace,
+    )
 
 pub fields-spec : {M : Type 1} → statement M
 fields-spec =

@@ -2,7 +2,8 @@
 -- four bytes.
 use mathlib.Core.Path.{sym, ap, _∙_}
 use borrow.Author.Tests.{eq-eqb, ne-eqb}
-use Rattle.slip.specs.Slip.{ifPossible, readSized}
+use Rattle.slip.specs.Slip.{rowsPlace, ifPossible, readSized}
+use Rattle.slip.proofs.Laws.{number-four}
 use borrow.Author.Needs.{needs}
 use Rattle.slip.proofs.read_new.Statement.{statement}
 use Rattle.slip.proofs.read_new.Tie as tie
@@ -19,7 +20,8 @@ if-possible-requires c κs = search needs
 returns : tie.Need-returns
 unfolding readSized
 returns c =
-    simp (eq-eqb _ _ (c .before .before .before .if1 .taken), sym (c .before .before .u32-at .ensures .0)) (c .if-possible .ensures ∙ ap ifPossible (c .before .fields .ensures))
+    let rows = c .before .before .u32-at .ensures .0 ∙ number-four (c .before .before .before .before .before .args .slip .now) rowsPlace in
+    simp (eq-eqb _ _ (c .before .before .before .if1 .taken), sym rows) (c .if-possible .ensures ∙ ap ifPossible (c .before .fields .ensures))
 
 returns-2 : tie.Need-returns-2
 unfolding readSized

@@ -1,7 +1,8 @@
 -- `read_version` answers `readVersion`: at each return the tests on the version say which of its cases holds.
 use mathlib.Core.Path.{sym, _∙_}
 use borrow.Author.Tests.{eq-eqb, ne-eqb}
-use Rattle.slip.specs.Slip.{readVersion}
+use Rattle.slip.specs.Slip.{versionPlace, readVersion}
+use Rattle.slip.proofs.Laws.{number-two}
 use borrow.Author.Needs.{needs}
 use Rattle.slip.proofs.read_version.Statement.{statement}
 use Rattle.slip.proofs.read_version.Tie as tie
@@ -15,7 +16,8 @@ read-old-requires c κs = search needs
 returns : tie.Need-returns
 unfolding readVersion
 returns c =
-    simp (eq-eqb _ _ (sym (c .before .before .u16-at .ensures .0) ∙ c .before .if1 .taken)) (c .read-old .ensures)
+    let v = sym (number-two (c .before .before .before .before .args .slip .now) versionPlace) ∙ sym (c .before .before .u16-at .ensures .0) in
+    simp (eq-eqb _ _ (v ∙ c .before .if1 .taken)) (c .read-old .ensures)
 
 read-new-requires : tie.Need-read-new-requires
 read-new-requires c κs = search needs
@@ -23,12 +25,14 @@ read-new-requires c κs = search needs
 returns-2 : tie.Need-returns-2
 unfolding readVersion
 returns-2 c =
-    simp (ne-eqb _ _ (λ e. c .before .before .if1 .left (c .before .before .before .u16-at .ensures .0 ∙ e)), eq-eqb _ _ (sym (c .before .before .before .u16-at .ensures .0) ∙ c .before .if2 .taken)) (c .read-new .ensures)
+    let v = c .before .before .before .u16-at .ensures .0 ∙ number-two (c .before .before .before .before .before .args .slip .now) versionPlace in
+    simp (ne-eqb _ _ (λ e. c .before .before .if1 .left (v ∙ e)), eq-eqb _ _ (sym v ∙ c .before .if2 .taken)) (c .read-new .ensures)
 
 returns-3 : tie.Need-returns-3
 unfolding readVersion
 returns-3 c =
-    simp (ne-eqb _ _ (λ e. c .before .if1 .left (c .before .before .u16-at .ensures .0 ∙ e)), ne-eqb _ _ (λ e. c .if2 .left (c .before .before .u16-at .ensures .0 ∙ e)))
+    let v = c .before .before .u16-at .ensures .0 ∙ number-two (c .before .before .before .before .args .slip .now) versionPlace in
+    simp (ne-eqb _ _ (λ e. c .before .if1 .left (v ∙ e)), ne-eqb _ _ (λ e. c .if2 .left (v ∙ e)))
 
 pub read-version-spec : {M : Type 1} → statement M
 read-version-spec =

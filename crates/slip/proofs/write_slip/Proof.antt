@@ -1,8 +1,8 @@
--- `write_slip` answers `writeOf` and leaves `bufferOf`: it tests in the order 14, 11, and stores only after all tests.
+-- `write_slip` answers `writeOf` and leaves `slipBuffer`: it tests in the order 14, 11, and stores only after all tests.
 use mathlib.Core.Path.{refl, sym, _∙_}
 use borrow.Author.Tests.{le-leb, lt-leb}
 use Rattle.verdict.specs.Verdict.{writable}
-use Rattle.slip.specs.Slip.{writeOf, bufferOf}
+use Rattle.slip.specs.Slip.{writeOf, slipBuffer}
 use Rattle.dataset.proofs.Promised.{promised}
 use borrow.Author.Needs.{needs}
 use Rattle.slip.proofs.write_slip.Statement.{statement}
@@ -24,22 +24,22 @@ same-length : tie.Need-same-length
 same-length c = search needs
 
 returns : tie.Need-returns
-unfolding writable writeOf bufferOf
+unfolding writable writeOf slipBuffer
 returns c =
     simp (sym (c .before .before .before .before .before .before .before .before .before .is-possible .ensures) ∙ c .before .before .before .before .before .before .before .before .if1 .taken, c .before .before .before .before .before .before .rows .given .1, le-leb _ _ (c .before .before .before .before .if2 .taken)) (promised refl, c .before .before .put-slip .ensures)
 
 returns-2 : tie.Need-returns-2
-unfolding writable writeOf bufferOf
+unfolding writable writeOf slipBuffer
 returns-2 c =
     simp (sym (c .before .before .before .before .before .is-possible .ensures) ∙ c .before .before .before .before .if1 .taken, c .before .before .rows .given .1, lt-leb _ _ (c .if2 .left)) (promised refl, refl)
 
 returns-3 : tie.Need-returns-3
-unfolding writable writeOf bufferOf
+unfolding writable writeOf slipBuffer
 returns-3 c =
     simp (sym (c .before .before .before .is-possible .ensures) ∙ c .before .before .if1 .taken, c .enum-told .given .1) (promised refl, refl)
 
 returns-4 : tie.Need-returns-4
-unfolding writable writeOf bufferOf
+unfolding writable writeOf slipBuffer
 returns-4 c =
     simp (sym (c .before .is-possible .ensures) ∙ c .if1 .left) (promised refl, refl)
 

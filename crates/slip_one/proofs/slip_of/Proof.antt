@@ -2,7 +2,7 @@
 use mathlib.Core.Path.{_∙_}
 use mathlib.Core.List.{append-nil}
 use borrow.Author.Needs.{needs}
-use Rattle.slip.specs.Slip.{bufferOf}
+use Rattle.slip.specs.Slip.{slipBuffer}
 use Rattle.slip_one.proofs.slip_of.Statement.{statement}
 use Rattle.slip_one.proofs.slip_of.Tie as tie
 
@@ -13,7 +13,7 @@ write-slip-requires : tie.Need-write-slip-requires
 write-slip-requires c κs = search needs
 
 returns : tie.Need-returns
-unfolding bufferOf
+unfolding slipBuffer
 returns c = c .before .write-slip .ensures .1 ∙ rw (c .before .before .before .pre, append-nil)
 
 pub slip-of-spec : {M : Type 1} → statement M

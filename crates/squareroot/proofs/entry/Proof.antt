@@ -1,8 +1,8 @@
 -- `entry` works its number out: the square of a level is at most 65,025.
-use Prim.Native.Nat.{ℕ, _*_, _≤_}
+use Prim.Native.Nat.{_≤_}
 use native.Mathlib.Omega.{arith}
 use borrow.Author.Needs.{needs}
-use Rattle.squareroot.specs.SquareRoot.{entryOf}
+use Rattle.squareroot.specs.SquareRoot.{rootEntry}
 use Rattle.squareroot.proofs.Roots.{square}
 use Rattle.squareroot.proofs.entry.Statement.{statement}
 use Rattle.squareroot.proofs.entry.Tie as tie
@@ -23,7 +23,7 @@ cast-result c =
     omega (arith, square (c .args .p) 255 low)
 
 returns : tie.Need-returns
-unfolding entryOf
+unfolding rootEntry
 returns c = search needs
 
 pub entry-spec : {M : Type 1} → statement M

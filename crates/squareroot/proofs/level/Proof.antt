@@ -1,8 +1,8 @@
--- `level` answers `levelOf`: low × low ≤ t < high × high throughout, and at the end high is low + 1.
-use mathlib.Core.Path.{_≡_, sym, subst}
+-- `level` answers `rootLevel`: low × low ≤ t < high × high throughout, and at the end high is low + 1.
+use mathlib.Core.Path.{_≡_, sym}
 use Prim.Native.Nat.{ℕ, _+_, _-_, _*_, _/_, _%_, _≤_, _<_}
 use native.Mathlib.Omega.{arith}
-use Rattle.squareroot.specs.SquareRoot.{levelOf}
+use Rattle.squareroot.specs.SquareRoot.{rootLevel}
 use Rattle.squareroot.proofs.Roots.{square, root-is}
 use Rattle.squareroot.proofs.level.Statement.{statement}
 use Rattle.squareroot.proofs.level.Tie as tie
@@ -44,7 +44,7 @@ loop-again-2 : tie.Need-loop-again-2 Inv-loop μ-loop
 loop-again-2 c = omega arith
 
 returns : tie.Need-returns Inv-loop μ-loop
-unfolding levelOf
+unfolding rootLevel
 returns c =
     let low : ℕ = c .before .loop .low in
     let t : ℕ = 4 * (c .before .before .args .v % 16384) in

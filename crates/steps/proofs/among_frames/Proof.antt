@@ -1,3 +1,4 @@
+-- Both sides need the number of frames, and both test x against 1 and that number.
 use borrow.Author.Tests.{le-leb, lt-leb}
 use borrow.Author.Needs.{needs}
 use Rattle.node.proofs.Laws as node-laws

@@ -1,3 +1,4 @@
+-- Without the sequence nothing applies; with it, its items are those between its node and the next.
 use lib.ListN.{length}
 use Rattle.node.specs.Nodes.{nodesOf}
 use borrow.Author.Tests.{eq-eqb, ne-eqb}

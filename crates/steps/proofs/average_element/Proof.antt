@@ -1,3 +1,4 @@
+-- The value holds whole numbers where its length is even, and at least one where it has two bytes.
 use borrow.Author.Tests.{eq-eqb, ne-eqb}
 use Rattle.steps.specs.Steps.{averageFrames}
 use borrow.Author.Needs.{needs}

@@ -1,3 +1,4 @@
+-- The first value is taken and read.
 use borrow.Author.Needs.{needs}
 use Rattle.steps.proofs.first_decimal.Statement.{statement}
 use Rattle.steps.proofs.first_decimal.Tie as tie

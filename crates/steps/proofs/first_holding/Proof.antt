@@ -1,7 +1,8 @@
+-- An item whose range does not hold the frame leaves the search as it was; any other item ends it.
 use Prim.Native.Nat.{_-_}
 use Rattle.node.specs.Nodes.{nodesOf, members}
 use Rattle.steps.specs.Steps.{firstHolding}
-use Rattle.steps.specs.Said.{holdsOf}
+use Rattle.steps.specs.Contracts.{holdsOf}
 use borrow.Author.Needs.{needs}
 use mathlib.Core.Path.{_≡_, refl, sym, _∙_}
 use native.Mathlib.Omega.{arith}

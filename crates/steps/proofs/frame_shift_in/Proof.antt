@@ -1,3 +1,4 @@
+-- The frame's own item must have an FL of eight bytes; anything less lacks, on both sides.
 use borrow.Author.Tests.{eq-eqb, ne-eqb}
 use borrow.Author.Needs.{needs}
 use Rattle.node.proofs.Laws as node-laws

@@ -1,3 +1,4 @@
+-- The tests are those of the definition, and fewer than 65,536 bits in whole bytes are at most 8,191 bytes.
 use borrow.Author.Tests.{eq-eqb, ne-eqb, le-leb, lt-leb}
 use native.Mathlib.Omega.{arith}
 use Rattle.steps.proofs.geometry_by.Statement.{statement}

@@ -1,3 +1,4 @@
+-- The four numbers are asked for in turn, the first that is missing lacks, and each is a US.
 use Rattle.steps.specs.Steps.{geometryOf}
 use borrow.Author.Needs.{needs}
 use Rattle.node.proofs.Laws as node-laws

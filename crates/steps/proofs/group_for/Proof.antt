@@ -1,3 +1,4 @@
+-- The frame's own item is searched first, and the shared one only where it has no such group.
 use Rattle.steps.specs.Steps.{groupFor}
 use borrow.Author.Needs.{needs}
 use Rattle.node.proofs.Laws as node-laws

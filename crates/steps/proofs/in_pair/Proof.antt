@@ -1,3 +1,4 @@
+-- The two tests are those of the definition; the second is made only where the first holds.
 use borrow.Author.Tests.{le-leb, lt-leb}
 use mathlib.Core.Path.{refl, sym}
 use Rattle.steps.proofs.Laws as laws

@@ -1,3 +1,4 @@
+-- Two values make a pair: a pair that holds the frame settles it, any other leaves the pairs behind it to decide.
 use Prim.Native.Nat.{_-_, _*_, _/_, _≤_}
 use lib.ListN.{length, drop}
 use Rattle.value.specs.Number.{usValues}

@@ -1,3 +1,4 @@
+-- The value of the CS that is found is judged; where none is found, both sides lack.
 use Rattle.steps.specs.Steps.{inverseOf}
 use borrow.Author.Needs.{needs}
 use Rattle.node.proofs.Laws as node-laws

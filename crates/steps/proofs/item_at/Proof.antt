@@ -1,3 +1,4 @@
+-- Each turn passes one item, so that the item sought is one nearer; where the items end, both sides lack.
 use Prim.Native.Nat.{_-_, _≤_}
 use lib.ListN.{length, drop}
 use Rattle.node.specs.Nodes.{nodesOf, members}

@@ -1,3 +1,4 @@
+-- The VR and the length are those the definition asks for, and the two numbers are read from the same bytes.
 use borrow.Author.Tests.{eq-eqb, ne-eqb}
 use borrow.Author.Needs.{needs}
 use Rattle.steps.proofs.item_shift_at.Statement.{statement}

@@ -1,3 +1,4 @@
+-- Without the element the item has no shift; else the shift is the one read at the node that is found.
 use borrow.Author.Needs.{needs}
 use Rattle.node.proofs.Laws as node-laws
 use Rattle.steps.proofs.item_shift_in.Statement.{statement}

@@ -1,3 +1,4 @@
+-- An item that names another ID leaves the search as it was; one that names the ID, or none, ends it.
 use Prim.Native.Nat.{_-_}
 use Rattle.node.specs.Nodes.{nodesOf, members}
 use Rattle.steps.specs.Steps as steps

@@ -1,3 +1,4 @@
+-- A frame with a shift group of its own looks there; any other frame gets what the shared group names, which is given.
 use Rattle.steps.specs.Steps.{groupFor}
 use Rattle.node.proofs.Laws as node-laws
 use borrow.Author.Needs.{needs}

@@ -1,3 +1,4 @@
+-- Both sides ask for an SS, and a value that is no single number lacks.
 use borrow.Author.Tests.{eq-eqb, ne-eqb}
 use borrow.Author.Needs.{needs}
 use Rattle.steps.proofs.Laws as laws

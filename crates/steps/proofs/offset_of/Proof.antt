@@ -1,3 +1,4 @@
+-- Without the element the offset is 1; else it is the one read at the node that is found.
 use Rattle.steps.specs.Steps.{offsetOf}
 use borrow.Author.Needs.{needs}
 use native.Mathlib.Omega.{arith}

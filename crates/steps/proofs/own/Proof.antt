@@ -1,3 +1,4 @@
+-- A group is looked into; without one nothing is named, and what lacks still lacks.
 use borrow.Author.Needs.{needs}
 use Rattle.steps.proofs.Laws as laws
 use Rattle.steps.proofs.own.Statement.{statement}

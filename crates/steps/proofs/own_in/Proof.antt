@@ -1,3 +1,4 @@
+-- A sequence has items just where the next node does not follow at once, and its items stand between the two.
 use borrow.Author.Tests.{eq-eqb, ne-eqb}
 use Rattle.element.proofs.Every.{members-some, members-none}
 use borrow.Author.Needs.{needs}

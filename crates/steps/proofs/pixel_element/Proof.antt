@@ -1,3 +1,4 @@
+-- The node that is found must be OW or OB, and its value is the pixel bytes.
 use borrow.Author.Tests.{eq-eqb, ne-eqb}
 use Rattle.steps.specs.Steps.{pixelsOf}
 use borrow.Author.Needs.{needs}

@@ -1,3 +1,4 @@
+-- The tests are those of the definition, in its order, and the pairs are read from the same bytes.
 use borrow.Author.Tests.{eq-eqb, ne-eqb, le-leb, lt-leb}
 use borrow.Author.Needs.{needs}
 use Rattle.steps.proofs.range_at.Statement.{statement}

@@ -1,3 +1,4 @@
+-- Without a range every frame is held; else the range at the node that is found decides.
 use Rattle.steps.specs.Steps.{rangeHolds}
 use borrow.Author.Needs.{needs}
 use Rattle.node.proofs.Laws as node-laws

@@ -1,3 +1,4 @@
+-- Without the shared item the step lacks; in it, the search says whether there is a group.
 use borrow.Author.Needs.{needs}
 use Rattle.node.proofs.Laws as node-laws
 use Rattle.steps.proofs.shared_group.Statement.{statement}

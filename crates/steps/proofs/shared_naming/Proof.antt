@@ -1,4 +1,5 @@
-use mathlib.Core.Path.{_≡_, ap, _∙_}
+-- The shared group is found, and the item is looked for in it: the two steps of the definition.
+use mathlib.Core.Path.{ap, _∙_}
 use mathlib.Core.Option.{Option}
 use Rattle.value.specs.declared.Num.{Num}
 use Rattle.node.specs.Nodes.{nodesOf}

@@ -1,3 +1,4 @@
+-- What the frame's group names decides between its own shift and the mask item's, as in the definition.
 use mathlib.Core.Path.{refl}
 use Rattle.steps.proofs.Laws as laws
 use borrow.Author.Needs.{needs}

@@ -1,3 +1,4 @@
+-- What the shared group names is worked out once, and is what `shift_by` asks for.
 use borrow.Author.Needs.{needs}
 use Rattle.steps.proofs.shift_for.Statement.{statement}
 use Rattle.steps.proofs.shift_for.Tie as tie

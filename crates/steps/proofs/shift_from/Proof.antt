@@ -1,3 +1,4 @@
+-- What is named gives the frame's own shift; where nothing is named the mask item's own counts.
 use borrow.Author.Needs.{needs}
 use Rattle.steps.proofs.Laws as laws
 use Rattle.steps.proofs.shift_from.Statement.{statement}

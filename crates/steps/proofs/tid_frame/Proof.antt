@@ -1,5 +1,6 @@
+-- A plus goes back in the frames and a minus forward; both numbers are far too small for the sum to wrap.
 use Rattle.steps.specs.Steps.{tidFrame}
-use Rattle.steps.specs.Said.{signedOf}
+use Rattle.steps.specs.Contracts.{signedOf}
 use borrow.Author.Needs.{needs}
 use native.Mathlib.Omega.{arith}
 use Rattle.steps.proofs.Laws as laws

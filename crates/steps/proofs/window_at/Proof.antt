@@ -1,3 +1,4 @@
+-- The group must have one item, and the window is the one in it.
 use borrow.Author.Needs.{needs}
 use Rattle.node.proofs.Laws as node-laws
 use Rattle.steps.proofs.window_at.Statement.{statement}

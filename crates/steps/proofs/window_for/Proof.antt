@@ -1,5 +1,6 @@
+-- A group gives its window, no group the full one, and what lacks still lacks.
 use Rattle.steps.specs.Steps.{windowFor}
-use Rattle.steps.specs.Said.{foundOf}
+use Rattle.steps.specs.Contracts.{foundOf}
 use borrow.Author.Needs.{needs}
 use Rattle.steps.proofs.Laws as laws
 use Rattle.steps.proofs.window_for.Statement.{statement}

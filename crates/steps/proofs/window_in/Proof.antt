@@ -1,79 +1,58 @@
+-- Centre and width are found in turn, each is read from its first value, and the function comes from the same item.
 use Rattle.node.proofs.Laws as node-laws
 use Rattle.steps.specs.Steps.{windowIn}
 use borrow.Author.Needs.{needs}
 use Rattle.steps.proofs.window_in.Statement.{statement}
 use Rattle.steps.proofs.window_in.Tie as tie
-use Rattle.steps.proofs.window_in.Reads as reads
-use Rattle.steps.proofs.window_in.Lts as lts
-use Rattle.element.proofs.find_vr_item.Reads as find-vr-item-reads
-use Rattle.element.proofs.function_in.Reads as function-in-reads
-use Rattle.node.proofs.value.Reads as value-reads
-use Rattle.steps.proofs.first_decimal.Reads as first-decimal-reads
-use Rattle.steps.proofs.window_of.Reads as window-of-reads
 
--- src/lib.rt:490:22
 find-vr-item-requires : tie.Need-find-vr-item-requires
 find-vr-item-requires c κs = search needs
 
--- src/lib.rt:490:17
 enum-known-c : tie.Need-enum-known-c
 enum-known-c c = search needs
 
--- src/lib.rt:491:9
 enum-told : tie.Need-enum-told
 enum-told c = search needs
 
--- src/lib.rt:491:9
 returns : tie.Need-returns
 unfolding windowIn
 returns c =
     rw (node-laws.lacked (c .enum-told .given .1) (c .before .before .find-vr-item .ensures .0))
 
--- src/lib.rt:493:22
 find-vr-item-requires-2 : tie.Need-find-vr-item-requires-2
 find-vr-item-requires-2 c κs = search needs
 
--- src/lib.rt:493:17
 enum-known-w : tie.Need-enum-known-w
 enum-known-w c = search needs
 
--- src/lib.rt:494:9
 enum-told-2 : tie.Need-enum-told-2
 enum-told-2 c = search needs
 
--- src/lib.rt:494:9
 returns-2 : tie.Need-returns-2
 unfolding windowIn
 returns-2 c =
     rw (node-laws.had (c .before .before .before .before .c .given .1) (c .before .before .before .before .before .before .find-vr-item .ensures .0), node-laws.lacked (c .enum-told2 .given .1) (c .before .before .find-vr-item2 .ensures .0))
 
--- src/lib.rt:496:32
 value-requires : tie.Need-value-requires
 value-requires c κs =
     (c .before .before .before .before .before .before .before .before .before .before .pre .0, node-laws.within _ (c .before .before .before .before .before .c .given .1) (c .before .before .before .before .before .before .before .find-vr-item .ensures .1))
 
--- src/lib.rt:496:9
 first-decimal-requires : tie.Need-first-decimal-requires
 first-decimal-requires c κs = search needs
 
--- src/lib.rt:497:31
 value-requires-2 : tie.Need-value-requires-2
 value-requires-2 c κs =
     (c .before .before .before .before .before .before .before .before .before .before .before .before .pre .0, node-laws.within _ (c .before .before .before .w .given .1) (c .before .before .before .before .before .find-vr-item2 .ensures .1))
 
--- src/lib.rt:497:9
 first-decimal-requires-2 : tie.Need-first-decimal-requires-2
 first-decimal-requires-2 c κs = search needs
 
--- src/lib.rt:498:30
 function-in-requires : tie.Need-function-in-requires
 function-in-requires c κs = search needs
 
--- src/lib.rt:498:5
 window-of-requires : tie.Need-window-of-requires
 window-of-requires c κs = search needs
 
--- src/lib.rt:486:1
 returns-3 : tie.Need-returns-3
 unfolding windowIn
 returns-3 c =

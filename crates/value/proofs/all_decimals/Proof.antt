@@ -1,3 +1,4 @@
+-- A value without the form settles the answer; while each has it, the values that are left decide.
 use mathlib.Core.Path.{_≡_, refl, sym, _∙_}
 use Prim.Native.Nat.{ℕ, _-_, _≤_}
 use native.Mathlib.Omega.{arith}

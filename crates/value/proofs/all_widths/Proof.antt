@@ -1,3 +1,4 @@
+-- A value that is no width settles the answer; while each is one, the values that are left decide.
 use mathlib.Core.Path.{_≡_, refl, sym, _∙_}
 use Prim.Native.Nat.{ℕ, _-_, _≤_}
 use native.Mathlib.Omega.{arith}

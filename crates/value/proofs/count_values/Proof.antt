@@ -1,3 +1,4 @@
+-- Each backslash ends one value and starts the next, so there is one value more than there are backslashes.
 use mathlib.Core.Path.{_≡_}
 use Prim.Native.Nat.{_+_, _-_, _≤_}
 use native.Mathlib.Omega.{arith}

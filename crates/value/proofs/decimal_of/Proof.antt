@@ -1,27 +1,21 @@
-use mathlib.Core.Path.{_≡_, sym, ap, _∙_, subst}
+-- Both sides trim, test the length and read the same size; every size that is read was tested against the limit.
+use mathlib.Core.Path.{_≡_, sym, _∙_, subst}
 use lib.ListN.{length}
 use borrow.Author.Tests.{le-leb, lt-leb}
 use Rattle.value.specs.Text.{trimmed}
 use Rattle.value.specs.Number.{decimalOf, sizeLimit}
-use Rattle.value.specs.Said.{SizeBelow}
+use Rattle.value.specs.Contracts.{SizeBelow}
 use Rattle.value.proofs.Laws as laws
 use borrow.Author.Needs.{needs}
 use Rattle.value.proofs.decimal_of.Statement.{statement}
 use Rattle.value.proofs.decimal_of.Tie as tie
-use Rattle.value.proofs.decimal_of.Reads as reads
-use Rattle.value.proofs.decimal_of.Lts as lts
-use Rattle.value.proofs.signed_size.Reads as signed-size-reads
-use Rattle.value.proofs.trimmed.Reads as trimmed-reads
 
--- src/lib.rt:496:9
 trimmed-requires : tie.Need-trimmed-requires
 trimmed-requires c κs = search needs
 
--- src/lib.rt:497:32
 signed-size-requires : tie.Need-signed-size-requires
 signed-size-requires c κs = search needs
 
--- src/lib.rt:492:1
 returns : tie.Need-returns
 unfolding decimalOf
 returns c =
@@ -29,7 +23,6 @@ returns c =
     let e : c .signed-size .result ≡ decimalOf v = c .signed-size .ensures ∙ rw (c .before .before .trimmed .ensures, le-leb (length (trimmed v)) 16 (rw (c .before .before .trimmed .ensures) at (c .before .if1 .taken))) in
     (e, subst (SizeBelow sizeLimit) (sym e) (laws.decimalOf-below v))
 
--- src/lib.rt:492:1
 returns-2 : tie.Need-returns-2
 unfolding decimalOf
 returns-2 c =

@@ -1,3 +1,4 @@
+-- Reading stops at the limit, at the end or at the first byte that is no digit, and the bound leaves room for each digit that may still come.
 use mathlib.Core.Path.{_≡_, refl, sym, _∙_}
 use Prim.Native.Nat.{_+_, _-_, _*_, _^_, _≤_}
 use native.Mathlib.Omega.{arith}

@@ -1,12 +1,11 @@
-use mathlib.Core.Path.{_≡_, refl, sym, ap, _∙_}
-use Prim.Native.Nat.{ℕ, _*_, _^_, _≤_}
+-- A number is a multiple of 10^(e + 1) just where it is one of 10 and its tenth is one of 10^e.
+use mathlib.Core.Path.{_≡_, refl, sym, _∙_}
+use Prim.Native.Nat.{_^_}
 use native.Mathlib.Omega.{arith}
 use Rattle.value.specs.Number.{wholly}
 use Rattle.value.proofs.Powers as powers
 use Rattle.value.proofs.divided.Statement.{statement}
 use Rattle.value.proofs.divided.Tie as tie
-use Rattle.value.proofs.divided.Reads as reads
-use Rattle.value.proofs.divided.Lts as lts
 
 abbrev Inv-loop : tie.InvT-loop
 Inv-loop m e n₀ left₀ n left =
@@ -16,40 +15,33 @@ abbrev μ-loop : tie.MeasureT-loop
 μ-loop m e n₀ left₀ n left =
     left
 
--- src/lib.rt:375:5
 loop-holds : tie.Need-loop-holds Inv-loop μ-loop
 loop-holds c =
     refl
 
--- src/lib.rt:377:13
 returns : tie.Need-returns Inv-loop μ-loop
 returns c =
     let l = c .before .before .loop in
     sym (sym (l .inv) ∙ powers.no-multiple (l .n) (l .left) (c .before .loop-test .taken) (c .if1 .taken))
 
--- src/lib.rt:380:9
 sub-left : tie.Need-sub-left Inv-loop μ-loop
 sub-left c =
     omega arith
 
--- src/lib.rt:375:5
 loop-less : tie.Need-loop-less Inv-loop μ-loop
 loop-less c =
     omega arith
 
--- src/lib.rt:375:5
 loop-again : tie.Need-loop-again Inv-loop μ-loop
 loop-again c =
     let l = c .before .before .loop in
     sym (powers.shrunk (l .n) (l .left) (c .before .loop-test .taken) (c .if1 .left)) ∙ l .inv
 
--- src/lib.rt:370:1
 returns-2 : tie.Need-returns-2 Inv-loop μ-loop
 returns-2 c =
     let l = c .before .before .loop in
     sym (sym (l .inv) ∙ powers.over-one (l .n) (l .left) (c .before .loop-test .left) ∙ powers.within-is (l .n) (c .if2 .taken))
 
--- src/lib.rt:370:1
 returns-3 : tie.Need-returns-3 Inv-loop μ-loop
 returns-3 c =
     let l = c .before .before .loop in

@@ -1,3 +1,4 @@
+-- No digits, nothing after them, an exponent and any other byte are the four cases of the definition.
 use mathlib.Core.Path.{sym, ap, _∙_}
 use Rattle.value.specs.Number.{scaledBy, exponentOf}
 use Rattle.value.proofs.Forms as forms
@@ -5,63 +6,45 @@ use Rattle.value.proofs.Lists as lists
 use borrow.Author.Needs.{needs}
 use Rattle.value.proofs.end_of.Statement.{statement}
 use Rattle.value.proofs.end_of.Tie as tie
-use Rattle.value.proofs.end_of.Reads as reads
-use Rattle.value.proofs.end_of.Lts as lts
-use Rattle.value.proofs.exact.Reads as exact-reads
-use Rattle.value.proofs.exponent_of.Reads as exponent-of-reads
-use Rattle.value.proofs.is_mark.Reads as is-mark-reads
-use Rattle.value.proofs.scaled.Reads as scaled-reads
 
--- src/lib.rt:433:9
 returns : tie.Need-returns
 returns c =
     sym (forms.end-none (c .before .before .args .count) (c .before .before .args .m) (c .before .before .args .after) (c .before .before .args .s .now) (c .if1 .taken))
 
--- src/lib.rt:436:9
 exact-requires : tie.Need-exact-requires
 exact-requires c κs = search needs
 
--- src/lib.rt:436:9
 returns-2 : tie.Need-returns-2
 returns-2 c =
     c .exact .ensures ∙ sym (forms.end-empty (c .before .before .before .before .args .count) (c .before .before .before .before .args .m) (c .before .before .before .before .args .after) (c .before .before .before .before .args .s .now) (c .before .before .if1 .left) (c .before .if2 .taken))
 
--- src/lib.rt:438:16
 shared-slice-read-is-mark : tie.Need-shared-slice-read-is-mark
 shared-slice-read-is-mark c = search needs
 
--- src/lib.rt:438:8
 is-mark-requires : tie.Need-is-mark-requires
 is-mark-requires c κs = search needs
 
--- src/lib.rt:439:38
 sub-exponent-of : tie.Need-sub-exponent-of
 sub-exponent-of c = search needs
 
--- src/lib.rt:439:38
 part-exponent-of-start : tie.Need-part-exponent-of-start
 part-exponent-of-start c = search needs
 
--- src/lib.rt:439:38
 part-exponent-of-end : tie.Need-part-exponent-of-end
 part-exponent-of-end c = search needs
 
--- src/lib.rt:439:26
 exponent-of-requires : tie.Need-exponent-of-requires
 exponent-of-requires c κs = search needs
 
--- src/lib.rt:439:9
 scaled-requires : tie.Need-scaled-requires
 scaled-requires c κs = search needs
 
--- src/lib.rt:428:1
 returns-3 : tie.Need-returns-3
 returns-3 c =
     c .scaled .ensures
     ∙ ap (scaledBy (c .before .before .before .before .before .before .before .before .before .args .m) (c .before .before .before .before .before .before .before .before .before .args .after)) (c .before .exponent-of .ensures .0 ∙ ap exponentOf (lists.to-end (c .before .before .before .before .before .before .before .before .before .args .s .now) 1))
     ∙ sym (forms.end-mark (c .before .before .before .before .before .before .before .before .before .args .count) (c .before .before .before .before .before .before .before .before .before .args .m) (c .before .before .before .before .before .before .before .before .before .args .after) (c .before .before .before .before .before .before .before .before .before .args .s .now) (c .before .before .before .before .before .before .before .if1 .left) (c .before .before .before .before .before .before .if2 .left) (sym (c .before .before .before .before .is-mark .ensures) ∙ c .before .before .before .if3 .taken))
 
--- src/lib.rt:428:1
 returns-4 : tie.Need-returns-4
 returns-4 c =
     sym (forms.end-other (c .before .before .before .before .before .before .args .count) (c .before .before .before .before .before .before .args .m) (c .before .before .before .before .before .before .args .after) (c .before .before .before .before .before .before .args .s .now) (c .before .before .before .before .if1 .left) (c .before .before .before .if2 .left) (sym (c .before .is-mark .ensures) ∙ c .if3 .left))

@@ -1,3 +1,4 @@
+-- Lists of different lengths differ; lists of one length are equal just where no byte differs.
 use mathlib.Core.Path.{_≡_, refl, sym, _∙_}
 use Prim.Native.Nat.{_-_, _≤_}
 use native.Mathlib.Omega.{arith}

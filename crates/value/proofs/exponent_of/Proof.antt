@@ -1,19 +1,15 @@
+-- The definition is a signed number of up to 16 digits, and 16 digits make a number below 10^16.
 use mathlib.Core.Path.{_≡_, sym, subst}
 use Rattle.value.specs.Number.{exponentOf}
-use Rattle.value.specs.Said.{SizeBelow}
+use Rattle.value.specs.Contracts.{SizeBelow}
 use Rattle.value.proofs.Laws as laws
 use borrow.Author.Needs.{needs}
 use Rattle.value.proofs.exponent_of.Statement.{statement}
 use Rattle.value.proofs.exponent_of.Tie as tie
-use Rattle.value.proofs.exponent_of.Reads as reads
-use Rattle.value.proofs.exponent_of.Lts as lts
-use Rattle.value.proofs.signed_whole.Reads as signed-whole-reads
 
--- src/lib.rt:424:5
 signed-whole-requires : tie.Need-signed-whole-requires
 signed-whole-requires c κs = search needs
 
--- src/lib.rt:421:1
 returns : tie.Need-returns
 unfolding exponentOf
 returns c =

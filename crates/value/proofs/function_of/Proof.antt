@@ -1,41 +1,32 @@
+-- The two words are tried in the order of the definition, and any other word lacks.
 use mathlib.Core.Path.{sym, _∙_}
 use Rattle.value.specs.Words.{functionOf}
 use borrow.Author.Needs.{needs}
 use Rattle.value.proofs.function_of.Statement.{statement}
 use Rattle.value.proofs.function_of.Tie as tie
-use Rattle.value.proofs.function_of.Reads as reads
-use Rattle.value.proofs.function_of.Lts as lts
-use Rattle.value.proofs.is_word.Reads as is-word-reads
 
--- src/lib.rt:214:19
 slice-aggregate-is-word : tie.Need-slice-aggregate-is-word
 slice-aggregate-is-word c = search needs
 
--- src/lib.rt:214:8
 is-word-requires : tie.Need-is-word-requires
 is-word-requires c κs = search needs
 
--- src/lib.rt:217:23
 slice-aggregate-is-word-2 : tie.Need-slice-aggregate-is-word-2
 slice-aggregate-is-word-2 c = search needs
 
--- src/lib.rt:217:12
 is-word-requires-2 : tie.Need-is-word-requires-2
 is-word-requires-2 c κs = search needs
 
--- src/lib.rt:211:1
 returns : tie.Need-returns
 unfolding functionOf
 returns c =
     rw (sym (c .before .is-word .ensures) ∙ c .if1 .taken)
 
--- src/lib.rt:211:1
 returns-2 : tie.Need-returns-2
 unfolding functionOf
 returns-2 c =
     rw (sym (c .before .before .before .before .is-word .ensures) ∙ c .before .before .before .if1 .left, sym (c .before .is-word2 .ensures) ∙ c .if2 .taken)
 
--- src/lib.rt:211:1
 returns-3 : tie.Need-returns-3
 unfolding functionOf
 returns-3 c =

@@ -1,15 +1,12 @@
+-- The two tests are for the two letters of the definition.
 use borrow.Author.Tests.{eq-eqb, ne-eqb}
 use Rattle.value.proofs.is_mark.Statement.{statement}
 use Rattle.value.proofs.is_mark.Tie as tie
-use Rattle.value.proofs.is_mark.Reads as reads
-use Rattle.value.proofs.is_mark.Lts as lts
 
--- src/lib.rt:414:1
 returns : tie.Need-returns
 returns c =
     rw (eq-eqb (c .before .args .b) 0x45 (c .if1 .taken))
 
--- src/lib.rt:414:1
 returns-2 : tie.Need-returns-2
 returns-2 c =
     rw (ne-eqb (c .before .args .b) 0x45 (c .if1 .left))

@@ -1,3 +1,4 @@
+-- The values that are counted are those of the definition.
 use borrow.Author.Needs.{needs}
 use Rattle.value.proofs.is_single.Statement.{statement}
 use Rattle.value.proofs.is_single.Tie as tie

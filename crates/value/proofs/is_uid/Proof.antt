@@ -1,3 +1,4 @@
+-- Several values are no UID; a single one is compared without the zero bytes behind it, as the definition has it.
 use Rattle.value.specs.Words.{isUid}
 use borrow.Author.Needs.{needs}
 use Rattle.value.proofs.is_uid.Statement.{statement}

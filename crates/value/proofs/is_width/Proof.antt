@@ -1,3 +1,4 @@
+-- Only a number without a minus can be a width, and it is compared with the least one.
 use borrow.Author.Needs.{needs}
 use Rattle.value.proofs.is_width.Statement.{statement}
 use Rattle.value.proofs.is_width.Tie as tie

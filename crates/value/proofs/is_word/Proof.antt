@@ -1,3 +1,4 @@
+-- Several values are no word; a single one is compared as the definition has it.
 use Rattle.value.specs.Words.{isWord}
 use borrow.Author.Needs.{needs}
 use Rattle.value.proofs.is_word.Statement.{statement}

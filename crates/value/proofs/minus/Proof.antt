@@ -1,3 +1,4 @@
+-- A number takes the sign; where there is none, none is made.
 use borrow.Author.Needs.{needs}
 use Rattle.value.proofs.minus.Statement.{statement}
 use Rattle.value.proofs.minus.Tie as tie

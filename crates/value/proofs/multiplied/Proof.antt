@@ -1,12 +1,11 @@
+-- n · 10^left stays m · 10^e, and what has reached the limit only grows; below the limit ten times n fits.
 use mathlib.Core.Path.{_≡_, refl, sym, ap, _∙_}
-use Prim.Native.Nat.{ℕ, _*_, _^_, _≤_}
+use Prim.Native.Nat.{_*_, _^_, _≤_}
 use native.Mathlib.Omega.{arith}
-use Rattle.value.specs.Number.{within}
+use Rattle.value.specs.Number.{ifSmall}
 use Rattle.value.proofs.Powers as powers
 use Rattle.value.proofs.multiplied.Statement.{statement}
 use Rattle.value.proofs.multiplied.Tie as tie
-use Rattle.value.proofs.multiplied.Reads as reads
-use Rattle.value.proofs.multiplied.Lts as lts
 
 abbrev Inv-loop : tie.InvT-loop
 Inv-loop m e n₀ left₀ n left =
@@ -16,49 +15,41 @@ abbrev μ-loop : tie.MeasureT-loop
 μ-loop m e n₀ left₀ n left =
     left
 
--- src/lib.rt:359:5
 loop-holds : tie.Need-loop-holds Inv-loop μ-loop
 loop-holds c =
     (refl, omega arith)
 
--- src/lib.rt:361:13
 returns : tie.Need-returns Inv-loop μ-loop
 returns c =
     let l = c .before .before .loop in
-    sym (ap within (sym (l .inv .0)) ∙ powers.too-large (l .n) (l .left) (c .if1 .taken))
+    sym (ap ifSmall (sym (l .inv .0)) ∙ powers.too-large (l .n) (l .left) (c .if1 .taken))
 
--- src/lib.rt:363:13
 mul-n : tie.Need-mul-n Inv-loop μ-loop
 mul-n c =
     omega arith
 
--- src/lib.rt:364:9
 sub-left : tie.Need-sub-left Inv-loop μ-loop
 sub-left c =
     omega arith
 
--- src/lib.rt:359:5
 loop-less : tie.Need-loop-less Inv-loop μ-loop
 loop-less c =
     omega arith
 
--- src/lib.rt:359:5
 loop-again : tie.Need-loop-again Inv-loop μ-loop
 loop-again c =
     let l = c .before .before .loop in
     (powers.grown (l .n) (l .left) (c .before .loop-test .taken) ∙ l .inv .0, omega (arith, c .if1 .left))
 
--- src/lib.rt:353:1
 returns-2 : tie.Need-returns-2 Inv-loop μ-loop
 returns-2 c =
     let l = c .before .before .loop in
-    sym (ap within (sym (l .inv .0) ∙ powers.times-one (l .n) (l .left) (c .before .loop-test .left)) ∙ powers.within-is (l .n) (c .if2 .taken))
+    sym (ap ifSmall (sym (l .inv .0) ∙ powers.times-one (l .n) (l .left) (c .before .loop-test .left)) ∙ powers.within-is (l .n) (c .if2 .taken))
 
--- src/lib.rt:353:1
 returns-3 : tie.Need-returns-3 Inv-loop μ-loop
 returns-3 c =
     let l = c .before .before .loop in
-    sym (ap within (sym (l .inv .0) ∙ powers.times-one (l .n) (l .left) (c .before .loop-test .left)) ∙ powers.within-large (l .n) (c .if2 .left))
+    sym (ap ifSmall (sym (l .inv .0) ∙ powers.times-one (l .n) (l .left) (c .before .loop-test .left)) ∙ powers.within-large (l .n) (c .if2 .left))
 
 pub multiplied-spec : {M : Type 1} → statement M
 multiplied-spec =

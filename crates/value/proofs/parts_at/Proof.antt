@@ -1,3 +1,4 @@
+-- The test for a backslash is that of the definition.
 use native.Mathlib.Omega.{arith}
 use borrow.Author.Tests.{eq-eqb, ne-eqb}
 use Rattle.value.proofs.parts_at.Statement.{statement}

@@ -1,3 +1,4 @@
+-- After the digits there is nothing, a point or another byte, as in the definition; 16 characters make no number that does not fit.
 use mathlib.Core.Path.{sym, ap, _∙_}
 use Prim.Native.Nat.{ℕ, _+_}
 use mathlib.Core.List.{List}
@@ -9,92 +10,69 @@ use Rattle.value.proofs.Lists as lists
 use borrow.Author.Needs.{needs}
 use Rattle.value.proofs.size_of.Statement.{statement}
 use Rattle.value.proofs.size_of.Tie as tie
-use Rattle.value.proofs.size_of.Reads as reads
-use Rattle.value.proofs.size_of.Lts as lts
-use Rattle.value.proofs.digits.Reads as digits-reads
-use Rattle.value.proofs.end_of.Reads as end-of-reads
-use Rattle.value.proofs.point_of.Reads as point-of-reads
 
--- src/lib.rt:460:9
 digits-requires : tie.Need-digits-requires
 digits-requires c κs =
     forms.run-fits _ (c .before .pre)
 
--- src/lib.rt:463:16
 sub-end-of : tie.Need-sub-end-of
 sub-end-of c = search needs
 
--- src/lib.rt:463:16
 part-end-of-start : tie.Need-part-end-of-start
 part-end-of-start c = search needs
 
--- src/lib.rt:463:16
 part-end-of-end : tie.Need-part-end-of-end
 part-end-of-end c = search needs
 
--- src/lib.rt:463:9
 end-of-requires : tie.Need-end-of-requires
 end-of-requires c κs =
     (forms.number-fits 0 (c .before .before .before .before .args .s .now) (c .before .before .digits .result) (c .before .before .digits .ensures) (forms.run-fits _ (c .before .before .before .before .pre)), omega arith)
 
--- src/lib.rt:465:12
 shared-slice-read-if2 : tie.Need-shared-slice-read-if2
 shared-slice-read-if2 c = search needs
 
--- src/lib.rt:466:25
 add-after : tie.Need-add-after
 add-after c = search needs
 
--- src/lib.rt:467:22
 sub-point-of : tie.Need-sub-point-of
 sub-point-of c = search needs
 
--- src/lib.rt:467:22
 part-point-of-start : tie.Need-part-point-of-start
 part-point-of-start c = search needs
 
--- src/lib.rt:467:22
 part-point-of-end : tie.Need-part-point-of-end
 part-point-of-end c = search needs
 
--- src/lib.rt:467:13
 point-of-requires : tie.Need-point-of-requires
 point-of-requires c κs =
     let e = ap length (lists.to-end (c .before .before .before .before .before .before .args .s .now) (c .before .before .before .before .digits .result .count + 1)) ∙ length-drop (c .before .before .before .before .digits .result .count + 1) (c .before .before .before .before .before .before .args .s .now) in
     (omega (arith, e, c .before .before .before .before .before .before .pre), forms.point-fits (c .before .before .before .before .before .before .args .s .now) (c .before .before .before .before .digits .result) (c .before .before .before .before .digits .ensures) (c .before .before .before .before .before .before .pre) _ (omega (arith, e, c .before .before .before .if1 .left, c .before .before .before .before .digits .ensures .within)))
 
--- src/lib.rt:469:20
 sub-end-of-2 : tie.Need-sub-end-of-2
 sub-end-of-2 c = search needs
 
--- src/lib.rt:469:20
 part-end-of-start-2 : tie.Need-part-end-of-start-2
 part-end-of-start-2 c = search needs
 
--- src/lib.rt:469:20
 part-end-of-end-2 : tie.Need-part-end-of-end-2
 part-end-of-end-2 c = search needs
 
--- src/lib.rt:469:13
 end-of-requires-2 : tie.Need-end-of-requires-2
 end-of-requires-2 c κs =
     (forms.number-fits 0 (c .before .before .before .before .before .before .args .s .now) (c .before .before .before .before .digits .result) (c .before .before .before .before .digits .ensures) (forms.run-fits _ (c .before .before .before .before .before .before .pre)), omega arith)
 
--- src/lib.rt:456:1
 returns : tie.Need-returns
 returns c =
     c .end-of .ensures
     ∙ ap (λ (l : List ℕ). endOf (c .before .before .before .digits .result .count) (c .before .before .before .digits .result .number) 0 l) (lists.to-end (c .before .before .before .before .before .args .s .now) (c .before .before .before .digits .result .count))
     ∙ sym (forms.size-end (c .before .before .before .before .before .args .s .now) (c .before .before .before .digits .result) (c .before .before .before .digits .ensures) (c .before .before .if1 .taken))
 
--- src/lib.rt:456:1
 returns-2 : tie.Need-returns-2
 returns-2 c =
     c .point-of .ensures
     ∙ ap (λ (l : List ℕ). pointBy (c .before .before .before .before .before .digits .result .count) (runOf (c .before .before .before .before .before .digits .result .number) l)) (lists.to-end (c .before .before .before .before .before .before .before .args .s .now) (c .before .before .before .before .before .digits .result .count + 1))
     ∙ sym (forms.size-point (c .before .before .before .before .before .before .before .args .s .now) (c .before .before .before .before .before .digits .result) (c .before .before .before .before .before .digits .ensures) (c .before .before .before .before .if1 .left) (c .before .before .if2 .taken))
 
--- src/lib.rt:456:1
 returns-3 : tie.Need-returns-3
 returns-3 c =
     c .end-of2 .ensures

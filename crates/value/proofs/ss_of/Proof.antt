@@ -1,3 +1,4 @@
+-- Two bytes are below 65,536: the lower half stands for itself, the upper half for what it lacks to 65,536.
 use native.Mathlib.Omega.{arith}
 use borrow.Author.Tests.{eq-eqb, ne-eqb, lt-ltb, le-ltb}
 use Rattle.value.specs.Number.{ssOf}

@@ -1,10 +1,10 @@
-use lib.Seq.{length-take-le}
+-- Dropping a last byte b changes nothing, and once the last byte is another there is nothing to drop.
+use lib.Seq.{length-take-le, take-length}
 use mathlib.Core.Path.{_≡_, sym, ap, _∙_}
 use Prim.Native.Nat.{_≤_}
 use native.Mathlib.Omega.{arith}
 use borrow.Author.Needs.{needs}
 use lib.ListN.{length, take}
-use lib.Seq.{take-length}
 use Rattle.value.specs.Text.{trimEnd}
 use Rattle.value.proofs.Lists as lists
 use Rattle.value.proofs.trim_end.Statement.{statement}

@@ -1,3 +1,4 @@
+-- Dropping a first byte b changes nothing, and once the first byte is another there is nothing to drop.
 use mathlib.Core.Path.{_≡_, refl, sym, _∙_}
 use Prim.Native.Nat.{_-_}
 use borrow.Author.Needs.{needs}

@@ -1,3 +1,4 @@
+-- Trimming behind, then in front, is the definition.
 use mathlib.Core.Path.{ap, _∙_}
 use Rattle.value.specs.Text.{trimStart}
 use borrow.Author.Needs.{needs}

@@ -1,3 +1,4 @@
+-- Two bytes are one number below 65,536; any other length is no single US.
 use borrow.Author.Tests.{eq-eqb, ne-eqb}
 use Rattle.value.specs.Number.{usOf}
 use borrow.Author.Needs.{needs}

@@ -1,3 +1,4 @@
+-- Each value takes two bytes, so value k stands at byte 2k.
 use mathlib.Core.Path.{sym, _∙_}
 use Rattle.value.proofs.Laws as laws
 use borrow.Author.Needs.{needs}

@@ -1,3 +1,4 @@
+-- Each byte that is no backslash makes the value one byte longer; a backslash or the end closes it.
 use mathlib.Core.Path.{_≡_, refl}
 use Prim.Native.Nat.{_+_, _-_}
 use native.Mathlib.Omega.{arith}

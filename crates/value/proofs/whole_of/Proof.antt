@@ -1,3 +1,4 @@
+-- At least one digit and nothing after them make a number; at most 16 digits keep it below 10^16.
 use mathlib.Core.Path.{sym}
 use Rattle.value.proofs.Forms as forms
 use native.Mathlib.Omega.{arith}

@@ -1,3 +1,4 @@
+-- Parting, trimming and comparing are the steps of the definition.
 use Rattle.value.specs.Words.{wordAt}
 use borrow.Author.Needs.{needs}
 use Rattle.value.proofs.word_at.Statement.{statement}

@@ -1,3 +1,4 @@
+-- A width of 2^stored, up to 65,536, is at least 1 and below a million, so the window can be drawn.
 use mathlib.Core.Path.{refl}
 use Prim.Native.Nat.{_*_}
 use native.Mathlib.Omega.{arith}

@@ -1,86 +1,66 @@
-use mathlib.Core.Path.{_≡_, sym, ap, _∙_}
+-- Each term stands on the side where it is not negative, so that up - down is 2ux - 2C + W without a negative number.
+use mathlib.Core.Path.{sym, ap, _∙_}
 use Prim.Native.Nat.{ℕ, _+_, _-_, _*_}
 use native.Mathlib.Omega.{arith}
 use mathlib.Core.Option.{some}
 use lib.IntN.{pos}
 use Rattle.value.specs.Number.{unit}
-use Rattle.window.specs.Said.{above, rampOf}
+use Rattle.window.specs.Contracts.{above, rampOf}
 use Rattle.window.proofs.Gaps.{gap}
 use Rattle.window.proofs.Laws.{sizes, window-none, window-ramp}
 use borrow.Author.Needs.{needs}
 use Rattle.window.proofs.level.Statement.{statement}
 use Rattle.window.proofs.level.Tie as tie
-use Rattle.window.proofs.level.Reads as reads
-use Rattle.window.proofs.level.Lts as lts
-use Rattle.window.proofs.above.Reads as above-reads
-use Rattle.window.proofs.below.Reads as below-reads
-use Rattle.window.proofs.ramp.Reads as ramp-reads
-use Rattle.window.proofs.taken_off.Reads as taken-off-reads
 
--- src/lib.rt:73:9
 above-requires : tie.Need-above-requires
 above-requires c κs = search needs
 
--- src/lib.rt:74:9
 taken-off-requires : tie.Need-taken-off-requires
 taken-off-requires c κs = search needs
 
--- src/lib.rt:75:14
 mul-up : tie.Need-mul-up
 mul-up c = search needs
 
--- src/lib.rt:75:14
 mul-up-2 : tie.Need-mul-up-2
 mul-up-2 c = search needs
 
--- src/lib.rt:75:43
 below-requires : tie.Need-below-requires
 below-requires c κs = search needs
 
--- src/lib.rt:75:39
 mul-up-3 : tie.Need-mul-up-3
 mul-up-3 c =
     omega (arith, sizes (c .before .before .before .args .window) (c .before .before .before .pre .0) .low)
 
--- src/lib.rt:75:14
 add-up : tie.Need-add-up
 add-up c =
     omega (arith, sizes (c .before .before .before .args .window) (c .before .before .before .pre .0) .low)
 
--- src/lib.rt:75:14
 add-up-2 : tie.Need-add-up-2
 add-up-2 c =
     omega (arith, sizes (c .before .before .before .args .window) (c .before .before .before .pre .0) .low, sizes (c .before .before .before .args .window) (c .before .before .before .pre .0) .narrow)
 
--- src/lib.rt:76:16
 mul-down : tie.Need-mul-down
 mul-down c = search needs
 
--- src/lib.rt:76:16
 mul-down-2 : tie.Need-mul-down-2
 mul-down-2 c = search needs
 
--- src/lib.rt:76:46
 above-requires-2 : tie.Need-above-requires-2
 above-requires-2 c κs = search needs
 
--- src/lib.rt:76:42
 mul-down-3 : tie.Need-mul-down-3
 mul-down-3 c =
     omega (arith, sizes (c .before .before .before .before .args .window) (c .before .before .before .before .pre .0) .high)
 
--- src/lib.rt:76:16
 add-down : tie.Need-add-down
 add-down c =
     omega (arith, sizes (c .before .before .before .before .args .window) (c .before .before .before .before .pre .0) .high)
 
--- src/lib.rt:77:32
 ramp-requires : tie.Need-ramp-requires
 ramp-requires c κs =
     let s = sizes (c .before .before .before .before .before .args .window) (c .before .before .before .before .before .pre .0) in
     omega (arith, s .widths .wide, s .narrow, s .high, s .low, c .before .before .before .taken-off .ensures .0, c .before .before .before .taken-off .ensures .1)
 
--- src/lib.rt:66:1
 returns : tie.Need-returns
 returns c =
     let a = c .before .before .before .before .before .args in
@@ -89,7 +69,6 @@ returns c =
     let n = 2 * unit * a .minus + 2 * c .before .above2 .result in
     (sym (window-none (a .window) (s .widths) (gap (a .plus) (a .minus)) u n (omega arith) (omega arith) (c .if1 .taken)), omega arith)
 
--- src/lib.rt:66:1
 returns-2 : tie.Need-returns-2
 returns-2 c =
     let a = c .before .before .before .before .before .before .args in

@@ -1,3 +1,4 @@
+-- Each turn fills one place with the shade of its own x, and leaves the places before it.
 use lib.IntN.{pos, _-ℤ_}
 use Rattle.window.specs.Window.{levelOf, shaded}
 use mathlib.Core.Path.{_≡_, ap, _∙_, subst}
@@ -5,7 +6,7 @@ use native.Mathlib.Omega.{arith}
 use borrow.Author.Needs.{needs}
 use Rattle.window.proofs.Laws.{filled-more, power-small}
 use Prim.Native.Nat.{ℕ, _+_, _-_, _^_, _≤_}
-use Rattle.window.specs.Said.{Filled, number, shadeAt}
+use Rattle.window.specs.Contracts.{Filled, number, shadeAt}
 use Rattle.window.proofs.levels.Statement.{statement}
 use Rattle.window.proofs.levels.Tie as tie
 

@@ -1,3 +1,4 @@
+-- Each turn doubles, and 2^17 is far from wrapping.
 use mathlib.Core.Path.{_≡_, refl, ap, _∙_}
 use Prim.Native.Nat.{ℕ, _-_, _^_, _≤_}
 use native.Mathlib.Nat.{one-le-pow}

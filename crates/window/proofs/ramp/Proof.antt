@@ -1,7 +1,8 @@
-use Prim.Native.Nat.{ℕ, _+_, _-_, _*_, _<_}
+-- Up to the top of the ramp the quotient is at most 255, and the bounds keep every product from wrapping.
+use Prim.Native.Nat.{_+_, _-_, _*_, _<_}
 use native.Mathlib.Omega.{arith}
 use borrow.Author.Tests.{lt-ltb, le-ltb}
-use Rattle.window.specs.Said.{rampOf}
+use Rattle.window.specs.Contracts.{rampOf}
 use Rattle.window.proofs.Laws.{quotient-small}
 use borrow.Author.Needs.{needs}
 use Rattle.window.proofs.ramp.Statement.{statement}

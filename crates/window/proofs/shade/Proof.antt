@@ -1,3 +1,4 @@
+-- A level is at most 255, so what it lacks to 255 fits a byte too.
 use mathlib.Core.Bool.{true, false}
 use Rattle.window.proofs.Laws.{shaded-is}
 use borrow.Author.Needs.{needs}

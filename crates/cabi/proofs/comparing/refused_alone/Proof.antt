@@ -1,7 +1,7 @@
+-- Every number beside the code is 0, as in the definition.
 use Rattle.cabi.specs.declared.Answer.{Answer}
 use Rattle.cabi.specs.declared.comparing.Compared.{Compared}
-use mathlib.Core.Path.{_≡_, refl, sym, ap, _∙_, subst}
-use native.Mathlib.Omega.{arith}
+use mathlib.Core.Path.{ap}
 use borrow.Author.Needs.{needs}
 use Rattle.cabi.proofs.comparing.refused_alone.Statement.{statement}
 use Rattle.cabi.proofs.comparing.refused_alone.Tie as tie

@@ -1,4 +1,5 @@
-use mathlib.Core.Path.{_≡_, ap, sym, _∙_}
+-- The answer is that of `compare`, case by case; its numbers fit 32 bits since those of every answer are small.
+use mathlib.Core.Path.{ap, sym, _∙_}
 use native.Mathlib.Omega.{arith}
 use Rattle.compare.specs.declared.CompareAnswer.{CompareAnswer}
 use Rattle.compare.specs.Answer.{fieldsOf}
@@ -7,181 +8,135 @@ use Rattle.cabi.proofs.Differences.{compare-narrow}
 use borrow.Author.Needs.{needs}
 use Rattle.cabi.proofs.comparing.xa_compare.Statement.{statement}
 use Rattle.cabi.proofs.comparing.xa_compare.Tie as tie
-use Rattle.cabi.proofs.comparing.xa_compare.Reads as reads
-use Rattle.cabi.proofs.comparing.xa_compare.Lts as lts
-use Rattle.cabi.proofs.broken_at.Reads as broken-at-reads
-use Rattle.cabi.proofs.comparing.refused_alone.Reads as refused-alone-reads
-use Rattle.cabi.proofs.done_with.Reads as done-with-reads
-use Rattle.cabi.proofs.refused_at.Reads as refused-at-reads
-use Rattle.compare.proofs.compare.Reads as compare-reads
 
--- src/comparing.rt:50:11
 compare-requires : tie.Need-compare-requires
 compare-requires c κs = search needs
 
--- src/comparing.rt:51:29
 enum-known-n : tie.Need-enum-known-n
 enum-known-n c = search needs
 
--- src/comparing.rt:52:21
 done-with-requires : tie.Need-done-with-requires
 done-with-requires c κs =
     compare-narrow _ (λ i. omega (arith, c .before .before .before .before .before .before .before .before .before .shared-slice-known .given i)) _ _ _ _ (c .before .before .before .before .before .compare .ensures .0 .same) (c .before .n .given .1) .answer
 
--- src/comparing.rt:57:32
 enum-known-n-2 : tie.Need-enum-known-n-2
 enum-known-n-2 c = search needs
 
--- src/comparing.rt:58:21
 done-with-requires-2 : tie.Need-done-with-requires-2
 done-with-requires-2 c κs =
     compare-narrow _ (λ i. omega (arith, c .before .before .before .before .before .before .before .before .before .shared-slice-known .given i)) _ _ _ _ (c .before .before .before .before .before .compare .ensures .0 .same) (c .before .n2 .given .1) .answer
 
--- src/comparing.rt:60:20
 cast-t21 : tie.Need-cast-t21
 cast-t21 c =
     record { fits = omega (arith, compare-narrow _ (λ i. omega (arith, c .before .before .before .before .before .before .before .before .before .before .shared-slice-known .given i)) _ _ _ _ (c .before .before .before .before .before .before .compare .ensures .0 .same) (c .before .before .n2 .given .1) .first) }
 
--- src/comparing.rt:61:20
 cast-t22 : tie.Need-cast-t22
 cast-t22 c =
     record { fits = omega (arith, compare-narrow _ (λ i. omega (arith, c .before .before .before .before .before .before .before .before .before .before .shared-slice-known .given i)) _ _ _ _ (c .before .before .before .before .before .before .compare .ensures .0 .same) (c .before .before .n2 .given .1) .count) }
 
--- src/comparing.rt:63:31
 enum-known-n-3 : tie.Need-enum-known-n-3
 enum-known-n-3 c = search needs
 
--- src/comparing.rt:64:21
 broken-at-requires : tie.Need-broken-at-requires
 broken-at-requires c κs =
     compare-narrow _ (λ i. omega (arith, c .before .before .before .before .before .before .before .before .before .shared-slice-known .given i)) _ _ _ _ (c .before .before .before .before .before .compare .ensures .0 .same) (c .before .n3 .given .1) .answer
 
--- src/comparing.rt:69:32
 enum-known-code : tie.Need-enum-known-code
 enum-known-code c = search needs
 
--- src/comparing.rt:70:21
 refused-at-requires : tie.Need-refused-at-requires
 refused-at-requires c κs =
     compare-narrow _ (λ i. omega (arith, c .before .before .before .before .before .before .before .before .before .shared-slice-known .given i)) _ _ _ _ (c .before .before .before .before .before .compare .ensures .0 .same) (c .before .code .given .1) .answer
 
--- src/comparing.rt:75:36
 enum-told : tie.Need-enum-told
 enum-told c = search needs
 
--- src/comparing.rt:75:36
 refused-alone-requires : tie.Need-refused-alone-requires
 refused-alone-requires c κs = search needs
 
--- src/comparing.rt:76:34
 enum-told-2 : tie.Need-enum-told-2
 enum-told-2 c = search needs
 
--- src/comparing.rt:76:34
 refused-alone-requires-2 : tie.Need-refused-alone-requires-2
 refused-alone-requires-2 c κs = search needs
 
--- src/comparing.rt:77:35
 enum-told-3 : tie.Need-enum-told-3
 enum-told-3 c = search needs
 
--- src/comparing.rt:77:35
 refused-alone-requires-3 : tie.Need-refused-alone-requires-3
 refused-alone-requires-3 c κs = search needs
 
--- src/comparing.rt:78:37
 enum-told-4 : tie.Need-enum-told-4
 enum-told-4 c = search needs
 
--- src/comparing.rt:78:37
 refused-alone-requires-4 : tie.Need-refused-alone-requires-4
 refused-alone-requires-4 c κs = search needs
 
--- src/comparing.rt:79:42
 enum-told-5 : tie.Need-enum-told-5
 enum-told-5 c = search needs
 
--- src/comparing.rt:79:42
 refused-alone-requires-5 : tie.Need-refused-alone-requires-5
 refused-alone-requires-5 c κs = search needs
 
--- src/comparing.rt:39:1
 same-length : tie.Need-same-length
 same-length c = search needs
 
--- src/comparing.rt:39:1
 returns : tie.Need-returns
 returns c =
     (rw (c .done-with .ensures) (ap (λ (a : CompareAnswer). comparedOf (fieldsOf a)) (sym (c .before .before .n .given .1) ∙ c .before .before .before .before .before .before .compare .ensures .0 .same)), c .before .before .before .before .before .before .compare .ensures .1)
 
--- src/comparing.rt:39:1
 same-length-2 : tie.Need-same-length-2
 same-length-2 c = search needs
 
--- src/comparing.rt:39:1
 returns-2 : tie.Need-returns-2
 returns-2 c =
     (rw (c .done-with2 .ensures) (ap (λ (a : CompareAnswer). comparedOf (fieldsOf a)) (sym (c .before .before .n2 .given .1) ∙ c .before .before .before .before .before .before .compare .ensures .0 .same)), c .before .before .before .before .before .before .compare .ensures .1)
 
--- src/comparing.rt:39:1
 same-length-3 : tie.Need-same-length-3
 same-length-3 c = search needs
 
--- src/comparing.rt:39:1
 returns-3 : tie.Need-returns-3
 returns-3 c =
     (rw (c .broken-at .ensures) (ap (λ (a : CompareAnswer). comparedOf (fieldsOf a)) (sym (c .before .before .n3 .given .1) ∙ c .before .before .before .before .before .before .compare .ensures .0 .same)), c .before .before .before .before .before .before .compare .ensures .1)
 
--- src/comparing.rt:39:1
 same-length-4 : tie.Need-same-length-4
 same-length-4 c = search needs
 
--- src/comparing.rt:39:1
 returns-4 : tie.Need-returns-4
 returns-4 c =
     (rw (c .refused-at .ensures) (ap (λ (a : CompareAnswer). comparedOf (fieldsOf a)) (sym (c .before .before .code .given .1) ∙ c .before .before .before .before .before .before .compare .ensures .0 .same)), c .before .before .before .before .before .before .compare .ensures .1)
 
--- src/comparing.rt:39:1
 same-length-5 : tie.Need-same-length-5
 same-length-5 c = search needs
 
--- src/comparing.rt:39:1
 returns-5 : tie.Need-returns-5
 returns-5 c =
     (rw (c .refused-alone .ensures) (ap (λ (a : CompareAnswer). comparedOf (fieldsOf a)) (sym (c .before .enum-told .given .1) ∙ c .before .before .before .before .before .compare .ensures .0 .same)), c .before .before .before .before .before .compare .ensures .1)
 
--- src/comparing.rt:39:1
 same-length-6 : tie.Need-same-length-6
 same-length-6 c = search needs
 
--- src/comparing.rt:39:1
 returns-6 : tie.Need-returns-6
 returns-6 c =
     (rw (c .refused-alone2 .ensures) (ap (λ (a : CompareAnswer). comparedOf (fieldsOf a)) (sym (c .before .enum-told2 .given .1) ∙ c .before .before .before .before .before .compare .ensures .0 .same)), c .before .before .before .before .before .compare .ensures .1)
 
--- src/comparing.rt:39:1
 same-length-7 : tie.Need-same-length-7
 same-length-7 c = search needs
 
--- src/comparing.rt:39:1
 returns-7 : tie.Need-returns-7
 returns-7 c =
     (rw (c .refused-alone3 .ensures) (ap (λ (a : CompareAnswer). comparedOf (fieldsOf a)) (sym (c .before .enum-told3 .given .1) ∙ c .before .before .before .before .before .compare .ensures .0 .same)), c .before .before .before .before .before .compare .ensures .1)
 
--- src/comparing.rt:39:1
 same-length-8 : tie.Need-same-length-8
 same-length-8 c = search needs
 
--- src/comparing.rt:39:1
 returns-8 : tie.Need-returns-8
 returns-8 c =
     (rw (c .refused-alone4 .ensures) (ap (λ (a : CompareAnswer). comparedOf (fieldsOf a)) (sym (c .before .enum-told4 .given .1) ∙ c .before .before .before .before .before .compare .ensures .0 .same)), c .before .before .before .before .before .compare .ensures .1)
 
--- src/comparing.rt:39:1
 same-length-9 : tie.Need-same-length-9
 same-length-9 c = search needs
 
--- src/comparing.rt:39:1
 returns-9 : tie.Need-returns-9
 returns-9 c =
     (rw (c .refused-alone5 .ensures) (ap (λ (a : CompareAnswer). comparedOf (fieldsOf a)) (sym (c .before .enum-told5 .given .1) ∙ c .before .before .before .before .before .compare .ensures .0 .same)), c .before .before .before .before .before .compare .ensures .1)

@@ -6,10 +6,6 @@ use Rattle.cabi.specs.Host.{hosted, Fits32}
 use borrow.Author.Needs.{needs}
 use Rattle.cabi.proofs.files.judge_file_numbers.Statement.{statement}
 use Rattle.cabi.proofs.files.judge_file_numbers.Tie as tie
-use Rattle.cabi.proofs.files.judge_file_numbers.Reads as reads
-use Rattle.cabi.proofs.files.judge_file_numbers.Lts as lts
-use Rattle.cabi.proofs.code_alone.Reads as code-alone-reads
-use Rattle.cabi.proofs.judge.judge_numbers.Reads as judge-numbers-reads
 
 enum-known-answer : tie.Need-enum-known-answer
 enum-known-answer c = search needs

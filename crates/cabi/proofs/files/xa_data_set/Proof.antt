@@ -1,3 +1,4 @@
+-- The answer is that of `start_of`, case by case.
 use mathlib.Core.Path.{ap, sym, _∙_}
 use Rattle.file.specs.declared.Start.{Start}
 use Rattle.file.specs.File.{startFields}
@@ -5,46 +6,34 @@ use Rattle.cabi.specs.Host.{partOf}
 use borrow.Author.Needs.{needs}
 use Rattle.cabi.proofs.files.xa_data_set.Statement.{statement}
 use Rattle.cabi.proofs.files.xa_data_set.Tie as tie
-use Rattle.cabi.proofs.files.xa_data_set.Reads as reads
-use Rattle.cabi.proofs.files.xa_data_set.Lts as lts
-use Rattle.file.proofs.start_of.Reads as start-of-reads
 
--- src/files.rt:27:11
 start-of-requires : tie.Need-start-of-requires
 start-of-requires c κs = search needs
 
--- src/files.rt:28:19
 enum-known-from : tie.Need-enum-known-from
 enum-known-from c = search needs
 
--- src/files.rt:29:26
 enum-told : tie.Need-enum-told
 enum-told c = search needs
 
--- src/files.rt:30:27
 enum-told-2 : tie.Need-enum-told-2
 enum-told-2 c = search needs
 
--- src/files.rt:31:31
 enum-told-3 : tie.Need-enum-told-3
 enum-told-3 c = search needs
 
--- src/files.rt:23:1
 returns : tie.Need-returns
 returns c =
     ap (λ (a : Start). partOf (startFields a)) (sym (c .before .from .given .1) ∙ c .before .before .before .start-of .ensures .same)
 
--- src/files.rt:23:1
 returns-2 : tie.Need-returns-2
 returns-2 c =
     ap (λ (a : Start). partOf (startFields a)) (sym (c .enum-told .given .1) ∙ c .before .before .start-of .ensures .same)
 
--- src/files.rt:23:1
 returns-3 : tie.Need-returns-3
 returns-3 c =
     ap (λ (a : Start). partOf (startFields a)) (sym (c .enum-told2 .given .1) ∙ c .before .before .start-of .ensures .same)
 
--- src/files.rt:23:1
 returns-4 : tie.Need-returns-4
 returns-4 c =
     ap (λ (a : Start). partOf (startFields a)) (sym (c .enum-told3 .given .1) ∙ c .before .before .start-of .ensures .same)

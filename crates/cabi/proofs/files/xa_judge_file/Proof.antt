@@ -9,11 +9,6 @@ use Rattle.cabi.proofs.InFiles.{judge-inside}
 use borrow.Author.Needs.{needs}
 use Rattle.cabi.proofs.files.xa_judge_file.Statement.{statement}
 use Rattle.cabi.proofs.files.xa_judge_file.Tie as tie
-use Rattle.cabi.proofs.files.xa_judge_file.Reads as reads
-use Rattle.cabi.proofs.files.xa_judge_file.Lts as lts
-use Rattle.cabi.proofs.files.judge_file_numbers.Reads as judge-file-numbers-reads
-use Rattle.cabi.proofs.with_searches.Reads as with-searches-reads
-use Rattle.file.proofs.judge_file_counted.Reads as judge-file-counted-reads
 
 judge-file-counted-requires : tie.Need-judge-file-counted-requires
 judge-file-counted-requires c κs = search needs

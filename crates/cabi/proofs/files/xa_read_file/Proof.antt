@@ -1,3 +1,4 @@
+-- The answer is that of `read_file`, case by case; its numbers fit 32 bits since those of every answer are small.
 use mathlib.Core.Path.{ap, sym, _∙_}
 use Rattle.file.specs.declared.ReadFileAnswer.{ReadFileAnswer}
 use Rattle.file.specs.File.{readFields}
@@ -6,98 +7,72 @@ use Rattle.cabi.proofs.InFiles.{read-inside}
 use borrow.Author.Needs.{needs}
 use Rattle.cabi.proofs.files.xa_read_file.Statement.{statement}
 use Rattle.cabi.proofs.files.xa_read_file.Tie as tie
-use Rattle.cabi.proofs.files.xa_read_file.Reads as reads
-use Rattle.cabi.proofs.files.xa_read_file.Lts as lts
-use Rattle.cabi.proofs.code_alone.Reads as code-alone-reads
-use Rattle.cabi.proofs.read.read_numbers.Reads as read-numbers-reads
-use Rattle.file.proofs.read_file.Reads as read-file-reads
 
--- src/files.rt:41:11
 read-file-requires : tie.Need-read-file-requires
 read-file-requires c κs = search needs
 
--- src/files.rt:42:30
 enum-known-answer : tie.Need-enum-known-answer
 enum-known-answer c = search needs
 
--- src/files.rt:42:41
 read-numbers-requires : tie.Need-read-numbers-requires
 read-numbers-requires c κs =
     read-inside (c .before .before .before .before .before .before .before .before .before .args .file .now) (c .before .before .before .before .before .before .before .before .before .args .rows .now) (c .before .before .before .before .before .read-file .ensures .0 .same) (c .before .answer .given .1)
 
--- src/files.rt:43:35
 enum-told : tie.Need-enum-told
 enum-told c = search needs
 
--- src/files.rt:43:35
 code-alone-requires : tie.Need-code-alone-requires
 code-alone-requires c κs = search needs
 
--- src/files.rt:44:36
 enum-told-2 : tie.Need-enum-told-2
 enum-told-2 c = search needs
 
--- src/files.rt:44:36
 code-alone-requires-2 : tie.Need-code-alone-requires-2
 code-alone-requires-2 c κs = search needs
 
--- src/files.rt:45:40
 enum-told-3 : tie.Need-enum-told-3
 enum-told-3 c = search needs
 
--- src/files.rt:45:40
 code-alone-requires-3 : tie.Need-code-alone-requires-3
 code-alone-requires-3 c κs = search needs
 
--- src/files.rt:46:39
 enum-told-4 : tie.Need-enum-told-4
 enum-told-4 c = search needs
 
--- src/files.rt:46:39
 code-alone-requires-4 : tie.Need-code-alone-requires-4
 code-alone-requires-4 c κs = search needs
 
--- src/files.rt:36:1
 same-length : tie.Need-same-length
 same-length c = search needs
 
--- src/files.rt:36:1
 returns : tie.Need-returns
 returns c =
     (c .read-numbers .ensures ∙ ap (λ (a : ReadFileAnswer). hosted (readFields a)) (sym (c .before .before .answer .given .1) ∙ c .before .before .before .before .before .before .read-file .ensures .0 .same), c .before .before .before .before .before .before .read-file .ensures .1)
 
--- src/files.rt:36:1
 same-length-2 : tie.Need-same-length-2
 same-length-2 c = search needs
 
--- src/files.rt:36:1
 returns-2 : tie.Need-returns-2
 returns-2 c =
     (rw (c .code-alone .ensures) (ap (λ (a : ReadFileAnswer). hosted (readFields a)) (sym (c .before .enum-told .given .1) ∙ c .before .before .before .before .before .read-file .ensures .0 .same)), c .before .before .before .before .before .read-file .ensures .1)
 
--- src/files.rt:36:1
 same-length-3 : tie.Need-same-length-3
 same-length-3 c = search needs
 
--- src/files.rt:36:1
 returns-3 : tie.Need-returns-3
 returns-3 c =
     (rw (c .code-alone2 .ensures) (ap (λ (a : ReadFileAnswer). hosted (readFields a)) (sym (c .before .enum-told2 .given .1) ∙ c .before .before .before .before .before .read-file .ensures .0 .same)), c .before .before .before .before .before .read-file .ensures .1)
 
--- src/files.rt:36:1
 same-length-4 : tie.Need-same-length-4
 same-length-4 c = search needs
 
--- src/files.rt:36:1
 returns-4 : tie.Need-returns-4
 returns-4 c =
     (rw (c .code-alone3 .ensures) (ap (λ (a : ReadFileAnswer). hosted (readFields a)) (sym (c .before .enum-told3 .given .1) ∙ c .before .before .before .before .before .read-file .ensures .0 .same)), c .before .before .before .before .before .read-file .ensures .1)
 
--- src/files.rt:36:1
 same-length-5 : tie.Need-same-length-5
 same-length-5 c = search needs
 
--- src/files.rt:36:1
 returns-5 : tie.Need-returns-5
 returns-5 c =
     (rw (c .code-alone4 .ensures) (ap (λ (a : ReadFileAnswer). hosted (readFields a)) (sym (c .before .enum-told4 .given .1) ∙ c .before .before .before .before .before .read-file .ensures .0 .same)), c .before .before .before .before .before .read-file .ensures .1)

@@ -1,3 +1,4 @@
+-- The answer is that of `show_file`, case by case; its numbers fit 32 bits since those of every answer are small.
 use mathlib.Core.Path.{ap, sym, _∙_}
 use Rattle.file.specs.declared.ShowFileAnswer.{ShowFileAnswer}
 use Rattle.file.specs.File.{showFields}
@@ -6,118 +7,87 @@ use Rattle.cabi.proofs.InFiles.{show-inside}
 use borrow.Author.Needs.{needs}
 use Rattle.cabi.proofs.files.xa_show_file.Statement.{statement}
 use Rattle.cabi.proofs.files.xa_show_file.Tie as tie
-use Rattle.cabi.proofs.files.xa_show_file.Reads as reads
-use Rattle.cabi.proofs.files.xa_show_file.Lts as lts
-use Rattle.cabi.proofs.code_alone.Reads as code-alone-reads
-use Rattle.cabi.proofs.show.show_numbers.Reads as show-numbers-reads
-use Rattle.file.proofs.show_file.Reads as show-file-reads
 
--- src/files.rt:78:11
 show-file-requires : tie.Need-show-file-requires
 show-file-requires c κs = search needs
 
--- src/files.rt:79:31
 enum-known-answer : tie.Need-enum-known-answer
 enum-known-answer c = search needs
 
--- src/files.rt:79:42
 show-numbers-requires : tie.Need-show-numbers-requires
 show-numbers-requires c κs =
     show-inside (c .before .before .before .before .before .before .before .before .before .before .before .before .before .args .file .now) (c .before .before .before .before .before .before .before .before .before .before .before .before .before .args .frame) (c .before .before .before .before .before .before .before .before .before .before .before .before .before .args .rows .now) (c .before .before .before .before .before .before .before .before .before .before .before .before .before .args .image .now) (c .before .before .before .before .before .before .before .show-file .ensures .0 .same) (c .before .answer .given .1)
 
--- src/files.rt:80:35
 enum-told : tie.Need-enum-told
 enum-told c = search needs
 
--- src/files.rt:80:35
 code-alone-requires : tie.Need-code-alone-requires
 code-alone-requires c κs = search needs
 
--- src/files.rt:81:36
 enum-told-2 : tie.Need-enum-told-2
 enum-told-2 c = search needs
 
--- src/files.rt:81:36
 code-alone-requires-2 : tie.Need-code-alone-requires-2
 code-alone-requires-2 c κs = search needs
 
--- src/files.rt:82:40
 enum-told-3 : tie.Need-enum-told-3
 enum-told-3 c = search needs
 
--- src/files.rt:82:40
 code-alone-requires-3 : tie.Need-code-alone-requires-3
 code-alone-requires-3 c κs = search needs
 
--- src/files.rt:83:39
 enum-told-4 : tie.Need-enum-told-4
 enum-told-4 c = search needs
 
--- src/files.rt:83:39
 code-alone-requires-4 : tie.Need-code-alone-requires-4
 code-alone-requires-4 c κs = search needs
 
--- src/files.rt:67:1
 same-length : tie.Need-same-length
 same-length c = search needs
 
--- src/files.rt:67:1
 same-length-2 : tie.Need-same-length-2
 same-length-2 c = search needs
 
--- src/files.rt:67:1
 returns : tie.Need-returns
 returns c =
     (c .show-numbers .ensures ∙ ap (λ (a : ShowFileAnswer). hosted (showFields a)) (sym (c .before .before .answer .given .1) ∙ c .before .before .before .before .before .before .before .before .show-file .ensures .0 .same), c .before .before .before .before .before .before .before .before .show-file .ensures .1)
 
--- src/files.rt:67:1
 same-length-3 : tie.Need-same-length-3
 same-length-3 c = search needs
 
--- src/files.rt:67:1
 same-length-4 : tie.Need-same-length-4
 same-length-4 c = search needs
 
--- src/files.rt:67:1
 returns-2 : tie.Need-returns-2
 returns-2 c =
     (rw (c .code-alone .ensures) (ap (λ (a : ShowFileAnswer). hosted (showFields a)) (sym (c .before .enum-told .given .1) ∙ c .before .before .before .before .before .before .before .show-file .ensures .0 .same)), c .before .before .before .before .before .before .before .show-file .ensures .1)
 
--- src/files.rt:67:1
 same-length-5 : tie.Need-same-length-5
 same-length-5 c = search needs
 
--- src/files.rt:67:1
 same-length-6 : tie.Need-same-length-6
 same-length-6 c = search needs
 
--- src/files.rt:67:1
 returns-3 : tie.Need-returns-3
 returns-3 c =
     (rw (c .code-alone2 .ensures) (ap (λ (a : ShowFileAnswer). hosted (showFields a)) (sym (c .before .enum-told2 .given .1) ∙ c .before .before .before .before .before .before .before .show-file .ensures .0 .same)), c .before .before .before .before .before .before .before .show-file .ensures .1)
 
--- src/files.rt:67:1
 same-length-7 : tie.Need-same-length-7
 same-length-7 c = search needs
 
--- src/files.rt:67:1
 same-length-8 : tie.Need-same-length-8
 same-length-8 c = search needs
 
--- src/files.rt:67:1
 returns-4 : tie.Need-returns-4
 returns-4 c =
     (rw (c .code-alone3 .ensures) (ap (λ (a : ShowFileAnswer). hosted (showFields a)) (sym (c .before .enum-told3 .given .1) ∙ c .before .before .before .before .before .before .before .show-file .ensures .0 .same)), c .before .before .before .before .before .before .before .show-file .ensures .1)
 
--- src/files.rt:67:1
 same-length-9 : tie.Need-same-length-9
 same-length-9 c = search needs
 
--- src/files.rt:67:1
 same-length-10 : tie.Need-same-length-10
 same-length-10 c = search needs
 
--- src/files.rt:67:1
 returns-5 : tie.Need-returns-5
 returns-5 c =
     (rw (c .code-alone4 .ensures) (ap (λ (a : ShowFileAnswer). hosted (showFields a)) (sym (c .before .enum-told4 .given .1) ∙ c .before .before .before .before .before .before .before .show-file .ensures .0 .same)), c .before .before .before .before .before .before .before .show-file .ensures .1)

@@ -1,3 +1,4 @@
+-- Each answer leads to its own numbers, which fit 32 bits, as is asked.
 use mathlib.Core.Path.{ap, sym, subst, _∙_}
 use Rattle.conformance.specs.declared.JudgeAnswer.{JudgeAnswer}
 use Rattle.conformance.specs.Judging.{fieldsOf}
@@ -5,11 +6,7 @@ use Rattle.cabi.specs.Host.{hosted, Fits32}
 use borrow.Author.Needs.{needs}
 use Rattle.cabi.proofs.judge.judge_numbers.Statement.{statement}
 use Rattle.cabi.proofs.judge.judge_numbers.Tie as tie
-use Rattle.cabi.proofs.judge.judge_numbers.Reads as reads
-use Rattle.cabi.proofs.judge.judge_numbers.Lts as lts
-use Rattle.cabi.proofs.code_alone.Reads as code-alone-reads
 
--- src/judge.rt:17:31
 enum-known-answer : tie.Need-enum-known-answer
 enum-known-answer c = search needs
 
@@ -17,7 +14,6 @@ done-with-requires : tie.Need-done-with-requires
 done-with-requires c κs =
     subst (λ (a : JudgeAnswer). Fits32 (fieldsOf a)) (c .before .answer .given .1) (c .before .before .before .pre)
 
--- src/judge.rt:25:29
 enum-known-answer-2 : tie.Need-enum-known-answer-2
 enum-known-answer-2 c = search needs
 
@@ -25,7 +21,6 @@ broken-at-requires : tie.Need-broken-at-requires
 broken-at-requires c κs =
     subst (λ (a : JudgeAnswer). Fits32 (fieldsOf a)) (c .before .answer2 .given .1) (c .before .before .before .pre)
 
--- src/judge.rt:33:30
 enum-known-answer-3 : tie.Need-enum-known-answer-3
 enum-known-answer-3 c = search needs
 
@@ -33,43 +28,34 @@ refused-at-requires : tie.Need-refused-at-requires
 refused-at-requires c κs =
     subst (λ (a : JudgeAnswer). Fits32 (fieldsOf a)) (c .before .answer3 .given .1) (c .before .before .before .pre)
 
--- src/judge.rt:41:34
 enum-told : tie.Need-enum-told
 enum-told c = search needs
 
--- src/judge.rt:41:34
 code-alone-requires : tie.Need-code-alone-requires
 code-alone-requires c κs = search needs
 
--- src/judge.rt:42:32
 enum-told-2 : tie.Need-enum-told-2
 enum-told-2 c = search needs
 
--- src/judge.rt:42:32
 code-alone-requires-2 : tie.Need-code-alone-requires-2
 code-alone-requires-2 c κs = search needs
 
--- src/judge.rt:12:1
 returns : tie.Need-returns
 returns c =
     c .done-with .ensures ∙ ap (λ (a : JudgeAnswer). hosted (fieldsOf a)) (sym (c .before .before .answer .given .1))
 
--- src/judge.rt:12:1
 returns-2 : tie.Need-returns-2
 returns-2 c =
     c .broken-at .ensures ∙ ap (λ (a : JudgeAnswer). hosted (fieldsOf a)) (sym (c .before .before .answer2 .given .1))
 
--- src/judge.rt:12:1
 returns-3 : tie.Need-returns-3
 returns-3 c =
     c .refused-at .ensures ∙ ap (λ (a : JudgeAnswer). hosted (fieldsOf a)) (sym (c .before .before .answer3 .given .1))
 
--- src/judge.rt:12:1
 returns-4 : tie.Need-returns-4
 returns-4 c =
     c .code-alone .ensures ∙ ap (λ (a : JudgeAnswer). hosted (fieldsOf a)) (sym (c .before .enum-told .given .1))
 
--- src/judge.rt:12:1
 returns-5 : tie.Need-returns-5
 returns-5 c =
     c .code-alone2 .ensures ∙ ap (λ (a : JudgeAnswer). hosted (fieldsOf a)) (sym (c .before .enum-told2 .given .1))

@@ -9,11 +9,6 @@ use Rattle.cabi.proofs.Numbers.{judge-fits}
 use borrow.Author.Needs.{needs}
 use Rattle.cabi.proofs.judge.xa_judge.Statement.{statement}
 use Rattle.cabi.proofs.judge.xa_judge.Tie as tie
-use Rattle.cabi.proofs.judge.xa_judge.Reads as reads
-use Rattle.cabi.proofs.judge.xa_judge.Lts as lts
-use Rattle.cabi.proofs.judge.judge_numbers.Reads as judge-numbers-reads
-use Rattle.cabi.proofs.with_searches.Reads as with-searches-reads
-use Rattle.searches.proofs.judge_counted.Reads as judge-counted-reads
 
 judge-counted-requires : tie.Need-judge-counted-requires
 judge-counted-requires c κs = search needs

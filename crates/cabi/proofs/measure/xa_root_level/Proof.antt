@@ -1,23 +1,17 @@
+-- A level is below 256 and so fits a byte.
 use native.Mathlib.Omega.{arith}
-use Rattle.squareroot.specs.SquareRoot.{levelOf}
 use Rattle.squareroot.proofs.Derivation.{derivation}
 use borrow.Author.Needs.{needs}
 use Rattle.cabi.proofs.measure.xa_root_level.Statement.{statement}
 use Rattle.cabi.proofs.measure.xa_root_level.Tie as tie
-use Rattle.cabi.proofs.measure.xa_root_level.Reads as reads
-use Rattle.cabi.proofs.measure.xa_root_level.Lts as lts
-use Rattle.squareroot.proofs.level.Reads as level-reads
 
--- src/measure.rt:58:5
 level-requires : tie.Need-level-requires
 level-requires c κs = search needs
 
--- src/measure.rt:58:5
 cast-result : tie.Need-cast-result
 cast-result c =
     record { fits = omega (arith, c .level .ensures, derivation .eight (c .before .args .cell)) }
 
--- src/measure.rt:54:1
 returns : tie.Need-returns
 returns c = search needs
 

@@ -1,3 +1,4 @@
+-- Each answer leads to its own numbers, which fit 32 bits, as is asked.
 use mathlib.Core.Path.{ap, sym, subst, _∙_}
 use Rattle.dataset.specs.declared.ReadAnswer.{ReadAnswer}
 use Rattle.dataset.specs.Answer.{fieldsOf}
@@ -5,11 +6,7 @@ use Rattle.cabi.specs.Host.{hosted, Fits32}
 use borrow.Author.Needs.{needs}
 use Rattle.cabi.proofs.read.read_numbers.Statement.{statement}
 use Rattle.cabi.proofs.read.read_numbers.Tie as tie
-use Rattle.cabi.proofs.read.read_numbers.Reads as reads
-use Rattle.cabi.proofs.read.read_numbers.Lts as lts
-use Rattle.cabi.proofs.code_alone.Reads as code-alone-reads
 
--- src/read.rt:16:26
 enum-known-answer : tie.Need-enum-known-answer
 enum-known-answer c = search needs
 
@@ -17,7 +14,6 @@ done-with-requires : tie.Need-done-with-requires
 done-with-requires c κs =
     subst (λ (a : ReadAnswer). Fits32 (fieldsOf a)) (c .before .answer .given .1) (c .before .before .before .pre)
 
--- src/read.rt:24:29
 enum-known-answer-2 : tie.Need-enum-known-answer-2
 enum-known-answer-2 c = search needs
 
@@ -25,38 +21,30 @@ refused-at-requires : tie.Need-refused-at-requires
 refused-at-requires c κs =
     subst (λ (a : ReadAnswer). Fits32 (fieldsOf a)) (c .before .answer2 .given .1) (c .before .before .before .pre)
 
--- src/read.rt:32:33
 enum-told : tie.Need-enum-told
 enum-told c = search needs
 
--- src/read.rt:32:33
 code-alone-requires : tie.Need-code-alone-requires
 code-alone-requires c κs = search needs
 
--- src/read.rt:33:31
 enum-told-2 : tie.Need-enum-told-2
 enum-told-2 c = search needs
 
--- src/read.rt:33:31
 code-alone-requires-2 : tie.Need-code-alone-requires-2
 code-alone-requires-2 c κs = search needs
 
--- src/read.rt:11:1
 returns : tie.Need-returns
 returns c =
     c .done-with .ensures ∙ ap (λ (a : ReadAnswer). hosted (fieldsOf a)) (sym (c .before .before .answer .given .1))
 
--- src/read.rt:11:1
 returns-2 : tie.Need-returns-2
 returns-2 c =
     c .refused-at .ensures ∙ ap (λ (a : ReadAnswer). hosted (fieldsOf a)) (sym (c .before .before .answer2 .given .1))
 
--- src/read.rt:11:1
 returns-3 : tie.Need-returns-3
 returns-3 c =
     c .code-alone .ensures ∙ ap (λ (a : ReadAnswer). hosted (fieldsOf a)) (sym (c .before .enum-told .given .1))
 
--- src/read.rt:11:1
 returns-4 : tie.Need-returns-4
 returns-4 c =
     c .code-alone2 .ensures ∙ ap (λ (a : ReadAnswer). hosted (fieldsOf a)) (sym (c .before .enum-told2 .given .1))

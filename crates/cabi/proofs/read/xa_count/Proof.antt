@@ -1,3 +1,4 @@
+-- The answer is that of `count`, and its numbers fit 32 bits since those of every answer are small.
 use mathlib.Core.Path.{ap, sym, subst, _∙_}
 use Rattle.dataset.specs.declared.ReadAnswer.{ReadAnswer}
 use Rattle.dataset.specs.Answer.{fieldsOf}
@@ -6,10 +7,6 @@ use Rattle.cabi.proofs.Numbers.{rows-fit}
 use borrow.Author.Needs.{needs}
 use Rattle.cabi.proofs.read.xa_count.Statement.{statement}
 use Rattle.cabi.proofs.read.xa_count.Tie as tie
-use Rattle.cabi.proofs.read.xa_count.Reads as reads
-use Rattle.cabi.proofs.read.xa_count.Lts as lts
-use Rattle.cabi.proofs.read.read_numbers.Reads as read-numbers-reads
-use Rattle.dataset.proofs.count.Reads as count-reads
 
 count-requires : tie.Need-count-requires
 count-requires c κs = search needs

@@ -1,3 +1,4 @@
+-- The answer is that of `read`, and its numbers fit 32 bits since those of every answer are small.
 use mathlib.Core.Path.{ap, sym, subst, _∙_}
 use Rattle.dataset.specs.declared.ReadAnswer.{ReadAnswer}
 use Rattle.dataset.specs.Answer.{fieldsOf}
@@ -6,25 +7,17 @@ use Rattle.cabi.proofs.Numbers.{read-fits}
 use borrow.Author.Needs.{needs}
 use Rattle.cabi.proofs.read.xa_read.Statement.{statement}
 use Rattle.cabi.proofs.read.xa_read.Tie as tie
-use Rattle.cabi.proofs.read.xa_read.Reads as reads
-use Rattle.cabi.proofs.read.xa_read.Lts as lts
-use Rattle.cabi.proofs.read.read_numbers.Reads as read-numbers-reads
-use Rattle.dataset.proofs.read.Reads as read-reads
 
--- src/read.rt:43:18
 read-requires : tie.Need-read-requires
 read-requires c κs = search needs
 
--- src/read.rt:43:5
 read-numbers-requires : tie.Need-read-numbers-requires
 read-numbers-requires c κs =
     subst (λ (a : ReadAnswer). Fits32 (fieldsOf a)) (sym (c .before .before .read .ensures .0 .same)) (read-fits (c .before .before .before .before .before .before .args .bytes .now) (c .before .before .before .before .before .before .args .rows .now))
 
--- src/read.rt:38:1
 same-length : tie.Need-same-length
 same-length c = search needs
 
--- src/read.rt:38:1
 returns : tie.Need-returns
 returns c =
     (c .read-numbers .ensures ∙ ap (λ (a : ReadAnswer). hosted (fieldsOf a)) (c .before .before .before .read .ensures .0 .same), c .before .before .before .read .ensures .1)

@@ -8,10 +8,6 @@ use Rattle.cabi.proofs.Numbers.{canonical-narrow}
 use borrow.Author.Needs.{needs}
 use Rattle.cabi.proofs.rewritten.xa_canonical.Statement.{statement}
 use Rattle.cabi.proofs.rewritten.xa_canonical.Tie as tie
-use Rattle.cabi.proofs.rewritten.xa_canonical.Reads as reads
-use Rattle.cabi.proofs.rewritten.xa_canonical.Lts as lts
-use Rattle.canonical.proofs.byte_bounds.Reads as byte-bounds-reads
-use Rattle.canonical.proofs.write_canonical.Reads as write-canonical-reads
 
 byte-bounds-requires : tie.Need-byte-bounds-requires
 byte-bounds-requires c κs = search needs

@@ -1,11 +1,11 @@
-use Prim.Native.Nat.{ℕ, _-_, _≤_}
+-- Each turn puts one number, and all behind it stays as it was.
+use Prim.Native.Nat.{_-_, _≤_}
 use lib.ListN.{length, getD}
-use Rattle.pixel.specs.Painted.{painted}
+use Rattle.pixel.specs.Contracts.{painted}
 use Rattle.pixel.proofs.Laws.{full, painted-more, painted-length}
 use Rattle.sheet.specs.Sheet.{numbersIn}
-use mathlib.Core.Path.{_≡_, refl, sym, ap, _∙_, subst}
+use mathlib.Core.Path.{_≡_, refl, ap, _∙_}
 use native.Mathlib.Omega.{arith}
-use borrow.Author.Needs.{needs}
 use Rattle.cabi.proofs.sampling.put_numbers.Statement.{statement}
 use Rattle.cabi.proofs.sampling.put_numbers.Tie as tie
 

@@ -1,7 +1,8 @@
+-- Nothing is written unless all 260 numbers fit.
 use lib.ListN.{length}
 use borrow.Author.Tests.{le-leb, lt-leb}
 use Rattle.cabi.proofs.Numbers.{sheet-put, sheet-kept}
-use mathlib.Core.Path.{_≡_, refl, sym, ap, _∙_, subst}
+use mathlib.Core.Path.{sym, _∙_}
 use native.Mathlib.Omega.{arith}
 use borrow.Author.Needs.{needs}
 use Rattle.cabi.proofs.sampling.put_sheet.Statement.{statement}

@@ -1,3 +1,4 @@
+-- Each answer leads to its own numbers, which fit 32 bits, as is asked; a sheet that finds no room is code 11.
 use Rattle.sheet.specs.declared.SheetAnswer.{SheetAnswer}
 use Rattle.sheet.specs.Answer.{fieldsOf}
 use Rattle.cabi.specs.Host.{Fits32}

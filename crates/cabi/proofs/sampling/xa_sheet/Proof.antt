@@ -1,3 +1,4 @@
+-- The answer is that of `sheet`, and whatever it is there are 256 counts to put into the buffer.
 use mathlib.Core.Bool.{Bool}
 use lib.ListN.{length}
 use Rattle.sheet.specs.declared.Sampled.{Sampled}
@@ -5,8 +6,7 @@ use Rattle.sheet.specs.Answer.{fieldsOf}
 use Rattle.sheet.proofs.Answers.{counts-many}
 use Rattle.cabi.specs.Host.{hosted, Fits32, sheetFields, holdsSheet, sheetAfter}
 use Rattle.cabi.proofs.Numbers.{sheet-narrow}
-use mathlib.Core.Path.{_≡_, refl, sym, ap, _∙_, subst}
-use native.Mathlib.Omega.{arith}
+use mathlib.Core.Path.{sym, ap, _∙_, subst}
 use borrow.Author.Needs.{needs}
 use Rattle.cabi.proofs.sampling.xa_sheet.Statement.{statement}
 use Rattle.cabi.proofs.sampling.xa_sheet.Tie as tie

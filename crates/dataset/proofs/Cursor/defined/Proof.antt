@@ -1,35 +1,27 @@
+-- The checks are those of the definition, in its order, and a value that passes them ends within its level.
 use Rattle.dataset.proofs.Checks.{checks}
 use Rattle.dataset.specs.Header.{definedBy}
 use borrow.Author.Needs.{needs}
 use Rattle.dataset.proofs.Cursor.defined.Statement.{statement}
 use Rattle.dataset.proofs.Cursor.defined.Tie as tie
-use Rattle.dataset.proofs.Cursor.defined.Reads as reads
-use Rattle.dataset.proofs.Cursor.defined.Lts as lts
-use Rattle.dataset.proofs.Cursor.level.Reads as level-reads
 
--- src/lib.rt:186:13
 returns : tie.Need-returns
 unfolding definedBy
 returns c = (search checks depth 40 fits 4000, search needs)
 
--- src/lib.rt:188:12
 sub-if2 : tie.Need-sub-if2
 sub-if2 c = search needs
 
--- src/lib.rt:189:13
 returns-2 : tie.Need-returns-2
 unfolding definedBy
 returns-2 c = (search checks depth 40 fits 4000, search needs)
 
--- src/lib.rt:193:18
 add-t8 : tie.Need-add-t8
 add-t8 c = search needs
 
--- src/lib.rt:196:9
 level-requires : tie.Need-level-requires
 level-requires c κs = search needs
 
--- src/lib.rt:180:5
 returns-3 : tie.Need-returns-3
 unfolding definedBy
 returns-3 c = (search checks depth 40 fits 4000, search needs)

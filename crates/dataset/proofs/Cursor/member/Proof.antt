@@ -1,44 +1,32 @@
+-- The tag of an item leads to its length, any other tag to the delimiter that may be due.
 use Rattle.dataset.proofs.Checks.{checks}
 use Rattle.dataset.specs.Header.{memberAt}
 use borrow.Author.Needs.{needs}
 use Rattle.dataset.proofs.Cursor.member.Statement.{statement}
 use Rattle.dataset.proofs.Cursor.member.Tie as tie
-use Rattle.dataset.proofs.Cursor.member.Reads as reads
-use Rattle.dataset.proofs.Cursor.member.Lts as lts
-use Rattle.dataset.proofs.Cursor.delimiter.Reads as delimiter-reads
-use Rattle.dataset.proofs.Cursor.sized.Reads as sized-reads
-use Rattle.dataset.proofs.u32_at.Reads as u32-at-reads
 
--- src/lib.rt:281:41
 add-u32-at : tie.Need-add-u32-at
 add-u32-at c = search needs
 
--- src/lib.rt:281:31
 u32-at-requires : tie.Need-u32-at-requires
 u32-at-requires c κs = search needs
 
--- src/lib.rt:281:13
 sized-requires : tie.Need-sized-requires
 sized-requires c κs = search needs
 
--- src/lib.rt:281:13
 returns : tie.Need-returns
 unfolding memberAt
 returns c = (rw (← c .before .u32-at .ensures .0) (search checks depth 40 fits 4000), search needs)
 
--- src/lib.rt:283:59
 add-u32-at-2 : tie.Need-add-u32-at-2
 add-u32-at-2 c = search needs
 
--- src/lib.rt:283:49
 u32-at-requires-2 : tie.Need-u32-at-requires-2
 u32-at-requires-2 c κs = search needs
 
--- src/lib.rt:283:9
 delimiter-requires : tie.Need-delimiter-requires
 delimiter-requires c κs = search needs
 
--- src/lib.rt:275:5
 returns-2 : tie.Need-returns-2
 unfolding memberAt
 returns-2 c = (rw (← c .before .u32-at2 .ensures .0) (search checks depth 40 fits 4000), search needs)

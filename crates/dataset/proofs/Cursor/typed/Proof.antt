@@ -1,63 +1,47 @@
+-- The form says which length follows: none, 16 bits at once, or 32 bits after two zero bytes.
 use Rattle.dataset.proofs.Checks.{checks}
 use Rattle.dataset.specs.Header.{typedAt}
 use borrow.Author.Needs.{needs}
 use Rattle.dataset.proofs.Cursor.typed.Statement.{statement}
 use Rattle.dataset.proofs.Cursor.typed.Tie as tie
-use Rattle.dataset.proofs.Cursor.typed.Reads as reads
-use Rattle.dataset.proofs.Cursor.typed.Lts as lts
-use Rattle.dataset.proofs.Cursor.defined.Reads as defined-reads
-use Rattle.dataset.proofs.Cursor.long.Reads as long-reads
-use Rattle.dataset.proofs.u32_at.Reads as u32-at-reads
 
--- src/lib.rt:226:13
 returns : tie.Need-returns
 unfolding typedAt
 returns c = (search checks depth 40 fits 4000, search needs)
 
--- src/lib.rt:229:42
 add-defined : tie.Need-add-defined
 add-defined c = search needs
 
--- src/lib.rt:229:13
 defined-requires : tie.Need-defined-requires
 defined-requires c κs = search needs
 
--- src/lib.rt:229:13
 returns-2 : tie.Need-returns-2
 unfolding typedAt
 returns-2 c = (search checks depth 40 fits 4000, search needs)
 
--- src/lib.rt:231:12
 sub-if3 : tie.Need-sub-if3
 sub-if3 c = search needs
 
--- src/lib.rt:232:13
 returns-3 : tie.Need-returns-3
 unfolding typedAt
 returns-3 c = (search checks depth 40 fits 4000, search needs)
 
--- src/lib.rt:235:32
 add-long : tie.Need-add-long
 add-long c = search needs
 
--- src/lib.rt:235:56
 add-u32-at : tie.Need-add-u32-at
 add-u32-at c = search needs
 
--- src/lib.rt:235:46
 u32-at-requires : tie.Need-u32-at-requires
 u32-at-requires c κs = search needs
 
--- src/lib.rt:235:13
 long-requires : tie.Need-long-requires
 long-requires c κs = search needs
 
--- src/lib.rt:220:5
 returns-4 : tie.Need-returns-4
 unfolding typedAt
 returns-4 c = (rw (← c .before .u32-at .ensures .0) (search checks depth 40 fits 4000), search needs)
 
--- src/lib.rt:220:5
 returns-5 : tie.Need-returns-5
 unfolding typedAt
 returns-5 c = (search checks depth 40 fits 4000, search needs)

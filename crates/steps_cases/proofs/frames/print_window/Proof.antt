@@ -1,3 +1,4 @@
+-- A window is asked for only where at most 16 bits are stored.
 use native.Mathlib.Omega.{arith}
 use borrow.Author.Needs.{needs}
 use Rattle.steps_cases.proofs.frames.print_window.Statement.{statement}

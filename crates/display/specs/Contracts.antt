@@ -1,0 +1,161 @@
+-- What the functions of this crate ask and say of each other. No paragraph of a paper stands here.
+use mathlib.Core.Path.{_≡_}
+use mathlib.Core.Bool.{Bool, true, false}
+use mathlib.Core.List.{List, [], _∷_}
+use mathlib.Core.Option.{Option, none, some}
+use Prim.Native.Nat.{ℕ, _≤_, _<_}
+use lib.ListN.{length}
+use Rattle.value.specs.Number.{usValues, isNumber}
+use Rattle.value.specs.Contracts.{SizeBelow, Below}
+use Rattle.shift.specs.declared.Moves.{Moves}
+use Rattle.shift.specs.Contracts.{tooFar, ShortMoves}
+use Rattle.node.specs.Nodes.{Node, nodesOf, nodeAt, root}
+use Rattle.element.specs.Elements.{valueAt}
+use Rattle.pixel.specs.declared.Geometry.{Geometry}
+use Rattle.pixel.specs.Pixel.{isFrame}
+use Rattle.pixel.specs.Contracts.{Masks, nativeShade, maskedShade}
+use Rattle.steps.specs.Given.{then}
+use Rattle.steps.specs.Steps.{Mask, native as noMask, masked as maskOf, averageFrames, tidFrame, onTid, movesFor, maskFor, geometryOf, applyingTo, windowFor, inverseOf}
+use Rattle.steps.specs.declared.Applying.{Applying}
+use Rattle.steps.specs.declared.Applying.the-variants as applying
+use Rattle.steps.specs.declared.Found.{Found}
+use Rattle.steps.specs.Contracts.{IsShared}
+use Rattle.display.specs.declared.Masking.{Masking}
+use Rattle.display.specs.declared.Masking.the-variants as masking
+use mathlib.Core.Logic.{_⊎_}
+use Rattle.value.specs.declared.Num.{Num}
+use Rattle.value.specs.declared.Num.the-variants.{Is}
+use Rattle.node.specs.Find.{find}
+use Rattle.element.specs.Tags
+use Rattle.element.specs.Tags.{OB, OW}
+use Rattle.element.specs.Frames.{framesOf, frameItem}
+use Rattle.conformance.specs.declared.Finding.the-variants as finding
+use Rattle.conformance.specs.Judging.{findingOf}
+use Rattle.window.specs.Contracts.{Drawable}
+use Rattle.display.specs.Drawing.{Bytes}
+use Rattle.display.specs.declared.Scene.{Scene}
+use Rattle.display.specs.declared.Plan.{Plan}
+
+-- What the functions inside `show` ask and say of the steps.
+
+-- ---- What masks a frame
+
+-- Every number is one of 1 to n.
+abbrev pub AllWithin : ℕ → List ℕ → Type 0
+AllWithin n [] = Unit {0}
+AllWithin n (k ∷ ks) = ((1 ≤ k) × (k ≤ n)) × AllWithin n ks
+
+-- Nothing, or 1 to 64 of the n frames, moved by whole quarters, at most 64.
+abbrev pub Short : Moves → Type 0
+Short m = (isNumber (m .vertical) ≡ true) × ((isNumber (m .horizontal) ≡ true) × (SizeBelow tooFar (m .vertical) × SizeBelow tooFar (m .horizontal)))
+
+abbrev pub Sound : ℕ → Mask → Type 0
+Sound n noMask = Unit {0}
+Sound n (maskOf ks m) = (1 ≤ length ks) × ((length ks ≤ 64) × (AllWithin n ks × Short m))
+
+-- A step that gives such a mask.
+pub record Gives (n : ℕ) (o : Option Mask) : Type 0 where
+  pub m : Mask
+  pub mask : o ≡ some m
+  pub sound : Sound n m
+
+pub record GivesMoves (o : Option Moves) : Type 0 where
+  pub m : Moves
+  pub is : o ≡ some m
+  pub short : Short m
+
+pub record GivesInverse (o : Option Bool) : Type 0 where
+  pub b : Bool
+  pub is : o ≡ some b
+
+-- The two kinds of masks, as parts of step 3.
+abbrev pub averageBy : List Node → ℕ → ℕ → Option Mask
+averageBy ns f j = then (averageFrames ns j) (λ ks. then (movesFor ns f j) (λ m. some (maskOf ks m)))
+
+abbrev pub tidBy : List Node → ℕ → ℕ → Option Mask
+tidBy ns f j = then (tidFrame ns f j) (onTid ns f j)
+
+-- What the code's answer says.
+abbrev pub maskingOf : List Node → Masking → Option Mask
+maskingOf ns masking.Native = some noMask
+maskingOf ns (masking.Average k m) = some (maskOf (usValues (valueAt ns k)) m)
+maskingOf ns (masking.One t m) = some (maskOf (t ∷ []) m)
+maskingOf ns masking.Lacks = none
+
+-- Its node is one of the nodes.
+abbrev pub MaskingBelow : ℕ → Masking → Type 0
+MaskingBelow n masking.Native = Unit {0}
+MaskingBelow n (masking.Average k m) = k < n
+MaskingBelow n (masking.One t m) = Unit {0}
+MaskingBelow n masking.Lacks = Unit {0}
+
+-- The mask item that applies is one of the nodes.
+abbrev pub ApplyingBelow : ℕ → Applying → Type 0
+ApplyingBelow n (applying.Item j) = j < n
+ApplyingBelow n applying.Nothing = Unit {0}
+
+-- What the shared shift group names for it.
+abbrev pub SharedBy : List Node → Applying → Found → Type 0
+SharedBy ns (applying.Item j) r = IsShared ns j r
+SharedBy ns applying.Nothing r = Unit {0}
+
+-- ---- Painting
+
+abbrev pub isMasked : Masking → Bool
+isMasked masking.Native = false
+isMasked (masking.Average k m) = true
+isMasked (masking.One t m) = true
+isMasked masking.Lacks = false
+
+-- The shade of a cell, from a table of shades.
+abbrev pub shadeBy : List Node → List ℕ → Geometry → List ℕ → ℕ → Masking → ℕ → ℕ
+shadeBy ns table g v f masking.Native = nativeShade table g v f
+shadeBy ns table g v f (masking.Average k m) = maskedShade table g v f (usValues (valueAt ns k)) m
+shadeBy ns table g v f (masking.One t m) = maskedShade table g v f (t ∷ []) m
+shadeBy ns table g v f masking.Lacks = nativeShade table g v f
+
+-- What painting asks of the masks.
+abbrev pub MasksReady : List Node → List ℕ → Geometry → Masking → Type 0
+MasksReady ns v g masking.Native = Unit {0}
+MasksReady ns v g (masking.Average k m) = (k < length ns) × (Masks v g (valueAt ns k) × ShortMoves m)
+MasksReady ns v g (masking.One t m) = (t < 65536) × ((isFrame g v t ≡ true) × ShortMoves m)
+MasksReady ns v g masking.Lacks = ⊥
+
+-- What is worked out before a cell is drawn: once for an object, and once for a frame.
+
+-- An accepted object of n frames.
+pub record IsObject (s : List ℕ) (n : ℕ) : Type 0 where
+  pub bytes : Bytes s
+  pub sound : findingOf (nodesOf s) ≡ finding.Accepted
+  pub frames : framesOf (nodesOf s) ≡ Is n
+  pub some-frame : 1 ≤ n
+
+-- What all frames share.
+pub record IsScene (ns : List Node) (c : Scene) : Type 0 where
+  pub geometry : geometryOf ns ≡ some (c .g)
+  pub pixels : find ns Tags.PixelData (root ns) ≡ Is (c .p)
+  pub below : c .p < length ns
+  pub inverse-is : inverseOf ns ≡ some (c .inverse)
+
+-- Row p is that of the pixel bytes: no sequence and no item.
+pub record IsPixels (ns : List Node) (p : ℕ) : Type 0 where
+  pub below : p < length ns
+  pub is : (nodeAt ns p .vr ≡ OW) ⊎ (nodeAt ns p .vr ≡ OB)
+
+-- The item of frame f.
+pub record IsItem (ns : List Node) (f : ℕ) (item : Num) : Type 0 where
+  pub is : item ≡ frameItem ns f
+  pub below : Below (length ns) item
+
+-- The mask item that applies to frame f, and what the shared shift group names for it.
+pub record IsApplying (ns : List Node) (f : ℕ) (applies : Applying) (shared : Found) : Type 0 where
+  pub is : applyingTo ns f ≡ some applies
+  pub below : ApplyingBelow (length ns) applies
+  pub names : SharedBy ns applies shared
+
+-- What a frame has of its own.
+pub record IsPlan (ns : List Node) (f stored : ℕ) (p : Plan) : Type 0 where
+  pub window-is : windowFor ns f stored ≡ some (p .window)
+  pub drawable : Drawable (p .window)
+  pub masking-is : maskingOf ns (p .masking) ≡ maskFor ns f
+  pub below : MaskingBelow (length ns) (p .masking)

@@ -1,0 +1,36 @@
+-- What the functions of this crate say of each other. No paragraph of the papers stands here.
+use Prim.Native.Nat.{ℕ, _≤_}
+use Rattle.dataset.specs.Reading.{Run, done, refused}
+use Rattle.meta.specs.declared.Uid.{Uid}
+use Rattle.meta.specs.declared.Uid.the-variants.{At, Lacks}
+use Rattle.meta.specs.declared.Found.{Found}
+use Rattle.meta.specs.declared.Elements.{Elements}
+use Rattle.meta.specs.declared.Elements.the-variants as elements
+use Rattle.meta.specs.declared.Meta.{Meta}
+use Rattle.meta.specs.declared.Meta.the-variants.{Good, NoMark, BadHead, OtherSyntax}
+use Rattle.meta.specs.Meta.{nothing, foundIn}
+
+-- A UID's value lies within so many bytes.
+abbrev pub UidWithin : ℕ → Uid → Type 0
+UidWithin size Lacks = Unit {0}
+UidWithin size (At a b) = (a ≤ b) × (b ≤ size)
+
+pub record FoundWithin (size : ℕ) (f : Found) : Type 0 where
+  pub class-in : UidWithin size (f .class)
+  pub syntax-in : UidWithin size (f .syntax)
+
+-- What a walk along the head's elements came to.
+abbrev pub walkOf : Run → Elements
+walkOf (done stop next rows) = elements.Good (foundIn nothing rows)
+walkOf (refused code offset) = elements.Refused
+
+abbrev pub ElementsWithin : ℕ → Elements → Type 0
+ElementsWithin size (elements.Good f) = FoundWithin size f
+ElementsWithin size elements.Refused = Unit {0}
+
+-- The data set starts within the file, and the SOP class stands in it.
+abbrev pub MetaWithin : ℕ → Meta → Type 0
+MetaWithin size (Good start a b) = (start ≤ size) × ((a ≤ b) × (b ≤ size))
+MetaWithin size NoMark = Unit {0}
+MetaWithin size BadHead = Unit {0}
+MetaWithin size OtherSyntax = Unit {0}

@@ -1,0 +1,56 @@
+-- What the functions of this crate ask and say of each other. No paragraph of a paper stands here.
+use mathlib.Core.Path.{_≡_}
+use Prim.Native.Nat.{ℕ, _*_, _≤_, _+_, _<_}
+use mathlib.Core.List.{List, [], _∷_}
+use lib.ListN.{length}
+use Rattle.dataset.specs.Reading.{mostRows}
+use Rattle.dataset.specs.Answer.{width, flat}
+use Rattle.dataset.specs.Tree.{rowsOf, rowAt}
+use Rattle.node.specs.Nodes.{nodesOf, Node, nodeAt, nextNode, members}
+use mathlib.Core.Bool.{cond}
+use lib.Dec.{eqb, ltb}
+use Rattle.value.specs.declared.Num.{Num}
+use Rattle.value.specs.declared.Num.the-variants.{Is, Lacks}
+
+-- What the functions over a row table ask of it.
+
+-- The row table of a data set that was read.
+pub record Table (s rows : List ℕ) : Type 0 where
+  pub is : rows ≡ flat (rowsOf s)
+  pub size : length rows ≡ width * length (nodesOf s)
+  pub few : length (nodesOf s) ≤ mostRows
+
+-- How the code finds an element among members: tags never descend among them, so that a search stops at the first tag not below the one
+-- sought, and goes by halves where that is far.
+
+-- No tag of the members is below `least` or below one before it.
+unfoldable pub Ascends : List Node → ℕ → List ℕ → Type 0
+Ascends ns least [] = Unit {0}
+Ascends ns least (k ∷ ks) = (least ≤ nodeAt ns k .tag) × Ascends ns (nodeAt ns k .tag) ks
+
+-- The members from the first on whose tag is not below the tag.
+unfoldable pub fromTag : List Node → ℕ → List ℕ → List ℕ
+fromTag ns tag [] = []
+fromTag ns tag (k ∷ ks) = cond (ltb (nodeAt ns k .tag) tag) (fromTag ns tag ks) (k ∷ ks)
+
+-- The first of the members, if it has the tag.
+unfoldable pub firstIs : List Node → ℕ → List ℕ → Num
+firstIs ns tag [] = Lacks
+firstIs ns tag (k ∷ ks) = cond (eqb (nodeAt ns k .tag) tag) (Is k) Lacks
+
+-- Where the members from `from` up to `to` go on from the first on whose tag is not below the tag, if that is told.
+abbrev pub Nearby : List Node → ℕ → ℕ → ℕ → Num → Type 0
+Nearby ns tag from to (Is n) = members ns n to ≡ fromTag ns tag (members ns from to)
+Nearby ns tag from to Lacks = Unit {0}
+
+-- The first of the members whose tag is not below the tag, by its number; where there is none, `to`.
+unfoldable pub lower : List Node → ℕ → List ℕ → ℕ → ℕ
+lower ns tag [] to = to
+lower ns tag (k ∷ ks) to = cond (ltb (nodeAt ns k .tag) tag) (lower ns tag ks to) k
+
+-- Node m is a member of the node `holder`, and node i is m or below it.
+pub record MemberAbove (s : List ℕ) (holder i m : ℕ) : Type 0 where
+  pub held : rowAt (rowsOf s) m .parent ≡ holder + 1
+  pub after : holder < m
+  pub low : m ≤ i
+  pub high : i < nextNode (nodesOf s) m

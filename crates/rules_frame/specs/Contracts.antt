@@ -1,0 +1,62 @@
+-- What the functions of this crate ask and say of each other. No paragraph of a paper stands here.
+use Prim.Native.Nat.{ℕ}
+use mathlib.Core.List.{List}
+use mathlib.Core.Bool.{Bool, _&&_, true, cond}
+use lib.Dec.{eqb}
+use Rattle.dataset.specs.Vr.{SQ}
+use Rattle.node.specs.Nodes.{Node, nodeAt, inside}
+use Rattle.node.specs.Find.{holds, holdsOr, absent, find}
+use Rattle.node.specs.Contracts.{firstIs}
+use Rattle.element.specs.Tags
+use Rattle.element.specs.Elements.{oneItem}
+use Rattle.intensity.specs.Contracts.{relationIn, tableIn, agree}
+use Rattle.rules_frame.specs.declared.SharedPart.{SharedPart}
+use Rattle.rules.specs.Frame.{item27, item28, isVoi, isShiftGroup}
+
+-- How the code of rule 27 takes the elements of two items together, by their tags.
+
+-- Node j is a sequence, and the first of the members is one of its tag.
+unfoldable pub isRepeated : List Node → ℕ → List ℕ → Bool
+isRepeated ns j ks = eqb (nodeAt ns j .vr) SQ && holds (firstIs ns (nodeAt ns j .tag) ks) (λ k. eqb (nodeAt ns k .vr) SQ)
+
+-- How the code takes the rules that are asked at each frame apart: what a rule asks of the shared item is worked out once, and
+-- what is left is asked of each frame's item. No paragraph of document 01 stands here; `Rattle.rules` has the rules.
+
+-- The functional group that rule 29, 30 or 37 is of, and what it asks of the group.
+unfoldable pub groupTag : ℕ → ℕ
+groupTag rule = cond (eqb rule 29) Tags.FrameCharacteristicsSequence (cond (eqb rule 30) Tags.FrameVOILUTSequence Tags.FramePixelShiftSequence)
+
+unfoldable pub groupFits : List Node → ℕ → ℕ → Bool
+groupFits ns rule g = cond (eqb rule 29) (oneItem ns g) (cond (eqb rule 30) (isVoi ns g) (isShiftGroup ns g))
+
+-- What rule 29, 30 or 37 asks of an item alone; `otherwise` where the item has no such group.
+unfoldable pub groupIn : List Node → ℕ → ℕ → Bool → Bool
+groupIn ns rule i otherwise = holdsOr (find ns (groupTag rule) (inside ns i)) (groupFits ns rule) otherwise
+
+-- What rules 27 to 30 and 37 ask of the shared item s alone.
+unfoldable pub sharedOk : List Node → ℕ → ℕ → Bool
+sharedOk ns rule s =
+    cond (eqb rule 27) true
+    (cond (eqb rule 28) (absent (find ns Tags.FrameContentSequence (inside ns s)))
+    (groupIn ns rule s true))
+
+-- What they ask of the shared item s and a frame's item i.
+unfoldable pub itemBy : List Node → ℕ → ℕ → ℕ → Bool
+itemBy ns rule s i =
+    cond (eqb rule 27) (item27 ns s i)
+    (cond (eqb rule 28) (item28 ns s i)
+    (groupIn ns rule i (groupIn ns rule s true)))
+
+-- Rule 39 is of two groups, each with a grade; a rule that is not 39 has none of them, and 39 no other part.
+unfoldable pub sharedPart : List Node → ℕ → ℕ → SharedPart
+sharedPart ns rule s =
+    cond (eqb rule 39)
+    (record { ok = true; relation = relationIn ns s 1; table = tableIn ns s 1 })
+    (record { ok = sharedOk ns rule s; relation = 1; table = 1 })
+
+unfoldable pub itemGrades : List Node → ℕ → ℕ → Bool
+itemGrades ns s i = agree (relationIn ns i (relationIn ns s 1)) (tableIn ns i (tableIn ns s 1))
+
+-- What a rule asks of the shared item s and a frame's item i.
+unfoldable pub itemRule : List Node → ℕ → ℕ → ℕ → Bool
+itemRule ns rule s i = cond (eqb rule 39) (itemGrades ns s i) (itemBy ns rule s i)

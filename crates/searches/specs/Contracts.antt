@@ -1,0 +1,62 @@
+-- How the code adds the searches up: each group over all frames, so that what is looked at in the shared item is worked out once. No
+-- paragraph of the papers stands here.
+use mathlib.Core.Path.{_≡_}
+use Prim.Native.Nat.{ℕ, _+_, _*_, _≤_}
+use mathlib.Core.List.{List, [], _∷_}
+use mathlib.Core.Bool.{Bool}
+use lib.ListN.{length, take}
+use Rattle.node.specs.Nodes.{Node, inside}
+use Rattle.node.specs.Find.{find}
+use Rattle.node.specs.Contracts.{Table}
+use Rattle.element.specs.Elements.{insideOf}
+use Rattle.conformance.specs.declared.JudgeAnswer.{JudgeAnswer}
+use Rattle.conformance.specs.declared.JudgeAnswer.the-variants as judged
+use Rattle.searches.specs.declared.SharedGroup.{SharedGroup}
+use Rattle.searches.specs.Count.{lookedAt}
+use Rattle.searches.specs.Searches.{Search, GroupSearch, looksFor, rootSearches, maskSearches, readInEach, groupSum, bothItems}
+
+-- All the tags, each sought among the members.
+unfoldable pub allLooked : List Node → List ℕ → List ℕ → ℕ
+allLooked ns [] is = 0
+allLooked ns (tag ∷ tags) is = lookedAt ns tag is + allLooked ns tags is
+
+-- The tags of the tables.
+abbrev pub tagsOf : List Search → List ℕ
+tagsOf [] = []
+tagsOf (s ∷ ss) = s .tag ∷ tagsOf ss
+
+unfoldable pub rootTags : List ℕ
+rootTags = tagsOf rootSearches
+
+unfoldable pub maskTags : List ℕ
+maskTags = tagsOf maskSearches
+
+-- A group, by its tag, at a frame and over frames. The rule's number counts nothing.
+unfoldable pub groupAt : List Node → ℕ → Bool → List ℕ → ℕ → ℕ → ℕ
+groupAt ns tag always reads s i = groupSum ns (looksFor 0 tag always reads) s i
+
+unfoldable pub overGroup : List Node → ℕ → Bool → List ℕ → ℕ → List ℕ → ℕ
+overGroup ns tag always reads s [] = 0
+overGroup ns tag always reads s (i ∷ is) = groupAt ns tag always reads s i + overGroup ns tag always reads s is
+
+unfoldable pub overGroups : List Node → List GroupSearch → ℕ → List ℕ → ℕ
+overGroups ns [] s is = 0
+overGroups ns (g ∷ gs) s is = overGroup ns (g .group) (g .always) (g .reads) s is + overGroups ns gs s is
+
+-- Rule 27 over frames.
+unfoldable pub overBoth : List Node → ℕ → List ℕ → ℕ
+overBoth ns s [] = 0
+overBoth ns s (i ∷ is) = bothItems ns s i + overBoth ns s is
+
+-- What a group comes to in the shared item s: the rows looked at, and those that are looked at in its items.
+pub record InShared (ns : List Node) (tag : ℕ) (reads : List ℕ) (s : ℕ) (part : SharedGroup) : Type 0 where
+  pub looked : part .looked ≡ lookedAt ns tag (inside ns s)
+  pub read : part .read ≡ readInEach ns reads (insideOf ns (find ns tag (inside ns s)))
+
+-- Where judging accepted, its rows stand first in the row buffer that it left.
+abbrev pub Left : List ℕ → List ℕ → JudgeAnswer → Type 0
+Left s rows (judged.Accepted n) = (7 * n ≤ length rows) × Table s (take (7 * n) rows)
+Left s rows (judged.Broken n rule frame) = Unit {0}
+Left s rows (judged.Refused code offset) = Unit {0}
+Left s rows judged.TooLarge = Unit {0}
+Left s rows judged.NoRoom = Unit {0}

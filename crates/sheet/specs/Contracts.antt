@@ -1,0 +1,79 @@
+-- What the counting functions ask and say. No paragraph of a paper stands here.
+use mathlib.Core.Path.{_≡_}
+use mathlib.Core.Bool.{Bool, true}
+use mathlib.Core.Logic.{_⊎_}
+use mathlib.Core.List.{List, [], _∷_}
+use Prim.Native.Nat.{ℕ, _+_, _≤_, _<_, _^_}
+use lib.ListN.{length, getD, set, replicate}
+use Rattle.node.specs.Nodes.{Node}
+use Rattle.pixel.specs.declared.Geometry.{Geometry}
+use Rattle.pixel.specs.Pixel.{isFrame}
+use Rattle.pixel.specs.Contracts.{Shaped, longestRow}
+use Rattle.lines.specs.Contracts.{Shaded}
+use Rattle.ranges.specs.Contracts.{Applied, Known}
+use Rattle.sheet.specs.declared.Held.{Held}
+use Rattle.sheet.specs.declared.Counted.{Counted}
+
+-- ---- Counts
+
+-- Counts with one place changed for each level of a list.
+unfoldable pub tallied : List ℕ → List ℕ → List ℕ
+tallied [] counts = counts
+tallied (y ∷ ys) counts = tallied ys (set counts y (getD counts y 0 + 1))
+
+-- No count passes 64 bits within n more cells.
+pub record Room (counts : List ℕ) (n : ℕ) : Type 0 where
+  pub below : (y : ℕ) → getD counts y 0 + n < 2 ^ 64
+
+-- No sum of 256 of them, times their places, passes 64 bits.
+pub record Few (counts : List ℕ) : Type 0 where
+  pub size : length counts ≡ 256
+  pub below : (y : ℕ) → getD counts y 0 ≤ 281474976710656
+
+-- The first and the last place with a count above 0, or the end of the search.
+pub record First (counts : List ℕ) (r : ℕ) : Type 0 where
+  pub most : r ≤ 255
+  pub none-below : (y : ℕ) → y < r → getD counts y 0 ≡ 0
+  pub found : (1 ≤ getD counts r 0) ⊎ (r ≡ 255)
+
+pub record Last (counts : List ℕ) (r : ℕ) : Type 0 where
+  pub most : r ≤ 255
+  pub none-above : (y : ℕ) → r < y → y < 256 → getD counts y 0 ≡ 0
+  pub found : (1 ≤ getD counts r 0) ⊎ (r ≡ 0)
+
+-- ---- What is worked out ahead
+
+-- What is worked out ahead, for all frames at once.
+pub record IsAhead (ns : List Node) (n : ℕ) (which keys answers : List ℕ) : Type 0 where
+  pub applied : Applied ns n which
+  pub size : n < length which
+  pub known : Known ns keys answers
+  pub key-room : 16 ≤ length keys
+  pub answer-room : 16 ≤ length answers
+
+-- ---- Rooms
+
+-- The pixel bytes hold the frame, and there is room for a line.
+pub record FrameReady (v : List ℕ) (g : Geometry) (f : ℕ) (line : List ℕ) : Type 0 where
+  pub shape : Shaped g
+  pub inside : isFrame g v f ≡ true
+  pub wide : 65535 ≤ length line
+
+-- The lengths of all rooms.
+pub record Rooms (table upper lower line : List ℕ) : Type 0 where
+  pub shades : length table ≡ 131072
+  pub above : longestRow ≤ length upper
+  pub below : longestRow ≤ length lower
+  pub wide : 65535 ≤ length line
+
+-- The shades that are held, with a table that is filled where they say so.
+pub record IsHeld (stored : ℕ) (inverse : Bool) (h : Held) (table : List ℕ) : Type 0 where
+  pub shaded : Shaded (h .shades) stored table
+  pub inverse-is : h .shades .inverse ≡ inverse
+  pub spent-few : h .spent < 131072
+
+-- Nothing counted yet.
+pub record IsNothing (stored : ℕ) (inverse : Bool) (c : Counted) : Type 0 where
+  pub counts-are : c .counts ≡ replicate 256 0
+  pub natives-are : c .natives ≡ 0
+  pub held-is : (table : List ℕ) → IsHeld stored inverse (c .held) table
