@@ -19,7 +19,7 @@ use Rattle.steps.specs.Steps.{Mask, native as noMask, masked as maskOf, average
 use Rattle.steps.specs.declared.Applying.{Applying}
 use Rattle.steps.specs.declared.Applying.the-variants as applying
 use Rattle.steps.specs.declared.Found.{Found}
-use Rattle.steps.specs.Contracts.{IsShared}
+use Rattle.steps.specs.Contracts.{IsShared, ApplyingBelow}
 use Rattle.display.specs.declared.Masking.{Masking}
 use Rattle.display.specs.declared.Masking.the-variants as masking
 use mathlib.Core.Logic.{_⊎_}
@@ -89,12 +89,7 @@ MaskingBelow n (masking.Average k m) = k < n
 MaskingBelow n (masking.One t m) = Unit {0}
 MaskingBelow n masking.Lacks = Unit {0}
 
--- The mask item that applies is one of the nodes.
-abbrev pub ApplyingBelow : ℕ → Applying → Type 0
-ApplyingBelow n (applying.Item j) = j < n
-ApplyingBelow n applying.Nothing = Unit {0}
-
--- What the shared shift group names for it.
+-- What the shared shift group names for the mask item that applies.
 abbrev pub SharedBy : List Node → Applying → Found → Type 0
 SharedBy ns (applying.Item j) r = IsShared ns j r
 SharedBy ns applying.Nothing r = Unit {0}

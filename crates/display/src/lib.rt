@@ -12,7 +12,7 @@ ghost use Rattle.dataset.specs.Fields.{Answers};
 ghost use Rattle.dataset.specs.Answer.{bufferOf};
 ghost use Rattle.conformance.specs.Judging.{numberOf, findingOf};
 ghost use Rattle.display.specs.Show.{imageSize, imageBy, pictureOf, acceptedAnswer, showOf, imageOf, fieldsOf};
-ghost use Rattle.display.specs.Contracts.{IsObject, IsScene, IsItem, IsApplying, IsPlan, Gives, GivesMoves, GivesInverse, averageBy, tidBy, maskingOf, MaskingBelow, ApplyingBelow, SharedBy, isMasked, shadeBy, MasksReady};
+ghost use Rattle.display.specs.Contracts.{IsObject, IsScene, IsItem, IsApplying, IsPlan, Gives, GivesMoves, GivesInverse, averageBy, tidBy, maskingOf, MaskingBelow, SharedBy, isMasked, shadeBy, MasksReady};
 ghost use Rattle.value.specs.Contracts.{Below};
 ghost use Rattle.node.specs.Nodes.{nodesOf};
 ghost use Rattle.node.specs.Contracts.{Table};
@@ -21,12 +21,11 @@ ghost use Rattle.element.specs.Elements.{valueAt};
 ghost use Rattle.pixel.specs.Pixel.{samplesOf};
 ghost use Rattle.pixel.specs.Contracts.{painted, Ready};
 ghost use Rattle.steps.specs.Steps.{applyingTo, inverseOf, movesFor, maskBy, maskFor};
-ghost use Rattle.steps.specs.Contracts.{IsShared};
+ghost use Rattle.steps.specs.Contracts.{ApplyingBelow, IsShared};
 use conformance::JudgeAnswer;
 use element::tags;
 use pixel::Geometry;
 use shift::Moves;
-use steps::Applies;
 use steps::Applying;
 use steps::Found;
 use steps::Inverse;
@@ -147,28 +146,15 @@ fn mask_by(
     }
 }
 
-// Step 2: the first mask item whose range holds the frame, or none.
-fn applying(bytes: &[u8], rows: &[u32], frame: usize, n: usize) -> Applying
-    requires { ⌜ Table (now bytes) (now rows) × Gives n (maskFor (nodesOf (now bytes)) frame) ⌝ }
-    ensures { λ r. ⌜ applyingTo (nodesOf (now (bytes .entry))) frame ≡ some r ⌝ }
-    ensures { λ r. ⌜ ApplyingBelow (length (nodesOf (now (bytes .entry)))) r ⌝ }
-{
-    match steps::applying_to(bytes, rows, frame) {
-        Applies::Item(j) => Applying::Item(j),
-        Applies::Nothing => Applying::Nothing,
-        Applies::Lacks => Applying::Nothing,
-    }
-}
-
 // What the shared shift group names for the mask item that applies.
 fn shared_for(bytes: &[u8], rows: &[u32], applies: Applying) -> Found
     requires { ⌜ Table (now bytes) (now rows) × ApplyingBelow (length (nodesOf (now bytes))) applies ⌝ }
     ensures { λ r. ⌜ SharedBy (nodesOf (now (bytes .entry))) applies r ⌝ }
 {
-    match applies {
-        Applying::Item(j) => steps::shared_naming(bytes, rows, j),
-        Applying::Nothing => Found::Absent,
-    }
+    let Applying::Item(j) = applies else {
+        return Found::Absent;
+    };
+    steps::shared_naming(bytes, rows, j)
 }
 
 // Steps 3 and 4 once it is known which mask item applies, and what the shared shift group names for it. Where none applies the
@@ -328,7 +314,7 @@ pub fn plan_for(bytes: &[u8], rows: &[u32], c: Scene, frame: usize, n: usize) ->
     ensures { λ r. ⌜ IsPlan (nodesOf (now (bytes .entry))) frame (c .g .stored) r ⌝ }
 {
     let item = steps::item_at(bytes, rows, frame);
-    let applies = applying(bytes, rows, frame, n);
+    let applies = steps::mask_item(bytes, rows, frame);
     let shared = shared_for(bytes, rows, applies);
     plan_of(bytes, rows, c, frame, n, item, applies, shared)
 }

@@ -12,7 +12,7 @@ use Rattle.steps.specs.declared.Applying.the-variants.{Item, Nothing}
 use Rattle.steps.specs.declared.Found.{Found}
 use Rattle.steps.specs.declared.Found.the-variants as found
 use Rattle.steps.specs.Steps.{firstHolding, applyingTo}
-use Rattle.steps.specs.Contracts.{IsShared}
+use Rattle.steps.specs.Contracts.{GivesItem, IsShared}
 
 -- ---- How far pairs reach
 
@@ -86,7 +86,7 @@ pub record Left (ns : List Node) (n : ℕ) (all rest which : List ℕ) : Type 0 
 
 -- Step 2 lacks nothing at frames 1 to n.
 pub record Answering (ns : List Node) (n : ℕ) : Type 0 where
-  pub each : (f : ℕ) → 1 ≤ f → f ≤ n → applyingTo ns f ≡ none → ⊥
+  pub each : (f : ℕ) → 1 ≤ f → f ≤ n → GivesItem ns f
 
 -- The table of the mask items that apply to frames 1 to n.
 pub record Applied (ns : List Node) (n : ℕ) (which : List ℕ) : Type 0 where

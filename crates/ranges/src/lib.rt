@@ -110,13 +110,8 @@ fn cover_range(
     requires { ⌜ Table (now bytes) (now rows) × ((i < length (nodesOf (now bytes))) × Rooms n (now reach) (now which)) ⌝ }
     ensures { λ _. ⌜ Tried (λ f. rangeHas (nodesOf (now (bytes .entry))) f (num.Is i)) n item (now (which .entry)) (now (which .exit)) ⌝ }
 {
-    if node::vr(bytes, rows, i) == tags::US {
-        let v = node::value(bytes, rows, i);
-        if 4 <= v.len() {
-            if v.len() % 4 == 0 {
-                cover_pairs(v, n, item, reach, which);
-            }
-        }
+    if steps::has_pairs(bytes, rows, i) {
+        cover_pairs(node::value(bytes, rows, i), n, item, reach, which);
     }
 }
 
@@ -161,23 +156,9 @@ pub fn apply_all(bytes: &[u8], rows: &[u32], n: usize, reach: &mut [u32], which:
     requires { ⌜ Table (now bytes) (now rows) × (Rooms n (now reach) (now which) × Answering (nodesOf (now bytes)) n) ⌝ }
     ensures { λ _. ⌜ Applied (nodesOf (now (bytes .entry))) n (now (which .exit)) ⌝ }
 {
+    let items = element::mask_items(bytes, rows);
     clear(n + 1, which);
-    match element::find_root(bytes, rows, tags::MASK_SUBTRACTION_SEQUENCE) {
-        Num::Lacks => {}
-        Num::Is(m) => {
-            if node::vr(bytes, rows, m) == node::SQ {
-                cover_items(
-                    bytes,
-                    rows,
-                    m + 1,
-                    node::next(bytes, rows, m),
-                    n,
-                    reach,
-                    which,
-                );
-            }
-        }
-    }
+    cover_items(bytes, rows, items.at, items.end, n, reach, which);
 }
 
 // The mask item that applies to a frame.

@@ -17,7 +17,7 @@ ghost use Rattle.element.specs.Tags.{FramePixelShiftSequence};
 ghost use Rattle.element.specs.Frames.{framesOf, frameItem};
 ghost use Rattle.steps.specs.Given.{need, check, then};
 ghost use Rattle.steps.specs.Steps.{orShared, groupFor, inPairs, rangeHas, rangeHolds, firstHolding, applyingTo, averageFrames, offsetAt, offsetOf, tidFrame, naming, ownIn, itemAt, shiftFrom, shiftFor, geometryOf, pixelsOf, windowIn, windowOn, windowFor, inverseOf};
-ghost use Rattle.steps.specs.Contracts.{foundOf, FoundBelow, holdsOf, appliesOf, AppliesBelow, valueIn, framesIn, signedOf, shiftsOf, sizedOf, SizedSmall, windowedOf, inverseSaid, sharedNaming, IsShared};
+ghost use Rattle.steps.specs.Contracts.{foundOf, FoundBelow, holdsOf, hasPairs, ifRead, GivesItem, ApplyingBelow, valueIn, framesIn, signedOf, shiftsOf, sizedOf, SizedSmall, windowedOf, inverseSaid, sharedNaming, IsShared};
 use element::tags;
 use pixel::Geometry;
 use shift::Shift;
@@ -45,13 +45,6 @@ pub enum Found {
 pub enum Holds {
     Yes,
     No,
-    Lacks,
-}
-
-// The mask item that applies to a frame, that none does, or that a step lacks something.
-pub enum Applies {
-    Item(usize),
-    Nothing,
     Lacks,
 }
 
@@ -160,25 +153,33 @@ fn in_pairs(v: &[u8], frame: usize) -> bool
     false
 }
 
+// Whether node i holds pairs of numbers, at least one.
+pub fn has_pairs(bytes: &[u8], rows: &[u32], i: usize) -> bool
+    requires { ⌜ Table (now bytes) (now rows) × (i < length (nodesOf (now bytes))) ⌝ }
+    ensures { λ r. ⌜ r ≡ hasPairs (nodesOf (now (bytes .entry))) i ⌝ }
+{
+    if node::vr(bytes, rows, i) == tags::US {
+        let v = node::value(bytes, rows, i);
+        if 4 <= v.len() {
+            v.len() % 4 == 0
+        } else {
+            false
+        }
+    } else {
+        false
+    }
+}
+
 // Whether the range at node i holds a frame.
 fn range_at(bytes: &[u8], rows: &[u32], frame: usize, i: usize) -> Holds
     requires { ⌜ Table (now bytes) (now rows) × (i < length (nodesOf (now bytes))) ⌝ }
     ensures { λ r. ⌜ holdsOf r ≡ rangeHas (nodesOf (now (bytes .entry))) frame (num.Is i) ⌝ }
 {
-    if node::vr(bytes, rows, i) == tags::US {
-        let v = node::value(bytes, rows, i);
-        if 4 <= v.len() {
-            if v.len() % 4 == 0 {
-                if in_pairs(v, frame) {
-                    Holds::Yes
-                } else {
-                    Holds::No
-                }
-            } else {
-                Holds::Lacks
-            }
+    if has_pairs(bytes, rows, i) {
+        if in_pairs(node::value(bytes, rows, i), frame) {
+            Holds::Yes
         } else {
-            Holds::Lacks
+            Holds::No
         }
     } else {
         Holds::Lacks
@@ -186,7 +187,7 @@ fn range_at(bytes: &[u8], rows: &[u32], frame: usize, i: usize) -> Holds
 }
 
 // Whether the range of mask item j holds a frame.
-fn range_holds(bytes: &[u8], rows: &[u32], frame: usize, j: usize) -> Holds
+pub fn range_holds(bytes: &[u8], rows: &[u32], frame: usize, j: usize) -> Holds
     requires { ⌜ Table (now bytes) (now rows) × (j < length (nodesOf (now bytes))) ⌝ }
     ensures { λ r. ⌜ holdsOf r ≡ rangeHolds (nodesOf (now (bytes .entry))) frame j ⌝ }
 {
@@ -196,45 +197,38 @@ fn range_holds(bytes: &[u8], rows: &[u32], frame: usize, j: usize) -> Holds
     }
 }
 
-// The first mask item from `from` up to `to` whose range holds a frame.
-fn first_holding(bytes: &[u8], rows: &[u32], frame: usize, from: usize, to: usize) -> Applies
+// The search: the first mask item from `from` up to `to` whose range does not leave the frame out, or none. Where the range there
+// can be read, it holds the frame.
+pub fn first_holding(bytes: &[u8], rows: &[u32], frame: usize, from: usize, to: usize) -> Applying
     requires { ⌜ Table (now bytes) (now rows) × (to ≤ length (nodesOf (now bytes))) ⌝ }
-    ensures { λ r. ⌜ appliesOf r ≡ firstHolding (nodesOf (now (bytes .entry))) frame (members (nodesOf (now (bytes .entry))) from to) ⌝ }
-    ensures { λ r. ⌜ AppliesBelow (length (nodesOf (now (bytes .entry)))) r ⌝ }
+    ensures { λ r. ⌜ ifRead (nodesOf (now (bytes .entry))) frame r ≡ firstHolding (nodesOf (now (bytes .entry))) frame (members (nodesOf (now (bytes .entry))) from to) ⌝ }
+    ensures { λ r. ⌜ ApplyingBelow (length (nodesOf (now (bytes .entry)))) r ⌝ }
 {
     let mut at = from;
     while at < to {
         match range_holds(bytes, rows, frame, at) {
             Holds::Yes => {
-                return Applies::Item(at);
+                return Applying::Item(at);
             }
             Holds::No => {
                 at = node::next(bytes, rows, at);
             }
             Holds::Lacks => {
-                return Applies::Lacks;
+                return Applying::Item(at);
             }
         }
     }
-    Applies::Nothing
+    Applying::Nothing
 }
 
-// Step 2: the mask item that applies to a frame.
-pub fn applying_to(bytes: &[u8], rows: &[u32], frame: usize) -> Applies
-    requires { ⌜ Table (now bytes) (now rows) ⌝ }
-    ensures { λ r. ⌜ appliesOf r ≡ applyingTo (nodesOf (now (bytes .entry))) frame ⌝ }
-    ensures { λ r. ⌜ AppliesBelow (length (nodesOf (now (bytes .entry)))) r ⌝ }
+// Step 2: the mask item that applies to a frame, or none.
+pub fn mask_item(bytes: &[u8], rows: &[u32], frame: usize) -> Applying
+    requires { ⌜ Table (now bytes) (now rows) × GivesItem (nodesOf (now bytes)) frame ⌝ }
+    ensures { λ r. ⌜ applyingTo (nodesOf (now (bytes .entry))) frame ≡ some r ⌝ }
+    ensures { λ r. ⌜ ApplyingBelow (length (nodesOf (now (bytes .entry)))) r ⌝ }
 {
-    match element::find_root(bytes, rows, tags::MASK_SUBTRACTION_SEQUENCE) {
-        Num::Lacks => Applies::Nothing,
-        Num::Is(m) => {
-            if node::vr(bytes, rows, m) == node::SQ {
-                first_holding(bytes, rows, frame, m + 1, node::next(bytes, rows, m))
-            } else {
-                Applies::Lacks
-            }
-        }
-    }
+    let items = element::mask_items(bytes, rows);
+    first_holding(bytes, rows, frame, items.at, items.end)
 }
 
 // ---- Step 3: the mask frames

@@ -5,7 +5,8 @@ use lib.ListN.{length}
 use mathlib.Core.Option.{some}
 use Rattle.steps.specs.declared.Applying.{Applying}
 use Rattle.steps.specs.Steps.{maskBy, maskFor}
-use Rattle.display.specs.Contracts.{ApplyingBelow, SharedBy}
+use Rattle.steps.specs.Contracts.{ApplyingBelow}
+use Rattle.display.specs.Contracts.{SharedBy}
 use borrow.Author.Needs.{needs}
 use Rattle.display.proofs.mask_on.Statement.{statement}
 use Rattle.display.proofs.mask_on.Tie as tie

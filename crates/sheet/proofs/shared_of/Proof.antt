@@ -3,7 +3,8 @@ use lib.ListN.{length}
 use Rattle.node.specs.Nodes.{nodesOf}
 use Rattle.steps.specs.declared.Applying.{Applying}
 use Rattle.steps.specs.declared.Found.the-variants as found
-use Rattle.display.specs.Contracts.{ApplyingBelow, SharedBy}
+use Rattle.steps.specs.Contracts.{ApplyingBelow}
+use Rattle.display.specs.Contracts.{SharedBy}
 use borrow.Author.Needs.{needs}
 use Rattle.sheet.proofs.shared_of.Statement.{statement}
 use Rattle.sheet.proofs.shared_of.Tie as tie
