@@ -2,7 +2,7 @@
 use Prim.Native.Nat.{ℕ, _%_, _≤_, _<_}
 use lib.ListN.{length}
 use lib.Dec.{eqb, leb}
-use mathlib.Core.Bool.{Bool, true, false, _&&_}
+use mathlib.Core.Bool.{Bool, true, false, cond, _&&_}
 use mathlib.Core.List.{List}
 use mathlib.Core.Option.{Option, none, some}
 use mathlib.Core.Path.{_≡_}
@@ -10,21 +10,26 @@ use Rattle.value.specs.declared.Num.{Num}
 use Rattle.value.specs.declared.Num.the-variants as num
 use Rattle.value.specs.declared.Signed.{Signed}
 use Rattle.value.specs.declared.Signed.the-variants as signed
+use Rattle.value.specs.Text.{ascii}
 use Rattle.value.specs.Number.{usValues}
 use Rattle.shift.specs.declared.Shift.{Shift}
 use Rattle.node.specs.Nodes.{Node, nodeAt}
 use Rattle.element.specs.Tags
 use Rattle.element.specs.Elements.{valueAt}
+use Rattle.element.specs.Frames.{operationIs}
 use Rattle.pixel.specs.declared.Geometry.{Geometry}
 use Rattle.window.specs.declared.Window.{Window}
 use Rattle.steps.specs.Given.{then}
-use Rattle.steps.specs.Steps.{orShared, rangeHolds, applyingTo, ownIn}
+use Rattle.steps.specs.Steps.{orShared, rangeHolds, applyingTo, ownIn, windowOn}
 use Rattle.steps.specs.declared.Applying.{Applying}
 use Rattle.steps.specs.declared.Applying.the-variants as applying
 use Rattle.steps.specs.declared.Found.{Found}
 use Rattle.steps.specs.declared.Found.the-variants as found
 use Rattle.steps.specs.declared.Holds.{Holds}
 use Rattle.steps.specs.declared.Holds.the-variants as holds
+use Rattle.steps.specs.declared.Operation.{Operation}
+use Rattle.steps.specs.declared.Operation.the-variants as operation
+use Rattle.steps.specs.declared.Told.{Told}
 use Rattle.steps.specs.declared.Shifts.{Shifts}
 use Rattle.steps.specs.declared.Shifts.the-variants as shifts
 use Rattle.steps.specs.declared.Sized.{Sized}
@@ -54,6 +59,18 @@ sharedNaming ns j = then (orShared ns Tags.FramePixelShiftSequence num.Lacks) (o
 pub record IsShared (ns : List Node) (j : ℕ) (r : Found) : Type 0 where
   pub is : foundOf r ≡ sharedNaming ns j
   pub below : FoundBelow (length ns) r
+
+-- What a mask item does, by its Mask Operation.
+unfoldable pub operationOf : List Node → ℕ → Operation
+operationOf ns j =
+    cond (operationIs ns (ascii "NONE") j) operation.Native
+    (cond (operationIs ns (ascii "AVG_SUB") j) operation.Average
+    (cond (operationIs ns (ascii "TID") j) operation.Tid operation.Lacks))
+
+-- What mask item j says to all frames alike.
+pub record IsTold (ns : List Node) (j : ℕ) (t : Told) : Type 0 where
+  pub operation-is : t .operation ≡ operationOf ns j
+  pub names : IsShared ns j (t .shared)
 
 -- A test.
 abbrev pub holdsOf : Holds → Option Bool
@@ -117,6 +134,10 @@ SizedSmall sized.Lacks = Unit {0}
 abbrev pub windowedOf : Windowed → Option Window
 windowedOf (windowed.Is w) = some w
 windowedOf windowed.Lacks = none
+
+-- The window of a frame that has no VOI group of its own.
+abbrev pub sharedWindow : List Node → ℕ → Option Window
+sharedWindow ns stored = then (orShared ns Tags.FrameVOILUTSequence num.Lacks) (windowOn ns stored)
 
 abbrev pub inverseSaid : Inverse → Option Bool
 inverseSaid inverse.Yes = some true

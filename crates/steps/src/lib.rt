@@ -17,7 +17,7 @@ ghost use Rattle.element.specs.Tags.{FramePixelShiftSequence};
 ghost use Rattle.element.specs.Frames.{framesOf, frameItem};
 ghost use Rattle.steps.specs.Given.{need, check, then};
 ghost use Rattle.steps.specs.Steps.{orShared, groupFor, inPairs, rangeHas, rangeHolds, firstHolding, applyingTo, averageFrames, offsetAt, offsetOf, tidFrame, naming, ownIn, itemAt, shiftFrom, shiftFor, geometryOf, pixelsOf, windowIn, windowOn, windowFor, inverseOf};
-ghost use Rattle.steps.specs.Contracts.{foundOf, FoundBelow, holdsOf, hasPairs, ifRead, GivesItem, ApplyingBelow, valueIn, framesIn, signedOf, shiftsOf, sizedOf, SizedSmall, windowedOf, inverseSaid, sharedNaming, IsShared};
+ghost use Rattle.steps.specs.Contracts.{foundOf, FoundBelow, holdsOf, hasPairs, ifRead, GivesItem, ApplyingBelow, valueIn, framesIn, signedOf, shiftsOf, sizedOf, SizedSmall, windowedOf, inverseSaid, sharedNaming, sharedWindow, IsShared, operationOf, IsTold};
 use element::tags;
 use pixel::Geometry;
 use shift::Shift;
@@ -46,6 +46,21 @@ pub enum Holds {
     Yes,
     No,
     Lacks,
+}
+
+// What a mask item does with the frames it applies to: nothing, take the average of its mask frames off, or take one frame off; or
+// a step lacks something.
+pub enum Operation {
+    Native,
+    Average,
+    Tid,
+    Lacks,
+}
+
+// What a mask item says to all frames alike: its operation, and which item of the shared shift group names its ID.
+pub struct Told {
+    pub operation: Operation,
+    pub shared: Found,
 }
 
 pub enum Shifts {
@@ -233,6 +248,26 @@ pub fn mask_item(bytes: &[u8], rows: &[u32], frame: usize) -> Applying
 
 // ---- Step 3: the mask frames
 
+// What mask item j does.
+pub fn operation_of(bytes: &[u8], rows: &[u32], j: usize) -> Operation
+    requires { ⌜ Table (now bytes) (now rows) × (j < length (nodesOf (now bytes))) ⌝ }
+    ensures { λ r. ⌜ r ≡ operationOf (nodesOf (now (bytes .entry))) j ⌝ }
+{
+    if element::cs_item(bytes, rows, j, tags::MASK_OPERATION, b"NONE") {
+        Operation::Native
+    } else {
+        if element::cs_item(bytes, rows, j, tags::MASK_OPERATION, b"AVG_SUB") {
+            Operation::Average
+        } else {
+            if element::cs_item(bytes, rows, j, tags::MASK_OPERATION, b"TID") {
+                Operation::Tid
+            } else {
+                Operation::Lacks
+            }
+        }
+    }
+}
+
 // The element of an averaging mask item that has the mask frames.
 pub fn average_element(bytes: &[u8], rows: &[u32], j: usize) -> Num
     requires { ⌜ Table (now bytes) (now rows) × (j < length (nodesOf (now bytes))) ⌝ }
@@ -277,12 +312,11 @@ fn offset_of(bytes: &[u8], rows: &[u32], j: usize) -> Signed
     }
 }
 
-// A number x, where it is one of the frames.
-fn among_frames(bytes: &[u8], rows: &[u32], x: usize) -> Found
-    requires { ⌜ Table (now bytes) (now rows) ⌝ }
-    ensures { λ r. ⌜ foundOf r ≡ need (framesOf (nodesOf (now (bytes .entry)))) (λ n. some (cond (leb 1 x && leb x n) (num.Is x) num.Lacks)) ⌝ }
+// A number x, where it is one of the frames; `frames` says how many there are.
+fn among_frames(x: usize, frames: Num) -> Found
+    ensures { λ r. ⌜ foundOf r ≡ need frames (λ n. some (cond (leb 1 x && leb x n) (num.Is x) num.Lacks)) ⌝ }
 {
-    match element::frame_count(bytes, rows) {
+    match frames {
         Num::Lacks => Found::Lacks,
         Num::Is(n) => {
             if 1 <= x {
@@ -301,14 +335,14 @@ fn less(a: usize, b: usize) -> usize
     if b <= a { a - b } else { 0 }
 }
 
-// The mask frame that a TID mask item gives a frame.
-pub fn tid_frame(bytes: &[u8], rows: &[u32], frame: usize, j: usize) -> Found
-    requires { ⌜ Table (now bytes) (now rows) × ((j < length (nodesOf (now bytes))) × (frame < 4294967296)) ⌝ }
+// The mask frame that a TID mask item gives a frame; `frames` is Number of Frames.
+pub fn tid_frame(bytes: &[u8], rows: &[u32], frame: usize, j: usize, frames: Num) -> Found
+    requires { ⌜ Table (now bytes) (now rows) × ((j < length (nodesOf (now bytes))) × ((frame < 4294967296) × (frames ≡ framesOf (nodesOf (now bytes))))) ⌝ }
     ensures { λ r. ⌜ foundOf r ≡ tidFrame (nodesOf (now (bytes .entry))) frame j ⌝ }
 {
     match offset_of(bytes, rows, j) {
-        Signed::Plus(d) => among_frames(bytes, rows, less(frame, d)),
-        Signed::Minus(d) => among_frames(bytes, rows, frame + d),
+        Signed::Plus(d) => among_frames(less(frame, d), frames),
+        Signed::Minus(d) => among_frames(frame + d, frames),
         Signed::Lacks => Found::Lacks,
     }
 }
@@ -442,6 +476,24 @@ pub fn shared_naming(bytes: &[u8], rows: &[u32], j: usize) -> Found
     own(bytes, rows, j, group)
 }
 
+// What mask item j says to all frames alike.
+pub fn told_by(bytes: &[u8], rows: &[u32], j: usize) -> Told
+    requires { ⌜ Table (now bytes) (now rows) × (j < length (nodesOf (now bytes))) ⌝ }
+    ensures { λ r. ⌜ IsTold (nodesOf (now (bytes .entry))) j r ⌝ }
+{
+    let operation = operation_of(bytes, rows, j);
+    let shared = shared_naming(bytes, rows, j);
+    Told { operation, shared }
+}
+
+// What stands where no mask item applies.
+pub fn nothing_told() -> Told {
+    Told {
+        operation: Operation::Native,
+        shared: Found::Absent,
+    }
+}
+
 // The item of a frame's shift group that names the ID of mask item j; `shared` is that of the shared one.
 fn naming_for(bytes: &[u8], rows: &[u32], frame: usize, item: Num, j: usize, shared: Found) -> Found
     requires { ⌜ Table (now bytes) (now rows) × ((j < length (nodesOf (now bytes))) × ((item ≡ frameItem (nodesOf (now bytes)) frame) × (Below (length (nodesOf (now bytes))) item × IsShared (nodesOf (now bytes)) j shared))) ⌝ }
@@ -551,16 +603,46 @@ fn window_at(bytes: &[u8], rows: &[u32], stored: usize, g: usize) -> Windowed
     }
 }
 
-// Step 6: the window of a frame; `item` is the frame's item.
-pub fn window_for(bytes: &[u8], rows: &[u32], frame: usize, item: Num, stored: usize) -> Windowed
-    requires { ⌜ Table (now bytes) (now rows) × ((item ≡ frameItem (nodesOf (now bytes)) frame) × (Below (length (nodesOf (now bytes))) item × (stored ≤ 16))) ⌝ }
-    ensures { λ r. ⌜ windowedOf r ≡ windowFor (nodesOf (now (bytes .entry))) frame stored ⌝ }
+// The window of the shared VOI group: the same for every frame that has no group of its own.
+pub fn shared_window(bytes: &[u8], rows: &[u32], stored: usize) -> Windowed
+    requires { ⌜ Table (now bytes) (now rows) × (stored ≤ 16) ⌝ }
+    ensures { λ r. ⌜ windowedOf r ≡ sharedWindow (nodesOf (now (bytes .entry))) stored ⌝ }
 {
-    match group_for(bytes, rows, frame, item, tags::FRAME_VOI_LUT_SEQUENCE) {
+    match shared_group(bytes, rows, tags::FRAME_VOI_LUT_SEQUENCE) {
         Found::At(g) => window_at(bytes, rows, stored, g),
         Found::Absent => Windowed::Is(window::full_window(stored)),
         Found::Lacks => Windowed::Lacks,
     }
+}
+
+// Step 6: the window of a frame; `item` is the frame's item, `common` the window of the shared VOI group.
+pub fn window_by(
+    bytes: &[u8],
+    rows: &[u32],
+    frame: usize,
+    item: Num,
+    stored: usize,
+    common: Windowed,
+) -> Windowed
+    requires { ⌜ Table (now bytes) (now rows) × ((item ≡ frameItem (nodesOf (now bytes)) frame) × (Below (length (nodesOf (now bytes))) item × (windowedOf common ≡ sharedWindow (nodesOf (now bytes)) stored))) ⌝ }
+    ensures { λ r. ⌜ windowedOf r ≡ windowFor (nodesOf (now (bytes .entry))) frame stored ⌝ }
+{
+    match item {
+        Num::Lacks => Windowed::Lacks,
+        Num::Is(i) => match element::find_item(bytes, rows, i, tags::FRAME_VOI_LUT_SEQUENCE) {
+            Num::Lacks => common,
+            Num::Is(g) => window_at(bytes, rows, stored, g),
+        },
+    }
+}
+
+// The same, with the window of the shared group worked out here.
+pub fn window_for(bytes: &[u8], rows: &[u32], frame: usize, item: Num, stored: usize) -> Windowed
+    requires { ⌜ Table (now bytes) (now rows) × ((item ≡ frameItem (nodesOf (now bytes)) frame) × (Below (length (nodesOf (now bytes))) item × (stored ≤ 16))) ⌝ }
+    ensures { λ r. ⌜ windowedOf r ≡ windowFor (nodesOf (now (bytes .entry))) frame stored ⌝ }
+{
+    let common = shared_window(bytes, rows, stored);
+    window_by(bytes, rows, frame, item, stored, common)
 }
 
 // ---- Step 7: whether the image is inverted

@@ -3,6 +3,7 @@ use crate::answers;
 use element::tags;
 use steps::Applying;
 use steps::Holds;
+use steps::Operation;
 use steps::Sized;
 use value::Num;
 ghost use mathlib.Core.Path.{_≡_};
@@ -73,20 +74,19 @@ fn count_members(bytes: &[u8], rows: &[u32], from: usize, to: usize) -> usize
     n
 }
 
-fn print_operation(bytes: &[u8], rows: &[u32], j: usize)
-    requires { ⌜ Table (now bytes) (now rows) × (j < length (nodesOf (now bytes))) ⌝ }
-{
-    if element::cs_item(bytes, rows, j, tags::MASK_OPERATION, b"NONE") {
-        io::write_all(1, b" NONE");
-    } else {
-        if element::cs_item(bytes, rows, j, tags::MASK_OPERATION, b"AVG_SUB") {
+fn print_operation(operation: Operation) {
+    match operation {
+        Operation::Native => {
+            io::write_all(1, b" NONE");
+        }
+        Operation::Average => {
             io::write_all(1, b" AVG_SUB");
-        } else {
-            if element::cs_item(bytes, rows, j, tags::MASK_OPERATION, b"TID") {
-                io::write_all(1, b" TID");
-            } else {
-                io::write_all(1, b" lacks");
-            }
+        }
+        Operation::Tid => {
+            io::write_all(1, b" TID");
+        }
+        Operation::Lacks => {
+            io::write_all(1, b" lacks");
         }
     }
 }
@@ -113,6 +113,14 @@ fn print_masks(bytes: &[u8], rows: &[u32], masks: Num)
     }
 }
 
+// Step 3, TID: the mask frame.
+fn print_tid(bytes: &[u8], rows: &[u32], frame: usize, j: usize)
+    requires { ⌜ Table (now bytes) (now rows) × ((j < length (nodesOf (now bytes))) × (frame < 5)) ⌝ }
+{
+    let frames = element::frame_count(bytes, rows);
+    answers::print_tid(steps::tid_frame(bytes, rows, frame, j, frames));
+}
+
 // Step 4. It is not asked for frame 0, which no data set has: `frameItem` counts from 1, and gives the first item for 0 too.
 fn print_shift(bytes: &[u8], rows: &[u32], frame: usize, item: Num, j: usize)
     requires { ⌜ Table (now bytes) (now rows) × ((j < length (nodesOf (now bytes))) × ((item ≡ frameItem (nodesOf (now bytes)) frame) × Below (length (nodesOf (now bytes))) item)) ⌝ }
@@ -131,9 +139,9 @@ fn print_item(bytes: &[u8], rows: &[u32], frame: usize, item: Num, j: usize)
     let items = element::mask_items(bytes, rows);
     io::write_all(1, b" item");
     answers::print_number(count_members(bytes, rows, items.at, j) + 1);
-    print_operation(bytes, rows, j);
+    print_operation(steps::operation_of(bytes, rows, j));
     print_masks(bytes, rows, steps::average_element(bytes, rows, j));
-    answers::print_tid(steps::tid_frame(bytes, rows, frame, j));
+    print_tid(bytes, rows, frame, j);
     print_shift(bytes, rows, frame, item, j);
 }
 

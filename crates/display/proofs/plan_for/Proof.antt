@@ -15,14 +15,14 @@ mask-item-requires c κs =
     let a = c .before .before .before .args in
     (p .0, λ e. plan.applying-some (nodesOf (a .bytes .now)) (a .frame) (a .n) e (scenes.objects (a .bytes .now) (a .n) (a .frame) (p .1 .0) (p .1 .1 .1 .0) (p .1 .1 .1 .1) .mask))
 
-shared-for-requires : tie.Need-shared-for-requires
-shared-for-requires c κs =
+told-for-requires : tie.Need-told-for-requires
+told-for-requires c κs =
     (c .before .before .before .before .pre .0, c .mask-item .ensures .1)
 
 plan-of-requires : tie.Need-plan-of-requires
 plan-of-requires c κs =
     let p = c .before .before .before .before .before .pre in
-    (p .0, (p .1 .0, (p .1 .1 .0, (record { is = c .before .before .item-at .ensures .0; below = c .before .before .item-at .ensures .1 }, (p .1 .1 .1 .0, (p .1 .1 .1 .1, record { is = c .before .mask-item .ensures .0; below = c .before .mask-item .ensures .1; names = c .shared-for .ensures }))))))
+    (p .0, (p .1 .0, (p .1 .1 .0, (record { is = c .before .before .item-at .ensures .0; below = c .before .before .item-at .ensures .1 }, (p .1 .1 .1 .0, (p .1 .1 .1 .1, record { is = c .before .mask-item .ensures .0; below = c .before .mask-item .ensures .1; tells = c .told-for .ensures }))))))
 
 returns : tie.Need-returns
 returns c =
@@ -31,4 +31,4 @@ returns c =
 pub plan-for-spec : {M : Type 1} → statement M
 plan-for-spec =
     tie.close
-    (tie.spec item-at-requires mask-item-requires shared-for-requires plan-of-requires returns)
+    (tie.spec item-at-requires mask-item-requires told-for-requires plan-of-requires returns)
