@@ -171,8 +171,13 @@ fn applying_to(bytes: &[u8], rows: &[u32], frame: usize) -> Applies
         Num::Lacks => Applies::Nothing,
         Num::Is(m) => {
             if node::vr(bytes, rows, m) == node::SQ {
-                let found =
-                    steps::first_holding(bytes, rows, frame, m + 1, node::next(bytes, rows, m));
+                let found = steps::first_holding(
+                    bytes,
+                    rows,
+                    frame,
+                    m + 1,
+                    node::next(bytes, rows, m),
+                );
                 if_read(bytes, rows, frame, found)
             } else {
                 Applies::Lacks
