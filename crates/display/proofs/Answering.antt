@@ -1,6 +1,6 @@
 -- What the code's answers say of the steps, where a step is known to give something.
 use mathlib.Core.Path.{_≡_, refl, sym, ap, _∙_, subst}
-use mathlib.Core.Bool.{Bool, true, false, _&&_}
+use mathlib.Core.Bool.{Bool, true, false, cond, _&&_}
 use mathlib.Core.List.{List}
 use mathlib.Core.Option.{Option, none, some}
 use Prim.Native.Nat.{ℕ}
@@ -17,8 +17,14 @@ use Rattle.shift.specs.Shift.{isShort, isShiftOf, movesOf, shortMovesOf}
 use Rattle.shift.proofs.Laws.{moves-short}
 use Rattle.node.specs.Nodes.{Node}
 use Rattle.steps.specs.Given.{check, then}
-use Rattle.steps.specs.Steps.{Mask, shiftFor, movesFor, applyingTo, maskFor, masked as maskOf}
-use Rattle.display.specs.Contracts.{Short, Sound, Gives, GivesMoves}
+use Rattle.value.specs.Text.{ascii}
+use Rattle.element.specs.Frames.{operationIs}
+use Rattle.steps.specs.declared.Operation.{Operation}
+use Rattle.steps.specs.declared.Operation.the-variants as operation
+use Rattle.steps.specs.declared.Told.{Told}
+use Rattle.steps.specs.Contracts.{operationOf, IsTold}
+use Rattle.steps.specs.Steps.{Mask, shiftFor, movesFor, applyingTo, maskBy, maskFor, native as noMask, masked as maskOf}
+use Rattle.display.specs.Contracts.{Short, Sound, Gives, GivesMoves, averageBy, tidBy, operated}
 use Rattle.display.proofs.Given.{never}
 
 short-is : (x : Signed) → isNumber x ≡ true → SizeBelow 257 x → isShort x ≡ true
@@ -62,6 +68,22 @@ gives-same n o p e g = subst (Gives n) e g
 -- A step that lacks something gives no mask.
 pub gives-none : (n : ℕ) (o : Option Mask) → o ≡ none → Gives n o → ⊥
 gives-none n o e g = never (sym e ∙ g .mask)
+
+-- A mask item's steps 3 and 4 go by its operation.
+pub by-operation : (ns : List Node) (f j : ℕ) → maskBy ns f j ≡ operated ns f j (operationOf ns j)
+unfolding maskBy operationOf
+by-operation ns f j = go (operationIs ns (ascii "NONE") j) (operationIs ns (ascii "AVG_SUB") j) (operationIs ns (ascii "TID") j)
+  where
+    go : (a b d : Bool) → cond a (some noMask) (cond b (averageBy ns f j) (cond d (tidBy ns f j) none))
+        ≡ operated ns f j (cond a operation.Native (cond b operation.Average (cond d operation.Tid operation.Lacks)))
+    go true b d = refl
+    go false true d = refl
+    go false false true = refl
+    go false false false = refl
+
+-- So for what is told of it.
+pub by-told : (ns : List Node) (f j : ℕ) (t : Told) {o : Operation} → IsTold ns j t → t .operation ≡ o → maskBy ns f j ≡ operated ns f j o
+by-told ns f j t h e = by-operation ns f j ∙ ap (operated ns f j) (sym (h .operation-is) ∙ e)
 
 -- Where the steps give a mask, the search for a mask item lacks nothing.
 pub applying-some : (ns : List Node) (f n : ℕ) → applyingTo ns f ≡ none → Gives n (maskFor ns f) → ⊥

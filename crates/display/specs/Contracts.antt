@@ -18,8 +18,10 @@ use Rattle.steps.specs.Given.{then}
 use Rattle.steps.specs.Steps.{Mask, native as noMask, masked as maskOf, averageFrames, tidFrame, onTid, movesFor, maskFor, geometryOf, applyingTo, windowFor, inverseOf}
 use Rattle.steps.specs.declared.Applying.{Applying}
 use Rattle.steps.specs.declared.Applying.the-variants as applying
-use Rattle.steps.specs.declared.Found.{Found}
-use Rattle.steps.specs.Contracts.{IsShared}
+use Rattle.steps.specs.declared.Operation.{Operation}
+use Rattle.steps.specs.declared.Operation.the-variants as operation
+use Rattle.steps.specs.declared.Told.{Told}
+use Rattle.steps.specs.Contracts.{IsTold, ApplyingBelow, windowedOf, sharedWindow}
 use Rattle.display.specs.declared.Masking.{Masking}
 use Rattle.display.specs.declared.Masking.the-variants as masking
 use mathlib.Core.Logic.{_⊎_}
@@ -75,6 +77,13 @@ averageBy ns f j = then (averageFrames ns j) (λ ks. then (movesFor ns f j) (λ 
 abbrev pub tidBy : List Node → ℕ → ℕ → Option Mask
 tidBy ns f j = then (tidFrame ns f j) (onTid ns f j)
 
+-- Steps 3 and 4 by the operation.
+abbrev pub operated : List Node → ℕ → ℕ → Operation → Option Mask
+operated ns f j operation.Native = some noMask
+operated ns f j operation.Average = averageBy ns f j
+operated ns f j operation.Tid = tidBy ns f j
+operated ns f j operation.Lacks = none
+
 -- What the code's answer says.
 abbrev pub maskingOf : List Node → Masking → Option Mask
 maskingOf ns masking.Native = some noMask
@@ -89,15 +98,10 @@ MaskingBelow n (masking.Average k m) = k < n
 MaskingBelow n (masking.One t m) = Unit {0}
 MaskingBelow n masking.Lacks = Unit {0}
 
--- The mask item that applies is one of the nodes.
-abbrev pub ApplyingBelow : ℕ → Applying → Type 0
-ApplyingBelow n (applying.Item j) = j < n
-ApplyingBelow n applying.Nothing = Unit {0}
-
--- What the shared shift group names for it.
-abbrev pub SharedBy : List Node → Applying → Found → Type 0
-SharedBy ns (applying.Item j) r = IsShared ns j r
-SharedBy ns applying.Nothing r = Unit {0}
+-- What the mask item that applies says to all frames alike.
+abbrev pub ToldBy : List Node → Applying → Told → Type 0
+ToldBy ns (applying.Item j) t = IsTold ns j t
+ToldBy ns applying.Nothing t = Unit {0}
 
 -- ---- Painting
 
@@ -136,6 +140,7 @@ pub record IsScene (ns : List Node) (c : Scene) : Type 0 where
   pub pixels : find ns Tags.PixelData (root ns) ≡ Is (c .p)
   pub below : c .p < length ns
   pub inverse-is : inverseOf ns ≡ some (c .inverse)
+  pub window-is : windowedOf (c .window) ≡ sharedWindow ns (c .g .stored)
 
 -- Row p is that of the pixel bytes: no sequence and no item.
 pub record IsPixels (ns : List Node) (p : ℕ) : Type 0 where
@@ -147,11 +152,11 @@ pub record IsItem (ns : List Node) (f : ℕ) (item : Num) : Type 0 where
   pub is : item ≡ frameItem ns f
   pub below : Below (length ns) item
 
--- The mask item that applies to frame f, and what the shared shift group names for it.
-pub record IsApplying (ns : List Node) (f : ℕ) (applies : Applying) (shared : Found) : Type 0 where
+-- The mask item that applies to frame f, and what it says to all frames alike.
+pub record IsApplying (ns : List Node) (f : ℕ) (applies : Applying) (told : Told) : Type 0 where
   pub is : applyingTo ns f ≡ some applies
   pub below : ApplyingBelow (length ns) applies
-  pub names : SharedBy ns applies shared
+  pub tells : ToldBy ns applies told
 
 -- What a frame has of its own.
 pub record IsPlan (ns : List Node) (f stored : ℕ) (p : Plan) : Type 0 where

@@ -12,7 +12,7 @@ ghost use Rattle.dataset.specs.Fields.{Answers};
 ghost use Rattle.dataset.specs.Answer.{bufferOf};
 ghost use Rattle.conformance.specs.Judging.{numberOf, findingOf};
 ghost use Rattle.display.specs.Show.{imageSize, imageBy, pictureOf, acceptedAnswer, showOf, imageOf, fieldsOf};
-ghost use Rattle.display.specs.Contracts.{IsObject, IsScene, IsItem, IsApplying, IsPlan, Gives, GivesMoves, GivesInverse, averageBy, tidBy, maskingOf, MaskingBelow, ApplyingBelow, SharedBy, isMasked, shadeBy, MasksReady};
+ghost use Rattle.display.specs.Contracts.{IsObject, IsScene, IsItem, IsApplying, IsPlan, Gives, GivesMoves, GivesInverse, averageBy, tidBy, maskingOf, MaskingBelow, ToldBy, isMasked, shadeBy, MasksReady};
 ghost use Rattle.value.specs.Contracts.{Below};
 ghost use Rattle.node.specs.Nodes.{nodesOf};
 ghost use Rattle.node.specs.Contracts.{Table};
@@ -21,17 +21,18 @@ ghost use Rattle.element.specs.Elements.{valueAt};
 ghost use Rattle.pixel.specs.Pixel.{samplesOf};
 ghost use Rattle.pixel.specs.Contracts.{painted, Ready};
 ghost use Rattle.steps.specs.Steps.{applyingTo, inverseOf, movesFor, maskBy, maskFor};
-ghost use Rattle.steps.specs.Contracts.{IsShared};
+ghost use Rattle.steps.specs.Contracts.{ApplyingBelow, IsShared, IsTold};
 use conformance::JudgeAnswer;
 use element::tags;
 use pixel::Geometry;
 use shift::Moves;
-use steps::Applies;
 use steps::Applying;
 use steps::Found;
 use steps::Inverse;
+use steps::Operation;
 use steps::Shifts;
 use steps::Sized;
+use steps::Told;
 use steps::Windowed;
 use value::Function;
 use value::Num;
@@ -107,11 +108,11 @@ fn tid_by(
     shared: Found,
     n: usize,
 ) -> Masking
-    requires { ⌜ Table (now bytes) (now rows) × ((item ≡ frameItem (nodesOf (now bytes)) frame) × (Below (length (nodesOf (now bytes))) item × ((j < length (nodesOf (now bytes))) × ((frame < 4294967296) × (Gives n (tidBy (nodesOf (now bytes)) frame j) × IsShared (nodesOf (now bytes)) j shared))))) ⌝ }
+    requires { ⌜ Table (now bytes) (now rows) × ((item ≡ frameItem (nodesOf (now bytes)) frame) × (Below (length (nodesOf (now bytes))) item × ((j < length (nodesOf (now bytes))) × ((frame < 4294967296) × (Gives n (tidBy (nodesOf (now bytes)) frame j) × (IsShared (nodesOf (now bytes)) j shared × (framesOf (nodesOf (now bytes)) ≡ num.Is n))))))) ⌝ }
     ensures { λ r. ⌜ maskingOf (nodesOf (now (bytes .entry))) r ≡ tidBy (nodesOf (now (bytes .entry))) frame j ⌝ }
     ensures { λ r. ⌜ MaskingBelow (length (nodesOf (now (bytes .entry)))) r ⌝ }
 {
-    match steps::tid_frame(bytes, rows, frame, j) {
+    match steps::tid_frame(bytes, rows, frame, j, Num::Is(n)) {
         Found::Lacks => Masking::Lacks,
         Found::Absent => Masking::Native,
         Found::At(t) => Masking::One(t, moves_for(bytes, rows, frame, item, j, shared)),
@@ -125,71 +126,53 @@ fn mask_by(
     frame: usize,
     item: Num,
     j: usize,
-    shared: Found,
+    told: Told,
     n: usize,
 ) -> Masking
-    requires { ⌜ Table (now bytes) (now rows) × ((item ≡ frameItem (nodesOf (now bytes)) frame) × (Below (length (nodesOf (now bytes))) item × ((j < length (nodesOf (now bytes))) × ((frame < 4294967296) × (Gives n (maskBy (nodesOf (now bytes)) frame j) × IsShared (nodesOf (now bytes)) j shared))))) ⌝ }
+    requires { ⌜ Table (now bytes) (now rows) × ((item ≡ frameItem (nodesOf (now bytes)) frame) × (Below (length (nodesOf (now bytes))) item × ((j < length (nodesOf (now bytes))) × ((frame < 4294967296) × (Gives n (maskBy (nodesOf (now bytes)) frame j) × (IsTold (nodesOf (now bytes)) j told × (framesOf (nodesOf (now bytes)) ≡ num.Is n))))))) ⌝ }
     ensures { λ r. ⌜ maskingOf (nodesOf (now (bytes .entry))) r ≡ maskBy (nodesOf (now (bytes .entry))) frame j ⌝ }
     ensures { λ r. ⌜ MaskingBelow (length (nodesOf (now (bytes .entry)))) r ⌝ }
 {
-    if element::cs_item(bytes, rows, j, tags::MASK_OPERATION, b"NONE") {
-        Masking::Native
-    } else {
-        if element::cs_item(bytes, rows, j, tags::MASK_OPERATION, b"AVG_SUB") {
-            average_by(bytes, rows, frame, item, j, shared, n)
-        } else {
-            if element::cs_item(bytes, rows, j, tags::MASK_OPERATION, b"TID") {
-                tid_by(bytes, rows, frame, item, j, shared, n)
-            } else {
-                Masking::Lacks
-            }
-        }
+    let operation = told.operation;
+    let shared = told.shared;
+    match operation {
+        Operation::Native => Masking::Native,
+        Operation::Average => average_by(bytes, rows, frame, item, j, shared, n),
+        Operation::Tid => tid_by(bytes, rows, frame, item, j, shared, n),
+        Operation::Lacks => Masking::Lacks,
     }
 }
 
-// Step 2: the first mask item whose range holds the frame, or none.
-fn applying(bytes: &[u8], rows: &[u32], frame: usize, n: usize) -> Applying
-    requires { ⌜ Table (now bytes) (now rows) × Gives n (maskFor (nodesOf (now bytes)) frame) ⌝ }
-    ensures { λ r. ⌜ applyingTo (nodesOf (now (bytes .entry))) frame ≡ some r ⌝ }
-    ensures { λ r. ⌜ ApplyingBelow (length (nodesOf (now (bytes .entry)))) r ⌝ }
-{
-    match steps::applying_to(bytes, rows, frame) {
-        Applies::Item(j) => Applying::Item(j),
-        Applies::Nothing => Applying::Nothing,
-        Applies::Lacks => Applying::Nothing,
-    }
-}
-
-// What the shared shift group names for the mask item that applies.
-fn shared_for(bytes: &[u8], rows: &[u32], applies: Applying) -> Found
+// What the mask item that applies says to all frames alike.
+fn told_for(bytes: &[u8], rows: &[u32], applies: Applying) -> Told
     requires { ⌜ Table (now bytes) (now rows) × ApplyingBelow (length (nodesOf (now bytes))) applies ⌝ }
-    ensures { λ r. ⌜ SharedBy (nodesOf (now (bytes .entry))) applies r ⌝ }
+    ensures { λ r. ⌜ ToldBy (nodesOf (now (bytes .entry))) applies r ⌝ }
 {
-    match applies {
-        Applying::Item(j) => steps::shared_naming(bytes, rows, j),
-        Applying::Nothing => Found::Absent,
-    }
+    let Applying::Item(j) = applies else {
+        return steps::nothing_told();
+    };
+    steps::told_by(bytes, rows, j)
 }
 
-// Steps 3 and 4 once it is known which mask item applies, and what the shared shift group names for it. Where none applies the
-// frame is native.
+// Steps 3 and 4 once it is known which mask item applies, and what it says to all frames alike. Where none applies the frame is
+// native.
 pub fn mask_on(
     bytes: &[u8],
     rows: &[u32],
     frame: usize,
     item: Num,
     applies: Applying,
-    shared: Found,
+    told: Told,
     n: usize,
 ) -> Masking
-    requires { ⌜ Table (now bytes) (now rows) × ((item ≡ frameItem (nodesOf (now bytes)) frame) × (Below (length (nodesOf (now bytes))) item × ((frame < 4294967296) × (Gives n (maskFor (nodesOf (now bytes)) frame) × ((applyingTo (nodesOf (now bytes)) frame ≡ some applies) × (ApplyingBelow (length (nodesOf (now bytes))) applies × SharedBy (nodesOf (now bytes)) applies shared)))))) ⌝ }
+    requires { ⌜ Table (now bytes) (now rows) × ((item ≡ frameItem (nodesOf (now bytes)) frame) × (Below (length (nodesOf (now bytes))) item × ((frame < 4294967296) × (Gives n (maskFor (nodesOf (now bytes)) frame) × ((applyingTo (nodesOf (now bytes)) frame ≡ some applies) × (ApplyingBelow (length (nodesOf (now bytes))) applies × (ToldBy (nodesOf (now bytes)) applies told × (framesOf (nodesOf (now bytes)) ≡ num.Is n)))))))) ⌝ }
     ensures { λ r. ⌜ maskingOf (nodesOf (now (bytes .entry))) r ≡ maskFor (nodesOf (now (bytes .entry))) frame ⌝ }
     ensures { λ r. ⌜ MaskingBelow (length (nodesOf (now (bytes .entry)))) r ⌝ }
 {
     let Applying::Item(j) = applies else {
         return Masking::Native;
     };
-    mask_by(bytes, rows, frame, item, j, shared, n)
+    mask_by(bytes, rows, frame, item, j, told, n)
 }
 
 // Paints the frame's samples, from a table of shades; answers whether it is masked.
@@ -248,11 +231,13 @@ fn is_inverse(bytes: &[u8], rows: &[u32]) -> bool
 
 // ---- What is worked out once for an object, and once for a frame
 
-// What all frames of an object share: the size of a frame, the pixel bytes' row, and whether pictures are inverted.
+// What all frames of an object share: the size of a frame, the pixel bytes' row, whether pictures are inverted, and the window of
+// the frames that have none of their own.
 pub struct Scene {
     pub g: Geometry,
     pub p: usize,
     pub inverse: bool,
+    pub window: Windowed,
 }
 
 // What a frame has of its own: its window, and what masks it.
@@ -272,6 +257,7 @@ fn no_scene() -> Scene {
         },
         p: 0,
         inverse: false,
+        window: Windowed::Lacks,
     }
 }
 
@@ -294,7 +280,13 @@ pub fn scene_of(bytes: &[u8], rows: &[u32], n: usize) -> Scene
         return no_scene();
     };
     let inverse = is_inverse(bytes, rows);
-    Scene { g, p, inverse }
+    let window = steps::shared_window(bytes, rows, g.stored);
+    Scene {
+        g,
+        p,
+        inverse,
+        window,
+    }
 }
 
 pub fn plan_of(
@@ -305,15 +297,16 @@ pub fn plan_of(
     n: usize,
     item: Num,
     applies: Applying,
-    shared: Found,
+    told: Told,
 ) -> Plan
-    requires { ⌜ Table (now bytes) (now rows) × (IsObject (now bytes) n × (IsScene (nodesOf (now bytes)) c × (IsItem (nodesOf (now bytes)) frame item × ((1 ≤ frame) × ((frame ≤ n) × IsApplying (nodesOf (now bytes)) frame applies shared))))) ⌝ }
+    requires { ⌜ Table (now bytes) (now rows) × (IsObject (now bytes) n × (IsScene (nodesOf (now bytes)) c × (IsItem (nodesOf (now bytes)) frame item × ((1 ≤ frame) × ((frame ≤ n) × IsApplying (nodesOf (now bytes)) frame applies told))))) ⌝ }
     ensures { λ r. ⌜ IsPlan (nodesOf (now (bytes .entry))) frame (c .g .stored) r ⌝ }
 {
     let g = c.g;
     let stored = g.stored;
-    let masking = mask_on(bytes, rows, frame, item, applies, shared, n);
-    let Windowed::Is(window) = steps::window_for(bytes, rows, frame, item, stored) else {
+    let common = c.window;
+    let masking = mask_on(bytes, rows, frame, item, applies, told, n);
+    let Windowed::Is(window) = steps::window_by(bytes, rows, frame, item, stored, common) else {
         return Plan {
             window: no_window(),
             masking,
@@ -328,9 +321,9 @@ pub fn plan_for(bytes: &[u8], rows: &[u32], c: Scene, frame: usize, n: usize) ->
     ensures { λ r. ⌜ IsPlan (nodesOf (now (bytes .entry))) frame (c .g .stored) r ⌝ }
 {
     let item = steps::item_at(bytes, rows, frame);
-    let applies = applying(bytes, rows, frame, n);
-    let shared = shared_for(bytes, rows, applies);
-    plan_of(bytes, rows, c, frame, n, item, applies, shared)
+    let applies = steps::mask_item(bytes, rows, frame);
+    let told = told_for(bytes, rows, applies);
+    plan_of(bytes, rows, c, frame, n, item, applies, told)
 }
 
 // Draws a frame of an accepted object of n frames; answers whether it is masked.

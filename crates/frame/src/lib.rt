@@ -1,5 +1,4 @@
 // A frame looked at as its own part of the pixel bytes: the bytes of a line, in the data set as lent.
-ghost use mathlib.Core.Path.{_≡_};
 ghost use Prim.Native.Nat.{_+_, _-_, _*_, _≤_, _<_};
 ghost use lib.ListN.{length};
 ghost use Rattle.dataset.specs.Tree.{rowsOf, rowAt};

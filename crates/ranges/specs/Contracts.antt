@@ -3,7 +3,7 @@ use mathlib.Core.Path.{_≡_}
 use mathlib.Core.Bool.{Bool, true, cond}
 use mathlib.Core.List.{List, [], _∷_}
 use mathlib.Core.Option.{Option, none, some}
-use Prim.Native.Nat.{ℕ, zero, suc, _+_, _-_, _≤_, _<_, max}
+use Prim.Native.Nat.{ℕ, zero, suc, _+_, _-_, _/_, _%_, _≤_, _<_, max}
 use lib.Dec.{eqb, leb}
 use lib.ListN.{length, getD}
 use Rattle.node.specs.Nodes.{Node}
@@ -11,8 +11,11 @@ use Rattle.steps.specs.declared.Applying.{Applying}
 use Rattle.steps.specs.declared.Applying.the-variants.{Item, Nothing}
 use Rattle.steps.specs.declared.Found.{Found}
 use Rattle.steps.specs.declared.Found.the-variants as found
+use Rattle.steps.specs.declared.Operation.{Operation}
+use Rattle.steps.specs.declared.Operation.the-variants as operation
+use Rattle.steps.specs.declared.Told.{Told}
 use Rattle.steps.specs.Steps.{firstHolding, applyingTo}
-use Rattle.steps.specs.Contracts.{IsShared}
+use Rattle.steps.specs.Contracts.{GivesItem, IsTold}
 
 -- ---- How far pairs reach
 
@@ -86,19 +89,25 @@ pub record Left (ns : List Node) (n : ℕ) (all rest which : List ℕ) : Type 0 
 
 -- Step 2 lacks nothing at frames 1 to n.
 pub record Answering (ns : List Node) (n : ℕ) : Type 0 where
-  pub each : (f : ℕ) → 1 ≤ f → f ≤ n → applyingTo ns f ≡ none → ⊥
+  pub each : (f : ℕ) → 1 ≤ f → f ≤ n → GivesItem ns f
 
 -- The table of the mask items that apply to frames 1 to n.
 pub record Applied (ns : List Node) (n : ℕ) (which : List ℕ) : Type 0 where
   pub each : (f : ℕ) → 1 ≤ f → f ≤ n → applyingTo ns f ≡ some (itemOf (getD which f 0))
   pub below : (f : ℕ) → 1 ≤ f → f ≤ n → getD which f 0 ≤ length ns
 
--- ---- What the shared shift group names
+-- ---- What each mask item says
 
--- An answer as a number.
+-- An answer as a number: which item of the shared shift group names it in the upper part, its operation in the lower.
 abbrev pub foundIn : ℕ → Found
 foundIn x = cond (eqb x 0) found.Lacks (cond (eqb x 1) found.Absent (found.At (x - 2)))
 
+abbrev pub operationIn : ℕ → Operation
+operationIn x = cond (eqb x 0) operation.Lacks (cond (eqb x 1) operation.Native (cond (eqb x 2) operation.Average operation.Tid))
+
+abbrev pub toldIn : ℕ → Told
+toldIn x = record { operation = operationIn (x % 4); shared = foundIn (x / 4) }
+
 -- Where a mask item stands, its answer stands beside it.
 pub record Known (ns : List Node) (keys answers : List ℕ) : Type 0 where
-  pub each : (i j : ℕ) → i < 16 → getD keys i 0 ≡ j + 1 → IsShared ns j (foundIn (getD answers i 0))
+  pub each : (i j : ℕ) → i < 16 → getD keys i 0 ≡ j + 1 → IsTold ns j (toldIn (getD answers i 0))

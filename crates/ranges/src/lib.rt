@@ -1,6 +1,6 @@
-// Steps 2 and 4 for all frames of an object at once: which mask item applies to each frame, and which item of the shared shift
-// group names each mask item. Each is worked out once, in time in proportion to the frames, the pairs of the ranges and the
-// items of the group.
+// Steps 2 to 4 for all frames of an object at once: which mask item applies to each frame, and what each mask item says to all
+// frames alike, its operation and which item of the shared shift group names it. Each is worked out once, in time in proportion
+// to the frames, the pairs of the ranges, the items of the group and the bytes of the operations.
 ghost use mathlib.Core.Path.{_≡_};
 ghost use mathlib.Core.List.{[]};
 ghost use Prim.Native.Nat.{_+_, _%_, _≤_, _<_, max};
@@ -11,12 +11,14 @@ ghost use Rattle.value.specs.declared.Num.the-variants as num;
 ghost use Rattle.value.specs.Number.{usValues};
 ghost use Rattle.node.specs.Nodes.{nodesOf, members};
 ghost use Rattle.node.specs.Contracts.{Table};
-ghost use Rattle.steps.specs.Contracts.{FoundBelow, IsShared};
+ghost use Rattle.steps.specs.Contracts.{FoundBelow, IsTold};
 ghost use Rattle.steps.specs.Steps.{inPairs, rangeHolds, rangeHas};
-ghost use Rattle.ranges.specs.Contracts.{takenBy, itemOf, foundIn, Cleared, Marked, Covered, CoveredBy, CoveredAll, Tried, Held, Left, Answering, Applied, Rooms, Known};
+ghost use Rattle.ranges.specs.Contracts.{takenBy, itemOf, foundIn, operationIn, toldIn, Cleared, Marked, Covered, CoveredBy, CoveredAll, Tried, Held, Left, Answering, Applied, Rooms, Known};
 use element::tags;
 use steps::Applying;
 use steps::Found;
+use steps::Operation;
+use steps::Told;
 use value::Num;
 
 // As far as any frame.
@@ -111,13 +113,8 @@ fn cover_range(
     requires { ⌜ Table (now bytes) (now rows) × ((i < length (nodesOf (now bytes))) × Rooms n (now reach) (now which)) ⌝ }
     ensures { λ _. ⌜ Tried (λ f. rangeHas (nodesOf (now (bytes .entry))) f (num.Is i)) n item (now (which .entry)) (now (which .exit)) ⌝ }
 {
-    if node::vr(bytes, rows, i) == tags::US {
-        let v = node::value(bytes, rows, i);
-        if 4 <= v.len() {
-            if v.len() % 4 == 0 {
-                cover_pairs(v, n, item, reach, which);
-            }
-        }
+    if steps::has_pairs(bytes, rows, i) {
+        cover_pairs(node::value(bytes, rows, i), n, item, reach, which);
     }
 }
 
@@ -162,23 +159,9 @@ pub fn apply_all(bytes: &[u8], rows: &[u32], n: usize, reach: &mut [u32], which:
     requires { ⌜ Table (now bytes) (now rows) × (Rooms n (now reach) (now which) × Answering (nodesOf (now bytes)) n) ⌝ }
     ensures { λ _. ⌜ Applied (nodesOf (now (bytes .entry))) n (now (which .exit)) ⌝ }
 {
+    let items = element::mask_items(bytes, rows);
     clear(n + 1, which);
-    match element::find_root(bytes, rows, tags::MASK_SUBTRACTION_SEQUENCE) {
-        Num::Lacks => {}
-        Num::Is(m) => {
-            if node::vr(bytes, rows, m) == dataset::SQ {
-                cover_items(
-                    bytes,
-                    rows,
-                    m + 1,
-                    node::next(bytes, rows, m),
-                    n,
-                    reach,
-                    which,
-                );
-            }
-        }
-    }
+    cover_items(bytes, rows, items.at, items.end, n, reach, which);
 }
 
 // The mask item that applies to a frame.
@@ -194,12 +177,12 @@ pub fn applying_at(which: &[u32], frame: usize) -> Applying
     }
 }
 
-// ---- What the shared shift group names
+// ---- What each mask item says
 
 // An answer as a number, and back.
 fn number_of(r: Found) -> u32
     requires { ⌜ FoundBelow mostRows r ⌝ }
-    ensures { λ x. ⌜ foundIn x ≡ r ⌝ }
+    ensures { λ x. ⌜ (foundIn x ≡ r) × (x ≤ mostRows + 1) ⌝ }
 {
     match r {
         Found::Lacks => 0,
@@ -222,8 +205,54 @@ fn found_in(x: u32) -> Found
     }
 }
 
-// Writes down what the shared shift group names for each mask item from `from` up to `to`, as far as there is room.
-fn name_items(
+fn number_for(o: Operation) -> u32
+    ensures { λ x. ⌜ (operationIn x ≡ o) × (x < 4) ⌝ }
+{
+    match o {
+        Operation::Lacks => 0,
+        Operation::Native => 1,
+        Operation::Average => 2,
+        Operation::Tid => 3,
+    }
+}
+
+fn operation_in(x: u32) -> Operation
+    ensures { λ r. ⌜ r ≡ operationIn x ⌝ }
+{
+    if x == 0 {
+        Operation::Lacks
+    } else {
+        if x == 1 {
+            Operation::Native
+        } else {
+            if x == 2 {
+                Operation::Average
+            } else {
+                Operation::Tid
+            }
+        }
+    }
+}
+
+fn packed(t: Told) -> u32
+    requires { ⌜ FoundBelow mostRows (t .shared) ⌝ }
+    ensures { λ x. ⌜ toldIn x ≡ t ⌝ }
+{
+    let operation = t.operation;
+    let shared = t.shared;
+    4 * number_of(shared) + number_for(operation)
+}
+
+fn told_in(x: u32) -> Told
+    ensures { λ r. ⌜ r ≡ toldIn x ⌝ }
+{
+    let operation = operation_in(x % 4);
+    let shared = found_in(x / 4);
+    Told { operation, shared }
+}
+
+// Writes down what each mask item from `from` up to `to` says, as far as there is room.
+fn tell_items(
     bytes: &[u8],
     rows: &[u32],
     from: usize,
@@ -237,8 +266,8 @@ fn name_items(
     let mut at = from;
     for i in 0..MOST_MASKS {
         if at < to {
-            let named = steps::shared_naming(bytes, rows, at);
-            answers[i] = number_of(named);
+            let told = steps::told_by(bytes, rows, at);
+            answers[i] = packed(told);
             keys[i] = (at + 1) as u32;
             at = node::next(bytes, rows, at);
         } else {
@@ -248,28 +277,28 @@ fn name_items(
 }
 
 // The same, for all mask items.
-pub fn name_all(bytes: &[u8], rows: &[u32], keys: &mut [u32], answers: &mut [u32])
+pub fn tell_all(bytes: &[u8], rows: &[u32], keys: &mut [u32], answers: &mut [u32])
     requires { ⌜ Table (now bytes) (now rows) × ((16 ≤ length (now keys)) × (16 ≤ length (now answers))) ⌝ }
     ensures { λ _. ⌜ Known (nodesOf (now (bytes .entry))) (now (keys .exit)) (now (answers .exit)) ⌝ }
 {
     let items = element::mask_items(bytes, rows);
     clear(MOST_MASKS, keys);
-    name_items(bytes, rows, items.at, items.end, keys, answers);
+    tell_items(bytes, rows, items.at, items.end, keys, answers);
 }
 
-// What the shared shift group names for mask item j: as written down, else worked out.
-pub fn naming_of(bytes: &[u8], rows: &[u32], j: usize, keys: &[u32], answers: &[u32]) -> Found
+// What mask item j says: as written down, else worked out.
+pub fn told_of(bytes: &[u8], rows: &[u32], j: usize, keys: &[u32], answers: &[u32]) -> Told
     requires { ⌜ Table (now bytes) (now rows) × ((j < length (nodesOf (now bytes))) × ((16 ≤ length (now keys)) × ((16 ≤ length (now answers)) × Known (nodesOf (now bytes)) (now keys) (now answers)))) ⌝ }
-    ensures { λ r. ⌜ IsShared (nodesOf (now (bytes .entry))) j r ⌝ }
+    ensures { λ r. ⌜ IsTold (nodesOf (now (bytes .entry))) j r ⌝ }
 {
     let key = (j + 1) as u32;
     let mut i: usize = 0;
     while i < MOST_MASKS {
         if keys[i] == key {
-            return found_in(answers[i]);
+            return told_in(answers[i]);
         } else {
             i += 1;
         }
     }
-    steps::shared_naming(bytes, rows, j)
+    steps::told_by(bytes, rows, j)
 }

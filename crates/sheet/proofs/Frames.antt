@@ -21,9 +21,10 @@ use Rattle.display.specs.Show.{imageSize, pictureIn, pictureOf}
 use Rattle.display.specs.Drawing.{Whole}
 use Rattle.display.proofs.Lacking.{nothing-lacks}
 use Rattle.ranges.specs.Contracts.{itemOf}
-use Rattle.display.specs.Contracts.{ApplyingBelow, IsObject, IsItem}
+use Rattle.steps.specs.Contracts.{ApplyingBelow}
 use Rattle.sheet.specs.Sheet.{levelsOf, nativesOf}
 use Rattle.sheet.specs.Contracts.{tallied, Room}
+use Rattle.display.specs.Contracts.{IsObject, IsItem}
 use Rattle.sheet.proofs.Counts.{tallied-append}
 use Rattle.sheet.proofs.Runs.{tallied-most}
 

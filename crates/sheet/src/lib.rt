@@ -20,7 +20,8 @@ ghost use Rattle.pixel.specs.Pixel.{samplesOf};
 ghost use Rattle.pixel.specs.Contracts.{nativeShade, maskedShade, longestRow, Masks, shifted, Averaged, quarterShade};
 ghost use Rattle.lines.specs.Contracts.{upTo, shadesOf, Shaded, MaskedBy};
 ghost use Rattle.ranges.specs.Contracts.{Known};
-ghost use Rattle.display.specs.Contracts.{isMasked, shadeBy, MasksReady, ApplyingBelow, SharedBy, IsObject, IsScene, IsPixels, IsItem, IsPlan};
+ghost use Rattle.steps.specs.Contracts.{ApplyingBelow};
+ghost use Rattle.display.specs.Contracts.{isMasked, shadeBy, MasksReady, ToldBy, IsObject, IsScene, IsPixels, IsItem, IsPlan};
 ghost use Rattle.display.specs.Show.{imageSize, pictureOf};
 ghost use Rattle.sheet.specs.Sheet.{levelsOf, nativesOf, countsOf, framesSheet, noSheet, numbersIn};
 ghost use Rattle.sheet.specs.Answer.{acceptedAnswer, withSheet, sheetOf, sampledFields};
@@ -36,7 +37,7 @@ use lines::Shades;
 use pixel::Geometry;
 use shift::Moves;
 use steps::Applying;
-use steps::Found;
+use steps::Told;
 use value::Function;
 use value::Num;
 use value::Signed;
@@ -324,15 +325,15 @@ fn count_moved(
 
 // ---- What is worked out ahead of the frames
 
-// What the shared shift group names for the mask item that applies, as it was written down.
-fn shared_of(bytes: &[u8], rows: &[u32], applies: Applying, keys: &[u32], answers: &[u32]) -> Found
+// What the mask item that applies says, as it was written down.
+fn told_here(bytes: &[u8], rows: &[u32], applies: Applying, keys: &[u32], answers: &[u32]) -> Told
     requires { ⌜ Table (now bytes) (now rows) × (ApplyingBelow (length (nodesOf (now bytes))) applies × ((16 ≤ length (now keys)) × ((16 ≤ length (now answers)) × Known (nodesOf (now bytes)) (now keys) (now answers)))) ⌝ }
-    ensures { λ r. ⌜ SharedBy (nodesOf (now (bytes .entry))) applies r ⌝ }
+    ensures { λ r. ⌜ ToldBy (nodesOf (now (bytes .entry))) applies r ⌝ }
 {
-    match applies {
-        Applying::Item(j) => ranges::naming_of(bytes, rows, j, keys, answers),
-        Applying::Nothing => Found::Absent,
-    }
+    let Applying::Item(j) = applies else {
+        return steps::nothing_told();
+    };
+    ranges::told_of(bytes, rows, j, keys, answers)
 }
 
 // The plan of a frame, from what was worked out for all frames at once.
@@ -351,8 +352,8 @@ fn plan_at(
     ensures { λ r. ⌜ IsPlan (nodesOf (now (bytes .entry))) frame (c .g .stored) r ⌝ }
 {
     let applies = ranges::applying_at(which, frame);
-    let shared = shared_of(bytes, rows, applies, keys, answers);
-    display::plan_of(bytes, rows, c, frame, n, item, applies, shared)
+    let told = told_here(bytes, rows, applies, keys, answers);
+    display::plan_of(bytes, rows, c, frame, n, item, applies, told)
 }
 
 // The item of a frame, at a cursor that is stepped along the items with the frames.
@@ -695,7 +696,7 @@ fn count_all(
     let mut keys: [u32; 16] = [0; 16];
     let mut answers: [u32; 16] = [0; 16];
     ranges::apply_all(bytes, rows, n, upper, &mut which);
-    ranges::name_all(bytes, rows, &mut keys, &mut answers);
+    ranges::tell_all(bytes, rows, &mut keys, &mut answers);
     count_frames(
         bytes,
         rows,

@@ -1,15 +1,15 @@
 -- What an answer says once it is taken apart, and the steps' walks one member or one pair at a time.
 use mathlib.Core.Path.{_≡_, refl, sym, ap, _∙_, subst}
-use Prim.Native.Nat.{ℕ, zero, suc, _+_, _-_, _*_, _/_, _≤_, _<_}
+use Prim.Native.Nat.{ℕ, zero, suc, _+_, _-_, _*_, _/_, _%_, _≤_, _<_}
 use native.Mathlib.Omega.{arith}
 use native.Mathlib.Numerals.{add-one}
 use mathlib.Core.List.{List, [], _∷_}
-use mathlib.Core.Bool.{Bool, true, false, _&&_}
+use mathlib.Core.Bool.{Bool, true, false, cond, _&&_}
 use mathlib.Core.Option.{Option, none, some}
 use lib.ListN.{length, getD, drop}
 use lib.Seq.{drop-cons, drop-length}
-use lib.Dec.{leb}
-use borrow.Author.Tests.{eq-eqb, ne-eqb, le-leb, lt-leb}
+use lib.Dec.{eqb, leb}
+use borrow.Author.Tests.{eq-eqb, ne-eqb, eqb-true, le-leb, lt-leb}
 use Rattle.value.specs.declared.Num.{Num}
 use Rattle.value.specs.declared.Num.the-variants.{Is, Lacks}
 use Rattle.value.specs.declared.Signed.{Signed}
@@ -17,18 +17,21 @@ use Rattle.value.specs.declared.Signed.the-variants as signed
 use Rattle.value.specs.Number.{usValues, isNumber}
 use Rattle.value.specs.Contracts.{SizeBelow}
 use Rattle.value.proofs.Laws.{usValues-length}
-use Rattle.node.specs.Nodes.{Node, nextNode, members}
+use Rattle.dataset.specs.Vr.{SQ}
+use Rattle.node.specs.Nodes.{Node, nodeAt, nextNode, members, root, inside}
+use Rattle.node.specs.Find.{find, ofVr, andThen}
 use Rattle.node.proofs.Walks.{members-end, members-next}
 use Rattle.shift.specs.declared.Shift.{Shift}
 use Rattle.element.specs.Tags
-use Rattle.element.specs.Elements.{first}
-use Rattle.element.specs.Frames.{idIn}
+use Rattle.element.specs.Elements.{first, valueAt, insideOf, itemsIn}
+use Rattle.element.specs.Frames.{idIn, maskItems}
+use Rattle.steps.specs.declared.Applying.{Applying}
 use Rattle.steps.specs.declared.Applying.the-variants.{Item, Nothing}
 use Rattle.steps.specs.declared.Found.{Found}
 use Rattle.steps.specs.declared.Found.the-variants as found
 use Rattle.steps.specs.Given.{check, then}
-use Rattle.steps.specs.Steps.{groupFor, inPairs, rangeHolds, firstHolding, naming, ownIn, shiftFrom, shiftFor}
-use Rattle.steps.specs.Contracts.{FoundBelow, signedOf}
+use Rattle.steps.specs.Steps.{groupFor, inPairs, rangeHolds, firstHolding, onMask, applyingTo, naming, ownIn, shiftFrom, shiftFor}
+use Rattle.steps.specs.Contracts.{FoundBelow, hasPairs, ifRead, GivesItem, signedOf}
 
 -- ---- Answers
 
@@ -124,10 +127,52 @@ module _ (ns : List Node) (f at to : ℕ) where
   unfolding firstHolding
   holding-here h q = rw (members-next ns at to h, q)
 
+  pub found-lacks : at < to → rangeHolds ns f at ≡ none → ifRead ns f (Item at) ≡ firstHolding ns f (members ns at to)
+  found-lacks h q = rw q (sym (holding-lacks h q))
+
+  pub found-here : at < to → rangeHolds ns f at ≡ some true → ifRead ns f (Item at) ≡ firstHolding ns f (members ns at to)
+  found-here h q = rw q (sym (holding-here h q))
+
   pub holding-next : (next : ℕ) → next ≡ nextNode ns at → at < to → rangeHolds ns f at ≡ some false
       → firstHolding ns f (members ns at to) ≡ firstHolding ns f (members ns next to)
   unfolding firstHolding
   holding-next next e h q = rw (members-next ns at to h, q, e)
+
+-- Where step 2 lacks nothing, it is the search among the mask items; and what that found is its answer.
+module _ (ns : List Node) (f : ℕ) where
+  by-vr : (m : ℕ) (t : Bool) → (check t (firstHolding ns f (inside ns m)) ≡ none → ⊥)
+      → check t (firstHolding ns f (inside ns m)) ≡ firstHolding ns f (insideOf ns (cond t (Is m) Lacks))
+  by-vr m true h = refl
+  by-vr m false h = absurd (h refl)
+
+  on-items : (o : Num) → (onMask ns f o ≡ none → ⊥) → onMask ns f o ≡ firstHolding ns f (insideOf ns (andThen o (ofVr ns SQ)))
+  unfolding firstHolding ofVr
+  on-items Lacks h = refl
+  on-items (Is m) h = by-vr m (eqb (nodeAt ns m .vr) SQ) h
+
+  pub among-items : GivesItem ns f → applyingTo ns f ≡ firstHolding ns f (maskItems ns)
+  unfolding applyingTo maskItems itemsIn
+  among-items g = on-items (find ns Tags.MaskSubtractionSequence (root ns)) g
+
+  by-range : (a : Option Applying) (j : ℕ) (o : Option Bool) → (a ≡ none → ⊥) → a ≡ then o (λ _. some (Item j)) → a ≡ some (Item j)
+  by-range a j none h z = absurd (h z)
+  by-range a j (some t) h z = z
+
+  by-found : (a : Option Applying) (x : Applying) → (a ≡ none → ⊥) → a ≡ ifRead ns f x → a ≡ some x
+  by-found a Nothing h z = z
+  by-found a (Item j) h z = by-range a j (rangeHolds ns f j) h z
+
+  pub found-given : GivesItem ns f → (r : Applying) → ifRead ns f r ≡ firstHolding ns f (maskItems ns) → applyingTo ns f ≡ some r
+  found-given g r h = by-found (applyingTo ns f) r g (among-items g ∙ sym h)
+
+second : (a b : Bool) → (a && b) ≡ true → b ≡ true
+second true b e = e
+second false b e = let x : _≡_ {A = ℕ} 0 1 = cc in absurd (omega arith)
+
+-- A node that holds pairs holds whole ones.
+pub pairs-whole : (ns : List Node) (i : ℕ) → hasPairs ns i ≡ true → length (valueAt ns i) % 4 ≡ 0
+pairs-whole ns i e =
+    eqb-true (length (valueAt ns i) % 4) 0 (second (leb 4 (length (valueAt ns i))) (eqb (length (valueAt ns i) % 4) 0) (second (eqb (nodeAt ns i .vr) Tags.US) (leb 4 (length (valueAt ns i)) && eqb (length (valueAt ns i) % 4) 0) e))
 
 module _ (ns : List Node) (id at to : ℕ) where
   pub naming-end : to ≤ at → naming ns id (members ns at to) ≡ some Lacks

@@ -1,7 +1,8 @@
 -- What the answers of the code say: each is what a definition of the steps gives, and says `Lacks` where that is `none`.
-use Prim.Native.Nat.{ℕ, _≤_, _<_}
+use Prim.Native.Nat.{ℕ, _%_, _≤_, _<_}
 use lib.ListN.{length}
-use mathlib.Core.Bool.{Bool, true, false}
+use lib.Dec.{eqb, leb}
+use mathlib.Core.Bool.{Bool, true, false, cond, _&&_}
 use mathlib.Core.List.{List}
 use mathlib.Core.Option.{Option, none, some}
 use mathlib.Core.Path.{_≡_}
@@ -9,23 +10,26 @@ use Rattle.value.specs.declared.Num.{Num}
 use Rattle.value.specs.declared.Num.the-variants as num
 use Rattle.value.specs.declared.Signed.{Signed}
 use Rattle.value.specs.declared.Signed.the-variants as signed
+use Rattle.value.specs.Text.{ascii}
 use Rattle.value.specs.Number.{usValues}
 use Rattle.shift.specs.declared.Shift.{Shift}
-use Rattle.node.specs.Nodes.{Node}
+use Rattle.node.specs.Nodes.{Node, nodeAt}
 use Rattle.element.specs.Tags
 use Rattle.element.specs.Elements.{valueAt}
+use Rattle.element.specs.Frames.{operationIs}
 use Rattle.pixel.specs.declared.Geometry.{Geometry}
 use Rattle.window.specs.declared.Window.{Window}
 use Rattle.steps.specs.Given.{then}
-use Rattle.steps.specs.Steps.{orShared, ownIn}
+use Rattle.steps.specs.Steps.{orShared, rangeHolds, applyingTo, ownIn, windowOn}
 use Rattle.steps.specs.declared.Applying.{Applying}
 use Rattle.steps.specs.declared.Applying.the-variants as applying
 use Rattle.steps.specs.declared.Found.{Found}
 use Rattle.steps.specs.declared.Found.the-variants as found
 use Rattle.steps.specs.declared.Holds.{Holds}
 use Rattle.steps.specs.declared.Holds.the-variants as holds
-use Rattle.steps.specs.declared.Applies.{Applies}
-use Rattle.steps.specs.declared.Applies.the-variants as applies
+use Rattle.steps.specs.declared.Operation.{Operation}
+use Rattle.steps.specs.declared.Operation.the-variants as operation
+use Rattle.steps.specs.declared.Told.{Told}
 use Rattle.steps.specs.declared.Shifts.{Shifts}
 use Rattle.steps.specs.declared.Shifts.the-variants as shifts
 use Rattle.steps.specs.declared.Sized.{Sized}
@@ -56,23 +60,41 @@ pub record IsShared (ns : List Node) (j : ℕ) (r : Found) : Type 0 where
   pub is : foundOf r ≡ sharedNaming ns j
   pub below : FoundBelow (length ns) r
 
+-- What a mask item does, by its Mask Operation.
+unfoldable pub operationOf : List Node → ℕ → Operation
+operationOf ns j =
+    cond (operationIs ns (ascii "NONE") j) operation.Native
+    (cond (operationIs ns (ascii "AVG_SUB") j) operation.Average
+    (cond (operationIs ns (ascii "TID") j) operation.Tid operation.Lacks))
+
+-- What mask item j says to all frames alike.
+pub record IsTold (ns : List Node) (j : ℕ) (t : Told) : Type 0 where
+  pub operation-is : t .operation ≡ operationOf ns j
+  pub names : IsShared ns j (t .shared)
+
 -- A test.
 abbrev pub holdsOf : Holds → Option Bool
 holdsOf holds.Yes = some true
 holdsOf holds.No = some false
 holdsOf holds.Lacks = none
 
--- The mask item that applies.
-abbrev pub appliesOf : Applies → Option Applying
-appliesOf (applies.Item j) = some (applying.Item j)
-appliesOf applies.Nothing = some applying.Nothing
-appliesOf applies.Lacks = none
+-- Node i holds pairs of numbers, at least one.
+abbrev pub hasPairs : List Node → ℕ → Bool
+hasPairs ns i = eqb (nodeAt ns i .vr) Tags.US && (leb 4 (length (valueAt ns i)) && eqb (length (valueAt ns i) % 4) 0)
 
--- Its node is below n.
-abbrev pub AppliesBelow : ℕ → Applies → Type 0
-AppliesBelow n (applies.Item j) = j < n
-AppliesBelow n applies.Nothing = Unit {0}
-AppliesBelow n applies.Lacks = Unit {0}
+-- What the search for a mask item found: none, or an item that applies where its range can be read.
+abbrev pub ifRead : List Node → ℕ → Applying → Option Applying
+ifRead ns f (applying.Item j) = then (rangeHolds ns f j) (λ _. some (applying.Item j))
+ifRead ns f applying.Nothing = some applying.Nothing
+
+-- Step 2 lacks nothing at frame f.
+abbrev pub GivesItem : List Node → ℕ → Type 0
+GivesItem ns f = applyingTo ns f ≡ none → ⊥
+
+-- The mask item that applies is one of the n nodes.
+abbrev pub ApplyingBelow : ℕ → Applying → Type 0
+ApplyingBelow n (applying.Item j) = j < n
+ApplyingBelow n applying.Nothing = Unit {0}
 
 -- The value of the node that was found, and the frame numbers in it.
 abbrev pub valueIn : List Node → Num → Option (List ℕ)
@@ -112,6 +134,10 @@ SizedSmall sized.Lacks = Unit {0}
 abbrev pub windowedOf : Windowed → Option Window
 windowedOf (windowed.Is w) = some w
 windowedOf windowed.Lacks = none
+
+-- The window of a frame that has no VOI group of its own.
+abbrev pub sharedWindow : List Node → ℕ → Option Window
+sharedWindow ns stored = then (orShared ns Tags.FrameVOILUTSequence num.Lacks) (windowOn ns stored)
 
 abbrev pub inverseSaid : Inverse → Option Bool
 inverseSaid inverse.Yes = some true

@@ -17,7 +17,7 @@ ghost use Rattle.element.specs.Tags.{FramePixelShiftSequence};
 ghost use Rattle.element.specs.Frames.{framesOf, frameItem};
 ghost use Rattle.steps.specs.Given.{need, check, then};
 ghost use Rattle.steps.specs.Steps.{orShared, groupFor, inPairs, rangeHas, rangeHolds, firstHolding, applyingTo, averageFrames, offsetAt, offsetOf, tidFrame, naming, ownIn, itemShiftAt, shiftFrom, shiftFor, geometryOf, pixelsOf, windowIn, windowOn, windowFor, inverseOf};
-ghost use Rattle.steps.specs.Contracts.{foundOf, FoundBelow, holdsOf, appliesOf, AppliesBelow, valueIn, framesIn, signedOf, shiftsOf, sizedOf, SizedSmall, windowedOf, inverseSaid, sharedNaming, IsShared};
+ghost use Rattle.steps.specs.Contracts.{foundOf, FoundBelow, holdsOf, hasPairs, ifRead, GivesItem, ApplyingBelow, valueIn, framesIn, signedOf, shiftsOf, sizedOf, SizedSmall, windowedOf, inverseSaid, sharedNaming, sharedWindow, IsShared, operationOf, IsTold};
 use element::tags;
 use pixel::Geometry;
 use shift::Shift;
@@ -48,11 +48,19 @@ pub enum Holds {
     Lacks,
 }
 
-// The mask item that applies to a frame, that none does, or that a step lacks something.
-pub enum Applies {
-    Item(usize),
-    Nothing,
+// What a mask item does with the frames it applies to: nothing, take the average of its mask frames off, or take one frame off; or
+// a step lacks something.
+pub enum Operation {
+    Native,
+    Average,
+    Tid,
     Lacks,
+}
+
+// What a mask item says to all frames alike: its operation, and which item of the shared shift group names its ID.
+pub struct Told {
+    pub operation: Operation,
+    pub shared: Found,
 }
 
 pub enum Shifts {
@@ -160,25 +168,33 @@ fn in_pairs(v: &[u8], frame: usize) -> bool
     false
 }
 
+// Whether node i holds pairs of numbers, at least one.
+pub fn has_pairs(bytes: &[u8], rows: &[u32], i: usize) -> bool
+    requires { ⌜ Table (now bytes) (now rows) × (i < length (nodesOf (now bytes))) ⌝ }
+    ensures { λ r. ⌜ r ≡ hasPairs (nodesOf (now (bytes .entry))) i ⌝ }
+{
+    if node::vr(bytes, rows, i) == tags::US {
+        let v = node::value(bytes, rows, i);
+        if 4 <= v.len() {
+            v.len() % 4 == 0
+        } else {
+            false
+        }
+    } else {
+        false
+    }
+}
+
 // Whether the range at node i holds a frame.
 fn range_at(bytes: &[u8], rows: &[u32], frame: usize, i: usize) -> Holds
     requires { ⌜ Table (now bytes) (now rows) × (i < length (nodesOf (now bytes))) ⌝ }
     ensures { λ r. ⌜ holdsOf r ≡ rangeHas (nodesOf (now (bytes .entry))) frame (num.Is i) ⌝ }
 {
-    if node::vr(bytes, rows, i) == tags::US {
-        let v = node::value(bytes, rows, i);
-        if 4 <= v.len() {
-            if v.len() % 4 == 0 {
-                if in_pairs(v, frame) {
-                    Holds::Yes
-                } else {
-                    Holds::No
-                }
-            } else {
-                Holds::Lacks
-            }
+    if has_pairs(bytes, rows, i) {
+        if in_pairs(node::value(bytes, rows, i), frame) {
+            Holds::Yes
         } else {
-            Holds::Lacks
+            Holds::No
         }
     } else {
         Holds::Lacks
@@ -186,7 +202,7 @@ fn range_at(bytes: &[u8], rows: &[u32], frame: usize, i: usize) -> Holds
 }
 
 // Whether the range of mask item j holds a frame.
-fn range_holds(bytes: &[u8], rows: &[u32], frame: usize, j: usize) -> Holds
+pub fn range_holds(bytes: &[u8], rows: &[u32], frame: usize, j: usize) -> Holds
     requires { ⌜ Table (now bytes) (now rows) × (j < length (nodesOf (now bytes))) ⌝ }
     ensures { λ r. ⌜ holdsOf r ≡ rangeHolds (nodesOf (now (bytes .entry))) frame j ⌝ }
 {
@@ -196,48 +212,61 @@ fn range_holds(bytes: &[u8], rows: &[u32], frame: usize, j: usize) -> Holds
     }
 }
 
-// The first mask item from `from` up to `to` whose range holds a frame.
-fn first_holding(bytes: &[u8], rows: &[u32], frame: usize, from: usize, to: usize) -> Applies
+// The search: the first mask item from `from` up to `to` whose range does not leave the frame out, or none. Where the range there
+// can be read, it holds the frame.
+pub fn first_holding(bytes: &[u8], rows: &[u32], frame: usize, from: usize, to: usize) -> Applying
     requires { ⌜ Table (now bytes) (now rows) × (to ≤ length (nodesOf (now bytes))) ⌝ }
-    ensures { λ r. ⌜ appliesOf r ≡ firstHolding (nodesOf (now (bytes .entry))) frame (members (nodesOf (now (bytes .entry))) from to) ⌝ }
-    ensures { λ r. ⌜ AppliesBelow (length (nodesOf (now (bytes .entry)))) r ⌝ }
+    ensures { λ r. ⌜ ifRead (nodesOf (now (bytes .entry))) frame r ≡ firstHolding (nodesOf (now (bytes .entry))) frame (members (nodesOf (now (bytes .entry))) from to) ⌝ }
+    ensures { λ r. ⌜ ApplyingBelow (length (nodesOf (now (bytes .entry)))) r ⌝ }
 {
     let mut at = from;
     while at < to {
         match range_holds(bytes, rows, frame, at) {
             Holds::Yes => {
-                return Applies::Item(at);
+                return Applying::Item(at);
             }
             Holds::No => {
                 at = node::next(bytes, rows, at);
             }
             Holds::Lacks => {
-                return Applies::Lacks;
+                return Applying::Item(at);
             }
         }
     }
-    Applies::Nothing
+    Applying::Nothing
 }
 
-// Step 2: the mask item that applies to a frame.
-pub fn applying_to(bytes: &[u8], rows: &[u32], frame: usize) -> Applies
-    requires { ⌜ Table (now bytes) (now rows) ⌝ }
-    ensures { λ r. ⌜ appliesOf r ≡ applyingTo (nodesOf (now (bytes .entry))) frame ⌝ }
-    ensures { λ r. ⌜ AppliesBelow (length (nodesOf (now (bytes .entry)))) r ⌝ }
+// Step 2: the mask item that applies to a frame, or none.
+pub fn mask_item(bytes: &[u8], rows: &[u32], frame: usize) -> Applying
+    requires { ⌜ Table (now bytes) (now rows) × GivesItem (nodesOf (now bytes)) frame ⌝ }
+    ensures { λ r. ⌜ applyingTo (nodesOf (now (bytes .entry))) frame ≡ some r ⌝ }
+    ensures { λ r. ⌜ ApplyingBelow (length (nodesOf (now (bytes .entry)))) r ⌝ }
 {
-    match element::find_root(bytes, rows, tags::MASK_SUBTRACTION_SEQUENCE) {
-        Num::Lacks => Applies::Nothing,
-        Num::Is(m) => {
-            if node::vr(bytes, rows, m) == dataset::SQ {
-                first_holding(bytes, rows, frame, m + 1, node::next(bytes, rows, m))
-            } else {
-                Applies::Lacks
-            }
-        }
-    }
+    let items = element::mask_items(bytes, rows);
+    first_holding(bytes, rows, frame, items.at, items.end)
 }
 
 // ---- Step 3: the mask frames
+
+// What mask item j does.
+pub fn operation_of(bytes: &[u8], rows: &[u32], j: usize) -> Operation
+    requires { ⌜ Table (now bytes) (now rows) × (j < length (nodesOf (now bytes))) ⌝ }
+    ensures { λ r. ⌜ r ≡ operationOf (nodesOf (now (bytes .entry))) j ⌝ }
+{
+    if element::cs_item(bytes, rows, j, tags::MASK_OPERATION, b"NONE") {
+        Operation::Native
+    } else {
+        if element::cs_item(bytes, rows, j, tags::MASK_OPERATION, b"AVG_SUB") {
+            Operation::Average
+        } else {
+            if element::cs_item(bytes, rows, j, tags::MASK_OPERATION, b"TID") {
+                Operation::Tid
+            } else {
+                Operation::Lacks
+            }
+        }
+    }
+}
 
 // The element of an averaging mask item that has the mask frames.
 pub fn average_element(bytes: &[u8], rows: &[u32], j: usize) -> Num
@@ -283,12 +312,11 @@ fn offset_of(bytes: &[u8], rows: &[u32], j: usize) -> Signed
     }
 }
 
-// A number x, where it is one of the frames.
-fn among_frames(bytes: &[u8], rows: &[u32], x: usize) -> Found
-    requires { ⌜ Table (now bytes) (now rows) ⌝ }
-    ensures { λ r. ⌜ foundOf r ≡ need (framesOf (nodesOf (now (bytes .entry)))) (λ n. some (cond (leb 1 x && leb x n) (num.Is x) num.Lacks)) ⌝ }
+// A number x, where it is one of the frames; `frames` says how many there are.
+fn among_frames(x: usize, frames: Num) -> Found
+    ensures { λ r. ⌜ foundOf r ≡ need frames (λ n. some (cond (leb 1 x && leb x n) (num.Is x) num.Lacks)) ⌝ }
 {
-    match element::frame_count(bytes, rows) {
+    match frames {
         Num::Lacks => Found::Lacks,
         Num::Is(n) => {
             if 1 <= x {
@@ -307,14 +335,14 @@ fn less(a: usize, b: usize) -> usize
     if b <= a { a - b } else { 0 }
 }
 
-// The mask frame that a TID mask item gives a frame.
-pub fn tid_frame(bytes: &[u8], rows: &[u32], frame: usize, j: usize) -> Found
-    requires { ⌜ Table (now bytes) (now rows) × ((j < length (nodesOf (now bytes))) × (frame < 4294967296)) ⌝ }
+// The mask frame that a TID mask item gives a frame; `frames` is Number of Frames.
+pub fn tid_frame(bytes: &[u8], rows: &[u32], frame: usize, j: usize, frames: Num) -> Found
+    requires { ⌜ Table (now bytes) (now rows) × ((j < length (nodesOf (now bytes))) × ((frame < 4294967296) × (frames ≡ framesOf (nodesOf (now bytes))))) ⌝ }
     ensures { λ r. ⌜ foundOf r ≡ tidFrame (nodesOf (now (bytes .entry))) frame j ⌝ }
 {
     match offset_of(bytes, rows, j) {
-        Signed::Plus(d) => among_frames(bytes, rows, less(frame, d)),
-        Signed::Minus(d) => among_frames(bytes, rows, frame + d),
+        Signed::Plus(d) => among_frames(less(frame, d), frames),
+        Signed::Minus(d) => among_frames(frame + d, frames),
         Signed::Lacks => Found::Lacks,
     }
 }
@@ -448,6 +476,24 @@ pub fn shared_naming(bytes: &[u8], rows: &[u32], j: usize) -> Found
     own(bytes, rows, j, group)
 }
 
+// What mask item j says to all frames alike.
+pub fn told_by(bytes: &[u8], rows: &[u32], j: usize) -> Told
+    requires { ⌜ Table (now bytes) (now rows) × (j < length (nodesOf (now bytes))) ⌝ }
+    ensures { λ r. ⌜ IsTold (nodesOf (now (bytes .entry))) j r ⌝ }
+{
+    let operation = operation_of(bytes, rows, j);
+    let shared = shared_naming(bytes, rows, j);
+    Told { operation, shared }
+}
+
+// What stands where no mask item applies.
+pub fn nothing_told() -> Told {
+    Told {
+        operation: Operation::Native,
+        shared: Found::Absent,
+    }
+}
+
 // The item of a frame's shift group that names the ID of mask item j; `shared` is that of the shared one.
 fn naming_for(bytes: &[u8], rows: &[u32], frame: usize, item: Num, j: usize, shared: Found) -> Found
     requires { ⌜ Table (now bytes) (now rows) × ((j < length (nodesOf (now bytes))) × ((item ≡ frameItem (nodesOf (now bytes)) frame) × (Below (length (nodesOf (now bytes))) item × IsShared (nodesOf (now bytes)) j shared))) ⌝ }
@@ -557,16 +603,46 @@ fn window_at(bytes: &[u8], rows: &[u32], stored: usize, g: usize) -> Windowed
     }
 }
 
-// Step 6: the window of a frame; `item` is the frame's item.
-pub fn window_for(bytes: &[u8], rows: &[u32], frame: usize, item: Num, stored: usize) -> Windowed
-    requires { ⌜ Table (now bytes) (now rows) × ((item ≡ frameItem (nodesOf (now bytes)) frame) × (Below (length (nodesOf (now bytes))) item × (stored ≤ 16))) ⌝ }
-    ensures { λ r. ⌜ windowedOf r ≡ windowFor (nodesOf (now (bytes .entry))) frame stored ⌝ }
+// The window of the shared VOI group: the same for every frame that has no group of its own.
+pub fn shared_window(bytes: &[u8], rows: &[u32], stored: usize) -> Windowed
+    requires { ⌜ Table (now bytes) (now rows) × (stored ≤ 16) ⌝ }
+    ensures { λ r. ⌜ windowedOf r ≡ sharedWindow (nodesOf (now (bytes .entry))) stored ⌝ }
 {
-    match group_for(bytes, rows, frame, item, tags::FRAME_VOI_LUT_SEQUENCE) {
+    match shared_group(bytes, rows, tags::FRAME_VOI_LUT_SEQUENCE) {
         Found::At(g) => window_at(bytes, rows, stored, g),
         Found::Absent => Windowed::Is(window::full_window(stored)),
         Found::Lacks => Windowed::Lacks,
     }
+}
+
+// Step 6: the window of a frame; `item` is the frame's item, `common` the window of the shared VOI group.
+pub fn window_by(
+    bytes: &[u8],
+    rows: &[u32],
+    frame: usize,
+    item: Num,
+    stored: usize,
+    common: Windowed,
+) -> Windowed
+    requires { ⌜ Table (now bytes) (now rows) × ((item ≡ frameItem (nodesOf (now bytes)) frame) × (Below (length (nodesOf (now bytes))) item × (windowedOf common ≡ sharedWindow (nodesOf (now bytes)) stored))) ⌝ }
+    ensures { λ r. ⌜ windowedOf r ≡ windowFor (nodesOf (now (bytes .entry))) frame stored ⌝ }
+{
+    match item {
+        Num::Lacks => Windowed::Lacks,
+        Num::Is(i) => match element::find_item(bytes, rows, i, tags::FRAME_VOI_LUT_SEQUENCE) {
+            Num::Lacks => common,
+            Num::Is(g) => window_at(bytes, rows, stored, g),
+        },
+    }
+}
+
+// The same, with the window of the shared group worked out here.
+pub fn window_for(bytes: &[u8], rows: &[u32], frame: usize, item: Num, stored: usize) -> Windowed
+    requires { ⌜ Table (now bytes) (now rows) × ((item ≡ frameItem (nodesOf (now bytes)) frame) × (Below (length (nodesOf (now bytes))) item × (stored ≤ 16))) ⌝ }
+    ensures { λ r. ⌜ windowedOf r ≡ windowFor (nodesOf (now (bytes .entry))) frame stored ⌝ }
+{
+    let common = shared_window(bytes, rows, stored);
+    window_by(bytes, rows, frame, item, stored, common)
 }
 
 // ---- Step 7: whether the image is inverted

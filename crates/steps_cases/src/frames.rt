@@ -1,7 +1,9 @@
 // The steps of one frame, each asked by itself, whatever the mask operation is. A step that is not asked is `-`.
 use crate::answers;
 use element::tags;
-use steps::Applies;
+use steps::Applying;
+use steps::Holds;
+use steps::Operation;
 use steps::Sized;
 use value::Num;
 ghost use mathlib.Core.Path.{_≡_};
@@ -11,7 +13,16 @@ ghost use Rattle.value.specs.Contracts.{Below};
 ghost use Rattle.node.specs.Nodes.{nodesOf, members};
 ghost use Rattle.node.specs.Contracts.{Table};
 ghost use Rattle.element.specs.Frames.{frameItem};
-ghost use Rattle.steps.specs.Contracts.{SizedSmall};
+ghost use Rattle.steps.specs.Steps.{applyingTo};
+ghost use Rattle.steps.specs.Contracts.{ifRead, ApplyingBelow, SizedSmall};
+ghost use Rattle.steps_cases.specs.Contracts.{appliesOf, AppliesBelow};
+
+// The mask item that applies to a frame, that none does, or that step 2 lacks something.
+pub enum Applies {
+    Item(usize),
+    Nothing,
+    Lacks,
+}
 
 // How many bytes of pixels there are.
 pub fn print_pixels(bytes: &[u8], rows: &[u32], pixels: Num)
@@ -63,20 +74,19 @@ fn count_members(bytes: &[u8], rows: &[u32], from: usize, to: usize) -> usize
     n
 }
 
-fn print_operation(bytes: &[u8], rows: &[u32], j: usize)
-    requires { ⌜ Table (now bytes) (now rows) × (j < length (nodesOf (now bytes))) ⌝ }
-{
-    if element::cs_item(bytes, rows, j, tags::MASK_OPERATION, b"NONE") {
-        io::write_all(1, b" NONE");
-    } else {
-        if element::cs_item(bytes, rows, j, tags::MASK_OPERATION, b"AVG_SUB") {
+fn print_operation(operation: Operation) {
+    match operation {
+        Operation::Native => {
+            io::write_all(1, b" NONE");
+        }
+        Operation::Average => {
             io::write_all(1, b" AVG_SUB");
-        } else {
-            if element::cs_item(bytes, rows, j, tags::MASK_OPERATION, b"TID") {
-                io::write_all(1, b" TID");
-            } else {
-                io::write_all(1, b" lacks");
-            }
+        }
+        Operation::Tid => {
+            io::write_all(1, b" TID");
+        }
+        Operation::Lacks => {
+            io::write_all(1, b" lacks");
         }
     }
 }
@@ -103,6 +113,14 @@ fn print_masks(bytes: &[u8], rows: &[u32], masks: Num)
     }
 }
 
+// Step 3, TID: the mask frame.
+fn print_tid(bytes: &[u8], rows: &[u32], frame: usize, j: usize)
+    requires { ⌜ Table (now bytes) (now rows) × ((j < length (nodesOf (now bytes))) × (frame < 5)) ⌝ }
+{
+    let frames = element::frame_count(bytes, rows);
+    answers::print_tid(steps::tid_frame(bytes, rows, frame, j, frames));
+}
+
 // Step 4. It is not asked for frame 0, which no data set has: `frameItem` counts from 1, and gives the first item for 0 too.
 fn print_shift(bytes: &[u8], rows: &[u32], frame: usize, item: Num, j: usize)
     requires { ⌜ Table (now bytes) (now rows) × ((j < length (nodesOf (now bytes))) × ((item ≡ frameItem (nodesOf (now bytes)) frame) × Below (length (nodesOf (now bytes))) item)) ⌝ }
@@ -121,17 +139,58 @@ fn print_item(bytes: &[u8], rows: &[u32], frame: usize, item: Num, j: usize)
     let items = element::mask_items(bytes, rows);
     io::write_all(1, b" item");
     answers::print_number(count_members(bytes, rows, items.at, j) + 1);
-    print_operation(bytes, rows, j);
+    print_operation(steps::operation_of(bytes, rows, j));
     print_masks(bytes, rows, steps::average_element(bytes, rows, j));
-    answers::print_tid(steps::tid_frame(bytes, rows, frame, j));
+    print_tid(bytes, rows, frame, j);
     print_shift(bytes, rows, frame, item, j);
+}
+
+// What the search found, or that the range there lacks something.
+fn if_read(bytes: &[u8], rows: &[u32], frame: usize, found: Applying) -> Applies
+    requires { ⌜ Table (now bytes) (now rows) × ApplyingBelow (length (nodesOf (now bytes))) found ⌝ }
+    ensures { λ r. ⌜ appliesOf r ≡ ifRead (nodesOf (now (bytes .entry))) frame found ⌝ }
+    ensures { λ r. ⌜ AppliesBelow (length (nodesOf (now (bytes .entry)))) r ⌝ }
+{
+    let Applying::Item(j) = found else {
+        return Applies::Nothing;
+    };
+    match steps::range_holds(bytes, rows, frame, j) {
+        Holds::Yes => Applies::Item(j),
+        Holds::No => Applies::Item(j),
+        Holds::Lacks => Applies::Lacks,
+    }
+}
+
+// Step 2 in any data set: it lacks where the mask items are no sequence, or where the search met a range that cannot be read.
+fn applying_to(bytes: &[u8], rows: &[u32], frame: usize) -> Applies
+    requires { ⌜ Table (now bytes) (now rows) ⌝ }
+    ensures { λ r. ⌜ appliesOf r ≡ applyingTo (nodesOf (now (bytes .entry))) frame ⌝ }
+    ensures { λ r. ⌜ AppliesBelow (length (nodesOf (now (bytes .entry)))) r ⌝ }
+{
+    match element::find_root(bytes, rows, tags::MASK_SUBTRACTION_SEQUENCE) {
+        Num::Lacks => Applies::Nothing,
+        Num::Is(m) => {
+            if node::vr(bytes, rows, m) == node::SQ {
+                let found = steps::first_holding(
+                    bytes,
+                    rows,
+                    frame,
+                    m + 1,
+                    node::next(bytes, rows, m),
+                );
+                if_read(bytes, rows, frame, found)
+            } else {
+                Applies::Lacks
+            }
+        }
+    }
 }
 
 // Steps 2 to 4.
 fn print_mask(bytes: &[u8], rows: &[u32], frame: usize, item: Num)
     requires { ⌜ Table (now bytes) (now rows) × ((item ≡ frameItem (nodesOf (now bytes)) frame) × (Below (length (nodesOf (now bytes))) item × (frame < 5))) ⌝ }
 {
-    match steps::applying_to(bytes, rows, frame) {
+    match applying_to(bytes, rows, frame) {
         Applies::Item(j) => print_item(bytes, rows, frame, item, j),
         Applies::Nothing => {
             io::write_all(1, b" native");

@@ -5,7 +5,8 @@ use lib.ListN.{length}
 use mathlib.Core.Option.{some}
 use Rattle.steps.specs.declared.Applying.{Applying}
 use Rattle.steps.specs.Steps.{maskBy, maskFor}
-use Rattle.display.specs.Contracts.{ApplyingBelow, SharedBy}
+use Rattle.steps.specs.Contracts.{ApplyingBelow}
+use Rattle.display.specs.Contracts.{ToldBy}
 use borrow.Author.Needs.{needs}
 use Rattle.display.proofs.mask_on.Statement.{statement}
 use Rattle.display.proofs.mask_on.Tie as tie
@@ -26,7 +27,7 @@ unfolding maskFor
 mask-by-requires c κs =
     let p = c .before .before .before .before .before .pre in
     let ns = nodesOf (c .before .before .before .before .before .args .bytes .now) in
-    (p .0, (p .1 .0, (p .1 .1 .0, (subst (λ (x : Applying). ApplyingBelow (length ns) x) (c .before .applies .given .1) (p .1 .1 .1 .1 .1 .1 .0), (p .1 .1 .1 .0, (plan.gives-same (c .before .before .before .before .before .args .n) (maskFor ns (c .before .before .before .before .before .args .frame)) (maskBy ns (c .before .before .before .before .before .args .frame) (c .before .applies .given .0 .0)) (rw (p .1 .1 .1 .1 .1 .0 ∙ ap some (c .before .applies .given .1)) refl) (p .1 .1 .1 .1 .0), subst (λ (x : Applying). SharedBy ns x (c .before .before .before .before .before .args .shared)) (c .before .applies .given .1) (p .1 .1 .1 .1 .1 .1 .1)))))))
+    (p .0, (p .1 .0, (p .1 .1 .0, (subst (λ (x : Applying). ApplyingBelow (length ns) x) (c .before .applies .given .1) (p .1 .1 .1 .1 .1 .1 .0), (p .1 .1 .1 .0, (plan.gives-same (c .before .before .before .before .before .args .n) (maskFor ns (c .before .before .before .before .before .args .frame)) (maskBy ns (c .before .before .before .before .before .args .frame) (c .before .applies .given .0 .0)) (rw (p .1 .1 .1 .1 .1 .0 ∙ ap some (c .before .applies .given .1)) refl) (p .1 .1 .1 .1 .0), (subst (λ (x : Applying). ToldBy ns x (c .before .before .before .before .before .args .told)) (c .before .applies .given .1) (p .1 .1 .1 .1 .1 .1 .1 .0), p .1 .1 .1 .1 .1 .1 .1 .1)))))))
 
 returns-2 : tie.Need-returns-2
 unfolding maskFor

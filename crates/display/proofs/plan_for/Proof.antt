@@ -1,3 +1,5 @@
+use Rattle.node.specs.Nodes.{nodesOf}
+use Rattle.display.proofs.Answering as plan
 use Rattle.display.proofs.Scenes as scenes
 use borrow.Author.Needs.{needs}
 use Rattle.display.proofs.plan_for.Statement.{statement}
@@ -7,19 +9,20 @@ item-at-requires : tie.Need-item-at-requires
 item-at-requires c κs =
     search needs
 
-applying-requires : tie.Need-applying-requires
-applying-requires c κs =
+mask-item-requires : tie.Need-mask-item-requires
+mask-item-requires c κs =
     let p = c .before .before .before .pre in
-    (p .0, scenes.objects (c .before .before .before .args .bytes .now) (c .before .before .before .args .n) (c .before .before .before .args .frame) (p .1 .0) (p .1 .1 .1 .0) (p .1 .1 .1 .1) .mask)
+    let a = c .before .before .before .args in
+    (p .0, λ e. plan.applying-some (nodesOf (a .bytes .now)) (a .frame) (a .n) e (scenes.objects (a .bytes .now) (a .n) (a .frame) (p .1 .0) (p .1 .1 .1 .0) (p .1 .1 .1 .1) .mask))
 
-shared-for-requires : tie.Need-shared-for-requires
-shared-for-requires c κs =
-    (c .before .before .before .before .pre .0, c .applying .ensures .1)
+told-for-requires : tie.Need-told-for-requires
+told-for-requires c κs =
+    (c .before .before .before .before .pre .0, c .mask-item .ensures .1)
 
 plan-of-requires : tie.Need-plan-of-requires
 plan-of-requires c κs =
     let p = c .before .before .before .before .before .pre in
-    (p .0, (p .1 .0, (p .1 .1 .0, (record { is = c .before .before .item-at .ensures .0; below = c .before .before .item-at .ensures .1 }, (p .1 .1 .1 .0, (p .1 .1 .1 .1, record { is = c .before .applying .ensures .0; below = c .before .applying .ensures .1; names = c .shared-for .ensures }))))))
+    (p .0, (p .1 .0, (p .1 .1 .0, (record { is = c .before .before .item-at .ensures .0; below = c .before .before .item-at .ensures .1 }, (p .1 .1 .1 .0, (p .1 .1 .1 .1, record { is = c .before .mask-item .ensures .0; below = c .before .mask-item .ensures .1; tells = c .told-for .ensures }))))))
 
 returns : tie.Need-returns
 returns c =
@@ -28,4 +31,4 @@ returns c =
 pub plan-for-spec : {M : Type 1} → statement M
 plan-for-spec =
     tie.close
-    (tie.spec item-at-requires applying-requires shared-for-requires plan-of-requires returns)
+    (tie.spec item-at-requires mask-item-requires told-for-requires plan-of-requires returns)

@@ -12,12 +12,12 @@ use Rattle.display.proofs.plan_of.Tie as tie
 mask-on-requires : tie.Need-mask-on-requires
 mask-on-requires c κs =
     let all = scenes.objects (c .before .before .before .args .bytes .now) (c .before .before .before .args .n) (c .before .before .before .args .frame) (c .before .before .before .pre .1 .0) (c .before .before .before .pre .1 .1 .1 .1 .0) (c .before .before .before .pre .1 .1 .1 .1 .1 .0) in
-    (c .before .before .before .pre .0, (c .before .before .before .pre .1 .1 .1 .0 .is, (c .before .before .before .pre .1 .1 .1 .0 .below, (scenes.frame-small _ _ _ _ all (c .before .before .before .pre .1 .1 .0 .geometry), (all .mask, (c .before .before .before .pre .1 .1 .1 .1 .1 .1 .is, (c .before .before .before .pre .1 .1 .1 .1 .1 .1 .below, c .before .before .before .pre .1 .1 .1 .1 .1 .1 .names)))))))
+    (c .before .before .before .pre .0, (c .before .before .before .pre .1 .1 .1 .0 .is, (c .before .before .before .pre .1 .1 .1 .0 .below, (scenes.frame-small _ _ _ _ all (c .before .before .before .pre .1 .1 .0 .geometry), (all .mask, (c .before .before .before .pre .1 .1 .1 .1 .1 .1 .is, (c .before .before .before .pre .1 .1 .1 .1 .1 .1 .below, (c .before .before .before .pre .1 .1 .1 .1 .1 .1 .tells, c .before .before .before .pre .1 .0 .frames))))))))
 
-window-for-requires : tie.Need-window-for-requires
-window-for-requires c κs =
-    let all = scenes.objects (c .before .before .before .before .args .bytes .now) (c .before .before .before .before .args .n) (c .before .before .before .before .args .frame) (c .before .before .before .before .pre .1 .0) (c .before .before .before .before .pre .1 .1 .1 .1 .0) (c .before .before .before .before .pre .1 .1 .1 .1 .1 .0) in
-    (c .before .before .before .before .pre .0, (c .before .before .before .before .pre .1 .1 .1 .0 .is, (c .before .before .before .before .pre .1 .1 .1 .0 .below, scenes.stored-most _ _ _ _ all (c .before .before .before .before .pre .1 .1 .0 .geometry))))
+window-by-requires : tie.Need-window-by-requires
+window-by-requires c κs =
+    let p = c .before .before .before .before .pre in
+    (p .0, (p .1 .1 .1 .0 .is, (p .1 .1 .1 .0 .below, p .1 .1 .0 .window-is)))
 
 enum-known-window : tie.Need-enum-known-window
 enum-known-window c =
@@ -34,13 +34,13 @@ no-window-requires c κs =
 returns : tie.Need-returns
 returns c =
     let all = scenes.objects (c .before .before .before .before .before .before .before .before .args .bytes .now) (c .before .before .before .before .before .before .before .before .args .n) (c .before .before .before .before .before .before .before .before .args .frame) (c .before .before .before .before .before .before .before .before .pre .1 .0) (c .before .before .before .before .before .before .before .before .pre .1 .1 .1 .1 .0) (c .before .before .before .before .before .before .before .before .pre .1 .1 .1 .1 .1 .0) in
-    absurd (never (sym (steps-laws.said windowedOf (c .before .enum-told .given .1) (c .before .before .before .window-for .ensures)) ∙ scenes.window-of _ _ _ _ all (c .before .before .before .before .before .before .before .before .pre .1 .1 .0 .geometry) .window))
+    absurd (never (sym (steps-laws.said windowedOf (c .before .enum-told .given .1) (c .before .before .before .window-by .ensures)) ∙ scenes.window-of _ _ _ _ all (c .before .before .before .before .before .before .before .before .pre .1 .1 .0 .geometry) .window))
 
 returns-2 : tie.Need-returns-2
 returns-2 c =
     let all = scenes.objects (c .before .before .before .before .before .before .before .before .args .bytes .now) (c .before .before .before .before .before .before .before .before .args .n) (c .before .before .before .before .before .before .before .before .args .frame) (c .before .before .before .before .before .before .before .before .pre .1 .0) (c .before .before .before .before .before .before .before .before .pre .1 .1 .1 .1 .0) (c .before .before .before .before .before .before .before .before .pre .1 .1 .1 .1 .1 .0) in
     let w = scenes.window-of _ _ _ _ all (c .before .before .before .before .before .before .before .before .pre .1 .1 .0 .geometry) in
-    let e = steps-laws.said windowedOf (c .before .window .given .1) (c .before .before .before .window-for .ensures) in
+    let e = steps-laws.said windowedOf (c .before .window .given .1) (c .before .before .before .window-by .ensures) in
     record { window-is = e; drawable = subst Drawable (same-some (w .window) e) (w .drawable); masking-is = c .before .before .before .before .mask-on .ensures .0; below = c .before .before .before .before .mask-on .ensures .1 }
 
 pub plan-of-spec : {M : Type 1} → statement M
@@ -48,7 +48,7 @@ plan-of-spec =
     tie.close
     (tie.spec
     mask-on-requires
-    window-for-requires
+    window-by-requires
     enum-known-window
     enum-told
     no-window-requires

@@ -58,13 +58,20 @@ is-inverse-requires c κs =
     let all = scenes.objects (c .before .before .before .before .before .before .before .before .before .before .args .bytes .now) (c .before .before .before .before .before .before .before .before .before .before .args .n) 1 (c .before .before .before .before .before .before .before .before .before .before .pre .1) (omega arith) (c .before .before .before .before .before .before .before .before .before .before .pre .1 .some-frame) in
     (c .before .before .before .before .before .before .before .before .before .before .pre .0, record { b = all .o .inverse; is = all .o .photometric })
 
+shared-window-requires : tie.Need-shared-window-requires
+shared-window-requires c κs =
+    let a = c .before .before .before .before .before .before .before .before .before .before .before .args in
+    let p = c .before .before .before .before .before .before .before .before .before .before .before .pre in
+    (p .0, scenes.stored-most _ _ _ _ (scenes.objects (a .bytes .now) (a .n) 1 (p .1) (omega arith) (p .1 .some-frame)) (steps-laws.said sizedOf (c .before .before .before .before .before .before .g .given .1) (c .before .before .before .before .before .before .before .before .geometry-of .ensures .0)))
+
 returns-3 : tie.Need-returns-3
 returns-3 c =
     record {
-      geometry = steps-laws.said sizedOf (c .before .before .before .before .before .before .g .given .1) (c .before .before .before .before .before .before .before .before .geometry-of .ensures .0);
-      pixels = node-laws.had (c .before .before .p .given .1) (c .before .before .before .before .find-root .ensures .0);
-      below = node-laws.within _ (c .before .before .p .given .1) (c .before .before .before .before .find-root .ensures .1);
-      inverse-is = c .is-inverse .ensures;
+      geometry = steps-laws.said sizedOf (c .before .before .before .before .before .before .before .g .given .1) (c .before .before .before .before .before .before .before .before .before .geometry-of .ensures .0);
+      pixels = node-laws.had (c .before .before .before .p .given .1) (c .before .before .before .before .before .find-root .ensures .0);
+      below = node-laws.within _ (c .before .before .before .p .given .1) (c .before .before .before .before .before .find-root .ensures .1);
+      inverse-is = c .before .is-inverse .ensures;
+      window-is = c .shared-window .ensures;
     }
 
 pub scene-of-spec : {M : Type 1} → statement M
@@ -82,4 +89,5 @@ scene-of-spec =
     no-scene-requires-2
     returns-2
     is-inverse-requires
+    shared-window-requires
     returns-3)

@@ -1,5 +1,5 @@
 -- Without a mask frame the picture is native; with one the item gives a mask, as is asked, so its moves are there.
-use mathlib.Core.Path.{ap}
+use mathlib.Core.Path.{sym, ap}
 use Rattle.display.proofs.Answering as plan
 use Rattle.steps.proofs.Laws as steps-laws
 use Rattle.node.specs.Nodes.{nodesOf}
@@ -14,7 +14,9 @@ use Rattle.display.proofs.tid_by.Statement.{statement}
 use Rattle.display.proofs.tid_by.Tie as tie
 
 tid-frame-requires : tie.Need-tid-frame-requires
-tid-frame-requires c κs = search needs
+tid-frame-requires c κs =
+    let p = c .before .before .pre in
+    (p .0, (p .1 .1 .1 .0, (p .1 .1 .1 .1 .0, sym (p .1 .1 .1 .1 .1 .1 .1))))
 
 enum-told : tie.Need-enum-told
 enum-told c = search needs
@@ -30,7 +32,7 @@ moves-for-requires c κs =
     let ns = nodesOf (c .before .before .before .before .before .before .args .bytes .now) in
     let e = steps-laws.said foundOf (c .before .t .given .1) (c .before .before .before .tid-frame .ensures) in
     let p = c .before .before .before .before .before .before .pre in
-    (p .0, (p .1 .0, (p .1 .1 .0, (p .1 .1 .1 .0, (plan.gives-moves (c .before .before .before .before .before .before .args .n) (c .before .t .given .0 .0 ∷ []) (movesFor ns (c .before .before .before .before .before .before .args .frame) (c .before .before .before .before .before .before .args .j)) (plan.gives-same (c .before .before .before .before .before .before .args .n) _ _ (ap (λ (o : Option Num). then o (onTid ns (c .before .before .before .before .before .before .args .frame) (c .before .before .before .before .before .before .args .j))) e) (p .1 .1 .1 .1 .1 .0)), p .1 .1 .1 .1 .1 .1)))))
+    (p .0, (p .1 .0, (p .1 .1 .0, (p .1 .1 .1 .0, (plan.gives-moves (c .before .before .before .before .before .before .args .n) (c .before .t .given .0 .0 ∷ []) (movesFor ns (c .before .before .before .before .before .before .args .frame) (c .before .before .before .before .before .before .args .j)) (plan.gives-same (c .before .before .before .before .before .before .args .n) _ _ (ap (λ (o : Option Num). then o (onTid ns (c .before .before .before .before .before .before .args .frame) (c .before .before .before .before .before .before .args .j))) e) (p .1 .1 .1 .1 .1 .0)), p .1 .1 .1 .1 .1 .1 .0)))))
 
 returns : tie.Need-returns
 returns c =

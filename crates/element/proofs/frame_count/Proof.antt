@@ -1,6 +1,6 @@
 -- What the search finds is read as an IS, whose bound the count keeps; where it finds nothing, both sides lack.
 use Rattle.node.proofs.Laws as node-laws
-use Rattle.element.specs.Frames.{framesOf, asCount}
+use Rattle.element.specs.Frames.{framesOf}
 use borrow.Author.Needs.{needs}
 use Rattle.element.proofs.frame_count.Statement.{statement}
 use Rattle.element.proofs.frame_count.Tie as tie

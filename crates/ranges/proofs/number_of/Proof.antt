@@ -25,14 +25,14 @@ cast-result c =
     omega (arith, steps-laws.found-within 134217728 (c .before .r .given .1) (c .before .before .before .pre))
 
 returns : tie.Need-returns
-returns c = search needs
+returns c = (sym (c .enum-told .given .1), omega arith)
 
 returns-2 : tie.Need-returns-2
-returns-2 c = search needs
+returns-2 c = (sym (c .enum-told2 .given .1), omega arith)
 
 returns-3 : tie.Need-returns-3
 returns-3 c =
-    names.found-at (c .before .r .given .0 .0) ∙ sym (c .before .r .given .1)
+    (names.found-at (c .before .r .given .0 .0) ∙ sym (c .before .r .given .1), omega (arith, steps-laws.found-within 134217728 (c .before .r .given .1) (c .before .before .before .pre)))
 
 pub number-of-spec : {M : Type 1} → statement M
 number-of-spec =

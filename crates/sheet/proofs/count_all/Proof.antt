@@ -16,14 +16,14 @@ apply-all-requires : tie.Need-apply-all-requires
 apply-all-requires c κs =
     (c .before .before .before .before .before .before .before .before .pre .0, (record { few = omega (arith, scenes.few-frames (c .before .before .before .before .before .before .before .before .args .bytes .now) (c .before .before .before .before .before .before .before .before .args .n) (c .before .before .before .before .before .before .before .before .pre .1 .0)); marks = omega (arith, c .before .before .before .before .before .before .before .before .pre .1 .1 .1 .1 .1 .1 .1 .above); frames = omega (arith, scenes.few-frames (c .before .before .before .before .before .before .before .before .args .bytes .now) (c .before .before .before .before .before .before .before .before .args .n) (c .before .before .before .before .before .before .before .before .pre .1 .0), length-replicate {A = ℕ} 65536 0) }, counted.answering (c .before .before .before .before .before .before .before .before .args .bytes .now) (c .before .before .before .before .before .before .before .before .args .n) (c .before .before .before .before .before .before .before .before .pre .1 .0)))
 
-slice-aggregate-name-all : tie.Need-slice-aggregate-name-all
-slice-aggregate-name-all c = search needs
+slice-aggregate-tell-all : tie.Need-slice-aggregate-tell-all
+slice-aggregate-tell-all c = search needs
 
-slice-aggregate-name-all-2 : tie.Need-slice-aggregate-name-all-2
-slice-aggregate-name-all-2 c = search needs
+slice-aggregate-tell-all-2 : tie.Need-slice-aggregate-tell-all-2
+slice-aggregate-tell-all-2 c = search needs
 
-name-all-requires : tie.Need-name-all-requires
-name-all-requires c κs =
+tell-all-requires : tie.Need-tell-all-requires
+tell-all-requires c κs =
     (c .before .before .before .before .before .before .before .before .before .before .before .before .before .before .pre .0, (omega (arith, length-replicate {A = ℕ} 16 0), omega (arith, length-replicate {A = ℕ} 16 0)))
 
 slice-aggregate-count-frames : tie.Need-slice-aggregate-count-frames
@@ -37,7 +37,7 @@ slice-aggregate-count-frames-3 c = search needs
 
 count-frames-requires : tie.Need-count-frames-requires
 count-frames-requires c κs =
-    (c .before .before .before .before .before .before .before .before .before .before .before .before .before .before .before .before .before .before .before .before .before .before .before .before .pre .0, (c .before .before .before .before .before .before .before .before .before .before .before .before .before .before .before .before .before .before .before .before .before .before .before .before .pre .1 .0, (c .before .before .before .before .before .before .before .before .before .before .before .before .before .before .before .before .before .before .before .before .before .before .before .before .pre .1 .1 .0, (c .before .before .before .before .before .before .before .before .before .before .before .before .before .before .before .before .before .before .before .before .before .before .before .before .pre .1 .1 .1 .0, (c .before .before .before .before .before .before .before .before .before .before .before .before .before .before .before .before .before .before .before .before .before .before .before .before .pre .1 .1 .1 .1 .0, (c .before .before .before .before .before .before .before .before .before .before .before .before .before .before .before .before .before .before .before .before .before .before .before .before .pre .1 .1 .1 .1 .1 .0, (c .before .before .before .before .before .before .before .before .before .before .before .before .before .before .before .before .before .before .before .before .before .before .before .before .pre .1 .1 .1 .1 .1 .1 .0, (record { shades = c .before .before .before .before .before .before .before .before .before .before .before .before .before .before .before .before .before .before .before .before .before .before .before .before .pre .1 .1 .1 .1 .1 .1 .1 .shades; above = omega (arith, c .before .before .before .before .before .before .before .before .before .before .before .before .before .before .upper .given, c .before .before .before .before .before .before .before .before .before .before .before .before .before .before .before .before .before .before .before .before .before .before .before .before .pre .1 .1 .1 .1 .1 .1 .1 .above); below = c .before .before .before .before .before .before .before .before .before .before .before .before .before .before .before .before .before .before .before .before .before .before .before .before .pre .1 .1 .1 .1 .1 .1 .1 .below; wide = c .before .before .before .before .before .before .before .before .before .before .before .before .before .before .before .before .before .before .before .before .before .before .before .before .pre .1 .1 .1 .1 .1 .1 .1 .wide }, record { applied = c .before .before .before .before .before .before .before .before .before .before .before .before .before .before .before .apply-all .ensures; size = omega (arith, c .before .before .before .before .before .before .before .before .before .before .before .before .which2 .given, length-replicate {A = ℕ} 65536 0, scenes.few-frames (c .before .before .before .before .before .before .before .before .before .before .before .before .before .before .before .before .before .before .before .before .before .before .before .before .args .bytes .now) (c .before .before .before .before .before .before .before .before .before .before .before .before .before .before .before .before .before .before .before .before .before .before .before .before .args .n) (c .before .before .before .before .before .before .before .before .before .before .before .before .before .before .before .before .before .before .before .before .before .before .before .before .pre .1 .0)); known = c .before .before .before .before .before .before .before .before .before .name-all .ensures; key-room = omega (arith, c .before .before .before .before .before .before .before .before .keys2 .given, length-replicate {A = ℕ} 16 0); answer-room = omega (arith, c .before .before .before .before .before .before .before .answers2 .given, length-replicate {A = ℕ} 16 0) }))))))))
+    (c .before .before .before .before .before .before .before .before .before .before .before .before .before .before .before .before .before .before .before .before .before .before .before .before .pre .0, (c .before .before .before .before .before .before .before .before .before .before .before .before .before .before .before .before .before .before .before .before .before .before .before .before .pre .1 .0, (c .before .before .before .before .before .before .before .before .before .before .before .before .before .before .before .before .before .before .before .before .before .before .before .before .pre .1 .1 .0, (c .before .before .before .before .before .before .before .before .before .before .before .before .before .before .before .before .before .before .before .before .before .before .before .before .pre .1 .1 .1 .0, (c .before .before .before .before .before .before .before .before .before .before .before .before .before .before .before .before .before .before .before .before .before .before .before .before .pre .1 .1 .1 .1 .0, (c .before .before .before .before .before .before .before .before .before .before .before .before .before .before .before .before .before .before .before .before .before .before .before .before .pre .1 .1 .1 .1 .1 .0, (c .before .before .before .before .before .before .before .before .before .before .before .before .before .before .before .before .before .before .before .before .before .before .before .before .pre .1 .1 .1 .1 .1 .1 .0, (record { shades = c .before .before .before .before .before .before .before .before .before .before .before .before .before .before .before .before .before .before .before .before .before .before .before .before .pre .1 .1 .1 .1 .1 .1 .1 .shades; above = omega (arith, c .before .before .before .before .before .before .before .before .before .before .before .before .before .before .upper .given, c .before .before .before .before .before .before .before .before .before .before .before .before .before .before .before .before .before .before .before .before .before .before .before .before .pre .1 .1 .1 .1 .1 .1 .1 .above); below = c .before .before .before .before .before .before .before .before .before .before .before .before .before .before .before .before .before .before .before .before .before .before .before .before .pre .1 .1 .1 .1 .1 .1 .1 .below; wide = c .before .before .before .before .before .before .before .before .before .before .before .before .before .before .before .before .before .before .before .before .before .before .before .before .pre .1 .1 .1 .1 .1 .1 .1 .wide }, record { applied = c .before .before .before .before .before .before .before .before .before .before .before .before .before .before .before .apply-all .ensures; size = omega (arith, c .before .before .before .before .before .before .before .before .before .before .before .before .which2 .given, length-replicate {A = ℕ} 65536 0, scenes.few-frames (c .before .before .before .before .before .before .before .before .before .before .before .before .before .before .before .before .before .before .before .before .before .before .before .before .args .bytes .now) (c .before .before .before .before .before .before .before .before .before .before .before .before .before .before .before .before .before .before .before .before .before .before .before .before .args .n) (c .before .before .before .before .before .before .before .before .before .before .before .before .before .before .before .before .before .before .before .before .before .before .before .before .pre .1 .0)); known = c .before .before .before .before .before .before .before .before .before .tell-all .ensures; key-room = omega (arith, c .before .before .before .before .before .before .before .before .keys2 .given, length-replicate {A = ℕ} 16 0); answer-room = omega (arith, c .before .before .before .before .before .before .before .answers2 .given, length-replicate {A = ℕ} 16 0) }))))))))
 
 same-length : tie.Need-same-length
 same-length c = search needs
@@ -62,9 +62,9 @@ count-all-spec =
     (tie.spec
     slice-aggregate-apply-all
     apply-all-requires
-    slice-aggregate-name-all
-    slice-aggregate-name-all-2
-    name-all-requires
+    slice-aggregate-tell-all
+    slice-aggregate-tell-all-2
+    tell-all-requires
     slice-aggregate-count-frames
     slice-aggregate-count-frames-2
     slice-aggregate-count-frames-3

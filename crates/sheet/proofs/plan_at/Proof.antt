@@ -5,7 +5,7 @@ use native.Mathlib.Omega.{arith}
 use lib.ListN.{length, getD}
 use Rattle.node.specs.Nodes.{nodesOf}
 use Rattle.steps.specs.declared.Applying.{Applying}
-use Rattle.display.specs.Contracts.{ApplyingBelow}
+use Rattle.steps.specs.Contracts.{ApplyingBelow}
 use Rattle.sheet.proofs.Frames as frames
 use borrow.Author.Needs.{needs}
 use Rattle.sheet.proofs.plan_at.Statement.{statement}
@@ -15,19 +15,19 @@ applying-at-requires : tie.Need-applying-at-requires
 applying-at-requires c κs =
     omega (arith, c .before .before .before .before .before .pre .1 .1 .1 .1 .1 .0, c .before .before .before .before .before .pre .1 .1 .1 .1 .1 .1 .size)
 
-shared-of-requires : tie.Need-shared-of-requires
-shared-of-requires c κs =
+told-here-requires : tie.Need-told-here-requires
+told-here-requires c κs =
     let q = c .before .before .before .before .before .before .pre .1 .1 .1 .1 .1 .1 in
     (c .before .before .before .before .before .before .pre .0, (subst (λ (x : Applying). ApplyingBelow (length (nodesOf (c .before .before .before .before .before .before .args .bytes .now))) x) (sym (c .applying-at .ensures)) (frames.item-below (length (nodesOf (c .before .before .before .before .before .before .args .bytes .now))) (getD (c .before .before .before .before .before .before .args .which .now) (c .before .before .before .before .before .before .args .frame) 0) (q .applied .below (c .before .before .before .before .before .before .args .frame) (c .before .before .before .before .before .before .pre .1 .1 .1 .1 .0) (c .before .before .before .before .before .before .pre .1 .1 .1 .1 .1 .0))), (q .key-room, (q .answer-room, q .known))))
 
 plan-of-requires : tie.Need-plan-of-requires
 plan-of-requires c κs =
     let q = c .before .before .before .before .before .before .before .pre .1 .1 .1 .1 .1 .1 in
-    (c .before .before .before .before .before .before .before .pre .0, (c .before .before .before .before .before .before .before .pre .1 .0, (c .before .before .before .before .before .before .before .pre .1 .1 .0, (c .before .before .before .before .before .before .before .pre .1 .1 .1 .0, (c .before .before .before .before .before .before .before .pre .1 .1 .1 .1 .0, (c .before .before .before .before .before .before .before .pre .1 .1 .1 .1 .1 .0, record { is = q .applied .each (c .before .before .before .before .before .before .before .args .frame) (c .before .before .before .before .before .before .before .pre .1 .1 .1 .1 .0) (c .before .before .before .before .before .before .before .pre .1 .1 .1 .1 .1 .0) ∙ ap some (sym (c .before .applying-at .ensures)); below = subst (λ (x : Applying). ApplyingBelow (length (nodesOf (c .before .before .before .before .before .before .before .args .bytes .now))) x) (sym (c .before .applying-at .ensures)) (frames.item-below (length (nodesOf (c .before .before .before .before .before .before .before .args .bytes .now))) (getD (c .before .before .before .before .before .before .before .args .which .now) (c .before .before .before .before .before .before .before .args .frame) 0) (q .applied .below (c .before .before .before .before .before .before .before .args .frame) (c .before .before .before .before .before .before .before .pre .1 .1 .1 .1 .0) (c .before .before .before .before .before .before .before .pre .1 .1 .1 .1 .1 .0))); names = c .shared-of .ensures }))))))
+    (c .before .before .before .before .before .before .before .pre .0, (c .before .before .before .before .before .before .before .pre .1 .0, (c .before .before .before .before .before .before .before .pre .1 .1 .0, (c .before .before .before .before .before .before .before .pre .1 .1 .1 .0, (c .before .before .before .before .before .before .before .pre .1 .1 .1 .1 .0, (c .before .before .before .before .before .before .before .pre .1 .1 .1 .1 .1 .0, record { is = q .applied .each (c .before .before .before .before .before .before .before .args .frame) (c .before .before .before .before .before .before .before .pre .1 .1 .1 .1 .0) (c .before .before .before .before .before .before .before .pre .1 .1 .1 .1 .1 .0) ∙ ap some (sym (c .before .applying-at .ensures)); below = subst (λ (x : Applying). ApplyingBelow (length (nodesOf (c .before .before .before .before .before .before .before .args .bytes .now))) x) (sym (c .before .applying-at .ensures)) (frames.item-below (length (nodesOf (c .before .before .before .before .before .before .before .args .bytes .now))) (getD (c .before .before .before .before .before .before .before .args .which .now) (c .before .before .before .before .before .before .before .args .frame) 0) (q .applied .below (c .before .before .before .before .before .before .before .args .frame) (c .before .before .before .before .before .before .before .pre .1 .1 .1 .1 .0) (c .before .before .before .before .before .before .before .pre .1 .1 .1 .1 .1 .0))); tells = c .told-here .ensures }))))))
 
 returns : tie.Need-returns
 returns c = search needs
 
 pub plan-at-spec : {M : Type 1} → statement M
 plan-at-spec =
-    tie.close (tie.spec applying-at-requires shared-of-requires plan-of-requires returns)
+    tie.close (tie.spec applying-at-requires told-here-requires plan-of-requires returns)

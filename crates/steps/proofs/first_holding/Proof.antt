@@ -31,7 +31,7 @@ enum-told c = search needs
 
 returns : tie.Need-returns Inv-loop μ-loop
 returns c =
-    (sym (laws.holding-here _ _ _ _ (c .before .before .before .loop-test .taken) (laws.said holdsOf (c .enum-told .given .1) (c .before .before .range-holds .ensures))) ∙ c .before .before .before .before .loop .inv, omega (arith, c .before .before .before .loop-test .taken, c .before .before .before .before .before .before .before .pre .1))
+    (laws.found-here _ _ _ _ (c .before .before .before .loop-test .taken) (laws.said holdsOf (c .enum-told .given .1) (c .before .before .range-holds .ensures)) ∙ c .before .before .before .before .loop .inv, omega (arith, c .before .before .before .loop-test .taken, c .before .before .before .before .before .before .before .pre .1))
 
 enum-told-2 : tie.Need-enum-told-2 Inv-loop μ-loop
 enum-told-2 c = search needs
@@ -52,7 +52,7 @@ enum-told-3 c = search needs
 
 returns-2 : tie.Need-returns-2 Inv-loop μ-loop
 returns-2 c =
-    (sym (laws.holding-lacks _ _ _ _ (c .before .before .before .loop-test .taken) (laws.said holdsOf (c .enum-told3 .given .1) (c .before .before .range-holds .ensures))) ∙ c .before .before .before .before .loop .inv, tt)
+    (laws.found-lacks _ _ _ _ (c .before .before .before .loop-test .taken) (laws.said holdsOf (c .enum-told3 .given .1) (c .before .before .range-holds .ensures)) ∙ c .before .before .before .before .loop .inv, omega (arith, c .before .before .before .loop-test .taken, c .before .before .before .before .before .before .before .pre .1))
 
 returns-3 : tie.Need-returns-3 Inv-loop μ-loop
 returns-3 c =

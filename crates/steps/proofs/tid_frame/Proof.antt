@@ -24,7 +24,7 @@ enum-known-d-2 c = search needs
 
 add-among-frames : tie.Need-add-among-frames
 add-among-frames c =
-    omega (arith, laws.minus-within 32769 (c .before .d2 .given .1) (c .before .before .before .offset-of .ensures .1), c .before .before .before .before .before .before .pre .1 .1)
+    omega (arith, laws.minus-within 32769 (c .before .d2 .given .1) (c .before .before .before .offset-of .ensures .1), c .before .before .before .before .before .before .pre .1 .1 .0)
 
 among-frames-requires-2 : tie.Need-among-frames-requires-2
 among-frames-requires-2 c κs = search needs
@@ -35,12 +35,12 @@ enum-told c = search needs
 returns : tie.Need-returns
 unfolding tidFrame
 returns c =
-    rw (laws.said signedOf (c .before .before .before .d .given .1) (c .before .before .before .before .before .offset-of .ensures .0), ← c .before .less .ensures) (c .among-frames .ensures)
+    rw (laws.said signedOf (c .before .before .before .d .given .1) (c .before .before .before .before .before .offset-of .ensures .0), ← c .before .less .ensures, ← c .before .before .before .before .before .before .before .before .pre .1 .1 .1) (c .among-frames .ensures)
 
 returns-2 : tie.Need-returns-2
 unfolding tidFrame
 returns-2 c =
-    rw (laws.said signedOf (c .before .before .d2 .given .1) (c .before .before .before .before .offset-of .ensures .0)) (c .among-frames2 .ensures)
+    rw (laws.said signedOf (c .before .before .d2 .given .1) (c .before .before .before .before .offset-of .ensures .0), ← c .before .before .before .before .before .before .before .pre .1 .1 .1) (c .among-frames2 .ensures)
 
 returns-3 : tie.Need-returns-3
 unfolding tidFrame

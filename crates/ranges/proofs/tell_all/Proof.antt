@@ -2,8 +2,8 @@
 use native.Mathlib.Omega.{arith}
 use Rattle.ranges.proofs.Names as names
 use borrow.Author.Needs.{needs}
-use Rattle.ranges.proofs.name_all.Statement.{statement}
-use Rattle.ranges.proofs.name_all.Tie as tie
+use Rattle.ranges.proofs.tell_all.Statement.{statement}
+use Rattle.ranges.proofs.tell_all.Tie as tie
 
 mask-items-requires : tie.Need-mask-items-requires
 mask-items-requires c κs = search needs
@@ -11,8 +11,8 @@ mask-items-requires c κs = search needs
 clear-requires : tie.Need-clear-requires
 clear-requires c κs = search needs
 
-name-items-requires : tie.Need-name-items-requires
-name-items-requires c κs =
+tell-items-requires : tie.Need-tell-items-requires
+tell-items-requires c κs =
     (c .before .before .before .before .before .before .before .before .before .before .before .pre .0, (c .before .before .before .before .before .before .mask-items .ensures .inner, (omega (arith, c .before .before .before .keys .given, c .before .before .before .before .before .before .before .before .before .before .before .pre .1 .0), (c .before .before .before .before .before .before .before .before .before .before .before .pre .1 .1, names.known-none _ _ _ (c .before .before .before .before .clear .ensures)))))
 
 same-length : tie.Need-same-length
@@ -24,13 +24,13 @@ same-length-2 c = search needs
 returns : tie.Need-returns
 returns c = search needs
 
-pub name-all-spec : {M : Type 1} → statement M
-name-all-spec =
+pub tell-all-spec : {M : Type 1} → statement M
+tell-all-spec =
     tie.close
     (tie.spec
     mask-items-requires
     clear-requires
-    name-items-requires
+    tell-items-requires
     same-length
     same-length-2
     returns)

@@ -4,9 +4,9 @@ use mathlib.Core.Path.{sym, subst}
 use Prim.Native.Nat.{_-_, _≤_}
 use native.Mathlib.Omega.{arith}
 use Rattle.node.specs.Nodes.{nodesOf}
-use Rattle.steps.specs.Contracts.{IsShared}
-use Rattle.ranges.proofs.naming_of.Statement.{statement}
-use Rattle.ranges.proofs.naming_of.Tie as tie
+use Rattle.steps.specs.Contracts.{IsTold}
+use Rattle.ranges.proofs.told_of.Statement.{statement}
+use Rattle.ranges.proofs.told_of.Tie as tie
 
 abbrev Inv-loop : tie.InvT-loop
 Inv-loop bytes rows j keys answers key i₀ i =
@@ -36,21 +36,21 @@ shared-slice-read-if1 : tie.Need-shared-slice-read-if1 Inv-loop μ-loop
 shared-slice-read-if1 c =
     omega (arith, c .before .loop-test .taken, c .before .before .before .before .before .before .before .pre .1 .1 .0)
 
-mul-found-in : tie.Need-mul-found-in Inv-loop μ-loop
-mul-found-in c =
+mul-told-in : tie.Need-mul-told-in Inv-loop μ-loop
+mul-told-in c =
     search needs
 
-shared-slice-read-found-in : tie.Need-shared-slice-read-found-in Inv-loop μ-loop
-shared-slice-read-found-in c =
+shared-slice-read-told-in : tie.Need-shared-slice-read-told-in Inv-loop μ-loop
+shared-slice-read-told-in c =
     omega (arith, c .before .before .before .loop-test .taken, c .before .before .before .before .before .before .before .before .before .pre .1 .1 .1 .0)
 
-found-in-requires : tie.Need-found-in-requires Inv-loop μ-loop
-found-in-requires c κs =
+told-in-requires : tie.Need-told-in-requires Inv-loop μ-loop
+told-in-requires c κs =
     search needs
 
 returns : tie.Need-returns Inv-loop μ-loop
 returns c =
-    subst (IsShared (nodesOf (c .before .before .before .before .before .before .before .before .before .before .args .bytes .now)) (c .before .before .before .before .before .before .before .before .before .before .args .j)) (sym (c .found-in .ensures)) (c .before .before .before .before .before .before .before .before .before .before .pre .1 .1 .1 .1 .each (c .before .before .before .before .before .loop .i) (c .before .before .before .before .before .before .before .before .before .before .args .j) (c .before .before .before .before .loop-test .taken) (c .before .before .if1 .taken))
+    subst (IsTold (nodesOf (c .before .before .before .before .before .before .before .before .before .before .args .bytes .now)) (c .before .before .before .before .before .before .before .before .before .before .args .j)) (sym (c .told-in .ensures)) (c .before .before .before .before .before .before .before .before .before .before .pre .1 .1 .1 .1 .each (c .before .before .before .before .before .loop .i) (c .before .before .before .before .before .before .before .before .before .before .args .j) (c .before .before .before .before .loop-test .taken) (c .before .before .if1 .taken))
 
 add-i : tie.Need-add-i Inv-loop μ-loop
 add-i c =
@@ -64,16 +64,16 @@ loop-again : tie.Need-loop-again Inv-loop μ-loop
 loop-again c =
     omega (arith, c .before .before .loop-test .taken)
 
-shared-naming-requires : tie.Need-shared-naming-requires Inv-loop μ-loop
-shared-naming-requires c κs =
+told-by-requires : tie.Need-told-by-requires Inv-loop μ-loop
+told-by-requires c κs =
     (c .before .before .before .before .before .before .pre .0, c .before .before .before .before .before .before .pre .1 .0)
 
 returns-2 : tie.Need-returns-2 Inv-loop μ-loop
 returns-2 c =
-    record { is = c .shared-naming .ensures .0; below = c .shared-naming .ensures .1 }
+    c .told-by .ensures
 
-pub naming-of-spec : {M : Type 1} → statement M
-naming-of-spec =
+pub told-of-spec : {M : Type 1} → statement M
+told-of-spec =
     tie.close
     (tie.spec
     Inv-loop
@@ -83,12 +83,12 @@ naming-of-spec =
     loop-holds
     mul-if1
     shared-slice-read-if1
-    mul-found-in
-    shared-slice-read-found-in
-    found-in-requires
+    mul-told-in
+    shared-slice-read-told-in
+    told-in-requires
     returns
     add-i
     loop-less
     loop-again
-    shared-naming-requires
+    told-by-requires
     returns-2)

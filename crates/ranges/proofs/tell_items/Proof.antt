@@ -7,8 +7,8 @@ use lib.ListN.{length, length-set}
 use Rattle.node.specs.Nodes.{nodesOf}
 use Rattle.ranges.specs.Contracts.{Known}
 use Rattle.ranges.proofs.Names as names
-use Rattle.ranges.proofs.name_items.Statement.{statement}
-use Rattle.ranges.proofs.name_items.Tie as tie
+use Rattle.ranges.proofs.tell_items.Statement.{statement}
+use Rattle.ranges.proofs.tell_items.Tie as tie
 
 abbrev Inv-loop : tie.InvT-loop
 Inv-loop bytes rows from to keys₀ answers₀ at₀ i₀ keys answers at i =
@@ -22,13 +22,13 @@ loop-holds : tie.Need-loop-holds Inv-loop μ-loop
 loop-holds c =
     (omega arith, (refl, (refl, c .before .before .before .before .pre .1 .1 .1 .1)))
 
-shared-naming-requires : tie.Need-shared-naming-requires Inv-loop μ-loop
-shared-naming-requires c κs =
+told-by-requires : tie.Need-told-by-requires Inv-loop μ-loop
+told-by-requires c κs =
     (c .before .before .before .before .before .before .before .pre .0, omega (arith, c .if1 .taken, c .before .before .before .before .before .before .before .pre .1 .0))
 
-number-of-requires : tie.Need-number-of-requires Inv-loop μ-loop
-number-of-requires c κs =
-    names.found-fewer (length (nodesOf (c .before .before .before .before .before .before .before .before .args .bytes .now))) 134217728 (c .shared-naming .result) (c .before .before .before .before .before .before .before .before .pre .0 .few) (c .shared-naming .ensures .1)
+packed-requires : tie.Need-packed-requires Inv-loop μ-loop
+packed-requires c κs =
+    names.found-fewer (length (nodesOf (c .before .before .before .before .before .before .before .before .args .bytes .now))) 134217728 (c .told-by .result .shared) (c .before .before .before .before .before .before .before .before .pre .0 .few) (c .told-by .ensures .names .below)
 
 mul-answers : tie.Need-mul-answers Inv-loop μ-loop
 mul-answers c =
@@ -80,7 +80,7 @@ loop-less c =
 
 loop-again : tie.Need-loop-again Inv-loop μ-loop
 loop-again c =
-    (omega (arith, c .before .before .before .before .loop-test .taken), (length-set (c .before .before .before .before .before .loop .keys) (c .before .before .before .before .before .loop .i) (c .before .before .before .before .before .loop .at + 1) ∙ c .before .before .before .before .before .loop .inv .1 .0, (length-set (c .before .before .before .before .before .loop .answers) (c .before .before .before .before .before .loop .i) (c .before .number-of .result) ∙ c .before .before .before .before .before .loop .inv .1 .1 .0, names.known-more _ (c .before .before .before .before .before .loop .keys) (c .before .before .before .before .before .loop .answers) (c .before .before .before .before .before .loop .i) (c .before .before .before .before .before .loop .at) (c .before .number-of .result) _ (omega (arith, c .before .before .before .before .before .loop .inv .1 .0, c .before .before .before .before .loop-test .taken, c .before .before .before .before .before .before .before .before .before .before .pre .1 .1 .0)) (omega (arith, c .before .before .before .before .before .loop .inv .1 .1 .0, c .before .before .before .before .loop-test .taken, c .before .before .before .before .before .before .before .before .before .before .pre .1 .1 .1 .0)) (c .before .before .before .before .before .loop .inv .1 .1 .1) (c .before .number-of .ensures) (record { is = c .before .before .shared-naming .ensures .0; below = c .before .before .shared-naming .ensures .1 }))))
+    (omega (arith, c .before .before .before .before .loop-test .taken), (length-set (c .before .before .before .before .before .loop .keys) (c .before .before .before .before .before .loop .i) (c .before .before .before .before .before .loop .at + 1) ∙ c .before .before .before .before .before .loop .inv .1 .0, (length-set (c .before .before .before .before .before .loop .answers) (c .before .before .before .before .before .loop .i) (c .before .packed .result) ∙ c .before .before .before .before .before .loop .inv .1 .1 .0, names.known-more _ (c .before .before .before .before .before .loop .keys) (c .before .before .before .before .before .loop .answers) (c .before .before .before .before .before .loop .i) (c .before .before .before .before .before .loop .at) (c .before .packed .result) _ (omega (arith, c .before .before .before .before .before .loop .inv .1 .0, c .before .before .before .before .loop-test .taken, c .before .before .before .before .before .before .before .before .before .before .pre .1 .1 .0)) (omega (arith, c .before .before .before .before .before .loop .inv .1 .1 .0, c .before .before .before .before .loop-test .taken, c .before .before .before .before .before .before .before .before .before .before .pre .1 .1 .1 .0)) (c .before .before .before .before .before .loop .inv .1 .1 .1) (c .before .packed .ensures) (c .before .before .told-by .ensures))))
 
 same-length-3 : tie.Need-same-length-3 Inv-loop μ-loop
 same-length-3 c =
@@ -94,15 +94,15 @@ returns-2 : tie.Need-returns-2 Inv-loop μ-loop
 returns-2 c =
     c .before .loop .inv .1 .1 .1
 
-pub name-items-spec : {M : Type 1} → statement M
-name-items-spec =
+pub tell-items-spec : {M : Type 1} → statement M
+tell-items-spec =
     tie.close
     (tie.spec
     Inv-loop
     μ-loop
     loop-holds
-    shared-naming-requires
-    number-of-requires
+    told-by-requires
+    packed-requires
     mul-answers
     slice-write-answers
     add-keys

@@ -1,13 +1,14 @@
--- Without the sequence nothing applies; with it, its items are those between its node and the next.
+-- Where the sequence is one, the search among its items is the step's.
 use lib.ListN.{length}
 use Rattle.node.specs.Nodes.{nodesOf}
 use borrow.Author.Tests.{eq-eqb, ne-eqb}
 use Rattle.steps.specs.Steps.{applyingTo}
 use borrow.Author.Needs.{needs}
 use native.Mathlib.Omega.{arith}
+use mathlib.Core.Path.{_∙_}
 use Rattle.node.proofs.Laws as node-laws
-use Rattle.steps.proofs.applying_to.Statement.{statement}
-use Rattle.steps.proofs.applying_to.Tie as tie
+use Rattle.steps_cases.proofs.frames.applying_to.Statement.{statement}
+use Rattle.steps_cases.proofs.frames.applying_to.Tie as tie
 
 find-root-requires : tie.Need-find-root-requires
 find-root-requires c κs = search needs
@@ -34,6 +35,10 @@ first-holding-requires : tie.Need-first-holding-requires
 first-holding-requires c κs =
     (c .before .before .before .before .before .before .before .before .before .pre, c .next .ensures .1)
 
+if-read-requires : tie.Need-if-read-requires
+if-read-requires c κs =
+    (c .before .before .before .before .before .before .before .before .before .before .pre, c .first-holding .ensures .1)
+
 returns : tie.Need-returns
 unfolding applyingTo
 returns c =
@@ -42,7 +47,7 @@ returns c =
 returns-2 : tie.Need-returns-2
 unfolding applyingTo
 returns-2 c =
-    (rw (node-laws.had (c .before .before .before .before .before .m .given .1) (c .before .before .before .before .before .before .before .find-root .ensures .0), ← c .before .before .before .vr .ensures, eq-eqb _ _ (c .before .before .if1 .taken), ← c .before .next .ensures .0) (c .first-holding .ensures .0), c .first-holding .ensures .1)
+    (rw (node-laws.had (c .before .before .before .before .before .before .m .given .1) (c .before .before .before .before .before .before .before .before .find-root .ensures .0), ← c .before .before .before .before .vr .ensures, eq-eqb _ _ (c .before .before .before .if1 .taken), ← c .before .before .next .ensures .0) (c .if-read .ensures .0 ∙ c .before .first-holding .ensures .0), c .if-read .ensures .1)
 
 returns-3 : tie.Need-returns-3
 unfolding applyingTo
@@ -50,4 +55,4 @@ returns-3 c =
     (rw (node-laws.had (c .before .before .before .m .given .1) (c .before .before .before .before .before .find-root .ensures .0), ← c .before .vr .ensures, ne-eqb _ _ (c .if1 .left)), tt)
 
 pub applying-to-spec : {M : Type 1} → statement M
-applying-to-spec = tie.close (tie.spec find-root-requires enum-told enum-known-m vr-requires add-first-holding next-requires first-holding-requires returns returns-2 returns-3)
+applying-to-spec = tie.close (tie.spec find-root-requires enum-told enum-known-m vr-requires add-first-holding next-requires first-holding-requires if-read-requires returns returns-2 returns-3)
