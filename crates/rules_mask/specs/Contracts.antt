@@ -1,5 +1,6 @@
--- How the code takes rule 36 apart: what the shared item comes to is worked out once, and what is left is asked of each frame's item. No
--- paragraph of document 01 stands here; `Rattle.rules` has the rule.
+-- How the code asks the rules: one loop asks each mask item what the rule wants to know. And how it takes rule 36 apart: what the shared
+-- item comes to is worked out once, and what is left is asked of each frame's item. No paragraph of document 01 stands here;
+-- `Rattle.rules` has the rules.
 use Prim.Native.Nat.{ℕ}
 use mathlib.Core.List.{List}
 use mathlib.Core.Bool.{Bool}
@@ -7,6 +8,19 @@ use Rattle.dataset.specs.Vr.{SQ}
 use Rattle.node.specs.Nodes.{Node, inside}
 use Rattle.node.specs.Find.{holds, holdsOr, find, ofVr, filled}
 use Rattle.element.specs.Tags
+use Rattle.rules.specs.Frame.{hasId}
+use Rattle.rules.specs.Mask.{isOperation, rangeFits, averagesFit, offsetFits, shiftFits}
+use Rattle.rules_mask.specs.declared.Question.{Question}
+use Rattle.rules_mask.specs.declared.Question.the-variants.{Operation, Range, Average, Offset, Shift, Id}
+
+-- Whether a mask item is as a rule asks.
+abbrev pub itemFits : List Node → Question → ℕ → Bool
+itemFits ns Operation = isOperation ns
+itemFits ns (Range n) = rangeFits ns n
+itemFits ns (Average n) = averagesFit ns n
+itemFits ns Offset = offsetFits ns
+itemFits ns Shift = shiftFits ns
+itemFits ns Id = hasId ns
 
 -- A group is a sequence that has items.
 abbrev pub hasItems : List Node → ℕ → Bool

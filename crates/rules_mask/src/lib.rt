@@ -10,17 +10,58 @@ ghost use Rattle.node.specs.Find.{ifPresent, find};
 ghost use Rattle.node.specs.Contracts.{Table};
 ghost use Rattle.element.specs.Tags.{ContrastFrameAveraging};
 ghost use Rattle.element.specs.Elements.{every};
-ghost use Rattle.rules.specs.Frame.{hasId};
 ghost use Rattle.rules.specs.Mask.{isOperation, isMask, rule31, pairsFit, isRange, rangeFits, rule32, allFrames, areMaskFrames, isOne, averageFits, averagesFit, rule33, isOffset, offsetFits, rule34, isShiftAt, shiftFits, rule35, anyShift, masksHaveIds, rule36};
 ghost use Rattle.rules.specs.All.{ruleAt};
-ghost use Rattle.rules_mask.specs.Contracts.{shiftIn};
+ghost use Rattle.rules_mask.specs.Contracts.{itemFits, shiftIn};
 use element::tags;
 use value::Num;
 use value::Signed;
 
+// What a rule asks of each mask item. Two rules speak of frames, and say how many there are.
+enum Question {
+    Operation,
+    Range(usize),
+    Average(usize),
+    Offset,
+    Shift,
+    Id,
+}
+
 const MOST_MASKS: usize = 16;
 
 const MOST_MASK_FRAMES: usize = 64;
+
+// ---- One item and all items
+
+fn item_fits(bytes: &[u8], rows: &[u32], question: Question, item: usize) -> bool
+    requires { ⌜ Table (now bytes) (now rows) × (item < length (nodesOf (now bytes))) ⌝ }
+    ensures { λ r. ⌜ r ≡ itemFits (nodesOf (now (bytes .entry))) question item ⌝ }
+{
+    match question {
+        Question::Operation => is_operation(bytes, rows, item),
+        Question::Range(n) => range_fits(bytes, rows, item, n),
+        Question::Average(n) => averages_fit(bytes, rows, item, n),
+        Question::Offset => offset_fits(bytes, rows, item),
+        Question::Shift => shift_fits(bytes, rows, item),
+        Question::Id => ids::has_id(bytes, rows, item),
+    }
+}
+
+// Whether each item from `from` up to `to` is as the rule asks.
+fn all_fit(bytes: &[u8], rows: &[u32], question: Question, from: usize, to: usize) -> bool
+    requires { ⌜ Table (now bytes) (now rows) × (to ≤ length (nodesOf (now bytes))) ⌝ }
+    ensures { λ r. ⌜ r ≡ every (itemFits (nodesOf (now (bytes .entry))) question) (members (nodesOf (now (bytes .entry))) from to) ⌝ }
+{
+    let mut at = from;
+    while at < to {
+        if item_fits(bytes, rows, question, at) {
+            at = node::next(bytes, rows, at);
+        } else {
+            return false;
+        }
+    }
+    true
+}
 
 // ---- Rule 31
 
@@ -40,21 +81,6 @@ fn is_operation(bytes: &[u8], rows: &[u32], item: usize) -> bool
     }
 }
 
-fn all_operations(bytes: &[u8], rows: &[u32], from: usize, to: usize) -> bool
-    requires { ⌜ Table (now bytes) (now rows) × (to ≤ length (nodesOf (now bytes))) ⌝ }
-    ensures { λ r. ⌜ r ≡ every (isOperation (nodesOf (now (bytes .entry)))) (members (nodesOf (now (bytes .entry))) from to) ⌝ }
-{
-    let mut at = from;
-    while at < to {
-        if is_operation(bytes, rows, at) {
-            at = node::next(bytes, rows, at);
-        } else {
-            return false;
-        }
-    }
-    true
-}
-
 fn is_mask(bytes: &[u8], rows: &[u32], i: usize) -> bool
     requires { ⌜ Table (now bytes) (now rows) × (i < length (nodesOf (now bytes))) ⌝ }
     ensures { λ r. ⌜ r ≡ isMask (nodesOf (now (bytes .entry))) i ⌝ }
@@ -63,7 +89,8 @@ fn is_mask(bytes: &[u8], rows: &[u32], i: usize) -> bool
         let n = element::count_items(bytes, rows, i);
         if 1 <= n {
             if n <= MOST_MASKS {
-                all_operations(bytes, rows, i + 1, node::next(bytes, rows, i))
+                let next = node::next(bytes, rows, i);
+                all_fit(bytes, rows, Question::Operation, i + 1, next)
             } else {
                 false
             }
@@ -148,21 +175,6 @@ fn range_fits(bytes: &[u8], rows: &[u32], item: usize, n: usize) -> bool
     }
 }
 
-fn all_ranges(bytes: &[u8], rows: &[u32], from: usize, to: usize, n: usize) -> bool
-    requires { ⌜ Table (now bytes) (now rows) × (to ≤ length (nodesOf (now bytes))) ⌝ }
-    ensures { λ r. ⌜ r ≡ every (rangeFits (nodesOf (now (bytes .entry))) n) (members (nodesOf (now (bytes .entry))) from to) ⌝ }
-{
-    let mut at = from;
-    while at < to {
-        if range_fits(bytes, rows, at, n) {
-            at = node::next(bytes, rows, at);
-        } else {
-            return false;
-        }
-    }
-    true
-}
-
 // Rule 32: Applicable Frame Range.
 fn rule_32(bytes: &[u8], rows: &[u32]) -> bool
     requires { ⌜ Table (now bytes) (now rows) ⌝ }
@@ -172,7 +184,7 @@ fn rule_32(bytes: &[u8], rows: &[u32]) -> bool
         Num::Lacks => false,
         Num::Is(n) => {
             let items = element::mask_items(bytes, rows);
-            all_ranges(bytes, rows, items.at, items.end, n)
+            all_fit(bytes, rows, Question::Range(n), items.at, items.end)
         }
     }
 }
@@ -274,21 +286,6 @@ fn averages_fit(bytes: &[u8], rows: &[u32], item: usize, n: usize) -> bool
     }
 }
 
-fn all_averages(bytes: &[u8], rows: &[u32], from: usize, to: usize, n: usize) -> bool
-    requires { ⌜ Table (now bytes) (now rows) × (to ≤ length (nodesOf (now bytes))) ⌝ }
-    ensures { λ r. ⌜ r ≡ every (averagesFit (nodesOf (now (bytes .entry))) n) (members (nodesOf (now (bytes .entry))) from to) ⌝ }
-{
-    let mut at = from;
-    while at < to {
-        if averages_fit(bytes, rows, at, n) {
-            at = node::next(bytes, rows, at);
-        } else {
-            return false;
-        }
-    }
-    true
-}
-
 // Rule 33: AVG_SUB, its Mask Frame Numbers and Contrast Frame Averaging.
 fn rule_33(bytes: &[u8], rows: &[u32]) -> bool
     requires { ⌜ Table (now bytes) (now rows) ⌝ }
@@ -298,7 +295,7 @@ fn rule_33(bytes: &[u8], rows: &[u32]) -> bool
         Num::Lacks => false,
         Num::Is(n) => {
             let items = element::mask_items(bytes, rows);
-            all_averages(bytes, rows, items.at, items.end, n)
+            all_fit(bytes, rows, Question::Average(n), items.at, items.end)
         }
     }
 }
@@ -335,28 +332,13 @@ fn offset_fits(bytes: &[u8], rows: &[u32], item: usize) -> bool
     }
 }
 
-fn all_offsets(bytes: &[u8], rows: &[u32], from: usize, to: usize) -> bool
-    requires { ⌜ Table (now bytes) (now rows) × (to ≤ length (nodesOf (now bytes))) ⌝ }
-    ensures { λ r. ⌜ r ≡ every (offsetFits (nodesOf (now (bytes .entry)))) (members (nodesOf (now (bytes .entry))) from to) ⌝ }
-{
-    let mut at = from;
-    while at < to {
-        if offset_fits(bytes, rows, at) {
-            at = node::next(bytes, rows, at);
-        } else {
-            return false;
-        }
-    }
-    true
-}
-
 // Rule 34: TID and its offset.
 fn rule_34(bytes: &[u8], rows: &[u32]) -> bool
     requires { ⌜ Table (now bytes) (now rows) ⌝ }
     ensures { λ r. ⌜ r ≡ rule34 (nodesOf (now (bytes .entry))) ⌝ }
 {
     let items = element::mask_items(bytes, rows);
-    all_offsets(bytes, rows, items.at, items.end)
+    all_fit(bytes, rows, Question::Offset, items.at, items.end)
 }
 
 // ---- Rule 35
@@ -383,28 +365,13 @@ fn shift_fits(bytes: &[u8], rows: &[u32], item: usize) -> bool
     }
 }
 
-fn all_shifts(bytes: &[u8], rows: &[u32], from: usize, to: usize) -> bool
-    requires { ⌜ Table (now bytes) (now rows) × (to ≤ length (nodesOf (now bytes))) ⌝ }
-    ensures { λ r. ⌜ r ≡ every (shiftFits (nodesOf (now (bytes .entry)))) (members (nodesOf (now (bytes .entry))) from to) ⌝ }
-{
-    let mut at = from;
-    while at < to {
-        if shift_fits(bytes, rows, at) {
-            at = node::next(bytes, rows, at);
-        } else {
-            return false;
-        }
-    }
-    true
-}
-
 // Rule 35: Mask Sub-pixel Shift.
 fn rule_35(bytes: &[u8], rows: &[u32]) -> bool
     requires { ⌜ Table (now bytes) (now rows) ⌝ }
     ensures { λ r. ⌜ r ≡ rule35 (nodesOf (now (bytes .entry))) ⌝ }
 {
     let items = element::mask_items(bytes, rows);
-    all_shifts(bytes, rows, items.at, items.end)
+    all_fit(bytes, rows, Question::Shift, items.at, items.end)
 }
 
 // ---- Rule 36
@@ -444,28 +411,13 @@ fn any_shift(bytes: &[u8], rows: &[u32], shared: usize) -> bool
     false
 }
 
-fn all_ids(bytes: &[u8], rows: &[u32], from: usize, to: usize) -> bool
-    requires { ⌜ Table (now bytes) (now rows) × (to ≤ length (nodesOf (now bytes))) ⌝ }
-    ensures { λ r. ⌜ r ≡ every (hasId (nodesOf (now (bytes .entry)))) (members (nodesOf (now (bytes .entry))) from to) ⌝ }
-{
-    let mut at = from;
-    while at < to {
-        if ids::has_id(bytes, rows, at) {
-            at = node::next(bytes, rows, at);
-        } else {
-            return false;
-        }
-    }
-    true
-}
-
 // Whether every mask item has an ID, and no two the same.
 fn masks_have_ids(bytes: &[u8], rows: &[u32]) -> bool
     requires { ⌜ Table (now bytes) (now rows) ⌝ }
     ensures { λ r. ⌜ r ≡ masksHaveIds (nodesOf (now (bytes .entry))) ⌝ }
 {
     let items = element::mask_items(bytes, rows);
-    if all_ids(bytes, rows, items.at, items.end) {
+    if all_fit(bytes, rows, Question::Id, items.at, items.end) {
         ids::unique_ids(bytes, rows, items.at, items.end)
     } else {
         false

@@ -12,19 +12,19 @@ vr-requires c κs = search needs
 count-items-requires : tie.Need-count-items-requires
 count-items-requires c κs = search needs
 
-add-all-operations : tie.Need-add-all-operations
-add-all-operations c = search needs
-
 next-requires : tie.Need-next-requires
 next-requires c κs = search needs
 
-all-operations-requires : tie.Need-all-operations-requires
-all-operations-requires c κs = search needs
+add-all-fit : tie.Need-add-all-fit
+add-all-fit c = search needs
+
+all-fit-requires : tie.Need-all-fit-requires
+all-fit-requires c κs = search needs
 
 returns : tie.Need-returns
 unfolding isMask
 returns c =
-    sym (laws.both (laws.same _ (c .before .before .before .before .before .before .vr .ensures) (c .before .before .before .before .before .if1 .taken)) (laws.both (laws.both (laws.at-least _ (c .before .before .before .before .count-items .ensures) (c .before .before .before .if2 .taken)) (laws.at-most _ (c .before .before .before .before .count-items .ensures) (c .before .before .if3 .taken))) (laws.every-inside _ _ _ _ _ (c .before .next .ensures .0) (c .all-operations .ensures))))
+    sym (laws.both (laws.same _ (c .before .before .before .before .before .before .vr .ensures) (c .before .before .before .before .before .if1 .taken)) (laws.both (laws.both (laws.at-least _ (c .before .before .before .before .count-items .ensures) (c .before .before .before .if2 .taken)) (laws.at-most _ (c .before .before .before .before .count-items .ensures) (c .before .before .if3 .taken))) (laws.every-inside _ _ _ _ _ (c .before .next .ensures .0) (c .all-fit .ensures))))
 
 returns-2 : tie.Need-returns-2
 unfolding isMask
@@ -47,9 +47,9 @@ is-mask-spec =
     (tie.spec
     vr-requires
     count-items-requires
-    add-all-operations
     next-requires
-    all-operations-requires
+    add-all-fit
+    all-fit-requires
     returns
     returns-2
     returns-3

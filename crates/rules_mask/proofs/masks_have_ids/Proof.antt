@@ -9,8 +9,8 @@ use Rattle.rules_mask.proofs.masks_have_ids.Tie as tie
 mask-items-requires : tie.Need-mask-items-requires
 mask-items-requires c κs = search needs
 
-all-ids-requires : tie.Need-all-ids-requires
-all-ids-requires c κs = search needs
+all-fit-requires : tie.Need-all-fit-requires
+all-fit-requires c κs = search needs
 
 unique-ids-requires : tie.Need-unique-ids-requires
 unique-ids-requires c κs = search needs
@@ -18,13 +18,13 @@ unique-ids-requires c κs = search needs
 returns : tie.Need-returns
 unfolding masksHaveIds
 returns c =
-    rw (← c .before .before .before .mask-items .ensures .ahead) (sym (laws.both (sym (c .before .before .all-ids .ensures) ∙ c .before .if1 .taken) (sym (c .unique-ids .ensures))))
+    rw (← c .before .before .before .mask-items .ensures .ahead) (sym (laws.both (sym (c .before .before .all-fit .ensures) ∙ c .before .if1 .taken) (sym (c .unique-ids .ensures))))
 
 returns-2 : tie.Need-returns-2
 unfolding masksHaveIds
 returns-2 c =
-    rw (← c .before .before .mask-items .ensures .ahead) (sym (laws.not-first _ (sym (c .before .all-ids .ensures) ∙ c .if1 .left)))
+    rw (← c .before .before .mask-items .ensures .ahead) (sym (laws.not-first _ (sym (c .before .all-fit .ensures) ∙ c .if1 .left)))
 
 pub masks-have-ids-spec : {M : Type 1} → statement M
 masks-have-ids-spec =
-    tie.close (tie.spec mask-items-requires all-ids-requires unique-ids-requires returns returns-2)
+    tie.close (tie.spec mask-items-requires all-fit-requires unique-ids-requires returns returns-2)

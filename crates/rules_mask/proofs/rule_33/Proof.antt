@@ -17,8 +17,8 @@ enum-known-n c = search needs
 mask-items-requires : tie.Need-mask-items-requires
 mask-items-requires c κs = search needs
 
-all-averages-requires : tie.Need-all-averages-requires
-all-averages-requires c κs =
+all-fit-requires : tie.Need-all-fit-requires
+all-fit-requires c κs =
     (c .before .before .before .before .before .before .before .pre, c .mask-items .ensures .inner)
 
 returns : tie.Need-returns
@@ -29,7 +29,7 @@ returns c =
 returns-2 : tie.Need-returns-2
 unfolding rule33
 returns-2 c =
-    rw (node-laws.had (c .before .before .before .n .given .1) (c .before .before .before .before .before .frame-count .ensures .0), ← c .before .mask-items .ensures .ahead) (c .all-averages .ensures)
+    rw (node-laws.had (c .before .before .before .n .given .1) (c .before .before .before .before .before .frame-count .ensures .0), ← c .before .mask-items .ensures .ahead) (c .all-fit .ensures)
 
 pub rule-33-spec : {M : Type 1} → statement M
 rule-33-spec =
@@ -39,6 +39,6 @@ rule-33-spec =
     enum-told
     enum-known-n
     mask-items-requires
-    all-averages-requires
+    all-fit-requires
     returns
     returns-2)

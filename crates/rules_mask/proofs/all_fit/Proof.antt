@@ -4,23 +4,23 @@ use mathlib.Core.Path.{_≡_, sym, _∙_}
 use Prim.Native.Nat.{_-_}
 use Rattle.node.specs.Nodes.{nodesOf, members}
 use Rattle.element.specs.Elements.{every}
-use Rattle.rules.specs.Mask.{averagesFit}
+use Rattle.rules_mask.specs.Contracts.{itemFits}
 use Rattle.rules_mask.proofs.Laws as laws
-use Rattle.rules_mask.proofs.all_averages.Statement.{statement}
-use Rattle.rules_mask.proofs.all_averages.Tie as tie
+use Rattle.rules_mask.proofs.all_fit.Statement.{statement}
+use Rattle.rules_mask.proofs.all_fit.Tie as tie
 
 abbrev Inv-loop : tie.InvT-loop
-Inv-loop bytes rows from to n at₀ at =
-    every (averagesFit (nodesOf bytes) n) (members (nodesOf bytes) at to) ≡ every (averagesFit (nodesOf bytes) n) (members (nodesOf bytes) from to)
+Inv-loop bytes rows question from to at₀ at =
+    every (itemFits (nodesOf bytes) question) (members (nodesOf bytes) at to) ≡ every (itemFits (nodesOf bytes) question) (members (nodesOf bytes) from to)
 
 abbrev μ-loop : tie.MeasureT-loop
-μ-loop bytes rows from to n at₀ at = to - at
+μ-loop bytes rows question from to at₀ at = to - at
 
 loop-holds : tie.Need-loop-holds Inv-loop μ-loop
 loop-holds c = search needs
 
-averages-fit-requires : tie.Need-averages-fit-requires Inv-loop μ-loop
-averages-fit-requires c κs = search needs
+item-fits-requires : tie.Need-item-fits-requires Inv-loop μ-loop
+item-fits-requires c κs = search needs
 
 next-requires : tie.Need-next-requires Inv-loop μ-loop
 next-requires c κs = search needs
@@ -30,24 +30,24 @@ loop-less c = search needs
 
 loop-again : tie.Need-loop-again Inv-loop μ-loop
 loop-again c =
-    sym (laws.every-next _ _ _ _ _ (c .next .ensures .0) (c .before .before .before .loop-test .taken) (sym (c .before .before .averages-fit .ensures) ∙ c .before .if1 .taken)) ∙ c .before .before .before .before .loop .inv
+    sym (laws.every-next _ _ _ _ _ (c .next .ensures .0) (c .before .before .before .loop-test .taken) (sym (c .before .before .item-fits .ensures) ∙ c .before .if1 .taken)) ∙ c .before .before .before .before .loop .inv
 
 returns : tie.Need-returns Inv-loop μ-loop
 returns c =
-    sym (laws.every-not _ _ _ _ (c .before .before .loop-test .taken) (sym (c .before .averages-fit .ensures) ∙ c .if1 .left)) ∙ c .before .before .before .loop .inv
+    sym (laws.every-not _ _ _ _ (c .before .before .loop-test .taken) (sym (c .before .item-fits .ensures) ∙ c .if1 .left)) ∙ c .before .before .before .loop .inv
 
 returns-2 : tie.Need-returns-2 Inv-loop μ-loop
 returns-2 c =
     sym (laws.every-end _ _ _ _ (c .loop-test .left)) ∙ c .before .loop .inv
 
-pub all-averages-spec : {M : Type 1} → statement M
-all-averages-spec =
+pub all-fit-spec : {M : Type 1} → statement M
+all-fit-spec =
     tie.close
     (tie.spec
     Inv-loop
     μ-loop
     loop-holds
-    averages-fit-requires
+    item-fits-requires
     next-requires
     loop-less
     loop-again
