@@ -72,7 +72,7 @@ class StandIn:
         return struct_of(outcome.answer)
 
     def xa_count(self, data, size):
-        return AnswerStruct(*self.count(view(data, size)))
+        return struct_of(self.count(view(data, size)))
 
     def xa_read(self, *given):
         return self.with_rows(self.read, *given)
