@@ -1,3 +1,4 @@
+-- Where an item applies its operation decides, as in `maskOn`; where none does the frame is native.
 use mathlib.Core.Path.{refl, ap, _∙_, subst}
 use Rattle.display.proofs.Answering as plan
 use Rattle.node.specs.Nodes.{nodesOf}

@@ -1,3 +1,4 @@
+-- The frame's item, the mask item that applies and what that says are each looked up here, as the plan asks for them.
 use Rattle.node.specs.Nodes.{nodesOf}
 use Rattle.display.proofs.Answering as plan
 use Rattle.display.proofs.Scenes as scenes

@@ -1,3 +1,4 @@
+-- An accepted object's steps lack nothing, so the window and the masking are those that the steps give.
 use Rattle.window.specs.Contracts.{Drawable}
 use Rattle.steps.specs.Contracts.{windowedOf}
 use Rattle.steps.proofs.Laws as steps-laws

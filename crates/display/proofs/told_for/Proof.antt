@@ -1,3 +1,4 @@
+-- What an item says is read from it; where none applies nothing is asked of what is said.
 use mathlib.Core.Path.{sym, subst}
 use lib.ListN.{length}
 use Rattle.node.specs.Nodes.{nodesOf}

@@ -1,3 +1,4 @@
+-- The four operations have the numbers 0 to 3, and each number leads back to its own.
 use borrow.Author.Tests.{eq-eqb, ne-eqb}
 use Rattle.ranges.proofs.operation_in.Statement.{statement}
 use Rattle.ranges.proofs.operation_in.Tie as tie

@@ -1,3 +1,4 @@
+-- An operation is below 4, so a quotient and a remainder by 4 give both numbers back.
 use Rattle.ranges.proofs.Names as names
 use borrow.Author.Needs.{needs}
 use Rattle.ranges.proofs.packed.Statement.{statement}

@@ -1,3 +1,4 @@
+-- The remainder by 4 is the operation, and the quotient what the shared group names.
 use borrow.Author.Needs.{needs}
 use Rattle.ranges.proofs.told_in.Statement.{statement}
 use Rattle.ranges.proofs.told_in.Tie as tie

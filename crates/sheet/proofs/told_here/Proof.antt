@@ -1,3 +1,4 @@
+-- What was written down for the item is what the item says; where none applies nothing is asked of it.
 use mathlib.Core.Path.{sym, subst}
 use lib.ListN.{length}
 use Rattle.node.specs.Nodes.{nodesOf}

@@ -1,3 +1,4 @@
+-- A range is of VR US and of whole pairs, at least one: the tests are those of `rangeHas`.
 use borrow.Author.Tests.{eq-eqb, ne-eqb, le-leb, lt-leb}
 use borrow.Author.Needs.{needs}
 use Rattle.steps.proofs.has_pairs.Statement.{statement}

@@ -1,3 +1,4 @@
+-- The items are searched in order. Where the step gives an answer, the sequence is one and each range asked is one.
 use mathlib.Core.Path.{_∙_, ap}
 use mathlib.Core.List.{List}
 use Prim.Native.Nat.{ℕ}

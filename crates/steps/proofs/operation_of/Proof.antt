@@ -1,3 +1,4 @@
+-- The three words are tried in the order of the definition; any other word lacks.
 use Rattle.element.specs.Frames.{operationIs}
 use Rattle.steps.specs.Contracts.{operationOf}
 use borrow.Author.Needs.{needs}

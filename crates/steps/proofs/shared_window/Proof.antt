@@ -1,3 +1,4 @@
+-- The shared group gives its window, and no shared group the full one.
 use Rattle.steps.specs.Contracts.{foundOf}
 use borrow.Author.Needs.{needs}
 use Rattle.steps.proofs.Laws as laws

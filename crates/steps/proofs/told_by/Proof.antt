@@ -1,3 +1,4 @@
+-- Both are what the step would look up for each frame anew, and neither depends on the frame.
 use borrow.Author.Needs.{needs}
 use Rattle.steps.proofs.told_by.Statement.{statement}
 use Rattle.steps.proofs.told_by.Tie as tie

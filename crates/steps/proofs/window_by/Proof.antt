@@ -1,3 +1,4 @@
+-- A frame's own group wins; without it the window is the one that the shared group gives to every frame.
 use Rattle.steps.specs.Steps.{groupFor, windowFor}
 use borrow.Author.Needs.{needs}
 use Rattle.node.proofs.Laws as node-laws
