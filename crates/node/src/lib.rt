@@ -173,14 +173,7 @@ fn near(bytes: &[u8], rows: &[u32], from: usize, to: usize, wanted: usize) -> Nu
 }
 
 // The same among the members of the container `up`, which `to` follows, however far it is: the search starts at `from`, at or before it.
-pub fn reach(
-    bytes: &[u8],
-    rows: &[u32],
-    up: usize,
-    from: usize,
-    to: usize,
-    wanted: usize,
-) -> usize
+pub fn reach(bytes: &[u8], rows: &[u32], up: usize, from: usize, to: usize, wanted: usize) -> usize
     requires { ⌜ Table (now bytes) (now rows) × (Container (now bytes) up to × (fromTag (nodesOf (now bytes)) wanted (members (nodesOf (now bytes)) from to) ≡ fromTag (nodesOf (now bytes)) wanted (members (nodesOf (now bytes)) up to))) ⌝ }
     ensures { λ r. ⌜ members (nodesOf (now (bytes .entry))) r to ≡ fromTag (nodesOf (now (bytes .entry))) wanted (members (nodesOf (now (bytes .entry))) up to) ⌝ }
 {

@@ -32,8 +32,7 @@ member-above-requires : tie.Need-member-above-requires Inv-loop μ-loop
 member-above-requires c κs =
     let start = c .before .before .before .before in
     let p = start .pre in
-    let inv = c .before .loop .inv in
-    (
+    let inv = c .before .loop .inv in (
       p .0,
       record {
         to = start .args .to;

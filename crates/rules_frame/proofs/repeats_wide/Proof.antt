@@ -59,8 +59,7 @@ reach-requires c κs =
     let ns = nodesOf (a .bytes .now) in
     let l = c .before .before .loop in
     let n = c .before .before .before .next2 .ensures .0 in
-    let asks = ahead-asks _ _ _ _ _ _ (c .before .loop-test .taken) (l .inv .1) in
-    (
+    let asks = ahead-asks _ _ _ _ _ _ (c .before .loop-test .taken) (l .inv .1) in (
       p .0,
       (
         node-container _ _ (p .0) (a .shared) (p .1 .0) _ n,
