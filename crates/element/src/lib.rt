@@ -6,7 +6,7 @@ ghost use mathlib.Core.Path.{_≡_};
 ghost use Prim.Native.Nat.{_+_, _≤_, _<_};
 ghost use lib.ListN.{length, drop};
 ghost use Rattle.node.specs.Nodes.{nodesOf, members, root, inside};
-ghost use Rattle.node.specs.Find.{absent, andThen, holds, find, findVr, has};
+ghost use Rattle.node.specs.Find.{absent, andThen, holds, find, ofVr, findVr, has};
 ghost use Rattle.node.specs.Contracts.{Table};
 ghost use Rattle.value.specs.Contracts.{Below, SizeBelow};
 ghost use Rattle.value.specs.Number.{usOf};
@@ -26,6 +26,24 @@ pub struct Items {
 }
 
 // ---- At what a search found
+
+// What was found, if it is of the VR.
+fn vr_at(bytes: &[u8], rows: &[u32], found: Num, vr: usize) -> Num
+    requires { ⌜ Table (now bytes) (now rows) × Below (length (nodesOf (now bytes))) found ⌝ }
+    ensures { λ r. ⌜ r ≡ andThen found (ofVr (nodesOf (now (bytes .entry))) vr) ⌝ }
+    ensures { λ r. ⌜ Below (length (nodesOf (now (bytes .entry)))) r ⌝ }
+{
+    match found {
+        Num::Lacks => Num::Lacks,
+        Num::Is(i) => {
+            if node::vr(bytes, rows, i) == vr {
+                Num::Is(i)
+            } else {
+                Num::Lacks
+            }
+        }
+    }
+}
 
 // A single US.
 fn us_at(bytes: &[u8], rows: &[u32], found: Num) -> Num
@@ -57,7 +75,7 @@ pub fn find_root(bytes: &[u8], rows: &[u32], tag: usize) -> Num
     ensures { λ r. ⌜ r ≡ find (nodesOf (now (bytes .entry))) tag (root (nodesOf (now (bytes .entry)))) ⌝ }
     ensures { λ r. ⌜ Below (length (nodesOf (now (bytes .entry)))) r ⌝ }
 {
-    node::find_tag(bytes, rows, 0, node::count(bytes, rows), tag)
+    node::find_top(bytes, rows, tag)
 }
 
 // The element of the tag and VR.
@@ -66,7 +84,7 @@ pub fn find_vr_root(bytes: &[u8], rows: &[u32], tag: usize, vr: usize) -> Num
     ensures { λ r. ⌜ r ≡ findVr (nodesOf (now (bytes .entry))) tag vr (root (nodesOf (now (bytes .entry)))) ⌝ }
     ensures { λ r. ⌜ Below (length (nodesOf (now (bytes .entry)))) r ⌝ }
 {
-    node::find_vr(bytes, rows, 0, node::count(bytes, rows), tag, vr)
+    vr_at(bytes, rows, find_root(bytes, rows, tag), vr)
 }
 
 pub fn absent_root(bytes: &[u8], rows: &[u32], tag: usize) -> bool
@@ -83,7 +101,10 @@ pub fn has_root(bytes: &[u8], rows: &[u32], tag: usize, vr: usize) -> bool
     requires { ⌜ Table (now bytes) (now rows) ⌝ }
     ensures { λ r. ⌜ r ≡ has (nodesOf (now (bytes .entry))) tag vr (root (nodesOf (now (bytes .entry)))) ⌝ }
 {
-    node::has_vr(bytes, rows, 0, node::count(bytes, rows), tag, vr)
+    match find_vr_root(bytes, rows, tag, vr) {
+        Num::Lacks => false,
+        Num::Is(i) => node::is_filled(bytes, rows, i),
+    }
 }
 
 pub fn us_root(bytes: &[u8], rows: &[u32], tag: usize) -> Num
@@ -127,16 +148,7 @@ pub fn find_vr_item(bytes: &[u8], rows: &[u32], item: usize, tag: usize, vr: usi
     ensures { λ r. ⌜ r ≡ findVr (nodesOf (now (bytes .entry))) tag vr (inside (nodesOf (now (bytes .entry))) item) ⌝ }
     ensures { λ r. ⌜ Below (length (nodesOf (now (bytes .entry)))) r ⌝ }
 {
-    match find_item(bytes, rows, item, tag) {
-        Num::Lacks => Num::Lacks,
-        Num::Is(i) => {
-            if node::vr(bytes, rows, i) == vr {
-                Num::Is(i)
-            } else {
-                Num::Lacks
-            }
-        }
-    }
+    vr_at(bytes, rows, find_item(bytes, rows, item, tag), vr)
 }
 
 pub fn us_item(bytes: &[u8], rows: &[u32], item: usize, tag: usize) -> Num

@@ -19,7 +19,7 @@ use Rattle.dataset.proofs.Parents.{Placed, placed}
 use Rattle.value.specs.declared.Num.the-variants.{Is, Lacks}
 use Rattle.node.specs.Nodes.{Node, nodesOf, nodeAt, nextNode, members, root, inside}
 use Rattle.node.specs.Find.{find}
-use Rattle.node.specs.Contracts.{Table, Ascends, fromTag, firstIs, lower, MemberAbove}
+use Rattle.node.specs.Contracts.{Table, Ascends, fromTag, firstIs, lower, Container, MemberAbove}
 use Rattle.node.proofs.Laws.{nodes-count, node-is}
 use Rattle.node.proofs.Walks.{members-end, members-next, find-later}
 
@@ -253,50 +253,62 @@ module _ (s rows : List ℕ) (t : Table s rows) where
   pub root-ascends : Ascends (nodesOf s) 0 (root (nodesOf s))
   root-ascends = rw (nodes-count s) (members-ascend (rows-members s) (omega (arith, nodes-count s)) 0 (omega arith))
 
+  pub root-container : (n : ℕ) → n ≡ length (nodesOf s) → Container s 0 n
+  root-container n e =
+      record { kind = elements; depth = 0; held = rw (e, nodes-count s) (rows-members s); ends = omega (arith, e) }
+
   module _ (holder : ℕ) (h : holder < length (nodesOf s)) where
     row-known : holder < length (rowsOf s)
     row-known = omega (arith, nodes-count s)
 
-    ends : nextRow (rowsOf s) holder ≤ length (nodesOf s)
-    ends = omega (arith, nodes-count s, row-next s holder row-known)
-
     around : Found (rowsOf s) (length s) 0 holder (length (rowsOf s))
     around = row-found (rows-members s) holder (omega arith) row-known
 
-    pub inside-ascends : Ascends (nodesOf s) 0 (inside (nodesOf s) holder)
-    inside-ascends = rw (next-row holder h) (members-ascend (around .first .below) ends 0 (starts-low (kindInside (around .kind))))
+    pub node-container : (to : ℕ) → to ≡ nextNode (nodesOf s) holder → Container s (holder + 1) to
+    node-container to e =
+        record {
+          kind = kindInside (around .kind);
+          depth = depthInside (around .kind) (around .depthHere);
+          held = rw (e, next-row holder h) (around .first .below);
+          ends = omega (arith, e, next-row holder h, nodes-count s, row-next s holder row-known);
+        }
+
+  module _ (up to : ℕ) (c : Container s up to) where
+    pub container-ascends : Ascends (nodesOf s) 0 (members (nodesOf s) up to)
+    container-ascends = members-ascend (c .held) (c .ends) 0 (starts-low (c .kind))
 
     -- The first member whose tag is not below the tag, by its number.
     abbrev pub First : ℕ → ℕ
-    First tag = lower (nodesOf s) tag (inside (nodesOf s) holder) (nextNode (nodesOf s) holder)
+    First tag = lower (nodesOf s) tag (members (nodesOf s) up to) to
 
-    pub first-within : (tag : ℕ) → (holder + 1 ≤ First tag) × (First tag ≤ nextNode (nodesOf s) holder)
-    first-within tag = rw (next-row holder h) (lower-within (around .first .below) ends tag)
+    pub first-within : (tag : ℕ) → (up ≤ First tag) × (First tag ≤ to)
+    first-within tag = lower-within (c .held) (c .ends) tag
 
-    pub first-goes-on : (tag n : ℕ) → n ≡ First tag → members (nodesOf s) n (nextNode (nodesOf s) holder) ≡ fromTag (nodesOf s) tag (inside (nodesOf s) holder)
-    first-goes-on tag n e = rw (e, next-row holder h) (lower-from (around .first .below) ends tag)
+    pub first-goes-on : (tag n : ℕ) → n ≡ First tag → members (nodesOf s) n to ≡ fromTag (nodesOf s) tag (members (nodesOf s) up to)
+    first-goes-on tag n e = rw e (lower-from (c .held) (c .ends) tag)
 
-    module _ (i m : ℕ) (a : MemberAbove s holder i m) (l : i < nextNode (nodesOf s) holder) where
+    module _ (i m : ℕ) (a : MemberAbove s up i m) (l : i < to) where
       pub member-known : m < length (nodesOf s)
-      member-known = omega (arith, a .low, ends, next-row holder h)
+      member-known = omega (arith, a .low, c .ends)
 
       pub first-side : (tag : ℕ) → Sides tag 0 (nodeAt (nodesOf s) m .tag) m (nextNode (nodesOf s) m) (First tag)
       first-side tag =
-          rw (next-row holder h, next-row m member-known, tag-row m member-known)
-          (sides (around .first .below) ends (omega arith) tag m (omega (arith, a .after)) (omega (arith, a .low, next-row holder h)) (a .held) 0
-          (starts-low (kindInside (around .kind))))
+          rw (next-row m member-known, tag-row m member-known)
+          (sides (c .held) (c .ends) (omega arith) tag m (a .after) (omega (arith, a .low)) (a .held) 0 (starts-low (c .kind)))
 
     -- A node below the container is a member of it, or its parent is below the container too.
-    pub step-up : (i m : ℕ) → holder < m → m ≤ i → i < nextNode (nodesOf s) m → i < nextNode (nodesOf s) holder
-        → (rowAt (rowsOf s) m .parent ≡ holder + 1 → ⊥)
-        → (p : ℕ) × ((rowAt (rowsOf s) m .parent ≡ p + 1) × ((holder < p) × ((p < m) × (i < nextNode (nodesOf s) p))))
-    step-up i m u v w l n = by-place (placed (around .first .below) m (omega arith) (omega (arith, next-row holder h)))
+    pub step-up : (i m : ℕ) → up ≤ m → m ≤ i → i < nextNode (nodesOf s) m → i < to → (rowAt (rowsOf s) m .parent ≡ up → ⊥)
+        → (p : ℕ) × ((rowAt (rowsOf s) m .parent ≡ p + 1) × ((up ≤ p) × ((p < m) × (i < nextNode (nodesOf s) p))))
+    step-up i m u v w l n = by-place (placed (c .held) m u (omega arith))
       where
-        by-place : Placed (rowsOf s) (kindInside (around .kind)) (depthInside (around .kind) (around .depthHere)) (holder + 1) (holder + 1) m
-            → (p : ℕ) × ((rowAt (rowsOf s) m .parent ≡ p + 1) × ((holder < p) × ((p < m) × (i < nextNode (nodesOf s) p))))
+        by-place : Placed (rowsOf s) (c .kind) (c .depth) up up m
+            → (p : ℕ) × ((rowAt (rowsOf s) m .parent ≡ p + 1) × ((up ≤ p) × ((p < m) × (i < nextNode (nodesOf s) p))))
         by-place (inl o) = absurd (n (o .is))
         by-place (inr (p, (q, x))) =
-            let k : m < length (nodesOf s) = omega (arith, ends, next-row holder h) in
+            let k : m < length (nodesOf s) = omega (arith, c .ends) in
             let j : p < length (nodesOf s) = omega (arith, x .low) in
             let e : nextRow (rowsOf s) m ≤ nextRow (rowsOf s) p = row-nested s p (omega (arith, nodes-count s)) m (x .low) (x .high) in
-            (p, (omega (arith, x .is), (omega arith, (x .low, omega (arith, next-row m k, next-row p j)))))
+            (p, (omega (arith, x .is), (q, (x .low, omega (arith, next-row m k, next-row p j)))))
+
+  pub inside-ascends : (holder : ℕ) → holder < length (nodesOf s) → Ascends (nodesOf s) 0 (inside (nodesOf s) holder)
+  inside-ascends holder h = container-ascends (holder + 1) (nextNode (nodesOf s) holder) (node-container holder h (nextNode (nodesOf s) holder) refl)

@@ -1,11 +1,11 @@
 -- What the functions of this crate ask and say of each other. No paragraph of a paper stands here.
 use mathlib.Core.Path.{_≡_}
-use Prim.Native.Nat.{ℕ, _*_, _≤_, _+_, _<_}
+use Prim.Native.Nat.{ℕ, _*_, _≤_, _<_}
 use mathlib.Core.List.{List, [], _∷_}
 use lib.ListN.{length}
 use Rattle.dataset.specs.Reading.{mostRows}
 use Rattle.dataset.specs.Answer.{width, flat}
-use Rattle.dataset.specs.Tree.{rowsOf, rowAt}
+use Rattle.dataset.specs.Tree.{rowsOf, rowAt, Kind, Members}
 use Rattle.node.specs.Nodes.{nodesOf, Node, nodeAt, nextNode, members}
 use mathlib.Core.Bool.{cond}
 use lib.Dec.{eqb, ltb}
@@ -48,9 +48,24 @@ unfoldable pub lower : List Node → ℕ → List ℕ → ℕ → ℕ
 lower ns tag [] to = to
 lower ns tag (k ∷ ks) to = cond (ltb (nodeAt ns k .tag) tag) (lower ns tag ks to) k
 
--- Node m is a member of the node `holder`, and node i is m or below it.
-pub record MemberAbove (s : List ℕ) (holder i m : ℕ) : Type 0 where
-  pub held : rowAt (rowsOf s) m .parent ≡ holder + 1
-  pub after : holder < m
+-- The members of one container are those from `up` up to `to`. They say `up` as their parent number: that of a node counted from 1, or 0,
+-- the root's.
+pub record Container (s : List ℕ) (up to : ℕ) : Type 0 where
+  pub kind : Kind
+  pub depth : ℕ
+  pub held : Members (rowsOf s) (length s) kind depth up 0 up to
+  pub ends : to ≤ length (nodesOf s)
+
+-- Node i is in the container `up`, or below a member of it.
+pub record Held (s : List ℕ) (up i : ℕ) : Type 0 where
+  pub to : ℕ
+  pub within : Container s up to
+  pub low : up ≤ i
+  pub high : i < to
+
+-- Node m is a member of the container `up`, and node i is m or below it.
+pub record MemberAbove (s : List ℕ) (up i m : ℕ) : Type 0 where
+  pub held : rowAt (rowsOf s) m .parent ≡ up
+  pub after : up ≤ m
   pub low : m ≤ i
   pub high : i < nextNode (nodesOf s) m

@@ -2,9 +2,9 @@
 ghost use mathlib.Core.Path.{_≡_};
 ghost use Prim.Native.Nat.{_+_, _-_, _*_, _≤_, _<_};
 ghost use lib.ListN.{length};
-ghost use Rattle.node.specs.Nodes.{nodesOf, nodeAt, nextNode, members, inside};
-ghost use Rattle.node.specs.Find.{find, findVr, filled, has};
-ghost use Rattle.node.specs.Contracts.{Table, Ascends, fromTag, firstIs, Nearby, lower, MemberAbove};
+ghost use Rattle.node.specs.Nodes.{nodesOf, nodeAt, nextNode, members, root, inside};
+ghost use Rattle.node.specs.Find.{find, filled};
+ghost use Rattle.node.specs.Contracts.{Table, Ascends, fromTag, firstIs, Nearby, lower, Container, Held, MemberAbove};
 ghost use Rattle.dataset.specs.Reading.{mostRows};
 ghost use Rattle.dataset.specs.Tree.{rowsOf, rowAt};
 ghost use Rattle.value.specs.Contracts.{Below};
@@ -85,31 +85,6 @@ pub fn find_tag(bytes: &[u8], rows: &[u32], from: usize, to: usize, wanted: usiz
     Num::Lacks
 }
 
-// The same, of the VR.
-pub fn find_vr(
-    bytes: &[u8],
-    rows: &[u32],
-    from: usize,
-    to: usize,
-    wanted: usize,
-    kind: usize,
-) -> Num
-    requires { ⌜ Table (now bytes) (now rows) × ((to ≤ length (nodesOf (now bytes))) × Ascends (nodesOf (now bytes)) 0 (members (nodesOf (now bytes)) from to)) ⌝ }
-    ensures { λ r. ⌜ r ≡ findVr (nodesOf (now (bytes .entry))) wanted kind (members (nodesOf (now (bytes .entry))) from to) ⌝ }
-    ensures { λ r. ⌜ Below to r ⌝ }
-{
-    match find_tag(bytes, rows, from, to, wanted) {
-        Num::Lacks => Num::Lacks,
-        Num::Is(i) => {
-            if vr(bytes, rows, i) == kind {
-                Num::Is(i)
-            } else {
-                Num::Lacks
-            }
-        }
-    }
-}
-
 // Whether node i has a length that is not 0.
 pub fn is_filled(bytes: &[u8], rows: &[u32], i: usize) -> bool
     requires { ⌜ Table (now bytes) (now rows) × (i < length (nodesOf (now bytes))) ⌝ }
@@ -119,24 +94,6 @@ pub fn is_filled(bytes: &[u8], rows: &[u32], i: usize) -> bool
         i + 1 != next(bytes, rows, i)
     } else {
         value(bytes, rows, i).len() != 0
-    }
-}
-
-// Whether the members have an element of the tag and VR, with a length that is not 0.
-pub fn has_vr(
-    bytes: &[u8],
-    rows: &[u32],
-    from: usize,
-    to: usize,
-    wanted: usize,
-    kind: usize,
-) -> bool
-    requires { ⌜ Table (now bytes) (now rows) × ((to ≤ length (nodesOf (now bytes))) × Ascends (nodesOf (now bytes)) 0 (members (nodesOf (now bytes)) from to)) ⌝ }
-    ensures { λ r. ⌜ r ≡ has (nodesOf (now (bytes .entry))) wanted kind (members (nodesOf (now (bytes .entry))) from to) ⌝ }
-{
-    match find_vr(bytes, rows, from, to, wanted, kind) {
-        Num::Lacks => false,
-        Num::Is(i) => is_filled(bytes, rows, i),
     }
 }
 
@@ -150,31 +107,33 @@ pub fn parent(bytes: &[u8], rows: &[u32], i: usize) -> usize
     wide(rows[WIDTH * i + dataset::PARENT])
 }
 
-// The member of the node `holder` that node i is, or is below. There are at most 16 steps.
-fn member_above(bytes: &[u8], rows: &[u32], holder: usize, i: usize) -> usize
-    requires { ⌜ Table (now bytes) (now rows) × ((holder < i) × ((i < nextNode (nodesOf (now bytes)) holder) × (holder < length (nodesOf (now bytes))))) ⌝ }
-    ensures { λ r. ⌜ MemberAbove (now (bytes .entry)) holder i r ⌝ }
+// A container is known by its parent number, as `parent` answers it of its members: 0 is the root. Its first member has that number too.
+
+// The member of the container `up` that node i is, or is below. There are at most 16 steps.
+fn member_above(bytes: &[u8], rows: &[u32], up: usize, i: usize) -> usize
+    requires { ⌜ Table (now bytes) (now rows) × Held (now bytes) up i ⌝ }
+    ensures { λ r. ⌜ MemberAbove (now (bytes .entry)) up i r ⌝ }
 {
     let mut m = i;
     loop {
-        let up = parent(bytes, rows, m);
-        if up == holder + 1 {
+        let above = parent(bytes, rows, m);
+        if above == up {
             return m;
         }
-        m = up - 1;
+        m = above - 1;
     }
 }
 
-// The first member of the node `holder` whose tag is not below the tag, or what follows them. Tags never descend among members,
+// The first member of the container `up` whose tag is not below the tag, or `to`, which follows them. Tags never descend among members,
 // so that each step leaves at most half of the nodes.
-fn first_from(bytes: &[u8], rows: &[u32], holder: usize, wanted: usize) -> usize
-    requires { ⌜ Table (now bytes) (now rows) × (holder < length (nodesOf (now bytes))) ⌝ }
-    ensures { λ r. ⌜ r ≡ lower (nodesOf (now (bytes .entry))) wanted (inside (nodesOf (now (bytes .entry))) holder) (nextNode (nodesOf (now (bytes .entry))) holder) ⌝ }
+fn first_from(bytes: &[u8], rows: &[u32], up: usize, to: usize, wanted: usize) -> usize
+    requires { ⌜ Table (now bytes) (now rows) × Container (now bytes) up to ⌝ }
+    ensures { λ r. ⌜ r ≡ lower (nodesOf (now (bytes .entry))) wanted (members (nodesOf (now (bytes .entry))) up to) to ⌝ }
 {
-    let mut low = holder + 1;
-    let mut high = next(bytes, rows, holder);
+    let mut low = up;
+    let mut high = to;
     while low < high {
-        let m = member_above(bytes, rows, holder, low + (high - low) / 2);
+        let m = member_above(bytes, rows, up, low + (high - low) / 2);
         if tag(bytes, rows, m) < wanted {
             low = next(bytes, rows, m);
         } else {
@@ -184,8 +143,9 @@ fn first_from(bytes: &[u8], rows: &[u32], holder: usize, wanted: usize) -> usize
     low
 }
 
-// How many members a search passes one after the other before it goes by halves.
-const STEPS: usize = 16;
+// How many members a search passes one after the other before it goes by halves. (The compiler writes out a loop of 16 turns, which makes
+// every search in an item dearer.)
+const STEPS: usize = 32;
 
 // Among so few nodes no halves are wanted.
 const FEW: usize = 32;
@@ -212,21 +172,14 @@ fn near(bytes: &[u8], rows: &[u32], from: usize, to: usize, wanted: usize) -> Nu
     Num::Lacks
 }
 
-// The same among the members of the node `holder`, which `to` follows, however far it is: the search starts at `from`, at or before it.
-pub fn reach(
-    bytes: &[u8],
-    rows: &[u32],
-    holder: usize,
-    from: usize,
-    to: usize,
-    wanted: usize,
-) -> usize
-    requires { ⌜ Table (now bytes) (now rows) × ((holder < length (nodesOf (now bytes))) × ((to ≡ nextNode (nodesOf (now bytes)) holder) × (fromTag (nodesOf (now bytes)) wanted (members (nodesOf (now bytes)) from to) ≡ fromTag (nodesOf (now bytes)) wanted (inside (nodesOf (now bytes)) holder)))) ⌝ }
-    ensures { λ r. ⌜ members (nodesOf (now (bytes .entry))) r to ≡ fromTag (nodesOf (now (bytes .entry))) wanted (inside (nodesOf (now (bytes .entry))) holder) ⌝ }
+// The same among the members of the container `up`, which `to` follows, however far it is: the search starts at `from`, at or before it.
+pub fn reach(bytes: &[u8], rows: &[u32], up: usize, from: usize, to: usize, wanted: usize) -> usize
+    requires { ⌜ Table (now bytes) (now rows) × (Container (now bytes) up to × (fromTag (nodesOf (now bytes)) wanted (members (nodesOf (now bytes)) from to) ≡ fromTag (nodesOf (now bytes)) wanted (members (nodesOf (now bytes)) up to))) ⌝ }
+    ensures { λ r. ⌜ members (nodesOf (now (bytes .entry))) r to ≡ fromTag (nodesOf (now (bytes .entry))) wanted (members (nodesOf (now (bytes .entry))) up to) ⌝ }
 {
     match near(bytes, rows, from, to, wanted) {
         Num::Is(n) => n,
-        Num::Lacks => first_from(bytes, rows, holder, wanted),
+        Num::Lacks => first_from(bytes, rows, up, to, wanted),
     }
 }
 
@@ -247,7 +200,18 @@ pub fn first_is(bytes: &[u8], rows: &[u32], i: usize, to: usize, wanted: usize) 
     }
 }
 
-// The element of the tag in the node `holder`, as `find_tag` finds it.
+// The element of the tag in the container `up`, as `find_tag` finds it. Among few nodes `find_inside` does not come here, so that this
+// stays out of its callers.
+fn find_wide(bytes: &[u8], rows: &[u32], up: usize, to: usize, wanted: usize) -> Num
+    requires { ⌜ Table (now bytes) (now rows) × Container (now bytes) up to ⌝ }
+    ensures { λ r. ⌜ r ≡ find (nodesOf (now (bytes .entry))) wanted (members (nodesOf (now (bytes .entry))) up to) ⌝ }
+    ensures { λ r. ⌜ Below to r ⌝ }
+{
+    let i = reach(bytes, rows, up, up, to, wanted);
+    first_is(bytes, rows, i, to, wanted)
+}
+
+// The element of the tag in the node `holder`.
 pub fn find_inside(bytes: &[u8], rows: &[u32], holder: usize, wanted: usize) -> Num
     requires { ⌜ Table (now bytes) (now rows) × (holder < length (nodesOf (now bytes))) ⌝ }
     ensures { λ r. ⌜ r ≡ find (nodesOf (now (bytes .entry))) wanted (inside (nodesOf (now (bytes .entry))) holder) ⌝ }
@@ -257,6 +221,14 @@ pub fn find_inside(bytes: &[u8], rows: &[u32], holder: usize, wanted: usize) -> 
     if to - holder <= FEW {
         return find_tag(bytes, rows, holder + 1, to, wanted);
     }
-    let i = reach(bytes, rows, holder, holder + 1, to, wanted);
-    first_is(bytes, rows, i, to, wanted)
+    find_wide(bytes, rows, holder + 1, to, wanted)
+}
+
+// The element of the tag in the root.
+pub fn find_top(bytes: &[u8], rows: &[u32], wanted: usize) -> Num
+    requires { ⌜ Table (now bytes) (now rows) ⌝ }
+    ensures { λ r. ⌜ r ≡ find (nodesOf (now (bytes .entry))) wanted (root (nodesOf (now (bytes .entry)))) ⌝ }
+    ensures { λ r. ⌜ Below (length (nodesOf (now (bytes .entry)))) r ⌝ }
+{
+    find_wide(bytes, rows, 0, count(bytes, rows), wanted)
 }

@@ -14,7 +14,7 @@ use Rattle.node.specs.Nodes.{Node, nodeAt, nextNode, members, inside}
 use Rattle.node.specs.Find.{holds, andThen, ofVr}
 use Rattle.node.specs.Contracts.{Ascends, fromTag, firstIs}
 use Rattle.node.proofs.Walks.{members-end, members-next}
-use Rattle.node.proofs.Halves.{ascends-here, ascends-next, find-first}
+use Rattle.node.proofs.Halves.{ascends-here, ascends-next, find-first, from-here, from-later}
 use Rattle.element.specs.Elements.{some}
 use Rattle.rules.specs.Frame.{isShared}
 use Rattle.rules_frame.specs.Contracts.{isRepeated}
@@ -90,3 +90,30 @@ module _ (ns : List Node) (shared j end k to : ℕ) (h : j < end) (a : Ahead ns 
           ascends = ascends-next ns j end (a .least) h (a .ascends);
           same = λ tag l. ap (λ (x : List ℕ). fromTag ns tag x) e ∙ from-twice ns (nodeAt ns j .tag) tag (inside ns shared) l;
         }
+
+-- ---- Step by step in the shared item too
+
+module _ (ns : List Node) (shared j end k to : ℕ) (a : Ahead ns shared j end k to) where
+  -- Where the shared item has ended, nothing that is left is repeated.
+  pub ahead-over : to ≤ k → Ascends ns 0 (inside ns shared) → some (isShared ns shared) (members ns j end) ≡ false
+  unfolding fromTag
+  ahead-over l r =
+      none-left ns shared r (a .least) (members ns j end) (a .ascends)
+      (λ tag m. sym (a .same tag m) ∙ ap (λ (x : List ℕ). fromTag ns tag x) (members-end ns k to l))
+
+  module _ (h : j < end) (g : k < to) where
+    -- A lower tag of the shared item is passed.
+    pub ahead-pass : nodeAt ns k .tag < nodeAt ns j .tag → Ahead ns shared j end (nextNode ns k) to
+    unfolding Ascends
+    ahead-pass l =
+        record {
+          least = nodeAt ns j .tag;
+          ascends = rw (members-next ns j end h) (omega arith, ascends-next ns j end (a .least) h (a .ascends));
+          same = λ tag m.
+              from-later ns tag k to g (omega arith)
+              ∙ a .same tag (omega (arith, ascends-here ns j end (a .least) h (a .ascends)));
+        }
+
+    -- One that is not lower is the first that is not.
+    pub ahead-at : nodeAt ns j .tag ≤ nodeAt ns k .tag → members ns k to ≡ fromTag ns (nodeAt ns j .tag) (inside ns shared)
+    ahead-at l = from-here ns (nodeAt ns j .tag) k to g l ∙ ahead-asks ns shared j end k to h a

@@ -1,6 +1,6 @@
 // Rules 27 to 30, 37 and 39, which are asked at each frame, over a row table.
 ghost use mathlib.Core.Path.{_≡_};
-ghost use Prim.Native.Nat.{_+_, _≤_, _<_};
+ghost use Prim.Native.Nat.{_+_, _-_, _≤_, _<_};
 ghost use mathlib.Core.Bool.{_&&_};
 ghost use lib.Dec.{eqb};
 ghost use Rattle.value.specs.Text.{valuesOf};
@@ -11,7 +11,7 @@ ghost use Rattle.node.specs.Find.{absent, find};
 ghost use Rattle.node.specs.Contracts.{Table};
 ghost use Rattle.element.specs.Tags.{FrameContentSequence};
 ghost use Rattle.element.specs.Elements.{every};
-ghost use Rattle.rules.specs.Frame.{repeatsShared, item27, item28, isWindow, hasWindow, isVoi, isShiftItem, isShiftGroup};
+ghost use Rattle.rules.specs.Frame.{repeatsShared, item27, item28, isWindow, hasWindow, isVoi, isShiftItem, uniqueIds, isShiftGroup};
 ghost use Rattle.rules_frame.specs.Contracts.{isRepeated, groupTag, groupFits, groupIn, sharedOk, itemBy, sharedPart, itemGrades, itemRule};
 use value::Function;
 use value::Num;
@@ -40,8 +40,9 @@ fn is_repeated(bytes: &[u8], rows: &[u32], j: usize, k: usize, to: usize) -> boo
     }
 }
 
-// Tags ascend in an item, so one walk goes along both items; neither j nor k goes back, and the end of the shared one ends it.
-fn repeats_shared(bytes: &[u8], rows: &[u32], shared: usize, item: usize) -> bool
+// Tags ascend in an item, so one walk goes along both items; neither j nor k goes back, and the end of the shared one ends it. Step by
+// step:
+fn repeats_narrow(bytes: &[u8], rows: &[u32], shared: usize, item: usize) -> bool
     requires { ⌜ Table (now bytes) (now rows) × ((shared < length (nodesOf (now bytes))) × (item < length (nodesOf (now bytes)))) ⌝ }
     ensures { λ r. ⌜ r ≡ repeatsShared (nodesOf (now (bytes .entry))) shared item ⌝ }
 {
@@ -50,7 +51,33 @@ fn repeats_shared(bytes: &[u8], rows: &[u32], shared: usize, item: usize) -> boo
     let mut j = item + 1;
     let mut k = shared + 1;
     while j < end {
-        k = node::reach(bytes, rows, shared, k, to, node::tag(bytes, rows, j));
+        if to <= k {
+            return false;
+        }
+        if node::tag(bytes, rows, k) < node::tag(bytes, rows, j) {
+            k = node::next(bytes, rows, k);
+        } else {
+            if is_repeated(bytes, rows, j, k, to) {
+                return true;
+            }
+            j = node::next(bytes, rows, j);
+        }
+    }
+    false
+}
+
+// The same by halves in the shared one.
+fn repeats_wide(bytes: &[u8], rows: &[u32], shared: usize, item: usize) -> bool
+    requires { ⌜ Table (now bytes) (now rows) × ((shared < length (nodesOf (now bytes))) × (item < length (nodesOf (now bytes)))) ⌝ }
+    ensures { λ r. ⌜ r ≡ repeatsShared (nodesOf (now (bytes .entry))) shared item ⌝ }
+{
+    let end = node::next(bytes, rows, item);
+    let to = node::next(bytes, rows, shared);
+    let first = shared + 1;
+    let mut j = item + 1;
+    let mut k = first;
+    while j < end {
+        k = node::reach(bytes, rows, first, k, to, node::tag(bytes, rows, j));
         if to <= k {
             return false;
         }
@@ -60,6 +87,21 @@ fn repeats_shared(bytes: &[u8], rows: &[u32], shared: usize, item: usize) -> boo
         j = node::next(bytes, rows, j);
     }
     false
+}
+
+// So many nodes of the shared item, itself among them, are gone along step by step at each frame.
+const NARROW: usize = 64;
+
+fn repeats_shared(bytes: &[u8], rows: &[u32], shared: usize, item: usize) -> bool
+    requires { ⌜ Table (now bytes) (now rows) × ((shared < length (nodesOf (now bytes))) × (item < length (nodesOf (now bytes)))) ⌝ }
+    ensures { λ r. ⌜ r ≡ repeatsShared (nodesOf (now (bytes .entry))) shared item ⌝ }
+{
+    let to = node::next(bytes, rows, shared);
+    if to - shared <= NARROW {
+        repeats_narrow(bytes, rows, shared, item)
+    } else {
+        repeats_wide(bytes, rows, shared, item)
+    }
 }
 
 fn item_27(bytes: &[u8], rows: &[u32], shared: usize, item: usize) -> bool
@@ -204,6 +246,18 @@ fn are_shift_items(bytes: &[u8], rows: &[u32], from: usize, to: usize) -> bool
     true
 }
 
+// No two items from `from` up to `to` have the same ID. One alone is not asked for its own.
+fn ids_differ(bytes: &[u8], rows: &[u32], from: usize, to: usize) -> bool
+    requires { ⌜ Table (now bytes) (now rows) × ((from < to) × (to ≤ length (nodesOf (now bytes)))) ⌝ }
+    ensures { λ r. ⌜ r ≡ uniqueIds (nodesOf (now (bytes .entry))) (members (nodesOf (now (bytes .entry))) from to) ⌝ }
+{
+    if node::next(bytes, rows, from) < to {
+        ids::unique_ids(bytes, rows, from, to)
+    } else {
+        true
+    }
+}
+
 fn is_shift_group(bytes: &[u8], rows: &[u32], group: usize) -> bool
     requires { ⌜ Table (now bytes) (now rows) × (group < length (nodesOf (now bytes))) ⌝ }
     ensures { λ r. ⌜ r ≡ isShiftGroup (nodesOf (now (bytes .entry))) group ⌝ }
@@ -213,7 +267,7 @@ fn is_shift_group(bytes: &[u8], rows: &[u32], group: usize) -> bool
         let to = node::next(bytes, rows, group);
         if from < to {
             if are_shift_items(bytes, rows, from, to) {
-                ids::unique_ids(bytes, rows, from, to)
+                ids_differ(bytes, rows, from, to)
             } else {
                 false
             }

@@ -1,26 +1,29 @@
 -- The sums at the places that the loops have reached, and that they fit.
-use mathlib.Core.Path.{_≡_, refl, sym}
-use Prim.Native.Nat.{ℕ, _+_, _*_, _≤_, _<_}
+use mathlib.Core.Path.{_≡_, refl, sym, ap, _∙_}
+use Prim.Native.Nat.{ℕ, zero, suc, _+_, _*_, _≤_, _<_}
 use native.Mathlib.Omega.{arith}
 use native.Mathlib.Nat.{mul-le-mul-left, mul-le-mul-right}
 use native.Mathlib.Numerals.{add-one}
-use mathlib.Core.List.{List}
-use mathlib.Core.Bool.{Bool, true, false, _||_}
+use mathlib.Core.List.{List, [], _∷_}
+use mathlib.Core.Bool.{Bool, true, false, cond, _||_, false≢true}
 use lib.ListN.{length, drop, getD}
 use lib.Seq.{drop-cons, drop-length}
+use lib.Dec.{leb}
+use borrow.Author.Tests.{leb-true, leb-false, le-leb, lt-leb}
 use Rattle.value.specs.declared.Num.{Num}
 use Rattle.value.specs.declared.Num.the-variants.{Is, Lacks}
 use Rattle.dataset.specs.Vr.{SQ}
-use Rattle.node.specs.Nodes.{Node, nodesOf, nextNode, members, root, inside}
+use Rattle.node.specs.Nodes.{Node, nodesOf, nodeAt, nextNode, members, root, inside}
 use Rattle.node.specs.Find.{find, findVr}
+use Rattle.node.specs.Contracts.{Ascends}
 use Rattle.node.proofs.Walks.{members-end, members-next}
 use Rattle.element.specs.Tags
 use Rattle.element.specs.Elements.{insideOf, itemsIn}
 use Rattle.element.specs.Frames.{frameItems, maskItems}
 use Rattle.searches.specs.Count.{lookedAt}
 use Rattle.searches.specs.Searches.{rootSearches, maskSearches, searchedAmong, maskSum, readInEach, inShared, groupSum, bothItems}
-use Rattle.searches.specs.Contracts.{allLooked, rootTags, maskTags, groupAt, overGroup, overBoth}
-use Rattle.searches.proofs.Counting.{members-few, Within, nodes-within, inside-few}
+use Rattle.searches.specs.Contracts.{allLooked, rises, above, rootTags, rootOrder, maskTags, groupAt, overGroup, overBoth}
+use Rattle.searches.proofs.Counting.{looked-end, looked-later, looked-here, members-few, Within, nodes-within, inside-few}
 use Rattle.searches.proofs.Sums.{searched-is, mask-is, read-is, all-few, each-few, group-few, over-few, both-few}
 
 -- ---- Tag by tag
@@ -33,6 +36,74 @@ module _ (ns : List Node) (tags is : List ℕ) (k : ℕ) where
   pub all-next : k < length tags → allLooked ns (drop k tags) is ≡ lookedAt ns (getD tags k 0) is + allLooked ns (drop (k + 1) tags) is
   unfolding allLooked
   all-next h = rw (add-one k, drop-cons tags k 0 h)
+
+-- ---- Member by member, all the tags at once
+
+rises-parts : (x tag : ℕ) (tags : List ℕ) → rises x (tag ∷ tags) ≡ true → (x ≤ tag) × (rises tag tags ≡ true)
+unfolding rises
+rises-parts x tag tags r = go (leb x tag) refl r
+  where
+    go : (b : Bool) → leb x tag ≡ b → cond b (rises tag tags) false ≡ true → (x ≤ tag) × (rises tag tags ≡ true)
+    go true e q = (leb-true x tag e, q)
+    go false e q = absurd (false≢true q)
+
+pub rises-drop : (k : ℕ) (tags : List ℕ) (x : ℕ) → rises x tags ≡ true → rises 0 (drop k tags) ≡ true
+unfolding rises
+rises-drop zero [] x r = refl
+rises-drop zero (tag ∷ tags) x r = rw (le-leb 0 tag (omega arith)) (rises-parts x tag tags r .1)
+rises-drop (suc k) [] x r = refl
+rises-drop (suc k) (tag ∷ tags) x r = rises-drop k tags tag (rises-parts x tag tags r .1)
+
+module _ (ns : List Node) (i to : ℕ) where
+  pub all-none : (tags : List ℕ) → to ≤ i → allLooked ns tags (members ns i to) ≡ 0
+  unfolding allLooked
+  all-none [] h = refl
+  all-none (tag ∷ tags) h = omega (arith, looked-end ns tag i to h, all-none tags h)
+
+  module _ (least : ℕ) (a : Ascends ns least (members ns i to)) (h : i < to) where
+    -- Tags above the member's are sought on.
+    all-above : (tags : List ℕ) (x : ℕ) → rises x tags ≡ true → nodeAt ns i .tag < x
+        → allLooked ns tags (members ns i to) ≡ length tags + allLooked ns tags (members ns (nextNode ns i) to)
+    unfolding allLooked
+    all-above [] x r l = refl
+    all-above (tag ∷ tags) x r l =
+        let p = rises-parts x tag tags r in
+        let m : nodeAt ns i .tag < tag = omega (arith, p .0) in
+        omega (arith, looked-later ns tag i to h m, all-above tags tag (p .1) m)
+
+    -- Each search looks at the member, and those of tags above it go on.
+    pub all-step : (tags : List ℕ) (x : ℕ) → rises x tags ≡ true
+        → allLooked ns tags (members ns i to) ≡ length tags + allLooked ns (above (nodeAt ns i .tag) tags) (members ns (nextNode ns i) to)
+    unfolding allLooked above
+    all-step [] x r = refl
+    all-step (tag ∷ tags) x r =
+        let q = rises-parts x tag tags r .1 in
+        go q (all-step tags tag q) (leb tag (nodeAt ns i .tag)) refl
+      where
+        go : rises tag tags ≡ true
+            → allLooked ns tags (members ns i to) ≡ length tags + allLooked ns (above (nodeAt ns i .tag) tags) (members ns (nextNode ns i) to)
+            → (b : Bool) → leb tag (nodeAt ns i .tag) ≡ b
+            → allLooked ns (tag ∷ tags) (members ns i to)
+            ≡ length (tag ∷ tags) + allLooked ns (cond b (above (nodeAt ns i .tag) tags) (tag ∷ tags)) (members ns (nextNode ns i) to)
+        go q z true e = omega (arith, looked-here ns tag i to least a h (leb-true tag (nodeAt ns i .tag) e), z)
+        go q z false e =
+            let m = leb-false tag (nodeAt ns i .tag) e in
+            omega (arith, looked-later ns tag i to h m, all-above tags tag q m)
+
+module _ (tags : List ℕ) (here k : ℕ) where
+  pub above-end : length tags ≤ k → k ≤ length tags → drop k tags ≡ above here (drop k tags)
+  unfolding above
+  above-end l m =
+      let e : k ≡ length tags = omega arith in
+      rw (e, drop-length tags)
+
+  pub above-stop : k < length tags → here < getD tags k 0 → drop k tags ≡ above here (drop k tags)
+  unfolding above
+  above-stop h l = rw (drop-cons tags k 0 h, lt-leb (getD tags k 0) here l)
+
+  pub above-on : k < length tags → getD tags k 0 ≤ here → above here (drop (k + 1) tags) ≡ above here (drop k tags)
+  unfolding above
+  above-on h l = rw (add-one k, drop-cons tags k 0 h, le-leb (getD tags k 0) here l)
 
 -- ---- Item by item
 
@@ -145,17 +216,52 @@ module _ (ns : List Node) (tag : ℕ) (reads : List ℕ) (s i : ℕ) where
 -- ---- The tables' sums
 
 module _ (s : List ℕ) (few : length (nodesOf s) ≤ 134217728) where
-  pub root-fits : (r to : ℕ) → to ≤ length (nodesOf s) → r ≡ allLooked (nodesOf s) rootTags (members (nodesOf s) 0 to) → r ≤ 8589934592
-  unfolding rootTags rootSearches
-  root-fits r to h e = omega (arith, e, all-fits s few rootTags 0 to (omega arith) h)
+  pub root-fits : (r to : ℕ) → to ≤ length (nodesOf s) → r ≡ allLooked (nodesOf s) rootOrder (members (nodesOf s) 0 to) → r ≤ 8589934592
+  unfolding rootOrder
+  root-fits r to h e = omega (arith, e, all-fits s few rootOrder 0 to (omega arith) h)
 
   pub masks-fit : (r from to : ℕ) → to ≤ length (nodesOf s) → r ≡ readInEach (nodesOf s) maskTags (members (nodesOf s) from to) → r ≤ 8589934592
   unfolding maskTags maskSearches
   masks-fit r from to h e = omega (arith, e, each-fits s few maskTags from to (omega arith) h)
 
-pub root-sum : (ns : List Node) (to : ℕ) → to ≡ length ns → allLooked ns rootTags (members ns 0 to) ≡ searchedAmong ns rootSearches (root ns)
+-- The order of the tags counts nothing: they may be put in order one after the other.
+put : ℕ → List ℕ → List ℕ
+put tag [] = tag ∷ []
+put tag (t ∷ ts) = cond (leb tag t) (tag ∷ t ∷ ts) (t ∷ put tag ts)
+
+inOrder : List ℕ → List ℕ
+inOrder [] = []
+inOrder (t ∷ ts) = put t (inOrder ts)
+
+all-put : (ns : List Node) (tag : ℕ) (tags is : List ℕ) → allLooked ns (put tag tags) is ≡ lookedAt ns tag is + allLooked ns tags is
+unfolding allLooked put
+all-put ns tag [] is = refl
+all-put ns tag (t ∷ ts) is = go (all-put ns tag ts is) (leb tag t)
+  where
+    go : allLooked ns (put tag ts) is ≡ lookedAt ns tag is + allLooked ns ts is → (b : Bool)
+        → allLooked ns (cond b (tag ∷ t ∷ ts) (t ∷ put tag ts)) is ≡ lookedAt ns tag is + (lookedAt ns t is + allLooked ns ts is)
+    go e true = refl
+    go e false = omega (arith, e)
+
+all-order : (ns : List Node) (tags is : List ℕ) → allLooked ns (inOrder tags) is ≡ allLooked ns tags is
+unfolding allLooked inOrder
+all-order ns [] is = refl
+all-order ns (t ∷ ts) is = all-put ns t (inOrder ts) is ∙ ap (λ (n : ℕ). lookedAt ns t is + n) (all-order ns ts is)
+
+root-ordered : rootOrder ≡ inOrder rootTags
+unfolding put inOrder rootOrder rootTags rootSearches
+root-ordered = refl
+
+root-order : (ns : List Node) (is : List ℕ) → allLooked ns rootOrder is ≡ allLooked ns rootTags is
+root-order ns is = rw root-ordered (all-order ns rootTags is)
+
+pub root-rises : rises 0 rootOrder ≡ true
+unfolding rises rootOrder
+root-rises = refl
+
+pub root-sum : (ns : List Node) (to : ℕ) → to ≡ length ns → allLooked ns rootOrder (members ns 0 to) ≡ searchedAmong ns rootSearches (root ns)
 unfolding rootTags
-root-sum ns to e = rw e (sym (searched-is ns rootSearches (root ns)))
+root-sum ns to e = rw e (root-order ns (root ns) ∙ sym (searched-is ns rootSearches (root ns)))
 
 pub masks-sum : (ns : List Node) (js : List ℕ) → js ≡ maskItems ns → readInEach ns maskTags js ≡ maskSum ns (maskItems ns)
 masks-sum ns js e = rw e (sym (mask-is ns (maskItems ns)))

@@ -3,11 +3,13 @@
 use mathlib.Core.Path.{_≡_}
 use Prim.Native.Nat.{ℕ, _+_, _*_, _≤_}
 use mathlib.Core.List.{List, [], _∷_}
-use mathlib.Core.Bool.{Bool}
+use mathlib.Core.Bool.{Bool, true, false, cond}
+use lib.Dec.{leb}
 use lib.ListN.{length, take}
 use Rattle.node.specs.Nodes.{Node, inside}
 use Rattle.node.specs.Find.{find}
 use Rattle.node.specs.Contracts.{Table}
+use Rattle.element.specs.Tags
 use Rattle.element.specs.Elements.{insideOf}
 use Rattle.conformance.specs.declared.JudgeAnswer.{JudgeAnswer}
 use Rattle.conformance.specs.declared.JudgeAnswer.the-variants as judged
@@ -20,6 +22,16 @@ unfoldable pub allLooked : List Node → List ℕ → List ℕ → ℕ
 allLooked ns [] is = 0
 allLooked ns (tag ∷ tags) is = lookedAt ns tag is + allLooked ns tags is
 
+-- No tag is below `least` or below one before it.
+unfoldable pub rises : ℕ → List ℕ → Bool
+rises least [] = true
+rises least (tag ∷ tags) = cond (leb least tag) (rises tag tags) false
+
+-- The tags from the first on that is above `here`.
+unfoldable pub above : ℕ → List ℕ → List ℕ
+above here [] = []
+above here (tag ∷ tags) = cond (leb tag here) (above here tags) (tag ∷ tags)
+
 -- The tags of the tables.
 abbrev pub tagsOf : List Search → List ℕ
 tagsOf [] = []
@@ -27,6 +39,44 @@ tagsOf (s ∷ ss) = s .tag ∷ tagsOf ss
 
 unfoldable pub rootTags : List ℕ
 rootTags = tagsOf rootSearches
+
+-- Those of the root as they ascend.
+unfoldable pub rootOrder : List ℕ
+rootOrder =
+    Tags.ImageType
+    ∷ Tags.SOPClassUID
+    ∷ Tags.AcquisitionDateTime
+    ∷ Tags.Modality
+    ∷ Tags.ReferencedOtherPlaneSequence
+    ∷ Tags.KVP
+    ∷ Tags.RadiationSetting
+    ∷ Tags.RadiationMode
+    ∷ Tags.PositionerType
+    ∷ Tags.ContentQualification
+    ∷ Tags.ExposureTimeInms
+    ∷ Tags.XRayTubeCurrentInmA
+    ∷ Tags.ExposureInmAs
+    ∷ Tags.PlanesInAcquisition
+    ∷ Tags.PlaneIdentification
+    ∷ Tags.SamplesPerPixel
+    ∷ Tags.PhotometricInterpretation
+    ∷ Tags.NumberOfFrames
+    ∷ Tags.Rows
+    ∷ Tags.Columns
+    ∷ Tags.BitsAllocated
+    ∷ Tags.BitsStored
+    ∷ Tags.HighBit
+    ∷ Tags.PixelRepresentation
+    ∷ Tags.BurnedInAnnotation
+    ∷ Tags.LossyImageCompression
+    ∷ Tags.LossyImageCompressionRatio
+    ∷ Tags.LossyImageCompressionMethod
+    ∷ Tags.MaskSubtractionSequence
+    ∷ Tags.PresentationLUTShape
+    ∷ Tags.SharedFunctionalGroupsSequence
+    ∷ Tags.PerFrameFunctionalGroupsSequence
+    ∷ Tags.PixelData
+    ∷ []
 
 unfoldable pub maskTags : List ℕ
 maskTags = tagsOf maskSearches

@@ -1,14 +1,15 @@
 // How far judging looks: the searches of document 02, each counted, and their sum, which `judge` reports of an accepted data set.
 ghost use mathlib.Core.Path.{_≡_};
+ghost use mathlib.Core.Bool.{true};
 ghost use Prim.Native.Nat.{_+_, _*_, _^_, _≤_, _<_};
-ghost use lib.ListN.{length};
+ghost use lib.ListN.{length, drop};
 ghost use Rattle.node.specs.Nodes.{nodesOf, members};
 ghost use Rattle.node.specs.Contracts.{Table, Ascends};
 ghost use Rattle.value.specs.Contracts.{Below};
 ghost use Rattle.element.specs.Elements.{insideOf};
 ghost use Rattle.element.specs.Frames.{sharedItem, frameItems};
 ghost use Rattle.searches.specs.Searches.{readInEach, frameSearches, overFrames, searchesOf};
-ghost use Rattle.searches.specs.Contracts.{allLooked, groupAt, overGroup, overGroups, overBoth, InShared, Left};
+ghost use Rattle.searches.specs.Contracts.{allLooked, rises, above, groupAt, overGroup, overGroups, overBoth, InShared, Left};
 ghost use Rattle.dataset.specs.Reading.{readingOf};
 ghost use Rattle.dataset.specs.Fields.{Answers};
 ghost use Rattle.dataset.specs.Answer.{bufferOf};
@@ -18,40 +19,40 @@ use conformance::JudgeAnswer;
 use element::tags;
 use value::Num;
 
-// The tables of specs/Searches. In the root:
+// The tables of specs/Searches. In the root, as the tags ascend:
 const ROOT: [usize; 33] = [
-    tags::SOP_CLASS_UID,
-    tags::MODALITY,
     tags::IMAGE_TYPE,
+    tags::SOP_CLASS_UID,
+    tags::ACQUISITION_DATETIME,
+    tags::MODALITY,
+    tags::REFERENCED_OTHER_PLANE_SEQUENCE,
+    tags::KVP,
+    tags::RADIATION_SETTING,
+    tags::RADIATION_MODE,
+    tags::POSITIONER_TYPE,
+    tags::CONTENT_QUALIFICATION,
+    tags::EXPOSURE_TIME_IN_MS,
+    tags::XRAY_TUBE_CURRENT_IN_MA,
+    tags::EXPOSURE_IN_MAS,
     tags::PLANES_IN_ACQUISITION,
     tags::PLANE_IDENTIFICATION,
-    tags::ACQUISITION_DATETIME,
     tags::SAMPLES_PER_PIXEL,
     tags::PHOTOMETRIC_INTERPRETATION,
+    tags::NUMBER_OF_FRAMES,
     tags::ROWS,
     tags::COLUMNS,
     tags::BITS_ALLOCATED,
     tags::BITS_STORED,
     tags::HIGH_BIT,
     tags::PIXEL_REPRESENTATION,
-    tags::NUMBER_OF_FRAMES,
-    tags::CONTENT_QUALIFICATION,
     tags::BURNED_IN_ANNOTATION,
     tags::LOSSY_IMAGE_COMPRESSION,
     tags::LOSSY_IMAGE_COMPRESSION_RATIO,
     tags::LOSSY_IMAGE_COMPRESSION_METHOD,
-    tags::REFERENCED_OTHER_PLANE_SEQUENCE,
+    tags::MASK_SUBTRACTION_SEQUENCE,
     tags::PRESENTATION_LUT_SHAPE,
-    tags::KVP,
-    tags::RADIATION_MODE,
-    tags::RADIATION_SETTING,
-    tags::EXPOSURE_IN_MAS,
-    tags::EXPOSURE_TIME_IN_MS,
-    tags::XRAY_TUBE_CURRENT_IN_MA,
-    tags::POSITIONER_TYPE,
     tags::SHARED_FUNCTIONAL_GROUPS_SEQUENCE,
     tags::PER_FRAME_FUNCTIONAL_GROUPS_SEQUENCE,
-    tags::MASK_SUBTRACTION_SEQUENCE,
     tags::PIXEL_DATA,
 ];
 
@@ -154,6 +155,40 @@ fn look_all(bytes: &[u8], rows: &[u32], from: usize, to: usize, wanted: &[usize]
         let l = look(bytes, rows, from, to, wanted[k]);
         sum += l.count;
         k += 1;
+    }
+    sum
+}
+
+// Where the tags go on that are above `here`.
+fn first_above(wanted: &[usize], from: usize, here: usize) -> usize
+    requires { ⌜ from ≤ length (now wanted) ⌝ }
+    ensures { λ r. ⌜ (r ≤ length (now (wanted .entry))) × (drop r (now (wanted .entry)) ≡ above here (drop from (now (wanted .entry)))) ⌝ }
+{
+    let mut k = from;
+    while k < wanted.len() {
+        if here < wanted[k] {
+            return k;
+        }
+        k += 1;
+    }
+    k
+}
+
+// As `look_all` in one walk, for tags that ascend: those from k on are still sought, and each looks at the member.
+fn look_along(bytes: &[u8], rows: &[u32], from: usize, to: usize, wanted: &[usize]) -> usize
+    requires { ⌜ Table (now bytes) (now rows) × ((to ≤ length (nodesOf (now bytes))) × (Ascends (nodesOf (now bytes)) 0 (members (nodesOf (now bytes)) from to) × ((length (now wanted) ≤ 64) × (rises 0 (now wanted) ≡ true)))) ⌝ }
+    ensures { λ r. ⌜ r ≡ allLooked (nodesOf (now (bytes .entry))) (now (wanted .entry)) (members (nodesOf (now (bytes .entry))) from to) ⌝ }
+{
+    let mut sum: usize = 0;
+    let mut k: usize = 0;
+    let mut i = from;
+    while i < to {
+        if k == wanted.len() {
+            return sum;
+        }
+        sum += wanted.len() - k;
+        k = first_above(wanted, k, node::tag(bytes, rows, i));
+        i = node::next(bytes, rows, i);
     }
     sum
 }
@@ -328,7 +363,7 @@ pub fn sum(bytes: &[u8], rows: &[u32]) -> usize
     let mask = MASK;
     let masks = element::mask_items(bytes, rows);
     let end = node::count(bytes, rows);
-    look_all(bytes, rows, 0, end, &root)
+    look_along(bytes, rows, 0, end, &root)
         + look_each(bytes, rows, masks.at, masks.end, &mask)
         + frames_sum(bytes, rows)
 }

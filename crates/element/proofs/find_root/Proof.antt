@@ -1,18 +1,13 @@
--- The root's members are those from node 0 up to the count of the nodes.
+-- The root is searched.
 use borrow.Author.Needs.{needs}
-use Rattle.element.proofs.Ascending.{root-searched}
 use Rattle.element.proofs.find_root.Statement.{statement}
 use Rattle.element.proofs.find_root.Tie as tie
 
-count-requires : tie.Need-count-requires
-count-requires c κs = search needs
-
-find-tag-requires : tie.Need-find-tag-requires
-find-tag-requires c κs = root-searched (c .before .before .before .pre) (c .count .ensures .0)
+find-top-requires : tie.Need-find-top-requires
+find-top-requires c κs = search needs
 
 returns : tie.Need-returns
-returns c =
-    rw (← c .before .count .ensures .0) (c .find-tag .ensures)
+returns c = c .find-top .ensures
 
 pub find-root-spec : {M : Type 1} → statement M
-find-root-spec = tie.close (tie.spec count-requires find-tag-requires returns)
+find-root-spec = tie.close (tie.spec find-top-requires returns)

@@ -1,18 +1,17 @@
--- The root's members are those from node 0 up to the count of the nodes.
+-- What the search finds is looked at.
 use borrow.Author.Needs.{needs}
-use Rattle.element.proofs.Ascending.{root-searched}
 use Rattle.element.proofs.find_vr_root.Statement.{statement}
 use Rattle.element.proofs.find_vr_root.Tie as tie
 
-count-requires : tie.Need-count-requires
-count-requires c κs = search needs
+find-root-requires : tie.Need-find-root-requires
+find-root-requires c κs = search needs
 
-find-vr-requires : tie.Need-find-vr-requires
-find-vr-requires c κs = root-searched (c .before .before .before .pre) (c .count .ensures .0)
+vr-at-requires : tie.Need-vr-at-requires
+vr-at-requires c κs = search needs
 
 returns : tie.Need-returns
 returns c =
-    rw (← c .before .count .ensures .0) (c .find-vr .ensures)
+    (rw (← c .before .find-root .ensures .0) (c .vr-at .ensures .0), c .vr-at .ensures .1)
 
 pub find-vr-root-spec : {M : Type 1} → statement M
-find-vr-root-spec = tie.close (tie.spec count-requires find-vr-requires returns)
+find-vr-root-spec = tie.close (tie.spec find-root-requires vr-at-requires returns)

@@ -1,18 +1,34 @@
--- The root's members are those from node 0 up to the count of the nodes.
+-- What the search finds is asked for its length.
+use Rattle.node.specs.Find.{has}
+use Rattle.node.proofs.Laws as laws
 use borrow.Author.Needs.{needs}
-use Rattle.element.proofs.Ascending.{root-searched}
 use Rattle.element.proofs.has_root.Statement.{statement}
 use Rattle.element.proofs.has_root.Tie as tie
 
-count-requires : tie.Need-count-requires
-count-requires c κs = search needs
+find-vr-root-requires : tie.Need-find-vr-root-requires
+find-vr-root-requires c κs = search needs
 
-has-vr-requires : tie.Need-has-vr-requires
-has-vr-requires c κs = root-searched (c .before .before .before .pre) (c .count .ensures .0)
+enum-told : tie.Need-enum-told
+enum-told c = search needs
+
+enum-known-i : tie.Need-enum-known-i
+enum-known-i c = search needs
+
+is-filled-requires : tie.Need-is-filled-requires
+is-filled-requires c κs =
+    let p = c .before .before .before .before .before .before .pre in
+    (p, laws.within _ (c .before .i .given .1) (c .before .before .before .find-vr-root .ensures .1))
 
 returns : tie.Need-returns
-returns c =
-    rw (← c .before .count .ensures .0) (c .has-vr .ensures)
+unfolding has
+returns c = rw (laws.lacked (c .enum-told .given .1) (c .before .before .find-vr-root .ensures .0))
+
+returns-2 : tie.Need-returns-2
+unfolding has
+returns-2 c =
+    rw (laws.had (c .before .before .i .given .1) (c .before .before .before .before .find-vr-root .ensures .0)) (c .is-filled .ensures)
 
 pub has-root-spec : {M : Type 1} → statement M
-has-root-spec = tie.close (tie.spec count-requires has-vr-requires returns)
+has-root-spec =
+    tie.close
+    (tie.spec find-vr-root-requires enum-told enum-known-i is-filled-requires returns returns-2)

@@ -1,102 +1,87 @@
 -- The loop keeps that the first member whose tag is not below the tag stands from `low` on and not after `high`.
-use Prim.Native.Nat.{_-_, _≤_, _<_}
+use Prim.Native.Nat.{_-_, _≤_}
 use native.Mathlib.Omega.{arith}
-use borrow.Author.Needs.{needs}
-use Rattle.node.specs.Nodes.{nodesOf, nextNode, inside}
+use Rattle.node.specs.Nodes.{nodesOf, members}
 use Rattle.node.specs.Contracts.{lower}
 use Rattle.node.proofs.Halves as halves
-use Rattle.node.proofs.Laws.{next-within}
 use Rattle.node.proofs.first_from.Statement.{statement}
 use Rattle.node.proofs.first_from.Tie as tie
 
 abbrev Inv-loop : tie.InvT-loop
-Inv-loop bytes rows holder wanted low₀ high₀ low high =
-    let first = lower (nodesOf bytes) wanted (inside (nodesOf bytes) holder) (nextNode (nodesOf bytes) holder) in
-    (holder < low) × ((low ≤ first) × ((first ≤ high) × (high ≤ nextNode (nodesOf bytes) holder)))
+Inv-loop bytes rows up to wanted low₀ high₀ low high =
+    let first = lower (nodesOf bytes) wanted (members (nodesOf bytes) up to) to in
+    (up ≤ low) × ((low ≤ first) × ((first ≤ high) × (high ≤ to)))
 
 abbrev μ-loop : tie.MeasureT-loop
-μ-loop bytes rows holder wanted low₀ high₀ low high = high - low
-
-add-low : tie.Need-add-low Inv-loop μ-loop
-add-low c = omega (arith, c .before .before .pre .1, c .before .before .pre .0 .few)
-
-next-requires : tie.Need-next-requires Inv-loop μ-loop
-next-requires c κs = search needs
+μ-loop bytes rows up to wanted low₀ high₀ low high = high - low
 
 loop-holds : tie.Need-loop-holds Inv-loop μ-loop
 loop-holds c =
-    let start = c .before .before .before in
-    omega (arith, c .next .ensures, halves.first-within _ _ (start .pre .0) (start .args .holder) (start .pre .1) (start .args .wanted))
+    let start = c .before .before in
+    omega (arith, halves.first-within _ _ (start .pre .0) (start .args .up) (start .args .to) (start .pre .1) (start .args .wanted))
 
 sub-member-above : tie.Need-sub-member-above Inv-loop μ-loop
 sub-member-above c = omega (arith, c .loop-test .taken)
 
 add-member-above : tie.Need-add-member-above Inv-loop μ-loop
 add-member-above c =
-    let start = c .before .before .before .before .before in
-    omega (arith, c .loop-test .taken, c .before .loop .inv, next-within _ _ (start .pre .0) (start .args .holder) (start .pre .1), start .pre .0 .few)
+    let p = c .before .before .before .before .pre in
+    omega (arith, c .loop-test .taken, c .before .loop .inv, p .1 .ends, p .0 .few)
 
 member-above-requires : tie.Need-member-above-requires Inv-loop μ-loop
 member-above-requires c κs =
-    let start = c .before .before .before .before .before in
-    let inv = c .before .loop .inv in
-    (start .pre .0, (omega (arith, c .loop-test .taken, inv), (omega (arith, c .loop-test .taken, inv), start .pre .1)))
+    let start = c .before .before .before .before in
+    let p = start .pre in
+    let inv = c .before .loop .inv in (
+      p .0,
+      record {
+        to = start .args .to;
+        within = p .1;
+        low = omega (arith, c .loop-test .taken, inv);
+        high = omega (arith, c .loop-test .taken, inv);
+      },
+    )
 
 tag-requires : tie.Need-tag-requires Inv-loop μ-loop
 tag-requires c κs =
-    let start = c .before .before .before .before .before .before in
+    let start = c .before .before .before .before .before in
     let p = start .pre in
-    let inv = c .before .before .loop .inv in
-    let inside = c .before .loop-test .taken in
     let up = c .member-above in
-    (p .0, halves.member-known _ _ (p .0) (start .args .holder) (p .1) _ (up .result) (up .ensures) (omega (arith, inside, inv)))
+    (p .0, halves.member-known _ _ (p .0) (start .args .up) (start .args .to) (p .1) _ (up .result) (up .ensures) (omega (arith, c .before .loop-test .taken, c .before .before .loop .inv)))
 
-next-requires-2 : tie.Need-next-requires-2 Inv-loop μ-loop
-next-requires-2 c κs =
-    let start = c .before .before .before .before .before .before .before .before in
+next-requires : tie.Need-next-requires Inv-loop μ-loop
+next-requires c κs =
+    let start = c .before .before .before .before .before .before .before in
     let p = start .pre in
-    let inv = c .before .before .before .before .loop .inv in
-    let inside = c .before .before .before .loop-test .taken in
     let up = c .before .before .member-above in
-    (p .0, halves.member-known _ _ (p .0) (start .args .holder) (p .1) _ (up .result) (up .ensures) (omega (arith, inside, inv)))
+    (p .0, halves.member-known _ _ (p .0) (start .args .up) (start .args .to) (p .1) _ (up .result) (up .ensures) (omega (arith, c .before .before .before .loop-test .taken, c .before .before .before .before .loop .inv)))
 
 loop-less : tie.Need-loop-less Inv-loop μ-loop
 loop-less c =
-    let start = c .before .before .before .before .before .before .before .before .before in
-    let p = start .pre in
-    let inv = c .before .before .before .before .before .loop .inv in
-    let inside = c .before .before .before .before .loop-test .taken in
-    let up = c .before .before .before .member-above in
-    omega (arith, inside, c .next2 .ensures .0, up .ensures .high)
+    omega (arith, c .before .before .before .before .loop-test .taken, c .next .ensures .0, c .before .before .before .member-above .ensures .high)
 
 loop-again : tie.Need-loop-again Inv-loop μ-loop
 loop-again c =
-    let start = c .before .before .before .before .before .before .before .before .before in
+    let start = c .before .before .before .before .before .before .before .before in
     let p = start .pre in
     let inv = c .before .before .before .before .before .loop .inv in
     let inside = c .before .before .before .before .loop-test .taken in
     let up = c .before .before .before .member-above in
-    let s = halves.first-side _ _ (p .0) (start .args .holder) (p .1) _ (up .result) (up .ensures) (omega (arith, inside, inv)) (start .args .wanted) in
+    let s = halves.first-side _ _ (p .0) (start .args .up) (start .args .to) (p .1) _ (up .result) (up .ensures) (omega (arith, inside, inv)) (start .args .wanted) in
     let r = s .right (omega (arith, c .before .before .tag .ensures, c .before .if1 .taken)) in
-    omega (arith, inv, up .ensures .after, c .next2 .ensures .0, r)
+    omega (arith, inv, up .ensures .after, c .next .ensures .0, r)
 
 loop-less-2 : tie.Need-loop-less-2 Inv-loop μ-loop
-loop-less-2 c =
-    let start = c .before .before .before .before .before .before .before .before in
-    let p = start .pre in
-    let inv = c .before .before .before .before .loop .inv in
-    let inside = c .before .before .before .loop-test .taken in
-    let up = c .before .before .member-above in
-    omega (arith, inside, up .ensures .low)
+loop-less-2 c = omega (arith, c .before .before .before .loop-test .taken, c .before .before .member-above .ensures .low)
 
 loop-again-2 : tie.Need-loop-again-2 Inv-loop μ-loop
 loop-again-2 c =
-    let start = c .before .before .before .before .before .before .before .before in
+    let start = c .before .before .before .before .before .before .before in
     let p = start .pre in
     let inv = c .before .before .before .before .loop .inv in
     let inside = c .before .before .before .loop-test .taken in
     let up = c .before .before .member-above in
-    let s = halves.first-side _ _ (p .0) (start .args .holder) (p .1) _ (up .result) (up .ensures) (omega (arith, inside, inv)) (start .args .wanted) in
+    let s = halves.first-side _ _ (p .0) (start .args .up) (start .args .to) (p .1) _ (up .result) (up .ensures) (omega (arith, inside, inv)) (start .args .wanted) in
     let r = s .left (omega (arith, c .before .tag .ensures, c .if1 .left)) in
     omega (arith, inv, inside, up .ensures .low, r)
 
@@ -109,14 +94,12 @@ first-from-spec =
     (tie.spec
     Inv-loop
     μ-loop
-    add-low
-    next-requires
     loop-holds
     sub-member-above
     add-member-above
     member-above-requires
     tag-requires
-    next-requires-2
+    next-requires
     loop-less
     loop-again
     loop-less-2

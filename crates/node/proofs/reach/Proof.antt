@@ -1,20 +1,17 @@
 -- Where plain steps did not come so far, halves do.
 use mathlib.Core.Path.{_∙_, subst}
-use native.Mathlib.Omega.{arith}
 use borrow.Author.Needs.{needs}
 use Rattle.value.specs.declared.Num.{Num}
 use Rattle.node.specs.Nodes.{nodesOf}
 use Rattle.node.specs.Contracts.{Nearby}
 use Rattle.node.proofs.Halves as halves
-use Rattle.node.proofs.Laws.{next-within}
 use Rattle.node.proofs.reach.Statement.{statement}
 use Rattle.node.proofs.reach.Tie as tie
 
 near-requires : tie.Need-near-requires
 near-requires c κs =
-    let start = c .before .before in
-    let p = start .pre in
-    (p .0, omega (arith, p .1 .1 .0, next-within _ _ (p .0) (start .args .holder) (p .1 .0)))
+    let p = c .before .before .pre in
+    (p .0, p .1 .0 .ends)
 
 enum-known-n : tie.Need-enum-known-n
 enum-known-n c = search needs
@@ -23,20 +20,23 @@ enum-told : tie.Need-enum-told
 enum-told c = search needs
 
 first-from-requires : tie.Need-first-from-requires
-first-from-requires c κs = search needs
+first-from-requires c κs =
+    let p = c .before .before .before .before .before .pre in
+    (p .0, p .1 .0)
 
 returns : tie.Need-returns
 returns c =
     let start = c .before .before .before .before .before .before in
     let a = start .args in
     subst (λ (x : Num). Nearby (nodesOf (a .bytes .now)) (a .wanted) (a .from) (a .to) x) (c .before .n .given .1) (c .before .before .before .near .ensures)
-    ∙ start .pre .1 .1 .1
+    ∙ start .pre .1 .1
 
 returns-2 : tie.Need-returns-2
 returns-2 c =
     let start = c .before .before .before .before .before .before in
+    let a = start .args in
     let p = start .pre in
-    rw (p .1 .1 .0) (halves.first-goes-on _ _ (p .0) (start .args .holder) (p .1 .0) (start .args .wanted) _ (c .first-from .ensures))
+    halves.first-goes-on _ _ (p .0) (a .up) (a .to) (p .1 .0) (a .wanted) _ (c .first-from .ensures)
 
 pub reach-spec : {M : Type 1} → statement M
 reach-spec =

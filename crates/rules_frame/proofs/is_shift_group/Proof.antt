@@ -18,13 +18,13 @@ next-requires c κs = search needs
 are-shift-items-requires : tie.Need-are-shift-items-requires
 are-shift-items-requires c κs = search needs
 
-unique-ids-requires : tie.Need-unique-ids-requires
-unique-ids-requires c κs = search needs
+ids-differ-requires : tie.Need-ids-differ-requires
+ids-differ-requires c κs = search needs
 
 returns : tie.Need-returns
 unfolding isShiftGroup
 returns c =
-    rw (← c .before .before .before .before .before .before .vr .ensures, eq-eqb _ _ (c .before .before .before .before .before .if1 .taken), ← c .before .before .before .before .next .ensures .0, members-some _ _ _ (c .before .before .before .if2 .taken), ← c .before .before .are-shift-items .ensures, c .before .if3 .taken) (c .unique-ids .ensures)
+    rw (← c .before .before .before .before .before .before .vr .ensures, eq-eqb _ _ (c .before .before .before .before .before .if1 .taken), ← c .before .before .before .before .next .ensures .0, members-some _ _ _ (c .before .before .before .if2 .taken), ← c .before .before .are-shift-items .ensures, c .before .if3 .taken) (c .ids-differ .ensures)
 
 returns-2 : tie.Need-returns-2
 unfolding isShiftGroup
@@ -49,7 +49,7 @@ is-shift-group-spec =
     add-from
     next-requires
     are-shift-items-requires
-    unique-ids-requires
+    ids-differ-requires
     returns
     returns-2
     returns-3

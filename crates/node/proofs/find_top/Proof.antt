@@ -1,0 +1,19 @@
+-- The root is a container too.
+use borrow.Author.Needs.{needs}
+use Rattle.node.proofs.Halves as halves
+use Rattle.node.proofs.find_top.Statement.{statement}
+use Rattle.node.proofs.find_top.Tie as tie
+
+count-requires : tie.Need-count-requires
+count-requires c κs = search needs
+
+find-wide-requires : tie.Need-find-wide-requires
+find-wide-requires c κs =
+    let p = c .before .before .before .pre in
+    (p, halves.root-container _ _ p _ (c .count .ensures .0))
+
+returns : tie.Need-returns
+returns c = rw (← c .before .count .ensures .0) (c .find-wide .ensures)
+
+pub find-top-spec : {M : Type 1} → statement M
+find-top-spec = tie.close (tie.spec count-requires find-wide-requires returns)
