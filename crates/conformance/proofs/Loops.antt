@@ -24,24 +24,24 @@ use Rattle.conformance.specs.Contracts.{endRule, endFrame, Asked}
 true-not-false : true ≡ false → ⊥
 true-not-false w = let u : _≡_ {A = ℕ} 0 1 = cc in omega arith
 
-per-frame-range : (rule : ℕ) → 27 ≤ rule → rule ≤ 30 → perFrame rule ≡ true
+is-per-frame-range : (rule : ℕ) → 27 ≤ rule → rule ≤ 30 → perFrame rule ≡ true
 unfolding perFrame
-per-frame-range rule a b = rw (le-leb 27 rule a, le-leb rule 30 b)
+is-per-frame-range rule a b = rw (le-leb 27 rule a, le-leb rule 30 b)
 
-per-frame-37 : perFrame 37 ≡ true
+is-per-frame-37 : perFrame 37 ≡ true
 unfolding perFrame
-per-frame-37 = refl
+is-per-frame-37 = refl
 
-per-frame-39 : perFrame 39 ≡ true
+is-per-frame-39 : perFrame 39 ≡ true
 unfolding perFrame
-per-frame-39 = refl
+is-per-frame-39 = refl
 
 -- A rule from 27 on that is asked once is 31 at least, and from 37 on it is 38.
 pub once-mask : (rule : ℕ) → perFrame rule ≡ false → 26 < rule → 31 ≤ rule
 once-mask rule h l = go (leb rule 30) refl
   where
     go : (b : Bool) → leb rule 30 ≡ b → 31 ≤ rule
-    go true e = absurd (true-not-false (sym (per-frame-range rule (omega arith) (leb-true rule 30 e)) ∙ h))
+    go true e = absurd (true-not-false (sym (is-per-frame-range rule (omega arith) (leb-true rule 30 e)) ∙ h))
     go false e = omega (arith, leb-false rule 30 e)
 
 pub once-last : (rule : ℕ) → perFrame rule ≡ false → 36 < rule → rule ≤ lastRule → rule ≡ 38
@@ -51,8 +51,8 @@ once-last rule h l m = go (eqb rule 37) refl (eqb rule 39) refl
     not k p e = true-not-false (sym p ∙ subst (λ (x : ℕ). perFrame x ≡ false) (eqb-true rule k e) h)
 
     go : (b : Bool) → eqb rule 37 ≡ b → (c : Bool) → eqb rule 39 ≡ c → rule ≡ 38
-    go true e c f = absurd (not 37 per-frame-37 e)
-    go false e true f = absurd (not 39 per-frame-39 f)
+    go true e c f = absurd (not 37 is-per-frame-37 e)
+    go false e true f = absurd (not 39 is-per-frame-39 f)
     go false e false f = omega (arith, eqb-false rule 37 e, eqb-false rule 39 f)
 
 -- ---- Frames of a rule

@@ -44,9 +44,9 @@ unfolding firstFrame frameCount perFrame ruleAt ruleList rule15
 rule15-few ns h = few-frames (framesOf ns) (h 0 (omega arith) (omega arith))
 
 -- The rules that are asked at each frame come after rule 15.
-per-frame-late : (rule : ℕ) → perFrame rule ≡ true → 27 ≤ rule
+is-per-frame-late : (rule : ℕ) → perFrame rule ≡ true → 27 ≤ rule
 unfolding perFrame
-per-frame-late rule e =
+is-per-frame-late rule e =
     ⊎-elim (λ a. leb-true 27 rule (and-both (leb 27 rule) (leb rule 30) a .0)) (λ b. ⊎-elim (λ d. omega (arith, eqb-true rule 37 d)) (λ d. omega (arith, eqb-true rule 39 d)) (or-either (eqb rule 37) (eqb rule 39) b))
     (or-either (leb 27 rule && leb rule 30) (eqb rule 37 || eqb rule 39) e)
 
@@ -57,7 +57,7 @@ frame-fits ns rule frame b = go (perFrame rule) refl (b .from) (b .below)
     go : (t : Bool) → perFrame rule ≡ t → cond t 1 0 ≤ frame → frame < cond t 1 0 + cond t (numberOf (framesOf ns)) 1
         → cond t (leb 1 frame && leb frame lastFrame) (eqb frame 0) ≡ true
     go true e low high =
-        let late = per-frame-late rule e in
+        let late = is-per-frame-late rule e in
         let few = rule15-few ns (b .earlier 15 (omega arith) (omega (arith, late))) in
         rw (le-leb 1 frame low, le-leb frame lastFrame (omega (arith, few)))
     go false e low high = eq-eqb frame 0 (omega arith)

@@ -61,7 +61,7 @@ fn shared_ok(bytes: &[u8], rows: &[u32], rule: usize, shared: Num) -> SharedPart
     match shared {
         Num::Lacks => no_part(),
         Num::Is(s) => {
-            if verdict::per_frame(rule) {
+            if verdict::is_per_frame(rule) {
                 rules_frame::shared_part(bytes, rows, rule, s)
             } else {
                 no_part()
@@ -126,7 +126,7 @@ fn rule_holds(
     requires { ⌜ Table (now bytes) (now rows) × (Below (length (nodesOf (now bytes))) shared × ((shared ≡ sharedItem (nodesOf (now bytes))) × ((part ≡ okFor (nodesOf (now bytes)) rule shared) × Asked (nodesOf (now bytes)) rule frame items))) ⌝ }
     ensures { λ r. ⌜ r ≡ ruleAt (nodesOf (now (bytes .entry))) rule frame ⌝ }
 {
-    if verdict::per_frame(rule) {
+    if verdict::is_per_frame(rule) {
         frame_holds(bytes, rows, rule, shared, part, items, frame)
     } else {
         once_holds(bytes, rows, rule)
@@ -148,14 +148,18 @@ fn frame_total(bytes: &[u8], rows: &[u32]) -> usize
 fn first_frame(rule: usize) -> usize
     ensures { λ r. ⌜ r ≡ firstFrame rule ⌝ }
 {
-    if verdict::per_frame(rule) { 1 } else { 0 }
+    if verdict::is_per_frame(rule) { 1 } else { 0 }
 }
 
 fn end_frame(rule: usize, n: usize) -> usize
     requires { ⌜ n < 100000000000 ⌝ }
     ensures { λ r. ⌜ (r ≡ endFrame n rule) × (r ≤ 100000000000) ⌝ }
 {
-    if verdict::per_frame(rule) { n + 1 } else { 1 }
+    if verdict::is_per_frame(rule) {
+        n + 1
+    } else {
+        1
+    }
 }
 
 // The first broken rule, and at that rule the lowest frame.

@@ -28,7 +28,7 @@ framesOf ns = andThen (findVr ns NumberOfFrames IS (root ns)) (λ i. asCount (is
 unfoldable pub sharedItem : List Node → Num
 sharedItem ns = andThen (find ns SharedFunctionalGroupsSequence (root ns)) (theItem ns)
 
--- The items of the per-frame functional groups, and item f, asCount from 1: there is no item 0.
+-- The items of the is-per-frame functional groups, and item f, asCount from 1: there is no item 0.
 unfoldable pub frameItems : List Node → List ℕ
 frameItems ns = itemsIn ns PerFrameFunctionalGroupsSequence (root ns)
 

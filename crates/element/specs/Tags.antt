@@ -80,8 +80,8 @@ ExposureInmAs = 0x0018_9332
 abbrev pub PlanesInAcquisition : ℕ
 PlanesInAcquisition = 0x0018_9410
 
-abbrev pub FrameCharacteristicsSequence : ℕ
-FrameCharacteristicsSequence = 0x0018_9412
+abbrev pub XAXRFFrameCharacteristicsSequence : ℕ
+XAXRFFrameCharacteristicsSequence = 0x0018_9412
 
 abbrev pub PlaneIdentification : ℕ
 PlaneIdentification = 0x0018_9457

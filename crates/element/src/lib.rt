@@ -58,7 +58,7 @@ fn us_at(bytes: &[u8], rows: &[u32], found: Num) -> Num
 }
 
 // A CS that is the word.
-fn cs_at(bytes: &[u8], rows: &[u32], found: Num, word: &[u8]) -> bool
+fn is_cs_at(bytes: &[u8], rows: &[u32], found: Num, word: &[u8]) -> bool
     requires { ⌜ Table (now bytes) (now rows) × Below (length (nodesOf (now bytes))) found ⌝ }
     ensures { λ r. ⌜ r ≡ holds found (λ i. isWord (valueAt (nodesOf (now (bytes .entry))) i) (now (word .entry))) ⌝ }
 {
@@ -87,7 +87,7 @@ pub fn find_vr_root(bytes: &[u8], rows: &[u32], tag: usize, vr: usize) -> Num
     vr_at(bytes, rows, find_root(bytes, rows, tag), vr)
 }
 
-pub fn absent_root(bytes: &[u8], rows: &[u32], tag: usize) -> bool
+pub fn is_absent_root(bytes: &[u8], rows: &[u32], tag: usize) -> bool
     requires { ⌜ Table (now bytes) (now rows) ⌝ }
     ensures { λ r. ⌜ r ≡ absent (find (nodesOf (now (bytes .entry))) tag (root (nodesOf (now (bytes .entry))))) ⌝ }
 {
@@ -115,15 +115,15 @@ pub fn us_root(bytes: &[u8], rows: &[u32], tag: usize) -> Num
     us_at(bytes, rows, find_vr_root(bytes, rows, tag, tags::US))
 }
 
-pub fn cs_root(bytes: &[u8], rows: &[u32], tag: usize, word: &[u8]) -> bool
+pub fn is_cs_root(bytes: &[u8], rows: &[u32], tag: usize, word: &[u8]) -> bool
     requires { ⌜ Table (now bytes) (now rows) ⌝ }
     ensures { λ r. ⌜ r ≡ csIs (nodesOf (now (bytes .entry))) tag (now (word .entry)) (root (nodesOf (now (bytes .entry)))) ⌝ }
 {
-    cs_at(bytes, rows, find_vr_root(bytes, rows, tag, tags::CS), word)
+    is_cs_at(bytes, rows, find_vr_root(bytes, rows, tag, tags::CS), word)
 }
 
 // A UI that is the UID.
-pub fn ui_root(bytes: &[u8], rows: &[u32], tag: usize, uid: &[u8]) -> bool
+pub fn is_ui_root(bytes: &[u8], rows: &[u32], tag: usize, uid: &[u8]) -> bool
     requires { ⌜ Table (now bytes) (now rows) ⌝ }
     ensures { λ r. ⌜ r ≡ uiIs (nodesOf (now (bytes .entry))) tag (now (uid .entry)) (root (nodesOf (now (bytes .entry)))) ⌝ }
 {
@@ -159,11 +159,11 @@ pub fn us_item(bytes: &[u8], rows: &[u32], item: usize, tag: usize) -> Num
     us_at(bytes, rows, find_vr_item(bytes, rows, item, tag, tags::US))
 }
 
-pub fn cs_item(bytes: &[u8], rows: &[u32], item: usize, tag: usize, word: &[u8]) -> bool
+pub fn is_cs_item(bytes: &[u8], rows: &[u32], item: usize, tag: usize, word: &[u8]) -> bool
     requires { ⌜ Table (now bytes) (now rows) × (item < length (nodesOf (now bytes))) ⌝ }
     ensures { λ r. ⌜ r ≡ csIs (nodesOf (now (bytes .entry))) tag (now (word .entry)) (inside (nodesOf (now (bytes .entry))) item) ⌝ }
 {
-    cs_at(
+    is_cs_at(
         bytes,
         rows,
         find_vr_item(bytes, rows, item, tag, tags::CS),
@@ -317,7 +317,7 @@ pub fn shared_item(bytes: &[u8], rows: &[u32]) -> Num
     }
 }
 
-// The items of the per-frame functional groups, from the first.
+// The items of the is-per-frame functional groups, from the first.
 pub fn frame_items(bytes: &[u8], rows: &[u32]) -> Items
     requires { ⌜ Table (now bytes) (now rows) ⌝ }
     ensures { λ r. ⌜ Along (nodesOf (now (bytes .entry))) (frameItems (nodesOf (now (bytes .entry)))) r ⌝ }

@@ -86,7 +86,7 @@ fn same_class(bytes: &[u8], rows: &[u32], class: &[u8]) -> bool
 {
     if element::has_root(bytes, rows, tags::SOP_CLASS_UID, tags::UI) {
         let uid = value::trim_end(class, 0);
-        element::ui_root(bytes, rows, tags::SOP_CLASS_UID, uid)
+        element::is_ui_root(bytes, rows, tags::SOP_CLASS_UID, uid)
     } else {
         false
     }

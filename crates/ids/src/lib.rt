@@ -50,7 +50,7 @@ fn is_among(bytes: &[u8], rows: &[u32], from: usize, to: usize, id: usize) -> bo
 }
 
 // No ID twice: each is compared with all that follow it.
-fn unique_pairs(bytes: &[u8], rows: &[u32], from: usize, to: usize) -> bool
+fn are_unique_pairs(bytes: &[u8], rows: &[u32], from: usize, to: usize) -> bool
     requires { ⌜ Table (now bytes) (now rows) × (to ≤ length (nodesOf (now bytes))) ⌝ }
     ensures { λ r. ⌜ r ≡ uniqueIds (nodesOf (now (bytes .entry))) (members (nodesOf (now (bytes .entry))) from to) ⌝ }
 {
@@ -73,7 +73,7 @@ fn no_marks() -> [u8; 65536]
 }
 
 // No ID twice: each is marked, and none may be marked already.
-fn unique_marks(bytes: &[u8], rows: &[u32], from: usize, to: usize) -> bool
+fn are_unique_marks(bytes: &[u8], rows: &[u32], from: usize, to: usize) -> bool
     requires { ⌜ Table (now bytes) (now rows) × (to ≤ length (nodesOf (now bytes))) ⌝ }
     ensures { λ r. ⌜ r ≡ uniqueIds (nodesOf (now (bytes .entry))) (members (nodesOf (now (bytes .entry))) from to) ⌝ }
 {
@@ -107,13 +107,13 @@ fn are_few(bytes: &[u8], rows: &[u32], from: usize, to: usize) -> bool
 }
 
 // No two of the items from `from` up to `to` have the same ID. (One without an ID counts as 0.)
-pub fn unique_ids(bytes: &[u8], rows: &[u32], from: usize, to: usize) -> bool
+pub fn are_unique_ids(bytes: &[u8], rows: &[u32], from: usize, to: usize) -> bool
     requires { ⌜ Table (now bytes) (now rows) × (to ≤ length (nodesOf (now bytes))) ⌝ }
     ensures { λ r. ⌜ r ≡ uniqueIds (nodesOf (now (bytes .entry))) (members (nodesOf (now (bytes .entry))) from to) ⌝ }
 {
     if are_few(bytes, rows, from, to) {
-        unique_pairs(bytes, rows, from, to)
+        are_unique_pairs(bytes, rows, from, to)
     } else {
-        unique_marks(bytes, rows, from, to)
+        are_unique_marks(bytes, rows, from, to)
     }
 }

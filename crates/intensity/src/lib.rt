@@ -16,7 +16,7 @@ fn is_linear(bytes: &[u8], rows: &[u32], item: usize) -> bool
     requires { ⌜ Table (now bytes) (now rows) × (item < length (nodesOf (now bytes))) ⌝ }
     ensures { λ r. ⌜ r ≡ isLinear (nodesOf (now (bytes .entry))) item ⌝ }
 {
-    element::cs_item(bytes, rows, item, tags::LUT_FUNCTION, b"TO_LINEAR")
+    element::is_cs_item(bytes, rows, item, tags::LUT_FUNCTION, b"TO_LINEAR")
 }
 
 // The first TO_LINEAR item from `from` up to `to`; where there is none, what is not below `to`.
@@ -118,7 +118,7 @@ fn relation_of(bytes: &[u8], rows: &[u32], group: usize) -> usize
     match element::the_item(bytes, rows, group) {
         Num::Lacks => 0,
         Num::Is(j) => {
-            if element::cs_item(bytes, rows, j, tags::PIXEL_INTENSITY_RELATIONSHIP, b"LOG") {
+            if element::is_cs_item(bytes, rows, j, tags::PIXEL_INTENSITY_RELATIONSHIP, b"LOG") {
                 2
             } else {
                 1

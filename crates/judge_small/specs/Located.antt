@@ -17,7 +17,7 @@ abbrev pub rowNumber : Num → ℕ
 rowNumber (Is i) = i + 1
 rowNumber Lacks = 0
 
--- The row of item f of the per-frame functional groups; frame 0 is no frame.
+-- The row of item f of the is-per-frame functional groups; frame 0 is no frame.
 abbrev pub itemRow : List Node → ℕ → ℕ
 itemRow ns frame = cond (eqb frame 0) 0 (rowNumber (frameItem ns frame))
 

@@ -107,7 +107,7 @@ fn chosen(tag: usize, due: usize, here: Uid, before: Uid) -> Uid
 }
 
 // Whether all elements are of group 0002, with one more.
-fn only_group_2(tag: usize, before: bool) -> bool
+fn has_only_group_2(tag: usize, before: bool) -> bool
     ensures { λ r. ⌜ r ≡ cond (eqb (tag / 65536) 2) before false ⌝ }
 {
     if tag / 65536 == 2 { before } else { false }
@@ -122,7 +122,7 @@ fn note(found: Found, tag: usize, vr: usize, start: usize, stop: usize) -> Found
     let class = found.class;
     let syntax = found.syntax;
     Found {
-        only: only_group_2(tag, found.only),
+        only: has_only_group_2(tag, found.only),
         class: chosen(tag, MEDIA_STORAGE_SOP_CLASS_UID, here, class),
         syntax: chosen(tag, TRANSFER_SYNTAX_UID, here, syntax),
     }

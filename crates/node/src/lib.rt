@@ -100,7 +100,7 @@ pub fn is_filled(bytes: &[u8], rows: &[u32], i: usize) -> bool
 // ---- Among many members, by halves
 
 // The number, counted from 1, of the node that node i stands directly in; 0 at the root.
-pub fn parent(bytes: &[u8], rows: &[u32], i: usize) -> usize
+fn parent(bytes: &[u8], rows: &[u32], i: usize) -> usize
     requires { ⌜ Table (now bytes) (now rows) × (i < length (nodesOf (now bytes))) ⌝ }
     ensures { λ r. ⌜ r ≡ rowAt (rowsOf (now (bytes .entry))) i .parent ⌝ }
 {

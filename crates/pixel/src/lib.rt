@@ -188,7 +188,7 @@ pub fn mask_row(pixels: &[u8], g: Geometry, masks: &[u8], row: usize, sums: &mut
 // ---- Masked frames
 
 // floor((2 sum + n) / 2n), by a multiplication.
-pub fn average(sum: usize, n: usize, factor: usize) -> usize
+fn average(sum: usize, n: usize, factor: usize) -> usize
     requires { ⌜ (1 ≤ n) × ((n ≤ 64) × ((sum ≤ 4194240) × (factor ≡ 4294967296 / (2 * n) + 1))) ⌝ }
     ensures { λ r. ⌜ r ≡ averageOf sum n ⌝ }
 {

@@ -58,7 +58,7 @@ module _ {ns ms : List Node} (a : Alike ns ms) where
 
   pub rule29-same : (f : ℕ) → rule29 ns f ≡ rule29 ms f
   unfolding rule29 item29
-  rule29-same f = at-same f (item29 ns) (item29 ms) (if-group Tags.FrameCharacteristicsSequence (oneItem ns) (oneItem ms) (one-same a))
+  rule29-same f = at-same f (item29 ns) (item29 ms) (if-group Tags.XAXRFFrameCharacteristicsSequence (oneItem ns) (oneItem ms) (one-same a))
 
   window-same : (is : List ℕ) → hasWindow ns is ≡ hasWindow ms is
   unfolding hasWindow isRead

@@ -17,18 +17,18 @@ use Rattle.rules.specs.Root.{isXa, isXrf, imageTypeIs, isImageType, planesAre, 
 use Rattle.rules.specs.Pixels.{isPixelData, rule38}
 use Rattle.privacy.specs.Read.{isRead}
 use Rattle.privacy.specs.Alike.{Alike}
-use Rattle.privacy.proofs.Words.{holds-same, inside-same, find-root, find-tag, vr-root, cs-root, ui-root, us-root, has-root, test-root, one-same, frames-same, shared-same}
+use Rattle.privacy.proofs.Words.{holds-same, inside-same, find-root, find-tag, vr-root, is-cs-root, is-ui-root, us-root, has-root, test-root, one-same, frames-same, shared-same}
 
 module _ {ns ms : List Node} (a : Alike ns ms) where
   -- ---- Words of several rules
 
   xrf-same : isXrf ns ≡ isXrf ms
   unfolding isXrf isRead
-  xrf-same = ui-root a Tags.SOPClassUID refl (ascii "1.2.840.10008.5.1.4.1.1.12.2.1")
+  xrf-same = is-ui-root a Tags.SOPClassUID refl (ascii "1.2.840.10008.5.1.4.1.1.12.2.1")
 
   xa-same : isXa ns ≡ isXa ms
   unfolding isXa isRead
-  xa-same = ui-root a Tags.SOPClassUID refl (ascii "1.2.840.10008.5.1.4.1.1.12.1.1")
+  xa-same = is-ui-root a Tags.SOPClassUID refl (ascii "1.2.840.10008.5.1.4.1.1.12.1.1")
 
   type-same : (word : List ℕ) → imageTypeIs ns word ≡ imageTypeIs ms word
   unfolding imageTypeIs isRead
@@ -36,15 +36,15 @@ module _ {ns ms : List Node} (a : Alike ns ms) where
 
   planes-same : (word : List ℕ) → planesAre ns word ≡ planesAre ms word
   unfolding planesAre isRead
-  planes-same word = cs-root a Tags.PlanesInAcquisition refl word
+  planes-same word = is-cs-root a Tags.PlanesInAcquisition refl word
 
   photometric-same : (word : List ℕ) → photometricIs ns word ≡ photometricIs ms word
   unfolding photometricIs isRead
-  photometric-same word = cs-root a Tags.PhotometricInterpretation refl word
+  photometric-same word = is-cs-root a Tags.PhotometricInterpretation refl word
 
   lossy-same : (word : List ℕ) → lossyIs ns word ≡ lossyIs ms word
   unfolding lossyIs isRead
-  lossy-same word = cs-root a Tags.LossyImageCompression refl word
+  lossy-same word = is-cs-root a Tags.LossyImageCompression refl word
 
   original-same : isOriginal ns ≡ isOriginal ms
   unfolding isOriginal
@@ -58,7 +58,7 @@ module _ {ns ms : List Node} (a : Alike ns ms) where
 
   pub rule2-same : rule2 ns ≡ rule2 ms
   unfolding rule2 isRead
-  rule2-same = rw (xrf-same, cs-root a Tags.Modality refl (ascii "RF"), cs-root a Tags.Modality refl (ascii "XA"))
+  rule2-same = rw (xrf-same, is-cs-root a Tags.Modality refl (ascii "RF"), is-cs-root a Tags.Modality refl (ascii "XA"))
 
   pub rule3-same : rule3 ns ≡ rule3 ms
   unfolding rule3 isRead
@@ -115,11 +115,11 @@ module _ {ns ms : List Node} (a : Alike ns ms) where
   pub rule16-same : rule16 ns ≡ rule16 ms
   unfolding rule16 isRead
   rule16-same =
-      rw (cs-root a Tags.ContentQualification refl (ascii "PRODUCT"), cs-root a Tags.ContentQualification refl (ascii "RESEARCH"), cs-root a Tags.ContentQualification refl (ascii "SERVICE"))
+      rw (is-cs-root a Tags.ContentQualification refl (ascii "PRODUCT"), is-cs-root a Tags.ContentQualification refl (ascii "RESEARCH"), is-cs-root a Tags.ContentQualification refl (ascii "SERVICE"))
 
   pub rule17-same : rule17 ns ≡ rule17 ms
   unfolding rule17 isRead
-  rule17-same = cs-root a Tags.BurnedInAnnotation refl (ascii "NO")
+  rule17-same = is-cs-root a Tags.BurnedInAnnotation refl (ascii "NO")
 
   pub rule18-same : rule18 ns ≡ rule18 ms
   unfolding rule18
@@ -139,12 +139,12 @@ module _ {ns ms : List Node} (a : Alike ns ms) where
   pub rule21-same : rule21 ns ≡ rule21 ms
   unfolding rule21 isRead
   rule21-same =
-      rw (photometric-same (ascii "MONOCHROME1"), cs-root a Tags.PresentationLUTShape refl (ascii "INVERSE"), cs-root a Tags.PresentationLUTShape refl (ascii "IDENTITY"))
+      rw (photometric-same (ascii "MONOCHROME1"), is-cs-root a Tags.PresentationLUTShape refl (ascii "INVERSE"), is-cs-root a Tags.PresentationLUTShape refl (ascii "IDENTITY"))
 
   radiation-same : hasRadiation ns ≡ hasRadiation ms
   unfolding hasRadiation isRead
   radiation-same =
-      rw (has-root a Tags.KVP refl DS, has-root a Tags.RadiationMode refl CS, cs-root a Tags.RadiationSetting refl (ascii "SC"), cs-root a Tags.RadiationSetting refl (ascii "GR"))
+      rw (has-root a Tags.KVP refl DS, has-root a Tags.RadiationMode refl CS, is-cs-root a Tags.RadiationSetting refl (ascii "SC"), is-cs-root a Tags.RadiationSetting refl (ascii "GR"))
 
   pub rule22-same : rule22 ns ≡ rule22 ms
   unfolding rule22
@@ -161,7 +161,7 @@ module _ {ns ms : List Node} (a : Alike ns ms) where
 
   pub rule24-same : rule24 ns ≡ rule24 ms
   unfolding rule24 isRead
-  rule24-same = rw (original-same, xrf-same, cs-root a Tags.PositionerType refl (ascii "COLUMN"))
+  rule24-same = rw (original-same, xrf-same, is-cs-root a Tags.PositionerType refl (ascii "COLUMN"))
 
   pub rule25-same : rule25 ns ≡ rule25 ms
   unfolding rule25

@@ -143,11 +143,11 @@ module _ {ns ms : List Node} (a : Alike ns ms) where
 
   -- The same in the root.
   module _ (tag : ℕ) (q : isRead tag ≡ true) where
-    pub cs-root : (word : List ℕ) → csIs ns tag word (root ns) ≡ csIs ms tag word (root ms)
-    cs-root word = rw root-same (cs-same tag q (root ms) word)
+    pub is-cs-root : (word : List ℕ) → csIs ns tag word (root ns) ≡ csIs ms tag word (root ms)
+    is-cs-root word = rw root-same (cs-same tag q (root ms) word)
 
-    pub ui-root : (word : List ℕ) → uiIs ns tag word (root ns) ≡ uiIs ms tag word (root ms)
-    ui-root word = rw root-same (ui-same tag q (root ms) word)
+    pub is-ui-root : (word : List ℕ) → uiIs ns tag word (root ns) ≡ uiIs ms tag word (root ms)
+    is-ui-root word = rw root-same (ui-same tag q (root ms) word)
 
     pub us-root : usIn ns tag (root ns) ≡ usIn ms tag (root ms)
     us-root = rw root-same (us-same tag q (root ms))

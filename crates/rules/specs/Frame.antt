@@ -1,4 +1,4 @@
--- Rules 27 to 30 and 37, which are asked at each frame f. Each is of item f of the per-frame groups (its node is i) and
+-- Rules 27 to 30 and 37, which are asked at each frame f. Each is of item f of the is-per-frame groups (its node is i) and
 -- of the shared item (s).
 use Prim.Native.Nat.{ℕ}
 use mathlib.Core.List.{List, [], _∷_, map}
@@ -47,7 +47,7 @@ rule28 ns f = atFrame ns f (item28 ns)
 
 -- Rule 29. Frame Characteristics (0018,9412), if present, one item.
 unfoldable pub item29 : List Node → ℕ → ℕ → Bool
-item29 ns s i = ifPresent (groupOf ns Tags.FrameCharacteristicsSequence s i) (oneItem ns)
+item29 ns s i = ifPresent (groupOf ns Tags.XAXRFFrameCharacteristicsSequence s i) (oneItem ns)
 
 unfoldable pub rule29 : List Node → ℕ → Bool
 rule29 ns f = atFrame ns f (item29 ns)

@@ -117,7 +117,7 @@ fn item_27(bytes: &[u8], rows: &[u32], shared: usize, item: usize) -> bool
 
 // ---- Rule 28: Frame Content in no shared item, and one item in the frame's
 
-fn content_absent(bytes: &[u8], rows: &[u32], shared: usize) -> bool
+fn is_content_absent(bytes: &[u8], rows: &[u32], shared: usize) -> bool
     requires { ⌜ Table (now bytes) (now rows) × (shared < length (nodesOf (now bytes))) ⌝ }
     ensures { λ r. ⌜ r ≡ absent (find (nodesOf (now (bytes .entry))) FrameContentSequence (inside (nodesOf (now (bytes .entry))) shared)) ⌝ }
 {
@@ -252,7 +252,7 @@ fn ids_differ(bytes: &[u8], rows: &[u32], from: usize, to: usize) -> bool
     ensures { λ r. ⌜ r ≡ uniqueIds (nodesOf (now (bytes .entry))) (members (nodesOf (now (bytes .entry))) from to) ⌝ }
 {
     if node::next(bytes, rows, from) < to {
-        ids::unique_ids(bytes, rows, from, to)
+        ids::are_unique_ids(bytes, rows, from, to)
     } else {
         true
     }
@@ -285,7 +285,7 @@ fn group_tag(rule: usize) -> usize
     ensures { λ r. ⌜ r ≡ groupTag rule ⌝ }
 {
     if rule == 29 {
-        element::tags::FRAME_CHARACTERISTICS_SEQUENCE
+        element::tags::XA_XRF_FRAME_CHARACTERISTICS_SEQUENCE
     } else {
         if rule == 30 {
             element::tags::FRAME_VOI_LUT_SEQUENCE
@@ -331,7 +331,7 @@ fn shared_ok(bytes: &[u8], rows: &[u32], rule: usize, shared: usize) -> bool
         true
     } else {
         if rule == 28 {
-            content_absent(bytes, rows, shared)
+            is_content_absent(bytes, rows, shared)
         } else {
             group_in(bytes, rows, rule, shared, true)
         }

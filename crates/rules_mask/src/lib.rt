@@ -70,13 +70,13 @@ fn is_operation(bytes: &[u8], rows: &[u32], item: usize) -> bool
     requires { ⌜ Table (now bytes) (now rows) × (item < length (nodesOf (now bytes))) ⌝ }
     ensures { λ r. ⌜ r ≡ isOperation (nodesOf (now (bytes .entry))) item ⌝ }
 {
-    if element::cs_item(bytes, rows, item, tags::MASK_OPERATION, b"NONE") {
+    if element::is_cs_item(bytes, rows, item, tags::MASK_OPERATION, b"NONE") {
         true
     } else {
-        if element::cs_item(bytes, rows, item, tags::MASK_OPERATION, b"AVG_SUB") {
+        if element::is_cs_item(bytes, rows, item, tags::MASK_OPERATION, b"AVG_SUB") {
             true
         } else {
-            element::cs_item(bytes, rows, item, tags::MASK_OPERATION, b"TID")
+            element::is_cs_item(bytes, rows, item, tags::MASK_OPERATION, b"TID")
         }
     }
 }
@@ -279,7 +279,7 @@ fn averages_fit(bytes: &[u8], rows: &[u32], item: usize, n: usize) -> bool
     requires { ⌜ Table (now bytes) (now rows) × (item < length (nodesOf (now bytes))) ⌝ }
     ensures { λ r. ⌜ r ≡ averagesFit (nodesOf (now (bytes .entry))) n item ⌝ }
 {
-    if element::cs_item(bytes, rows, item, tags::MASK_OPERATION, b"AVG_SUB") {
+    if element::is_cs_item(bytes, rows, item, tags::MASK_OPERATION, b"AVG_SUB") {
         average_fits(bytes, rows, item, n)
     } else {
         true
@@ -322,7 +322,7 @@ fn offset_fits(bytes: &[u8], rows: &[u32], item: usize) -> bool
     requires { ⌜ Table (now bytes) (now rows) × (item < length (nodesOf (now bytes))) ⌝ }
     ensures { λ r. ⌜ r ≡ offsetFits (nodesOf (now (bytes .entry))) item ⌝ }
 {
-    if element::cs_item(bytes, rows, item, tags::MASK_OPERATION, b"TID") {
+    if element::is_cs_item(bytes, rows, item, tags::MASK_OPERATION, b"TID") {
         match element::find_item(bytes, rows, item, tags::TID_OFFSET) {
             Num::Lacks => true,
             Num::Is(i) => is_offset(bytes, rows, i),
@@ -418,7 +418,7 @@ fn masks_have_ids(bytes: &[u8], rows: &[u32]) -> bool
 {
     let items = element::mask_items(bytes, rows);
     if all_fit(bytes, rows, Question::Id, items.at, items.end) {
-        ids::unique_ids(bytes, rows, items.at, items.end)
+        ids::are_unique_ids(bytes, rows, items.at, items.end)
     } else {
         false
     }

@@ -20,7 +20,7 @@ fn is_xa(bytes: &[u8], rows: &[u32]) -> bool
     requires { ⌜ Table (now bytes) (now rows) ⌝ }
     ensures { λ r. ⌜ r ≡ isXa (nodesOf (now (bytes .entry))) ⌝ }
 {
-    element::ui_root(
+    element::is_ui_root(
         bytes,
         rows,
         tags::SOP_CLASS_UID,
@@ -33,7 +33,7 @@ fn is_xrf(bytes: &[u8], rows: &[u32]) -> bool
     requires { ⌜ Table (now bytes) (now rows) ⌝ }
     ensures { λ r. ⌜ r ≡ isXrf (nodesOf (now (bytes .entry))) ⌝ }
 {
-    element::ui_root(
+    element::is_ui_root(
         bytes,
         rows,
         tags::SOP_CLASS_UID,
@@ -48,7 +48,7 @@ fn image_type_is(bytes: &[u8], rows: &[u32], word: &[u8]) -> bool
 {
     match element::find_vr_root(bytes, rows, tags::IMAGE_TYPE, tags::CS) {
         Num::Lacks => false,
-        Num::Is(i) => value::word_at(node::value(bytes, rows, i), 0, word),
+        Num::Is(i) => value::is_word_at(node::value(bytes, rows, i), 0, word),
     }
 }
 
@@ -63,21 +63,21 @@ fn planes_are(bytes: &[u8], rows: &[u32], word: &[u8]) -> bool
     requires { ⌜ Table (now bytes) (now rows) ⌝ }
     ensures { λ r. ⌜ r ≡ planesAre (nodesOf (now (bytes .entry))) (now (word .entry)) ⌝ }
 {
-    element::cs_root(bytes, rows, tags::PLANES_IN_ACQUISITION, word)
+    element::is_cs_root(bytes, rows, tags::PLANES_IN_ACQUISITION, word)
 }
 
 fn photometric_is(bytes: &[u8], rows: &[u32], word: &[u8]) -> bool
     requires { ⌜ Table (now bytes) (now rows) ⌝ }
     ensures { λ r. ⌜ r ≡ photometricIs (nodesOf (now (bytes .entry))) (now (word .entry)) ⌝ }
 {
-    element::cs_root(bytes, rows, tags::PHOTOMETRIC_INTERPRETATION, word)
+    element::is_cs_root(bytes, rows, tags::PHOTOMETRIC_INTERPRETATION, word)
 }
 
 fn lossy_is(bytes: &[u8], rows: &[u32], word: &[u8]) -> bool
     requires { ⌜ Table (now bytes) (now rows) ⌝ }
     ensures { λ r. ⌜ r ≡ lossyIs (nodesOf (now (bytes .entry))) (now (word .entry)) ⌝ }
 {
-    element::cs_root(bytes, rows, tags::LOSSY_IMAGE_COMPRESSION, word)
+    element::is_cs_root(bytes, rows, tags::LOSSY_IMAGE_COMPRESSION, word)
 }
 
 // ---- What kind of image, and of which planes
@@ -100,9 +100,9 @@ fn rule_2(bytes: &[u8], rows: &[u32]) -> bool
     ensures { λ r. ⌜ r ≡ rule2 (nodesOf (now (bytes .entry))) ⌝ }
 {
     if is_xrf(bytes, rows) {
-        element::cs_root(bytes, rows, tags::MODALITY, b"RF")
+        element::is_cs_root(bytes, rows, tags::MODALITY, b"RF")
     } else {
-        element::cs_root(bytes, rows, tags::MODALITY, b"XA")
+        element::is_cs_root(bytes, rows, tags::MODALITY, b"XA")
     }
 }
 
@@ -110,14 +110,14 @@ fn is_image_type(v: &[u8]) -> bool
     ensures { λ r. ⌜ r ≡ isImageType (now (v .entry)) ⌝ }
 {
     if 4 <= value::count_values(v) {
-        if value::word_at(v, 3, b"NONE") {
-            if value::word_at(v, 0, b"ORIGINAL") {
+        if value::is_word_at(v, 3, b"NONE") {
+            if value::is_word_at(v, 0, b"ORIGINAL") {
                 true
             } else {
-                if value::word_at(v, 0, b"DERIVED") {
+                if value::is_word_at(v, 0, b"DERIVED") {
                     true
                 } else {
-                    value::word_at(v, 0, b"MIXED")
+                    value::is_word_at(v, 0, b"MIXED")
                 }
             }
         } else {
@@ -173,7 +173,7 @@ fn rule_6(bytes: &[u8], rows: &[u32]) -> bool
     ensures { λ r. ⌜ r ≡ rule6 (nodesOf (now (bytes .entry))) ⌝ }
 {
     if planes_are(bytes, rows, b"UNDEFINED") {
-        element::absent_root(bytes, rows, tags::PLANE_IDENTIFICATION)
+        element::is_absent_root(bytes, rows, tags::PLANE_IDENTIFICATION)
     } else {
         element::has_root(bytes, rows, tags::PLANE_IDENTIFICATION, tags::CS)
     }
@@ -335,13 +335,13 @@ fn rule_16(bytes: &[u8], rows: &[u32]) -> bool
     requires { ⌜ Table (now bytes) (now rows) ⌝ }
     ensures { λ r. ⌜ r ≡ rule16 (nodesOf (now (bytes .entry))) ⌝ }
 {
-    if element::cs_root(bytes, rows, tags::CONTENT_QUALIFICATION, b"PRODUCT") {
+    if element::is_cs_root(bytes, rows, tags::CONTENT_QUALIFICATION, b"PRODUCT") {
         true
     } else {
-        if element::cs_root(bytes, rows, tags::CONTENT_QUALIFICATION, b"RESEARCH") {
+        if element::is_cs_root(bytes, rows, tags::CONTENT_QUALIFICATION, b"RESEARCH") {
             true
         } else {
-            element::cs_root(bytes, rows, tags::CONTENT_QUALIFICATION, b"SERVICE")
+            element::is_cs_root(bytes, rows, tags::CONTENT_QUALIFICATION, b"SERVICE")
         }
     }
 }
@@ -351,7 +351,7 @@ fn rule_17(bytes: &[u8], rows: &[u32]) -> bool
     requires { ⌜ Table (now bytes) (now rows) ⌝ }
     ensures { λ r. ⌜ r ≡ rule17 (nodesOf (now (bytes .entry))) ⌝ }
 {
-    element::cs_root(bytes, rows, tags::BURNED_IN_ANNOTATION, b"NO")
+    element::is_cs_root(bytes, rows, tags::BURNED_IN_ANNOTATION, b"NO")
 }
 
 // Rule 18: Lossy Image Compression.
@@ -378,8 +378,8 @@ fn rule_19(bytes: &[u8], rows: &[u32]) -> bool
             false
         }
     } else {
-        if element::absent_root(bytes, rows, tags::LOSSY_IMAGE_COMPRESSION_RATIO) {
-            element::absent_root(bytes, rows, tags::LOSSY_IMAGE_COMPRESSION_METHOD)
+        if element::is_absent_root(bytes, rows, tags::LOSSY_IMAGE_COMPRESSION_RATIO) {
+            element::is_absent_root(bytes, rows, tags::LOSSY_IMAGE_COMPRESSION_METHOD)
         } else {
             false
         }
@@ -397,7 +397,7 @@ fn rule_20(bytes: &[u8], rows: &[u32]) -> bool
             Num::Is(i) => element::is_one_item(bytes, rows, i),
         }
     } else {
-        element::absent_root(bytes, rows, tags::REFERENCED_OTHER_PLANE_SEQUENCE)
+        element::is_absent_root(bytes, rows, tags::REFERENCED_OTHER_PLANE_SEQUENCE)
     }
 }
 
@@ -407,9 +407,9 @@ fn rule_21(bytes: &[u8], rows: &[u32]) -> bool
     ensures { λ r. ⌜ r ≡ rule21 (nodesOf (now (bytes .entry))) ⌝ }
 {
     if photometric_is(bytes, rows, b"MONOCHROME1") {
-        element::cs_root(bytes, rows, tags::PRESENTATION_LUT_SHAPE, b"INVERSE")
+        element::is_cs_root(bytes, rows, tags::PRESENTATION_LUT_SHAPE, b"INVERSE")
     } else {
-        element::cs_root(bytes, rows, tags::PRESENTATION_LUT_SHAPE, b"IDENTITY")
+        element::is_cs_root(bytes, rows, tags::PRESENTATION_LUT_SHAPE, b"IDENTITY")
     }
 }
 
@@ -421,10 +421,10 @@ fn has_radiation(bytes: &[u8], rows: &[u32]) -> bool
 {
     if element::has_root(bytes, rows, tags::KVP, tags::DS) {
         if element::has_root(bytes, rows, tags::RADIATION_MODE, tags::CS) {
-            if element::cs_root(bytes, rows, tags::RADIATION_SETTING, b"SC") {
+            if element::is_cs_root(bytes, rows, tags::RADIATION_SETTING, b"SC") {
                 true
             } else {
-                element::cs_root(bytes, rows, tags::RADIATION_SETTING, b"GR")
+                element::is_cs_root(bytes, rows, tags::RADIATION_SETTING, b"GR")
             }
         } else {
             false
@@ -480,7 +480,7 @@ fn rule_24(bytes: &[u8], rows: &[u32]) -> bool
 {
     if is_original(bytes, rows) {
         if is_xrf(bytes, rows) {
-            element::cs_root(bytes, rows, tags::POSITIONER_TYPE, b"COLUMN")
+            element::is_cs_root(bytes, rows, tags::POSITIONER_TYPE, b"COLUMN")
         } else {
             true
         }
@@ -502,7 +502,7 @@ fn rule_25(bytes: &[u8], rows: &[u32]) -> bool
     }
 }
 
-// Rule 26: the per-frame functional groups are an item for each frame.
+// Rule 26: the is-per-frame functional groups are an item for each frame.
 fn rule_26(bytes: &[u8], rows: &[u32]) -> bool
     requires { ⌜ Table (now bytes) (now rows) ⌝ }
     ensures { λ r. ⌜ r ≡ rule26 (nodesOf (now (bytes .entry))) ⌝ }

@@ -87,7 +87,7 @@ looksFor rule group always reads = record { rule = rule; group = group; always =
 unfoldable pub frameSearches : List GroupSearch
 frameSearches =
     looksFor 28 Tags.FrameContentSequence true []
-    ∷ looksFor 29 Tags.FrameCharacteristicsSequence false []
+    ∷ looksFor 29 Tags.XAXRFFrameCharacteristicsSequence false []
     ∷ looksFor 30 Tags.FrameVOILUTSequence false (Tags.WindowCenter ∷ Tags.WindowWidth ∷ Tags.VOILUTFunction ∷ [])
     ∷ looksFor 36 Tags.FramePixelShiftSequence false []
     ∷ looksFor 37 Tags.FramePixelShiftSequence false (Tags.SubtractionItemID ∷ Tags.MaskSubPixelShift ∷ [])

@@ -70,7 +70,7 @@ const MASK: [usize; 7] = [
 // The groups of rules 28, 29, 30, 36, 37 and 39:
 const CONTENT: usize = tags::FRAME_CONTENT_SEQUENCE;
 
-const CHARACTERISTICS: usize = tags::FRAME_CHARACTERISTICS_SEQUENCE;
+const CHARACTERISTICS: usize = tags::XA_XRF_FRAME_CHARACTERISTICS_SEQUENCE;
 
 const VOI: usize = tags::FRAME_VOI_LUT_SEQUENCE;
 
@@ -112,7 +112,7 @@ pub struct Counted {
 }
 
 // The loop of `node::find_tag`, with a count of the rows that it looks at.
-pub fn look(bytes: &[u8], rows: &[u32], from: usize, to: usize, wanted: usize) -> Looked
+fn look(bytes: &[u8], rows: &[u32], from: usize, to: usize, wanted: usize) -> Looked
     requires { ⌜ Table (now bytes) (now rows) × ((to ≤ length (nodesOf (now bytes))) × Ascends (nodesOf (now bytes)) 0 (members (nodesOf (now bytes)) from to)) ⌝ }
     ensures { λ r. ⌜ Looks (nodesOf (now (bytes .entry))) wanted from to r ⌝ }
 {
@@ -355,7 +355,7 @@ fn frames_sum(bytes: &[u8], rows: &[u32]) -> usize
 }
 
 // The sum of all searches.
-pub fn sum(bytes: &[u8], rows: &[u32]) -> usize
+fn sum(bytes: &[u8], rows: &[u32]) -> usize
     requires { ⌜ Table (now bytes) (now rows) ⌝ }
     ensures { λ r. ⌜ r ≡ searchesOf (nodesOf (now (bytes .entry))) ⌝ }
 {

@@ -87,7 +87,7 @@ pub enum Inverse {
 
 // ---- Functional groups of a frame
 
-// The node of item f of the per-frame functional groups.
+// The node of item f of the is-per-frame functional groups.
 pub fn item_at(bytes: &[u8], rows: &[u32], frame: usize) -> Num
     requires { ⌜ Table (now bytes) (now rows) ⌝ }
     ensures { λ r. ⌜ r ≡ frameItem (nodesOf (now (bytes .entry))) frame ⌝ }
@@ -253,13 +253,13 @@ pub fn operation_of(bytes: &[u8], rows: &[u32], j: usize) -> Operation
     requires { ⌜ Table (now bytes) (now rows) × (j < length (nodesOf (now bytes))) ⌝ }
     ensures { λ r. ⌜ r ≡ operationOf (nodesOf (now (bytes .entry))) j ⌝ }
 {
-    if element::cs_item(bytes, rows, j, tags::MASK_OPERATION, b"NONE") {
+    if element::is_cs_item(bytes, rows, j, tags::MASK_OPERATION, b"NONE") {
         Operation::Native
     } else {
-        if element::cs_item(bytes, rows, j, tags::MASK_OPERATION, b"AVG_SUB") {
+        if element::is_cs_item(bytes, rows, j, tags::MASK_OPERATION, b"AVG_SUB") {
             Operation::Average
         } else {
-            if element::cs_item(bytes, rows, j, tags::MASK_OPERATION, b"TID") {
+            if element::is_cs_item(bytes, rows, j, tags::MASK_OPERATION, b"TID") {
                 Operation::Tid
             } else {
                 Operation::Lacks

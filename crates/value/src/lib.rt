@@ -176,7 +176,7 @@ fn trimmed<'a>(v: &'a [u8]) -> &'a [u8]
 // ---- Words
 
 // Value k of a CS, without outer spaces, is the word.
-pub fn word_at(v: &[u8], k: usize, word: &[u8]) -> bool
+pub fn is_word_at(v: &[u8], k: usize, word: &[u8]) -> bool
     ensures { λ r. ⌜ r ≡ wordAt (now (v .entry)) k (now (word .entry)) ⌝ }
 {
     let p = value_of(v, k);
@@ -189,7 +189,7 @@ pub fn is_word(v: &[u8], word: &[u8]) -> bool
     ensures { λ r. ⌜ r ≡ isWord (now (v .entry)) (now (word .entry)) ⌝ }
 {
     if is_single(v) {
-        word_at(v, 0, word)
+        is_word_at(v, 0, word)
     } else {
         false
     }

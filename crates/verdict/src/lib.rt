@@ -27,7 +27,7 @@ pub struct Verdict {
 }
 
 // Whether a rule is asked at each frame.
-pub fn per_frame(rule: usize) -> bool
+pub fn is_per_frame(rule: usize) -> bool
     ensures { λ r. ⌜ r ≡ perFrame rule ⌝ }
 {
     if rule == 37 {
@@ -43,7 +43,7 @@ pub fn per_frame(rule: usize) -> bool
 fn frame_fits(rule: usize, frame: usize) -> bool
     ensures { λ r. ⌜ r ≡ frameFits rule frame ⌝ }
 {
-    if per_frame(rule) {
+    if is_per_frame(rule) {
         if 1 <= frame {
             frame <= LAST_FRAME
         } else {

@@ -4,18 +4,18 @@ use borrow.Author.Needs.{needs}
 use Rattle.conformance.proofs.first_frame.Statement.{statement}
 use Rattle.conformance.proofs.first_frame.Tie as tie
 
-per-frame-requires : tie.Need-per-frame-requires
-per-frame-requires c κs = search needs
+is-per-frame-requires : tie.Need-is-per-frame-requires
+is-per-frame-requires c κs = search needs
 
 returns : tie.Need-returns
 unfolding firstFrame
 returns c =
-    rw (← c .before .per-frame .ensures, c .if1 .taken)
+    rw (← c .before .is-per-frame .ensures, c .if1 .taken)
 
 returns-2 : tie.Need-returns-2
 unfolding firstFrame
 returns-2 c =
-    rw (← c .before .per-frame .ensures, c .if1 .left)
+    rw (← c .before .is-per-frame .ensures, c .if1 .left)
 
 pub first-frame-spec : {M : Type 1} → statement M
-first-frame-spec = tie.close (tie.spec per-frame-requires returns returns-2)
+first-frame-spec = tie.close (tie.spec is-per-frame-requires returns returns-2)

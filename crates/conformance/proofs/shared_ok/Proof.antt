@@ -14,8 +14,8 @@ no-part-requires c κs = search needs
 enum-known-shared : tie.Need-enum-known-shared
 enum-known-shared c = search needs
 
-per-frame-requires : tie.Need-per-frame-requires
-per-frame-requires c κs = search needs
+is-per-frame-requires : tie.Need-is-per-frame-requires
+is-per-frame-requires c κs = search needs
 
 shared-part-requires : tie.Need-shared-part-requires
 shared-part-requires c κs =
@@ -30,11 +30,11 @@ returns c = rw (c .before .enum-told .given .1) (c .no-part .ensures)
 
 returns-2 : tie.Need-returns-2
 returns-2 c =
-    rw (c .before .before .before .before .shared .given .1, sym (c .before .before .per-frame .ensures) ∙ c .before .if1 .taken) (c .shared-part .ensures)
+    rw (c .before .before .before .before .shared .given .1, sym (c .before .before .is-per-frame .ensures) ∙ c .before .if1 .taken) (c .shared-part .ensures)
 
 returns-3 : tie.Need-returns-3
 returns-3 c =
-    rw (c .before .before .before .before .shared .given .1, sym (c .before .before .per-frame .ensures) ∙ c .before .if1 .left) (c .no-part2 .ensures)
+    rw (c .before .before .before .before .shared .given .1, sym (c .before .before .is-per-frame .ensures) ∙ c .before .if1 .left) (c .no-part2 .ensures)
 
 pub shared-ok-spec : {M : Type 1} → statement M
 shared-ok-spec =
@@ -43,7 +43,7 @@ shared-ok-spec =
     enum-told
     no-part-requires
     enum-known-shared
-    per-frame-requires
+    is-per-frame-requires
     shared-part-requires
     no-part-requires-2
     returns

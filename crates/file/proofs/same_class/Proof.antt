@@ -15,13 +15,13 @@ has-root-requires c κs = search needs
 trim-end-requires : tie.Need-trim-end-requires
 trim-end-requires c κs = search needs
 
-ui-root-requires : tie.Need-ui-root-requires
-ui-root-requires c κs = search needs
+is-ui-root-requires : tie.Need-is-ui-root-requires
+is-ui-root-requires c κs = search needs
 
 returns : tie.Need-returns
 unfolding sameClass
 returns c =
-    rw (← c .before .before .before .has-root .ensures, c .before .before .if1 .taken) (c .ui-root .ensures ∙ ap (λ (x : List ℕ). uiIs (nodesOf (c .before .before .before .before .before .before .before .args .bytes .now)) 0x0008_0016 x (root (nodesOf (c .before .before .before .before .before .before .before .args .bytes .now)))) (c .before .trim-end .ensures))
+    rw (← c .before .before .before .has-root .ensures, c .before .before .if1 .taken) (c .is-ui-root .ensures ∙ ap (λ (x : List ℕ). uiIs (nodesOf (c .before .before .before .before .before .before .before .args .bytes .now)) 0x0008_0016 x (root (nodesOf (c .before .before .before .before .before .before .before .args .bytes .now)))) (c .before .trim-end .ensures))
 
 returns-2 : tie.Need-returns-2
 unfolding sameClass
@@ -30,4 +30,4 @@ returns-2 c =
 
 pub same-class-spec : {M : Type 1} → statement M
 same-class-spec =
-    tie.close (tie.spec has-root-requires trim-end-requires ui-root-requires returns returns-2)
+    tie.close (tie.spec has-root-requires trim-end-requires is-ui-root-requires returns returns-2)

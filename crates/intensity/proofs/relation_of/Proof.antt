@@ -16,11 +16,11 @@ enum-told c = search needs
 enum-known-j : tie.Need-enum-known-j
 enum-known-j c = search needs
 
-slice-aggregate-cs-item : tie.Need-slice-aggregate-cs-item
-slice-aggregate-cs-item c = search needs
+slice-aggregate-is-cs-item : tie.Need-slice-aggregate-is-cs-item
+slice-aggregate-is-cs-item c = search needs
 
-cs-item-requires : tie.Need-cs-item-requires
-cs-item-requires c κs =
+is-cs-item-requires : tie.Need-is-cs-item-requires
+is-cs-item-requires c κs =
     (c .before .before .before .before .before .before .before .pre .0, node-laws.within _ (c .before .before .j .given .1) (c .before .before .before .before .the-item .ensures .1))
 
 returns : tie.Need-returns
@@ -31,12 +31,12 @@ returns c =
 returns-2 : tie.Need-returns-2
 unfolding relationOf isLog
 returns-2 c =
-    rw (← element-laws.one-item-is _ _ _ (node-laws.had (c .before .before .before .before .j .given .1) (c .before .before .before .before .before .before .the-item .ensures .0)), node-laws.had (c .before .before .before .before .j .given .1) (c .before .before .before .before .before .before .the-item .ensures .0), ← c .before .cs-item .ensures, c .if1 .taken)
+    rw (← element-laws.one-item-is _ _ _ (node-laws.had (c .before .before .before .before .j .given .1) (c .before .before .before .before .before .before .the-item .ensures .0)), node-laws.had (c .before .before .before .before .j .given .1) (c .before .before .before .before .before .before .the-item .ensures .0), ← c .before .is-cs-item .ensures, c .if1 .taken)
 
 returns-3 : tie.Need-returns-3
 unfolding relationOf isLog
 returns-3 c =
-    rw (← element-laws.one-item-is _ _ _ (node-laws.had (c .before .before .before .before .j .given .1) (c .before .before .before .before .before .before .the-item .ensures .0)), node-laws.had (c .before .before .before .before .j .given .1) (c .before .before .before .before .before .before .the-item .ensures .0), ← c .before .cs-item .ensures, c .if1 .left)
+    rw (← element-laws.one-item-is _ _ _ (node-laws.had (c .before .before .before .before .j .given .1) (c .before .before .before .before .before .before .the-item .ensures .0)), node-laws.had (c .before .before .before .before .j .given .1) (c .before .before .before .before .before .before .the-item .ensures .0), ← c .before .is-cs-item .ensures, c .if1 .left)
 
 pub relation-of-spec : {M : Type 1} → statement M
 relation-of-spec =
@@ -45,8 +45,8 @@ relation-of-spec =
     the-item-requires
     enum-told
     enum-known-j
-    slice-aggregate-cs-item
-    cs-item-requires
+    slice-aggregate-is-cs-item
+    is-cs-item-requires
     returns
     returns-2
     returns-3)

@@ -7,8 +7,8 @@ use Rattle.meta.proofs.note.Tie as tie
 uid-at-requires : tie.Need-uid-at-requires
 uid-at-requires c κs = search needs
 
-only-group-2-requires : tie.Need-only-group-2-requires
-only-group-2-requires c κs = search needs
+has-only-group-2-requires : tie.Need-has-only-group-2-requires
+has-only-group-2-requires c κs = search needs
 
 chosen-requires : tie.Need-chosen-requires
 chosen-requires c κs = search needs
@@ -19,9 +19,9 @@ chosen-requires-2 c κs = search needs
 returns : tie.Need-returns
 unfolding noted
 returns c =
-    rw (c .before .before .only-group-2 .ensures, c .before .chosen .ensures, c .chosen2 .ensures, c .before .before .before .uid-at .ensures .0)
+    rw (c .before .before .has-only-group-2 .ensures, c .before .chosen .ensures, c .chosen2 .ensures, c .before .before .before .uid-at .ensures .0)
 
 pub note-spec : {M : Type 1} → statement M
 note-spec =
     tie.close
-    (tie.spec uid-at-requires only-group-2-requires chosen-requires chosen-requires-2 returns)
+    (tie.spec uid-at-requires has-only-group-2-requires chosen-requires chosen-requires-2 returns)

@@ -11,13 +11,13 @@ next-requires c κs =
     let p = c .before .before .pre in
     (p .0, omega (arith, p .1 .0, p .1 .1))
 
-unique-ids-requires : tie.Need-unique-ids-requires
-unique-ids-requires c κs =
+are-unique-ids-requires : tie.Need-are-unique-ids-requires
+are-unique-ids-requires c κs =
     let p = c .before .before .before .before .pre in
     (p .0, p .1 .1)
 
 returns : tie.Need-returns
-returns c = c .unique-ids .ensures
+returns c = c .are-unique-ids .ensures
 
 returns-2 : tie.Need-returns-2
 unfolding uniqueIds unique
@@ -28,4 +28,4 @@ returns-2 c =
     rw (members-next ns (a .from) (a .to) (start .pre .1 .0), members-end ns (nextNode ns (a .from)) (a .to) (omega (arith, c .before .next .ensures .0, c .if1 .left)))
 
 pub ids-differ-spec : {M : Type 1} → statement M
-ids-differ-spec = tie.close (tie.spec next-requires unique-ids-requires returns returns-2)
+ids-differ-spec = tie.close (tie.spec next-requires are-unique-ids-requires returns returns-2)

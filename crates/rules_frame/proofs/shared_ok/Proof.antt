@@ -5,8 +5,8 @@ use borrow.Author.Needs.{needs}
 use Rattle.rules_frame.proofs.shared_ok.Statement.{statement}
 use Rattle.rules_frame.proofs.shared_ok.Tie as tie
 
-content-absent-requires : tie.Need-content-absent-requires
-content-absent-requires c κs = search needs
+is-content-absent-requires : tie.Need-is-content-absent-requires
+is-content-absent-requires c κs = search needs
 
 group-in-requires : tie.Need-group-in-requires
 group-in-requires c κs = search needs
@@ -19,7 +19,7 @@ returns c =
 returns-2 : tie.Need-returns-2
 unfolding sharedOk
 returns-2 c =
-    rw (ne-eqb _ _ (c .before .before .if1 .left), eq-eqb _ _ (c .before .if2 .taken)) (c .content-absent .ensures)
+    rw (ne-eqb _ _ (c .before .before .if1 .left), eq-eqb _ _ (c .before .if2 .taken)) (c .is-content-absent .ensures)
 
 returns-3 : tie.Need-returns-3
 unfolding sharedOk
@@ -28,4 +28,4 @@ returns-3 c =
 
 pub shared-ok-spec : {M : Type 1} → statement M
 shared-ok-spec =
-    tie.close (tie.spec content-absent-requires group-in-requires returns returns-2 returns-3)
+    tie.close (tie.spec is-content-absent-requires group-in-requires returns returns-2 returns-3)

@@ -12,13 +12,13 @@ mask-items-requires c κs = search needs
 all-fit-requires : tie.Need-all-fit-requires
 all-fit-requires c κs = search needs
 
-unique-ids-requires : tie.Need-unique-ids-requires
-unique-ids-requires c κs = search needs
+are-unique-ids-requires : tie.Need-are-unique-ids-requires
+are-unique-ids-requires c κs = search needs
 
 returns : tie.Need-returns
 unfolding masksHaveIds
 returns c =
-    rw (← c .before .before .before .mask-items .ensures .ahead) (sym (laws.both (sym (c .before .before .all-fit .ensures) ∙ c .before .if1 .taken) (sym (c .unique-ids .ensures))))
+    rw (← c .before .before .before .mask-items .ensures .ahead) (sym (laws.both (sym (c .before .before .all-fit .ensures) ∙ c .before .if1 .taken) (sym (c .are-unique-ids .ensures))))
 
 returns-2 : tie.Need-returns-2
 unfolding masksHaveIds
@@ -27,4 +27,4 @@ returns-2 c =
 
 pub masks-have-ids-spec : {M : Type 1} → statement M
 masks-have-ids-spec =
-    tie.close (tie.spec mask-items-requires all-fit-requires unique-ids-requires returns returns-2)
+    tie.close (tie.spec mask-items-requires all-fit-requires are-unique-ids-requires returns returns-2)

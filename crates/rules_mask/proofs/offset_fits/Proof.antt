@@ -8,11 +8,11 @@ use borrow.Author.Needs.{needs}
 use Rattle.rules_mask.proofs.offset_fits.Statement.{statement}
 use Rattle.rules_mask.proofs.offset_fits.Tie as tie
 
-slice-aggregate-cs-item : tie.Need-slice-aggregate-cs-item
-slice-aggregate-cs-item c = search needs
+slice-aggregate-is-cs-item : tie.Need-slice-aggregate-is-cs-item
+slice-aggregate-is-cs-item c = search needs
 
-cs-item-requires : tie.Need-cs-item-requires
-cs-item-requires c κs = search needs
+is-cs-item-requires : tie.Need-is-cs-item-requires
+is-cs-item-requires c κs = search needs
 
 find-item-requires : tie.Need-find-item-requires
 find-item-requires c κs = search needs
@@ -30,24 +30,24 @@ is-offset-requires c κs =
 returns : tie.Need-returns
 unfolding offsetFits operationIs
 returns c =
-    sym (laws.then _ (sym (c .before .before .before .before .cs-item .ensures) ∙ c .before .before .before .if1 .taken) (sym (rw (node-laws.lacked (c .enum-told .given .1) (c .before .before .find-item .ensures .0)))))
+    sym (laws.then _ (sym (c .before .before .before .before .is-cs-item .ensures) ∙ c .before .before .before .if1 .taken) (sym (rw (node-laws.lacked (c .enum-told .given .1) (c .before .before .find-item .ensures .0)))))
 
 returns-2 : tie.Need-returns-2
 unfolding offsetFits operationIs
 returns-2 c =
-    sym (laws.then _ (sym (c .before .before .before .before .before .before .cs-item .ensures) ∙ c .before .before .before .before .before .if1 .taken) (sym (rw (node-laws.had (c .before .before .i .given .1) (c .before .before .before .before .find-item .ensures .0)) (c .is-offset .ensures))))
+    sym (laws.then _ (sym (c .before .before .before .before .before .before .is-cs-item .ensures) ∙ c .before .before .before .before .before .if1 .taken) (sym (rw (node-laws.had (c .before .before .i .given .1) (c .before .before .before .before .find-item .ensures .0)) (c .is-offset .ensures))))
 
 returns-3 : tie.Need-returns-3
 unfolding offsetFits operationIs
 returns-3 c =
-    sym (laws.otherwise _ (sym (c .before .cs-item .ensures) ∙ c .if1 .left) refl)
+    sym (laws.otherwise _ (sym (c .before .is-cs-item .ensures) ∙ c .if1 .left) refl)
 
 pub offset-fits-spec : {M : Type 1} → statement M
 offset-fits-spec =
     tie.close
     (tie.spec
-    slice-aggregate-cs-item
-    cs-item-requires
+    slice-aggregate-is-cs-item
+    is-cs-item-requires
     find-item-requires
     enum-told
     enum-known-i

@@ -10,27 +10,27 @@ has-root-requires c κs = search needs
 has-root-requires-2 : tie.Need-has-root-requires-2
 has-root-requires-2 c κs = search needs
 
-slice-aggregate-cs-root : tie.Need-slice-aggregate-cs-root
-slice-aggregate-cs-root c = search needs
+slice-aggregate-is-cs-root : tie.Need-slice-aggregate-is-cs-root
+slice-aggregate-is-cs-root c = search needs
 
-cs-root-requires : tie.Need-cs-root-requires
-cs-root-requires c κs = search needs
+is-cs-root-requires : tie.Need-is-cs-root-requires
+is-cs-root-requires c κs = search needs
 
-slice-aggregate-cs-root-2 : tie.Need-slice-aggregate-cs-root-2
-slice-aggregate-cs-root-2 c = search needs
+slice-aggregate-is-cs-root-2 : tie.Need-slice-aggregate-is-cs-root-2
+slice-aggregate-is-cs-root-2 c = search needs
 
-cs-root-requires-2 : tie.Need-cs-root-requires-2
-cs-root-requires-2 c κs = search needs
+is-cs-root-requires-2 : tie.Need-is-cs-root-requires-2
+is-cs-root-requires-2 c κs = search needs
 
 returns : tie.Need-returns
 unfolding hasRadiation
 returns c =
-    rw (← c .before .before .before .before .before .before .has-root .ensures, c .before .before .before .before .before .if1 .taken, ← c .before .before .before .before .has-root2 .ensures, c .before .before .before .if2 .taken, ← c .before .cs-root .ensures, c .if3 .taken)
+    rw (← c .before .before .before .before .before .before .has-root .ensures, c .before .before .before .before .before .if1 .taken, ← c .before .before .before .before .has-root2 .ensures, c .before .before .before .if2 .taken, ← c .before .is-cs-root .ensures, c .if3 .taken)
 
 returns-2 : tie.Need-returns-2
 unfolding hasRadiation
 returns-2 c =
-    rw (← c .before .before .before .before .before .before .before .before .has-root .ensures, c .before .before .before .before .before .before .before .if1 .taken, ← c .before .before .before .before .before .before .has-root2 .ensures, c .before .before .before .before .before .if2 .taken, ← c .before .before .before .cs-root .ensures, c .before .before .if3 .left) (c .cs-root2 .ensures)
+    rw (← c .before .before .before .before .before .before .before .before .has-root .ensures, c .before .before .before .before .before .before .before .if1 .taken, ← c .before .before .before .before .before .before .has-root2 .ensures, c .before .before .before .before .before .if2 .taken, ← c .before .before .before .is-cs-root .ensures, c .before .before .if3 .left) (c .is-cs-root2 .ensures)
 
 returns-3 : tie.Need-returns-3
 unfolding hasRadiation
@@ -48,10 +48,10 @@ has-radiation-spec =
     (tie.spec
     has-root-requires
     has-root-requires-2
-    slice-aggregate-cs-root
-    cs-root-requires
-    slice-aggregate-cs-root-2
-    cs-root-requires-2
+    slice-aggregate-is-cs-root
+    is-cs-root-requires
+    slice-aggregate-is-cs-root-2
+    is-cs-root-requires-2
     returns
     returns-2
     returns-3

@@ -18,8 +18,8 @@ value-requires : tie.Need-value-requires
 value-requires c κs =
     (c .before .before .before .before .before .before .before .pre, node-laws.within _ (c .before .i .given .1) (c .before .before .before .find-vr-root .ensures .1))
 
-word-at-requires : tie.Need-word-at-requires
-word-at-requires c κs = search needs
+is-word-at-requires : tie.Need-is-word-at-requires
+is-word-at-requires c κs = search needs
 
 returns : tie.Need-returns
 unfolding imageTypeIs
@@ -29,7 +29,7 @@ returns c =
 returns-2 : tie.Need-returns-2
 unfolding imageTypeIs
 returns-2 c =
-    rw (node-laws.had (c .before .before .before .i .given .1) (c .before .before .before .before .before .find-vr-root .ensures .0), ← c .before .value .ensures) (c .word-at .ensures)
+    rw (node-laws.had (c .before .before .before .i .given .1) (c .before .before .before .before .before .find-vr-root .ensures .0), ← c .before .value .ensures) (c .is-word-at .ensures)
 
 pub image-type-is-spec : {M : Type 1} → statement M
 image-type-is-spec =
@@ -39,6 +39,6 @@ image-type-is-spec =
     enum-told
     enum-known-i
     value-requires
-    word-at-requires
+    is-word-at-requires
     returns
     returns-2)

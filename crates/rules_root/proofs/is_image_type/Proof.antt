@@ -9,49 +9,49 @@ use Rattle.rules_root.proofs.is_image_type.Tie as tie
 count-values-requires : tie.Need-count-values-requires
 count-values-requires c κs = search needs
 
-slice-aggregate-word-at : tie.Need-slice-aggregate-word-at
-slice-aggregate-word-at c = search needs
+slice-aggregate-is-word-at : tie.Need-slice-aggregate-is-word-at
+slice-aggregate-is-word-at c = search needs
 
-word-at-requires : tie.Need-word-at-requires
-word-at-requires c κs = search needs
+is-word-at-requires : tie.Need-is-word-at-requires
+is-word-at-requires c κs = search needs
 
-slice-aggregate-word-at-2 : tie.Need-slice-aggregate-word-at-2
-slice-aggregate-word-at-2 c = search needs
+slice-aggregate-is-word-at-2 : tie.Need-slice-aggregate-is-word-at-2
+slice-aggregate-is-word-at-2 c = search needs
 
-word-at-requires-2 : tie.Need-word-at-requires-2
-word-at-requires-2 c κs = search needs
+is-word-at-requires-2 : tie.Need-is-word-at-requires-2
+is-word-at-requires-2 c κs = search needs
 
-slice-aggregate-word-at-3 : tie.Need-slice-aggregate-word-at-3
-slice-aggregate-word-at-3 c = search needs
+slice-aggregate-is-word-at-3 : tie.Need-slice-aggregate-is-word-at-3
+slice-aggregate-is-word-at-3 c = search needs
 
-word-at-requires-3 : tie.Need-word-at-requires-3
-word-at-requires-3 c κs = search needs
+is-word-at-requires-3 : tie.Need-is-word-at-requires-3
+is-word-at-requires-3 c κs = search needs
 
-slice-aggregate-word-at-4 : tie.Need-slice-aggregate-word-at-4
-slice-aggregate-word-at-4 c = search needs
+slice-aggregate-is-word-at-4 : tie.Need-slice-aggregate-is-word-at-4
+slice-aggregate-is-word-at-4 c = search needs
 
-word-at-requires-4 : tie.Need-word-at-requires-4
-word-at-requires-4 c κs = search needs
+is-word-at-requires-4 : tie.Need-is-word-at-requires-4
+is-word-at-requires-4 c κs = search needs
 
 returns : tie.Need-returns
 unfolding isImageType
 returns c =
-    rw (← c .before .before .before .before .before .before .before .count-values .ensures .0, le-leb 4 _ (c .before .before .before .before .before .before .if1 .taken), ← c .before .before .before .before .word-at .ensures, c .before .before .before .if2 .taken, ← c .before .word-at2 .ensures, c .if3 .taken)
+    rw (← c .before .before .before .before .before .before .before .count-values .ensures .0, le-leb 4 _ (c .before .before .before .before .before .before .if1 .taken), ← c .before .before .before .before .is-word-at .ensures, c .before .before .before .if2 .taken, ← c .before .is-word-at2 .ensures, c .if3 .taken)
 
 returns-2 : tie.Need-returns-2
 unfolding isImageType
 returns-2 c =
-    rw (← c .before .before .before .before .before .before .before .before .before .before .count-values .ensures .0, le-leb 4 _ (c .before .before .before .before .before .before .before .before .before .if1 .taken), ← c .before .before .before .before .before .before .before .word-at .ensures, c .before .before .before .before .before .before .if2 .taken, ← c .before .before .before .before .word-at2 .ensures, c .before .before .before .if3 .left, ← c .before .word-at3 .ensures, c .if4 .taken)
+    rw (← c .before .before .before .before .before .before .before .before .before .before .count-values .ensures .0, le-leb 4 _ (c .before .before .before .before .before .before .before .before .before .if1 .taken), ← c .before .before .before .before .before .before .before .is-word-at .ensures, c .before .before .before .before .before .before .if2 .taken, ← c .before .before .before .before .is-word-at2 .ensures, c .before .before .before .if3 .left, ← c .before .is-word-at3 .ensures, c .if4 .taken)
 
 returns-3 : tie.Need-returns-3
 unfolding isImageType
 returns-3 c =
-    rw (← c .before .before .before .before .before .before .before .before .before .before .before .before .count-values .ensures .0, le-leb 4 _ (c .before .before .before .before .before .before .before .before .before .before .before .if1 .taken), ← c .before .before .before .before .before .before .before .before .before .word-at .ensures, c .before .before .before .before .before .before .before .before .if2 .taken, ← c .before .before .before .before .before .before .word-at2 .ensures, c .before .before .before .before .before .if3 .left, ← c .before .before .before .word-at3 .ensures, c .before .before .if4 .left, ← c .word-at4 .ensures, and-true)
+    rw (← c .before .before .before .before .before .before .before .before .before .before .before .before .count-values .ensures .0, le-leb 4 _ (c .before .before .before .before .before .before .before .before .before .before .before .if1 .taken), ← c .before .before .before .before .before .before .before .before .before .is-word-at .ensures, c .before .before .before .before .before .before .before .before .if2 .taken, ← c .before .before .before .before .before .before .is-word-at2 .ensures, c .before .before .before .before .before .if3 .left, ← c .before .before .before .is-word-at3 .ensures, c .before .before .if4 .left, ← c .is-word-at4 .ensures, and-true)
 
 returns-4 : tie.Need-returns-4
 unfolding isImageType
 returns-4 c =
-    rw (← c .before .before .before .before .count-values .ensures .0, le-leb 4 _ (c .before .before .before .if1 .taken), ← c .before .word-at .ensures, c .if2 .left, and-false)
+    rw (← c .before .before .before .before .count-values .ensures .0, le-leb 4 _ (c .before .before .before .if1 .taken), ← c .before .is-word-at .ensures, c .if2 .left, and-false)
 
 returns-5 : tie.Need-returns-5
 unfolding isImageType
@@ -63,14 +63,14 @@ is-image-type-spec =
     tie.close
     (tie.spec
     count-values-requires
-    slice-aggregate-word-at
-    word-at-requires
-    slice-aggregate-word-at-2
-    word-at-requires-2
-    slice-aggregate-word-at-3
-    word-at-requires-3
-    slice-aggregate-word-at-4
-    word-at-requires-4
+    slice-aggregate-is-word-at
+    is-word-at-requires
+    slice-aggregate-is-word-at-2
+    is-word-at-requires-2
+    slice-aggregate-is-word-at-3
+    is-word-at-requires-3
+    slice-aggregate-is-word-at-4
+    is-word-at-requires-4
     returns
     returns-2
     returns-3

@@ -4,16 +4,16 @@ use borrow.Author.Needs.{needs}
 use Rattle.rules_root.proofs.is_xa.Statement.{statement}
 use Rattle.rules_root.proofs.is_xa.Tie as tie
 
-slice-aggregate-ui-root : tie.Need-slice-aggregate-ui-root
-slice-aggregate-ui-root c = search needs
+slice-aggregate-is-ui-root : tie.Need-slice-aggregate-is-ui-root
+slice-aggregate-is-ui-root c = search needs
 
-ui-root-requires : tie.Need-ui-root-requires
-ui-root-requires c κs = search needs
+is-ui-root-requires : tie.Need-is-ui-root-requires
+is-ui-root-requires c κs = search needs
 
 returns : tie.Need-returns
 unfolding isXa
 returns c =
-    c .ui-root .ensures
+    c .is-ui-root .ensures
 
 pub is-xa-spec : {M : Type 1} → statement M
-is-xa-spec = tie.close (tie.spec slice-aggregate-ui-root ui-root-requires returns)
+is-xa-spec = tie.close (tie.spec slice-aggregate-is-ui-root is-ui-root-requires returns)

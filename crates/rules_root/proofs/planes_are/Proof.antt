@@ -4,13 +4,13 @@ use borrow.Author.Needs.{needs}
 use Rattle.rules_root.proofs.planes_are.Statement.{statement}
 use Rattle.rules_root.proofs.planes_are.Tie as tie
 
-cs-root-requires : tie.Need-cs-root-requires
-cs-root-requires c κs = search needs
+is-cs-root-requires : tie.Need-is-cs-root-requires
+is-cs-root-requires c κs = search needs
 
 returns : tie.Need-returns
 unfolding planesAre
 returns c =
-    c .cs-root .ensures
+    c .is-cs-root .ensures
 
 pub planes-are-spec : {M : Type 1} → statement M
-planes-are-spec = tie.close (tie.spec cs-root-requires returns)
+planes-are-spec = tie.close (tie.spec is-cs-root-requires returns)

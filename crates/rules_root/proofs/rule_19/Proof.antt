@@ -16,11 +16,11 @@ has-root-requires c κs = search needs
 has-root-requires-2 : tie.Need-has-root-requires-2
 has-root-requires-2 c κs = search needs
 
-absent-root-requires : tie.Need-absent-root-requires
-absent-root-requires c κs = search needs
+is-absent-root-requires : tie.Need-is-absent-root-requires
+is-absent-root-requires c κs = search needs
 
-absent-root-requires-2 : tie.Need-absent-root-requires-2
-absent-root-requires-2 c κs = search needs
+is-absent-root-requires-2 : tie.Need-is-absent-root-requires-2
+is-absent-root-requires-2 c κs = search needs
 
 returns : tie.Need-returns
 unfolding rule19
@@ -35,12 +35,12 @@ returns-2 c =
 returns-3 : tie.Need-returns-3
 unfolding rule19
 returns-3 c =
-    rw (← c .before .before .before .before .lossy-is .ensures, c .before .before .before .if1 .left, ← c .before .before .absent-root .ensures, c .before .if3 .taken) (c .absent-root2 .ensures)
+    rw (← c .before .before .before .before .lossy-is .ensures, c .before .before .before .if1 .left, ← c .before .before .is-absent-root .ensures, c .before .if3 .taken) (c .is-absent-root2 .ensures)
 
 returns-4 : tie.Need-returns-4
 unfolding rule19
 returns-4 c =
-    rw (← c .before .before .before .lossy-is .ensures, c .before .before .if1 .left, ← c .before .absent-root .ensures, c .if3 .left)
+    rw (← c .before .before .before .lossy-is .ensures, c .before .before .if1 .left, ← c .before .is-absent-root .ensures, c .if3 .left)
 
 pub rule-19-spec : {M : Type 1} → statement M
 rule-19-spec =
@@ -50,8 +50,8 @@ rule-19-spec =
     lossy-is-requires
     has-root-requires
     has-root-requires-2
-    absent-root-requires
-    absent-root-requires-2
+    is-absent-root-requires
+    is-absent-root-requires-2
     returns
     returns-2
     returns-3

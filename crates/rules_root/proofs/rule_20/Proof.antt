@@ -24,8 +24,8 @@ is-one-item-requires : tie.Need-is-one-item-requires
 is-one-item-requires c κs =
     (c .before .before .before .before .before .before .before .before .before .pre, node-laws.within _ (c .before .i .given .1) (c .before .before .before .find-root .ensures .1))
 
-absent-root-requires : tie.Need-absent-root-requires
-absent-root-requires c κs = search needs
+is-absent-root-requires : tie.Need-is-absent-root-requires
+is-absent-root-requires c κs = search needs
 
 returns : tie.Need-returns
 unfolding rule20
@@ -40,7 +40,7 @@ returns-2 c =
 returns-3 : tie.Need-returns-3
 unfolding rule20
 returns-3 c =
-    rw (← c .before .before .planes-are .ensures, c .before .if1 .left) (c .absent-root .ensures)
+    rw (← c .before .before .planes-are .ensures, c .before .if1 .left) (c .is-absent-root .ensures)
 
 pub rule-20-spec : {M : Type 1} → statement M
 rule-20-spec =
@@ -52,7 +52,7 @@ rule-20-spec =
     enum-told
     enum-known-i
     is-one-item-requires
-    absent-root-requires
+    is-absent-root-requires
     returns
     returns-2
     returns-3)

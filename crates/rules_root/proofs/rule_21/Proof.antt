@@ -10,27 +10,27 @@ slice-aggregate-photometric-is c = search needs
 photometric-is-requires : tie.Need-photometric-is-requires
 photometric-is-requires c κs = search needs
 
-slice-aggregate-cs-root : tie.Need-slice-aggregate-cs-root
-slice-aggregate-cs-root c = search needs
+slice-aggregate-is-cs-root : tie.Need-slice-aggregate-is-cs-root
+slice-aggregate-is-cs-root c = search needs
 
-cs-root-requires : tie.Need-cs-root-requires
-cs-root-requires c κs = search needs
+is-cs-root-requires : tie.Need-is-cs-root-requires
+is-cs-root-requires c κs = search needs
 
-slice-aggregate-cs-root-2 : tie.Need-slice-aggregate-cs-root-2
-slice-aggregate-cs-root-2 c = search needs
+slice-aggregate-is-cs-root-2 : tie.Need-slice-aggregate-is-cs-root-2
+slice-aggregate-is-cs-root-2 c = search needs
 
-cs-root-requires-2 : tie.Need-cs-root-requires-2
-cs-root-requires-2 c κs = search needs
+is-cs-root-requires-2 : tie.Need-is-cs-root-requires-2
+is-cs-root-requires-2 c κs = search needs
 
 returns : tie.Need-returns
 unfolding rule21
 returns c =
-    rw (← c .before .before .before .photometric-is .ensures, c .before .before .if1 .taken) (c .cs-root .ensures)
+    rw (← c .before .before .before .photometric-is .ensures, c .before .before .if1 .taken) (c .is-cs-root .ensures)
 
 returns-2 : tie.Need-returns-2
 unfolding rule21
 returns-2 c =
-    rw (← c .before .before .before .photometric-is .ensures, c .before .before .if1 .left) (c .cs-root2 .ensures)
+    rw (← c .before .before .before .photometric-is .ensures, c .before .before .if1 .left) (c .is-cs-root2 .ensures)
 
 pub rule-21-spec : {M : Type 1} → statement M
 rule-21-spec =
@@ -38,9 +38,9 @@ rule-21-spec =
     (tie.spec
     slice-aggregate-photometric-is
     photometric-is-requires
-    slice-aggregate-cs-root
-    cs-root-requires
-    slice-aggregate-cs-root-2
-    cs-root-requires-2
+    slice-aggregate-is-cs-root
+    is-cs-root-requires
+    slice-aggregate-is-cs-root-2
+    is-cs-root-requires-2
     returns
     returns-2)

@@ -10,16 +10,16 @@ is-original-requires c κs = search needs
 is-xrf-requires : tie.Need-is-xrf-requires
 is-xrf-requires c κs = search needs
 
-slice-aggregate-cs-root : tie.Need-slice-aggregate-cs-root
-slice-aggregate-cs-root c = search needs
+slice-aggregate-is-cs-root : tie.Need-slice-aggregate-is-cs-root
+slice-aggregate-is-cs-root c = search needs
 
-cs-root-requires : tie.Need-cs-root-requires
-cs-root-requires c κs = search needs
+is-cs-root-requires : tie.Need-is-cs-root-requires
+is-cs-root-requires c κs = search needs
 
 returns : tie.Need-returns
 unfolding rule24
 returns c =
-    rw (← c .before .before .before .before .before .is-original .ensures, c .before .before .before .before .if1 .taken, ← c .before .before .before .is-xrf .ensures, c .before .before .if2 .taken) (c .cs-root .ensures)
+    rw (← c .before .before .before .before .before .is-original .ensures, c .before .before .before .before .if1 .taken, ← c .before .before .before .is-xrf .ensures, c .before .before .if2 .taken) (c .is-cs-root .ensures)
 
 returns-2 : tie.Need-returns-2
 unfolding rule24
@@ -37,8 +37,8 @@ rule-24-spec =
     (tie.spec
     is-original-requires
     is-xrf-requires
-    slice-aggregate-cs-root
-    cs-root-requires
+    slice-aggregate-is-cs-root
+    is-cs-root-requires
     returns
     returns-2
     returns-3)

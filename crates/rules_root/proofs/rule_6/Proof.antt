@@ -10,8 +10,8 @@ slice-aggregate-planes-are c = search needs
 planes-are-requires : tie.Need-planes-are-requires
 planes-are-requires c κs = search needs
 
-absent-root-requires : tie.Need-absent-root-requires
-absent-root-requires c κs = search needs
+is-absent-root-requires : tie.Need-is-absent-root-requires
+is-absent-root-requires c κs = search needs
 
 has-root-requires : tie.Need-has-root-requires
 has-root-requires c κs = search needs
@@ -19,7 +19,7 @@ has-root-requires c κs = search needs
 returns : tie.Need-returns
 unfolding rule6
 returns c =
-    rw (← c .before .before .planes-are .ensures, c .before .if1 .taken) (c .absent-root .ensures)
+    rw (← c .before .before .planes-are .ensures, c .before .if1 .taken) (c .is-absent-root .ensures)
 
 returns-2 : tie.Need-returns-2
 unfolding rule6
@@ -32,7 +32,7 @@ rule-6-spec =
     (tie.spec
     slice-aggregate-planes-are
     planes-are-requires
-    absent-root-requires
+    is-absent-root-requires
     has-root-requires
     returns
     returns-2)

@@ -5,54 +5,54 @@ use borrow.Author.Needs.{needs}
 use Rattle.steps.proofs.operation_of.Statement.{statement}
 use Rattle.steps.proofs.operation_of.Tie as tie
 
-slice-aggregate-cs-item : tie.Need-slice-aggregate-cs-item
-slice-aggregate-cs-item c = search needs
+slice-aggregate-is-cs-item : tie.Need-slice-aggregate-is-cs-item
+slice-aggregate-is-cs-item c = search needs
 
-cs-item-requires : tie.Need-cs-item-requires
-cs-item-requires c κs = search needs
+is-cs-item-requires : tie.Need-is-cs-item-requires
+is-cs-item-requires c κs = search needs
 
-slice-aggregate-cs-item-2 : tie.Need-slice-aggregate-cs-item-2
-slice-aggregate-cs-item-2 c = search needs
+slice-aggregate-is-cs-item-2 : tie.Need-slice-aggregate-is-cs-item-2
+slice-aggregate-is-cs-item-2 c = search needs
 
-cs-item-requires-2 : tie.Need-cs-item-requires-2
-cs-item-requires-2 c κs = search needs
+is-cs-item-requires-2 : tie.Need-is-cs-item-requires-2
+is-cs-item-requires-2 c κs = search needs
 
-slice-aggregate-cs-item-3 : tie.Need-slice-aggregate-cs-item-3
-slice-aggregate-cs-item-3 c = search needs
+slice-aggregate-is-cs-item-3 : tie.Need-slice-aggregate-is-cs-item-3
+slice-aggregate-is-cs-item-3 c = search needs
 
-cs-item-requires-3 : tie.Need-cs-item-requires-3
-cs-item-requires-3 c κs = search needs
+is-cs-item-requires-3 : tie.Need-is-cs-item-requires-3
+is-cs-item-requires-3 c κs = search needs
 
 returns : tie.Need-returns
 unfolding operationOf operationIs
 returns c =
-    rw (← c .before .cs-item .ensures, c .if1 .taken)
+    rw (← c .before .is-cs-item .ensures, c .if1 .taken)
 
 returns-2 : tie.Need-returns-2
 unfolding operationOf operationIs
 returns-2 c =
-    rw (← c .before .before .before .before .cs-item .ensures, c .before .before .before .if1 .left, ← c .before .cs-item2 .ensures, c .if2 .taken)
+    rw (← c .before .before .before .before .is-cs-item .ensures, c .before .before .before .if1 .left, ← c .before .is-cs-item2 .ensures, c .if2 .taken)
 
 returns-3 : tie.Need-returns-3
 unfolding operationOf operationIs
 returns-3 c =
-    rw (← c .before .before .before .before .before .before .before .cs-item .ensures, c .before .before .before .before .before .before .if1 .left, ← c .before .before .before .before .cs-item2 .ensures, c .before .before .before .if2 .left, ← c .before .cs-item3 .ensures, c .if3 .taken)
+    rw (← c .before .before .before .before .before .before .before .is-cs-item .ensures, c .before .before .before .before .before .before .if1 .left, ← c .before .before .before .before .is-cs-item2 .ensures, c .before .before .before .if2 .left, ← c .before .is-cs-item3 .ensures, c .if3 .taken)
 
 returns-4 : tie.Need-returns-4
 unfolding operationOf operationIs
 returns-4 c =
-    rw (← c .before .before .before .before .before .before .before .cs-item .ensures, c .before .before .before .before .before .before .if1 .left, ← c .before .before .before .before .cs-item2 .ensures, c .before .before .before .if2 .left, ← c .before .cs-item3 .ensures, c .if3 .left)
+    rw (← c .before .before .before .before .before .before .before .is-cs-item .ensures, c .before .before .before .before .before .before .if1 .left, ← c .before .before .before .before .is-cs-item2 .ensures, c .before .before .before .if2 .left, ← c .before .is-cs-item3 .ensures, c .if3 .left)
 
 pub operation-of-spec : {M : Type 1} → statement M
 operation-of-spec =
     tie.close
     (tie.spec
-    slice-aggregate-cs-item
-    cs-item-requires
-    slice-aggregate-cs-item-2
-    cs-item-requires-2
-    slice-aggregate-cs-item-3
-    cs-item-requires-3
+    slice-aggregate-is-cs-item
+    is-cs-item-requires
+    slice-aggregate-is-cs-item-2
+    is-cs-item-requires-2
+    slice-aggregate-is-cs-item-3
+    is-cs-item-requires-3
     returns
     returns-2
     returns-3

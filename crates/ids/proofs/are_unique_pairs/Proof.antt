@@ -5,8 +5,8 @@ use Prim.Native.Nat.{_-_}
 use Rattle.node.specs.Nodes.{nodesOf, members}
 use Rattle.rules.specs.Frame.{uniqueIds}
 use Rattle.ids.proofs.Laws as laws
-use Rattle.ids.proofs.unique_pairs.Statement.{statement}
-use Rattle.ids.proofs.unique_pairs.Tie as tie
+use Rattle.ids.proofs.are_unique_pairs.Statement.{statement}
+use Rattle.ids.proofs.are_unique_pairs.Tie as tie
 
 abbrev Inv-loop : tie.InvT-loop
 Inv-loop bytes rows from to at₀ at =
@@ -42,8 +42,8 @@ returns-2 : tie.Need-returns-2 Inv-loop μ-loop
 returns-2 c =
     sym (laws.unique-end _ _ _ (c .loop-test .left)) ∙ c .before .loop .inv
 
-pub unique-pairs-spec : {M : Type 1} → statement M
-unique-pairs-spec =
+pub are-unique-pairs-spec : {M : Type 1} → statement M
+are-unique-pairs-spec =
     tie.close
     (tie.spec
     Inv-loop

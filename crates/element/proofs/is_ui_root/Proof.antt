@@ -1,8 +1,8 @@
 -- The value of the UI that is found is compared; where none is found, the test is false.
 use Rattle.node.proofs.Laws as node-laws
 use borrow.Author.Needs.{needs}
-use Rattle.element.proofs.ui_root.Statement.{statement}
-use Rattle.element.proofs.ui_root.Tie as tie
+use Rattle.element.proofs.is_ui_root.Statement.{statement}
+use Rattle.element.proofs.is_ui_root.Tie as tie
 
 find-vr-root-requires : tie.Need-find-vr-root-requires
 find-vr-root-requires c κs = search needs
@@ -28,8 +28,8 @@ returns-2 : tie.Need-returns-2
 returns-2 c =
     rw (node-laws.had (c .before .before .before .i .given .1) (c .before .before .before .before .before .find-vr-root .ensures .0), ← c .before .value .ensures) (c .is-uid .ensures)
 
-pub ui-root-spec : {M : Type 1} → statement M
-ui-root-spec =
+pub is-ui-root-spec : {M : Type 1} → statement M
+is-ui-root-spec =
     tie.close
     (tie.spec
     find-vr-root-requires

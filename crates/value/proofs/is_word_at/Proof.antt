@@ -1,8 +1,8 @@
 -- Parting, trimming and comparing are the steps of the definition.
 use Rattle.value.specs.Words.{wordAt}
 use borrow.Author.Needs.{needs}
-use Rattle.value.proofs.word_at.Statement.{statement}
-use Rattle.value.proofs.word_at.Tie as tie
+use Rattle.value.proofs.is_word_at.Statement.{statement}
+use Rattle.value.proofs.is_word_at.Tie as tie
 
 value-of-requires : tie.Need-value-of-requires
 value-of-requires c κs = search needs
@@ -18,5 +18,5 @@ unfolding wordAt
 returns c =
     rw (c .equal .ensures, c .before .trimmed .ensures, c .before .before .value-of .ensures)
 
-pub word-at-spec : {M : Type 1} → statement M
-word-at-spec = tie.close (tie.spec value-of-requires trimmed-requires equal-requires returns)
+pub is-word-at-spec : {M : Type 1} → statement M
+is-word-at-spec = tie.close (tie.spec value-of-requires trimmed-requires equal-requires returns)

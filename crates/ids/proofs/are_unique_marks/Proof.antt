@@ -8,8 +8,8 @@ use Rattle.node.specs.Nodes.{nodesOf, members}
 use Rattle.rules.specs.Frame.{uniqueIds}
 use Rattle.ids.specs.Contracts.{idsOf}
 use Rattle.ids.proofs.Laws as laws
-use Rattle.ids.proofs.unique_marks.Statement.{statement}
-use Rattle.ids.proofs.unique_marks.Tie as tie
+use Rattle.ids.proofs.are_unique_marks.Statement.{statement}
+use Rattle.ids.proofs.are_unique_marks.Tie as tie
 
 abbrev Inv-loop : tie.InvT-loop
 Inv-loop bytes rows from to marks₀ at₀ marks at =
@@ -52,8 +52,8 @@ returns-2 : tie.Need-returns-2 Inv-loop μ-loop
 returns-2 c =
     sym (laws.fresh-end _ _ _ _ (c .loop-test .left)) ∙ c .before .loop .inv .1
 
-pub unique-marks-spec : {M : Type 1} → statement M
-unique-marks-spec =
+pub are-unique-marks-spec : {M : Type 1} → statement M
+are-unique-marks-spec =
     tie.close
     (tie.spec
     Inv-loop

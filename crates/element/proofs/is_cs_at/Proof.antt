@@ -1,8 +1,8 @@
 -- The value of what was found is compared.
 use Rattle.node.proofs.Laws as node-laws
 use borrow.Author.Needs.{needs}
-use Rattle.element.proofs.cs_at.Statement.{statement}
-use Rattle.element.proofs.cs_at.Tie as tie
+use Rattle.element.proofs.is_cs_at.Statement.{statement}
+use Rattle.element.proofs.is_cs_at.Tie as tie
 
 enum-told : tie.Need-enum-told
 enum-told c = search needs
@@ -24,7 +24,7 @@ returns-2 : tie.Need-returns-2
 returns-2 c =
     rw (c .before .before .before .found .given .1, ← c .before .value .ensures) (c .is-word .ensures)
 
-pub cs-at-spec : {M : Type 1} → statement M
-cs-at-spec =
+pub is-cs-at-spec : {M : Type 1} → statement M
+is-cs-at-spec =
     tie.close
     (tie.spec enum-told enum-known-found value-requires is-word-requires returns returns-2)

@@ -1,8 +1,8 @@
 -- The sequence is absent just where the search finds none.
 use Rattle.node.proofs.Laws as node-laws
 use borrow.Author.Needs.{needs}
-use Rattle.rules_frame.proofs.content_absent.Statement.{statement}
-use Rattle.rules_frame.proofs.content_absent.Tie as tie
+use Rattle.rules_frame.proofs.is_content_absent.Statement.{statement}
+use Rattle.rules_frame.proofs.is_content_absent.Tie as tie
 
 find-item-requires : tie.Need-find-item-requires
 find-item-requires c κs = search needs
@@ -21,6 +21,6 @@ returns-2 : tie.Need-returns-2
 returns-2 c =
     rw (node-laws.had (c .enum-told2 .given .1) (c .before .before .find-item .ensures .0))
 
-pub content-absent-spec : {M : Type 1} → statement M
-content-absent-spec =
+pub is-content-absent-spec : {M : Type 1} → statement M
+is-content-absent-spec =
     tie.close (tie.spec find-item-requires enum-told enum-told-2 returns returns-2)

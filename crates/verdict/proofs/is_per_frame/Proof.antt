@@ -1,9 +1,9 @@
--- `per_frame` answers `perFrame`: at each return the tests on the way say which of its comparisons hold.
+-- `is_per_frame` answers `perFrame`: at each return the tests on the way say which of its comparisons hold.
 use borrow.Author.Tests.{le-leb, lt-leb, eq-eqb, ne-eqb}
 use mathlib.Core.Bool.{or-true, or-false}
 use Rattle.verdict.specs.Verdict.{perFrame}
-use Rattle.verdict.proofs.per_frame.Statement.{statement}
-use Rattle.verdict.proofs.per_frame.Tie as tie
+use Rattle.verdict.proofs.is_per_frame.Statement.{statement}
+use Rattle.verdict.proofs.is_per_frame.Tie as tie
 
 returns : tie.Need-returns
 unfolding perFrame
@@ -25,5 +25,5 @@ unfolding perFrame
 returns-4 c =
     simp (ne-eqb _ _ (c .before .before .if1 .left), ne-eqb _ _ (c .before .if2 .left), lt-leb _ _ (c .if3 .left))
 
-pub per-frame-spec : {M : Type 1} → statement M
-per-frame-spec = tie.close (tie.spec returns returns-2 returns-3 returns-4)
+pub is-per-frame-spec : {M : Type 1} → statement M
+is-per-frame-spec = tie.close (tie.spec returns returns-2 returns-3 returns-4)
