@@ -4,8 +4,9 @@
 //! are not written to take none. Otherwise the library says how many rows a data set has (`library::count`), which takes
 //! half as long as reading it, and just so many are lent.
 
+use crate::codes::{Code, Coded};
 use crate::head::Form;
-use crate::library::{self, Answer, Coded, Compared, Memory, Rewritten, ROW_WIDTH};
+use crate::library::{self, Answer, Compared, Memory, Rewritten, ROW_WIDTH};
 use crate::memory::{self, Granted};
 use crate::table::Table;
 
@@ -14,9 +15,6 @@ const KEPT: usize = 4096;
 
 /// The bytes of a row.
 const ROW_BYTES: u64 = ROW_WIDTH as u64 * 4;
-
-/// The code of a buffer that is too small.
-const NO_ROOM: u32 = 8;
 
 /// So many bytes are needed for rows, and are not free beside what else is held.
 pub struct NoRoom(pub u64);
@@ -116,7 +114,7 @@ impl RowBuffer {
     ) -> Result<A, String> {
         if self.enough == Some(place(data)) {
             let answer = call(data, self.memory.numbers_mut());
-            if answer.code() != NO_ROOM {
+            if answer.code() != Code::NoRoomForRows {
                 return Ok(answer);
             }
         }
