@@ -405,3 +405,66 @@ pub fn beside(path: &Path, ending: &str) -> PathBuf {
     name.push(ending);
     PathBuf::from(name)
 }
+
+#[cfg(test)]
+mod tests {
+    use super::*;
+
+    fn shown(name: &[u8]) -> String {
+        String::from_utf8(printed(Path::new(OsStr::from_bytes(name)))).unwrap()
+    }
+
+    #[test]
+    fn names_in_print() {
+        assert_eq!(shown("a b/\u{E9}\u{4E2D}.xa".as_bytes()), "a b/\u{E9}\u{4E2D}.xa");
+        assert_eq!(shown(b"a\nb\x1B\x7F"), "a\\x0Ab\\x1B\\x7F");
+        assert_eq!(shown(b"a\\x0A"), "a\\\\x0A");
+        assert_eq!(shown(b"\xFFa\xC3"), "\\xFFa\\xC3");
+        assert_eq!(shown("\u{202E}gpj\u{2028}\u{AD}".as_bytes()), "\\u{202E}gpj\\u{2028}\\u{AD}");
+        assert_eq!(shown(b""), "");
+    }
+
+    /// What is a byte that is no text, and what spells its escape, look different.
+    #[test]
+    fn no_two_names_look_the_same() {
+        let names: [&[u8]; 6] = [b"\n", b"\\x0A", b"\\\\x0A", "\u{A0}".as_bytes(), b"\\u{A0}", b"\xA0"];
+        let all: std::collections::HashSet<String> = names.iter().map(|name| shown(name)).collect();
+        assert_eq!(all.len(), names.len());
+    }
+
+    #[test]
+    fn drafts_have_their_own_names() {
+        assert!(is_draft(OsStr::new(".luux-a1.tmp")));
+        assert!(!is_draft(OsStr::new("luux-a1.tmp")) && !is_draft(OsStr::new(".luux-a1")));
+        assert_eq!(beside(Path::new("a/b/run.xa"), ".movie.png"), Path::new("run.xa.movie.png"));
+    }
+
+    #[test]
+    fn times() {
+        assert!(since((0, 0)).unwrap() > Duration::from_secs(1_000_000_000));
+        assert!(since((-5, 0)).is_some() && since((i64::MAX, 0)).is_none() && since((1, -1)).is_none());
+    }
+
+    /// Leases, where the file system has them: one is had where nobody writes, none where somebody does, and it is lost to one who wants to.
+    #[test]
+    fn leases() {
+        let path = tempfile::NamedTempFile::new().unwrap().into_temp_path();
+        let file = File::open(&path).unwrap();
+        if matches!(writers(&file), Writers::Unknown) {
+            return;
+        }
+        let writer = fs::OpenOptions::new().write(true).open(&path).unwrap();
+        assert!(matches!(writers(&file), Writers::Some) && is_written_to(&path));
+        drop(writer);
+        assert!(!is_written_to(&path));
+        let Writers::None(lease) = writers(&file) else { panic!("nobody writes") };
+        assert!(lease.holds());
+        let path = path.to_path_buf();
+        let other = thread::spawn(move || fs::OpenOptions::new().write(true).open(path).is_ok());
+        while lease.holds() {
+            thread::yield_now();
+        }
+        drop(lease);
+        assert!(other.join().unwrap());
+    }
+}

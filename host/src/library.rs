@@ -290,9 +290,6 @@ pub fn read_slip(slip: &[u8]) -> Slip {
     unsafe { xa_read_slip(slip.as_ptr(), slip.len()) }
 }
 
-/// Memory of this size is asked for in large pages, of 2 MiB mostly; so at most a sixteenth of it is more than was written to.
-const LARGE: usize = 32 << 20;
-
 /// Memory of our own that no allocator keeps: it goes back to the system as soon as it is dropped, and pages that nobody writes to
 /// take none. It is all zeros at first.
 #[derive(Default)]
@@ -304,12 +301,7 @@ impl Memory {
         if size == 0 {
             return Ok(Memory(None));
         }
-        let memory = memmap2::MmapMut::map_anon(size)?;
-        if size >= LARGE {
-            // Large pages are found faster. Where there are none, small ones do.
-            let _ = memory.advise(memmap2::Advice::HugePage);
-        }
-        Ok(Memory(Some(memory)))
+        Ok(Memory(Some(memmap2::MmapMut::map_anon(size)?)))
     }
 
     pub fn bytes(&self) -> &[u8] {

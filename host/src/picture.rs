@@ -501,3 +501,32 @@ pub fn linear_text(path: &Path, form: head::Form, frame: u64, out: &mut dyn Writ
 pub fn is_picture_name(path: &Path) -> bool {
     form_of(path).is_some()
 }
+
+#[cfg(test)]
+mod tests {
+    use super::*;
+
+    #[test]
+    fn frames_are_spread_evenly() {
+        assert_eq!(chosen(1, 6), [1]);
+        assert_eq!(chosen(4, 6), [1, 2, 3, 4]);
+        assert_eq!(chosen(100, 3), [1, 50, 100]);
+        assert!(chosen(0, 6).is_empty());
+        assert_eq!((chosen(65_535, 24).len(), chosen(65_535, 24)[23]), (24, 65_535));
+    }
+
+    #[test]
+    fn pictures_are_sampled_and_stand_beside_each_other() {
+        let image = Image { width: 3, height: 2, cells: vec![1u8, 2, 3, 4, 5, 6] };
+        assert_eq!(image.sampled(2).cells, [1, 3]);
+        assert_eq!(image.sampled(3).cells, image.cells);
+        assert_eq!(image.beside(&image).cells, [1, 2, 3, 1, 2, 3, 4, 5, 6, 4, 5, 6]);
+        assert_eq!(image.encoded(Form::Pgm).unwrap(), b"P5\n3 2\n255\n\x01\x02\x03\x04\x05\x06");
+    }
+
+    #[test]
+    fn forms_go_by_the_name() {
+        assert!(form_of(Path::new("a.PNG")) == Some(Form::Png) && form_of(Path::new("a.pgm")) == Some(Form::Pgm));
+        assert!(form_of(Path::new("png")).is_none() && !is_picture_name(Path::new("a.jpg")));
+    }
+}

@@ -56,3 +56,44 @@ fn item(frame: u32, row: u32) -> String {
         _ => format!(", item {frame} of (5200,9230), row {row}"),
     }
 }
+
+#[cfg(test)]
+mod tests {
+    use super::*;
+
+    /// An answer as the library would give it.
+    fn given(fields: serde_json::Value) -> Answer {
+        let mut all = serde_json::to_value(Answer::default()).unwrap();
+        all.as_object_mut().unwrap().extend(fields.as_object().unwrap().clone());
+        serde_json::from_value(all).unwrap()
+    }
+
+    #[test]
+    fn each_rule_has_a_sentence() {
+        assert!((1..=39).all(|number| rule(number).ends_with('.') && rule(number).contains('(')));
+        assert_eq!((rule(0), rule(40), rule(u32::MAX)), ("no such rule", "no such rule", "no such rule"));
+        assert!(rule(38).starts_with("Pixel Data (7FE0,0010) must be OW"));
+    }
+
+    #[test]
+    fn answers_in_a_line() {
+        assert_eq!(answer(&Answer::default(), 0, None), "accepted");
+        let cut = given(serde_json::json!({"code": 1, "offset": 10}));
+        let said = answer(&cut, 0, Some(300));
+        assert!(said.starts_with("code 1 at byte 10 of the data set, byte 310 of the file: cut short"), "{said}");
+        assert!(answer(&cut, 0, None).starts_with("code 1 at byte 10: cut short"));
+        let broken = given(serde_json::json!({"code": 9, "rule": 28, "frame": 5}));
+        assert_eq!(answer(&broken, 48, None), format!("rule 28, frame 5, item 5 of (5200,9230), row 48: {}", rule(28)));
+        assert_eq!(answer(&broken, 0, None), format!("rule 28, frame 5: {}", rule(28)));
+        assert_eq!(answer(&given(serde_json::json!({"code": 10})), 0, None), "code 10: no such frame");
+        assert_eq!(answer(&given(serde_json::json!({"code": 77})), 0, None), "code 77: unknown code");
+    }
+
+    #[test]
+    fn slips_in_a_line() {
+        assert_eq!(slip(&Answer::default(), Some(57)), "accepted, rows 57");
+        assert_eq!(slip(&Answer::default(), None), "accepted, rows not known");
+        let broken = given(serde_json::json!({"code": 9, "rule": 1}));
+        assert_eq!(slip(&broken, Some(0)), format!("rule 1, frame 0, rows 0: {}", rule(1)));
+    }
+}

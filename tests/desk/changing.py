@@ -345,5 +345,33 @@ class TestArriving(Desk):
         for wrong in ("-1", "soon", "nan", "inf"):
             self.assertIn(b"seconds", self.luux("judge", "in", f"--settle={wrong}", status=FAILED).stderr)
 
+    def test_other_commands(self):
+        """Whatever goes through a folder leaves alone what still arrives, and gives up on what takes too long."""
+        for name, content in (("a", good_run()), ("b", good_run()), ("c", good_run()[:-2]), ("young", good_run())):
+            self.put(f"in/{name}.dcm", with_head(content))
+            os.utime(self.path("in", f"{name}.dcm"), (time.time() - (0 if name == "young" else 500),) * 2)
+        done = self.luux("duplicates", "in", "--settle", "300", status=REFUSED)
+        self.assertEqual(done.stdout.decode().splitlines()[1:], [
+            "  in/a.dcm", "  in/b.dcm", "4 files: 2 with an equal in 1 group, 1 refused, 0 could not be read, 1 arriving"])
+        self.assertRegex(done.stderr, b"in/young.dcm: arriving: written to \\d+ seconds ago")
+        said = self.luux("report", "in", "--settle", "300", "--csv").stdout.decode()
+        self.assertIn("2 accepted, 1 refused, 0 could not be read, 1 arriving", said)
+        with open(self.path("report.csv"), encoding="utf-8") as file:
+            self.assertRegex(file.read(), "in/young.dcm,arriving,")
+        for words, status in ((("duplicates", "in"), REFUSED), (("report", "in", "--csv"), FINE)):
+            said, tables = [], []
+            for more in ((), ("--timeout", "60")):
+                done = self.luux(*words, *more, status=status)
+                said.append((done.stdout, done.stderr))
+                with open(self.path("report.csv"), "rb") as file:
+                    tables.append(file.read())
+                with open(self.path("report.html"), "rb") as file:
+                    tables.append(file.read().count(b"data:image/png"))
+            self.assertEqual(said[0], said[1])
+            self.assertEqual(tables[:2], tables[2:])
+        done = self.luux("duplicates", "in", "--timeout", "0", status=FAILED)
+        self.assertEqual(done.stderr.count(b"took more than 0 seconds, the --timeout"), 4)
+        self.assertIn(b"4 could not be read", self.luux("report", "in", "--timeout", "0").stdout)
+
 
 __all__ = [name for name, one in list(globals().items()) if isinstance(one, type) and issubclass(one, unittest.TestCase) and one is not Desk]

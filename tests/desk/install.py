@@ -92,6 +92,12 @@ class TestInstall(Desk):
             with open(os.path.join(share, "man", "man1", "luux-report.1"), encoding="utf-8") as file:
                 self.assertIn("\\-\\-settle", file.read())
 
+    def test_units(self):
+        """The tests that stand beside the tool's own functions."""
+        said = self.run_quietly("cargo", "test", "--offline", "--quiet", "--target-dir", os.path.join(ROOT, "host", "target"),
+                                cwd=os.path.join(ROOT, "host"))
+        self.assertRegex(said, r"test result: ok\. [1-9]\d* passed; 0 failed; 0 ignored")
+
     def test_constants(self):
         """Each code has one name; the sizes are those of the tool's own reader."""
         with open(os.path.join(ROOT, "include", "luuxidgaan.h"), encoding="utf-8") as file:
