@@ -67,7 +67,8 @@ fn sentences(source: &str) -> Result<Vec<&str>, String> {
                 return Err(format!("rule {} is due, and the arm is that of {number:?}", found.len() + 1));
             }
             Some((text, rest)) if rest.trim_start().trim_start_matches(',').trim_start().starts_with(')') => {
-                let plain = text.ends_with('.') && text.bytes().all(|letter| (b' '..=b'~').contains(&letter) && letter != b'\\');
+                let plain = text.ends_with('.')
+                    && text.bytes().all(|letter| (b' '..=b'~').contains(&letter) && letter != b'\\');
                 found.push(text);
                 if !plain {
                     return Err(format!("the sentence of rule {number} is no plain text with a full stop at its end"));
@@ -84,7 +85,8 @@ fn sentences(source: &str) -> Result<Vec<&str>, String> {
 }
 
 fn rules(source: &str) -> String {
-    let found = sentences(source).unwrap_or_else(|trouble| panic!("{SENTENCES} has another form than it had: {trouble}"));
+    let found =
+        sentences(source).unwrap_or_else(|trouble| panic!("{SENTENCES} has another form than it had: {trouble}"));
     format!("static RULES: [&str; {RULES}] = {found:#?};\n")
 }
 

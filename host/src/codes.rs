@@ -108,7 +108,8 @@ mod tests {
     #[test]
     fn codes_are_those_of_the_header() {
         let header = include_str!("../../include/luuxidgaan.h");
-        let named = header.lines().filter_map(|line| line.strip_prefix("    XA_")?.trim_end_matches(',').split_once(" = "));
+        let named =
+            header.lines().filter_map(|line| line.strip_prefix("    XA_")?.trim_end_matches(',').split_once(" = "));
         let named: Vec<(String, u32)> =
             named.map(|(name, number)| (name.replace('_', "").to_lowercase(), number.parse().unwrap())).collect();
         let ours = (0..).zip(CODES).map(|(number, (code, _))| (format!("{code:?}").to_lowercase(), number));
@@ -120,7 +121,10 @@ mod tests {
         for (number, (code, meaning)) in (0..).zip(CODES) {
             assert_eq!((Code::of(number), code as u32, code.meaning()), (code, number, meaning));
         }
-        assert_eq!((Code::of(24), Code::of(u32::MAX), Code::Unknown.meaning()), (Code::Unknown, Code::Unknown, "unknown code"));
+        assert_eq!(
+            (Code::of(24), Code::of(u32::MAX), Code::Unknown.meaning()),
+            (Code::Unknown, Code::Unknown, "unknown code")
+        );
     }
 
     #[test]

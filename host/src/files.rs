@@ -124,16 +124,7 @@ fn resting(file: &File, long: Duration, looks: usize) -> io::Result<Option<State
 
 /// File systems, as statfs(2) numbers them, that others write to without this kernel: Ceph, CIFS, FUSE, NFS, 9P, SMB, SMB2, VirtualBox. There a
 /// lease says nothing of the others, and there may be none though nobody writes.
-const SHARED: [u64; 8] = [
-    0x00C3_6400,
-    0xFF53_4D42,
-    0x6573_5546,
-    0x6969,
-    0x0102_1997,
-    0x517B,
-    0xFE53_4D42,
-    0x786F_4256,
-];
+const SHARED: [u64; 8] = [0x00C3_6400, 0xFF53_4D42, 0x6573_5546, 0x6969, 0x0102_1997, 0x517B, 0xFE53_4D42, 0x786F_4256];
 
 /// Whether only this kernel writes to the file's file system, as far as it says.
 fn is_local(file: &File) -> bool {

@@ -163,7 +163,9 @@ impl<'a> Batch<'a> {
             return Looked::Arriving(why);
         }
         let looked = match self.wanted.timeout {
-            Some(limit) => looking::within(limit, What::Verdict, &one.path, self.wanted.form).unwrap_or_else(Looked::Trouble),
+            Some(limit) => {
+                looking::within(limit, What::Verdict, &one.path, self.wanted.form).unwrap_or_else(Looked::Trouble)
+            }
             None => looking::here(&one.path, self.wanted.form, buffer),
         };
         // With --settle, one that changed meanwhile is arriving too.
@@ -196,7 +198,8 @@ impl<'a> Batch<'a> {
             }
         };
         let numbers = 0..self.found.len();
-        let pool = rayon::ThreadPoolBuilder::new().stack_size(STACK).num_threads(self.wanted.jobs.min(self.found.len()));
+        let pool =
+            rayon::ThreadPoolBuilder::new().stack_size(STACK).num_threads(self.wanted.jobs.min(self.found.len()));
         match pool.build() {
             Ok(pool) => pool.install(|| numbers.par_bridge().for_each_init(RowBuffer::default, one)),
             // Without threads the same is done one by one.

@@ -123,7 +123,12 @@ pub fn within<T: DeserializeOwned>(limit: Duration, what: What, path: &Path, for
 }
 
 /// The same where nothing else is looked at: all memory is the other process's.
-pub fn within_alone<T: DeserializeOwned>(limit: Duration, what: What, paths: &[&Path], form: Form) -> Result<T, String> {
+pub fn within_alone<T: DeserializeOwned>(
+    limit: Duration,
+    what: What,
+    paths: &[&Path],
+    form: Form,
+) -> Result<T, String> {
     match ask(limit, what, paths, form, memory::limit())? {
         Said::Needs(bytes) => Err(memory::too_much(bytes, memory::limit())),
         Said::Looked(looked) => Ok(looked),
@@ -169,10 +174,7 @@ fn wait<T: DeserializeOwned>(mut child: Child, limit: Duration) -> io::Result<Re
         child.kill()?;
         // Where a disk hangs, the process stays until the disk answers. Neither it nor the listener is waited for.
         child.wait_timeout(Duration::from_secs(1))?;
-        return Ok(Err(format!(
-            "took more than {} seconds, the --timeout; there is no verdict",
-            limit.as_secs_f64()
-        )));
+        return Ok(Err(format!("took more than {} seconds, the --timeout; there is no verdict", limit.as_secs_f64())));
     };
     let said = listener.join().unwrap_or_else(|_| Ok(Vec::new()))?;
     Ok(serde_json::from_slice(&said).map_err(|_| {

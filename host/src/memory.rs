@@ -139,7 +139,10 @@ mod tests {
 
     #[test]
     fn numbers_of_bytes() {
-        assert_eq!([bytes("17"), bytes("1K"), bytes("800M"), bytes("2G")], [Ok(17), Ok(1 << 10), Ok(800 << 20), Ok(2 << 30)]);
+        assert_eq!(
+            [bytes("17"), bytes("1K"), bytes("800M"), bytes("2G")],
+            [Ok(17), Ok(1 << 10), Ok(800 << 20), Ok(2 << 30)]
+        );
         for wrong in ["", "-1", "many", "4T", "1.5G", "99999999999999999999", "99999999999G"] {
             assert!(bytes(wrong).is_err(), "{wrong}");
         }

@@ -22,7 +22,9 @@ pub fn what(content: &[u8], answer: &Answer, buffer: &mut RowBuffer) -> Option<S
             let certain = match code {
                 // The data set names the same class.
                 Code::RuleBroken => true,
-                Code::OtherSopClass => !data_class(content, buffer).map_or(false, |class| OURS.contains(&class.as_str())),
+                Code::OtherSopClass => {
+                    !data_class(content, buffer).map_or(false, |class| OURS.contains(&class.as_str()))
+                }
                 // The data set was not read.
                 _ => !OURS.iter().any(|ours| is_near(ours, &class)),
             };

@@ -192,7 +192,8 @@ fn options(values: impl IntoIterator<Item = (String, String)>) -> String {
 /// What the runs can be filtered by.
 fn filters(entries: &[Entry], senders: &[Sent]) -> String {
     let by: BTreeSet<(u32, u32)> = entries.iter().filter_map(Entry::by).collect();
-    let verdicts = ["accepted", "refused", "not read", "not ours", "arriving"].map(|word| (String::from(word), String::from(word)));
+    let verdicts = ["accepted", "refused", "not read", "not ours", "arriving"]
+        .map(|word| (String::from(word), String::from(word)));
     let senders = senders.iter().enumerate().map(|(number, sent)| {
         let (one, other) = (&sent.sender.institution, &sent.sender.station);
         let shown = [one, other].into_iter().filter(|name| !name.is_empty()).cloned().collect::<Vec<_>>().join(", ");

@@ -17,7 +17,9 @@ fn row(entry: &Entry, patient: bool) -> Vec<String> {
     let judged = entry.judged();
     let answer = judged.map(|judged| judged.answer).unwrap_or_default();
     row.push(entry.by().map_or_else(String::new, by_text));
-    for number in [answer.number(), answer.rule, answer.frame, judged.map_or(0, |judged| judged.item_row), answer.offset] {
+    for number in
+        [answer.number(), answer.rule, answer.frame, judged.map_or(0, |judged| judged.item_row), answer.offset]
+    {
         row.push(judged.map_or_else(String::new, |_| number.to_string()));
     }
     row.push(entry.looked.seen.as_ref().map_or_else(
