@@ -55,7 +55,7 @@ const SENTENCES: &str = "../crates/judge_one/src/sentence.rt";
 const RULES: usize = 39;
 
 /// The sentences of all rules in their order; or what is not as it was.
-fn sentences(source: &str) -> Result<Vec<&str>, String> {
+pub fn sentences(source: &str) -> Result<Vec<&str>, String> {
     let mut found = Vec::new();
     let mut arms = source.split(" => say(");
     let mut before = arms.next().unwrap_or_default();

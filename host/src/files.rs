@@ -142,8 +142,10 @@ enum Writers<'a> {
 }
 
 fn writers(file: &File) -> Writers<'_> {
+    if !is_local(file) {
+        return Writers::Unknown;
+    }
     match Lease::take(file) {
-        _ if !is_local(file) => Writers::Unknown,
         Ok(lease) => Writers::None(lease),
         Err(error) if error.kind() == io::ErrorKind::WouldBlock => Writers::Some,
         Err(_) => Writers::Unknown,

@@ -58,8 +58,33 @@ fn item(frame: u32, row: u32) -> String {
 }
 
 #[cfg(test)]
+#[allow(dead_code)]
+#[path = "../build.rs"]
+mod build;
+
+#[cfg(test)]
 mod tests {
     use super::*;
+
+    /// The table is the program's, and a source of another form is not taken for one.
+    #[test]
+    fn the_build_takes_the_sentences() {
+        let source = include_str!("../../crates/judge_one/src/sentence.rt");
+        assert_eq!(build::sentences(source).unwrap(), RULES);
+        for (old, new) in [
+            ("9 => say(b\"Samples", "40 => say(b\"Samples"),
+            ("9 => say(b\"Samples", "9 => tell(b\"Samples"),
+            ("say(b\"Samples", "say(\"Samples"),
+            ("US must be 1.\"),", "US must be 1\"),"),
+            ("US must be 1.\"),", "US must be \\x31.\"),"),
+            ("US must be 1.\"),", "US must be 1.\", 1),"),
+            ("39 => say(", "40 => say("),
+        ] {
+            assert!(source.contains(old), "{old}");
+            assert!(build::sentences(&source.replacen(old, new, 1)).is_err(), "{new}");
+        }
+        assert!(build::sentences("").is_err());
+    }
 
     /// An answer as the library would give it.
     fn given(fields: serde_json::Value) -> Answer {
