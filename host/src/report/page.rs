@@ -82,7 +82,11 @@ fn tiles(entries: &[Entry], senders: &[Sent]) -> String {
         tile("refused", count(End::Refused), "refused"),
         tile("unread", count(End::Unread), "not read"),
         tile("all", count(End::Other), "not ours"),
-        tile("all", count(End::Arriving), "arriving"),
+        // Files arrive only with --settle.
+        match count(End::Arriving) {
+            0 => String::new(),
+            number => tile("all", number, "arriving"),
+        },
         tile("all", senders.len(), if senders.len() == 1 { "sender" } else { "senders" }),
     ]
     .concat()
