@@ -1,4 +1,5 @@
-# Installs the library for hosts and the desk tool, from what is built. Neither rt nor a prover is needed for that.
+# Installs the library for hosts and the desk tool with its completions and man pages, from what is built. Neither rt nor a prover is needed for
+# that; man pages are made where help2man is installed.
 #
 #     make install                        under /usr/local
 #     make install PREFIX=/usr DESTDIR=/tmp/root
@@ -16,9 +17,15 @@ built := target/install
 shared := lib$(name).so.$(version)
 to := $(DESTDIR)$(PREFIX)
 
+# Where each shell looks for the completions of a command, under the prefix.
+bash := share/bash-completion/completions/luux
+zsh := share/zsh/site-functions/_luux
+fish := share/fish/vendor_completions.d/luux.fish
+man := share/man/man1
+
 .PHONY: all install uninstall clean always
 
-all: $(built)/$(shared) $(built)/$(name).pc $(tool)
+all: $(built)/$(shared) $(built)/$(name).pc $(tool) $(built)/completions/done $(built)/man/done
 
 $(archive):
 	@echo "$@ is missing: rt staticlib cabi proves and builds it" >&2; exit 1
@@ -42,6 +49,18 @@ $(built)/$(name).pc: always
 	    'Description: Reads, judges and draws runs of X-ray angiography; proved' 'Version: $(version)' \
 	    'Cflags: -I$${includedir}' 'Libs: -L$${libdir} -l$(name)' > $@
 
+$(built)/completions/done: $(tool)
+	@mkdir -p $(built)/completions
+	@for shell in bash zsh fish; do $(tool) completions $$shell > $(built)/completions/$$shell || exit 1; done
+	@echo > $@
+
+# Made anew where help2man was missing the last time.
+$(built)/man/done: $(tool) host/man $(if $(wildcard $(built)/man/man1/luux.1),,always)
+	@rm -rf $(built)/man && mkdir -p $(built)/man/man1
+	@if command -v help2man > /dev/null; then host/man $(CURDIR)/$(tool) $(built)/man; \
+	    else echo "no man pages are made: help2man is missing" >&2; fi
+	@echo > $@
+
 install: all
 	$(INSTALL) -d $(to)/include $(to)/lib/pkgconfig $(to)/bin
 	$(INSTALL) -m 644 include/$(name).h $(to)/include/
@@ -50,10 +69,15 @@ install: all
 	ln -sf $(shared) $(to)/lib/lib$(name).so
 	$(INSTALL) -m 644 $(built)/$(name).pc $(to)/lib/pkgconfig/
 	$(INSTALL) -m 755 $(tool) $(to)/bin/luux
+	$(INSTALL) -d $(dir $(to)/$(bash)) $(dir $(to)/$(zsh)) $(dir $(to)/$(fish)) $(to)/$(man)
+	$(INSTALL) -m 644 $(built)/completions/bash $(to)/$(bash)
+	$(INSTALL) -m 644 $(built)/completions/zsh $(to)/$(zsh)
+	$(INSTALL) -m 644 $(built)/completions/fish $(to)/$(fish)
+	for page in $(built)/man/man1/*.1; do [ ! -e $$page ] || $(INSTALL) -m 644 $$page $(to)/$(man)/ || exit 1; done
 
 uninstall:
 	rm -f $(to)/include/$(name).h $(to)/lib/lib$(name).a $(to)/lib/lib$(name).so $(to)/lib/$(shared) \
-	    $(to)/lib/pkgconfig/$(name).pc $(to)/bin/luux
+	    $(to)/lib/pkgconfig/$(name).pc $(to)/bin/luux $(to)/$(bash) $(to)/$(zsh) $(to)/$(fish) $(to)/$(man)/luux.1 $(to)/$(man)/luux-*.1
 
 clean:
 	rm -rf $(built)

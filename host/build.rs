@@ -1,5 +1,5 @@
-//! Links the proved library, which `rt staticlib cabi` writes into the repository's `target/staticlib`, and makes the table of attribute
-//! names from the dictionary that Debian packages with pydicom.
+//! Links the proved library, which `rt staticlib cabi` writes into the repository's `target/staticlib`, and makes two tables: the attribute
+//! names, from the dictionary that Debian packages with pydicom, and the rules' sentences, from the source of the program `judge_one`.
 
 use std::fmt::Write;
 use std::path::Path;
@@ -47,6 +47,49 @@ fn tables(dictionary: &str) -> String {
     source
 }
 
+/// Where the rules' sentences stand, from the host's folder. Each is an arm of a match: `9 => say(b"Samples per Pixel (0028,0002) US must be 1."),`
+/// with the text on the next line where it is long.
+const SENTENCES: &str = "../crates/judge_one/src/sentence.rt";
+
+/// The rules are numbered from 1 to this.
+const RULES: usize = 39;
+
+/// The sentences of all rules in their order; or what is not as it was.
+pub fn sentences(source: &str) -> Result<Vec<&str>, String> {
+    let mut found = Vec::new();
+    let mut arms = source.split(" => say(");
+    let mut before = arms.next().unwrap_or_default();
+    for arm in arms {
+        let number = before.rsplit(char::is_whitespace).next().unwrap_or_default();
+        let text = arm.trim_start().strip_prefix("b\"").and_then(|text| text.split_once('"'));
+        match text {
+            _ if number != (found.len() + 1).to_string() => {
+                return Err(format!("rule {} is due, and the arm is that of {number:?}", found.len() + 1));
+            }
+            Some((text, rest)) if rest.trim_start().trim_start_matches(',').trim_start().starts_with(')') => {
+                let plain = text.ends_with('.')
+                    && text.bytes().all(|letter| (b' '..=b'~').contains(&letter) && letter != b'\\');
+                found.push(text);
+                if !plain {
+                    return Err(format!("the sentence of rule {number} is no plain text with a full stop at its end"));
+                }
+            }
+            _ => return Err(format!("rule {number} does not say one plain text")),
+        }
+        before = arm;
+    }
+    match found.len() {
+        RULES => Ok(found),
+        count => Err(format!("there are {count} rules in it, and not {RULES}")),
+    }
+}
+
+fn rules(source: &str) -> String {
+    let found =
+        sentences(source).unwrap_or_else(|trouble| panic!("{SENTENCES} has another form than it had: {trouble}"));
+    format!("static RULES: [&str; {RULES}] = {found:#?};\n")
+}
+
 fn main() {
     let host = std::env::var("CARGO_MANIFEST_DIR").expect("cargo says where the host is");
     let folder = Path::new(&host).join("../target/staticlib");
@@ -60,4 +103,9 @@ fn main() {
     let out = std::env::var("OUT_DIR").expect("cargo says where to write");
     std::fs::write(Path::new(&out).join("names.rs"), tables(&dictionary)).expect("cargo's own folder can be written");
     println!("cargo:rerun-if-changed={DICTIONARY}");
+
+    let place = Path::new(&host).join(SENTENCES);
+    let source = std::fs::read_to_string(&place).unwrap_or_else(|error| panic!("{SENTENCES}: {error}"));
+    std::fs::write(Path::new(&out).join("rules.rs"), rules(&source)).expect("cargo's own folder can be written");
+    println!("cargo:rerun-if-changed={}", place.display());
 }

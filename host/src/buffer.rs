@@ -1,11 +1,13 @@
 //! The row buffer that is lent to the library.
 //!
-//! A header has at least 8 bytes, so there are at most size / 8 rows. Where there is memory for so many, so many are lent: pages that
-//! are not written to take none. Otherwise the library says how many rows a data set has (`library::count`), which takes
-//! half as long as reading it, and just so many are lent.
+//! A header has at least 8 bytes, so there are at most size / 8 rows. Where that much memory is free, so many are lent at first: the library
+//! writes the rows of a data set and nothing beyond them, and pages that are not written to take no memory, so no more is taken than the rows
+//! have. As soon as it is known how many there are, the rest is given back, and just so many are lent from then on. Where memory is not
+//! free the library counts the rows first (`library::count`), which takes half as long as reading them, and just so many are lent.
 
+use crate::codes::{Code, Coded};
 use crate::head::Form;
-use crate::library::{self, Answer, Coded, Compared, Memory, Rewritten, ROW_WIDTH};
+use crate::library::{self, Answer, Compared, Memory, Rewritten, ROW_WIDTH};
 use crate::memory::{self, Granted};
 use crate::table::Table;
 
@@ -15,16 +17,38 @@ const KEPT: usize = 4096;
 /// The bytes of a row.
 const ROW_BYTES: u64 = ROW_WIDTH as u64 * 4;
 
-/// The code of a buffer that is too small.
-const NO_ROOM: u32 = 8;
-
 /// So many bytes are needed for rows, and are not free beside what else is held.
 pub struct NoRoom(pub u64);
+
+/// An answer that may say how many rows were written.
+trait Filling: Coded {
+    fn rows(&self) -> Option<u32>;
+}
+
+impl Filling for Answer {
+    fn rows(&self) -> Option<u32> {
+        matches!(self.code(), Code::Done | Code::RuleBroken).then_some(self.rows)
+    }
+}
+
+impl Filling for Rewritten {
+    fn rows(&self) -> Option<u32> {
+        self.is_done().then_some(self.rows)
+    }
+}
+
+impl Filling for Compared {
+    fn rows(&self) -> Option<u32> {
+        self.answer.rows()
+    }
+}
 
 /// Room for rows, used for one file after another.
 #[derive(Default)]
 pub struct RowBuffer {
     memory: Memory,
+    /// How many rows of it are lent.
+    room: usize,
     /// What was granted for the rows beyond those that are kept.
     granted: Granted,
     /// Where the bytes are, and how many, that the room is known to be enough for.
@@ -91,6 +115,7 @@ impl RowBuffer {
     pub fn let_go(&mut self) {
         if self.memory.numbers().len() > KEPT * ROW_WIDTH {
             self.memory = Memory::default();
+            self.room = 0;
         }
         self.granted = Granted::default();
         self.enough = None;
@@ -108,35 +133,59 @@ impl RowBuffer {
 
     /// Calls with room for the rows. Bytes that the room was made for before are not counted again; where others lie in their place
     /// by now, the library says so.
-    fn lend<A: Coded>(
+    fn lend<A: Filling>(
         &mut self,
         form: Form,
         data: &[u8],
         mut call: impl FnMut(&[u8], &mut [u32]) -> A,
     ) -> Result<A, String> {
         if self.enough == Some(place(data)) {
-            let answer = call(data, self.memory.numbers_mut());
-            if answer.code() != NO_ROOM {
+            let answer = call(data, self.lent());
+            if answer.code() != Code::NoRoomForRows {
                 return Ok(answer);
             }
         }
         self.fit(form, data)
             .map_err(|NoRoom(bytes)| format!("for its rows {}", memory::too_much(bytes, memory::limit())))?;
-        Ok(call(data, self.memory.numbers_mut()))
+        let answer = call(data, self.lent());
+        if let Some(rows) = answer.rows() {
+            self.keep(rows as usize);
+        }
+        Ok(answer)
+    }
+
+    fn lent(&mut self) -> &mut [u32] {
+        &mut self.memory.numbers_mut()[..self.room * ROW_WIDTH]
     }
 
     fn grow(&mut self, rows: usize) -> Result<(), NoRoom> {
-        if rows * ROW_WIDTH <= self.memory.numbers().len() {
+        if rows <= self.room {
             return Ok(());
         }
         let bytes = rows.max(KEPT) as u64 * ROW_BYTES;
-        // What is in it is not needed, so nothing is copied.
-        self.memory = Memory::default();
+        let large_enough = self.memory.bytes().len() as u64 >= bytes;
+        if !large_enough {
+            // What is in it is not needed, so nothing is copied.
+            self.memory = Memory::default();
+            self.room = 0;
+        }
         if rows > KEPT && !self.granted.grow_to(bytes) {
             return Err(NoRoom(bytes));
         }
-        self.memory = Memory::of(bytes as usize).map_err(|_| NoRoom(bytes))?;
+        if !large_enough {
+            self.memory = Memory::of(bytes as usize).map_err(|_| NoRoom(bytes))?;
+        }
+        self.room = rows.max(KEPT);
         Ok(())
+    }
+
+    /// Gives back what is granted beyond so many rows, which are all that was written.
+    fn keep(&mut self, rows: usize) {
+        let rows = rows.max(KEPT);
+        if rows < self.room {
+            self.room = rows;
+            self.granted.shrink_to(if rows > KEPT { rows as u64 * ROW_BYTES } else { 0 });
+        }
     }
 }
 

@@ -7,20 +7,26 @@ use std::collections::{HashMap, HashSet};
 use std::fs;
 use std::io::{self, Write};
 use std::path::{Path, PathBuf};
+use std::time::Duration;
 
+use serde::{Deserialize, Serialize};
 use sha2::{Digest, Sha256};
 
 use crate::buffer::RowBuffer;
+use crate::codes::Coded;
 use crate::files::{self, Opened};
 use crate::finding::{Choice, Finding};
 use crate::head::{Form, Judged};
 use crate::library::Answer;
+use crate::looking::{self, What};
 use crate::memory::Granted;
 use crate::other;
 use crate::output::{line, note, note_of, Object, Status};
+use crate::settling::Settling;
 
 /// Why there is no canonical form, in words.
-enum Failure {
+#[derive(Serialize, Deserialize)]
+pub enum Failure {
     /// The library refused.
     Refused(String),
     /// The library refused what is certainly no run.
@@ -51,7 +57,7 @@ fn form_of(path: &Path, kind: Form, buffer: &mut RowBuffer) -> Result<Canonical,
     let content = opened.bytes();
     if kind == Form::File {
         let answer = buffer.read(kind, content)?;
-        if answer.code != 0 {
+        if !answer.is_done() {
             let line = Judged::of(kind, content, answer, buffer.table(0)).line();
             let what = other::what(content, &answer, buffer);
             opened.unchanged()?;
@@ -70,15 +76,41 @@ fn form_of(path: &Path, kind: Form, buffer: &mut RowBuffer) -> Result<Canonical,
     // It is never longer than the data set.
     form.resize(data.len(), 0);
     let written = buffer.canonical(data, &mut form)?;
-    if written.code != 0 {
-        let answer = Answer { code: written.code, offset: written.offset, ..Answer::default() };
-        return Err(Failure::Refused(Judged::of(kind, content, answer, buffer.table(0)).line()));
+    if !written.is_done() {
+        return Err(Failure::Refused(Judged::of(kind, content, Answer::from(written), buffer.table(0)).line()));
     }
     buffer.let_go();
     form.truncate(written.length as usize);
     let canonical = Canonical { head: head.to_vec(), same: form == data, form, _granted: granted };
     opened.unchanged()?;
     Ok(canonical)
+}
+
+/// What is known of a canonical form without its bytes.
+#[derive(Serialize, Deserialize)]
+pub struct Summary {
+    hash: [u8; 32],
+    length: usize,
+    /// Whether the data set is in that form already.
+    same: bool,
+}
+
+impl Summary {
+    fn of(found: &Canonical) -> Summary {
+        Summary { hash: Sha256::digest(&found.form).into(), length: found.form.len(), same: found.same }
+    }
+}
+
+/// The summary of one file; said by one process to another.
+pub fn summary(path: &Path, kind: Form) -> Result<Summary, Failure> {
+    form_of(path, kind, &mut RowBuffer::default()).map(|found| Summary::of(&found))
+}
+
+/// Whether two files have the same canonical form; said by one process to another.
+pub fn are_equal(one: &Path, other: &Path, kind: Form) -> Result<bool, Failure> {
+    let mut buffer = RowBuffer::default();
+    let one = form_of(one, kind, &mut buffer)?;
+    Ok(form_of(other, kind, &mut buffer)?.form == one.form)
 }
 
 /// Writes a file in canonical form to another: its head as it is, then the canonical form of its data set.
@@ -160,6 +192,7 @@ impl Group {
 /// What is known so far: the groups in the order of their first files, and which of them have a hash.
 struct Search {
     kind: Form,
+    timeout: Option<Duration>,
     groups: Vec<Group>,
     by_hash: HashMap<[u8; 32], Vec<usize>>,
     buffer: RowBuffer,
@@ -167,12 +200,14 @@ struct Search {
     refused: usize,
     unread: usize,
     others: usize,
+    arriving: usize,
 }
 
 impl Search {
-    fn of(kind: Form) -> Search {
+    fn of(kind: Form, timeout: Option<Duration>) -> Search {
         Search {
             kind,
+            timeout,
             groups: Vec::new(),
             by_hash: HashMap::new(),
             buffer: RowBuffer::default(),
@@ -180,13 +215,16 @@ impl Search {
             refused: 0,
             unread: 0,
             others: 0,
+            arriving: 0,
         }
     }
 
     /// Looks at a file. Whoever names one wants it to be a run.
     fn add(&mut self, path: &Path, named: bool) {
-        let found =
-            form_of(path, self.kind, &mut self.buffer).and_then(|found| self.place(path, &found.form, found.same));
+        let found = match self.timeout {
+            None => self.add_here(path),
+            Some(limit) => self.add_within(limit, path),
+        };
         match found {
             Ok(()) => {}
             Err(Failure::Other(text)) => {
@@ -209,32 +247,54 @@ impl Search {
         self.status = self.status.max(Some(status));
     }
 
+    fn add_here(&mut self, path: &Path) -> Result<(), Failure> {
+        let found = form_of(path, self.kind, &mut self.buffer)?;
+        let kind = self.kind;
+        self.place(path, &Summary::of(&found), |first, buffer| Ok(form_of(first, kind, buffer)?.form == found.form))
+    }
+
+    /// The same, by processes of their own.
+    fn add_within(&mut self, limit: Duration, path: &Path) -> Result<(), Failure> {
+        let kind = self.kind;
+        let found: Result<Summary, Failure> = looking::within_alone(limit, What::Form, &[path], kind)?;
+        self.place(path, &found?, |first, _| looking::within_alone(limit, What::Equal, &[path, first], kind)?)
+    }
+
     /// Puts a file into the group whose first file has the same canonical form; into a new one where there is none.
-    fn place(&mut self, path: &Path, form: &[u8], canonical: bool) -> Result<(), Failure> {
-        let hash: [u8; 32] = Sha256::digest(form).into();
-        let member = Member { path: path.to_path_buf(), canonical };
-        for &number in self.by_hash.get(&hash).map_or(&[][..], Vec::as_slice) {
+    fn place(
+        &mut self,
+        path: &Path,
+        found: &Summary,
+        is_equal: impl Fn(&Path, &mut RowBuffer) -> Result<bool, Failure>,
+    ) -> Result<(), Failure> {
+        let member = Member { path: path.to_path_buf(), canonical: found.same };
+        for &number in self.by_hash.get(&found.hash).map_or(&[][..], Vec::as_slice) {
             let first = self.groups[number].members[0].path.clone();
-            if form_of(&first, self.kind, &mut self.buffer)?.form == form {
+            if is_equal(&first, &mut self.buffer)? {
                 self.groups[number].members.push(member);
                 return Ok(());
             }
         }
-        self.by_hash.entry(hash).or_default().push(self.groups.len());
-        self.groups.push(Group { hash, length: form.len(), members: vec![member] });
+        self.by_hash.entry(found.hash).or_default().push(self.groups.len());
+        self.groups.push(Group { hash: found.hash, length: found.length, members: vec![member] });
         Ok(())
     }
 }
 
+/// What `luux duplicates` was asked.
+pub struct Wanted {
+    pub named: Vec<PathBuf>,
+    pub kind: Form,
+    pub choice: Choice,
+    pub settle: Option<Duration>,
+    pub timeout: Option<Duration>,
+    pub json: bool,
+}
+
 /// Finds files whose data sets have the same canonical form.
-pub fn duplicates(
-    named: &[PathBuf],
-    kind: Form,
-    choice: &Choice,
-    json: bool,
-    out: &mut dyn Write,
-) -> io::Result<Status> {
-    let finding = Finding::of(named, None, choice);
+pub fn duplicates(wanted: &Wanted, out: &mut dyn Write) -> io::Result<Status> {
+    let json = wanted.json;
+    let finding = Finding::of(&wanted.named, None, &wanted.choice);
     for (path, reason) in &finding.skipped {
         note_of(path, &format!("skipped: {reason}"));
     }
@@ -242,20 +302,25 @@ pub fn duplicates(
         note("nothing was compared: there is no file in what was named");
         return Ok(Status::Failed);
     }
-    let mut search = Search::of(kind);
+    let mut search = Search::of(wanted.kind, wanted.timeout);
     let mut seen = HashSet::new();
-    for one in &finding.found {
+    let settling = Settling::of(&finding.found, wanted.settle);
+    for (place, one) in finding.found.iter().enumerate() {
         // A file is no duplicate of itself, by whatever name it was found again.
         if fs::canonicalize(&one.path).map_or(false, |path| !seen.insert(path)) {
             note_of(&one.path, "skipped: the same file was found before");
             continue;
         }
-        match &one.unreadable {
-            Some(trouble) => {
+        match (&one.unreadable, settling.arriving(place)) {
+            (Some(trouble), _) => {
                 search.unread += 1;
                 search.fail(&one.path, Status::Failed, trouble);
             }
-            None => search.add(&one.path, one.named),
+            (None, Some(why)) => {
+                search.arriving += 1;
+                search.fail(&one.path, Status::Fine, &format!("arriving: {why}"));
+            }
+            (None, None) => search.add(&one.path, one.named),
         }
     }
     let equal: Vec<&Group> = search.groups.iter().filter(|group| group.members.len() > 1).collect();
@@ -275,8 +340,10 @@ pub fn duplicates(
         search.refused,
         search.unread
     );
-    if search.others > 0 {
-        summary.push_str(&format!(", {} not ours", search.others));
+    for (count, what) in [(search.others, "not ours"), (search.arriving, "arriving")] {
+        if count > 0 {
+            summary.push_str(&format!(", {count} {what}"));
+        }
     }
     match json {
         true => note(&summary),

@@ -2,18 +2,18 @@
 
 use std::ffi::OsStr;
 use std::fs::{self, File, Metadata, Permissions};
-use std::io::{self, Read, Write};
+use std::io::{self, Write};
 use std::os::unix::ffi::OsStrExt;
-use std::os::unix::fs::{MetadataExt, PermissionsExt};
+use std::os::unix::fs::{FileExt, MetadataExt, PermissionsExt};
 use std::path::{Path, PathBuf};
 use std::sync::atomic::{AtomicBool, AtomicU32, Ordering};
 use std::thread;
 use std::time::{Duration, SystemTime};
 
-use rustix::fs::{cwd, renameat_with, RenameFlags};
+use rustix::fs::{cwd, fstatfs, renameat_with, RenameFlags};
 use rustix::io::Errno;
 
-use crate::library::{Mapping, Memory};
+use crate::library::{Lease, Mapping, Memory};
 use crate::memory::Granted;
 
 /// Whether files are mapped. Otherwise they are read into memory of our own, which nobody else can change.
@@ -54,6 +54,7 @@ fn unread(error: &io::Error) -> String {
 }
 
 const CHANGED: &str = "changed while it was looked at; wait until it is complete and try again";
+const WRITTEN: &str = "another program has it open for writing; wait until it is complete and try again";
 
 /// Which file it is, how large, and when it was last written to and changed.
 #[derive(Clone, Copy, PartialEq, Eq)]
@@ -106,16 +107,55 @@ fn since((seconds, nanoseconds): (i64, i64)) -> Option<Duration> {
 /// Kernels tell the time of files in steps of at most this. Within one step a file can change twice and show one time.
 const STEP: Duration = Duration::from_millis(20);
 
-/// The state of a file that was not changed within this step, so that any later change shows.
-fn resting(file: &File) -> io::Result<Option<State>> {
-    for _ in 0..8 {
+/// How often a file is looked at that changes, or that somebody writes to, before it is given up.
+const LOOKS: usize = 8;
+
+/// The state of a file that was not changed for so long, so that any later change shows.
+fn resting(file: &File, long: Duration, looks: usize) -> io::Result<Option<State>> {
+    for _ in 0..looks {
         let state = State::of(&file.metadata()?);
         match state.rested() {
-            Some(rested) if rested < STEP => thread::sleep(STEP - rested),
+            Some(rested) if rested < long => thread::sleep(long - rested),
             _ => return Ok(Some(state)),
         }
     }
     Ok(None)
+}
+
+/// File systems, as statfs(2) numbers them, that others write to without this kernel: Ceph, CIFS, FUSE, NFS, 9P, SMB, SMB2, VirtualBox. There a
+/// lease says nothing of the others, and there may be none though nobody writes.
+const SHARED: [u64; 8] = [0x00C3_6400, 0xFF53_4D42, 0x6573_5546, 0x6969, 0x0102_1997, 0x517B, 0xFE53_4D42, 0x786F_4256];
+
+/// Whether only this kernel writes to the file's file system, as far as it says.
+fn is_local(file: &File) -> bool {
+    fstatfs(file).is_ok_and(|about| !SHARED.contains(&(about.f_type as u64)))
+}
+
+/// Who may write to a file while we read it.
+enum Writers<'a> {
+    /// Nobody, as long as the lease holds.
+    None(Lease<'a>),
+    /// Somebody has it open for writing now.
+    Some,
+    /// It is not known: there is no lease.
+    Unknown,
+}
+
+fn writers(file: &File) -> Writers<'_> {
+    if !is_local(file) {
+        return Writers::Unknown;
+    }
+    match Lease::take(file) {
+        Ok(lease) => Writers::None(lease),
+        Err(error) if error.kind() == io::ErrorKind::WouldBlock => Writers::Some,
+        Err(_) => Writers::Unknown,
+    }
+}
+
+/// Whether somebody is known to have a file open for writing.
+pub fn is_written_to(path: &Path) -> bool {
+    let regular = fs::metadata(path).is_ok_and(|about| about.is_file());
+    regular && File::open(path).is_ok_and(|file| matches!(writers(&file), Writers::Some))
 }
 
 enum Content {
@@ -154,10 +194,15 @@ impl Opened {
         let file = File::open(path).map_err(|error| unread(&error))?;
         let size = file.metadata().map_err(|error| unread(&error))?.len();
         let granted = grant(if are_mapped() { 0 } else { size }).map_err(|text| format!("cannot be read: {text}"))?;
-        let then = resting(&file).map_err(|error| unread(&error))?.filter(|then| then.size == size).ok_or(CHANGED)?;
-        let content = match are_mapped() {
-            true => Content::Mapped(Mapping::of(&file).map_err(|error| unread(&error))?),
-            false => Content::Own(private(&file, size)?),
+        let (content, then) = match are_mapped() {
+            true => {
+                let then = rested(&file, size, STEP, LOOKS)?;
+                (Content::Mapped(Mapping::of(&file).map_err(|error| unread(&error))?), then)
+            }
+            false => {
+                let (memory, then) = private(&file, size)?;
+                (Content::Own(memory), then)
+            }
         };
         Ok(Opened { file, content, then, granted })
     }
@@ -176,22 +221,83 @@ impl Opened {
 
     /// An error where size or time of the file changed since it was opened: what was said of it then holds for nothing.
     pub fn unchanged(&self) -> Result<(), String> {
-        match self.file.metadata() {
-            Ok(now) if State::of(&now) == self.then => Ok(()),
-            _ => Err(String::from(CHANGED)),
+        match is_still(&self.file, self.then) {
+            true => Ok(()),
+            false => Err(String::from(CHANGED)),
         }
     }
 }
 
-/// A copy of a file's bytes.
-fn private(mut file: &File, size: u64) -> Result<Memory, String> {
+/// The state of a file that still has its size and was not changed for so long.
+fn rested(file: &File, size: u64, long: Duration, looks: usize) -> Result<State, String> {
+    let then = resting(file, long, looks).map_err(|error| unread(&error))?;
+    then.filter(|then| then.size == size).ok_or_else(|| String::from(CHANGED))
+}
+
+/// A copy of a file's bytes, all of one moment, and the file's state then.
+fn private(file: &File, size: u64) -> Result<(Memory, State), String> {
     let memory = usize::try_from(size).ok().and_then(|size| Memory::of(size).ok());
     let mut memory = memory.ok_or_else(|| format!("cannot be read: there is no memory for {size} bytes"))?;
-    file.read_exact(memory.bytes_mut()).map_err(|error| match error.kind() {
+    for _ in 0..LOOKS {
+        let then = rested(file, size, STEP, LOOKS)?;
+        match writers(file) {
+            Writers::Some => thread::sleep(STEP),
+            Writers::Unknown => return twice(file, memory, size),
+            Writers::None(lease) => {
+                // Who wrote between the two looks is gone, but the file is another.
+                if !is_still(file, then) {
+                    continue;
+                }
+                fill(file, memory.bytes_mut())?;
+                return if lease.holds() { Ok((memory, then)) } else { Err(String::from(CHANGED)) };
+            }
+        }
+    }
+    Err(String::from(WRITTEN))
+}
+
+/// How long a file must have been left alone where nobody can say who writes to it, and how long after the first reading the second begins.
+const ALONE: Duration = Duration::from_secs(2);
+const PAUSE: Duration = Duration::from_millis(100);
+
+/// The same where it is not known who writes: what was left alone for some time and reads the same twice.
+fn twice(file: &File, mut memory: Memory, size: u64) -> Result<(Memory, State), String> {
+    let then = rested(file, size, ALONE, 2)?;
+    fill(file, memory.bytes_mut())?;
+    // A time that is not in the past does not say how long it was left alone.
+    thread::sleep(if then.rested().is_some() { PAUSE } else { ALONE });
+    match is_same_again(file, memory.bytes()) {
+        Ok(true) if is_still(file, then) => Ok((memory, then)),
+        Ok(_) => Err(String::from(CHANGED)),
+        Err(error) => Err(unread(&error)),
+    }
+}
+
+fn is_still(file: &File, then: State) -> bool {
+    file.metadata().is_ok_and(|now| State::of(&now) == then)
+}
+
+fn fill(file: &File, bytes: &mut [u8]) -> Result<(), String> {
+    file.read_exact_at(bytes, 0).map_err(|error| match error.kind() {
         io::ErrorKind::UnexpectedEof => String::from(CHANGED),
         _ => unread(&error),
-    })?;
-    Ok(memory)
+    })
+}
+
+/// How much of a file is read at a time to see whether it reads the same again.
+const PIECE: usize = 1 << 16;
+
+fn is_same_again(file: &File, bytes: &[u8]) -> io::Result<bool> {
+    let mut again = vec![0; PIECE.min(bytes.len())];
+    for (place, piece) in bytes.chunks(PIECE).enumerate() {
+        let again = &mut again[..piece.len()];
+        match file.read_exact_at(again, (place * PIECE) as u64) {
+            Ok(()) if again == piece => {}
+            Err(error) if error.kind() != io::ErrorKind::UnexpectedEof => return Err(error),
+            _ => return Ok(false),
+        }
+    }
+    Ok(true)
 }
 
 /// The folder that a file stands in.
@@ -291,4 +397,67 @@ pub fn beside(path: &Path, ending: &str) -> PathBuf {
     let mut name = path.file_name().unwrap_or_else(|| OsStr::new("run")).to_os_string();
     name.push(ending);
     PathBuf::from(name)
+}
+
+#[cfg(test)]
+mod tests {
+    use super::*;
+
+    fn shown(name: &[u8]) -> String {
+        String::from_utf8(printed(Path::new(OsStr::from_bytes(name)))).unwrap()
+    }
+
+    #[test]
+    fn names_in_print() {
+        assert_eq!(shown("a b/\u{E9}\u{4E2D}.xa".as_bytes()), "a b/\u{E9}\u{4E2D}.xa");
+        assert_eq!(shown(b"a\nb\x1B\x7F"), "a\\x0Ab\\x1B\\x7F");
+        assert_eq!(shown(b"a\\x0A"), "a\\\\x0A");
+        assert_eq!(shown(b"\xFFa\xC3"), "\\xFFa\\xC3");
+        assert_eq!(shown("\u{202E}gpj\u{2028}\u{AD}".as_bytes()), "\\u{202E}gpj\\u{2028}\\u{AD}");
+        assert_eq!(shown(b""), "");
+    }
+
+    /// What is a byte that is no text, and what spells its escape, look different.
+    #[test]
+    fn no_two_names_look_the_same() {
+        let names: [&[u8]; 6] = [b"\n", b"\\x0A", b"\\\\x0A", "\u{A0}".as_bytes(), b"\\u{A0}", b"\xA0"];
+        let all: std::collections::HashSet<String> = names.iter().map(|name| shown(name)).collect();
+        assert_eq!(all.len(), names.len());
+    }
+
+    #[test]
+    fn drafts_have_their_own_names() {
+        assert!(is_draft(OsStr::new(".luux-a1.tmp")));
+        assert!(!is_draft(OsStr::new("luux-a1.tmp")) && !is_draft(OsStr::new(".luux-a1")));
+        assert_eq!(beside(Path::new("a/b/run.xa"), ".movie.png"), Path::new("run.xa.movie.png"));
+    }
+
+    #[test]
+    fn times() {
+        assert!(since((0, 0)).unwrap() > Duration::from_secs(1_000_000_000));
+        assert!(since((-5, 0)).is_some() && since((i64::MAX, 0)).is_none() && since((1, -1)).is_none());
+    }
+
+    /// Leases, where the file system has them: one is had where nobody writes, none where somebody does, and it is lost to one who wants to.
+    #[test]
+    fn leases() {
+        let path = tempfile::NamedTempFile::new().unwrap().into_temp_path();
+        let file = File::open(&path).unwrap();
+        if matches!(writers(&file), Writers::Unknown) {
+            return;
+        }
+        let writer = fs::OpenOptions::new().write(true).open(&path).unwrap();
+        assert!(matches!(writers(&file), Writers::Some) && is_written_to(&path));
+        drop(writer);
+        assert!(!is_written_to(&path));
+        let Writers::None(lease) = writers(&file) else { panic!("nobody writes") };
+        assert!(lease.holds());
+        let path = path.to_path_buf();
+        let other = thread::spawn(move || fs::OpenOptions::new().write(true).open(path).is_ok());
+        while lease.holds() {
+            thread::yield_now();
+        }
+        drop(lease);
+        assert!(other.join().unwrap());
+    }
 }

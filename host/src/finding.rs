@@ -8,6 +8,7 @@ use std::path::{Path, PathBuf};
 use globset::{Glob, GlobBuilder, GlobSet, GlobSetBuilder};
 use walkdir::{DirEntry, WalkDir};
 
+use crate::codes::Coded;
 use crate::files::{self, trouble, Opened};
 use crate::library;
 
@@ -157,5 +158,5 @@ fn is_slip(path: &Path) -> bool {
     let name = path.file_name().unwrap_or(OsStr::new("")).as_bytes();
     (name.ends_with(b".slip") || name.windows(9).any(|part| part == b".slip.old"))
         && fs::metadata(path).map_or(false, |about| about.len() <= SLIP_MOST)
-        && Opened::open(path).map_or(false, |opened| library::read_slip(opened.bytes()).code == 0)
+        && Opened::open(path).map_or(false, |opened| library::read_slip(opened.bytes()).is_done())
 }

@@ -4,6 +4,7 @@
 use serde::{Deserialize, Serialize};
 use serde_json::{json, Value as Json};
 
+use crate::codes::{Code, Coded};
 use crate::head::has_long_header;
 use crate::library::Answer;
 use crate::looks::{Look, Place, LOOKS};
@@ -301,8 +302,8 @@ fn header(bytes: &[u8]) -> Finding {
 
 /// What stands where reading stopped, and which element of the root it follows where that is known.
 pub fn by_code(data: &[u8], answer: &Answer, before: Table) -> Vec<Finding> {
-    match answer.code {
-        1..=6 => {
+    match answer.code() {
+        code if code.is_of_a_header() => {
             let mut found = vec![header(data.get(answer.offset as usize..).unwrap_or_default())];
             if let Some(last) = before.members(0).last() {
                 found.push(Finding::of(
@@ -313,18 +314,18 @@ pub fn by_code(data: &[u8], answer: &Answer, before: Table) -> Vec<Finding> {
             }
             found
         }
-        7 => vec![Finding::plain(counted(data.len(), "byte"))],
+        Code::TooLarge => vec![Finding::plain(counted(data.len(), "byte"))],
         _ => Vec::new(),
     }
 }
 
 /// What stands in a file's head where it is refused. The head's elements read as a data set of their own.
 pub fn by_head(file: &[u8], answer: &Answer, head: &Source, data: &Source) -> Vec<Finding> {
-    match (answer.code, file.get(128..132)) {
-        (15, Some(mark)) => vec![Finding::plain(format!("bytes 128 to 131 are {}", hexadecimal(mark)))],
-        (15, None) => vec![Finding::plain(format!("the file has {}", counted(file.len(), "byte")))],
-        (16, _) => vec![header(file.get(132..).unwrap_or_default())],
-        (18, _) => {
+    match (answer.code(), file.get(128..132)) {
+        (Code::NotAFile, Some(mark)) => vec![Finding::plain(format!("bytes 128 to 131 are {}", hexadecimal(mark)))],
+        (Code::NotAFile, None) => vec![Finding::plain(format!("the file has {}", counted(file.len(), "byte")))],
+        (Code::BadHead, _) => vec![header(file.get(132..).unwrap_or_default())],
+        (Code::OtherSopClass, _) => {
             let mut found = Vec::new();
             for (source, tag) in [(head, MEDIA_SOP_CLASS), (data, SOP_CLASS)] {
                 let row = source.table.root(tag);

@@ -218,3 +218,33 @@ pub fn movie(
         Err(failure) => explain(path, failure, out),
     }
 }
+
+#[cfg(test)]
+mod tests {
+    use super::*;
+
+    #[test]
+    fn ranges_of_frames() {
+        let fine = |text: &str| frames(text).unwrap_or_else(|trouble| panic!("{text}: {trouble}"));
+        assert!(fine("7") == Frames::One(7) && fine("1-24") == Frames::Some(1, 24) && fine("all") == Frames::All);
+        assert!(fine("3-3") == Frames::Some(3, 3) && fine("0") == Frames::One(0));
+        for wrong in ["", "-", "5-", "-5", "1-2-3", "x", "1.5", "ALL", "99999999999999999999"] {
+            assert!(frames(wrong).is_err(), "{wrong}");
+        }
+        assert!(frames("9-8").is_err_and(|trouble| trouble.contains("above")));
+    }
+
+    #[test]
+    fn names_of_pictures() {
+        assert_eq!(name(Path::new("a/run.xa"), 7, 3, None), Path::new("run.xa.frame-007.png"));
+        assert_eq!(name(Path::new("run"), 12, 1, Some(Form::Pgm)), Path::new("run.frame-12.pgm"));
+    }
+
+    #[test]
+    fn names_that_will_not_do() {
+        assert!(objection(Some(Path::new("x.png")), Frames::One(1)).is_none());
+        assert!(objection(Some(Path::new("x.jpg")), Frames::One(1)).is_some());
+        assert!(objection(Some(Path::new("x.png")), Frames::All).is_some());
+        assert!(objection(Some(Path::new("-")), Frames::All).is_none() && objection(None, Frames::All).is_none());
+    }
+}

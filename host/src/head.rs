@@ -4,6 +4,7 @@
 use serde::{Deserialize, Serialize};
 
 use crate::buffer::RowBuffer;
+use crate::codes::{Code, Coded};
 use crate::found::{self, Finding};
 use crate::identity::Identity;
 use crate::library::{self, Answer};
@@ -33,7 +34,7 @@ impl Form {
         match self {
             Form::File => {
                 let part = library::data_set(content);
-                if part.code == 0 {
+                if part.is_done() {
                     &content[part.start..]
                 } else {
                     &[]
@@ -66,17 +67,13 @@ pub struct Judged {
     pub identity: Identity,
 }
 
-const RULE_BROKEN: u32 = 9;
-const NO_MARK: u32 = 15;
-const OTHER_SYNTAX: u32 = 17;
-
 impl Judged {
     pub fn of(form: Form, content: &[u8], answer: Answer, table: Table) -> Judged {
         let item_row = table.frame_item(answer.frame).map_or(0, |item| item.number);
         let start = (form == Form::File).then(|| form.start(content));
-        let hint = match answer.code {
-            NO_MARK => Some(String::from("a bare data set is taken with --bare")),
-            OTHER_SYNTAX => Some(wanted(content)),
+        let hint = match answer.code() {
+            Code::NotAFile => Some(String::from("a bare data set is taken with --bare")),
+            Code::OtherTransferSyntax => Some(wanted(content)),
             _ => None,
         };
         let (found, identity) = quoted(form, content, &answer, table);
@@ -87,7 +84,7 @@ impl Judged {
     pub fn line(&self) -> String {
         let mut text = sentences::answer(&self.answer, self.item_row, self.start);
         if !self.found.is_empty() {
-            let by_rule = self.answer.code == RULE_BROKEN;
+            let by_rule = self.answer.code() == Code::RuleBroken;
             text.push_str(if by_rule { " Found: " } else { "; found: " });
             text.push_str(&found::line(&self.found));
             text.push_str(if by_rule { "." } else { "" });
@@ -105,11 +102,16 @@ fn rows_of(data: &[u8]) -> (RowBuffer, u32) {
     let mut buffer = RowBuffer::default();
     let mut end = data.len();
     for _ in 0..2 {
-        match buffer.read(Form::Bare, &data[..end]) {
-            Ok(Answer { code: 0, rows, .. }) => return (buffer, rows),
-            Ok(Answer { code: 1..=6, offset, .. }) if (offset as usize) < end => end = offset as usize,
-            _ => break,
+        let Ok(answer) = buffer.read(Form::Bare, &data[..end]) else {
+            break;
+        };
+        if answer.is_done() {
+            return (buffer, answer.rows);
         }
+        if !answer.code().is_of_a_header() || answer.offset as usize >= end {
+            break;
+        }
+        end = answer.offset as usize;
     }
     (buffer, 0)
 }
@@ -130,14 +132,14 @@ fn parts(form: Form, content: &[u8]) -> (&[u8], &[u8]) {
 fn quoted(form: Form, content: &[u8], answer: &Answer, table: Table) -> (Vec<Finding>, Identity) {
     let (head, data) = parts(form, content);
     // With these codes the library hands the rows over and says how many.
-    if matches!(answer.code, 0 | RULE_BROKEN) {
+    if matches!(answer.code(), Code::Done | Code::RuleBroken) {
         let source = Source::of(data, table);
         return (found::by_rule(source, answer), Identity::of(&source));
     }
     let ((head_rows, head_count), (rows, count)) = (rows_of(head), rows_of(data));
     let (of_head, of_data) = (Source::of(head, head_rows.table(head_count)), Source::of(data, rows.table(count)));
     let found = match form {
-        Form::File if answer.code >= NO_MARK => found::by_head(content, answer, &of_head, &of_data),
+        Form::File if answer.code().is_of_a_head() => found::by_head(content, answer, &of_head, &of_data),
         _ => found::by_code(data, answer, of_data.table),
     };
     (found, Identity::of(&of_data).or_head(&of_head))

@@ -13,13 +13,16 @@ use rayon::iter::{ParallelBridge, ParallelIterator};
 use serde_json::Value;
 
 use crate::buffer::RowBuffer;
+use crate::codes::Coded;
 use crate::files::{self, State};
 use crate::finding::{Choice, Finding, Found};
 use crate::found;
 use crate::head::{Form, Judged};
 use crate::keeping::{self, Keeping, Kept};
-use crate::looking::{self, Looked};
+use crate::library::STACK;
+use crate::looking::{self, Looked, What};
 use crate::output::{line, note, note_of, Object, Status};
+use crate::settling::Settling;
 
 /// What `luux judge` was asked.
 pub struct Wanted {
@@ -71,8 +74,8 @@ impl Report {
     fn status(&self) -> Status {
         match &self.looked {
             _ if self.kept.failed() => Status::Failed,
-            Looked::Trouble(_) | Looked::Needs(_) => Status::Failed,
-            Looked::Judged(judged) if judged.answer.code != 0 => Status::Refused,
+            Looked::Trouble(_) => Status::Failed,
+            Looked::Judged(judged) if !judged.answer.is_done() => Status::Refused,
             // Whoever names a file wants it to be a run.
             Looked::Other(..) if self.named => Status::Refused,
             _ => Status::Fine,
@@ -81,16 +84,15 @@ impl Report {
 
     fn text(&self, searches: bool) -> String {
         let mut text = match &self.looked {
-            Looked::Judged(judged) if searches && judged.answer.code == 0 => {
+            Looked::Judged(judged) if searches && judged.answer.is_done() => {
                 format!("{}; {} rows looked at", judged.line(), judged.answer.searches)
             }
             Looked::Judged(judged) => judged.line(),
             Looked::Other(_, what) => format!("not ours: {what}"),
             Looked::Arriving(why) => format!("arriving: {why}"),
             Looked::Trouble(trouble) => trouble.clone(),
-            Looked::Needs(bytes) => format!("takes {bytes} bytes of memory"),
         };
-        text.push_str(&self.kept.text());
+        text.push_str(&self.kept.behind(&text));
         text
     }
 
@@ -116,7 +118,7 @@ impl Report {
                 object.put("verdict", "arriving");
                 object.put("error", why.as_str());
             }
-            Looked::Trouble(_) | Looked::Needs(_) => object.put_trouble(&self.text(false)),
+            Looked::Trouble(_) => object.put_trouble(&self.text(false)),
         }
         self.kept.put_into(&mut object);
         object.line()
@@ -140,54 +142,35 @@ fn put_judged(object: &mut Object, judged: &Judged, patient: bool) {
     object.put("identity", identity.json(patient));
 }
 
-/// The least time between two looks at a file, by which one that grows is told.
-const LOOK: Duration = Duration::from_secs(1);
-
-/// The files that are judged, and when and how they were seen first.
+/// The files that are judged.
 struct Batch<'a> {
     wanted: &'a Wanted,
     found: &'a [Found],
-    /// With --settle, the state of each.
-    seen: Vec<Option<State>>,
+    settling: Settling<'a>,
 }
 
 impl<'a> Batch<'a> {
     fn of(wanted: &'a Wanted, found: &'a [Found]) -> Batch<'a> {
-        let mut batch = Batch { wanted, found, seen: Vec::new() };
-        if let Some(settle) = wanted.settle {
-            batch.seen = found.iter().map(|one| State::at(&one.path).ok()).collect();
-            thread::sleep(settle.min(LOOK));
-        }
-        batch
+        Batch { wanted, found, settling: Settling::of(found, wanted.settle) }
     }
 
-    /// Why a file is not judged yet.
-    fn arriving(&self, number: usize, now: Option<State>) -> Option<String> {
-        let (settle, now) = (self.wanted.settle?, now?);
-        if self.seen[number] != Some(now) {
-            return Some(String::from("it was written to while luux looked"));
-        }
-        let age = now.age();
-        (age < settle).then(|| {
-            format!("written to {:.0} seconds ago, and --settle asks for {}", age.as_secs_f64(), settle.as_secs_f64())
-        })
-    }
-
-    fn look(&self, number: usize, before: Option<State>, buffer: &mut RowBuffer) -> Looked {
+    fn look(&self, number: usize, buffer: &mut RowBuffer) -> Looked {
         let one = &self.found[number];
         if let Some(trouble) = &one.unreadable {
             return Looked::Trouble(trouble.clone());
         }
-        if let Some(why) = self.arriving(number, before) {
+        if let Some(why) = self.settling.arriving(number) {
             return Looked::Arriving(why);
         }
         let looked = match self.wanted.timeout {
-            Some(limit) => looking::within(limit, &one.path, self.wanted.form),
+            Some(limit) => {
+                looking::within(limit, What::Verdict, &one.path, self.wanted.form).unwrap_or_else(Looked::Trouble)
+            }
             None => looking::here(&one.path, self.wanted.form, buffer),
         };
         // With --settle, one that changed meanwhile is arriving too.
         match looked {
-            Looked::Trouble(trouble) => match self.arriving(number, State::at(&one.path).ok()) {
+            Looked::Trouble(trouble) => match self.settling.arriving(number) {
                 Some(why) => Looked::Arriving(why),
                 None => Looked::Trouble(trouble),
             },
@@ -198,7 +181,7 @@ impl<'a> Batch<'a> {
     fn report(&self, number: usize, buffer: &mut RowBuffer) -> Report {
         let one = &self.found[number];
         let before = State::at(&one.path).ok();
-        let looked = self.look(number, before, buffer);
+        let looked = self.look(number, buffer);
         let kept = match one.unreadable {
             Some(_) => Kept::default(),
             None => self.wanted.keeping.keep(&one.path, before, &looked),
@@ -215,7 +198,9 @@ impl<'a> Batch<'a> {
             }
         };
         let numbers = 0..self.found.len();
-        match rayon::ThreadPoolBuilder::new().num_threads(self.wanted.jobs.min(self.found.len())).build() {
+        let pool =
+            rayon::ThreadPoolBuilder::new().stack_size(STACK).num_threads(self.wanted.jobs.min(self.found.len()));
+        match pool.build() {
             Ok(pool) => pool.install(|| numbers.par_bridge().for_each_init(RowBuffer::default, one)),
             // Without threads the same is done one by one.
             Err(_) => {
@@ -270,11 +255,11 @@ struct Counts {
 impl Counts {
     fn add(&mut self, report: &Report) {
         match &report.looked {
-            Looked::Judged(judged) if judged.answer.code == 0 => self.accepted += 1,
+            Looked::Judged(judged) if judged.answer.is_done() => self.accepted += 1,
             Looked::Judged(_) => self.refused += 1,
             Looked::Other(..) => self.others += 1,
             Looked::Arriving(_) => self.arriving += 1,
-            Looked::Trouble(_) | Looked::Needs(_) => self.unread += 1,
+            Looked::Trouble(_) => self.unread += 1,
         }
         self.slips_lost += usize::from(report.kept.slip_failed());
         self.not_moved += usize::from(report.kept.move_failed());
@@ -354,10 +339,13 @@ fn judge_all(batch: &Batch, printing: &mut Printing) -> io::Result<()> {
     let goes_on = batch.wanted.keeping.folders().next().is_some();
     thread::scope(|scope| {
         let (reports, arriving) = channel();
-        scope.spawn(|| {
-            let reports = reports;
-            batch.judge(&stop, &reports)
-        });
+        let (stop, here) = (&stop, reports.clone());
+        let judge = move || batch.judge(stop, &reports);
+        if thread::Builder::new().stack_size(STACK).spawn_scoped(scope, judge).is_err() {
+            // Without threads the same is done first, and printed then.
+            batch.judge(stop, &here);
+        }
+        drop(here);
         let mut printed = Ok(());
         for (number, report) in arriving {
             if printed.is_ok() {

@@ -4,14 +4,11 @@ use std::fs;
 use std::io;
 use std::path::{Component, Path, PathBuf};
 
+use crate::codes::{Code, Coded};
 use crate::files::{self, State};
 use crate::library::{self, Answer, SLIP_SIZE};
 use crate::looking::Looked;
 use crate::output::Object;
-use crate::sentences;
-
-/// The codes of a file that no verdict on a data set is given of.
-const FILE_CODES: std::ops::RangeInclusive<u32> = 15..=18;
 
 /// Where slips are written, and where files are moved to.
 #[derive(Default, clap::Args)]
@@ -53,14 +50,14 @@ impl Keeping {
         };
         if let Some(folder) = &self.slips {
             let slip = slip_path(folder, path);
-            match verdict.filter(|answer| !FILE_CODES.contains(&answer.code)) {
+            match verdict.filter(|answer| !answer.code().is_of_a_head()) {
                 Some(answer) => kept.slip = Some((slip.clone(), write_slip(&slip, answer))),
                 None => kept.aside = set_aside(&slip),
             }
         }
         let folder =
             verdict.and_then(
-                |answer| if answer.code == 0 { self.move_accepted.as_ref() } else { self.move_refused.as_ref() },
+                |answer| if answer.is_done() { self.move_accepted.as_ref() } else { self.move_refused.as_ref() },
             );
         // One whose slip is missing stays for the next time.
         if let (Some(folder), false) = (folder, kept.failed()) {
@@ -85,23 +82,34 @@ impl Kept {
         self.slip_failed() || self.move_failed()
     }
 
-    /// What is said of it behind the verdict.
-    pub fn text(&self) -> String {
+    /// What is said of it behind the verdict: further sentences where that is one, else parts of the same line.
+    pub fn behind(&self, verdict: &str) -> String {
         let mut text = String::new();
+        for part in self.parts() {
+            match (verdict.ends_with('.'), part.split_at(1)) {
+                (true, (first, rest)) => text.push_str(&format!(" {}{rest}.", first.to_ascii_uppercase())),
+                (false, _) => text.push_str(&format!("; {part}")),
+            }
+        }
+        text
+    }
+
+    fn parts(&self) -> Vec<String> {
+        let mut parts = Vec::new();
         if let Some((path, Err(trouble))) = &self.slip {
-            text.push_str(&format!("; its slip {} cannot be written: {trouble}", shown(path)));
+            parts.push(format!("its slip {} cannot be written: {trouble}", shown(path)));
         }
         match &self.aside {
-            Some(Ok(path)) => text.push_str(&format!("; its old slip was moved aside to {}", shown(path))),
-            Some(Err(trouble)) => text.push_str(&format!("; its old slip cannot be moved aside: {trouble}")),
+            Some(Ok(path)) => parts.push(format!("its old slip was moved aside to {}", shown(path))),
+            Some(Err(trouble)) => parts.push(format!("its old slip cannot be moved aside: {trouble}")),
             None => {}
         }
         match &self.moved {
-            Some((path, Ok(()))) => text.push_str(&format!("; moved to {}", shown(path))),
-            Some((path, Err(trouble))) => text.push_str(&format!("; not moved to {}: {trouble}", shown(path))),
+            Some((path, Ok(()))) => parts.push(format!("moved to {}", shown(path))),
+            Some((path, Err(trouble))) => parts.push(format!("not moved to {}: {trouble}", shown(path))),
             None => {}
         }
-        text
+        parts
     }
 
     pub fn put_into(&self, object: &mut Object) {
@@ -148,8 +156,8 @@ fn with_ending(path: &Path, ending: &str) -> PathBuf {
 fn write_slip(path: &Path, answer: Answer) -> Result<(), String> {
     let mut slip = [0; SLIP_SIZE];
     match library::write_slip(answer, &mut slip) {
-        0 => files::write_whole(path, &slip, true).map_err(|error| files::trouble(&error)),
-        code => Err(format!("code {code}: {}", sentences::code(code))),
+        Code::Done => files::write_whole(path, &slip, true).map_err(|error| files::trouble(&error)),
+        code => Err(format!("code {}: {}", code as u32, code.meaning())),
     }
 }
 
@@ -187,4 +195,30 @@ fn rename(path: &Path, before: Option<State>, to: &Path) -> Result<(), String> {
         Some(OTHER_DEVICE) => String::from("it is on another file system, and files are only renamed"),
         _ => files::trouble(&error),
     })
+}
+
+#[cfg(test)]
+mod tests {
+    use super::*;
+
+    #[test]
+    fn sentences_follow_a_sentence() {
+        let kept = Kept { moved: Some((PathBuf::from("bad/a"), Ok(()))), ..Kept::default() };
+        assert_eq!(kept.behind("accepted"), "; moved to bad/a");
+        assert_eq!(kept.behind("rule 1, frame 0: It must be. Found: nothing."), " Moved to bad/a.");
+        let failed = Kept {
+            slip: Some((PathBuf::from("s"), Err(String::from("no room")))),
+            moved: Some((PathBuf::from("m"), Err(String::from("it is a link")))),
+            ..Kept::default()
+        };
+        assert_eq!(failed.behind("code 1"), "; its slip s cannot be written: no room; not moved to m: it is a link");
+        assert_eq!(failed.behind("It is so."), " Its slip s cannot be written: no room. Not moved to m: it is a link.");
+        assert_eq!(Kept::default().behind("accepted"), "");
+    }
+
+    #[test]
+    fn slips_stay_under_their_folder() {
+        assert_eq!(slip_path(Path::new("slips"), Path::new("/a/../b/run.xa")), Path::new("slips/a/b/run.xa.slip"));
+        assert_eq!(under(Path::new("done"), Path::new("../../run")), Path::new("done/run"));
+    }
 }

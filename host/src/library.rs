@@ -1,4 +1,5 @@
-//! The calls of the proved library that the tool makes, memory for files and rows, and the mapping of a file. All `unsafe` code of the host is here.
+//! The calls of the proved library that the tool makes, memory for files and rows, the lease on a file and its mapping. All `unsafe` code of
+//! the host is here.
 //!
 //! `include/luuxidgaan.h` says what the calls answer. Of the caller they ask two things: each pointer has as many
 //! elements behind it as its size says, and buffers do not overlap. Slices are so: a shared slice is not changed while
@@ -8,14 +9,17 @@
 
 use std::fs::File;
 use std::io;
+use std::os::unix::io::AsRawFd;
 
 use serde::{Deserialize, Serialize};
+
+use crate::codes::{Code, Coded};
 
 /// `xa_answer` of the header: fields that the code does not name are 0.
 #[repr(C)]
 #[derive(Clone, Copy, Debug, Default, PartialEq, Eq, Serialize, Deserialize)]
 pub struct Answer {
-    pub code: u32,
+    code: u32,
     pub offset: u32,
     pub rows: u32,
     pub rule: u32,
@@ -28,7 +32,7 @@ pub struct Answer {
 #[repr(C)]
 #[derive(Clone, Copy, Debug, PartialEq, Eq)]
 pub struct Slip {
-    pub code: u32,
+    code: u32,
     rows_known: u32,
     pub verdict: Answer,
 }
@@ -44,7 +48,7 @@ impl Slip {
 #[repr(C)]
 #[derive(Clone, Copy, Debug, Default, PartialEq, Eq)]
 pub struct Part {
-    pub code: u32,
+    code: u32,
     pub start: usize,
 }
 
@@ -52,7 +56,7 @@ pub struct Part {
 #[repr(C)]
 #[derive(Clone, Copy, Debug, Default, PartialEq, Eq)]
 pub struct Rewritten {
-    pub code: u32,
+    code: u32,
     pub offset: u32,
     pub rows: u32,
     pub length: u32,
@@ -68,28 +72,45 @@ pub struct Compared {
     pub count: u32,
 }
 
-/// An answer that may say that the row buffer is too small.
-pub trait Coded {
-    fn code(&self) -> u32;
+impl Coded for Answer {
+    fn number(&self) -> u32 {
+        self.code
+    }
 }
 
-impl Coded for Answer {
-    fn code(&self) -> u32 {
+impl Coded for Slip {
+    fn number(&self) -> u32 {
+        self.code
+    }
+}
+
+impl Coded for Part {
+    fn number(&self) -> u32 {
         self.code
     }
 }
 
 impl Coded for Rewritten {
-    fn code(&self) -> u32 {
+    fn number(&self) -> u32 {
         self.code
     }
 }
 
 impl Coded for Compared {
-    fn code(&self) -> u32 {
+    fn number(&self) -> u32 {
         self.answer.code
     }
 }
+
+/// The same refusal, as an answer.
+impl From<Rewritten> for Answer {
+    fn from(refused: Rewritten) -> Answer {
+        Answer { code: refused.code, offset: refused.offset, ..Answer::default() }
+    }
+}
+
+/// The stack that a thread has which makes calls. The header says that one takes 1,070,000 bytes at most.
+pub const STACK: usize = 2 << 20;
 
 /// The bytes of a slip.
 pub const SLIP_SIZE: usize = 17;
@@ -258,9 +279,9 @@ pub fn compare(data: &[u8], frame: u64, cells: &[u8], tolerance: u64, rows: &mut
 }
 
 /// Writes the slip of a verdict whose row count is known; answers the code.
-pub fn write_slip(verdict: Answer, slip: &mut [u8]) -> u32 {
+pub fn write_slip(verdict: Answer, slip: &mut [u8]) -> Code {
     // Sound: the verdict goes by value, and the call writes within `slip` alone.
-    unsafe { xa_write_slip(verdict, 1, slip.as_mut_ptr(), slip.len()) }
+    Code::of(unsafe { xa_write_slip(verdict, 1, slip.as_mut_ptr(), slip.len()) })
 }
 
 /// The verdict that a slip records.
@@ -300,6 +321,45 @@ impl Memory {
     pub fn numbers_mut(&mut self) -> &mut [u32] {
         // Sound: as above.
         unsafe { self.bytes_mut().align_to_mut().1 }
+    }
+}
+
+/// A lease on a file (fcntl(2), F_SETLEASE). While it is held nobody has the file open for writing, nor a mapping of it to write to; whoever
+/// opens it so is held back until it is given back, but not longer than /proc/sys/fs/lease-break-time says.
+pub struct Lease<'a>(&'a File);
+
+/// Numbers of Linux that the crate has not; they are the same on every machine that Debian runs on.
+const SET_SIGNAL: libc::c_int = 10;
+const SET_LEASE: libc::c_int = 1024;
+const GET_LEASE: libc::c_int = 1025;
+
+fn control(file: &File, what: libc::c_int, value: libc::c_int) -> io::Result<libc::c_int> {
+    // Sound: the file is open as long as it is borrowed, and with these words the call takes a number and follows no pointer.
+    match unsafe { libc::fcntl(file.as_raw_fd(), what, value) } {
+        -1 => Err(io::Error::last_os_error()),
+        answer => Ok(answer),
+    }
+}
+
+impl Lease<'_> {
+    /// The lease. The error is `WouldBlock` where somebody has the file open for writing; another where there are no leases, or none for us.
+    pub fn take(file: &File) -> io::Result<Lease<'_>> {
+        // Whoever wants to write is told to us by a signal. The usual one would end the process; this one does nothing.
+        control(file, SET_SIGNAL, libc::SIGURG)?;
+        control(file, SET_LEASE, libc::F_RDLCK as libc::c_int)?;
+        Ok(Lease(file))
+    }
+
+    /// Whether nobody asked to write since it was taken.
+    pub fn holds(&self) -> bool {
+        control(self.0, GET_LEASE, 0).ok() == Some(libc::F_RDLCK as libc::c_int)
+    }
+}
+
+impl Drop for Lease<'_> {
+    fn drop(&mut self) {
+        // One that was taken away from us is gone already.
+        let _ = control(self.0, SET_LEASE, libc::F_UNLCK as libc::c_int);
     }
 }
 

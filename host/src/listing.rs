@@ -4,6 +4,7 @@ use std::io::{self, BufWriter, Write};
 use std::path::{Path, PathBuf};
 
 use crate::buffer::RowBuffer;
+use crate::codes::Coded;
 use crate::files::Opened;
 use crate::head::{self, Judged};
 use crate::identity;
@@ -66,7 +67,7 @@ pub fn rows(path: &Path, kind: head::Form, form: Form, names: Names, out: &mut d
         opened.unchanged().map(|()| (opened, judged))
     });
     let (opened, table) = match read {
-        Ok((opened, Judged { answer, .. })) if answer.code == 0 => (opened, buffer.table(answer.rows)),
+        Ok((opened, Judged { answer, .. })) if answer.is_done() => (opened, buffer.table(answer.rows)),
         Ok((_, refused)) => {
             line(out, path, &refused.line())?;
             return Ok(Status::Refused);
@@ -144,8 +145,8 @@ fn slip_in(path: &Path) -> Result<Slip, (String, Status)> {
         opened.unchanged().map(|()| slip)
     });
     match read {
-        Ok(slip) if slip.code != 0 => {
-            Err((format!("code {}: {}", slip.code, sentences::code(slip.code)), Status::Refused))
+        Ok(slip) if !slip.is_done() => {
+            Err((format!("code {}: {}", slip.number(), slip.code().meaning()), Status::Refused))
         }
         Ok(slip) => Ok(slip),
         Err(trouble) => Err((trouble, Status::Failed)),
@@ -161,7 +162,7 @@ pub fn read_slips(paths: &[PathBuf], json: bool, out: &mut dyn Write) -> io::Res
             Ok(slip) => {
                 let (verdict, rows) = (&slip.verdict, slip.rows());
                 object.put_answer(verdict, rows);
-                let end = if verdict.code == 0 { Status::Fine } else { Status::Refused };
+                let end = if verdict.is_done() { Status::Fine } else { Status::Refused };
                 (sentences::slip(verdict, rows), end)
             }
             Err((trouble, end)) => {

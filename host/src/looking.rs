@@ -2,19 +2,24 @@
 
 use std::io::{self, Read, Write};
 use std::os::unix::process::{CommandExt, ExitStatusExt};
-use std::path::Path;
+use std::path::{Path, PathBuf};
 use std::process::{Child, Command, Stdio};
+use std::thread;
 use std::time::Duration;
 
+use clap::ValueEnum;
+use serde::de::DeserializeOwned;
 use serde::{Deserialize, Serialize};
 use wait_timeout::ChildExt;
 
 use crate::buffer::{most_room, NoRoom, RowBuffer};
+use crate::canonical;
 use crate::files::{self, Opened, State};
 use crate::head::{Form, Judged};
 use crate::memory::{self, Granted};
 use crate::other;
 use crate::output::Status;
+use crate::report;
 
 /// What is known of a file.
 #[derive(Serialize, Deserialize)]
@@ -27,8 +32,6 @@ pub enum Looked {
     Arriving(String),
     /// Why there is no verdict.
     Trouble(String),
-    /// It takes so many bytes of memory, more than were granted. Said by one process to another.
-    Needs(u64),
 }
 
 /// Judges a file within the memory that its bytes take and so much more; or says how much more it takes.
@@ -72,8 +75,29 @@ pub fn here(path: &Path, form: Form, buffer: &mut RowBuffer) -> Looked {
     Looked::Trouble(format!("cannot be judged: there is no memory for its rows, {more} bytes"))
 }
 
+/// What one process says to another.
+#[derive(Serialize, Deserialize)]
+enum Said<T> {
+    Looked(T),
+    /// It takes so many bytes of memory, more than were granted.
+    Needs(u64),
+}
+
+/// What a process of its own is asked about a file.
+#[derive(Clone, Copy, PartialEq, Eq, clap::ValueEnum)]
+pub enum What {
+    /// For `judge`: `Looked`.
+    Verdict,
+    /// For `report`: what is said of the run, and its pictures.
+    Entry,
+    /// For `duplicates`: the hash of its canonical form.
+    Form,
+    /// For `duplicates`: whether another file has the same canonical form.
+    Equal,
+}
+
 /// Looks at a file in a process of its own, for so long at most. The time begins when there is memory for it.
-pub fn within(limit: Duration, path: &Path, form: Form) -> Looked {
+pub fn within<T: DeserializeOwned>(limit: Duration, what: What, path: &Path, form: Form) -> Result<T, String> {
     // One that cannot be asked is told by the other process.
     let size = State::at(path).map_or(0, |state| state.size());
     let own = if files::are_mapped() { 0 } else { size };
@@ -85,58 +109,101 @@ pub fn within(limit: Duration, path: &Path, form: Form) -> Looked {
     });
     for _ in 0..2 {
         if let Err(trouble) = &granted {
-            return Looked::Trouble(format!("cannot be read: {trouble}"));
+            return Err(format!("cannot be read: {trouble}"));
         }
-        match start(path, form, bytes).and_then(|child| wait(child, limit)) {
-            Ok(Looked::Needs(more)) => bytes = more,
-            Ok(looked) => return looked,
-            Err(error) => return Looked::Trouble(format!("cannot be judged in a process of its own: {error}")),
+        match ask(limit, what, &[path], form, bytes)? {
+            Said::Needs(more) => bytes = more,
+            Said::Looked(looked) => return Ok(looked),
         }
         // Nobody waits while holding some.
         drop(granted);
         granted = Granted::wait_for(bytes);
     }
-    Looked::Trouble(format!("cannot be judged: there is no memory for {bytes} bytes"))
+    Err(format!("cannot be judged: there is no memory for {bytes} bytes"))
 }
 
-/// The name of the command that `within` starts.
+/// The same where nothing else is looked at: all memory is the other process's.
+pub fn within_alone<T: DeserializeOwned>(
+    limit: Duration,
+    what: What,
+    paths: &[&Path],
+    form: Form,
+) -> Result<T, String> {
+    match ask(limit, what, paths, form, memory::limit())? {
+        Said::Needs(bytes) => Err(memory::too_much(bytes, memory::limit())),
+        Said::Looked(looked) => Ok(looked),
+    }
+}
+
+/// The name of the command that the other process is started with.
 pub const COMMAND: &str = "look";
 
-fn start(path: &Path, form: Form, bytes: u64) -> io::Result<Child> {
+fn ask<T: DeserializeOwned>(
+    limit: Duration,
+    what: What,
+    paths: &[&Path],
+    form: Form,
+    bytes: u64,
+) -> Result<Said<T>, String> {
+    let child = start(what, paths, form, bytes);
+    let said = child.and_then(|child| wait(child, limit));
+    said.unwrap_or_else(|error| Err(format!("cannot be looked at in a process of its own: {error}")))
+}
+
+fn start(what: What, paths: &[&Path], form: Form, bytes: u64) -> io::Result<Child> {
     let mut command = Command::new("/proc/self/exe");
     command.arg0("luux").args([COMMAND, "--memory", &bytes.to_string()]);
     command.args((form == Form::Bare).then_some("--bare")).args(files::are_mapped().then_some("--map"));
-    command.arg("--").arg(path);
+    let word = what.to_possible_value().map_or_else(String::new, |word| String::from(word.get_name()));
+    command.args([String::from("--"), word]).args(paths);
     command.stdin(Stdio::null()).stdout(Stdio::piped()).stderr(Stdio::null()).spawn()
 }
 
-/// What the other process says. It says little, which fits into the pipe.
-fn wait(mut child: Child, limit: Duration) -> io::Result<Looked> {
+/// The stack of a thread that only listens.
+const LISTENER: usize = 128 << 10;
+
+/// What the other process says, or why there is nothing.
+fn wait<T: DeserializeOwned>(mut child: Child, limit: Duration) -> io::Result<Result<Said<T>, String>> {
+    // It may say more than the pipe holds, so somebody listens from the start.
+    let pipe = child.stdout.take();
+    let listener = thread::Builder::new().stack_size(LISTENER).spawn(move || {
+        let mut said = Vec::new();
+        pipe.map_or(Ok(0), |mut pipe| pipe.read_to_end(&mut said)).map(|_| said)
+    })?;
     let Some(status) = child.wait_timeout(limit)? else {
         child.kill()?;
-        // Where a disk hangs, the process stays until the disk answers. It is not waited for.
+        // Where a disk hangs, the process stays until the disk answers. Neither it nor the listener is waited for.
         child.wait_timeout(Duration::from_secs(1))?;
-        return Ok(Looked::Trouble(format!(
-            "took more than {} seconds, the --timeout; there is no verdict",
-            limit.as_secs_f64()
-        )));
+        return Ok(Err(format!("took more than {} seconds, the --timeout; there is no verdict", limit.as_secs_f64())));
     };
-    let mut said = Vec::new();
-    if let Some(mut pipe) = child.stdout.take() {
-        pipe.read_to_end(&mut said)?;
-    }
-    Ok(serde_json::from_slice(&said).unwrap_or_else(|_| {
+    let said = listener.join().unwrap_or_else(|_| Ok(Vec::new()))?;
+    Ok(serde_json::from_slice(&said).map_err(|_| {
         let how = status.signal().map_or_else(|| status.to_string(), |signal| format!("signal {signal}"));
-        Looked::Trouble(format!("its judging ended with {how}; there is no verdict"))
+        format!("its judging ended with {how}; there is no verdict")
     }))
 }
 
+fn say<T: Serialize>(looked: Result<T, NoRoom>, own: u64, out: &mut dyn Write) -> io::Result<()> {
+    let said = match looked {
+        Ok(looked) => Said::Looked(looked),
+        Err(NoRoom(bytes)) => Said::Needs(own.saturating_add(bytes)),
+    };
+    Ok(serde_json::to_writer(out, &said)?)
+}
+
 /// The other process: looks at a file once, within the memory that was granted, and says what it saw.
-pub fn run(path: &Path, form: Form, out: &mut dyn Write) -> io::Result<Status> {
+pub fn run(what: What, paths: &[PathBuf], form: Form, out: &mut dyn Write) -> io::Result<Status> {
+    let [path, others @ ..] = paths else {
+        return Ok(Status::Failed);
+    };
     let own = State::at(path).map_or(0, |state| if files::are_mapped() { 0 } else { state.size() });
     let more = memory::limit().saturating_sub(own);
-    let looked = attempt(path, form, more, &mut RowBuffer::default());
-    let looked = looked.unwrap_or_else(|NoRoom(bytes)| Looked::Needs(own.saturating_add(bytes)));
-    serde_json::to_writer(out, &looked)?;
+    match (what, others) {
+        (What::Verdict, []) => say(attempt(path, form, more, &mut RowBuffer::default()), own, out)?,
+        (What::Entry, []) => say(report::attempt(path, form, more), own, out)?,
+        (What::Form, []) => say(Ok(canonical::summary(path, form)), own, out)?,
+        (What::Equal, [other]) => say(Ok(canonical::are_equal(path, other, form)), own, out)?,
+        _ => return Ok(Status::Failed),
+    }
     Ok(Status::Fine)
 }

@@ -6,6 +6,7 @@
 
 mod buffer;
 mod canonical;
+mod codes;
 mod comparing;
 mod demo;
 mod files;
@@ -28,6 +29,7 @@ mod picture;
 mod report;
 mod sampling;
 mod sentences;
+mod settling;
 mod table;
 mod values;
 
@@ -41,6 +43,7 @@ use clap::{CommandFactory, Parser, Subcommand};
 use globset::Glob;
 
 use head::Form;
+use library::STACK;
 use output::{note, Status};
 
 const STATUSES: &str = "\
@@ -104,6 +107,19 @@ impl Choosing {
     }
 }
 
+/// Which files are waited for, and how long.
+#[derive(clap::Args)]
+struct Waiting {
+    /// Name files that were written to less than SECONDS ago, or that still grow, as arriving, and do not look into them
+    ///
+    /// Each file is looked at twice for that, a second apart; one that another program has open for writing is arriving too.
+    #[arg(long, value_name = "SECONDS", value_parser = seconds)]
+    settle: Option<Duration>,
+    /// Give up on a file after SECONDS, and go on with the next; each is then looked at in a process of its own
+    #[arg(long, value_name = "SECONDS", value_parser = seconds)]
+    timeout: Option<Duration>,
+}
+
 #[derive(Subcommand)]
 enum Command {
     /// List the elements and items of a data set
@@ -145,14 +161,8 @@ enum Command {
         choosing: Choosing,
         #[command(flatten)]
         keeping: keeping::Keeping,
-        /// Name files that were written to less than SECONDS ago, or that still grow, as arriving, and do not judge them
-        ///
-        /// Each file is looked at twice for that, a second apart.
-        #[arg(long, value_name = "SECONDS", value_parser = seconds)]
-        settle: Option<Duration>,
-        /// Give up on a file after SECONDS, and go on with the next; each is then judged in a process of its own
-        #[arg(long, value_name = "SECONDS", value_parser = seconds)]
-        timeout: Option<Duration>,
+        #[command(flatten)]
+        waiting: Waiting,
         /// Print one JSON object a line, and the summary on standard error
         #[arg(long)]
         json: bool,
@@ -300,6 +310,8 @@ enum Command {
         bare: bool,
         #[command(flatten)]
         choosing: Choosing,
+        #[command(flatten)]
+        waiting: Waiting,
         /// Print one JSON object for each group, and the summary on standard error
         #[arg(long)]
         json: bool,
@@ -337,6 +349,8 @@ enum Command {
         bare: bool,
         #[command(flatten)]
         choosing: Choosing,
+        #[command(flatten)]
+        waiting: Waiting,
         /// The page
         #[arg(short, long, value_name = "PAGE", default_value = "report.html")]
         output: PathBuf,
@@ -368,10 +382,12 @@ enum Command {
         #[arg(default_value = "luux-demo")]
         folder: PathBuf,
     },
-    /// Judge one file for luux judge --timeout, and say so to it
+    /// Look at one file for a luux with --timeout, and say to it what was seen
     #[command(name = looking::COMMAND, hide = true)]
     Look {
-        file: PathBuf,
+        what: looking::What,
+        #[arg(required = true)]
+        files: Vec<PathBuf>,
         #[arg(long)]
         bare: bool,
     },
@@ -427,7 +443,7 @@ fn run(command: Command, out: &mut dyn Write) -> io::Result<Status> {
             let form = if tree { listing::Form::Tree } else { listing::Form::Numbers };
             listing::rows(&file, Form::of(bare), form, listing::Names::of(names, patient), out)
         }
-        Command::Judge { paths, bare, choosing, keeping, settle, timeout, json, long, patient, searches, jobs } => {
+        Command::Judge { paths, bare, choosing, keeping, waiting, json, long, patient, searches, jobs } => {
             let (choice, jobs) = (choosing.choice(), jobs.map_or_else(processors, usize::from));
             let form = Form::of(bare);
             judging::run(
@@ -436,8 +452,8 @@ fn run(command: Command, out: &mut dyn Write) -> io::Result<Status> {
                     form,
                     choice,
                     keeping,
-                    settle,
-                    timeout,
+                    settle: waiting.settle,
+                    timeout: waiting.timeout,
                     json,
                     jobs,
                     long,
@@ -495,17 +511,23 @@ fn run(command: Command, out: &mut dyn Write) -> io::Result<Status> {
             }
         }
         Command::Canonical { file, bare, output } => canonical::write(&file, Form::of(bare), &output, out),
-        Command::Duplicates { paths, bare, choosing, json } => {
-            canonical::duplicates(&paths, Form::of(bare), &choosing.choice(), json, out)
+        Command::Duplicates { paths, bare, choosing, waiting, json } => {
+            let (choice, Waiting { settle, timeout }) = (choosing.choice(), waiting);
+            let kind = Form::of(bare);
+            canonical::duplicates(&canonical::Wanted { named: paths, kind, choice, settle, timeout, json }, out)
         }
         Command::Linear { file, bare, frame, csv: true, .. } => picture::linear_text(&file, Form::of(bare), frame, out),
         Command::Linear { file, bare, frame, output, .. } => {
             check_picture(output.as_deref());
             picture::linear(&file, Form::of(bare), frame, output.as_deref(), out)
         }
-        Command::Report { paths, bare, choosing, output, csv, patient, jobs } => {
+        Command::Report { paths, bare, choosing, waiting, output, csv, patient, jobs } => {
             let (choice, jobs) = (choosing.choice(), jobs.map_or_else(processors, usize::from));
-            report::run(&report::Wanted { named: paths, form: Form::of(bare), choice, output, csv, patient, jobs }, out)
+            let (form, Waiting { settle, timeout }) = (Form::of(bare), waiting);
+            report::run(
+                &report::Wanted { named: paths, form, choice, settle, timeout, output, csv, patient, jobs },
+                out,
+            )
         }
         Command::Completions { shell } => {
             let mut script = Vec::new();
@@ -514,22 +536,34 @@ fn run(command: Command, out: &mut dyn Write) -> io::Result<Status> {
         }
         Command::Slip { command: SlipCommand::Read { files, json } } => listing::read_slips(&files, json, out),
         Command::Demo { folder } => demo::run(&folder, processors(), out),
-        Command::Look { file, bare } => looking::run(&file, Form::of(bare), out),
+        Command::Look { what, files, bare } => looking::run(what, &files, Form::of(bare), out),
     }
 }
 
-fn main() -> ExitCode {
+fn work() -> Status {
     let arguments = Arguments::parse();
     memory::limit_to(arguments.lending.memory.unwrap_or_else(memory::quarter));
     files::start(arguments.lending.map);
     let mut out = io::stdout().lock();
     let ended = run(arguments.command, &mut out).and_then(|status| out.flush().map(|()| status));
-    let status = ended.unwrap_or_else(|error| {
+    ended.unwrap_or_else(|error| {
         // Whoever closed the pipe has seen enough; any other trouble is told.
         if error.kind() != io::ErrorKind::BrokenPipe {
             note(&format!("standard output cannot be written: {error}"));
         }
         Status::Failed
-    });
+    })
+}
+
+fn main() -> ExitCode {
+    // The stack of the first thread is as large as the system allows, and grows while it is used; where it cannot, the process crashes. Another
+    // thread's is there from the start, and is as large as the library's calls need.
+    let status = match std::thread::Builder::new().stack_size(STACK).spawn(work) {
+        Ok(thread) => thread.join().unwrap_or(Status::Failed),
+        Err(error) => {
+            note(&format!("there is no memory to start with: {error}"));
+            Status::Failed
+        }
+    };
     ExitCode::from(status as u8)
 }

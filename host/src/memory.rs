@@ -74,6 +74,11 @@ impl Granted {
         fits
     }
 
+    /// Gives back what is more than so many bytes.
+    pub fn shrink_to(&mut self, bytes: u64) {
+        drop(self.split(self.0.saturating_sub(bytes)));
+    }
+
     /// Takes so many bytes of it, or all of it, for something else.
     pub fn split(&mut self, bytes: u64) -> Granted {
         let taken = bytes.min(self.0);
@@ -126,4 +131,38 @@ pub fn bytes(text: &str) -> Result<u64, &'static str> {
     number
         .and_then(|number| number.checked_mul(factor))
         .ok_or("a number of bytes, or one with K, M or G behind it, such as 800M")
+}
+
+#[cfg(test)]
+mod tests {
+    use super::*;
+
+    #[test]
+    fn numbers_of_bytes() {
+        assert_eq!(
+            [bytes("17"), bytes("1K"), bytes("800M"), bytes("2G")],
+            [Ok(17), Ok(1 << 10), Ok(800 << 20), Ok(2 << 30)]
+        );
+        for wrong in ["", "-1", "many", "4T", "1.5G", "99999999999999999999", "99999999999G"] {
+            assert!(bytes(wrong).is_err(), "{wrong}");
+        }
+    }
+
+    /// What is granted is taken, given back in part, split, and given back at the end. There is one limit for all, so this is one test.
+    #[test]
+    fn grants() {
+        limit_to(100);
+        let mut one = Granted::now(60).unwrap();
+        assert!(Granted::now(41).is_err() && Granted::wait_for(101).is_err());
+        one.shrink_to(10);
+        let mut other = Granted::wait_for(90).unwrap();
+        assert!(!one.grow_to(11) && one.grow_to(5));
+        let part = other.split(1000);
+        drop(other);
+        assert!(!one.grow_to(11));
+        drop(part);
+        assert!(one.grow_to(100));
+        drop(one);
+        assert_eq!(state().used, 0);
+    }
 }

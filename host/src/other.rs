@@ -3,13 +3,9 @@
 //! A file is only told apart where its own bytes say what it is. What might be a damaged run stays refused.
 
 use crate::buffer::RowBuffer;
+use crate::codes::{Code, Coded};
 use crate::head::{self, Form};
 use crate::library::Answer;
-
-const RULE_BROKEN: u32 = 9;
-const NO_MARK: u32 = 15;
-const BAD_HEAD: u32 = 16;
-const DIFFERENT: u32 = 18;
 
 const MEDIA_CLASS: u32 = 0x0002_0002;
 const SOP_CLASS: u32 = 0x0008_0016;
@@ -18,15 +14,17 @@ const OURS: [&str; 2] = ["1.2.840.10008.5.1.4.1.1.12.1.1", "1.2.840.10008.5.1.4.
 
 /// What a file is that was not accepted, where it is certainly no run.
 pub fn what(content: &[u8], answer: &Answer, buffer: &mut RowBuffer) -> Option<String> {
-    match answer.code {
-        0 | BAD_HEAD => None,
-        NO_MARK => plain(content).map(String::from),
+    match answer.code() {
+        Code::Done | Code::BadHead => None,
+        Code::NotAFile => plain(content).map(String::from),
         code => {
             let class = head::uid(content, MEDIA_CLASS)?;
             let certain = match code {
                 // The data set names the same class.
-                RULE_BROKEN => true,
-                DIFFERENT => !data_class(content, buffer).map_or(false, |class| OURS.contains(&class.as_str())),
+                Code::RuleBroken => true,
+                Code::OtherSopClass => {
+                    !data_class(content, buffer).map_or(false, |class| OURS.contains(&class.as_str()))
+                }
                 // The data set was not read.
                 _ => !OURS.iter().any(|ours| is_near(ours, &class)),
             };

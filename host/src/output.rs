@@ -8,6 +8,7 @@ use serde::Serialize;
 use serde_json::ser::{CompactFormatter, Formatter, Serializer};
 use serde_json::{Map, Value};
 
+use crate::codes::Coded;
 use crate::files;
 use crate::library::Answer;
 use crate::sentences;
@@ -72,8 +73,8 @@ impl Object {
 
     /// An answer: `verdict`, its numbers and its sentence. A row count that is not known is `null`.
     pub fn put_answer(&mut self, answer: &Answer, rows: Option<u32>) {
-        self.put("verdict", if answer.code == 0 { "accepted" } else { "refused" });
-        self.put("code", answer.code);
+        self.put("verdict", if answer.is_done() { "accepted" } else { "refused" });
+        self.put("code", answer.number());
         self.put("offset", answer.offset);
         self.put("rows", rows);
         self.put("rule", answer.rule);

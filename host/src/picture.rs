@@ -6,7 +6,8 @@ use std::borrow::Cow;
 use std::io::{self, Write};
 use std::path::{Path, PathBuf};
 
-use crate::buffer::RowBuffer;
+use crate::buffer::{NoRoom, RowBuffer};
+use crate::codes::{Code, Coded};
 use crate::files::{self, Opened};
 use crate::head::{self, Judged};
 use crate::library::{Answer, Compared, SHEET_NUMBERS};
@@ -20,9 +21,6 @@ const ROWS: u32 = 0x0028_0010;
 const COLUMNS: u32 = 0x0028_0011;
 const MASKS: u32 = 0x0028_6100;
 const OPERATION: u32 = 0x0028_6101;
-
-/// The code of a frame that is none of the run.
-const NO_SUCH_FRAME: u32 = 10;
 
 /// Why there is no picture, in words.
 pub enum Failure {
@@ -162,6 +160,9 @@ pub fn form_of(path: &Path) -> Option<Form> {
     }
 }
 
+/// The verdict on a file with its run, or with what it is where it is certainly none; or why there is no verdict.
+pub type Looked = Result<(Judged, Result<Run, Option<String>>), String>;
+
 /// An accepted run, ready to be drawn from.
 pub struct Run {
     opened: Opened,
@@ -183,16 +184,38 @@ impl Run {
         run.map_err(|_| Failure::Refused(judged.line()))
     }
 
-    /// The verdict on a file, and the run where it is accepted; else what the file is, where it is certainly no run. Width, height and the
-    /// number of frames are taken from the rows.
-    pub fn judged(path: &Path, form: head::Form) -> Result<(Judged, Result<Run, Option<String>>), String> {
-        let opened = Opened::open(path)?;
+    /// The verdict on a file, and the run where it is accepted; else what the file is, where it is certainly no run. It waits until there is
+    /// memory for it, so it is only for one who holds none.
+    pub fn judged(path: &Path, form: head::Form) -> Looked {
+        let mut more = 0;
+        for _ in 0..2 {
+            match Run::attempt(path, form, more) {
+                Ok(judged) => return judged,
+                Err(NoRoom(bytes)) => more = bytes,
+            }
+        }
+        Err(format!("cannot be judged: there is no memory for its rows, {more} bytes"))
+    }
+
+    /// The same within the memory that its bytes take and so much more; or how much more it takes. Width, height and the number of frames are
+    /// taken from the rows.
+    pub fn attempt(path: &Path, form: head::Form, more: u64) -> Result<Looked, NoRoom> {
+        let mut opened = match Opened::with_room(path, more) {
+            Ok(opened) => opened,
+            Err(trouble) => return Ok(Err(trouble)),
+        };
         let mut buffer = RowBuffer::default();
+        buffer.take(opened.room(more));
+        buffer.fit(form, opened.bytes())?;
+        Ok(Run::of(opened, form, buffer))
+    }
+
+    fn of(opened: Opened, form: head::Form, mut buffer: RowBuffer) -> Looked {
         let content = opened.bytes();
         let answer = buffer.judge(form, content)?;
         let table = buffer.table(answer.rows);
         let judged = Judged::of(form, content, answer, table);
-        if answer.code != 0 {
+        if !answer.is_done() {
             // With --bare it was said that these are data sets.
             let what = if form == head::Form::File { other::what(content, &answer, &mut buffer) } else { None };
             return opened.unchanged().map(|()| (judged, Err(what)));
@@ -293,9 +316,9 @@ impl Run {
     /// Whether a call was done, on a file that stayed as it was.
     fn done(&self, answer: Answer) -> Result<(), Failure> {
         self.opened.unchanged()?;
-        match answer.code {
-            0 => Ok(()),
-            NO_SUCH_FRAME => {
+        match answer.code() {
+            Code::Done => Ok(()),
+            Code::NoSuchFrame => {
                 let text = format!("{}; it has frames 1 to {}", sentences::answer(&answer, 0, None), self.frames);
                 Err(Failure::Refused(text))
             }
@@ -477,4 +500,33 @@ pub fn linear_text(path: &Path, form: head::Form, frame: u64, out: &mut dyn Writ
 /// Whether a picture of this name can be made; asked before anything is drawn.
 pub fn is_picture_name(path: &Path) -> bool {
     form_of(path).is_some()
+}
+
+#[cfg(test)]
+mod tests {
+    use super::*;
+
+    #[test]
+    fn frames_are_spread_evenly() {
+        assert_eq!(chosen(1, 6), [1]);
+        assert_eq!(chosen(4, 6), [1, 2, 3, 4]);
+        assert_eq!(chosen(100, 3), [1, 50, 100]);
+        assert!(chosen(0, 6).is_empty());
+        assert_eq!((chosen(65_535, 24).len(), chosen(65_535, 24)[23]), (24, 65_535));
+    }
+
+    #[test]
+    fn pictures_are_sampled_and_stand_beside_each_other() {
+        let image = Image { width: 3, height: 2, cells: vec![1u8, 2, 3, 4, 5, 6] };
+        assert_eq!(image.sampled(2).cells, [1, 3]);
+        assert_eq!(image.sampled(3).cells, image.cells);
+        assert_eq!(image.beside(&image).cells, [1, 2, 3, 1, 2, 3, 4, 5, 6, 4, 5, 6]);
+        assert_eq!(image.encoded(Form::Pgm).unwrap(), b"P5\n3 2\n255\n\x01\x02\x03\x04\x05\x06");
+    }
+
+    #[test]
+    fn forms_go_by_the_name() {
+        assert!(form_of(Path::new("a.PNG")) == Some(Form::Png) && form_of(Path::new("a.pgm")) == Some(Form::Pgm));
+        assert!(form_of(Path::new("png")).is_none() && !is_picture_name(Path::new("a.jpg")));
+    }
 }

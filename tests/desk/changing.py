@@ -4,19 +4,24 @@ import json
 import mmap
 import os
 import random
+import signal
 import struct
 import subprocess
+import sys
 import threading
 import time
 import unittest
 
 from generators import enhanced_xa as xa
-from desk.common import FAILED, FINE, LARGE, REFUSED, TOOL, Desk, good_run, read_pgm, with_head
+from desk.common import FAILED, FINE, LARGE, NOBODY, REFUSED, TOOL, Desk, good_run, read_pgm, with_head
 from generators.objects import element, encode
 from reference import drawing, files
 
 RUNS = 1000
+STARVED = int(os.environ.get("LUUX_STARVED", 150))  # runs beside busy loops, with all of it on one processor
+BUSY = 6
 CHANGED = b"changed while it was looked at"
+WRITTEN = b"another program has it open for writing"
 
 
 def two_runs():
@@ -71,6 +76,9 @@ class TestChanging(Desk):
         with open(path, "r+b") as file, mmap.mmap(file.fileno(), len(content)) as map:
             map[:] = content
 
+    def show(self, *more, **options):
+        return subprocess.run([TOOL, "show", "run.dcm", "2", "-o", "x.pgm", *more], cwd=self.folder, capture_output=True, timeout=100, **options)
+
     def pictures(self, contents, frame):
         wanted = []
         for content in contents:
@@ -82,13 +90,33 @@ class TestChanging(Desk):
     def test_no_picture_of_changed_bytes(self):
         """A thousand pictures of a run that another process writes over: each is of one of its two contents, or there is none."""
         contents = two_runs()
+        ends = self.race(contents, ((self.overwrite, RUNS - 300), (self.cut_and_write, 300)))
+        self.assertGreater(min(ends.values()), 20, ends)
+
+    def test_no_picture_of_changed_bytes_when_starved(self):
+        """The same with the writer, the tool and busy loops on one processor, so that a writer stops anywhere for long; even within a write."""
+        contents = two_runs()
+        before = os.sched_getaffinity(0)
+        self.addCleanup(os.sched_setaffinity, 0, before)
+        # What is started from here on has the one processor.
+        os.sched_setaffinity(0, {min(before)})
+        for _ in range(BUSY):
+            loop = subprocess.Popen([sys.executable, "-c", "while True: pass"])
+            self.addCleanup(loop.wait)
+            self.addCleanup(loop.kill)
+        third = STARVED // 3
+        ends = self.race(contents, ((self.overwrite, third), (self.cut_and_write, third), (self.through_a_mapping, third)), own_process=True)
+        self.assertGreater(sum(ends.values()), 0, ends)
+
+    def race(self, contents, rounds, own_process=False):
+        """Pictures beside a writer; how many there were, and how often there was none."""
         wanted = self.pictures(contents, 2)
         self.put("run.dcm", contents[0])
         ends = {FINE: 0, FAILED: 0}
-        for how, count in ((self.overwrite, RUNS - 300), (self.cut_and_write, 300)):
-            stop = self.writing(self.path("run.dcm"), contents, how)
+        for how, count in rounds:
+            stop = (self.writing_apart if own_process else self.writing)(self.path("run.dcm"), contents, how)
             for _ in range(count):
-                done = subprocess.run([TOOL, "show", "run.dcm", "2", "-o", "x.pgm"], cwd=self.folder, capture_output=True, timeout=60)
+                done = self.show()
                 if done.returncode == REFUSED:
                     # Cut at that moment: a verdict on what the file then was.
                     self.assertEqual(how, self.cut_and_write, done.stdout)
@@ -96,12 +124,145 @@ class TestChanging(Desk):
                 self.assertIn(done.returncode, ends, done)
                 ends[done.returncode] += 1
                 if done.returncode == FINE:
-                    self.assertIn(read_pgm(self.path("x.pgm"))[2], wanted)
+                    self.assertTrue(read_pgm(self.path("x.pgm"))[2] in wanted, "a picture of mixed bytes")
                 else:
-                    self.assertIn(CHANGED, done.stderr)
+                    self.assertRegex(done.stderr, CHANGED + b"|" + WRITTEN)
             stop.set()
             time.sleep(0.1)
-        self.assertGreater(min(ends.values()), 20, ends)
+        return ends
+
+    def writing_apart(self, path, contents, how):
+        """Like `writing`, by a process that gets its turn like any other."""
+        child = os.fork()
+        if child == 0:
+            try:
+                rng = random.Random(4)
+                for number in range(10 ** 9):
+                    how(path, contents[number % len(contents)])
+                    time.sleep(rng.choice((0, 0, 0.001, 0.005, 0.03, 0.2)))
+            finally:
+                os._exit(0)
+        stop = threading.Event()
+        ended = []
+
+        def end():
+            if not ended:
+                ended.append(True)
+                os.kill(child, signal.SIGKILL)
+                os.waitpid(child, 0)
+        self.addCleanup(end)
+        stop.set = end
+        return stop
+
+    def test_a_writer_that_stops_halfway(self):
+        """Bytes of two runs, and nothing changes any more; but who wrote them is not done, by its file or by a mapping."""
+        contents = two_runs()
+        half = len(contents[0]) // 2
+        self.put("run.dcm", contents[0])
+        for mapped in (False, True):
+            with open(self.path("run.dcm"), "r+b", buffering=0) as file:
+                if mapped:
+                    map = mmap.mmap(file.fileno(), len(contents[0]))
+                    map[:half] = contents[1][:half]
+                else:
+                    os.pwrite(file.fileno(), contents[1][:half], 0)
+                if mapped:
+                    file.close()
+                time.sleep(0.1)
+                for words in (("judge",), ("rows",), ("show", "2", "-o", "x.pgm"), ("sheet",), ("contact", "-o", "x.pgm"), ("canonical", "-o", "x"),
+                              ("duplicates",), ("linear", "1"), ("report",), ("judge", "--timeout", "60")):
+                    done = self.luux(words[0], "run.dcm", *words[1:], status=FINE if words == ("report",) else FAILED)
+                    if words == ("report",):
+                        with open(self.path("report.html"), "rb") as page:
+                            self.assertIn(WRITTEN, page.read())
+                        os.remove(self.path("report.html"))
+                    else:
+                        self.assertIn(WRITTEN, done.stdout + done.stderr)
+                self.assertEqual(os.listdir(self.folder), ["run.dcm"])
+                self.assertIn(b"run.dcm: arriving: another program has it open for writing\n", self.luux("judge", "run.dcm", "--settle", "0.05").stdout)
+                if mapped:
+                    map.close()
+            self.put("run.dcm", contents[1])
+            self.assertEqual(self.show().returncode, FINE)
+            self.assertTrue(read_pgm(self.path("x.pgm"))[2] == self.pictures(contents, 2)[1])
+            os.remove(self.path("x.pgm"))
+
+    def test_writers_wait_for_no_more_than_the_reading(self):
+        """A writer that opens the file meanwhile is held back, not refused, and the tool is not ended by that."""
+        run = with_head(good_run(frames=1, rows=1, columns=1))
+        self.put("run.dcm", run[:-2])
+        os.truncate(self.path("run.dcm"), 300 << 20)
+        time.sleep(0.1)
+        met = 0
+        for _ in range(40):
+            process = subprocess.Popen([TOOL, "judge", "run.dcm"], cwd=self.folder, stdout=subprocess.PIPE, stderr=subprocess.PIPE)
+            while process.poll() is None:
+                with open(self.path("run.dcm"), "r+b"):
+                    pass
+            out, _ = process.communicate()
+            self.assertIn(process.returncode, (REFUSED, FAILED), process)
+            met += CHANGED in out or WRITTEN in out
+        self.assertGreater(met, 0)
+
+    @unittest.skipUnless(os.getuid() == 0, "leases are had on one's own files; root can be another")
+    def test_no_lease(self):
+        """Whose file it is not gets no lease: what is young is waited for, and what reads another way the second time is told."""
+        contents = two_runs()
+        wanted = self.pictures(contents, 2)
+        os.chmod(self.folder, 0o777)
+        self.put("run.dcm", contents[0])
+        other = {"user": NOBODY, "group": NOBODY, "extra_groups": []}
+        begun = time.monotonic()
+        self.assertEqual(self.show(**other).returncode, FINE)
+        self.assertGreater(time.monotonic() - begun, 1.5)
+        begun = time.monotonic()
+        self.assertEqual(self.show(**other).returncode, FINE)
+        self.assertLess(time.monotonic() - begun, 1.5)
+        os.utime(self.path("run.dcm"), (1, 1))
+        with open(self.path("run.dcm"), "r+b") as file, mmap.mmap(file.fileno(), len(contents[0])) as map:
+            map[:] = contents[1]
+            time.sleep(2.2)
+            stop = threading.Event()
+
+            def flip():
+                number = 0
+                while not stop.is_set():
+                    number += 1
+                    map[:] = contents[number % 2]
+            thread = threading.Thread(target=flip)
+            thread.start()
+            try:
+                for _ in range(30):
+                    done = self.show(**other)
+                    self.assertIn(done.returncode, (FINE, FAILED), done)
+                    if done.returncode == FINE:
+                        self.assertTrue(read_pgm(self.path("x.pgm"))[2] in wanted, "a picture of mixed bytes")
+            finally:
+                stop.set()
+                thread.join()
+
+    def test_the_race_is_one(self):
+        """What these tests look for does happen where the tool lends a mapping: a picture of no run, or a crash."""
+        contents = two_runs()
+        wanted = self.pictures(contents, 2)
+        self.put("run.dcm", contents[0])
+        child = os.fork()
+        if child == 0:
+            try:
+                with open(self.path("run.dcm"), "r+b") as file, mmap.mmap(file.fileno(), len(contents[0])) as map:
+                    while True:
+                        for content in contents:
+                            map[:] = content
+            finally:
+                os._exit(0)
+        self.addCleanup(os.waitpid, child, 0)
+        self.addCleanup(os.kill, child, signal.SIGKILL)
+        for _ in range(2000):
+            done = self.show("--map")
+            crashed = done.returncode < 0
+            if crashed or done.returncode == FINE and read_pgm(self.path("x.pgm"))[2] not in wanted:
+                return
+        self.fail("the writer met no picture in 2000")
 
     def test_no_crash_whoever_writes(self):
         """The size of a frame changes under a mapping, which shows in no time: every command ends by itself."""
@@ -183,6 +344,34 @@ class TestArriving(Desk):
         self.luux("judge", "in", "--settle", "0", status=REFUSED)
         for wrong in ("-1", "soon", "nan", "inf"):
             self.assertIn(b"seconds", self.luux("judge", "in", f"--settle={wrong}", status=FAILED).stderr)
+
+    def test_other_commands(self):
+        """Whatever goes through a folder leaves alone what still arrives, and gives up on what takes too long."""
+        for name, content in (("a", good_run()), ("b", good_run()), ("c", good_run()[:-2]), ("young", good_run())):
+            self.put(f"in/{name}.dcm", with_head(content))
+            os.utime(self.path("in", f"{name}.dcm"), (time.time() - (0 if name == "young" else 500),) * 2)
+        done = self.luux("duplicates", "in", "--settle", "300", status=REFUSED)
+        self.assertEqual(done.stdout.decode().splitlines()[1:], [
+            "  in/a.dcm", "  in/b.dcm", "4 files: 2 with an equal in 1 group, 1 refused, 0 could not be read, 1 arriving"])
+        self.assertRegex(done.stderr, b"in/young.dcm: arriving: written to \\d+ seconds ago")
+        said = self.luux("report", "in", "--settle", "300", "--csv").stdout.decode()
+        self.assertIn("2 accepted, 1 refused, 0 could not be read, 1 arriving", said)
+        with open(self.path("report.csv"), encoding="utf-8") as file:
+            self.assertRegex(file.read(), "in/young.dcm,arriving,")
+        for words, status in ((("duplicates", "in"), REFUSED), (("report", "in", "--csv"), FINE)):
+            said, tables = [], []
+            for more in ((), ("--timeout", "60")):
+                done = self.luux(*words, *more, status=status)
+                said.append((done.stdout, done.stderr))
+                with open(self.path("report.csv"), "rb") as file:
+                    tables.append(file.read())
+                with open(self.path("report.html"), "rb") as file:
+                    tables.append(file.read().count(b"data:image/png"))
+            self.assertEqual(said[0], said[1])
+            self.assertEqual(tables[:2], tables[2:])
+        done = self.luux("duplicates", "in", "--timeout", "0", status=FAILED)
+        self.assertEqual(done.stderr.count(b"took more than 0 seconds, the --timeout"), 4)
+        self.assertIn(b"4 could not be read", self.luux("report", "in", "--timeout", "0").stdout)
 
 
 __all__ = [name for name, one in list(globals().items()) if isinstance(one, type) and issubclass(one, unittest.TestCase) and one is not Desk]

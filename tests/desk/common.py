@@ -190,7 +190,7 @@ class Desk(unittest.TestCase):
     def lines(self, *words, found=False, **options):
         """The lines of a command, without what a refusal found unless that is asked for; it has tests of its own."""
         lines = self.luux(*words, **options).stdout.decode().splitlines()
-        return lines if found else [re.sub(r" Found: .*?\.($|; moved to |; not moved |; its )", r"\1", line) for line in lines]
+        return lines if found else [re.sub(r" Found: .*?\.($| Moved to | Not moved | Its )", r"\1", line) for line in lines]
 
     def check_json(self, one, answer):
         """An object of --json tells these fields of an answer; whatever others it names are the answer's too."""

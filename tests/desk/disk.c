@@ -35,6 +35,20 @@ ssize_t read(int fd, void *to, size_t size) {
     return real(fd, to, size);
 }
 
+ssize_t pread64(int fd, void *to, size_t size, off64_t at) {
+    static ssize_t (*real)(int, void *, size_t, off64_t);
+    if (!real) real = dlsym(RTLD_NEXT, "pread64");
+    if (stands_in(fd, "slow-disk")) sleep(60);
+    if (stands_in(fd, "bad-sector")) {
+        if (at >= 4096) {
+            errno = EIO;
+            return -1;
+        }
+        if (size > 4096) size = 4096;
+    }
+    return real(fd, to, size, at);
+}
+
 ssize_t write(int fd, const void *from, size_t size) {
     static ssize_t (*real)(int, const void *, size_t);
     if (!real) real = dlsym(RTLD_NEXT, "write");

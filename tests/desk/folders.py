@@ -164,7 +164,8 @@ class TestMoving(Desk):
         words = ("judge", "in", "--move-accepted", "done", "--move-refused", "in/bad", "--slips", "slips")
         said = self.lines(*words, status=REFUSED)
         self.assertEqual(said[1], "in/good.dcm: accepted; moved to done/in/good.dcm")
-        self.assertTrue(said[3].endswith("; moved to in/bad/in/sub/bad.dcm"), said[3])
+        # Behind a sentence stands a sentence.
+        self.assertTrue(said[3].endswith(" says. Moved to in/bad/in/sub/bad.dcm."), said[3])
         self.assertEqual(os.stat(self.path("done", "in", "good.dcm")).st_ino, number)
         found = sorted(os.path.relpath(os.path.join(folder, name), self.folder) for folder, _, names in os.walk(self.folder) for name in names)
         self.assertEqual(found, ["done/in/good.dcm", "in/bad/in/cut.dcm", "in/bad/in/sub/bad.dcm", "in/notes.txt", "slips/in/good.dcm.slip",

@@ -40,7 +40,8 @@ class TestInstall(Desk):
         """Without rt on the PATH: a C host is made by pkg-config, linked both ways and run; luux runs; all can be taken away again."""
         tools = self.path("tools")
         os.mkdir(tools)
-        for name in ("make", "gcc", "cc", "install", "sed", "mkdir", "ln", "rm", "printf", "sh", "as", "ld", "collect2"):
+        for name in ("make", "gcc", "cc", "install", "sed", "mkdir", "ln", "rm", "printf", "sh", "as", "ld", "collect2", "bash", "chmod", "env", "help2man",
+                     "perl"):
             if shutil.which(name):
                 os.symlink(os.path.realpath(shutil.which(name)), os.path.join(tools, name))
         root, words = self.path("root"), ["PREFIX=/opt/xa", f"DESTDIR={self.path('root')}"]
@@ -71,8 +72,31 @@ class TestInstall(Desk):
             self.assertEqual(said, "code 0 rows 1 tag 00280010\n")
         self.put("run.dcm", with_head(good_run()))
         self.luux("judge", "run.dcm", tool=os.path.join(prefix, "bin", "luux"), env={})
+        self.completions_and_pages(os.path.join(prefix, "share"))
         self.run_quietly("make", "-C", ROOT, "uninstall", *words, env={"PATH": tools})
         self.assertEqual([name for _, _, names in os.walk(root) for name in names], [])
+
+    def completions_and_pages(self, share):
+        """Each shell finds its completions under the prefix, and man a page for each command."""
+        for name, words in (("bash-completion/completions/luux", "complete -F _luux"), ("zsh/site-functions/_luux", "#compdef luux"),
+                            ("fish/vendor_completions.d/luux.fish", "complete -c luux")):
+            with open(os.path.join(share, name), encoding="utf-8") as file:
+                said = file.read()
+            self.assertIn(words, said)
+            self.assertIn("duplicates", said)
+        self.run_quietly("bash", "-n", os.path.join(share, "bash-completion", "completions", "luux"))
+        if shutil.which("help2man"):
+            pages = os.listdir(os.path.join(share, "man", "man1"))
+            commands = re.findall(r"^  ([a-z]+) ", self.luux("-h").stdout.decode().split("Commands:")[1].split("Options:")[0], re.M)
+            self.assertEqual(sorted(pages), sorted(["luux.1", *(f"luux-{command}.1" for command in commands if command != "help")]))
+            with open(os.path.join(share, "man", "man1", "luux-report.1"), encoding="utf-8") as file:
+                self.assertIn("\\-\\-settle", file.read())
+
+    def test_units(self):
+        """The tests that stand beside the tool's own functions."""
+        said = self.run_quietly("cargo", "test", "--offline", "--quiet", "--target-dir", os.path.join(ROOT, "host", "target"),
+                                cwd=os.path.join(ROOT, "host"))
+        self.assertRegex(said, r"test result: ok\. [1-9]\d* passed; 0 failed; 0 ignored")
 
     def test_constants(self):
         """Each code has one name; the sizes are those of the tool's own reader."""

@@ -5,7 +5,7 @@ import resource
 import subprocess
 import unittest
 
-from desk.common import FAILED, REFUSED, ROOT, SENTENCES, TOOL, Desk, good_run, with_head
+from desk.common import FAILED, FINE, REFUSED, ROOT, SENTENCES, TOOL, Desk, good_run, with_head
 from generators.objects import element_header, item_header
 
 ROW = 28  # bytes
@@ -13,8 +13,7 @@ OWN = 24 << 20  # what the tool takes besides, with the stacks of its threads
 WORST = 48 << 20  # bytes of the worst file in the gate; the largest there is has 1 GiB
 LARGEST = 1 << 30
 
-# A host that reads a file and makes one call with just the room that it needs: code, rows, and the processor's seconds for both and for
-# the call alone.
+# A host that reads a file and makes one call with just the room that it needs: code, rows, and the processor's seconds for the call alone.
 ONE_CALL = r"""
 #include <fcntl.h>
 #include <stdio.h>
@@ -36,7 +35,7 @@ int main(int count, char **words) {
     xa_answer answer = xa_judge(data, about.st_size, rows, room);
     clock_gettime(CLOCK_PROCESS_CPUTIME_ID, &end);
     double begun = start.tv_sec + start.tv_nsec / 1e9, ended = end.tv_sec + end.tv_nsec / 1e9;
-    printf("%u %u %f %f\n", answer.code, answer.rows, ended, ended - begun);
+    printf("%u %u %f\n", answer.code, answer.rows, ended - begun);
     return count != 3;
 }
 """
@@ -96,6 +95,28 @@ class TestMemory(Desk):
             self.assertEqual(said[-1], "6 files: 0 accepted, 0 refused, 6 could not be read")
             self.assertIn(f"takes {takes} bytes of memory", said[0])
 
+    def test_rows_are_given_back(self):
+        """Room that was lent for more rows than there are is free again for the next file: each is looked at though others are held."""
+        run = with_head(good_run(frames=1, rows=1, columns=1))
+        size = 3_000_000
+        for number in range(6):
+            self.put(f"runs/{number}.dcm", run[:-2])
+            os.truncate(self.path("runs", f"{number}.dcm"), size)
+        # One file's bytes, and room for as many rows as it could have; and all six beside each other in twice their bytes.
+        for memory in (size + size // 8 * ROW, 2 * 6 * size, size):
+            for words in (("judge",), ("report", "--jobs", "6"), ("report", "--jobs", "6", "--timeout", "60"), ("duplicates",)):
+                said = self.luux(*words, "runs", "--memory", str(memory), status=FINE if words[0] == "report" else REFUSED)
+                self.assertRegex((said.stdout + said.stderr).decode(), r"6 files.* 6 refused, 0 could not be read")
+
+    def test_stack(self):
+        """The calls take more of the stack than a small one has; they are made on threads whose stacks are large enough."""
+        def small():
+            resource.setrlimit(resource.RLIMIT_STACK, (256 << 10, 256 << 10))
+        self.put("run.dcm", with_head(good_run(frames=4, rows=64, columns=64)))
+        for words in (("judge",), ("show", "2", "-o", "x.pgm"), ("sheet",), ("contact", "-o", "x.pgm"), ("movie", "-o", "x.png"), ("report",),
+                      ("judge", "--timeout", "60"), ("report", "--timeout", "60")):
+            self.luux(words[0], "run.dcm", *words[1:], preexec_fn=small, env={**os.environ, "RUST_MIN_STACK": "65536"})
+
     def worst(self, size):
         """Nothing but headers: one sequence of empty items. How many rows it has, and what luux says."""
         items = size // 8 - 2
@@ -106,23 +127,27 @@ class TestMemory(Desk):
                 file.write(block[:8 * min(1 << 17, items - start)])
         return items + 1, os.path.getsize(self.path("worst.xa"))
 
+    def taking(self, *words, **options):
+        """Runs a program to its end; what it says, and the processor's seconds that it took, from its start until its memory was given back."""
+        before = resource.getrusage(resource.RUSAGE_CHILDREN)
+        done = subprocess.run(words, cwd=self.folder, capture_output=True, timeout=400, **options)
+        after = resource.getrusage(resource.RUSAGE_CHILDREN)
+        return done.stdout.decode(), after.ru_utime + after.ru_stime - before.ru_utime - before.ru_stime
+
     def judge_worst(self, size):
         """Judges it under a limit of its bytes and its rows, and answers the processor's seconds for that, for a host that reads it and makes
         one call, and for the call alone. The time on the clock says more of what else the machine does."""
         rows, bytes_ = self.worst(size)
-        before = resource.getrusage(resource.RUSAGE_CHILDREN)
-        done = subprocess.run([TOOL, "judge", "--bare", "worst.xa", "--memory", str(bytes_ + rows * ROW)], cwd=self.folder, capture_output=True,
-                              preexec_fn=limited(bytes_ + rows * ROW + OWN), timeout=400)
-        after = resource.getrusage(resource.RUSAGE_CHILDREN)
-        taken = after.ru_utime + after.ru_stime - before.ru_utime - before.ru_stime
-        self.assertEqual(done.stdout.decode().splitlines()[0].split(" Found: ")[0], f"worst.xa: rule 1, frame 0: {SENTENCES[1]}")
+        said, taken = self.taking(TOOL, "judge", "--bare", "worst.xa", "--memory", str(bytes_ + rows * ROW),
+                                  preexec_fn=limited(bytes_ + rows * ROW + OWN))
+        self.assertEqual(said.splitlines()[0].split(" Found: ")[0], f"worst.xa: rule 1, frame 0: {SENTENCES[1]}")
         self.put("call.c", ONE_CALL.encode())
         subprocess.run(["gcc", "-O2", "-I", os.path.join(ROOT, "include"), "-o", self.path("call"), self.path("call.c"),
                         os.path.join(ROOT, "target", "staticlib", "libcabi.a")], check=True)
-        code, found, host, call = subprocess.run([self.path("call"), self.path("worst.xa"), str(rows)], check=True, capture_output=True, text=True,
-                                              timeout=400).stdout.split()
+        said, host = self.taking(self.path("call"), self.path("worst.xa"), str(rows))
+        code, found, call = said.split()
         self.assertEqual((int(code), int(found)), (9, rows))
-        return taken, float(host), float(call)
+        return taken, host, float(call)
 
     def test_the_worst_file(self):
         """Room for just its rows; in time, not much more than one call."""
@@ -133,7 +158,7 @@ class TestMemory(Desk):
     def test_the_worst_file_there_is(self):
         # The first time the system has to find the memory.
         taken, host, call = min(self.judge_worst(LARGEST) for _ in range(2))
-        print(f"\n1 GiB of headers: luux judge {taken:.2f} s of the processor, reading and one call {host:.2f} s, the call {call:.2f} s")
+        print(f"\n1 GiB of headers: luux judge {taken:.2f} s of the processor, a host that reads it and makes one call {host:.2f} s, the call {call:.2f} s")
         self.assertLess(taken, 1.2 * host)
 
 

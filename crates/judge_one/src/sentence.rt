@@ -30,7 +30,7 @@ fn print_kind(rule: usize) {
             b"Plane Identification (0018,9457) CS must be absent where Planes in Acquisition (0018,9410) is UNDEFINED, and have a value otherwise.",
         ),
         7 => say(
-            b"Plane Identification (0018,9457) CS must not be MONOPLANE where Planes in Acquisition (0018,9410) is BIPLANE.",
+            b"Plane Identification (0018,9457) CS must be one value, and not MONOPLANE, where Planes in Acquisition (0018,9410) is BIPLANE.",
         ),
         8 => say(b"Acquisition DateTime (0008,002A) DT must have a value."),
         _ => say_none(),
@@ -41,14 +41,14 @@ fn print_pixels(rule: usize) {
     match rule {
         9 => say(b"Samples per Pixel (0028,0002) US must be 1."),
         10 => say(b"Photometric Interpretation (0028,0004) CS must be MONOCHROME1 or MONOCHROME2."),
-        11 => say(b"Rows (0028,0010) US and Columns (0028,0011) US must each be at least 1."),
+        11 => say(b"Rows (0028,0010) US and Columns (0028,0011) US must each be one number, at least 1."),
         12 => say(
             b"Bits Allocated (0028,0100) US and Bits Stored (0028,0101) US must be 8 with 8, or 16 with 9 to 16.",
         ),
         13 => say(b"High Bit (0028,0102) US must be one less than Bits Stored (0028,0101)."),
         14 => say(b"Pixel Representation (0028,0103) US must be 0."),
         15 => say(
-            b"Number of Frames (0028,0008) IS must be a number of at most 11 digits, from 1 to 65535.",
+            b"Number of Frames (0028,0008) IS must be one whole number from 1 to 65535, in at most 11 digits with or without a sign.",
         ),
         16 => say(b"Content Qualification (0018,9004) CS must be PRODUCT, RESEARCH or SERVICE."),
         _ => say_none(),
@@ -97,7 +97,7 @@ fn print_groups(rule: usize) {
             b"XA/XRF Frame Characteristics Sequence (0018,9412) SQ, where the frame has it, must have one item.",
         ),
         30 => say(
-            b"Frame VOI LUT Sequence (0028,9132) SQ, where the frame has it, must have one item, with equally many Window Center (0028,1050) DS and Window Width (0028,1051) DS, each a number of at most 16 characters, whole in millionths and below one million in size; VOI LUT Function (0028,1056) CS absent, LINEAR or LINEAR_EXACT; the widths at least 1, with LINEAR_EXACT above 0.",
+            b"Frame VOI LUT Sequence (0028,9132) SQ, where the frame has it, must have one item, with one or more Window Center (0028,1050) DS and as many Window Width (0028,1051) DS, each a number of at most 16 characters, whole in millionths and below one million in size; VOI LUT Function (0028,1056) CS absent, LINEAR or LINEAR_EXACT; the widths at least 1, with LINEAR_EXACT above 0.",
         ),
         _ => say_none(),
     }
@@ -109,7 +109,7 @@ fn print_masks(rule: usize) {
             b"Mask Subtraction Sequence (0028,6100) SQ, if present, must have 1 to 16 items, each with a Mask Operation (0028,6101) CS of NONE, AVG_SUB or TID.",
         ),
         32 => say(
-            b"Applicable Frame Range (0028,6102) US in a mask item, if present, must be pairs of a first and a last frame, in order and from 1 to Number of Frames (0028,0008).",
+            b"Applicable Frame Range (0028,6102) US in a mask item, if present, must be one or more pairs of a first and a last frame, the first not above the last, both from 1 to Number of Frames (0028,0008).",
         ),
         33 => say(
             b"A mask item whose Mask Operation (0028,6101) is AVG_SUB must have 1 to 64 Mask Frame Numbers (0028,6110) US from 1 to Number of Frames (0028,0008), and Contrast Frame Averaging (0028,6112) US absent or 1.",
@@ -121,10 +121,10 @@ fn print_masks(rule: usize) {
             b"Mask Sub-pixel Shift (0028,6114) FL in a mask item, if present, must be two numbers from -64 to 64, each a whole multiple of 1/4.",
         ),
         36 => say(
-            b"Where a frame has Frame Pixel Shift Sequence (0028,9415), every mask item must have a Subtraction Item ID (0028,9416) US, no two the same.",
+            b"Where a frame has Frame Pixel Shift Sequence (0028,9415), every mask item must have a Subtraction Item ID (0028,9416) US of one number, no two the same.",
         ),
         37 => say(
-            b"Frame Pixel Shift Sequence (0028,9415) SQ, where the frame has it, must have items, each with a Subtraction Item ID (0028,9416) US that no other has and a Mask Sub-pixel Shift (0028,6114) FL of two numbers from -64 to 64, each a whole multiple of 1/4.",
+            b"Frame Pixel Shift Sequence (0028,9415) SQ, where the frame has it, must have items, each with a Subtraction Item ID (0028,9416) US of one number that no other has and a Mask Sub-pixel Shift (0028,6114) FL of two numbers from -64 to 64, each a whole multiple of 1/4.",
         ),
         38 => say(
             b"Pixel Data (7FE0,0010) must be OW, or OB at 8 bits, and as long as Number of Frames (0028,0008) x Rows (0028,0010) x Columns (0028,0011) x bytes of a pixel, plus 1 if that is odd.",

@@ -1,12 +1,10 @@
 //! The text for a sender, to be pasted into a letter: each refused run with rule, frame, and what was found.
 
 use super::{by_text, End, Entry, Sender, Sent};
+use crate::codes::{Code, Coded};
 use crate::identity::{INSTITUTION, STATION};
 use crate::names;
 use crate::values::counted;
-
-/// The code whose hint is for the sender.
-const OTHER_SYNTAX: u32 = 17;
 
 /// What was refused, at which frame and item or byte.
 fn place(entry: &Entry) -> String {
@@ -19,7 +17,7 @@ fn place(entry: &Entry) -> String {
     if answer.frame > 0 {
         text.push_str(&format!(", frame {0} (item {0} of (5200,9230), row {1})", answer.frame, judged.item_row));
     }
-    if (1..=6).contains(&answer.code) {
+    if answer.code().is_of_a_header() {
         text.push_str(&format!(" at byte {} of the data set", answer.offset));
     }
     text
@@ -35,7 +33,7 @@ fn refused(number: usize, entry: &Entry, patient: bool) -> String {
         if !judged.found.is_empty() {
             lines.push(format!("Found: {}", entry.found()));
         }
-        if let (OTHER_SYNTAX, Some(hint)) = (judged.answer.code, &judged.hint) {
+        if let (Code::OtherTransferSyntax, Some(hint)) = (judged.answer.code(), &judged.hint) {
             lines.push(format!("Found: {}", hint.replace("ask the sender for", "please send")));
         }
     }

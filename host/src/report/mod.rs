@@ -9,17 +9,25 @@ use std::path::{Path, PathBuf};
 use std::sync::atomic::{AtomicUsize, Ordering};
 use std::sync::Mutex;
 use std::thread;
+use std::time::Duration;
 
+use serde::{Deserialize, Serialize};
+
+use crate::buffer::NoRoom;
+use crate::codes::Coded;
 use crate::files;
 use crate::finding::{Choice, Finding, Found};
 use crate::found;
 use crate::head::{Form, Judged};
 use crate::identity::{self, Identity};
 use crate::judging;
+use crate::library::STACK;
+use crate::looking::{self, What};
 use crate::output::{line, note, note_of, Status};
 use crate::picture::{self, Failure, Image, Run};
 use crate::sampling;
 use crate::sentences;
+use crate::settling::Settling;
 use crate::values::counted;
 
 /// What `luux report` was asked.
@@ -27,6 +35,8 @@ pub struct Wanted {
     pub named: Vec<PathBuf>,
     pub form: Form,
     pub choice: Choice,
+    pub settle: Option<Duration>,
+    pub timeout: Option<Duration>,
     pub output: PathBuf,
     pub csv: bool,
     pub patient: bool,
@@ -38,6 +48,7 @@ const THUMBNAILS: u64 = 6;
 const SIDE: usize = 128;
 
 /// A picture for the page, as PNG.
+#[derive(Serialize, Deserialize)]
 struct Picture {
     width: usize,
     height: usize,
@@ -52,7 +63,7 @@ impl Picture {
 }
 
 /// The pictures of an accepted run.
-#[derive(Default)]
+#[derive(Default, Serialize, Deserialize)]
 struct Pictures {
     frames: u64,
     size: (usize, usize),
@@ -63,10 +74,24 @@ struct Pictures {
 /// What is said of one file.
 struct Entry {
     path: String,
+    looked: Looked,
+    /// Why it was not looked at yet, if it still arrives.
+    arriving: Option<String>,
+}
+
+/// What was seen in a file; said by one process to another too.
+#[derive(Serialize, Deserialize)]
+pub struct Looked {
     /// The verdict and the pictures of the run, or why there is no verdict.
-    looked: Result<(Judged, Pictures), String>,
+    seen: Result<(Judged, Pictures), String>,
     /// What the file is, where it is certainly no run.
     other: Option<String>,
+}
+
+impl Looked {
+    fn nothing(trouble: String) -> Looked {
+        Looked { seen: Err(trouble), other: None }
+    }
 }
 
 /// How a file ended.
@@ -76,6 +101,7 @@ enum End {
     Refused,
     Other,
     Unread,
+    Arriving,
 }
 
 impl End {
@@ -85,22 +111,24 @@ impl End {
             End::Refused => "refused",
             End::Other => "not ours",
             End::Unread => "not read",
+            End::Arriving => "arriving",
         }
     }
 }
 
 impl Entry {
     fn end(&self) -> End {
-        match &self.looked {
-            Ok((judged, _)) if judged.answer.code == 0 => End::Accepted,
-            Ok(_) if self.other.is_some() => End::Other,
+        match &self.looked.seen {
+            _ if self.arriving.is_some() => End::Arriving,
+            Ok((judged, _)) if judged.answer.is_done() => End::Accepted,
+            Ok(_) if self.looked.other.is_some() => End::Other,
             Ok(_) => End::Refused,
             Err(_) => End::Unread,
         }
     }
 
     fn judged(&self) -> Option<&Judged> {
-        self.looked.as_ref().ok().map(|(judged, _)| judged)
+        self.looked.seen.as_ref().ok().map(|(judged, _)| judged)
     }
 
     fn identity(&self) -> Option<&Identity> {
@@ -110,12 +138,13 @@ impl Entry {
     /// What refused it: `rule 26` or `code 1`; nothing where it was not refused.
     fn by(&self) -> Option<(u32, u32)> {
         let answer = self.judged()?.answer;
-        (self.end() == End::Refused).then_some((answer.code, answer.rule))
+        (self.end() == End::Refused).then_some((answer.number(), answer.rule))
     }
 
     /// What the rule asks, or the code means; or why there is no verdict.
     fn sentence(&self) -> &str {
-        match (&self.looked, &self.other) {
+        match (&self.looked.seen, &self.looked.other) {
+            _ if self.arriving.is_some() => self.arriving.as_deref().unwrap_or_default(),
             (_, Some(what)) => what,
             (Ok((judged, _)), None) => sentences::meaning(&judged.answer),
             (Err(trouble), None) => trouble,
@@ -123,7 +152,7 @@ impl Entry {
     }
 
     fn found(&self) -> String {
-        let judged = self.judged().filter(|_| self.other.is_none());
+        let judged = self.judged().filter(|_| self.looked.other.is_none());
         judged.map_or_else(String::new, |judged| found::line(&judged.found))
     }
 
@@ -195,40 +224,60 @@ fn pictures(run: &mut Run) -> Result<Pictures, Failure> {
     Ok(Pictures { frames: run.frames(), size: run.size(), thumbnails, plot: Some(Picture::of(&image, about)?) })
 }
 
-fn entry(found: &Found, form: Form) -> Entry {
-    let path = String::from_utf8_lossy(&files::printed(&found.path)).into_owned();
+fn looked(judged: picture::Looked) -> Looked {
     let mut other = None;
-    let looked = match &found.unreadable {
-        Some(trouble) => Err(trouble.clone()),
-        None => Run::judged(&found.path, form).and_then(|(judged, run)| match run.map(|mut run| pictures(&mut run)) {
-            Ok(Err(Failure::Refused(text) | Failure::Trouble(text))) => Err(text),
-            Ok(Ok(pictures)) => Ok((judged, pictures)),
-            Err(what) => {
-                other = what;
-                Ok((judged, Pictures::default()))
-            }
-        }),
+    let seen = judged.and_then(|(judged, run)| match run.map(|mut run| pictures(&mut run)) {
+        Ok(Err(Failure::Refused(text) | Failure::Trouble(text))) => Err(text),
+        Ok(Ok(pictures)) => Ok((judged, pictures)),
+        Err(what) => {
+            other = what;
+            Ok((judged, Pictures::default()))
+        }
+    });
+    Looked { seen, other }
+}
+
+/// Looks at a file within the memory that its bytes take and so much more; or says how much more it takes.
+pub fn attempt(path: &Path, form: Form, more: u64) -> Result<Looked, NoRoom> {
+    Run::attempt(path, form, more).map(looked)
+}
+
+fn entry(wanted: &Wanted, settling: &Settling, place: usize, found: &Found) -> Entry {
+    let path = String::from_utf8_lossy(&files::printed(&found.path)).into_owned();
+    let mut arriving = settling.arriving(place).filter(|_| found.unreadable.is_none());
+    let looked = match (&found.unreadable, wanted.timeout) {
+        (Some(trouble), _) => Looked::nothing(trouble.clone()),
+        _ if arriving.is_some() => Looked::nothing(String::new()),
+        (None, Some(limit)) => {
+            looking::within(limit, What::Entry, &found.path, wanted.form).unwrap_or_else(Looked::nothing)
+        }
+        (None, None) => looked(Run::judged(&found.path, wanted.form)),
     };
-    Entry { path, looked, other }
+    // With --settle, one that changed meanwhile is arriving too.
+    if looked.seen.is_err() && found.unreadable.is_none() {
+        arriving = arriving.or_else(|| settling.arriving(place));
+    }
+    Entry { path, looked, arriving }
 }
 
 /// Looks at files on several threads; the entries are in the order of the files.
-fn entries(found: &[Found], form: Form, jobs: usize) -> Vec<Entry> {
+fn entries(wanted: &Wanted, found: &[Found]) -> Vec<Entry> {
     let (next, done) = (AtomicUsize::new(0), Mutex::new(Vec::new()));
     let bar = judging::progress(found.len());
+    let settling = Settling::of(found, wanted.settle);
     let work = || {
         while let Some((place, one)) =
             Some(next.fetch_add(1, Ordering::Relaxed)).and_then(|place| Some((place, found.get(place)?)))
         {
-            let made = entry(one, form);
+            let made = entry(wanted, &settling, place, one);
             bar.inc(1);
             done.lock().unwrap_or_else(|poisoned| poisoned.into_inner()).push((place, made));
         }
     };
     thread::scope(|scope| {
-        for _ in 1..jobs.min(found.len()) {
+        for _ in 1..wanted.jobs.min(found.len()) {
             // Fewer threads than asked for do the same work.
-            let _ = thread::Builder::new().spawn_scoped(scope, work);
+            let _ = thread::Builder::new().stack_size(STACK).spawn_scoped(scope, work);
         }
         work();
     });
@@ -270,18 +319,22 @@ pub fn run(wanted: &Wanted, out: &mut dyn Write) -> io::Result<Status> {
         note_of(run, "it is a run itself; name another page");
         return Ok(Status::Failed);
     }
-    let entries = entries(&found, wanted.form, wanted.jobs);
+    let entries = entries(wanted, &found);
     let senders = senders(&entries);
     let count = |end| entries.iter().filter(|entry| entry.end() == end).count();
-    let about = format!(
-        "{} of {}: {} accepted, {} refused, {} could not be read{}",
+    let mut about = format!(
+        "{} of {}: {} accepted, {} refused, {} could not be read",
         counted(entries.len(), "file"),
         counted(senders.len(), "sender"),
         count(End::Accepted),
         count(End::Refused),
         count(End::Unread),
-        if count(End::Other) > 0 { format!(", {} not ours", count(End::Other)) } else { String::new() }
     );
+    for end in [End::Other, End::Arriving] {
+        if count(end) > 0 {
+            about.push_str(&format!(", {} {}", count(end), end.word()));
+        }
+    }
     let page = page::made(wanted, &entries, &senders);
     if !write(&wanted.output, page.as_bytes()) {
         return Ok(Status::Failed);

@@ -82,6 +82,11 @@ fn tiles(entries: &[Entry], senders: &[Sent]) -> String {
         tile("refused", count(End::Refused), "refused"),
         tile("unread", count(End::Unread), "not read"),
         tile("all", count(End::Other), "not ours"),
+        // Files arrive only with --settle.
+        match count(End::Arriving) {
+            0 => String::new(),
+            number => tile("all", number, "arriving"),
+        },
         tile("all", senders.len(), if senders.len() == 1 { "sender" } else { "senders" }),
     ]
     .concat()
@@ -128,15 +133,15 @@ fn details(entry: &Entry, patient: bool) -> String {
     }
     if let Some(judged) = entry.judged() {
         let found: String = judged.found.iter().map(|finding| format!("<li>{}</li>", given(&finding.text))).collect();
-        if !found.is_empty() && entry.other.is_none() {
+        if !found.is_empty() && entry.looked.other.is_none() {
             said.push_str(&format!("<div class=\"found\"><b>Found</b><ul>{found}</ul></div>"));
         }
-        if let Some(hint) = judged.hint.as_ref().filter(|_| entry.other.is_none()) {
+        if let Some(hint) = judged.hint.as_ref().filter(|_| entry.looked.other.is_none()) {
             said.push_str(&format!("<p>{}</p>", given(hint)));
         }
         said.push_str(&identity(&judged.identity, patient));
     }
-    let shown = match &entry.looked {
+    let shown = match &entry.looked.seen {
         Ok((_, pictures)) => pictures
             .thumbnails
             .iter()
@@ -151,7 +156,7 @@ fn details(entry: &Entry, patient: bool) -> String {
 /// A run: a line of the table, and its details below it. What it is sorted and filtered by stands in the attributes.
 fn run(place: usize, entry: &Entry, sender: Option<usize>, patient: bool) -> String {
     let empty = Pictures::default();
-    let pictures = entry.looked.as_ref().map_or(&empty, |(_, pictures)| pictures);
+    let pictures = entry.looked.seen.as_ref().map_or(&empty, |(_, pictures)| pictures);
     let answer = entry.judged().map(|judged| judged.answer).unwrap_or_default();
     let by = entry.by();
     let acquired = entry.identity().and_then(|identity| identity.value(ACQUIRED)).unwrap_or_default();
@@ -191,7 +196,8 @@ fn options(values: impl IntoIterator<Item = (String, String)>) -> String {
 /// What the runs can be filtered by.
 fn filters(entries: &[Entry], senders: &[Sent]) -> String {
     let by: BTreeSet<(u32, u32)> = entries.iter().filter_map(Entry::by).collect();
-    let verdicts = ["accepted", "refused", "not read", "not ours"].map(|word| (String::from(word), String::from(word)));
+    let verdicts = ["accepted", "refused", "not read", "not ours", "arriving"]
+        .map(|word| (String::from(word), String::from(word)));
     let senders = senders.iter().enumerate().map(|(number, sent)| {
         let (one, other) = (&sent.sender.institution, &sent.sender.station);
         let shown = [one, other].into_iter().filter(|name| !name.is_empty()).cloned().collect::<Vec<_>>().join(", ");

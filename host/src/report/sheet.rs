@@ -1,6 +1,7 @@
 //! The table beside the page.
 
 use super::{by_text, Entry};
+use crate::codes::Coded;
 use crate::identity::FIELDS;
 
 /// A cell that a spreadsheet does not take for a formula: one that starts as a formula does gets an apostrophe before it.
@@ -16,10 +17,12 @@ fn row(entry: &Entry, patient: bool) -> Vec<String> {
     let judged = entry.judged();
     let answer = judged.map(|judged| judged.answer).unwrap_or_default();
     row.push(entry.by().map_or_else(String::new, by_text));
-    for number in [answer.code, answer.rule, answer.frame, judged.map_or(0, |judged| judged.item_row), answer.offset] {
+    for number in
+        [answer.number(), answer.rule, answer.frame, judged.map_or(0, |judged| judged.item_row), answer.offset]
+    {
         row.push(judged.map_or_else(String::new, |_| number.to_string()));
     }
-    row.push(entry.looked.as_ref().map_or_else(
+    row.push(entry.looked.seen.as_ref().map_or_else(
         |_| String::new(),
         |(_, pictures)| match pictures.frames {
             0 => String::new(),

@@ -1,0 +1,49 @@
+//! Files that still arrive: with `--settle` they are told by their age, by what changes between two looks, and by who writes to them.
+
+use std::thread;
+use std::time::Duration;
+
+use crate::files::{self, State};
+use crate::finding::Found;
+
+/// The least time between two looks at a file, by which one that grows is told.
+const LOOK: Duration = Duration::from_secs(1);
+
+/// The files that were found, and how each was seen first.
+pub struct Settling<'a> {
+    found: &'a [Found],
+    settle: Option<Duration>,
+    /// The state of each, where `settle` is given.
+    seen: Vec<Option<State>>,
+}
+
+impl<'a> Settling<'a> {
+    /// Looks at the files for the first time, and waits so long that one that grows is another at the second look.
+    pub fn of(found: &'a [Found], settle: Option<Duration>) -> Settling<'a> {
+        let mut seen = Vec::new();
+        if let Some(settle) = settle {
+            seen = found.iter().map(|one| State::at(&one.path).ok()).collect();
+            thread::sleep(settle.min(LOOK));
+        }
+        Settling { found, settle, seen }
+    }
+
+    /// Why the file of a place is not looked at yet.
+    pub fn arriving(&self, place: usize) -> Option<String> {
+        let settle = self.settle?;
+        let path = &self.found[place].path;
+        let now = State::at(path).ok()?;
+        if self.seen[place] != Some(now) {
+            return Some(String::from("it was written to while luux looked"));
+        }
+        let age = now.age();
+        if age < settle {
+            return Some(format!(
+                "written to {:.0} seconds ago, and --settle asks for {}",
+                age.as_secs_f64(),
+                settle.as_secs_f64()
+            ));
+        }
+        files::is_written_to(path).then(|| String::from("another program has it open for writing"))
+    }
+}
