@@ -170,7 +170,7 @@ fn applying_to(bytes: &[u8], rows: &[u32], frame: usize) -> Applies
     match element::find_root(bytes, rows, tags::MASK_SUBTRACTION_SEQUENCE) {
         Num::Lacks => Applies::Nothing,
         Num::Is(m) => {
-            if node::vr(bytes, rows, m) == node::SQ {
+            if node::vr(bytes, rows, m) == dataset::SQ {
                 let found = steps::first_holding(
                     bytes,
                     rows,
