@@ -41,7 +41,9 @@ fn print_pixels(rule: usize) {
     match rule {
         9 => say(b"Samples per Pixel (0028,0002) US must be 1."),
         10 => say(b"Photometric Interpretation (0028,0004) CS must be MONOCHROME1 or MONOCHROME2."),
-        11 => say(b"Rows (0028,0010) US and Columns (0028,0011) US must each be one number, at least 1."),
+        11 => say(
+            b"Rows (0028,0010) US and Columns (0028,0011) US must each be one number, at least 1.",
+        ),
         12 => say(
             b"Bits Allocated (0028,0100) US and Bits Stored (0028,0101) US must be 8 with 8, or 16 with 9 to 16.",
         ),

@@ -1,3 +1,4 @@
+-- The plan is what the steps give, and painting by it gives their picture.
 use mathlib.Core.Path.{_∙_}
 use native.Mathlib.Omega.{arith}
 use Rattle.node.specs.Nodes.{nodesOf}

@@ -1,3 +1,4 @@
+-- Each way of masking is painted by its own function; an accepted object lacks none.
 use mathlib.Core.Path.{refl, subst}
 use Rattle.node.specs.Nodes.{nodesOf}
 use Rattle.element.specs.Elements.{valueAt}

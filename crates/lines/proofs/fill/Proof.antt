@@ -1,3 +1,4 @@
+-- Each turn writes the level of one place, and no later turn touches it.
 use Prim.Native.Nat.{ℕ, _+_, _-_, _^_, _≤_}
 use mathlib.Core.Path.{_≡_, sym, ap, _∙_, subst}
 use native.Mathlib.Omega.{arith}

@@ -1,3 +1,4 @@
+-- The line's bytes are those of the frame's row, so its cells are the frame's cells from there on.
 use Rattle.lines.proofs.Laws as laws
 use mathlib.Core.Path.{_∙_}
 use native.Mathlib.Omega.{arith}

@@ -1,3 +1,4 @@
+-- Each cell is the level of its own sample, as the table would have it.
 use mathlib.Core.Path.{_≡_, refl, ap, _∙_}
 use Prim.Native.Nat.{ℕ, _-_, _≤_}
 use native.Mathlib.Omega.{arith}

@@ -1,3 +1,4 @@
+-- What was the lower row is the upper one, and the row below it is averaged; blended they are the mask of this line.
 use Prim.Native.Nat.{_/_, _%_}
 use native.Mathlib.Nat.{div-add-mod'}
 use Rattle.value.specs.Number.{usValues}

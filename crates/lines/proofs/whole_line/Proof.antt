@@ -1,3 +1,4 @@
+-- The sums are those of the moved mask row, so each cell takes off the average that the step takes.
 use mathlib.Core.Path.{sym, _∙_}
 use native.Mathlib.Nat.{div-add-mod'}
 use native.Mathlib.Omega.{arith}

@@ -1,3 +1,4 @@
+-- Rule 27 looks at every element of both items, so each frame adds its own and the shared item's number of them.
 use mathlib.Core.Path.{_≡_, ap}
 use Prim.Native.Nat.{ℕ, _+_, _-_, _≤_}
 use native.Mathlib.Omega.{arith}

@@ -1,3 +1,4 @@
+-- Without a shared item nothing is looked at for frames; with one, rule 27 and the groups add up, and stay far below 2^60.
 use native.Mathlib.Omega.{arith}
 use Rattle.node.specs.Nodes.{nodesOf}
 use Rattle.element.specs.Frames.{frameItems}

@@ -1,3 +1,4 @@
+-- The shared item adds where the frame's item lacks the group, or always; what is read stands in the group that was found.
 use native.Mathlib.Omega.{arith}
 use Rattle.node.specs.Nodes.{nodesOf}
 use Rattle.node.proofs.Laws as node-laws

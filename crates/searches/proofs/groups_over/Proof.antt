@@ -1,3 +1,4 @@
+-- The seven sums are those of the table, in its order, each below 2^57.
 use native.Mathlib.Omega.{arith}
 use Rattle.searches.specs.Searches.{frameSearches}
 use Rattle.searches.specs.Contracts.{overGroups}

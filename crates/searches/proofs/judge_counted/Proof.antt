@@ -1,3 +1,4 @@
+-- Judging leaves the rows in the buffer, and the searches are added up over just those.
 use Rattle.searches.proofs.After.{rows-left, counted-is}
 use Rattle.dataset.proofs.Promised.{promised}
 use borrow.Author.Needs.{needs}

@@ -1,3 +1,4 @@
+-- Each turn looks at one member more and passes it while its tag is lower; tags ascend, so where the loop stops is where the search does.
 use mathlib.Core.Path.{_≡_, refl, sym, _∙_}
 use Prim.Native.Nat.{ℕ, _+_, _-_}
 use native.Mathlib.Omega.{arith}

@@ -1,3 +1,4 @@
+-- Each turn adds one tag's search; at most 64 of them stay far below the limit of a number.
 use mathlib.Core.Path.{_≡_}
 use Prim.Native.Nat.{_+_, _-_, _≤_}
 use native.Mathlib.Omega.{arith}

@@ -1,3 +1,4 @@
+-- Each turn adds what is looked at in one item, and goes on at the next.
 use mathlib.Core.Path.{_≡_, ap}
 use Prim.Native.Nat.{ℕ, _+_, _-_}
 use native.Mathlib.Omega.{arith}

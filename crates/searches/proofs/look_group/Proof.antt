@@ -1,3 +1,4 @@
+-- A group that was not found has no items; one that was found has those inside it.
 use Rattle.node.proofs.Laws as node-laws
 use Rattle.searches.specs.Searches.{readInEach}
 use borrow.Author.Needs.{needs}

@@ -1,3 +1,4 @@
+-- An item's members start behind it and ascend, which is all that the plain search asks.
 use lib.ListN.{length}
 use Rattle.node.specs.Nodes.{nodesOf}
 use Rattle.node.proofs.Laws.{below-more}

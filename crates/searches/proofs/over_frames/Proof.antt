@@ -1,3 +1,4 @@
+-- Each turn adds one frame's group, with what the shared item comes to worked out before the loop.
 use mathlib.Core.Path.{_≡_, ap}
 use Prim.Native.Nat.{ℕ, _+_, _-_, _≤_}
 use native.Mathlib.Omega.{arith}

@@ -1,3 +1,4 @@
+-- Only an accepted data set has its searches added up, over the rows that judging left; else 0 is told.
 use mathlib.Core.Path.{sym}
 use Prim.Native.Nat.{_*_}
 use native.Mathlib.Omega.{arith}

@@ -1,3 +1,4 @@
+-- What is looked at in the shared item depends on no frame, so once is enough.
 use borrow.Author.Needs.{needs}
 use Rattle.searches.proofs.shared_group.Statement.{statement}
 use Rattle.searches.proofs.shared_group.Tie as tie

@@ -1,3 +1,4 @@
+-- The root, the mask items and the frames are the three parts of the definition; the order of the root's tags counts nothing.
 use native.Mathlib.Omega.{arith}
 use Rattle.node.specs.Nodes.{nodesOf, members}
 use Rattle.node.proofs.Halves.{root-ascends}
