@@ -1,6 +1,6 @@
 -- Nodes put one after another: a turn puts the value, all that is below the node, and then the header. The nodes below are fewer, so the calls end.
 use mathlib.Core.Path.{refl}
-use Prim.Native.Nat.{ℕ, _-_}
+use Prim.Native.Nat.{ℕ, _<_, _-_}
 use native.Mathlib.Omega.{arith}
 use borrow.Author.Needs.{needs}
 use borrow.Fn.Kinds.{In, Out}

@@ -1,7 +1,7 @@
 -- The proof of the two readers that call each other. At each call the bytes that the cursor has left fall: what is called
 -- stands behind a header of at least 8 bytes, and ends no later. Each loop keeps `Level.Along`: what is left to read comes
 -- to what the whole level does.
-use Prim.Native.Nat.{ℕ, _+_, _-_}
+use Prim.Native.Nat.{ℕ, _<_, _+_, _-_}
 use native.Mathlib.Omega.{arith}
 use borrow.Author.Needs.{needs}
 use mathlib.Core.Path.{refl, sym, ap, _∙_}
