@@ -19,11 +19,14 @@ ghost use Rattle.node.specs.Contracts.{Table};
 ghost use Rattle.element.specs.Frames.{frameItem, framesOf};
 ghost use Rattle.element.specs.Elements.{valueAt};
 ghost use Rattle.pixel.specs.Pixel.{samplesOf};
-ghost use Rattle.pixel.specs.Contracts.{painted, Ready};
+ghost use Rattle.pixel.specs.Contracts.{painted};
+ghost use Rattle.lines.specs.Contracts.{shadesOf, Shaded};
+ghost use Rattle.painting.specs.Contracts.{Ready};
 ghost use Rattle.steps.specs.Steps.{applyingTo, inverseOf, movesFor, maskBy, maskFor};
 ghost use Rattle.steps.specs.Contracts.{ApplyingBelow, IsShared, IsTold};
 use conformance::JudgeAnswer;
 use element::tags;
+use lines::Shades;
 use pixel::Geometry;
 use shift::Moves;
 use steps::Applying;
@@ -175,7 +178,7 @@ pub fn mask_on(
     mask_by(bytes, rows, frame, item, j, told, n)
 }
 
-// Paints the frame's samples, from a table of shades; answers whether it is masked.
+// Paints the frame's samples, from a table filled with shades; answers whether it is masked.
 fn paint(
     bytes: &[u8],
     rows: &[u32],
@@ -183,26 +186,28 @@ fn paint(
     g: Geometry,
     p: usize,
     masking: Masking,
+    shades: Shades,
     table: &[u8],
     image: &mut [u8],
 ) -> bool
-    requires { ⌜ Table (now bytes) (now rows) × ((p < length (nodesOf (now bytes))) × (Ready (valueAt (nodesOf (now bytes)) p) g frame (now table) (now image) × MasksReady (nodesOf (now bytes)) (valueAt (nodesOf (now bytes)) p) g masking)) ⌝ }
+    requires { ⌜ Table (now bytes) (now rows) × ((p < length (nodesOf (now bytes))) × (Ready (valueAt (nodesOf (now bytes)) p) g frame (now image) × (MasksReady (nodesOf (now bytes)) (valueAt (nodesOf (now bytes)) p) g masking × (Shaded shades (g .stored) (now table) × (shades .filled ≡ true))))) ⌝ }
     ensures { λ r. ⌜ r ≡ isMasked masking ⌝ }
-    ensures { λ _. ⌜ now (image .exit) ≡ painted (shadeBy (nodesOf (now (bytes .entry))) (now (table .entry)) g (valueAt (nodesOf (now (bytes .entry))) p) frame masking) (samplesOf g) (now (image .entry)) ⌝ }
+    ensures { λ _. ⌜ now (image .exit) ≡ painted (shadeBy (nodesOf (now (bytes .entry))) (shadesOf shades (g .stored)) g (valueAt (nodesOf (now (bytes .entry))) p) frame masking) (samplesOf g) (now (image .entry)) ⌝ }
 {
     let pixels = node::value(bytes, rows, p);
     match masking {
         Masking::Native => {
-            pixel::paint_native(pixels, g, frame, table, image);
+            painting::paint_native(pixels, g, frame, shades, table, image);
             false
         }
         Masking::Average(k, m) => {
-            pixel::paint_masked(
+            painting::paint_masked(
                 pixels,
                 g,
                 frame,
                 node::value(bytes, rows, k),
                 m,
+                shades,
                 table,
                 image,
             );
@@ -210,7 +215,7 @@ fn paint(
         }
         Masking::One(t, m) => {
             let one = [(t % 256) as u8, (t / 256 % 256) as u8];
-            pixel::paint_masked(pixels, g, frame, &one, m, table, image);
+            painting::paint_masked(pixels, g, frame, &one, m, shades, table, image);
             true
         }
         Masking::Lacks => false,
@@ -337,8 +342,15 @@ fn draw(bytes: &[u8], rows: &[u32], frame: usize, n: usize, image: &mut [u8]) ->
     let g = c.g;
     let window = own.window;
     let masking = own.masking;
-    let table = window::levels(window, g.stored, c.inverse);
-    paint(bytes, rows, frame, g, c.p, masking, &table, image)
+    let inverse = c.inverse;
+    let mut table: [u8; 131072] = [0; 131072];
+    lines::fill(window, g.stored, inverse, &mut table);
+    let shades = Shades {
+        window,
+        inverse,
+        filled: true,
+    };
+    paint(bytes, rows, frame, g, c.p, masking, shades, &table, image)
 }
 
 // A number, or 0 where it is lacking.

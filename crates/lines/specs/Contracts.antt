@@ -7,8 +7,8 @@ use Prim.Native.Nat.{ℕ, zero, suc, _+_, _-_, _^_, _≤_, _<_}
 use lib.ListN.{length}
 use Rattle.window.specs.Contracts.{Drawable, shadeAt, Filled}
 use Rattle.pixel.specs.declared.Geometry.{Geometry}
-use Rattle.pixel.specs.Pixel.{isFrame, blendOf}
-use Rattle.pixel.specs.Contracts.{Shaped, Masks, Row, cellAt, blockAt, Averages, Weights, farthest, farthestMove}
+use Rattle.pixel.specs.Pixel.{isFrame}
+use Rattle.pixel.specs.Contracts.{Shaped, Masks, farthestMove}
 use Rattle.lines.specs.declared.Shades.{Shades}
 
 -- f 0, f 1, .. up to f (n - 1).
@@ -25,13 +25,6 @@ pub record Shaded (t : Shades) (stored : ℕ) (table : List ℕ) : Type 0 where
   pub drawable : Drawable (t .window)
   pub shades : t .filled ≡ true → Filled (shadeAt (t .window) stored (t .inverse)) (2 ^ (stored + 1) - 1) table
 
--- The place of sample j of v where it takes no mask, and where it takes one from two rows of averages.
-unfoldable pub plainPlace : Geometry → List ℕ → ℕ → ℕ
-plainPlace g v j = cellAt g v j + (2 ^ g .stored - 1 - 2 ^ (g .stored - 1))
-
-unfoldable pub blendPlace : Geometry → List ℕ → List ℕ → List ℕ → List ℕ → ℕ → ℕ → ℕ
-blendPlace g v upper lower w s c = cellAt g v c + (2 ^ g .stored - 1) - blendOf (blockAt upper lower (c + s)) w
-
 -- What a line of a frame is drawn from and into.
 pub record LineReady (v : List ℕ) (g : Geometry) (f row : ℕ) (line : List ℕ) : Type 0 where
   pub shape : Shaped g
@@ -44,12 +37,3 @@ pub record MaskedBy (v : List ℕ) (g : Geometry) (masks : List ℕ) (down right
   pub taken : Masks v g masks
   pub down-most : down ≤ farthestMove
   pub right-most : right ≤ farthestMove
-
--- What a line is blended from and into.
-pub record Blends (v : List ℕ) (g : Geometry) (s : ℕ) (w upper lower line : List ℕ) : Type 0 where
-  pub row : Row v g 0
-  pub most : s ≤ farthest
-  pub weights : Weights w
-  pub above : Averages g upper
-  pub below : Averages g lower
-  pub room : g .columns ≤ length line

@@ -5,8 +5,8 @@ ghost use Prim.Native.Nat.{_+_, _-_, _*_, _/_, _%_, _^_, _≤_};
 ghost use lib.ListN.{length};
 ghost use Rattle.value.specs.Number.{usValues};
 ghost use Rattle.window.specs.Contracts.{Drawable, shadeAt, Filled};
-ghost use Rattle.pixel.specs.Contracts.{painted, nativeShade, longestRow, Row, shifted, Averaged, quarterShade};
-ghost use Rattle.lines.specs.Contracts.{plainPlace, blendPlace, Shaded, shadesOf, LineReady, MaskedBy, Blends};
+ghost use Rattle.pixel.specs.Contracts.{painted, nativeShade, longestRow, Row, plainPlace, maskPlace, shifted, Averaged, quarterShade, Subtracts};
+ghost use Rattle.lines.specs.Contracts.{Shaded, shadesOf, LineReady, MaskedBy};
 use pixel::Geometry;
 use window::Window;
 
@@ -60,18 +60,9 @@ pub fn native_line(
     requires { ⌜ LineReady (now pixels) g frame row (now levels) × Shaded shades (g .stored) (now table) ⌝ }
     ensures { λ _. ⌜ now (levels .exit) ≡ painted (λ c. nativeShade (shadesOf shades (g .stored)) g (now (pixels .entry)) frame (row * g .columns + c)) (g .columns) (now (levels .entry)) ⌝ }
 {
-    let columns = g.columns;
-    let width = g.width;
-    let stored = g.stored;
-    let line = frame::frame_line(pixels, g.rows, columns, width, frame, row);
+    let line = frame::frame_line(pixels, g.rows, g.columns, g.width, frame, row);
     if shades.filled {
-        let one = Geometry {
-            rows: 1,
-            columns,
-            width,
-            stored,
-        };
-        pixel::paint_native(line, one, 1, table, levels);
+        pixel::plain_row(line, g, table, levels);
     } else {
         plain_by_window(line, g, shades.window, shades.inverse, levels);
     }
@@ -108,8 +99,6 @@ pub fn whole_line(
     pixel::draw_row(
         line,
         g,
-        0,
-        0,
         masks.len() / 2,
         right / pixel::UNIT,
         table,
@@ -118,28 +107,24 @@ pub fn whole_line(
     );
 }
 
-// The levels of a line from two rows of averages and their weights, each worked out from the window.
-fn blend_by_window(
+// The levels of a line from a row of mask values, each worked out from the window.
+fn masked_by_window(
     line: &[u8],
     g: Geometry,
     s: usize,
-    w: [u32; 4],
+    masks: &[u32],
     window: Window,
     inverse: bool,
-    upper: &[u32],
-    lower: &[u32],
     levels: &mut [u8],
 )
-    requires { ⌜ Blends (now line) g s w (now upper) (now lower) (now levels) × Drawable window ⌝ }
-    ensures { λ _. ⌜ now (levels .exit) ≡ painted (λ c. shadeAt window (g .stored) inverse (blendPlace g (now (line .entry)) (now (upper .entry)) (now (lower .entry)) w s c)) (g .columns) (now (levels .entry)) ⌝ }
+    requires { ⌜ Subtracts (now line) g s (now masks) (now levels) × Drawable window ⌝ }
+    ensures { λ _. ⌜ now (levels .exit) ≡ painted (λ c. shadeAt window (g .stored) inverse (maskPlace g (now (line .entry)) (now (masks .entry)) s c)) (g .columns) (now (levels .entry)) ⌝ }
 {
     let columns = g.columns;
     let half = pixel::power(g.stored - 1);
     let low = pixel::power(g.stored) - 1;
     for c in 0..columns {
-        let j = c + s;
-        let mask = pixel::blended([[upper[j], upper[j + 1]], [lower[j], lower[j + 1]]], w);
-        let place = pixel::sample(line, g, low, c) + low - pixel::wider(mask);
+        let place = pixel::sample(line, g, low, c) + low - pixel::wider(masks[s + c]);
         levels[c] = window::shade(window, place + half, low, inverse);
     }
 }
@@ -177,19 +162,10 @@ pub fn quarter_line(
         pixel::moved(down / pixel::UNIT + 1, rows, row),
         lower,
     );
+    pixel::blend_all(g, s, w, lower, upper);
     if shades.filled {
-        pixel::blend_row(line, g, 0, 0, s, w, table, upper, lower, levels);
+        pixel::masked_row(line, g, s, upper, table, levels);
     } else {
-        blend_by_window(
-            line,
-            g,
-            s,
-            w,
-            shades.window,
-            shades.inverse,
-            upper,
-            lower,
-            levels,
-        );
+        masked_by_window(line, g, s, upper, shades.window, shades.inverse, levels);
     }
 }

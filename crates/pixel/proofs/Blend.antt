@@ -11,10 +11,10 @@ use lib.ListN.{length, getD}
 use lib.Dec.{ltb}
 use Rattle.shift.specs.declared.Moves.{Moves}
 use Rattle.pixel.specs.declared.Geometry.{Geometry}
-use Rattle.pixel.specs.Pixel.{samplesOf, averageOf, maskAt, rowOf, columnOf, neighbourOf, areInside, weightsOf, blendOf, blendedAt}
+use Rattle.pixel.specs.Pixel.{samplesOf, sampleAt, averageOf, maskAt, rowOf, columnOf, neighbourOf, areInside, weightsOf, blendOf, blendedAt}
 use Rattle.pixel.specs.Whole.{sourceOf}
-use Rattle.pixel.specs.Contracts.{painted, maskedShade, shifted, OffsetOf, Cells, Weights, Spread, Averaged, Averages, cellAt, blockAt, blendShade, quarterShade, offsetShade, paintedFrom}
-use Rattle.pixel.proofs.Laws.{row-below, column-below, cell-below, sample-cell, mask-most, sum-fits, spread-most, place-row, place-column, painted-at, from-painted}
+use Rattle.pixel.specs.Contracts.{painted, maskedShade, shifted, OffsetOf, Cells, Weights, Spread, Averaged, Averages, cellAt, maskPlace, blockAt, blendsAt, Blends, quarterShade, offsetShade, paintedFrom}
+use Rattle.pixel.proofs.Laws.{row-below, column-below, cell-below, mask-most, sum-fits, spread-most, place-row, place-column, painted-at, from-length, from-at, from-after}
 use Rattle.pixel.proofs.Places.{moved-below, place-below, rest-below}
 
 -- ---- Sixteenths
@@ -169,30 +169,34 @@ block-cells g upper lower u l j h = record { first = u .at j (omega arith) .1; s
 pub cells-more : (low most : ℕ) (block : List (List ℕ)) → low ≤ most → Cells low block → Cells most block
 cells-more low most block h c = record { first = omega (arith, c .first); second = omega (arith, c .second); third = omega (arith, c .third); fourth = omega (arith, c .fourth) }
 
--- The shade of a sample of a row, by its place in the table.
-pub blend-shade : (g : Geometry) (v table upper lower w : List ℕ) (from right c s p a : ℕ) → s ≡ cellAt g v (from + c) → p ≡ 2 ^ g .stored → a ≡ blendOf (blockAt upper lower (c + right)) w → getD table (s + (p - 1) - a) 0 ≡ blendShade table g v from upper lower w right c
-unfolding blendShade
-blend-shade g v table upper lower w from right c s p a h k o = rw (h, k, o)
+-- What is blended already does not stand in the next block.
+pub block-now : (upper lower w : List ℕ) (s c : ℕ) (now : List ℕ) → now ≡ paintedFrom (blendsAt upper lower w s) s c upper → blockAt now lower (s + c) ≡ blockAt upper lower (s + c)
+block-now upper lower w s c now e =
+    rw (e, from-after (blendsAt upper lower w s) s c upper (s + c) (omega arith), from-after (blendsAt upper lower w s) s c upper (s + c + 1) (omega arith))
 
--- A row's shades are those of its samples.
-module _ (table v : List ℕ) (g : Geometry) (f : ℕ) (ks upper lower : List ℕ) (down right r : ℕ) (most : right ≤ 512)
+-- The row of mask values that two such rows give.
+pub blends-row : (g : Geometry) (s : ℕ) (w upper lower masks : List ℕ) → Blends g s w upper lower → masks ≡ paintedFrom (blendsAt upper lower w s) s (g .columns) upper
+    → (c : ℕ) → c < g .columns → (getD masks (s + c) 0 ≡ blendsAt upper lower w s c) × ((s + c < length masks) × (getD masks (s + c) 0 ≤ 2 ^ g .stored - 1))
+blends-row g s w upper lower masks b e c h =
+    let a : s + c < length upper = b .above .at (s + c) (omega (arith, b .most)) .0 in
+    let z : s + (g .columns - 1) < length upper = b .above .at (s + (g .columns - 1)) (omega (arith, b .most)) .0 in
+    let l : length masks ≡ length upper = ap length e ∙ from-length (blendsAt upper lower w s) s (g .columns) upper in
+    let v : getD masks (s + c) 0 ≡ blendsAt upper lower w s c = ap (λ (m : List ℕ). getD m (s + c) 0) e ∙ from-at (blendsAt upper lower w s) s (g .columns) upper c (omega arith) h in
+    (v, (omega arith, rw v (blend-most (blockAt upper lower (s + c)) w (b .weights) (2 ^ g .stored - 1) (block-cells g upper lower (b .above) (b .below) (s + c) (omega (arith, b .most))))))
+
+-- A line's places in the table are those of its samples.
+module _ (v line : List ℕ) (g : Geometry) (f : ℕ) (ks upper lower masks : List ℕ) (down right r : ℕ) (most : right ≤ 512)
     (u : Averaged v g ks (shifted (down / 4) (g .rows) r) upper) (l : Averaged v g ks (shifted (down / 4 + 1) (g .rows) r) lower) where
-  pub blend-offset : (c : ℕ) → c < g .columns → blendShade table g v ((f - 1) * samplesOf g + r * g .columns) upper lower (weightsOf (down % 4) (right % 4)) (right / 4) c ≡ quarterShade table g v f ks down right (r * g .columns + c)
-  unfolding blendShade quarterShade
-  blend-offset c hc =
+  pub blend-offset : (table : List ℕ) (c : ℕ) → c < g .columns → cellAt g line c ≡ sampleAt g v f (r * g .columns + c) → getD masks (right / 4 + c) 0 ≡ blendsAt upper lower (weightsOf (down % 4) (right % 4)) (right / 4) c
+      → getD table (maskPlace g line masks (right / 4) c) 0 ≡ quarterShade table g v f ks down right (r * g .columns + c)
+  unfolding maskPlace quarterShade
+  blend-offset table c hc cell is =
       let s : right / 4 ≤ 128 = omega (arith, div-add-mod' right 4) in
-      let a : (f - 1) * samplesOf g + r * g .columns + c ≡ (f - 1) * samplesOf g + (r * g .columns + c) = omega arith in
+      let z : right / 4 + c ≡ c + right / 4 = omega arith in
       let d : down / 4 + 0 ≡ down / 4 = omega arith in
       let x : right / 4 + 0 ≡ right / 4 = omega arith in
       let y : c + right / 4 + 1 ≡ c + (right / 4 + 1) = omega arith in
-      rw (place-row r (g .columns) c hc, place-column r (g .columns) c hc, sample-cell g v f (r * g .columns + c), a, d, x, y, u .at (c + right / 4) (omega arith), u .at (c + (right / 4 + 1)) (omega arith), l .at (c + right / 4) (omega arith), l .at (c + (right / 4 + 1)) (omega arith))
-
-  -- A frame painted up to row r, and that row.
-  pub row-blended : (image : List ℕ) → paintedFrom (blendShade table g v ((f - 1) * samplesOf g + r * g .columns) upper lower (weightsOf (down % 4) (right % 4)) (right / 4)) (r * g .columns) (g .columns) (painted (quarterShade table g v f ks down right) (r * g .columns) image) ≡ painted (quarterShade table g v f ks down right) ((r + 1) * g .columns) image
-  row-blended image =
-      let z : r * g .columns + g .columns ≡ (r + 1) * g .columns = omega arith in
-      from-painted (blendShade table g v ((f - 1) * samplesOf g + r * g .columns) upper lower (weightsOf (down % 4) (right % 4)) (right / 4)) (quarterShade table g v f ks down right) (r * g .columns) (g .columns) image blend-offset
-      ∙ ap (λ (m : ℕ). painted (quarterShade table g v f ks down right) m image) z
+      rw (is, cell, place-row r (g .columns) c hc, place-column r (g .columns) c hc, d, x, z, y, u .at (c + right / 4) (omega arith), u .at (c + (right / 4 + 1)) (omega arith), l .at (c + right / 4) (omega arith), l .at (c + (right / 4 + 1)) (omega arith))
 
 -- The lower row of one row is the upper row of the next.
 pub next-row : (v : List ℕ) (g : Geometry) (ks : List ℕ) (s r : ℕ) (cells : List ℕ) → Averaged v g ks (shifted (s + 1) (g .rows) r) cells → Averaged v g ks (shifted s (g .rows) (r + 1)) cells

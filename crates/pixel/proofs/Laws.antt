@@ -17,7 +17,7 @@ use Rattle.dataset.specs.Bytes.{le16}
 use Rattle.value.specs.Number.{usValues}
 use Rattle.pixel.specs.declared.Geometry.{Geometry}
 use Rattle.pixel.specs.Pixel.{leBytes, samplesOf, isFrame, sampleAt, sumAt, averageOf, maskAt}
-use Rattle.pixel.specs.Contracts.{painted, nativeShade, Masks, cellAt, paintedFrom, Summed, Spread, shifted, rowShade, offsetShade}
+use Rattle.pixel.specs.Contracts.{painted, Masks, cellAt, plainPlace, maskPlace, Row, paintedFrom, Summed, Spread, shifted, rowShade, offsetShade}
 use Rattle.pixel.proofs.Division.{average-most}
 
 both : (p q : Bool) → p && q ≡ true → (p ≡ true) × (q ≡ true)
@@ -114,6 +114,12 @@ run-at from n w l c some h t =
     let d : from + n ≤ (from + n) * w = le-mul-of-pos-right (from + n) some in
     (omega arith, omega arith)
 
+-- The bytes of sample c of a row.
+pub row-at : (v : List ℕ) (g : Geometry) → Row v g 0 → (c : ℕ) → c < g .columns → c * g .width + g .width ≤ length v
+row-at v g r c h =
+    let z : 0 + c ≡ c = omega arith in
+    subst (λ (j : ℕ). j * g .width + g .width ≤ length v) z (run-at 0 (g .columns) (g .width) (length v) c (width-some (g .width) (r .shape .width)) (r .inside) h .0)
+
 -- The samples of a frame.
 pub frame-run : (k n w l : ℕ) → 1 ≤ k → k * n * w ≤ l → ((k - 1) * n + n) * w ≤ l
 frame-run zero n w l o h = absurd (omega arith)
@@ -154,10 +160,15 @@ row-end g r h =
     let b : (r + 1) * g .columns ≡ r * g .columns + g .columns = omega arith in
     omega arith
 
--- The shade of a native sample, by its place in the table.
-pub native-shade : (g : Geometry) (v : List ℕ) (k : ℕ) (table : List ℕ) (i s p q : ℕ) → s ≡ cellAt g v ((k - 1) * samplesOf g + i) → p ≡ 2 ^ g .stored → q ≡ 2 ^ (g .stored - 1) → getD table (s + (p - 1 - q)) 0 ≡ nativeShade table g v k i
-unfolding nativeShade
-native-shade g v k table i s p q a b d = rw (a, b, d, sample-cell g v k i)
+-- The place of a native sample in the table.
+pub plain-place : (g : Geometry) (v : List ℕ) (j s p q : ℕ) → s ≡ cellAt g v j → p ≡ 2 ^ g .stored → q ≡ 2 ^ (g .stored - 1) → s + (p - 1 - q) ≡ plainPlace g v j
+unfolding plainPlace
+plain-place g v j s p q a b d = rw (a, b, d)
+
+-- The place of a sample from whose value a mask value is taken.
+pub mask-place : (g : Geometry) (v masks : List ℕ) (o j s p m : ℕ) → s ≡ cellAt g v j → p ≡ 2 ^ g .stored → m ≡ getD masks (o + j) 0 → s + (p - 1) - m ≡ maskPlace g v masks o j
+unfolding maskPlace
+mask-place g v masks o j s p m a b d = rw (a, b, d)
 
 -- ---- Sums and averages of mask frames
 
@@ -221,16 +232,15 @@ module _ (g : Geometry) (i : ℕ) (inside : i < samplesOf g) where
       omega arith
 
 -- A row's shades are those of its samples.
-pub row-offset : (table v : List ℕ) (g : Geometry) (f : ℕ) (ks sums : List ℕ) (down right r n : ℕ) → right ≤ 128 → n ≡ length ks → Spread v g ks (shifted down (g .rows) r) sums → (c : ℕ) → c < g .columns → rowShade table g v ((f - 1) * samplesOf g + r * g .columns) sums n right c ≡ offsetShade table g v f ks down right (r * g .columns + c)
+pub row-offset : (table v line : List ℕ) (g : Geometry) (f : ℕ) (ks sums : List ℕ) (down right r n : ℕ) → right ≤ 128 → n ≡ length ks → Spread v g ks (shifted down (g .rows) r) sums → (c : ℕ) → c < g .columns → cellAt g line c ≡ sampleAt g v f (r * g .columns + c) → rowShade table g line sums n right c ≡ offsetShade table g v f ks down right (r * g .columns + c)
 unfolding rowShade offsetShade maskAt
-row-offset table v g f ks sums down right r n hr e s c hc =
-    let a : (f - 1) * samplesOf g + r * g .columns + c ≡ (f - 1) * samplesOf g + (r * g .columns + c) = omega arith in
-    rw (place-row r (g .columns) c hc, place-column r (g .columns) c hc, sample-cell g v f (r * g .columns + c), a, s .at (c + right) (omega arith), e)
+row-offset table v line g f ks sums down right r n hr e s c hc cell =
+    rw (cell, place-row r (g .columns) c hc, place-column r (g .columns) c hc, s .at (c + right) (omega arith), e)
 
 -- The shade of a sample of a row, by its place in the table.
-pub row-shade : (g : Geometry) (v table sums : List ℕ) (from n right c s p a : ℕ) → s ≡ cellAt g v (from + c) → p ≡ 2 ^ g .stored → a ≡ averageOf (getD sums (c + right) 0) n → getD table (s + (p - 1) - a) 0 ≡ rowShade table g v from sums n right c
+pub row-shade : (g : Geometry) (v table sums : List ℕ) (n right c s p a : ℕ) → s ≡ cellAt g v c → p ≡ 2 ^ g .stored → a ≡ averageOf (getD sums (c + right) 0) n → getD table (s + (p - 1) - a) 0 ≡ rowShade table g v sums n right c
 unfolding rowShade
-row-shade g v table sums from n right c s p a h k o = rw (h, k, o)
+row-shade g v table sums n right c s p a h k o = rw (h, k, o)
 
 -- ---- Painting
 
@@ -337,16 +347,6 @@ from-at f at (suc n) s k h l = ⊎-elim at-n (before (from-at f at n s k (omega 
     before : (k < n → getD (paintedFrom f at n s) (at + k) 0 ≡ f k) → k < n → getD (set (paintedFrom f at n s) (at + n) (f n)) (at + k) 0 ≡ f k
     before r l = getD-set-other (paintedFrom f at n s) (at + n) (at + k) (f n) 0 (ne l) ∙ r l
 
--- A picture painted up to a place, and on from there.
-pub from-painted : (f h : ℕ → ℕ) (at n : ℕ) (s : List ℕ) → ((c : ℕ) → c < n → f c ≡ h (at + c)) → paintedFrom f at n (painted h at s) ≡ painted h (at + n) s
-unfolding painted paintedFrom
-from-painted f h at zero s e =
-    let z : at + 0 ≡ at = omega arith in
-    rw z
-from-painted f h at (suc n) s e =
-    let z : at + suc n ≡ suc (at + n) = omega arith in
-    rw (z, e n (omega arith), from-painted f h at n s (λ c l. e c (omega arith)))
-
 -- ---- Products of small numbers fit
 
 module _ (k r c w : ℕ) (hk : k ≤ 65535) (hr : r ≤ 65535) (hc : c ≤ 65535) (hw : w ≤ 8191) where
@@ -438,10 +438,3 @@ spread-most v g ks row s n e sums j l = rw (sums .at j l, e) (sum-most g v ks (r
 -- Number k of the mask frames.
 pub mask-frame : (v : List ℕ) (g : Geometry) (ms : List ℕ) (k x : ℕ) → Masks v g ms → 0 < k → k ≤ length (usValues ms) → x ≡ getD (usValues ms) (k - 1) 0 → isFrame g v x ≡ true
 mask-frame v g ms k x m some h e = rw e (m .frames (k - 1) (omega arith))
-
--- A frame painted up to row r, and that row.
-pub row-painted : (table v : List ℕ) (g : Geometry) (f : ℕ) (ks sums image : List ℕ) (down right r n : ℕ) → right ≤ 128 → n ≡ length ks → Spread v g ks (shifted down (g .rows) r) sums → paintedFrom (rowShade table g v ((f - 1) * samplesOf g + r * g .columns) sums n right) (r * g .columns) (g .columns) (painted (offsetShade table g v f ks down right) (r * g .columns) image) ≡ painted (offsetShade table g v f ks down right) ((r + 1) * g .columns) image
-row-painted table v g f ks sums image down right r n h e s =
-    let z : r * g .columns + g .columns ≡ (r + 1) * g .columns = omega arith in
-    from-painted (rowShade table g v ((f - 1) * samplesOf g + r * g .columns) sums n right) (offsetShade table g v f ks down right) (r * g .columns) (g .columns) image (row-offset table v g f ks sums down right r n h e s)
-    ∙ ap (λ (m : ℕ). painted (offsetShade table g v f ks down right) m image) z

@@ -4,14 +4,13 @@ use mathlib.Core.List.{List, [], _∷_}
 use lib.ListN.{getD, set, length}
 use Rattle.shift.specs.declared.Moves.{Moves}
 use Rattle.pixel.specs.declared.Geometry.{Geometry}
-use Rattle.pixel.specs.Pixel.{sampleAt, blendedAt, leBytes, samplesOf, isFrame, sumAt, averageOf, maskAt, placeOf, restOf, blockOf, weightsOf, blendOf}
+use Rattle.pixel.specs.Pixel.{sampleAt, blendedAt, leBytes, isFrame, sumAt, averageOf, maskAt, placeOf, restOf, blockOf, weightsOf, blendOf}
 use mathlib.Core.Path.{_≡_}
 use mathlib.Core.Bool.{true}
 use mathlib.Core.Logic.{_⊎_}
 use Rattle.value.specs.Number.{usValues}
 use Rattle.value.specs.declared.Signed.{Signed}
 use Rattle.shift.specs.Shift.{shiftUnit, largestShift, largestMove}
-use Rattle.shift.specs.Contracts.{ShortMoves}
 
 -- What the painting functions write: one byte for each sample of the frame, from a table of shades. The table stands at
 -- sample - mask + 2^stored - 1; a native sample stands where a mask of 2^(stored - 1) would put it.
@@ -27,7 +26,7 @@ nativeShade table g v f i = getD table (sampleAt g v f i + (2 ^ g .stored - 1 - 
 unfoldable pub maskedShade : List ℕ → Geometry → List ℕ → ℕ → List ℕ → Moves → ℕ → ℕ
 maskedShade table g v f ks m i = getD table (sampleAt g v f i + (2 ^ g .stored - 1) - blendedAt g v ks m i) 0
 
--- What contracts say beside the definitions of a picture: what painting needs, and what each part of the code comes to.
+-- What contracts say beside the definitions of a picture: what drawing needs, and what each part of the code comes to.
 
 -- ---- Room for moves
 
@@ -46,7 +45,7 @@ farthest = 2 * largestShift
 abbrev pub farthestMove : ℕ
 farthestMove = 2 * largestMove
 
--- ---- What painting needs
+-- ---- What drawing needs
 
 -- A sample is one byte or two, and holds 1 to 16 bits; a row fits the room for sums.
 pub record Shaped (g : Geometry) : Type 0 where
@@ -58,22 +57,11 @@ pub record Shaped (g : Geometry) : Type 0 where
   pub columns-some : 1 ≤ g .columns
   pub columns-most : g .columns ≤ 65535
 
-pub record Ready (pixels : List ℕ) (g : Geometry) (frame : ℕ) (table image : List ℕ) : Type 0 where
-  pub shape : Shaped g
-  pub inside : isFrame g pixels frame ≡ true
-  pub room : samplesOf g ≤ length image
-  pub shades : 131072 ≤ length table
-
 -- Mask frames: 1 to 64 numbers of frames.
 pub record Masks (pixels : List ℕ) (g : Geometry) (masks : List ℕ) : Type 0 where
   pub some : 1 ≤ length (usValues masks)
   pub few : length (usValues masks) ≤ 64
   pub frames : (k : ℕ) → k < length (usValues masks) → isFrame g pixels (getD (usValues masks) k 0) ≡ true
-
-pub record MaskedReady (pixels : List ℕ) (g : Geometry) (frame : ℕ) (masks : List ℕ) (moves : Moves) (table image : List ℕ) : Type 0 where
-  pub ready : Ready pixels g frame table image
-  pub taken : Masks pixels g masks
-  pub short : ShortMoves moves
 
 -- ---- Numbers below which no product passes 64 bits
 
@@ -88,6 +76,13 @@ pub record Small (g : Geometry) (k : ℕ) : Type 0 where
 -- Sample j of all frames, counted from 0.
 unfoldable pub cellAt : Geometry → List ℕ → ℕ → ℕ
 cellAt g v j = leBytes (g .width) v (j * g .width) % 2 ^ g .stored
+
+-- The place of sample j in a table of shades, where it takes no mask, and where it takes mask values that begin at an offset.
+unfoldable pub plainPlace : Geometry → List ℕ → ℕ → ℕ
+plainPlace g v j = cellAt g v j + (2 ^ g .stored - 1 - 2 ^ (g .stored - 1))
+
+unfoldable pub maskPlace : Geometry → List ℕ → List ℕ → ℕ → ℕ → ℕ
+maskPlace g v masks s j = cellAt g v j + (2 ^ g .stored - 1) - getD masks (s + j) 0
 
 -- Sample j lies in the pixel bytes, and `low` keeps its stored bits.
 pub record Lies (v : List ℕ) (g : Geometry) (low j : ℕ) : Type 0 where
@@ -145,9 +140,9 @@ unfoldable pub paintedFrom : (ℕ → ℕ) → ℕ → ℕ → List ℕ → List
 paintedFrom f at zero image = image
 paintedFrom f at (suc n) image = set (paintedFrom f at n image) (at + n) (f n)
 
--- The shade of cell c of a row that begins with sample `from`, by the spread sums of a row of n mask frames.
-unfoldable pub rowShade : List ℕ → Geometry → List ℕ → ℕ → List ℕ → ℕ → ℕ → ℕ → ℕ
-rowShade table g v from sums n s c = getD table (cellAt g v (from + c) + (2 ^ g .stored - 1) - averageOf (getD sums (c + s) 0) n) 0
+-- The shade of cell c of a row, by the spread sums of a row of n mask frames.
+unfoldable pub rowShade : List ℕ → Geometry → List ℕ → List ℕ → ℕ → ℕ → ℕ → ℕ
+rowShade table g v sums n s c = getD table (cellAt g v c + (2 ^ g .stored - 1) - averageOf (getD sums (c + s) 0) n) 0
 
 -- The shade of sample i by two offsets, down and to the right.
 unfoldable pub offsetShade : List ℕ → Geometry → List ℕ → ℕ → List ℕ → ℕ → ℕ → ℕ → ℕ
@@ -157,32 +152,24 @@ offsetShade table g v f ks down right i =
     0
 
 -- What a row is drawn from.
-pub record Drawn (v : List ℕ) (g : Geometry) (from at n s : ℕ) (table sums image : List ℕ) : Type 0 where
-  pub row : Row v g from
+pub record Drawn (v : List ℕ) (g : Geometry) (n s : ℕ) (table sums line : List ℕ) : Type 0 where
+  pub row : Row v g 0
   pub some : 1 ≤ n
   pub few : n ≤ 64
   pub most : s ≤ farthest
   pub shades : 131072 ≤ length table
   pub summed : (j : ℕ) → j < g .columns + edges → (j < length sums) × (getD sums j 0 ≤ n * (2 ^ g .stored - 1))
-  pub room : at + g .columns ≤ length image
+  pub room : g .columns ≤ length line
 
--- What the rows of a frame are painted from; `sums` is room for a row and its edges.
-pub record RowsReady (v : List ℕ) (g : Geometry) (f : ℕ) (masks : List ℕ) (down right : ℕ) (table sums image : List ℕ) : Type 0 where
-  pub ready : Ready v g f table image
-  pub taken : Masks v g masks
-  pub down-most : down ≤ farthest
-  pub right-most : right ≤ farthest
-  pub row : longestRow ≤ length sums
-
--- ---- Painting by quarters
+-- ---- Drawing by quarters
 
 -- The two by two block at place j of two rows.
 abbrev pub blockAt : List ℕ → List ℕ → ℕ → List (List ℕ)
 blockAt upper lower j = (getD upper j 0 ∷ getD upper (j + 1) 0 ∷ []) ∷ (getD lower j 0 ∷ getD lower (j + 1) 0 ∷ []) ∷ []
 
--- The shade of cell c of a row that begins with sample `from`, blended from two rows of averages.
-unfoldable pub blendShade : List ℕ → Geometry → List ℕ → ℕ → List ℕ → List ℕ → List ℕ → ℕ → ℕ → ℕ
-blendShade table g v from upper lower w s c = getD table (cellAt g v (from + c) + (2 ^ g .stored - 1) - blendOf (blockAt upper lower (c + s)) w) 0
+-- The mask value of cell c of a row, blended from two rows of averages.
+abbrev pub blendsAt : List ℕ → List ℕ → List ℕ → ℕ → ℕ → ℕ
+blendsAt upper lower w s c = blendOf (blockAt upper lower (s + c)) w
 
 -- The shade of sample i by two offsets of quarters, down and to the right.
 unfoldable pub quarterShade : List ℕ → Geometry → List ℕ → ℕ → List ℕ → ℕ → ℕ → ℕ → ℕ
@@ -199,29 +186,17 @@ quarterShade table g v f ks down right i =
 pub record Averages (g : Geometry) (cells : List ℕ) : Type 0 where
   pub at : (j : ℕ) → j < g .columns + edges → (j < length cells) × (getD cells j 0 ≤ 2 ^ g .stored - 1)
 
--- What a row is blended from.
-pub record Blended (v : List ℕ) (g : Geometry) (from at s : ℕ) (w table upper lower image : List ℕ) : Type 0 where
-  pub row : Row v g from
+-- What a row of mask values is blended from.
+pub record Blends (g : Geometry) (s : ℕ) (w upper lower : List ℕ) : Type 0 where
+  pub shape : Shaped g
   pub most : s ≤ farthest
   pub weights : Weights w
-  pub shades : 131072 ≤ length table
   pub above : Averages g upper
   pub below : Averages g lower
-  pub room : at + g .columns ≤ length image
 
--- What a frame is painted from by offsets in quarters; `row` is room for a row and its edges.
-pub record QuartersReady (v : List ℕ) (g : Geometry) (f : ℕ) (masks : List ℕ) (down right : ℕ) (table row image : List ℕ) : Type 0 where
-  pub ready : Ready v g f table image
-  pub taken : Masks v g masks
-  pub down-most : down ≤ farthestMove
-  pub right-most : right ≤ farthestMove
-  pub long : longestRow ≤ length row
-
--- What the rows of a frame are blended from; `upper` and `lower` are room for a row and its edges.
-pub record BlendReady (v : List ℕ) (g : Geometry) (f : ℕ) (masks : List ℕ) (down right : ℕ) (table upper lower image : List ℕ) : Type 0 where
-  pub ready : Ready v g f table image
-  pub taken : Masks v g masks
-  pub down-most : down ≤ farthestMove
-  pub right-most : right ≤ farthestMove
-  pub above : longestRow ≤ length upper
-  pub below : longestRow ≤ length lower
+-- What a row is drawn from where its mask values are known.
+pub record Subtracts (v : List ℕ) (g : Geometry) (s : ℕ) (masks line : List ℕ) : Type 0 where
+  pub row : Row v g 0
+  pub most : s ≤ farthest
+  pub masked : (c : ℕ) → c < g .columns → (s + c < length masks) × (getD masks (s + c) 0 ≤ 2 ^ g .stored - 1)
+  pub room : g .columns ≤ length line

@@ -1,4 +1,4 @@
-// Samples of frames, averages of mask frames, and painting an image from a table of shades.
+// Samples of frames, averages of mask frames, and drawing a row from a table of shades.
 ghost use mathlib.Core.Path.{_≡_};
 ghost use Prim.Native.Nat.{ℕ, _+_, _-_, _*_, _/_, _^_, _≤_, _<_, min};
 ghost use lib.ListN.{length, getD};
@@ -6,11 +6,10 @@ ghost use Rattle.value.specs.Contracts.{SizeBelow};
 ghost use Rattle.value.specs.Number.{usValues};
 ghost use Rattle.shift.specs.Shift.{largestShift};
 ghost use Rattle.shift.specs.Contracts.{tooFar};
-ghost use Rattle.pixel.specs.Pixel.{samplesOf, isFrame, averageOf, weightsOf, blendOf};
-ghost use Rattle.pixel.specs.Contracts.{painted, nativeShade, maskedShade, edges, Ready, Masks, MaskedReady, Small, Shaped, cellAt, Lies, Row, OffsetOf, shifted, Summed, Spread, Averaged, Cells, Weights, paintedFrom, rowShade, offsetShade, blendShade, quarterShade, Drawn, RowsReady, Blended, QuartersReady, BlendReady};
+ghost use Rattle.pixel.specs.Pixel.{isFrame, averageOf, weightsOf, blendOf};
+ghost use Rattle.pixel.specs.Contracts.{painted, edges, Masks, Small, Shaped, cellAt, plainPlace, maskPlace, Lies, Row, OffsetOf, shifted, Summed, Spread, Averaged, Cells, Weights, paintedFrom, rowShade, Drawn, Blends, blendsAt, Subtracts};
 use dataset::u16_at;
 use dataset::wide;
-use shift::Moves;
 use value::Signed;
 use value::us_value;
 
@@ -75,17 +74,16 @@ pub fn sample(pixels: &[u8], g: Geometry, low: usize, j: usize) -> usize
     }
 }
 
-// Paints a frame that takes no mask.
-pub fn paint_native(pixels: &[u8], g: Geometry, frame: usize, table: &[u8], image: &mut [u8])
-    requires { ⌜ Ready (now pixels) g frame (now table) (now image) ⌝ }
-    ensures { λ _. ⌜ now (image .exit) ≡ painted (nativeShade (now (table .entry)) g (now (pixels .entry)) frame) (samplesOf g) (now (image .entry)) ⌝ }
+// Draws a row of a frame that takes no mask.
+pub fn plain_row(line: &[u8], g: Geometry, table: &[u8], levels: &mut [u8])
+    requires { ⌜ Row (now line) g 0 × ((131072 ≤ length (now table)) × (g .columns ≤ length (now levels))) ⌝ }
+    ensures { λ _. ⌜ now (levels .exit) ≡ painted (λ c. getD (now (table .entry)) (plainPlace g (now (line .entry)) c) 0) (g .columns) (now (levels .entry)) ⌝ }
 {
-    let n = g.rows * g.columns;
-    let from = (frame - 1) * n;
+    let columns = g.columns;
     let low = power(g.stored) - 1;
     let middle = low - power(g.stored - 1);
-    for i in 0..n {
-        image[i] = table[sample(pixels, g, low, from + i) + middle];
+    for c in 0..columns {
+        levels[c] = table[sample(line, g, low, c) + middle];
     }
 }
 
@@ -203,51 +201,23 @@ pub fn wider(x: u32) -> usize
 
 // Draws a row of a frame from the sums of a row of n mask frames and the offset to the right.
 pub fn draw_row(
-    pixels: &[u8],
+    line: &[u8],
     g: Geometry,
-    from: usize,
-    at: usize,
     n: usize,
     s: usize,
     table: &[u8],
     sums: &[u32],
-    image: &mut [u8],
+    levels: &mut [u8],
 )
-    requires { ⌜ Drawn (now pixels) g from at n s (now table) (now sums) (now image) ⌝ }
-    ensures { λ _. ⌜ now (image .exit) ≡ paintedFrom (rowShade (now (table .entry)) g (now (pixels .entry)) from (now (sums .entry)) n s) at (g .columns) (now (image .entry)) ⌝ }
+    requires { ⌜ Drawn (now line) g n s (now table) (now sums) (now levels) ⌝ }
+    ensures { λ _. ⌜ now (levels .exit) ≡ painted (rowShade (now (table .entry)) g (now (line .entry)) (now (sums .entry)) n s) (g .columns) (now (levels .entry)) ⌝ }
 {
     let columns = g.columns;
     let low = power(g.stored) - 1;
     let factor = SCALE / (2 * n) + 1;
     for c in 0..columns {
         let mask = average(wider(sums[c + s]), n, factor);
-        image[at + c] = table[sample(pixels, g, low, from + c) + low - mask];
-    }
-}
-
-// Paints the rows of a frame with their masks, by two offsets; `sums` is room for one row and its edges.
-fn paint_rows(
-    pixels: &[u8],
-    g: Geometry,
-    frame: usize,
-    masks: &[u8],
-    down: usize,
-    right: usize,
-    table: &[u8],
-    sums: &mut [u32],
-    image: &mut [u8],
-)
-    requires { ⌜ RowsReady (now pixels) g frame (now masks) down right (now table) (now sums) (now image) ⌝ }
-    ensures { λ _. ⌜ now (image .exit) ≡ painted (offsetShade (now (table .entry)) g (now (pixels .entry)) frame (usValues (now (masks .entry))) down right) (samplesOf g) (now (image .entry)) ⌝ }
-{
-    let rows = g.rows;
-    let columns = g.columns;
-    let first = (frame - 1) * (rows * columns);
-    let n = masks.len() / 2;
-    for r in 0..rows {
-        let at = r * columns;
-        mask_row(pixels, g, masks, moved(down, rows, r), sums);
-        draw_row(pixels, g, first + at, at, n, right, table, sums, image);
+        levels[c] = table[sample(line, g, low, c) + low - mask];
     }
 }
 
@@ -304,158 +274,33 @@ pub fn blended(block: [[u32; 2]; 2], weights: [u32; 4]) -> u32
         / 16
 }
 
-// Draws a row of a frame from two rows of averages, the offset to the right and the weights.
-pub fn blend_row(
-    pixels: &[u8],
+// Blends two rows of averages by the offset to the right and the weights: a row of mask values stands where the upper one stood.
+pub fn blend_all(g: Geometry, s: usize, w: [u32; 4], lower: &[u32], upper: &mut [u32])
+    requires { ⌜ Blends g s w (now upper) (now lower) ⌝ }
+    ensures { λ _. ⌜ now (upper .exit) ≡ paintedFrom (blendsAt (now (upper .entry)) (now (lower .entry)) w s) s (g .columns) (now (upper .entry)) ⌝ }
+{
+    let columns = g.columns;
+    for c in 0..columns {
+        let j = s + c;
+        upper[j] = blended([[upper[j], upper[j + 1]], [lower[j], lower[j + 1]]], w);
+    }
+}
+
+// Draws a row of a frame from a row of mask values, which begin at an offset.
+pub fn masked_row(
+    line: &[u8],
     g: Geometry,
-    from: usize,
-    at: usize,
     s: usize,
-    w: [u32; 4],
+    masks: &[u32],
     table: &[u8],
-    upper: &[u32],
-    lower: &[u32],
-    image: &mut [u8],
+    levels: &mut [u8],
 )
-    requires { ⌜ Blended (now pixels) g from at s w (now table) (now upper) (now lower) (now image) ⌝ }
-    ensures { λ _. ⌜ now (image .exit) ≡ paintedFrom (blendShade (now (table .entry)) g (now (pixels .entry)) from (now (upper .entry)) (now (lower .entry)) w s) at (g .columns) (now (image .entry)) ⌝ }
+    requires { ⌜ Subtracts (now line) g s (now masks) (now levels) × (131072 ≤ length (now table)) ⌝ }
+    ensures { λ _. ⌜ now (levels .exit) ≡ painted (λ c. getD (now (table .entry)) (maskPlace g (now (line .entry)) (now (masks .entry)) s c) 0) (g .columns) (now (levels .entry)) ⌝ }
 {
     let columns = g.columns;
     let low = power(g.stored) - 1;
     for c in 0..columns {
-        let j = c + s;
-        let mask = blended([[upper[j], upper[j + 1]], [lower[j], lower[j + 1]]], w);
-        image[at + c] = table[sample(pixels, g, low, from + c) + low - wider(mask)];
+        levels[c] = table[sample(line, g, low, c) + low - wider(masks[s + c])];
     }
-}
-
-// Paints the rows of a frame with their masks, by two offsets in quarters. Each mask row is averaged once: what was the
-// lower one is the upper one of the next row.
-fn blend_rows(
-    pixels: &[u8],
-    g: Geometry,
-    frame: usize,
-    masks: &[u8],
-    down: usize,
-    right: usize,
-    table: &[u8],
-    upper: &mut [u32],
-    lower: &mut [u32],
-    image: &mut [u8],
-)
-    requires { ⌜ BlendReady (now pixels) g frame (now masks) down right (now table) (now upper) (now lower) (now image) ⌝ }
-    ensures { λ _. ⌜ now (image .exit) ≡ painted (quarterShade (now (table .entry)) g (now (pixels .entry)) frame (usValues (now (masks .entry))) down right) (samplesOf g) (now (image .entry)) ⌝ }
-{
-    let rows = g.rows;
-    let columns = g.columns;
-    let first = (frame - 1) * (rows * columns);
-    let s = down / UNIT;
-    let w = weights((down % UNIT) as u32, (right % UNIT) as u32);
-    average_row(pixels, g, masks, moved(s, rows, 0), lower);
-    for r in 0..rows {
-        let at = r * columns;
-        copy(columns + EDGES, lower, upper);
-        average_row(pixels, g, masks, moved(s + 1, rows, r), lower);
-        blend_row(
-            pixels,
-            g,
-            first + at,
-            at,
-            right / UNIT,
-            w,
-            table,
-            upper,
-            lower,
-            image,
-        );
-    }
-}
-
-// Paints a frame from two mask rows at a time, blended; `upper` is room for one of them. Two places call it, so that it stays
-// a function of its own: whole shifts then take no stack for the second row.
-fn paint_quarters(
-    pixels: &[u8],
-    g: Geometry,
-    frame: usize,
-    masks: &[u8],
-    down: usize,
-    right: usize,
-    table: &[u8],
-    upper: &mut [u32],
-    image: &mut [u8],
-)
-    requires { ⌜ QuartersReady (now pixels) g frame (now masks) down right (now table) (now upper) (now image) ⌝ }
-    ensures { λ _. ⌜ now (image .exit) ≡ painted (quarterShade (now (table .entry)) g (now (pixels .entry)) frame (usValues (now (masks .entry))) down right) (samplesOf g) (now (image .entry)) ⌝ }
-{
-    let mut lower: [u32; LONGEST] = [0; LONGEST];
-    blend_rows(
-        pixels,
-        g,
-        frame,
-        masks,
-        down,
-        right,
-        table,
-        upper,
-        &mut lower,
-        image,
-    );
-}
-
-// Paints a frame by two offsets in quarters; `row` is room for a row and its edges. A whole shift takes one mask row for
-// each row, any other two.
-fn paint_by(
-    pixels: &[u8],
-    g: Geometry,
-    frame: usize,
-    masks: &[u8],
-    down: usize,
-    right: usize,
-    table: &[u8],
-    row: &mut [u32],
-    image: &mut [u8],
-)
-    requires { ⌜ QuartersReady (now pixels) g frame (now masks) down right (now table) (now row) (now image) ⌝ }
-    ensures { λ _. ⌜ now (image .exit) ≡ painted (quarterShade (now (table .entry)) g (now (pixels .entry)) frame (usValues (now (masks .entry))) down right) (samplesOf g) (now (image .entry)) ⌝ }
-{
-    if down % UNIT == 0 {
-        if right % UNIT == 0 {
-            paint_rows(
-                pixels,
-                g,
-                frame,
-                masks,
-                down / UNIT,
-                right / UNIT,
-                table,
-                row,
-                image,
-            );
-        } else {
-            paint_quarters(pixels, g, frame, masks, down, right, table, row, image);
-        }
-    } else {
-        paint_quarters(pixels, g, frame, masks, down, right, table, row, image);
-    }
-}
-
-// Paints a frame with the average of mask frames taken from it, moved by quarters.
-pub fn paint_masked(
-    pixels: &[u8],
-    g: Geometry,
-    frame: usize,
-    masks: &[u8],
-    moves: Moves,
-    table: &[u8],
-    image: &mut [u8],
-)
-    requires { ⌜ MaskedReady (now pixels) g frame (now masks) moves (now table) (now image) ⌝ }
-    ensures { λ _. ⌜ now (image .exit) ≡ painted (maskedShade (now (table .entry)) g (now (pixels .entry)) frame (usValues (now (masks .entry))) moves) (samplesOf g) (now (image .entry)) ⌝ }
-{
-    let vertical = moves.vertical;
-    let horizontal = moves.horizontal;
-    let down = offset_of(vertical);
-    let right = offset_of(horizontal);
-    let mut row: [u32; LONGEST] = [0; LONGEST];
-    paint_by(pixels, g, frame, masks, down, right, table, &mut row, image);
 }

@@ -2,20 +2,17 @@
 use mathlib.Core.Path.{_≡_, sym, ap, _∙_, subst}
 use mathlib.Core.List.{List}
 use mathlib.Core.Option.{some}
-use Prim.Native.Nat.{ℕ, _+_, _-_, _^_, _≤_}
-use native.Mathlib.Omega.{arith}
+use Prim.Native.Nat.{ℕ, _≤_}
 use Rattle.node.specs.Nodes.{nodesOf}
 use Rattle.element.specs.Elements.{valueAt}
 use Rattle.pixel.specs.Pixel.{samplesOf}
 use Rattle.value.specs.declared.Signed.{Signed}
 use Rattle.value.specs.declared.Function.{Function}
 use Rattle.window.specs.declared.Window.{Window}
-use Rattle.window.specs.Contracts.{Drawable, shadeAt, Filled}
-use Rattle.window.proofs.Laws.{power-small}
+use Rattle.window.specs.Contracts.{Drawable}
 use Rattle.lines.specs.declared.Shades.{Shades}
 use Rattle.lines.specs.Contracts.{shadesOf}
-use Rattle.lines.proofs.Lists.{upTo-length}
-use Rattle.lines.proofs.Laws.{ideal-at}
+use Rattle.lines.proofs.Laws.{ideal-filled}
 use Rattle.display.specs.Show.{imageSize}
 use Rattle.display.specs.Contracts.{isMasked, shadeBy, IsObject, IsScene, IsPlan}
 use Rattle.display.proofs.Answering.{applying-some}
@@ -34,13 +31,6 @@ windows-same a b p q r =
     let wide : Signed → Window = λ x. record { center = b .center; width = x; function = a .function } in
     let by : Function → Window = λ x. record { center = b .center; width = b .width; function = x } in
     ap center p ∙ (ap wide q ∙ ap by r)
-
--- ---- Levels at all places
-
-pub ideal-filled : (t : Shades) (stored : ℕ) → stored ≤ 16 → Filled (shadeAt (t .window) stored (t .inverse)) (2 ^ (stored + 1) - 1) (shadesOf t stored)
-unfolding shadesOf
-ideal-filled t stored most =
-    record { size = upTo-length (shadeAt (t .window) stored (t .inverse)) 131072; value = λ i h. ideal-at t stored i (omega (arith, power-small (stored + 1) 17 (omega arith))) }
 
 pub room-for : (s : List ℕ) (n f : ℕ) (h : IsObject s n) (low : 1 ≤ f) (high : f ≤ n) (c : Scene) (q : IsScene (nodesOf s) c) (counts : List ℕ) → Room counts (imageSize (nodesOf s)) → Room counts (samplesOf (c .g))
 room-for s n f h low high c q counts r = subst (Room counts) (sym (based s n f h low high c q .size)) r

@@ -1,12 +1,11 @@
 // The window of a frame and its levels.
 ghost use mathlib.Core.Path.{_≡_};
-ghost use Prim.Native.Nat.{_+_, _-_, _*_, _^_, _≤_, _<_};
-ghost use lib.ListN.{length};
+ghost use Prim.Native.Nat.{_-_, _*_, _^_, _≤_, _<_};
 ghost use lib.IntN.{pos, _-ℤ_};
 ghost use mathlib.Core.Option.{some};
 ghost use Rattle.value.specs.Number.{unit, sizeLimit};
 ghost use Rattle.window.specs.Window.{fullWindow, takenOff, levelOf, shaded};
-ghost use Rattle.window.specs.Contracts.{Drawable, Filled, above, below, rampOf, number, shadeAt};
+ghost use Rattle.window.specs.Contracts.{Drawable, above, below, rampOf, number};
 use value::Function;
 use value::Signed;
 
@@ -109,26 +108,4 @@ pub fn shade(window: Window, plus: usize, minus: usize, inverse: bool) -> u8
 {
     let y = level(window, plus, minus);
     if inverse { (255 - y) as u8 } else { y as u8 }
-}
-
-// An empty table.
-fn blank() -> [u8; 131072]
-    ensures { λ r. ⌜ length r ≡ 131072 ⌝ }
-{
-    [0; 131072]
-}
-
-// The shade at place i is that of x = i + 2^(stored - 1) - (2^stored - 1).
-pub fn levels(window: Window, stored: usize, inverse: bool) -> [u8; 131072]
-    requires { ⌜ Drawable window × ((1 ≤ stored) × (stored ≤ 16)) ⌝ }
-    ensures { λ r. ⌜ Filled (shadeAt window stored inverse) (2 ^ (stored + 1) - 1) r ⌝ }
-{
-    let half = power(stored - 1);
-    let least = power(stored) - 1;
-    let n = power(stored + 1) - 1;
-    let mut table = blank();
-    for i in 0..n {
-        table[i] = shade(window, i + half, least, inverse);
-    }
-    table
 }

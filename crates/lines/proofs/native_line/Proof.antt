@@ -1,8 +1,8 @@
--- The line's bytes are those of the frame's row, so its cells are the frame's cells from there on.
-use Rattle.lines.proofs.Laws as laws
+-- The line's samples are the frame's, from a filled table as from the window.
 use mathlib.Core.Path.{_∙_}
 use native.Mathlib.Omega.{arith}
 use borrow.Author.Needs.{needs}
+use Rattle.lines.proofs.Laws as laws
 use Rattle.lines.proofs.native_line.Statement.{statement}
 use Rattle.lines.proofs.native_line.Tie as tie
 
@@ -10,9 +10,9 @@ frame-line-requires : tie.Need-frame-line-requires
 frame-line-requires c κs =
     (laws.fits (c .before .before .before .args .g) (c .before .before .before .args .pixels) (c .before .before .before .args .frame) (c .before .before .before .args .row) (c .before .before .before .pre .0 .shape) (c .before .before .before .pre .0 .inside), c .before .before .before .pre .0 .lies)
 
-paint-native-requires : tie.Need-paint-native-requires
-paint-native-requires c κs =
-    laws.line-ready (c .before .before .before .before .before .before .args .g) (c .before .before .before .before .before .before .pre .0 .shape) (c .before .before .before .before .before .before .args .pixels) (c .before .before .before .before .before .before .args .frame) (c .before .before .before .before .before .before .args .row) _ (c .before .before .frame-line .ensures) (c .before .before .before .before .before .before .args .table .now) (c .before .before .before .before .before .before .args .levels .now) (c .before .before .before .before .before .before .pre .0 .room) (omega (arith, c .before .before .before .before .before .before .pre .1 .shades (c .before .if1 .taken) .size))
+plain-row-requires : tie.Need-plain-row-requires
+plain-row-requires c κs =
+    (laws.line-row (c .before .before .before .before .before .before .args .g) (c .before .before .before .before .before .before .pre .0 .shape) (c .before .before .before .before .before .before .args .pixels) (c .before .before .before .before .before .before .args .frame) (c .before .before .before .before .before .before .args .row) _ (c .before .before .frame-line .ensures), (omega (arith, c .before .before .before .before .before .before .pre .1 .shades (c .before .if1 .taken) .size), c .before .before .before .before .before .before .pre .0 .room))
 
 plain-by-window-requires : tie.Need-plain-by-window-requires
 plain-by-window-requires c κs =
@@ -24,7 +24,7 @@ same-length c =
 
 returns : tie.Need-returns
 returns c =
-    c .before .before .paint-native .ensures ∙ laws.native-by-table (c .before .before .before .before .before .before .before .before .before .args .g) (c .before .before .before .before .before .before .before .before .before .pre .0 .shape) (c .before .before .before .before .before .before .before .before .before .args .pixels) (c .before .before .before .before .before .before .before .before .before .args .frame) (c .before .before .before .before .before .before .before .before .before .args .row) _ (c .before .before .before .before .before .frame-line .ensures) (c .before .before .before .before .before .before .before .before .before .args .shades) (c .before .before .before .before .before .before .before .before .before .args .table .now) (c .before .before .before .before .before .before .before .before .before .args .levels .now) (c .before .before .before .before .before .before .before .before .before .pre .1 .shades (c .before .before .before .before .if1 .taken))
+    c .before .before .plain-row .ensures ∙ laws.native-by-table (c .before .before .before .before .before .before .before .before .before .args .g) (c .before .before .before .before .before .before .before .before .before .pre .0 .shape) (c .before .before .before .before .before .before .before .before .before .args .pixels) (c .before .before .before .before .before .before .before .before .before .args .frame) (c .before .before .before .before .before .before .before .before .before .args .row) _ (c .before .before .before .before .before .frame-line .ensures) (c .before .before .before .before .before .before .before .before .before .args .shades) (c .before .before .before .before .before .before .before .before .before .args .table .now) (c .before .before .before .before .before .before .before .before .before .args .levels .now) (c .before .before .before .before .before .before .before .before .before .pre .1 .shades (c .before .before .before .before .if1 .taken))
 
 same-length-2 : tie.Need-same-length-2
 same-length-2 c =
@@ -39,7 +39,7 @@ native-line-spec =
     tie.close
     (tie.spec
     frame-line-requires
-    paint-native-requires
+    plain-row-requires
     plain-by-window-requires
     same-length
     returns

@@ -6,10 +6,9 @@ use borrow.Author.Needs.{needs}
 use lib.ListN.{length}
 use lib.Pow.{pow-pos}
 use Rattle.window.specs.Contracts.{shadeAt}
-use Rattle.pixel.specs.Contracts.{painted}
-use Rattle.pixel.proofs.Laws.{full, power-most, half-low, run-at, width-some, painted-more, painted-length}
-use Rattle.lines.specs.Contracts.{plainPlace}
-use Rattle.lines.proofs.Laws.{shade-at, plain-place}
+use Rattle.pixel.specs.Contracts.{painted, plainPlace}
+use Rattle.pixel.proofs.Laws.{full, power-most, half-low, run-at, width-some, plain-place, painted-more, painted-length}
+use Rattle.lines.proofs.Laws.{shade-at}
 use Rattle.lines.proofs.plain_by_window.Statement.{statement}
 use Rattle.lines.proofs.plain_by_window.Tie as tie
 

@@ -1,25 +1,25 @@
--- Invariant: c bytes of the row are painted. An average of samples is no larger than a sample can be, so that the place in
--- the table is not below 0, and it stays below 2 × 2^stored.
+use Rattle.pixel.specs.Pixel.{averageOf}
+-- Invariant: c levels are drawn. An average of samples is no larger than a sample can be, so that the place in the table is not
+-- below 0, and it stays below 2 × 2^stored.
 use mathlib.Core.Path.{_≡_, refl, ap, _∙_}
 use Prim.Native.Nat.{ℕ, _+_, _-_, _*_, _^_, _≤_}
 use native.Mathlib.Nat.{div-le-self}
 use native.Mathlib.Omega.{arith}
-use borrow.Author.Needs.{needs}
 use lib.ListN.{length}
 use lib.Pow.{pow-pos}
-use Rattle.pixel.specs.Pixel.{averageOf}
-use Rattle.pixel.specs.Contracts.{paintedFrom, rowShade}
+use Rattle.pixel.specs.Contracts.{painted, rowShade}
 use Rattle.pixel.proofs.Division.{average-most}
-use Rattle.pixel.proofs.Laws.{full, power-most, run-at, width-some, sum-fits, row-shade, from-more, from-length}
+use Rattle.pixel.proofs.Laws.{full, power-most, row-at, sum-fits, row-shade, painted-more, painted-length}
+use borrow.Author.Needs.{needs}
 use Rattle.pixel.proofs.draw_row.Statement.{statement}
 use Rattle.pixel.proofs.draw_row.Tie as tie
 
 abbrev Inv-loop : tie.InvT-loop
-Inv-loop pixels g from at n s table sums image₀ columns low factor c₀ image c =
-    (c ≤ g .columns) × (image ≡ paintedFrom (rowShade table g pixels from sums n s) at c image₀)
+Inv-loop line g n s table sums levels₀ columns low factor c₀ levels c =
+    (c ≤ g .columns) × (levels ≡ painted (rowShade table g line sums n s) c levels₀)
 
 abbrev μ-loop : tie.MeasureT-loop
-μ-loop pixels g from at n s table sums image₀ columns low factor c₀ image c =
+μ-loop line g n s table sums levels₀ columns low factor c₀ levels c =
     columns - c
 
 power-requires : tie.Need-power-requires Inv-loop μ-loop
@@ -43,7 +43,7 @@ add-factor c =
     omega (arith, div-le-self 4294967296 (2 * c .before .before .before .before .before .args .n))
 
 loop-holds : tie.Need-loop-holds Inv-loop μ-loop
-unfolding paintedFrom
+unfolding painted
 loop-holds c =
     (omega arith, refl)
 
@@ -67,41 +67,33 @@ average-requires : tie.Need-average-requires Inv-loop μ-loop
 average-requires c κs =
     (c .before .before .before .before .before .before .before .before .before .pre .some, (c .before .before .before .before .before .before .before .before .before .pre .few, (omega (arith, c .wider .ensures, c .before .before .before .before .before .before .before .before .before .pre .summed (c .before .before .before .loop .c + c .before .before .before .before .before .before .before .before .before .args .s) (omega (arith, c .before .before .before .before .before .before .before .before .before .pre .most, c .before .before .loop-test .taken)) .1, sum-fits (c .before .before .before .before .before .before .before .before .before .args .n) (c .before .before .before .before .before .before .before .before .before .args .g .stored) (c .before .before .before .before .before .before .before .before .before .pre .few) (c .before .before .before .before .before .before .before .before .before .pre .row .shape .stored-most)), refl)))
 
-add-sample : tie.Need-add-sample Inv-loop μ-loop
-add-sample c =
-    omega (arith, run-at (c .before .before .before .before .before .before .before .before .before .before .args .from) (c .before .before .before .before .before .before .before .before .before .before .args .g .columns) (c .before .before .before .before .before .before .before .before .before .before .args .g .width) (length (c .before .before .before .before .before .before .before .before .before .before .args .pixels .now)) (c .before .before .before .before .loop .c) (width-some _ (c .before .before .before .before .before .before .before .before .before .before .pre .row .shape .width)) (c .before .before .before .before .before .before .before .before .before .before .pre .row .inside) (c .before .before .before .loop-test .taken) .1)
-
 sample-requires : tie.Need-sample-requires Inv-loop μ-loop
 sample-requires c κs =
     record {
       width = c .before .before .before .before .before .before .before .before .before .before .pre .row .shape .width;
       kept = ap (λ (x : ℕ). x - 1) (c .before .before .before .before .before .power .ensures);
-      inside = run-at (c .before .before .before .before .before .before .before .before .before .before .args .from) (c .before .before .before .before .before .before .before .before .before .before .args .g .columns) (c .before .before .before .before .before .before .before .before .before .before .args .g .width) (length (c .before .before .before .before .before .before .before .before .before .before .args .pixels .now)) (c .before .before .before .before .loop .c) (width-some _ (c .before .before .before .before .before .before .before .before .before .before .pre .row .shape .width)) (c .before .before .before .before .before .before .before .before .before .before .pre .row .inside) (c .before .before .before .loop-test .taken) .0;
+      inside = row-at (c .before .before .before .before .before .before .before .before .before .before .args .line .now) (c .before .before .before .before .before .before .before .before .before .before .args .g) (c .before .before .before .before .before .before .before .before .before .before .pre .row) (c .before .before .before .before .loop .c) (c .before .before .before .loop-test .taken);
     }
 
-add-image : tie.Need-add-image Inv-loop μ-loop
-add-image c =
+add-levels : tie.Need-add-levels Inv-loop μ-loop
+add-levels c =
     omega (arith, c .sample .ensures .1, power-most (c .before .before .before .before .before .before .before .before .before .before .before .args .g .stored) (c .before .before .before .before .before .before .before .before .before .before .before .pre .row .shape .stored-most), c .before .before .before .before .before .before .power .ensures)
 
-sub-image : tie.Need-sub-image Inv-loop μ-loop
-sub-image c =
+sub-levels : tie.Need-sub-levels Inv-loop μ-loop
+sub-levels c =
     omega (arith, c .before .average .ensures, c .before .before .before .before .before .before .power .ensures, average-most (c .before .before .wider .result) (c .before .before .before .before .before .before .before .before .before .before .before .args .n) (c .before .before .before .before .before .before .before .before .before .before .before .pre .some) (c .before .before .before .before .before .before .before .before .before .before .before .pre .few) (2 ^ c .before .before .before .before .before .before .before .before .before .before .before .args .g .stored - 1) (rw (c .before .before .wider .ensures) (c .before .before .before .before .before .before .before .before .before .before .before .pre .summed (c .before .before .before .before .before .loop .c + c .before .before .before .before .before .before .before .before .before .before .before .args .s) (omega (arith, c .before .before .before .before .before .before .before .before .before .before .before .pre .most, c .before .before .before .before .loop-test .taken)) .1)))
 
-shared-slice-read-image : tie.Need-shared-slice-read-image Inv-loop μ-loop
-shared-slice-read-image c =
+shared-slice-read-levels : tie.Need-shared-slice-read-levels Inv-loop μ-loop
+shared-slice-read-levels c =
     omega (arith, c .before .sample .ensures .1, power-most (c .before .before .before .before .before .before .before .before .before .before .before .before .args .g .stored) (c .before .before .before .before .before .before .before .before .before .before .before .before .pre .row .shape .stored-most), c .before .before .before .before .before .before .before .power .ensures, c .before .before .before .before .before .before .before .before .before .before .before .before .pre .shades)
 
-add-image-2 : tie.Need-add-image-2 Inv-loop μ-loop
-add-image-2 c =
-    omega (arith, c .before .before .before .before .before .before .before .before .before .before .before .before .pre .room, c .before .before .before .before .before .loop-test .taken)
-
-slice-write-image : tie.Need-slice-write-image Inv-loop μ-loop
-slice-write-image c =
-    omega (arith, ap length (c .before .before .before .before .before .before .loop .inv .1) ∙ from-length _ _ _ _, c .before .before .before .before .before .before .before .before .before .before .before .before .pre .room, c .before .before .before .before .before .loop-test .taken)
+slice-write-levels : tie.Need-slice-write-levels Inv-loop μ-loop
+slice-write-levels c =
+    omega (arith, ap length (c .before .before .before .before .before .before .loop .inv .1) ∙ painted-length _ _ _, c .before .before .before .before .before .before .before .before .before .before .before .before .pre .room, c .before .before .before .before .before .loop-test .taken)
 
 add-c : tie.Need-add-c Inv-loop μ-loop
 add-c c =
-    omega (arith, c .before .before .before .before .before .loop-test .taken)
+    omega (arith, c .before .before .before .before .before .before .before .before .before .before .before .before .pre .row .shape .columns-most, c .before .before .before .before .before .loop-test .taken)
 
 loop-less : tie.Need-loop-less Inv-loop μ-loop
 loop-less c =
@@ -109,11 +101,11 @@ loop-less c =
 
 loop-again : tie.Need-loop-again Inv-loop μ-loop
 loop-again c =
-    (omega (arith, c .before .before .before .before .before .loop-test .taken), rw (c .before .before .before .before .before .before .loop .inv .1, row-shade (c .before .before .before .before .before .before .before .before .before .before .before .before .args .g) (c .before .before .before .before .before .before .before .before .before .before .before .before .args .pixels .now) (c .before .before .before .before .before .before .before .before .before .before .before .before .args .table .now) (c .before .before .before .before .before .before .before .before .before .before .before .before .args .sums .now) (c .before .before .before .before .before .before .before .before .before .before .before .before .args .from) (c .before .before .before .before .before .before .before .before .before .before .before .before .args .n) (c .before .before .before .before .before .before .before .before .before .before .before .before .args .s) (c .before .before .before .before .before .before .loop .c) (c .before .sample .result) (c .before .before .before .before .before .before .before .power .result) (c .before .before .average .result) (c .before .sample .ensures .0) (c .before .before .before .before .before .before .before .power .ensures) (c .before .before .average .ensures ∙ ap (λ (x : ℕ). averageOf x (c .before .before .before .before .before .before .before .before .before .before .before .before .args .n)) (c .before .before .before .wider .ensures))) (from-more _ _ _ _))
+    (omega (arith, c .before .before .before .before .before .loop-test .taken), rw (c .before .before .before .before .before .before .loop .inv .1, row-shade (c .before .before .before .before .before .before .before .before .before .before .before .before .args .g) (c .before .before .before .before .before .before .before .before .before .before .before .before .args .line .now) (c .before .before .before .before .before .before .before .before .before .before .before .before .args .table .now) (c .before .before .before .before .before .before .before .before .before .before .before .before .args .sums .now) (c .before .before .before .before .before .before .before .before .before .before .before .before .args .n) (c .before .before .before .before .before .before .before .before .before .before .before .before .args .s) (c .before .before .before .before .before .before .loop .c) (c .before .sample .result) (c .before .before .before .before .before .before .before .power .result) (c .before .before .average .result) (c .before .sample .ensures .0) (c .before .before .before .before .before .before .before .power .ensures) (c .before .before .average .ensures ∙ ap (λ (x : ℕ). averageOf x (c .before .before .before .before .before .before .before .before .before .before .before .before .args .n)) (c .before .before .before .wider .ensures))) (painted-more _ _ _))
 
 same-length : tie.Need-same-length Inv-loop μ-loop
 same-length c =
-    ap length (c .before .loop .inv .1) ∙ from-length _ _ _ _
+    ap length (c .before .loop .inv .1) ∙ painted-length _ _ _
 
 returns : tie.Need-returns Inv-loop μ-loop
 returns c =
@@ -136,13 +128,11 @@ draw-row-spec =
     shared-slice-read-wider
     wider-requires
     average-requires
-    add-sample
     sample-requires
-    add-image
-    sub-image
-    shared-slice-read-image
-    add-image-2
-    slice-write-image
+    add-levels
+    sub-levels
+    shared-slice-read-levels
+    slice-write-levels
     add-c
     loop-less
     loop-again

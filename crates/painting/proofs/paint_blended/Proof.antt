@@ -1,0 +1,92 @@
+-- Invariant: row lines are painted, and the lower row is the one that line row takes as its upper.
+use Prim.Native.Nat.{_-_, _*_, _/_, _≤_}
+use lib.ListN.{length, length-take, length-drop}
+use mathlib.Core.Path.{_≡_, refl, sym, ap, _∙_}
+use native.Mathlib.Omega.{arith}
+use Rattle.value.specs.Number.{usValues}
+use Rattle.pixel.specs.Contracts.{painted, Averaged, shifted, quarterShade}
+use Rattle.pixel.proofs.Laws.{full, row-end, painted-none, painted-length}
+use Rattle.lines.specs.Contracts.{shadesOf}
+use Rattle.painting.proofs.Laws.{next-line}
+use Rattle.painting.proofs.paint_blended.Statement.{statement}
+use Rattle.painting.proofs.paint_blended.Tie as tie
+
+abbrev Inv-loop : tie.InvT-loop
+Inv-loop pixels g frame masks down right shades table upper₀ lower₀ image₀ rows columns row₀ upper lower image row =
+    (row ≤ g .rows) × ((length upper ≡ length upper₀) × ((length lower ≡ length lower₀) × (Averaged pixels g (usValues masks) (shifted (down / 4) (g .rows) row) lower × (image ≡ painted (quarterShade (shadesOf shades (g .stored)) g pixels frame (usValues masks) down right) (row * g .columns) image₀))))
+
+abbrev μ-loop : tie.MeasureT-loop
+μ-loop pixels g frame masks down right shades table upper₀ lower₀ image₀ rows columns row₀ upper lower image row =
+    rows - row
+
+loop-holds : tie.Need-loop-holds Inv-loop μ-loop
+loop-holds c =
+    (omega arith, (refl, (refl, (c .before .before .before .before .before .before .pre .1 .1 .1 .1 .1, sym (painted-none _ _ _)))))
+
+mul-at : tie.Need-mul-at Inv-loop μ-loop
+mul-at c =
+    omega (arith, row-end (c .before .before .before .before .before .before .before .before .args .g) (c .before .loop .row) (c .loop-test .taken), c .before .before .before .before .before .before .before .before .pre .0 .room)
+
+sub-quarter-line : tie.Need-sub-quarter-line Inv-loop μ-loop
+sub-quarter-line c =
+    omega (arith, row-end (c .before .before .before .before .before .before .before .before .before .before .args .g) (c .before .before .before .loop .row) (c .before .before .loop-test .taken), c .before .before .before .before .before .before .before .before .before .before .pre .0 .room, ap length (c .before .before .before .loop .inv .1 .1 .1 .1) ∙ painted-length _ _ _)
+
+part-quarter-line-start : tie.Need-part-quarter-line-start Inv-loop μ-loop
+part-quarter-line-start c =
+    omega (arith, row-end (c .before .before .before .before .before .before .before .before .before .before .args .g) (c .before .before .before .loop .row) (c .before .before .loop-test .taken), c .before .before .before .before .before .before .before .before .before .before .pre .0 .room, ap length (c .before .before .before .loop .inv .1 .1 .1 .1) ∙ painted-length _ _ _)
+
+part-quarter-line-end : tie.Need-part-quarter-line-end Inv-loop μ-loop
+part-quarter-line-end c =
+    omega (arith, row-end (c .before .before .before .before .before .before .before .before .before .before .args .g) (c .before .before .before .loop .row) (c .before .before .loop-test .taken), c .before .before .before .before .before .before .before .before .before .before .pre .0 .room, ap length (c .before .before .before .loop .inv .1 .1 .1 .1) ∙ painted-length _ _ _)
+
+quarter-line-requires : tie.Need-quarter-line-requires Inv-loop μ-loop
+quarter-line-requires c κs =
+    (record { shape = c .before .before .before .before .before .before .before .before .before .before .before .pre .0 .shape; inside = c .before .before .before .before .before .before .before .before .before .before .before .pre .0 .inside; lies = c .before .before .before .loop-test .taken; room = simp (length-take, length-drop) (omega (arith, row-end (c .before .before .before .before .before .before .before .before .before .before .before .args .g) (c .before .before .before .before .loop .row) (c .before .before .before .loop-test .taken), c .before .before .before .before .before .before .before .before .before .before .before .pre .0 .room, ap length (c .before .before .before .before .loop .inv .1 .1 .1 .1) ∙ painted-length _ _ _)) }, (c .before .before .before .before .before .before .before .before .before .before .before .pre .1 .0, (c .before .before .before .before .before .before .before .before .before .before .before .pre .1 .1 .0, (omega (arith, c .before .before .before .before .loop .inv .1 .0, c .before .before .before .before .before .before .before .before .before .before .before .pre .1 .1 .1 .0), (omega (arith, c .before .before .before .before .loop .inv .1 .1 .0, c .before .before .before .before .before .before .before .before .before .before .before .pre .1 .1 .1 .1 .0), c .before .before .before .before .loop .inv .1 .1 .1 .0)))))
+
+add-row : tie.Need-add-row Inv-loop μ-loop
+add-row c =
+    omega (arith, c .before .before .before .before .before .before .before .before .before .before .loop-test .taken, c .before .before .before .before .before .before .before .before .before .before .before .before .before .before .before .before .before .before .pre .0 .shape .rows-most)
+
+loop-less : tie.Need-loop-less Inv-loop μ-loop
+loop-less c =
+    omega (arith, c .before .before .before .before .before .before .before .before .before .before .loop-test .taken)
+
+loop-again : tie.Need-loop-again Inv-loop μ-loop
+loop-again c =
+    (omega (arith, c .before .before .before .before .before .before .before .before .before .before .loop-test .taken), (c .before .before .before .before .before .upper .given ∙ c .before .before .before .before .before .before .before .before .before .before .before .loop .inv .1 .0, (c .before .before .before .lower .given ∙ c .before .before .before .before .before .before .before .before .before .before .before .loop .inv .1 .1 .0, (c .before .before .before .before .before .before .quarter-line .ensures .1, next-line (quarterShade (shadesOf (c .before .before .before .before .before .before .before .before .before .before .before .before .before .before .before .before .before .before .args .shades) ((c .before .before .before .before .before .before .before .before .before .before .before .before .before .before .before .before .before .before .args .g) .stored)) (c .before .before .before .before .before .before .before .before .before .before .before .before .before .before .before .before .before .before .args .g) (c .before .before .before .before .before .before .before .before .before .before .before .before .before .before .before .before .before .before .args .pixels .now) (c .before .before .before .before .before .before .before .before .before .before .before .before .before .before .before .before .before .before .args .frame) (usValues (c .before .before .before .before .before .before .before .before .before .before .before .before .before .before .before .before .before .before .args .masks .now)) (c .before .before .before .before .before .before .before .before .before .before .before .before .before .before .before .before .before .before .args .down) (c .before .before .before .before .before .before .before .before .before .before .before .before .before .before .before .before .before .before .args .right)) (c .before .before .before .before .before .before .before .before .before .before .before .loop .row) (c .before .before .before .before .before .before .before .before .before .before .before .before .before .before .before .before .before .before .args .g .columns) (c .before .before .before .before .before .before .before .before .before .before .before .before .before .before .before .before .before .before .args .image .now) (c .before .before .before .before .before .before .before .before .before .before .before .loop .image) (c .before .before .before .before .before .before .quarter-line .last .1 .1 .1 .1 .1 .1 .1 .1 .1 .1 .1 .0) (omega (arith, row-end (c .before .before .before .before .before .before .before .before .before .before .before .before .before .before .before .before .before .before .args .g) (c .before .before .before .before .before .before .before .before .before .before .before .loop .row) (c .before .before .before .before .before .before .before .before .before .before .loop-test .taken), c .before .before .before .before .before .before .before .before .before .before .before .before .before .before .before .before .before .before .pre .0 .room)) (c .before .before .before .before .before .before .before .before .before .before .before .loop .inv .1 .1 .1 .1) (c .before .before .before .before .before .before .quarter-line .ensures .0)))))
+
+same-length : tie.Need-same-length Inv-loop μ-loop
+same-length c =
+    c .before .loop .inv .1 .0
+
+same-length-2 : tie.Need-same-length-2 Inv-loop μ-loop
+same-length-2 c =
+    c .before .loop .inv .1 .1 .0
+
+same-length-3 : tie.Need-same-length-3 Inv-loop μ-loop
+same-length-3 c =
+    ap length (c .before .loop .inv .1 .1 .1 .1) ∙ painted-length _ _ _
+
+returns : tie.Need-returns Inv-loop μ-loop
+returns c =
+    rw (full (c .before .loop .inv .0) (c .loop-test .left)) at (c .before .loop .inv .1 .1 .1 .1)
+
+pub paint-blended-spec : {M : Type 1} → statement M
+paint-blended-spec =
+    tie.close
+    (tie.spec
+    Inv-loop
+    μ-loop
+    loop-holds
+    mul-at
+    sub-quarter-line
+    part-quarter-line-start
+    part-quarter-line-end
+    quarter-line-requires
+    add-row
+    loop-less
+    loop-again
+    same-length
+    same-length-2
+    same-length-3
+    returns)
