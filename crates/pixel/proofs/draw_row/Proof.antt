@@ -1,6 +1,6 @@
-use Rattle.pixel.specs.Pixel.{averageOf}
 -- Invariant: c levels are drawn. An average of samples is no larger than a sample can be, so that the place in the table is not
 -- below 0, and it stays below 2 × 2^stored.
+use Rattle.pixel.specs.Pixel.{averageOf}
 use mathlib.Core.Path.{_≡_, refl, ap, _∙_}
 use Prim.Native.Nat.{ℕ, _+_, _-_, _*_, _^_, _≤_}
 use native.Mathlib.Nat.{div-le-self}

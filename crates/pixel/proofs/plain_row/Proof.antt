@@ -1,5 +1,5 @@
-use borrow.Author.Needs.{needs}
 -- Invariant: c levels are drawn.
+use borrow.Author.Needs.{needs}
 use mathlib.Core.Path.{_≡_, refl, ap, _∙_}
 use Prim.Native.Nat.{ℕ, _-_, _≤_}
 use native.Mathlib.Omega.{arith}
