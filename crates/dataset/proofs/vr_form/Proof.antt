@@ -25,7 +25,8 @@ shr-result c = search needs
 
 returns-2 : tie.Need-returns-2
 returns-2 c =
-    let x : ℕ = c .before .before .before .args .vr in
+    let entry = c .before .before .before in
+    let x : ℕ = entry .args .vr in
     let e : x / 256 * 256 + 64 + x % 256 % 32 ≡ x = omega (arith, c .before .if2 .taken) in
     c .forms-after .ensures (x % 256 % 32) (omega arith) ∙ ap formOf e
 

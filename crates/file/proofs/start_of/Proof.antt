@@ -38,7 +38,8 @@ returns-3 c =
 returns-4 : tie.Need-returns-4
 unfolding startOf
 returns-4 c =
-    promised (rw (← c .before .before .before .read-head .ensures .0, c .before .from .given .1))
+    let at-read-head = c .before .before .before in
+    promised (rw (← at-read-head .read-head .ensures .0, c .before .from .given .1))
 
 pub start-of-spec : {M : Type 1} → statement M
 start-of-spec =

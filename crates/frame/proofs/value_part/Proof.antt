@@ -39,7 +39,8 @@ wide-requires-2 c κs = search needs
 
 add-end : tie.Need-add-end
 add-end c =
-    omega (arith, c .before .before .wide .ensures, c .wide2 .ensures, node-laws.value-within _ _ (c .before .before .before .before .before .before .pre .0) _ (c .before .before .before .before .before .before .pre .1))
+    let entry = c .before .before .before .before .before .before in
+    omega (arith, c .before .before .wide .ensures, c .wide2 .ensures, node-laws.value-within _ _ (entry .pre .0) _ (entry .pre .1))
 
 sub-result : tie.Need-sub-result
 sub-result c = search needs
@@ -49,13 +50,16 @@ part-result-start c = search needs
 
 part-result-end : tie.Need-part-result-end
 part-result-end c =
-    omega (arith, c .before .before .wide .ensures, c .wide2 .ensures, node-laws.value-within _ _ (c .before .before .before .before .before .before .pre .0) _ (c .before .before .before .before .before .before .pre .1))
+    let entry = c .before .before .before .before .before .before in
+    omega (arith, c .before .before .wide .ensures, c .wide2 .ensures, node-laws.value-within _ _ (entry .pre .0) _ (entry .pre .1))
 
 returns : tie.Need-returns
 returns c =
-    let a = c .before .before .before .wide .ensures ∙ node-laws.number _ _ (c .before .before .before .before .before .before .before .pre .0) _ (c .before .before .before .before .before .before .before .pre .1) 3 (omega arith) in
-    let b = c .before .wide2 .ensures ∙ node-laws.number _ _ (c .before .before .before .before .before .before .before .pre .0) _ (c .before .before .before .before .before .before .before .pre .1) 4 (omega arith) in
-    laws.part-range _ _ _ _ _ _ a b refl (omega arith) refl (omega (arith, c .before .before .before .wide .ensures, c .before .wide2 .ensures, node-laws.value-within _ _ (c .before .before .before .before .before .before .before .pre .0) _ (c .before .before .before .before .before .before .before .pre .1)))
+    let at-wide = c .before .before .before in
+    let entry = at-wide .before .before .before .before in
+    let a = at-wide .wide .ensures ∙ node-laws.number _ _ (entry .pre .0) _ (entry .pre .1) 3 (omega arith) in
+    let b = c .before .wide2 .ensures ∙ node-laws.number _ _ (entry .pre .0) _ (entry .pre .1) 4 (omega arith) in
+    laws.part-range _ _ _ _ _ _ a b refl (omega arith) refl (omega (arith, at-wide .wide .ensures, c .before .wide2 .ensures, node-laws.value-within _ _ (entry .pre .0) _ (entry .pre .1)))
 
 pub value-part-spec : {M : Type 1} → statement M
 value-part-spec =

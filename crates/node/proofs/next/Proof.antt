@@ -26,13 +26,15 @@ wide-requires c κs = search needs
 
 add-result-2 : tie.Need-add-result-2
 add-result-2 c =
-    let e = c .wide .ensures ∙ laws.descendants-is (c .before .before .before .before .args .bytes .now) (c .before .before .before .before .args .rows .now) (c .before .before .before .before .pre .0) (c .before .before .before .before .args .i) (c .before .before .before .before .pre .1) in
-    omega (arith, e, laws.next-within (c .before .before .before .before .args .bytes .now) (c .before .before .before .before .args .rows .now) (c .before .before .before .before .pre .0) (c .before .before .before .before .args .i) (c .before .before .before .before .pre .1), c .before .before .before .before .pre .0 .few)
+    let entry = c .before .before .before .before in
+    let e = c .wide .ensures ∙ laws.descendants-is (entry .args .bytes .now) (entry .args .rows .now) (entry .pre .0) (entry .args .i) (entry .pre .1) in
+    omega (arith, e, laws.next-within (entry .args .bytes .now) (entry .args .rows .now) (entry .pre .0) (entry .args .i) (entry .pre .1), entry .pre .0 .few)
 
 returns : tie.Need-returns
 returns c =
-    let e = c .wide .ensures ∙ laws.descendants-is (c .before .before .before .before .args .bytes .now) (c .before .before .before .before .args .rows .now) (c .before .before .before .before .pre .0) (c .before .before .before .before .args .i) (c .before .before .before .before .pre .1) in
-    omega (arith, e, laws.next-within (c .before .before .before .before .args .bytes .now) (c .before .before .before .before .args .rows .now) (c .before .before .before .before .pre .0) (c .before .before .before .before .args .i) (c .before .before .before .before .pre .1))
+    let entry = c .before .before .before .before in
+    let e = c .wide .ensures ∙ laws.descendants-is (entry .args .bytes .now) (entry .args .rows .now) (entry .pre .0) (entry .args .i) (entry .pre .1) in
+    omega (arith, e, laws.next-within (entry .args .bytes .now) (entry .args .rows .now) (entry .pre .0) (entry .args .i) (entry .pre .1))
 
 pub next-spec : {M : Type 1} → statement M
 next-spec =

@@ -22,7 +22,8 @@ wide-requires c κs = search needs
 
 returns : tie.Need-returns
 returns c =
-    let start = c .before .before .before .before in
+    let earlier = c .before .before .before .before in
+    let start = earlier in
     c .wide .ensures ∙ laws.parent-is (start .args .bytes .now) (start .args .rows .now) (start .pre .0) (start .args .i) (start .pre .1)
 
 pub parent-spec : {M : Type 1} → statement M

@@ -29,16 +29,19 @@ slice-aggregate-result c = search needs
 
 returns : tie.Need-returns
 returns c =
-    laws.value-none (c .before .before .before .before .before .before .args .bytes .now) (c .before .before .before .before .before .before .args .rows .now) (c .before .before .before .before .before .before .pre .0) (c .before .before .before .before .before .before .args .i) (c .before .before .before .before .before .before .pre .1)
-    (inl (sym (laws.vr-is (c .before .before .before .before .before .before .args .bytes .now) (c .before .before .before .before .before .before .args .rows .now) (c .before .before .before .before .before .before .pre .0) (c .before .before .before .before .before .before .args .i) (c .before .before .before .before .before .before .pre .1)) ∙ sym (c .before .before .wide .ensures) ∙ c .before .if1 .taken))
+    let entry = c .before .before .before .before .before .before in
+    laws.value-none (entry .args .bytes .now) (entry .args .rows .now) (entry .pre .0) (entry .args .i) (entry .pre .1)
+    (inl (sym (laws.vr-is (entry .args .bytes .now) (entry .args .rows .now) (entry .pre .0) (entry .args .i) (entry .pre .1)) ∙ sym (c .before .before .wide .ensures) ∙ c .before .if1 .taken))
 
 slice-aggregate-result-2 : tie.Need-slice-aggregate-result-2
 slice-aggregate-result-2 c = search needs
 
 returns-2 : tie.Need-returns-2
 returns-2 c =
-    laws.value-none (c .before .before .before .before .before .before .before .args .bytes .now) (c .before .before .before .before .before .before .before .args .rows .now) (c .before .before .before .before .before .before .before .pre .0) (c .before .before .before .before .before .before .before .args .i) (c .before .before .before .before .before .before .before .pre .1)
-    (inr (sym (laws.vr-is (c .before .before .before .before .before .before .before .args .bytes .now) (c .before .before .before .before .before .before .before .args .rows .now) (c .before .before .before .before .before .before .before .pre .0) (c .before .before .before .before .before .before .before .args .i) (c .before .before .before .before .before .before .before .pre .1)) ∙ sym (c .before .before .before .wide .ensures) ∙ c .before .if2 .taken))
+    let at-wide = c .before .before .before in
+    let entry = at-wide .before .before .before .before in
+    laws.value-none (entry .args .bytes .now) (entry .args .rows .now) (entry .pre .0) (entry .args .i) (entry .pre .1)
+    (inr (sym (laws.vr-is (entry .args .bytes .now) (entry .args .rows .now) (entry .pre .0) (entry .args .i) (entry .pre .1)) ∙ sym (at-wide .wide .ensures) ∙ c .before .if2 .taken))
 
 mul-wide-3 : tie.Need-mul-wide-3
 mul-wide-3 c = search needs
@@ -72,7 +75,8 @@ wide-requires-3 c κs = search needs
 
 add-end : tie.Need-add-end
 add-end c =
-    omega (arith, c .before .before .wide2 .ensures, c .wide3 .ensures, laws.value-within (c .before .before .before .before .before .before .before .before .before .before .args .bytes .now) (c .before .before .before .before .before .before .before .before .before .before .args .rows .now) (c .before .before .before .before .before .before .before .before .before .before .pre .0) (c .before .before .before .before .before .before .before .before .before .before .args .i) (c .before .before .before .before .before .before .before .before .before .before .pre .1))
+    let entry = c .before .before .before .before .before .before .before .before .before .before in
+    omega (arith, c .before .before .wide2 .ensures, c .wide3 .ensures, laws.value-within (entry .args .bytes .now) (entry .args .rows .now) (entry .pre .0) (entry .args .i) (entry .pre .1))
 
 sub-result : tie.Need-sub-result
 sub-result c = search needs
@@ -82,16 +86,22 @@ part-result-start c = search needs
 
 part-result-end : tie.Need-part-result-end
 part-result-end c =
-    omega (arith, c .before .before .wide2 .ensures, c .wide3 .ensures, laws.value-within (c .before .before .before .before .before .before .before .before .before .before .args .bytes .now) (c .before .before .before .before .before .before .before .before .before .before .args .rows .now) (c .before .before .before .before .before .before .before .before .before .before .pre .0) (c .before .before .before .before .before .before .before .before .before .before .args .i) (c .before .before .before .before .before .before .before .before .before .before .pre .1))
+    let entry = c .before .before .before .before .before .before .before .before .before .before in
+    omega (arith, c .before .before .wide2 .ensures, c .wide3 .ensures, laws.value-within (entry .args .bytes .now) (entry .args .rows .now) (entry .pre .0) (entry .args .i) (entry .pre .1))
 
 returns-3 : tie.Need-returns-3
 returns-3 c =
-    let s = c .before .before .before .before .before .before .before .before .before .before .before .args .bytes .now in
-    let rows = c .before .before .before .before .before .before .before .before .before .before .before .args .rows .now in
-    let v = laws.vr-is s rows (c .before .before .before .before .before .before .before .before .before .before .before .pre .0) (c .before .before .before .before .before .before .before .before .before .before .before .args .i) (c .before .before .before .before .before .before .before .before .before .before .before .pre .1) in
-    let e : getD rows (7 * c .before .before .before .before .before .before .before .before .before .before .before .args .i + 3) 0 + getD rows (7 * c .before .before .before .before .before .before .before .before .before .before .before .args .i + 4) 0 - getD rows (7 * c .before .before .before .before .before .before .before .before .before .before .before .args .i + 3) 0 ≡ getD rows (7 * c .before .before .before .before .before .before .before .before .before .before .before .args .i + 4) 0 = omega arith in
-    rw (c .before .before .before .wide2 .ensures, c .before .wide3 .ensures, e)
-    (laws.value-part s rows (c .before .before .before .before .before .before .before .before .before .before .before .pre .0) (c .before .before .before .before .before .before .before .before .before .before .before .args .i) (c .before .before .before .before .before .before .before .before .before .before .before .pre .1) (λ q. c .before .before .before .before .before .before .if1 .left (c .before .before .before .before .before .before .before .wide .ensures ∙ v ∙ q)) (λ q. c .before .before .before .before .before .if2 .left (c .before .before .before .before .before .before .before .wide .ensures ∙ v ∙ q)))
+    let at-wide2 = c .before .before .before in
+    let at-if2 = at-wide2 .before .before in
+    let at-if1 = at-if2 .before in
+    let at-wide = at-if1 .before in
+    let entry = at-wide .before .before .before .before in
+    let s = entry .args .bytes .now in
+    let rows = entry .args .rows .now in
+    let v = laws.vr-is s rows (entry .pre .0) (entry .args .i) (entry .pre .1) in
+    let e : getD rows (7 * entry .args .i + 3) 0 + getD rows (7 * entry .args .i + 4) 0 - getD rows (7 * entry .args .i + 3) 0 ≡ getD rows (7 * entry .args .i + 4) 0 = omega arith in
+    rw (at-wide2 .wide2 .ensures, c .before .wide3 .ensures, e)
+    (laws.value-part s rows (entry .pre .0) (entry .args .i) (entry .pre .1) (λ q. at-if1 .if1 .left (at-wide .wide .ensures ∙ v ∙ q)) (λ q. at-if2 .if2 .left (at-wide .wide .ensures ∙ v ∙ q)))
 
 pub value-spec : {M : Type 1} → statement M
 value-spec =
