@@ -153,9 +153,7 @@ loop-again t c =
 
 add-put-members : (t : ℕ) → Needed lts.Need-add-put-members t
 add-put-members t c =
-    let at-loop = c .before .before .before .before .before .before .before .before .before .before .before .before in
-    let entry = at-loop .before .before .before .before in
-    omega (arith, turn-known (entry .args .bytes .now) (entry .pre .1 .1) (at-loop .loop .inv) (omega arith), entry .pre .1 .0 .table .few)
+    omega (arith, turn-known (c .before .before .before .before .before .before .before .before .before .before .before .before .before .before .before .before .args .bytes .now) (c .before .before .before .before .before .before .before .before .before .before .before .before .before .before .before .before .pre .1 .1) (c .before .before .before .before .before .before .before .before .before .before .before .before .loop .inv) (omega arith), c .before .before .before .before .before .before .before .before .before .before .before .before .before .before .before .before .pre .1 .0 .table .few)
 
 put-members-requires : (t : ℕ) → Needed lts.Need-put-members-requires t
 put-members-requires t c κs =

@@ -80,11 +80,10 @@ loop2-holds c =
     let at-loop-test = c .before .before .before in
     let at-loop = at-loop-test .before in
     let at-frame-items = at-loop .before .before in
-    let at-frame-total = at-frame-items .before .before in
-    (
-  rw (c .before .first-frame .ensures, c .end-frame .ensures .0, at-frame-total .frame-total .ensures .0) (sym (loops.rules-start _ _ (at-loop-test .loop-test .taken)) ∙ at-loop .loop .inv .1 .1),
-  (omega arith, loops.along-start _ (c .before .first-frame .result) (at-frame-items .frame-items .ensures)),
-)
+    let at-frame-total = at-frame-items .before .before in (
+      rw (c .before .first-frame .ensures, c .end-frame .ensures .0, at-frame-total .frame-total .ensures .0) (sym (loops.rules-start _ _ (at-loop-test .loop-test .taken)) ∙ at-loop .loop .inv .1 .1),
+      (omega arith, loops.along-start _ (c .before .first-frame .result) (at-frame-items .frame-items .ensures)),
+    )
 
 rule-holds-requires :
     tie.Need-rule-holds-requires Inv-loop2 μ-loop2 Inv-loop μ-loop Inv-judge μ-judge
@@ -95,20 +94,19 @@ rule-holds-requires c κs =
     let at-loop = at-loop-test .before in
     let at-shared-item = at-loop .before .before .before in
     let at-frame-total = at-shared-item .before in
-    let entry = at-frame-total .before .before .before in
-    (
-  entry .pre,
-  (
-    at-shared-item .shared-item .ensures .1,
-    (
-      at-shared-item .shared-item .ensures .0,
+    let entry = at-frame-total .before .before .before in (
+      entry .pre,
       (
-        at-shared-ok .shared-ok .ensures,
-        loops.asked-at _ (at-frame-total .frame-total .result) (at-loop .loop .rule) (c .before .loop2 .frame) (at-loop .loop .inv .0) (at-loop-test .loop-test .taken) (omega (arith, at-first-frame .first-frame .ensures, c .before .loop2 .inv .1 .0)) (omega (arith, c .before .before .end-frame .ensures .0, c .loop2-test .taken)) (rw (at-first-frame .first-frame .ensures) at (c .before .loop2 .inv .1 .1)),
+        at-shared-item .shared-item .ensures .1,
+        (
+          at-shared-item .shared-item .ensures .0,
+          (
+            at-shared-ok .shared-ok .ensures,
+            loops.asked-at _ (at-frame-total .frame-total .result) (at-loop .loop .rule) (c .before .loop2 .frame) (at-loop .loop .inv .0) (at-loop-test .loop-test .taken) (omega (arith, at-first-frame .first-frame .ensures, c .before .loop2 .inv .1 .0)) (omega (arith, c .before .before .end-frame .ensures .0, c .loop2-test .taken)) (rw (at-first-frame .first-frame .ensures) at (c .before .loop2 .inv .1 .1)),
+          ),
+        ),
       ),
-    ),
-  ),
-)
+    )
 
 advance-requires : tie.Need-advance-requires Inv-loop2 μ-loop2 Inv-loop μ-loop Inv-judge μ-judge
 advance-requires c κs =
@@ -128,11 +126,10 @@ loop2-again : tie.Need-loop2-again Inv-loop2 μ-loop2 Inv-loop μ-loop Inv-judge
 loop2-again c =
     let at-loop2-test = c .before .before .before in
     let at-loop2 = at-loop2-test .before in
-    let at-first-frame = at-loop2 .before .before in
-    (
-  sym (loops.frames-pass _ _ _ _ _ (at-loop2-test .loop2-test .taken) (sym (c .before .before .rule-holds .ensures) ∙ c .before .if1 .taken)) ∙ at-loop2 .loop2 .inv .0,
-  (omega (arith, at-loop2 .loop2 .inv .1 .0), loops.along-more _ (at-first-frame .first-frame .result) (at-loop2 .loop2 .frame) (at-loop2 .loop2 .inv .1 .0) (at-loop2 .loop2 .inv .1 .1) (c .advance .ensures)),
-)
+    let at-first-frame = at-loop2 .before .before in (
+      sym (loops.frames-pass _ _ _ _ _ (at-loop2-test .loop2-test .taken) (sym (c .before .before .rule-holds .ensures) ∙ c .before .if1 .taken)) ∙ at-loop2 .loop2 .inv .0,
+      (omega (arith, at-loop2 .loop2 .inv .1 .0), loops.along-more _ (at-first-frame .first-frame .result) (at-loop2 .loop2 .frame) (at-loop2 .loop2 .inv .1 .0) (at-loop2 .loop2 .inv .1 .1) (c .advance .ensures)),
+    )
 
 add-rule : tie.Need-add-rule Inv-loop2 μ-loop2 Inv-loop μ-loop Inv-judge μ-judge
 add-rule c =

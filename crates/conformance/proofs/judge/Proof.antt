@@ -5,7 +5,7 @@ use Rattle.node.proofs.After.{after-reading}
 use Prim.Native.Nat.{_*_}
 use lib.Seq.{length-take-le}
 use Rattle.conformance.specs.Judging.{judgeOf}
-use Rattle.dataset.proofs.Promised.{promised}
+use Rattle.basics.proofs.Promised.{promised}
 use borrow.Author.Needs.{needs}
 use Rattle.conformance.proofs.judge.Statement.{statement}
 use Rattle.conformance.proofs.judge.Tie as tie

@@ -1,7 +1,7 @@
 -- The walk is lent no room, so that it only counts.
 use Rattle.dataset.proofs.Level as level
 use Rattle.dataset.proofs.Whole as whole
-use Rattle.dataset.proofs.Promised.{promised}
+use Rattle.basics.proofs.Promised.{promised}
 use borrow.Author.Needs.{needs}
 use Rattle.dataset.proofs.count.Statement.{statement}
 use Rattle.dataset.proofs.count.Tie as tie

@@ -7,7 +7,7 @@ use Rattle.node.specs.Nodes.{nodesOf}
 use Rattle.conformance.specs.declared.JudgeAnswer.the-variants as judged
 use Rattle.display.specs.Show.{pictureOf, imageBy}
 use Rattle.display.proofs.Judged as laws
-use Rattle.dataset.proofs.Promised.{promised}
+use Rattle.basics.proofs.Promised.{promised}
 use borrow.Author.Needs.{needs}
 use Rattle.display.proofs.show.Statement.{statement}
 use Rattle.display.proofs.show.Tie as tie

@@ -11,7 +11,7 @@ use Rattle.meta.specs.Meta.{part}
 use Rattle.meta.specs.Contracts.{MetaWithin}
 use Rattle.file.specs.File.{judgeFileOf, rowsLeft}
 use Rattle.file.specs.Searches.{searchesFileOf, countedPart}
-use Rattle.dataset.proofs.Promised.{promised}
+use Rattle.basics.proofs.Promised.{promised}
 use borrow.Author.Needs.{needs}
 use Rattle.file.proofs.judge_file_counted.Statement.{statement}
 use Rattle.file.proofs.judge_file_counted.Tie as tie

@@ -10,7 +10,7 @@ use Rattle.meta.specs.declared.Meta.{Meta}
 use Rattle.meta.specs.Meta.{part}
 use Rattle.meta.specs.Contracts.{MetaWithin}
 use Rattle.file.specs.File.{readPart, readFileOf, rowsLeft}
-use Rattle.dataset.proofs.Promised.{promised}
+use Rattle.basics.proofs.Promised.{promised}
 use borrow.Author.Needs.{needs}
 use Rattle.file.proofs.read_file.Statement.{statement}
 use Rattle.file.proofs.read_file.Tie as tie

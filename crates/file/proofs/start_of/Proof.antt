@@ -1,6 +1,6 @@
 -- Each answer of the head leads to its own.
 use Rattle.file.specs.File.{startOf}
-use Rattle.dataset.proofs.Promised.{promised}
+use Rattle.basics.proofs.Promised.{promised}
 use borrow.Author.Needs.{needs}
 use Rattle.file.proofs.start_of.Statement.{statement}
 use Rattle.file.proofs.start_of.Tie as tie

@@ -8,7 +8,7 @@ use Rattle.conformance.specs.declared.JudgeAnswer.the-variants as judged
 use Rattle.linear.specs.Answer.{entriesOf, valuesBy}
 use Rattle.display.proofs.Judged as laws
 use Rattle.linear.proofs.Answers as answers
-use Rattle.dataset.proofs.Promised.{promised}
+use Rattle.basics.proofs.Promised.{promised}
 use borrow.Author.Needs.{needs}
 use Rattle.linear.proofs.linear.Statement.{statement}
 use Rattle.linear.proofs.linear.Tie as tie

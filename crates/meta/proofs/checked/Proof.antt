@@ -43,11 +43,10 @@ returns c =
     let at-is-single2 = at-if2 .before in
     let at-if1 = at-is-single2 .before .before in
     let at-is-single = at-if1 .before in
-    let entry = at-is-single .before .before .before in
-    (
-  rw (← at-is-single .is-single .ensures, at-if1 .if1 .taken, ← at-is-single2 .is-single2 .ensures, at-if2 .if2 .taken, ← c .before .is-uid .ensures, c .if3 .taken) (ap (λ (x : ℕ). Good x (entry .args .a) (entry .args .b)) (entry .pre .0 .0)),
-  omega (arith, entry .pre),
-)
+    let entry = at-is-single .before .before .before in (
+      rw (← at-is-single .is-single .ensures, at-if1 .if1 .taken, ← at-is-single2 .is-single2 .ensures, at-if2 .if2 .taken, ← c .before .is-uid .ensures, c .if3 .taken) (ap (λ (x : ℕ). Good x (entry .args .a) (entry .args .b)) (entry .pre .0 .0)),
+      omega (arith, entry .pre),
+    )
 
 returns-2 : tie.Need-returns-2
 returns-2 c =

@@ -26,8 +26,7 @@ loop-holds c =
 
 mul-at : tie.Need-mul-at Inv-loop μ-loop
 mul-at c =
-    let entry = c .before .before .before .before .before .before .before .before in
-    omega (arith, row-end (entry .args .g) (c .before .loop .row) (c .loop-test .taken), entry .pre .0 .room)
+    omega (arith, row-end (c .before .before .before .before .before .before .before .before .args .g) (c .before .loop .row) (c .loop-test .taken), c .before .before .before .before .before .before .before .before .pre .0 .room)
 
 sub-quarter-line : tie.Need-sub-quarter-line Inv-loop μ-loop
 sub-quarter-line c =

@@ -86,14 +86,13 @@ loop-again c =
     let at-loop-test = at-us-value .before in
     let at-loop = at-loop-test .before in
     let at-fill = at-loop .before .before .before in
-    let entry = at-fill .before .before .before .before .before .before in
-    (
-  omega (arith, at-loop .loop .inv .0),
-  (
-    ap length (c .before .before .add-row .ensures) ∙ painted-length _ _ _ ∙ at-loop .loop .inv .1 .0,
-    rw (c .before .before .add-row .ensures) (summed-more (entry .args .pixels .now) (entry .args .g) (usValues (entry .args .masks .now)) (entry .args .row) (at-loop .loop .k) (at-us-value .us-value .result) _ _ (at-loop-test .loop-test .taken) (at-loop .loop .inv .0) (at-us-value .us-value .ensures .0) refl (omega (arith, at-loop .loop .inv .1 .0, ap length (at-fill .fill .ensures) ∙ from-length _ _ _ _, entry .pre .1 .1 .1)) (at-loop .loop .inv .1 .1)),
-  ),
-)
+    let entry = at-fill .before .before .before .before .before .before in (
+      omega (arith, at-loop .loop .inv .0),
+      (
+        ap length (c .before .before .add-row .ensures) ∙ painted-length _ _ _ ∙ at-loop .loop .inv .1 .0,
+        rw (c .before .before .add-row .ensures) (summed-more (entry .args .pixels .now) (entry .args .g) (usValues (entry .args .masks .now)) (entry .args .row) (at-loop .loop .k) (at-us-value .us-value .result) _ _ (at-loop-test .loop-test .taken) (at-loop .loop .inv .0) (at-us-value .us-value .ensures .0) refl (omega (arith, at-loop .loop .inv .1 .0, ap length (at-fill .fill .ensures) ∙ from-length _ _ _ _, entry .pre .1 .1 .1)) (at-loop .loop .inv .1 .1)),
+      ),
+    )
 
 same-length : tie.Need-same-length Inv-loop μ-loop
 same-length c =

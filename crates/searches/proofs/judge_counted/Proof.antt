@@ -1,6 +1,6 @@
 -- Judging leaves the rows in the buffer, and the searches are added up over just those.
 use Rattle.searches.proofs.After.{rows-left, counted-is}
-use Rattle.dataset.proofs.Promised.{promised}
+use Rattle.basics.proofs.Promised.{promised}
 use borrow.Author.Needs.{needs}
 use Rattle.searches.proofs.judge_counted.Statement.{statement}
 use Rattle.searches.proofs.judge_counted.Tie as tie

@@ -1,7 +1,7 @@
 -- The answer is true only where both have the same sign and the same number.
 use borrow.Author.Tests.{eqb-true}
 use Rattle.value.specs.declared.Signed.the-variants as signed
-use Rattle.verdict.proofs.Tests.{false-is-true}
+use Rattle.basics.proofs.Tests.{false-is-true}
 use mathlib.Core.Path.{sym, ap, _∙_}
 use borrow.Author.Needs.{needs}
 use Rattle.sheet.proofs.same_signed.Statement.{statement}

@@ -1,5 +1,5 @@
 -- A window is its centre, its width and its function, and the answer is true only where all three are the same.
-use Rattle.verdict.proofs.Tests.{false-is-true}
+use Rattle.basics.proofs.Tests.{false-is-true}
 use Rattle.sheet.proofs.Scenes.{windows-same}
 use borrow.Author.Needs.{needs}
 use Rattle.sheet.proofs.same_window.Statement.{statement}

@@ -1,5 +1,5 @@
 -- A table is filled from this very window or is not used; without one, fewer cells were spent than it has places.
-use Rattle.verdict.proofs.Tests.{false-is-true}
+use Rattle.basics.proofs.Tests.{false-is-true}
 use mathlib.Core.Path.{refl}
 use native.Mathlib.Omega.{arith}
 use borrow.Author.Needs.{needs}

@@ -10,7 +10,7 @@ use Rattle.sheet.specs.Answer.{acceptedAnswer, withSheet}
 use Rattle.sheet.proofs.Answers as answers
 use mathlib.Core.Path.{sym, ap, _∙_}
 use native.Mathlib.Omega.{arith}
-use Rattle.dataset.proofs.Promised.{promised}
+use Rattle.basics.proofs.Promised.{promised}
 use borrow.Author.Needs.{needs}
 use Rattle.sheet.proofs.whole.Statement.{statement}
 use Rattle.sheet.proofs.whole.Tie as tie

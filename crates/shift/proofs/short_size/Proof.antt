@@ -21,11 +21,10 @@ nearest-u32-to-f32-requires c κs = search needs
 returns : tie.Need-returns
 returns c =
     let at-if1 = c .before .before .before in
-    let entry = at-if1 .before in
-    (
-  size-by (entry .args .y) (entry .good .0 .1) (low _ (entry .pre) (at-if1 .if1 .taken)) _ _ true (c .before .before .truncating-f32-to-u64 .ensures) (c .before .nearest-u32-to-f32 .ensures) (c .if2 .taken),
-  omega (arith, c .before .before .truncating-f32-to-u64 .ensures, cut-low (fourTimes (entry .args .y)) (four-times _ (entry .good .0 .1) (low _ (entry .pre) (at-if1 .if1 .taken)) .0)),
-)
+    let entry = at-if1 .before in (
+      size-by (entry .args .y) (entry .good .0 .1) (low _ (entry .pre) (at-if1 .if1 .taken)) _ _ true (c .before .before .truncating-f32-to-u64 .ensures) (c .before .nearest-u32-to-f32 .ensures) (c .if2 .taken),
+      omega (arith, c .before .before .truncating-f32-to-u64 .ensures, cut-low (fourTimes (entry .args .y)) (four-times _ (entry .good .0 .1) (low _ (entry .pre) (at-if1 .if1 .taken)) .0)),
+    )
 
 returns-2 : tie.Need-returns-2
 returns-2 c =

@@ -2,7 +2,7 @@
 use mathlib.Core.Path.{sym, _∙_}
 use borrow.Author.Tests.{le-leb, lt-leb}
 use Rattle.slip.specs.Slip.{readOf}
-use Rattle.dataset.proofs.Promised.{promised}
+use Rattle.basics.proofs.Promised.{promised}
 use borrow.Author.Needs.{needs}
 use Rattle.slip.proofs.read_slip.Statement.{statement}
 use Rattle.slip.proofs.read_slip.Tie as tie

@@ -3,7 +3,7 @@ use mathlib.Core.Path.{refl, sym, _∙_}
 use borrow.Author.Tests.{le-leb, lt-leb}
 use Rattle.verdict.specs.Verdict.{writable}
 use Rattle.slip.specs.Slip.{writeOf, slipBuffer}
-use Rattle.dataset.proofs.Promised.{promised}
+use Rattle.basics.proofs.Promised.{promised}
 use borrow.Author.Needs.{needs}
 use Rattle.slip.proofs.write_slip.Statement.{statement}
 use Rattle.slip.proofs.write_slip.Tie as tie

@@ -5,10 +5,10 @@ use native.Mathlib.Omega.{arith}
 use lib.Dec.{eqb}
 use borrow.Author.Needs.{needs}
 use borrow.Author.Tests.{ne-eqb}
-use Rattle.dataset.specs.Vr.{formOf, listed}
-use Rattle.dataset.proofs.Forms.{no-form}
-use Rattle.dataset.proofs.vr_form.Statement.{statement}
-use Rattle.dataset.proofs.vr_form.Tie as tie
+use Rattle.basics.specs.Vr.{formOf, listed}
+use Rattle.basics.proofs.Forms.{no-form}
+use Rattle.basics.proofs.vr_form.Statement.{statement}
+use Rattle.basics.proofs.vr_form.Tie as tie
 
 returns : tie.Need-returns
 unfolding formOf listed
