@@ -174,22 +174,12 @@ fn has_window(bytes: &[u8], rows: &[u32], item: usize) -> bool
     requires { ⌜ Table (now bytes) (now rows) × (item < length (nodesOf (now bytes))) ⌝ }
     ensures { λ r. ⌜ r ≡ hasWindow (nodesOf (now (bytes .entry))) (inside (nodesOf (now (bytes .entry))) item) ⌝ }
 {
-    let Num::Is(c) = element::find_vr_item(
-        bytes,
-        rows,
-        item,
-        element::tags::WINDOW_CENTER,
-        vrs::DS,
-    ) else {
+    let Num::Is(c) = element::find_vr_item(bytes, rows, item, element::tags::WINDOW_CENTER, vrs::DS)
+    else {
         return false;
     };
-    let Num::Is(w) = element::find_vr_item(
-        bytes,
-        rows,
-        item,
-        element::tags::WINDOW_WIDTH,
-        vrs::DS,
-    ) else {
+    let Num::Is(w) = element::find_vr_item(bytes, rows, item, element::tags::WINDOW_WIDTH, vrs::DS)
+    else {
         return false;
     };
     is_window(
