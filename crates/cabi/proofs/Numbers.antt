@@ -13,7 +13,7 @@ use borrow.Author.Tests.{le-leb, lt-leb}
 use Rattle.dataset.specs.declared.ReadAnswer.{ReadAnswer}
 use Rattle.dataset.specs.declared.ReadAnswer.the-variants as readAnswer
 use Rattle.dataset.specs.Reading.{Reading, tooLarge, refusedAt, read as reads, readingOf}
-use Rattle.dataset.specs.Fields.{codeAlone, counted}
+use Rattle.basics.specs.Fields.{codeAlone, counted}
 use Rattle.dataset.specs.Answer.{answerOf, countOf}
 use Rattle.dataset.specs.Answer as reading
 use Rattle.dataset.proofs.Laws.{Small as SmallAnswer, answer-small}

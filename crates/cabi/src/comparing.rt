@@ -6,7 +6,7 @@ use crate::done_with;
 use crate::refused_at;
 use compare::CompareAnswer;
 ghost use mathlib.Core.Path.{_≡_};
-ghost use Rattle.dataset.specs.Fields.{codeAlone};
+ghost use Rattle.basics.specs.Fields.{codeAlone};
 ghost use Rattle.dataset.specs.Reading.{readingOf};
 ghost use Rattle.dataset.specs.Answer.{bufferOf};
 ghost use Rattle.compare.specs.Answer.{compareOf, plain, fieldsOf};

@@ -11,7 +11,7 @@ mod show;
 mod slips;
 
 ghost use mathlib.Core.Path.{_≡_};
-ghost use Rattle.dataset.specs.Fields.{codeAlone, placed, counted, broken};
+ghost use Rattle.basics.specs.Fields.{codeAlone, placed, counted, broken};
 ghost use Rattle.cabi.specs.Host.{hosted, withSearches, Fits32, version};
 pub use comparing::Compared;
 pub use comparing::xa_compare;

@@ -11,14 +11,15 @@ use lib.Seq.{take-at, drop-at, drop-drop, getD-drop}
 use Rattle.dataset.specs.declared.Cursor.{Cursor}
 use Rattle.dataset.specs.declared.Head.{Head}
 use Rattle.dataset.specs.declared.Head.the-variants as head
-use Rattle.dataset.specs.Bytes.{le16, le32, tagAt, vrAt}
-use Rattle.dataset.specs.Vr.{formOf, SQ}
+use Rattle.basics.specs.Bytes.{le16, le32, tagAt, vrAt, le}
+use Rattle.basics.specs.Vr.{formOf, SQ}
 use Rattle.dataset.specs.Header.{when, undefined, itemTag, cursor, headerBy, levelBy, definedBy, longBy, typedAt, taggedAt, sizedBy, memberAt, elementAt, itemAt}
 use Rattle.dataset.specs.Tree.{Kind, elements, items, rowsOf}
-use Rattle.dataset.specs.Reading.{Row, row, Run, done, level, valueRun, elementsAt, itemsAt, largest, read, whole, readingOf}
+use Rattle.dataset.specs.Reading.{Row, row, Run, done, level, valueRun, elementsAt, itemsAt, read, whole, readingOf}
+use Rattle.basics.specs.Limits.{largest}
 use Rattle.dataset.proofs.Level.{level-on, level-end, value-plain}
 use Rattle.node.specs.Nodes.{Node, nodeOf, nodesOf}
-use Rattle.canonical.specs.Written.{le, letters, lengthOf, header, headSize}
+use Rattle.canonical.specs.Written.{letters, lengthOf, header, headSize}
 use Rattle.canonical.proofs.Shape.{Tag, Shape, none, leaf, sequence, item, Form, no, short, long, form, vr-not-0, length-header, shape-even, head-short, head-long, sq-long, item-short, node}
 
 -- ---- Numbers that were written

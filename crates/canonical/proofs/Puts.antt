@@ -9,10 +9,11 @@ use mathlib.Core.List.{List, _++_}
 use lib.ListN.{length, getD, set, drop, drop-of-length-le, length-set}
 use lib.Seq.{sets, drop-cons}
 use lib.Dec.{eqb}
-use Rattle.dataset.specs.Vr.{formOf}
+use Rattle.basics.specs.Vr.{formOf}
 use Rattle.dataset.proofs.Buffer.{sets-append}
 use Rattle.canonical.specs.Contracts.{Put}
-use Rattle.canonical.specs.Written.{le, letters, lengthOf, header, headSize}
+use Rattle.canonical.specs.Written.{letters, lengthOf, header, headSize}
+use Rattle.basics.specs.Bytes.{le}
 
 -- ---- A value, byte by byte: what is left to put, put, comes to the whole
 

@@ -11,10 +11,11 @@ use lib.Seq.{getD-drop}
 use Rattle.dataset.specs.declared.Cursor.{Cursor}
 use Rattle.dataset.specs.declared.Head.{Head}
 use Rattle.dataset.specs.declared.Head.the-variants as head
-use Rattle.dataset.specs.Bytes.{le16, le32, tagAt, vrAt}
-use Rattle.dataset.specs.Vr.{formOf, SQ}
+use Rattle.basics.specs.Bytes.{le16, le32, tagAt, vrAt}
+use Rattle.basics.specs.Vr.{formOf, SQ}
 use Rattle.dataset.specs.Header.{when, itemTag, cursor, moved, headerBy, delimiterBy, levelBy, definedBy, longBy, typedAt, taggedAt, sizedBy, memberAt, elementAt, itemAt}
-use Rattle.dataset.specs.Reading.{Row, row, Run, done, refused, onHead, onRun, level, valueRun, elementsAt, itemsAt, largest, Reading, tooLarge, refusedAt, read, whole, readingOf}
+use Rattle.dataset.specs.Reading.{Row, row, Run, done, refused, onHead, onRun, level, valueRun, elementsAt, itemsAt, Reading, tooLarge, refusedAt, read, whole, readingOf}
+use Rattle.basics.specs.Limits.{largest}
 use Rattle.dataset.specs.Tree.{Kind, elements, items}
 use Rattle.dataset.proofs.Level.{value-plain}
 use Rattle.node.specs.Nodes.{nodeOf, holdsNodes}

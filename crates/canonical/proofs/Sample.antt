@@ -2,13 +2,13 @@
 use mathlib.Core.Path.{_≡_, refl}
 use Prim.Native.Nat.{ℕ}
 use mathlib.Core.List.{List, [], _∷_}
-use Rattle.dataset.specs.Bytes.{le16}
-use Rattle.dataset.specs.Vr.{listed, formOf}
+use Rattle.basics.specs.Bytes.{le16, le}
+use Rattle.basics.specs.Vr.{listed, formOf}
 use Rattle.dataset.specs.Header.{when, headerBy, delimiterBy, levelBy, definedBy, longBy, typedAt, taggedAt, sizedBy, memberAt}
 use Rattle.dataset.specs.Reading.{level, valueRun, readingOf}
 use Rattle.dataset.specs.Tree.{rowsOf}
 use Rattle.node.specs.Nodes.{nodesOf}
-use Rattle.canonical.specs.Written.{le, letters, lengthOf, header, headSize, ownSize, writtenSize, nodeBytes, writtenOf}
+use Rattle.canonical.specs.Written.{letters, lengthOf, header, headSize, ownSize, writtenSize, nodeBytes, writtenOf}
 
 unfoldable pub mixed : List ℕ
 mixed =

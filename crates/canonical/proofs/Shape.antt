@@ -10,11 +10,12 @@ use lib.Dec.{eqb}
 use mathlib.Core.List.{List, [], _∷_, _++_, append-assoc, append-nil}
 use lib.ListN.{length, take, length-append}
 use lib.Seq.{take-append-seam}
-use Rattle.dataset.specs.Vr.{formOf, listed, SQ}
+use Rattle.basics.specs.Vr.{formOf, listed, SQ}
 use Rattle.dataset.specs.Header.{itemTag}
 use Rattle.dataset.specs.Tree.{Kind, elements, items}
 use Rattle.node.specs.Nodes.{Node}
-use Rattle.canonical.specs.Written.{Bytes, le, letters, lengthOf, header, headSize, ownSize, writtenSize, nodeBytes, writtenOf}
+use Rattle.canonical.specs.Written.{Bytes, letters, lengthOf, header, headSize, ownSize, writtenSize, nodeBytes, writtenOf}
+use Rattle.basics.specs.Bytes.{le}
 
 -- A tag of 32 bits that is no item's and no end mark's.
 pub record Tag (tag : ℕ) : Type 0 where

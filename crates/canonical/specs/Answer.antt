@@ -6,7 +6,7 @@ use mathlib.Core.List.{List, _++_}
 use lib.ListN.{length, drop}
 use lib.Dec.{leb}
 use Rattle.dataset.specs.Reading.{readingOf}
-use Rattle.dataset.specs.Fields.{Fields, codeAlone, placed, counted}
+use Rattle.basics.specs.Fields.{Fields, codeAlone, placed, counted}
 use Rattle.dataset.specs.Answer.{answerOf}
 use Rattle.dataset.specs.declared.ReadAnswer.{ReadAnswer}
 use Rattle.dataset.specs.declared.ReadAnswer.the-variants as read

@@ -4,7 +4,7 @@ use Prim.Native.Nat.{ℕ, _+_, _≤_, _<_}
 use mathlib.Core.List.{List}
 use lib.ListN.{length, drop}
 use lib.Seq.{sets}
-use Rattle.dataset.specs.Reading.{largest}
+use Rattle.basics.specs.Limits.{largest}
 use Rattle.node.specs.Nodes.{Node, nodesOf, nextNode}
 use Rattle.node.specs.Contracts.{Table}
 use Rattle.canonical.specs.Written.{writtenSize, writtenOf}

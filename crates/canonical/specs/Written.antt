@@ -5,7 +5,8 @@ use mathlib.Core.Bool.{cond}
 use mathlib.Core.List.{List, [], _∷_, _++_}
 use lib.ListN.{length, take, getD}
 use lib.Dec.{eqb}
-use Rattle.dataset.specs.Vr.{formOf}
+use Rattle.basics.specs.Bytes.{le}
+use Rattle.basics.specs.Vr.{formOf}
 use Rattle.node.specs.Nodes.{Node}
 
 -- A list of bytes: beyond its end it counts as zeros.
@@ -13,11 +14,6 @@ abbrev pub Bytes : List ℕ → Type 0
 Bytes s = (k : ℕ) → getD s k 0 < 256
 
 -- ---- Headers
-
--- A number as n bytes, little-endian.
-unfoldable pub le : ℕ → ℕ → List ℕ
-le zero x = []
-le (suc n) x = x % 256 ∷ le n (x / 256)
 
 -- The two letters of a VR.
 unfoldable pub letters : ℕ → List ℕ

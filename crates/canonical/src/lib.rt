@@ -5,13 +5,15 @@ ghost use Prim.Native.Nat.{_+_, _-_, _≤_, _<_};
 ghost use lib.ListN.{length};
 ghost use lib.Seq.{slice};
 ghost use lib.Dec.{ltb};
-ghost use Rattle.dataset.specs.Reading.{largest, readingOf};
-ghost use Rattle.dataset.specs.Fields.{Answers};
+ghost use Rattle.dataset.specs.Reading.{readingOf};
+ghost use Rattle.basics.specs.Limits.{largest};
+ghost use Rattle.basics.specs.Fields.{Answers};
 ghost use Rattle.dataset.specs.Answer.{bufferOf};
 ghost use Rattle.node.specs.Nodes.{nodesOf, nodeAt};
 ghost use Rattle.canonical.specs.Contracts.{Put, Sized, Fitting, Wrote};
 ghost use Rattle.canonical.specs.Answer.{canonicalOf, targetOf, fieldsOf};
-ghost use Rattle.canonical.specs.Written.{Bytes, le, letters, lengthOf, header, headSize, ownSize, writtenSize};
+ghost use Rattle.canonical.specs.Written.{Bytes, letters, lengthOf, header, headSize, ownSize, writtenSize};
+ghost use Rattle.basics.specs.Bytes.{le};
 use dataset::ReadAnswer;
 
 // ---- Bytes into the target
@@ -47,7 +49,7 @@ fn put_letters(target: &mut [u8], at: usize, vr: usize)
 fn head_size(vr: usize) -> usize
     ensures { λ r. ⌜ (r ≡ headSize vr) × ((8 ≤ r) × (r ≤ 12)) ⌝ }
 {
-    if dataset::vr_form(vr) == 2 { 12 } else { 8 }
+    if basics::vr_form(vr) == 2 { 12 } else { 8 }
 }
 
 // What stands after the tag in a header of `head` bytes.
@@ -173,7 +175,7 @@ pub fn byte_bounds(bytes: &[u8])
     ensures { λ _. ⌜ Bytes (now (bytes .entry)) ⌝ }
 {
     if 0 < bytes.len() {
-        dataset::wide(bytes[0]);
+        basics::wide(bytes[0]);
     }
 }
 

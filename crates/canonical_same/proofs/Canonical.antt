@@ -10,7 +10,7 @@ use lib.ListN.{length, length-map}
 use lib.Seq.{ext-getD}
 use lib.Dec.{eqb, leb, ltb}
 use borrow.Author.Tests.{le-leb, lt-leb, leb-false, ltb-true, ltb-false, eqb-false, ne-eqb}
-use Rattle.dataset.specs.Vr.{SQ}
+use Rattle.basics.specs.Vr.{SQ}
 use Rattle.dataset.specs.Reading.{Row, readingOf}
 use Rattle.dataset.specs.Answer as reading
 use Rattle.dataset.specs.declared.ReadAnswer.{ReadAnswer}

@@ -17,7 +17,7 @@ use mathlib.Core.Path.{_≡_}
 use Prim.Native.Nat.{ℕ, _≤_, _<_}
 use mathlib.Core.List.{List, _++_}
 use lib.ListN.{length, take, drop}
-use Rattle.dataset.specs.Vr.{SQ}
+use Rattle.basics.specs.Vr.{SQ}
 use Rattle.dataset.specs.Reading.{Row, read, readingOf}
 use Rattle.dataset.specs.Answer as reading
 use Rattle.dataset.specs.declared.ReadAnswer.the-variants as read-answer

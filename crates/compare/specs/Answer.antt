@@ -5,7 +5,7 @@ use mathlib.Core.Bool.{Bool, cond}
 use mathlib.Core.List.{List}
 use lib.ListN.{length}
 use lib.Dec.{leb, eqb}
-use Rattle.dataset.specs.Fields.{Fields, codeAlone, placed, counted, broken}
+use Rattle.basics.specs.Fields.{Fields, codeAlone, placed, counted, broken}
 use Rattle.node.specs.Nodes.{Node, nodesOf}
 use Rattle.conformance.specs.Judging.{judgeOf}
 use Rattle.conformance.specs.declared.JudgeAnswer.{JudgeAnswer}

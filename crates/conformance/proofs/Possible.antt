@@ -16,9 +16,9 @@ use Rattle.dataset.specs.Answer.{answerOf}
 use Rattle.dataset.proofs.Laws.{answer-small, Small as SmallAnswer}
 use Rattle.value.specs.declared.Num.{Num}
 use Rattle.value.specs.declared.Num.the-variants.{Is, Lacks}
-use Rattle.dataset.specs.Reading.{mostRows}
+use Rattle.basics.specs.Limits.{mostRows}
 use Rattle.verdict.specs.Verdict.{lastRule, lastFrame, perFrame, frameFits, fieldsFit, countFits, possible, writable}
-use Rattle.verdict.proofs.Tests.{false-is-true, and-both, or-either}
+use Rattle.basics.proofs.Tests.{false-is-true, and-both, or-either}
 use Rattle.verdict.proofs.Bounds.{Small, possible-small}
 use Rattle.node.specs.Nodes.{Node, nodesOf}
 use Rattle.node.specs.Find.{holds}

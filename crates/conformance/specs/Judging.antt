@@ -4,7 +4,7 @@ use Prim.Native.Nat.{ℕ, zero, suc, _+_}
 use mathlib.Core.List.{List}
 use mathlib.Core.Bool.{cond}
 use Rattle.dataset.specs.Reading.{readingOf}
-use Rattle.dataset.specs.Fields.{Fields, codeAlone, placed, counted, broken}
+use Rattle.basics.specs.Fields.{Fields, codeAlone, placed, counted, broken}
 use Rattle.dataset.specs.Answer.{answerOf}
 use Rattle.dataset.specs.declared.ReadAnswer.{ReadAnswer}
 use Rattle.dataset.specs.declared.ReadAnswer.the-variants as read

@@ -4,7 +4,7 @@ ghost use Prim.Native.Nat.{_+_, _-_, _*_, _≤_, _<_};
 ghost use mathlib.Core.Bool.{true, false};
 ghost use lib.ListN.{length, drop};
 ghost use Rattle.dataset.specs.Reading.{readingOf};
-ghost use Rattle.dataset.specs.Fields.{Answers};
+ghost use Rattle.basics.specs.Fields.{Answers};
 ghost use Rattle.dataset.specs.Answer.{bufferOf};
 ghost use Rattle.value.specs.Contracts.{Below};
 ghost use Rattle.verdict.specs.Verdict.{lastRule, perFrame};

@@ -8,7 +8,7 @@ use lib.Dec.{eqb}
 use Rattle.dataset.specs.declared.Cursor.{Cursor}
 use Rattle.dataset.specs.declared.Head.{Head}
 use Rattle.dataset.specs.declared.Head.the-variants as heads
-use Rattle.dataset.specs.Vr.{SQ}
+use Rattle.basics.specs.Vr.{SQ}
 use Rattle.dataset.specs.Header.{moved, elementAt, itemAt}
 use Rattle.dataset.specs.Reading.{Row, row, Run, done, refused, onHead, onRun, level, depths, elementsBy, itemsBy, valueRun}
 

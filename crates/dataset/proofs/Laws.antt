@@ -11,7 +11,7 @@ use mathlib.Core.List.{List, [], _∷_, _++_}
 use lib.ListN.{length, getD, List·getD-append}
 use Rattle.dataset.specs.declared.ReadAnswer.{ReadAnswer}
 use Rattle.dataset.specs.declared.ReadAnswer.the-variants as answer
-use Rattle.dataset.specs.Vr.{formOf, listed, SQ}
+use Rattle.basics.specs.Vr.{formOf, listed, SQ}
 use Rattle.dataset.specs.Reading.{Row, Reading, tooLarge, refusedAt, read, readingOf}
 use Rattle.dataset.specs.Answer.{flat, fits, answerOf}
 use Rattle.dataset.specs.Tree.{rowsOf, rowAt, nextRow, Kind, elements, items, Member, kindInside, depthInside, Members}

@@ -1,6 +1,5 @@
 -- What the proofs of several functions use.
 pub mod Checks
-pub mod Forms
 pub mod Buffer
 pub mod Level
 pub mod Depths
@@ -9,4 +8,3 @@ pub mod Whole
 pub mod Tree
 pub mod Laws
 pub mod Parents
-pub mod Promised

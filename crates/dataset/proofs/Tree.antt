@@ -13,10 +13,11 @@ use lib.Seq.{getD-append-add}
 use Rattle.dataset.specs.declared.Cursor.{Cursor}
 use Rattle.dataset.specs.declared.Head.{Head}
 use Rattle.dataset.specs.declared.Head.the-variants as head
-use Rattle.dataset.specs.Vr.{formOf, SQ}
-use Rattle.dataset.specs.Bytes.{le32}
+use Rattle.basics.specs.Vr.{formOf, SQ}
+use Rattle.basics.specs.Bytes.{le32}
 use Rattle.dataset.specs.Header.{when, itemTag, cursor, moved, headerBy, delimiterBy, levelBy, definedBy, longBy, typedAt, taggedAt, sizedBy, memberAt, elementAt, itemAt}
-use Rattle.dataset.specs.Reading.{Row, row, Run, done, refused, onHead, onRun, level, valueRun, elementsAt, itemsAt, largest, Reading, tooLarge, refusedAt, read, whole, readingOf}
+use Rattle.dataset.specs.Reading.{Row, row, Run, done, refused, onHead, onRun, level, valueRun, elementsAt, itemsAt, Reading, tooLarge, refusedAt, read, whole, readingOf}
+use Rattle.basics.specs.Limits.{largest}
 use Rattle.dataset.proofs.Levels.{sequence-level}
 use Rattle.dataset.specs.Tree.{rowsIn, rowsOf, noRow, rowAt, nextRow, Kind, elements, items, Member, kindInside, depthInside, Members}
 

@@ -12,13 +12,14 @@ use Rattle.dataset.specs.declared.Walk.the-variants as walk
 use Rattle.dataset.specs.declared.ReadAnswer.{ReadAnswer}
 use Rattle.dataset.specs.declared.ReadAnswer.the-variants as answer
 use Rattle.dataset.specs.Header.{cursor}
-use Rattle.dataset.specs.Reading.{Run, done, elementsAt, whole, readingOf, largest}
-use Rattle.dataset.specs.Fields.{Answers}
+use Rattle.dataset.specs.Reading.{Run, done, elementsAt, whole, readingOf}
+use Rattle.basics.specs.Limits.{largest}
+use Rattle.basics.specs.Fields.{Answers}
 use Rattle.dataset.specs.Answer.{answerOf, countOf, bufferOf, fieldsOf}
 use Rattle.dataset.specs.Contracts.{Walked, Wrote}
 use Rattle.dataset.proofs.Level.{below, stopped}
 use Rattle.dataset.proofs.Buffer.{rows-first}
-use Rattle.dataset.proofs.Promised.{promised}
+use Rattle.basics.proofs.Promised.{promised}
 
 -- An empty part in front of a list leaves the list.
 pub nothing : (ys l : List ℕ) → length ys ≡ 0 → ys ++ l ≡ l

@@ -8,7 +8,7 @@ use lib.Dec.{leb}
 use Rattle.dataset.specs.declared.ReadAnswer.{ReadAnswer}
 use Rattle.dataset.specs.declared.ReadAnswer.the-variants.{Done, Refused, TooLarge, NoRoom}
 use Rattle.dataset.specs.Reading.{Row, Reading, tooLarge, refusedAt, read}
-use Rattle.dataset.specs.Fields.{Fields, codeAlone, placed, counted}
+use Rattle.basics.specs.Fields.{Fields, codeAlone, placed, counted}
 
 -- How many numbers a row has.
 abbrev pub width : ℕ

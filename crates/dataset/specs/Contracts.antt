@@ -1,7 +1,7 @@
 -- What the functions inside `read` say of the definition of reading: bounds of a header, and what a walk along one
 -- level answers and writes. No paragraph of document 01 stands here.
 use mathlib.Core.Path.{_≡_}
-use Prim.Native.Nat.{ℕ, _+_, _*_, _/_, _%_, _^_, _≤_, _<_}
+use Prim.Native.Nat.{ℕ, _+_, _*_, _≤_, _<_}
 use mathlib.Core.List.{List}
 use lib.ListN.{length}
 use lib.Seq.{sets}
@@ -12,13 +12,9 @@ use Rattle.dataset.specs.declared.Walk.{Walk}
 use Rattle.dataset.specs.declared.Walk.the-variants as walk
 use Rattle.dataset.specs.declared.Leaf.{Leaf}
 use Rattle.dataset.specs.declared.Leaf.the-variants as leaf
-use Rattle.dataset.specs.Vr.{formOf}
-use Rattle.dataset.specs.Reading.{Run, done, refused, largest, depths}
+use Rattle.dataset.specs.Reading.{Run, done, refused, depths}
+use Rattle.basics.specs.Limits.{largest}
 use Rattle.dataset.specs.Answer.{flat, width}
-
--- The forms of the VRs with a first letter, as one number: two bits for each second letter from 64 on.
-abbrev pub FormsAfter : ℕ → ℕ → Type 0
-FormsAfter first forms = (k : ℕ) → k < 32 → forms / 2 ^ (2 * k) % 4 ≡ formOf (first * 256 + 64 + k)
 
 -- A header moves on by 8 bytes at least and stays within the known end; a refusal has one of the codes 1 to 6.
 abbrev pub Within : Cursor → Head → Type 0

@@ -11,8 +11,8 @@ use lib.Dec.{ltb, eqb}
 use Rattle.dataset.specs.declared.Cursor.{Cursor}
 use Rattle.dataset.specs.declared.Head.{Head}
 use Rattle.dataset.specs.declared.Head.the-variants.{Header, End, Refused}
-use Rattle.dataset.specs.Bytes.{le16, le32, tagAt, vrAt}
-use Rattle.dataset.specs.Vr.{formOf, SQ}
+use Rattle.basics.specs.Bytes.{le16, le32, tagAt, vrAt}
+use Rattle.basics.specs.Vr.{formOf, SQ}
 
 -- The first where the test holds, else the second.
 unfoldable pub when : Bool → Head → Head → Head

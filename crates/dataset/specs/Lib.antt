@@ -1,8 +1,5 @@
-pub mod Bytes
-pub mod Vr
 pub mod Header
 pub mod Reading
-pub mod Fields
 pub mod Answer
 pub mod Contracts
 pub mod Tree

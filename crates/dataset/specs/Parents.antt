@@ -10,7 +10,7 @@ use mathlib.Core.Path.{_≡_}
 use Prim.Native.Nat.{ℕ, zero, suc, _+_, _≤_, _<_}
 use mathlib.Core.List.{List}
 use lib.ListN.{length}
-use Rattle.dataset.specs.Vr.{SQ}
+use Rattle.basics.specs.Vr.{SQ}
 use Rattle.dataset.specs.Reading.{Row}
 use Rattle.dataset.specs.Tree.{rowsOf, rowAt, nextRow}
 

@@ -8,7 +8,8 @@ use lib.Dec.{eqb, ltb}
 use Rattle.dataset.specs.declared.Cursor.{Cursor}
 use Rattle.dataset.specs.declared.Head.{Head}
 use Rattle.dataset.specs.declared.Head.the-variants.{Header, End, Refused}
-use Rattle.dataset.specs.Vr.{SQ}
+use Rattle.basics.specs.Limits.{largest}
+use Rattle.basics.specs.Vr.{SQ}
 use Rattle.dataset.specs.Header.{cursor, moved, elementAt, itemAt}
 
 -- The seven numbers of an element or item; `descendants` is the paper's number of rows below it, and `parent` the row number,
@@ -85,14 +86,6 @@ abbrev pub itemsAt : ℕ → List ℕ → ℕ → Cursor → Run
 itemsAt levels s first c = itemsBy (elementsAt levels s) levels s first c
 
 -- ---- The whole data set
-
--- The most bytes that a data set may have: 1,073,741,824.
-abbrev pub largest : ℕ
-largest = 1073741824
-
--- The most rows that it has: a row takes 8 bytes or more.
-abbrev pub mostRows : ℕ
-mostRows = 134217728
 
 -- Too large, refused, or read.
 pub data Reading : Type 0 where

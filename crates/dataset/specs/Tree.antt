@@ -4,7 +4,7 @@ use mathlib.Core.Path.{_≡_}
 use Prim.Native.Nat.{ℕ, _+_, _*_, _≤_}
 use mathlib.Core.List.{List, []}
 use lib.ListN.{getD}
-use Rattle.dataset.specs.Vr.{formOf, SQ}
+use Rattle.basics.specs.Vr.{formOf, SQ}
 use Rattle.dataset.specs.Header.{itemTag}
 use Rattle.dataset.specs.Reading.{Row, row, Reading, tooLarge, refusedAt, read, readingOf, depths}
 

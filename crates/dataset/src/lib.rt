@@ -5,19 +5,21 @@ ghost use Prim.Native.Nat.{_+_, _-_, _*_, _≤_, _<_};
 ghost use mathlib.Core.List.{[], _∷_};
 ghost use lib.ListN.{length};
 ghost use lib.Seq.{sets};
-ghost use Rattle.dataset.specs.Bytes.{le16, le32, tagAt, vrAt};
-ghost use Rattle.dataset.specs.Vr.{formOf};
+ghost use Rattle.basics.specs.Bytes.{le16, le32, tagAt, vrAt};
+ghost use Rattle.basics.specs.Vr.{formOf};
 ghost use Rattle.dataset.specs.Header.{moved, delimiterBy, levelBy, definedBy, longBy, typedAt, taggedAt, sizedBy, memberAt, elementAt, itemAt};
-ghost use Rattle.dataset.specs.Reading.{elementsAt, itemsAt, largest, readingOf, row};
-ghost use Rattle.dataset.specs.Fields.{Answers};
+ghost use Rattle.dataset.specs.Reading.{elementsAt, itemsAt, readingOf, row};
+ghost use Rattle.basics.specs.Limits.{largest};
+ghost use Rattle.basics.specs.Fields.{Answers};
 ghost use Rattle.dataset.specs.Answer.{width, answerOf, countOf, bufferOf, flat, fieldsOf};
-ghost use Rattle.dataset.specs.Contracts.{FormsAfter, Within, Walked, LeafWalked, Ready};
-
-// The most bytes that a data set may have.
-pub const LARGEST: usize = 1_073_741_824;
-
-// The most rows that it has.
-pub const MOST_ROWS: usize = 134_217_728;
+ghost use Rattle.dataset.specs.Contracts.{Within, Walked, LeafWalked, Ready};
+use basics::LARGEST;
+use basics::tag_at;
+use basics::u16_at;
+use basics::u32_at;
+use basics::vr_at;
+use basics::vr_form;
+use basics::vrs;
 
 // How many numbers a row has, and which place each has: the tag is first.
 pub const WIDTH: usize = 7;
@@ -36,8 +38,6 @@ pub const PARENT: usize = 6;
 
 // How deep sequences may stand.
 const DEPTHS: usize = 8;
-
-pub const SQ: usize = 0x5351;
 
 const UNDEFINED: usize = 0xFFFF_FFFF;
 
@@ -85,77 +85,6 @@ pub enum ReadAnswer {
     NoRoom,
 }
 
-pub fn wide(x: u8) -> usize
-    ensures { λ r. ⌜ (r ≡ x) × (r < 256) ⌝ }
-{
-    x as usize
-}
-
-pub fn u16_at(s: &[u8], p: usize) -> usize
-    requires { ⌜ p + 2 ≤ length (now s) ⌝ }
-    ensures { λ r. ⌜ (r ≡ le16 (now (s .entry)) p) × (r < 65536) ⌝ }
-{
-    wide(s[p]) + 256 * wide(s[p + 1])
-}
-
-pub fn u32_at(s: &[u8], p: usize) -> usize
-    requires { ⌜ p + 4 ≤ length (now s) ⌝ }
-    ensures { λ r. ⌜ (r ≡ le32 (now (s .entry)) p) × (r < 4294967296) ⌝ }
-{
-    u16_at(s, p) + 65536 * u16_at(s, p + 2)
-}
-
-pub fn tag_at(s: &[u8], p: usize) -> usize
-    requires { ⌜ p + 4 ≤ length (now s) ⌝ }
-    ensures { λ r. ⌜ (r ≡ tagAt (now (s .entry)) p) × (r < 4294967296) ⌝ }
-{
-    65536 * u16_at(s, p) + u16_at(s, p + 2)
-}
-
-pub fn vr_at(s: &[u8], p: usize) -> usize
-    requires { ⌜ p + 2 ≤ length (now s) ⌝ }
-    ensures { λ r. ⌜ (r ≡ vrAt (now (s .entry)) p) × (r < 65536) ⌝ }
-{
-    256 * wide(s[p]) + wide(s[p + 1])
-}
-
-// The forms of the VRs with a first letter: two bits for each second letter, from 64 on, lowest first. This compiles to a
-// table, where a `match` over the VRs would be a tree of tests.
-fn forms_after(first: usize) -> u64
-    ensures { λ r. ⌜ FormsAfter first r ⌝ }
-{
-    match first {
-        0x41 => 0x0000_0140_0000_0400,
-        0x43 => 0x0000_0040_0000_0000,
-        0x44 => 0x0000_0140_0000_0004,
-        0x46 => 0x0000_0000_0100_0100,
-        0x49 => 0x0000_0040_0000_0000,
-        0x4C => 0x0000_0100_4000_0000,
-        0x4F => 0x0000_A000_0200_2220,
-        0x50 => 0x0000_0000_1000_0000,
-        0x53 => 0x0000_2148_0101_0000,
-        0x54 => 0x0000_0000_0400_0000,
-        0x55 => 0x0000_2260_2104_0080,
-        _ => 0,
-    }
-}
-
-// The form of a VR: 2 with a 32-bit length, 1 with a 16-bit length, 0 where it is not listed. SQ is told first, since the
-// readers ask for it again.
-pub fn vr_form(vr: usize) -> usize
-    ensures { λ r. ⌜ r ≡ formOf vr ⌝ }
-{
-    if vr == SQ {
-        return 2;
-    }
-    let second = vr % 256;
-    if second / 32 == 2 {
-        ((forms_after(vr / 256) >> (2 * (second % 32))) % 4) as usize
-    } else {
-        0
-    }
-}
-
 impl Cursor {
     // The cursor at another offset of the same level.
     pub fn moved(self, at: usize) -> Cursor
@@ -195,7 +124,7 @@ impl Cursor {
         ensures { λ r. ⌜ r ≡ levelBy tag vr levels value ⌝ }
         ensures { λ r. ⌜ Within self r ⌝ }
     {
-        if vr == SQ {
+        if vr == vrs::SQ {
             if levels == 0 {
                 Head::Refused(6)
             } else {
@@ -233,7 +162,7 @@ impl Cursor {
         ensures { λ r. ⌜ Within self r ⌝ }
     {
         if len == UNDEFINED {
-            if vr == SQ {
+            if vr == vrs::SQ {
                 let value = Cursor {
                     at: start,
                     end: self.end,
@@ -409,7 +338,7 @@ fn read_leaf(s: &[u8], c: Cursor, levels: usize, rows: &mut [u32], first: usize)
                 return Leaf::Done(at, next.at, n);
             }
             Head::Header(tag, vr, value) => {
-                if vr == SQ {
+                if vr == vrs::SQ {
                     return Leaf::Nested;
                 }
                 let start = value.at;
@@ -446,7 +375,7 @@ pub fn read_item(s: &[u8], c: Cursor, levels: usize, rows: &mut [u32], first: us
             }
             Head::Header(tag, vr, value) => {
                 let start = value.at;
-                if vr != SQ {
+                if vr != vrs::SQ {
                     let stop = value.end;
                     put_row(rows, n, tag, vr, levels, start, stop, n + 1, first);
                     here = here.moved(stop);

@@ -9,7 +9,7 @@ use package.native.Mathlib.Omega.{arith}
 use lib.ListN.{length}
 use lib.Dec.{eqb, leb}
 use borrow.Author.Tests.{eqb-true, eq-eqb, lt-ltb}
-use Rattle.dataset.specs.Vr.{SQ}
+use Rattle.basics.specs.Vr.{SQ, FL}
 use Rattle.value.specs.declared.Num.{Num}
 use Rattle.value.specs.declared.Num.the-variants.{Is, Lacks}
 use Rattle.value.specs.Text.{ascii}
@@ -22,11 +22,10 @@ use Rattle.shift.specs.Whole.{wholeMovesOf, isWholeShiftOf, isWholeShift, moves
 use Rattle.shift.proofs.Laws.{as-item, shift-length}
 use Rattle.shift.proofs.Agree.{whole-moves, whole-shift, whole-item, whole-frame, whole-both, whole-numbers}
 use Rattle.verdict.specs.Verdict.{perFrame}
-use Rattle.verdict.proofs.Tests.{false-is-true, and-both}
+use Rattle.basics.proofs.Tests.{false-is-true, and-both}
 use Rattle.node.specs.Nodes.{Node, nodesOf, nodeAt, root, inside}
 use Rattle.node.specs.Find.{holds, ifPresent, find, findVr}
 use Rattle.element.specs.Tags
-use Rattle.element.specs.Tags.{FL}
 use Rattle.element.specs.Elements.{valueAt, every}
 use Rattle.element.specs.Frames.{framesOf, frameItem, sharedItem, groupOf, maskItems, idIn, operationIs}
 use Rattle.rules.specs.Frame.{hasId, isShiftItem, isShiftGroup, item37, rule37}

@@ -9,7 +9,7 @@ use package.native.Mathlib.Omega.{arith}
 use lib.ListN.{length, drop}
 use lib.Dec.{eqb, leb}
 use borrow.Author.Tests.{eq-eqb, eqb-true, leb-true}
-use Rattle.dataset.specs.Vr.{SQ}
+use Rattle.basics.specs.Vr.{SQ, US, FL}
 use Rattle.value.specs.declared.Num.{Num}
 use Rattle.value.specs.declared.Num.the-variants.{Is, Lacks}
 use Rattle.value.specs.declared.Signed.{Signed}
@@ -23,12 +23,11 @@ use Rattle.shift.specs.declared.Moves.{Moves}
 use Rattle.shift.specs.Shift.{largestMove, isShort, itemShift, frameShift, movesOf, isShiftOf, isFrameShift}
 use Rattle.shift.proofs.Laws.{moves-both, as-item, shift-length, item-is, frame-is}
 use Rattle.verdict.specs.Verdict.{lastRule, perFrame}
-use Rattle.verdict.proofs.Tests.{false-is-true, and-both}
+use Rattle.basics.proofs.Tests.{false-is-true, and-both}
 use Rattle.node.specs.Nodes.{Node, nodeAt, nextNode, root, inside}
 use Rattle.node.specs.Find.{holds, ifPresent, andThen, orElse, find, findVr, ofVr, filled}
 use Rattle.node.proofs.Walks.{members-end}
 use Rattle.element.specs.Tags
-use Rattle.element.specs.Tags.{US, FL}
 use Rattle.element.specs.Elements as elements
 use Rattle.element.specs.Elements.{valueAt, first, insideOf, itemsIn, every}
 use Rattle.element.specs.Frames.{framesOf, frameItems, frameItem, sharedItem, groupOf, maskItems, idIn, operationIs}

@@ -21,11 +21,11 @@ use Rattle.value.specs.Number.{unit, all, allDecimals, allWidths, decimalOf, is
 use Rattle.value.proofs.Laws.{decimalOf-below}
 use Rattle.value.proofs.Parts.{values-some}
 use Rattle.verdict.specs.Verdict.{lastRule, perFrame}
-use Rattle.verdict.proofs.Tests.{false-is-true, and-both, or-either}
+use Rattle.basics.proofs.Tests.{false-is-true, and-both, or-either}
 use Rattle.node.specs.Nodes.{Node, nodeAt, root, inside}
 use Rattle.node.specs.Find.{holds, ifPresent, orElse, find, findVr}
 use Rattle.element.specs.Tags
-use Rattle.element.specs.Tags.{CS, DS, OB, OW}
+use Rattle.basics.specs.Vr.{CS, DS, OB, OW}
 use Rattle.element.specs.Elements.{valueAt, usIn, theItem, functionIn}
 use Rattle.element.specs.Frames.{framesOf, sharedItem, frameItem, groupOf}
 use Rattle.rules.specs.Root.{photometricIs, bitsFit, rule9, rule10, rule11, rule12, rule13, rule14, rule15, rule25, rule26}

@@ -11,13 +11,13 @@ use native.Mathlib.Omega.{arith}
 use borrow.Author.Tests.{eqb-true}
 use Rattle.dataset.specs.Reading.{Row}
 use Rattle.dataset.specs.Tree.{rowsOf, rowAt}
-use Rattle.verdict.proofs.Tests.{or-either}
+use Rattle.basics.proofs.Tests.{or-either}
 use Rattle.node.specs.Nodes.{Node, nodesOf, nodeAt, nodeOf, valueIn, root}
 use Rattle.node.specs.Find.{find}
 use Rattle.node.specs.Contracts.{Table}
 use Rattle.node.proofs.Laws.{node-is}
 use Rattle.element.specs.Tags
-use Rattle.element.specs.Tags.{OB, OW}
+use Rattle.basics.specs.Vr.{OB, OW}
 use Rattle.pixel.specs.declared.Geometry.{Geometry}
 use Rattle.value.specs.declared.Num.{Num}
 use Rattle.value.specs.declared.Num.the-variants.{Is, Lacks}

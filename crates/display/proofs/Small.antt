@@ -6,7 +6,7 @@ use Prim.Native.Nat.{ℕ, zero, suc, _+_, _*_, _<_}
 use native.Mathlib.Omega.{arith}
 use lib.ListN.{length, getD, take, drop}
 use lib.Dec.{eqb}
-use Rattle.dataset.specs.Bytes.{le16}
+use Rattle.basics.specs.Bytes.{le16}
 use Rattle.dataset.specs.Reading.{Row}
 use Rattle.dataset.specs.Tree.{rowsOf}
 use Rattle.value.specs.declared.Num.{Num}

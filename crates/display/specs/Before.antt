@@ -13,7 +13,7 @@ use mathlib.Core.Option.{Option, none, some}
 use lib.ListN.{length}
 use lib.Dec.{eqb, leb, ltb}
 use lib.IntN.{pos, _+ℤ_, _-ℤ_}
-use Rattle.dataset.specs.Vr.{SQ}
+use Rattle.basics.specs.Vr.{SQ, FL}
 use Rattle.value.specs.declared.Num.{Num}
 use Rattle.value.specs.declared.Num.the-variants.{Is, Lacks}
 use Rattle.value.specs.Text.{ascii}
@@ -24,7 +24,6 @@ use Rattle.verdict.specs.Verdict.{lastRule}
 use Rattle.node.specs.Nodes.{Node, nodesOf, nodeAt, inside}
 use Rattle.node.specs.Find.{holds, ifPresent, find, findVr}
 use Rattle.element.specs.Tags
-use Rattle.element.specs.Tags.{FL}
 use Rattle.element.specs.Elements.{valueAt, every}
 use Rattle.element.specs.Frames.{framesOf, groupOf, maskItems, operationIs}
 use Rattle.rules.specs.Frame.{atFrame, hasId, uniqueIds}

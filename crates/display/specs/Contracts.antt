@@ -29,7 +29,7 @@ use Rattle.value.specs.declared.Num.{Num}
 use Rattle.value.specs.declared.Num.the-variants.{Is}
 use Rattle.node.specs.Find.{find}
 use Rattle.element.specs.Tags
-use Rattle.element.specs.Tags.{OB, OW}
+use Rattle.basics.specs.Vr.{OB, OW}
 use Rattle.element.specs.Frames.{framesOf, frameItem}
 use Rattle.conformance.specs.declared.Finding.the-variants as finding
 use Rattle.conformance.specs.Judging.{findingOf}

@@ -6,7 +6,7 @@ use mathlib.Core.List.{List, [], _++_}
 use mathlib.Core.Option.{Option, none, some}
 use lib.ListN.{length, drop}
 use lib.Dec.{leb}
-use Rattle.dataset.specs.Fields.{Fields, codeAlone, placed, drawn, broken}
+use Rattle.basics.specs.Fields.{Fields, codeAlone, placed, drawn, broken}
 use Rattle.node.specs.Nodes.{Node, nodesOf, root}
 use Rattle.element.specs.Tags
 use Rattle.element.specs.Elements.{usIn}

@@ -5,7 +5,7 @@ use mathlib.Core.List.{List, [], _∷_}
 use mathlib.Core.Bool.{Bool, true, false, cond, _&&_, _||_}
 use lib.ListN.{length}
 use lib.Dec.{eqb}
-use Rattle.dataset.specs.Vr.{SQ}
+use Rattle.basics.specs.Vr.{SQ, CS, UI, US}
 use Rattle.value.specs.declared.Num.{Num}
 use Rattle.value.specs.declared.Num.the-variants.{Is, Lacks}
 use Rattle.value.specs.Number.{usOf}
@@ -14,7 +14,7 @@ use Rattle.value.specs.declared.Function.the-variants as function
 use Rattle.value.specs.Words.{isWord, isUid, functionOf}
 use Rattle.node.specs.Nodes.{Node, nodeAt, inside}
 use Rattle.node.specs.Find.{holds, andThen, find, findVr}
-use Rattle.element.specs.Tags.{CS, UI, US, VOILUTFunction}
+use Rattle.element.specs.Tags.{VOILUTFunction}
 
 abbrev pub valueAt : List Node → ℕ → List ℕ
 valueAt ns i = nodeAt ns i .value

@@ -1,42 +1,5 @@
--- Tags by their PS3.6 keywords, group × 65,536 + element, and VRs by their letters, first × 256 + second.
+-- Tags by their PS3.6 keywords, group × 65,536 + element.
 use Prim.Native.Nat.{ℕ}
-
--- ---- VRs
-
-abbrev pub CS : ℕ
-CS = 0x4353
-
-abbrev pub DS : ℕ
-DS = 0x4453
-
-abbrev pub DT : ℕ
-DT = 0x4454
-
-abbrev pub FD : ℕ
-FD = 0x4644
-
-abbrev pub FL : ℕ
-FL = 0x464C
-
-abbrev pub IS : ℕ
-IS = 0x4953
-
-abbrev pub OB : ℕ
-OB = 0x4F42
-
-abbrev pub OW : ℕ
-OW = 0x4F57
-
-abbrev pub SS : ℕ
-SS = 0x5353
-
-abbrev pub UI : ℕ
-UI = 0x5549
-
-abbrev pub US : ℕ
-US = 0x5553
-
--- ---- Tags
 
 abbrev pub SOPClassUID : ℕ
 SOPClassUID = 0x0008_0016

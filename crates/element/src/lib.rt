@@ -15,6 +15,7 @@ ghost use Rattle.element.specs.Elements.{valueAt, usIn, csIs, uiIs, oneI
 ghost use Rattle.value.specs.declared.Num.the-variants as num;
 ghost use Rattle.element.specs.Frames.{asCount, framesOf, sharedItem, frameItems, groupOf, maskItems};
 ghost use Rattle.element.specs.Contracts.{Along};
+use basics::vrs;
 use value::Function;
 use value::Num;
 use value::Signed;
@@ -112,14 +113,14 @@ pub fn us_root(bytes: &[u8], rows: &[u32], tag: usize) -> Num
     ensures { λ r. ⌜ r ≡ usIn (nodesOf (now (bytes .entry))) tag (root (nodesOf (now (bytes .entry)))) ⌝ }
     ensures { λ r. ⌜ Below 65536 r ⌝ }
 {
-    us_at(bytes, rows, find_vr_root(bytes, rows, tag, tags::US))
+    us_at(bytes, rows, find_vr_root(bytes, rows, tag, vrs::US))
 }
 
 pub fn is_cs_root(bytes: &[u8], rows: &[u32], tag: usize, word: &[u8]) -> bool
     requires { ⌜ Table (now bytes) (now rows) ⌝ }
     ensures { λ r. ⌜ r ≡ csIs (nodesOf (now (bytes .entry))) tag (now (word .entry)) (root (nodesOf (now (bytes .entry)))) ⌝ }
 {
-    is_cs_at(bytes, rows, find_vr_root(bytes, rows, tag, tags::CS), word)
+    is_cs_at(bytes, rows, find_vr_root(bytes, rows, tag, vrs::CS), word)
 }
 
 // A UI that is the UID.
@@ -127,7 +128,7 @@ pub fn is_ui_root(bytes: &[u8], rows: &[u32], tag: usize, uid: &[u8]) -> bool
     requires { ⌜ Table (now bytes) (now rows) ⌝ }
     ensures { λ r. ⌜ r ≡ uiIs (nodesOf (now (bytes .entry))) tag (now (uid .entry)) (root (nodesOf (now (bytes .entry)))) ⌝ }
 {
-    match find_vr_root(bytes, rows, tag, tags::UI) {
+    match find_vr_root(bytes, rows, tag, vrs::UI) {
         Num::Lacks => false,
         Num::Is(i) => value::is_uid(node::value(bytes, rows, i), uid),
     }
@@ -156,7 +157,7 @@ pub fn us_item(bytes: &[u8], rows: &[u32], item: usize, tag: usize) -> Num
     ensures { λ r. ⌜ r ≡ usIn (nodesOf (now (bytes .entry))) tag (inside (nodesOf (now (bytes .entry))) item) ⌝ }
     ensures { λ r. ⌜ Below 65536 r ⌝ }
 {
-    us_at(bytes, rows, find_vr_item(bytes, rows, item, tag, tags::US))
+    us_at(bytes, rows, find_vr_item(bytes, rows, item, tag, vrs::US))
 }
 
 pub fn is_cs_item(bytes: &[u8], rows: &[u32], item: usize, tag: usize, word: &[u8]) -> bool
@@ -166,7 +167,7 @@ pub fn is_cs_item(bytes: &[u8], rows: &[u32], item: usize, tag: usize, word: &[u
     is_cs_at(
         bytes,
         rows,
-        find_vr_item(bytes, rows, item, tag, tags::CS),
+        find_vr_item(bytes, rows, item, tag, vrs::CS),
         word,
     )
 }
@@ -194,7 +195,7 @@ pub fn the_item(bytes: &[u8], rows: &[u32], i: usize) -> Num
     ensures { λ r. ⌜ r ≡ theItem (nodesOf (now (bytes .entry))) i ⌝ }
     ensures { λ r. ⌜ Below (length (nodesOf (now (bytes .entry)))) r ⌝ }
 {
-    if node::vr(bytes, rows, i) == dataset::SQ {
+    if node::vr(bytes, rows, i) == vrs::SQ {
         let end = node::next(bytes, rows, i);
         let first = i + 1;
         if first < end {
@@ -227,7 +228,7 @@ fn items_root(bytes: &[u8], rows: &[u32], tag: usize) -> Items
     requires { ⌜ Table (now bytes) (now rows) ⌝ }
     ensures { λ r. ⌜ Along (nodesOf (now (bytes .entry))) (itemsIn (nodesOf (now (bytes .entry))) tag (root (nodesOf (now (bytes .entry))))) r ⌝ }
 {
-    match find_vr_root(bytes, rows, tag, dataset::SQ) {
+    match find_vr_root(bytes, rows, tag, vrs::SQ) {
         Num::Lacks => Items { at: 0, end: 0 },
         Num::Is(i) => Items {
             at: i + 1,
@@ -260,7 +261,7 @@ fn function_at(bytes: &[u8], rows: &[u32], k: usize) -> Function
     requires { ⌜ Table (now bytes) (now rows) × (k < length (nodesOf (now bytes))) ⌝ }
     ensures { λ r. ⌜ r ≡ functionOn (nodesOf (now (bytes .entry))) (num.Is k) ⌝ }
 {
-    if node::vr(bytes, rows, k) == tags::CS {
+    if node::vr(bytes, rows, k) == vrs::CS {
         value::function_of(node::value(bytes, rows, k))
     } else {
         Function::Lacks
@@ -299,7 +300,7 @@ pub fn frame_count(bytes: &[u8], rows: &[u32]) -> Num
     ensures { λ r. ⌜ r ≡ framesOf (nodesOf (now (bytes .entry))) ⌝ }
     ensures { λ r. ⌜ Below 100000000000 r ⌝ }
 {
-    match find_vr_root(bytes, rows, tags::NUMBER_OF_FRAMES, tags::IS) {
+    match find_vr_root(bytes, rows, tags::NUMBER_OF_FRAMES, vrs::IS) {
         Num::Lacks => Num::Lacks,
         Num::Is(i) => counted(value::is_of(node::value(bytes, rows, i))),
     }

@@ -1,26 +1,4 @@
-// Tags by their PS3.6 keywords, and VRs by their letters.
-pub const CS: usize = 0x4353;
-
-pub const DS: usize = 0x4453;
-
-pub const DT: usize = 0x4454;
-
-pub const FD: usize = 0x4644;
-
-pub const FL: usize = 0x464C;
-
-pub const IS: usize = 0x4953;
-
-pub const OB: usize = 0x4F42;
-
-pub const OW: usize = 0x4F57;
-
-pub const SS: usize = 0x5353;
-
-pub const UI: usize = 0x5549;
-
-pub const US: usize = 0x5553;
-
+// Tags by their PS3.6 keywords.
 pub const SOP_CLASS_UID: usize = 0x0008_0016;
 
 pub const IMAGE_TYPE: usize = 0x0008_0008;

@@ -6,13 +6,14 @@ use mathlib.Core.Bool.{Bool, false, cond}
 use mathlib.Core.List.{List}
 use lib.ListN.{drop}
 use Rattle.dataset.specs.Reading.{readingOf}
-use Rattle.dataset.specs.Fields.{Fields, codeAlone, placed}
+use Rattle.basics.specs.Fields.{Fields, codeAlone, placed}
 use Rattle.dataset.specs.Answer as reading
 use Rattle.dataset.specs.declared.ReadAnswer.{ReadAnswer}
 use Rattle.dataset.specs.declared.ReadAnswer.the-variants as read
 use Rattle.value.specs.Text.{trimEnd}
 use Rattle.node.specs.Nodes.{Node, nodesOf, root}
 use Rattle.node.specs.Find.{has}
+use Rattle.basics.specs.Vr.{UI}
 use Rattle.element.specs.Tags
 use Rattle.element.specs.Elements.{uiIs}
 use Rattle.conformance.specs.Judging as judging
@@ -56,7 +57,7 @@ startFields start.OtherSyntax = codeAlone 17
 -- The data set has a SOP Class UID (0008,0016) UI, single, which is the head's; both lose trailing zero bytes. The head's is
 -- single: another head is refused.
 unfoldable pub sameClass : List ℕ → List Node → Bool
-sameClass class ns = cond (has ns Tags.SOPClassUID Tags.UI (root ns)) (uiIs ns Tags.SOPClassUID (trimEnd 0 class) (root ns)) false
+sameClass class ns = cond (has ns Tags.SOPClassUID UI (root ns)) (uiIs ns Tags.SOPClassUID (trimEnd 0 class) (root ns)) false
 
 -- ---- Reading
 

@@ -9,7 +9,7 @@ ghost use mathlib.Core.Path.{_≡_};
 ghost use Prim.Native.Nat.{_≤_};
 ghost use lib.ListN.{length};
 ghost use Rattle.dataset.specs.Reading.{readingOf};
-ghost use Rattle.dataset.specs.Fields.{Answers};
+ghost use Rattle.basics.specs.Fields.{Answers};
 ghost use Rattle.dataset.specs.Answer.{bufferOf};
 ghost use Rattle.node.specs.Nodes.{nodesOf};
 ghost use Rattle.node.specs.Contracts.{Table};
@@ -17,6 +17,7 @@ ghost use Rattle.file.specs.File.{startOf, sameClass, readPart, readFile
 ghost use Rattle.searches.specs.Searches.{searchesOf};
 ghost use Rattle.file.specs.Searches.{searchesIn, countedPart, countedFileOf, countedFields, LeftIn};
 ghost use Rattle.file.specs.Part.{Rest};
+use basics::vrs;
 
 // Where the data set starts; codes 15, 16, 17.
 pub enum Start {
@@ -84,7 +85,7 @@ fn same_class(bytes: &[u8], rows: &[u32], class: &[u8]) -> bool
     requires { ⌜ Table (now bytes) (now rows) ⌝ }
     ensures { λ r. ⌜ r ≡ sameClass (now (class .entry)) (nodesOf (now (bytes .entry))) ⌝ }
 {
-    if element::has_root(bytes, rows, tags::SOP_CLASS_UID, tags::UI) {
+    if element::has_root(bytes, rows, tags::SOP_CLASS_UID, vrs::UI) {
         let uid = value::trim_end(class, 0);
         element::is_ui_root(bytes, rows, tags::SOP_CLASS_UID, uid)
     } else {

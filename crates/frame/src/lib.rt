@@ -5,8 +5,8 @@ ghost use Rattle.dataset.specs.Tree.{rowsOf, rowAt};
 ghost use Rattle.node.specs.Nodes.{nodesOf};
 ghost use Rattle.node.specs.Contracts.{Table};
 ghost use Rattle.frame.specs.View.{Part, IsView, Fits, frameSize};
+use basics::wider;
 use dataset::WIDTH;
-use node::wide;
 
 // A frame: its bytes, the number of its rows and of its columns.
 pub struct FrameView<'a> {
@@ -94,7 +94,7 @@ pub fn value_part<'a, 'b>(bytes: &'a [u8], rows: &'b [u32], p: usize) -> &'a [u8
     requires { ⌜ Table (now bytes) (now rows) × (p < length (nodesOf (now bytes))) ⌝ }
     ensures { λ r. ⌜ Part (bytes .entry) (rowAt (rowsOf (now (bytes .entry))) p .offset) (rowAt (rowsOf (now (bytes .entry))) p .size) r ⌝ }
 {
-    let start = wide(rows[WIDTH * p + dataset::OFFSET]);
-    let end = start + wide(rows[WIDTH * p + dataset::LENGTH]);
+    let start = wider(rows[WIDTH * p + dataset::OFFSET]);
+    let end = start + wider(rows[WIDTH * p + dataset::LENGTH]);
     &bytes[start..end]
 }

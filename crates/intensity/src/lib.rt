@@ -6,7 +6,8 @@ ghost use Rattle.node.specs.Nodes.{nodesOf, members};
 ghost use Rattle.node.specs.Contracts.{Table};
 ghost use Rattle.rules.specs.Intensity.{isLinear, linearAmong, entryCount, isLut, hasLut};
 ghost use Rattle.intensity.specs.Contracts.{agree, relationOf, lutsOf, tableOf, relationIn, tableIn, Stops};
-use dataset::u16_at;
+use basics::u16_at;
+use basics::vrs;
 use element::tags;
 use value::Num;
 
@@ -64,10 +65,10 @@ fn has_lut(bytes: &[u8], rows: &[u32], item: usize) -> bool
     requires { ⌜ Table (now bytes) (now rows) × (item < length (nodesOf (now bytes))) ⌝ }
     ensures { λ r. ⌜ r ≡ hasLut (nodesOf (now (bytes .entry))) item ⌝ }
 {
-    let Num::Is(d) = element::find_vr_item(bytes, rows, item, tags::LUT_DESCRIPTOR, tags::US) else {
+    let Num::Is(d) = element::find_vr_item(bytes, rows, item, tags::LUT_DESCRIPTOR, vrs::US) else {
         return false;
     };
-    let Num::Is(t) = element::find_vr_item(bytes, rows, item, tags::LUT_DATA, tags::OW) else {
+    let Num::Is(t) = element::find_vr_item(bytes, rows, item, tags::LUT_DATA, vrs::OW) else {
         return false;
     };
     is_lut(node::value(bytes, rows, d), node::value(bytes, rows, t))
@@ -98,7 +99,7 @@ fn table_of(bytes: &[u8], rows: &[u32], group: usize) -> usize
     requires { ⌜ Table (now bytes) (now rows) × (group < length (nodesOf (now bytes))) ⌝ }
     ensures { λ r. ⌜ r ≡ tableOf (nodesOf (now (bytes .entry))) group ⌝ }
 {
-    if node::vr(bytes, rows, group) == dataset::SQ {
+    if node::vr(bytes, rows, group) == vrs::SQ {
         let from = group + 1;
         let to = node::next(bytes, rows, group);
         if from < to {

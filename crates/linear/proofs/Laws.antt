@@ -8,9 +8,9 @@ use native.Mathlib.Omega.{arith}
 use lib.ListN.{length}
 use lib.Dec.{eqb, ltb}
 use borrow.Author.Tests.{eqb-true, eqb-false, ltb-true, ltb-false, lt-ltb, le-ltb, le-leb}
-use Rattle.dataset.specs.Bytes.{le16}
+use Rattle.basics.specs.Bytes.{le16}
 use Rattle.value.specs.declared.Num.the-variants.{Is, Lacks}
-use Rattle.verdict.proofs.Tests.{and-both}
+use Rattle.basics.proofs.Tests.{and-both}
 use Rattle.node.specs.Nodes.{Node, members}
 use Rattle.element.specs.Elements.{first}
 use Rattle.pixel.specs.declared.Geometry.{Geometry}

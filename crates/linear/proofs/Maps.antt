@@ -8,11 +8,11 @@ use native.Mathlib.Omega.{arith}
 use lib.ListN.{length, drop}
 use borrow.Author.Tests.{eq-eqb}
 use Rattle.value.specs.declared.Num.the-variants.{Is, Lacks}
-use Rattle.verdict.proofs.Tests.{false-is-true}
+use Rattle.basics.proofs.Tests.{false-is-true}
 use Rattle.node.specs.Nodes.{Node, inside}
 use Rattle.node.specs.Find.{findVr}
 use Rattle.element.specs.Tags
-use Rattle.element.specs.Tags.{US, OW}
+use Rattle.basics.specs.Vr.{US, OW}
 use Rattle.element.specs.Elements.{valueAt}
 use Rattle.rules.specs.Intensity.{isLut, hasLut}
 use Rattle.pixel.specs.declared.Geometry.{Geometry}

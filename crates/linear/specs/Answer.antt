@@ -6,7 +6,7 @@ use mathlib.Core.List.{List, [], _++_}
 use mathlib.Core.Option.{Option, none, some}
 use lib.ListN.{length, drop}
 use lib.Dec.{leb}
-use Rattle.dataset.specs.Fields.{Fields, codeAlone, placed, counted, broken}
+use Rattle.basics.specs.Fields.{Fields, codeAlone, placed, counted, broken}
 use Rattle.node.specs.Nodes.{Node, nodesOf}
 use Rattle.conformance.specs.Judging.{judgeOf}
 use Rattle.conformance.specs.declared.JudgeAnswer.{JudgeAnswer}

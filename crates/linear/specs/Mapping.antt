@@ -7,14 +7,13 @@ use mathlib.Core.List.{List}
 use mathlib.Core.Option.{Option, none, some}
 use lib.ListN.{length}
 use lib.Dec.{eqb, leb, ltb}
-use Rattle.dataset.specs.Bytes.{le16}
-use Rattle.dataset.specs.Vr.{SQ}
+use Rattle.basics.specs.Bytes.{le16}
+use Rattle.basics.specs.Vr.{SQ, US, OW}
 use Rattle.value.specs.declared.Num.{Num}
 use Rattle.value.specs.declared.Num.the-variants.{Is, Lacks}
 use Rattle.node.specs.Nodes.{Node, nodeAt, inside}
 use Rattle.node.specs.Find.{findVr}
 use Rattle.element.specs.Tags
-use Rattle.element.specs.Tags.{US, OW}
 use Rattle.element.specs.Elements.{valueAt, first}
 use Rattle.rules.specs.Intensity.{linearAmong, entryCount}
 use Rattle.pixel.specs.Pixel.{samplesOf, isFrame, sampleAt}

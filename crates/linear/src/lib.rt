@@ -4,9 +4,9 @@ ghost use Prim.Native.Nat.{ℕ, _+_, _*_, _≤_, _<_};
 ghost use mathlib.Core.List.{_++_};
 ghost use lib.ListN.{length, drop, getD};
 ghost use Rattle.conformance.specs.declared.Finding.the-variants as finding;
-ghost use Rattle.dataset.specs.Bytes.{le16};
+ghost use Rattle.basics.specs.Bytes.{le16};
 ghost use Rattle.dataset.specs.Reading.{readingOf};
-ghost use Rattle.dataset.specs.Fields.{Answers};
+ghost use Rattle.basics.specs.Fields.{Answers};
 ghost use Rattle.dataset.specs.Answer.{bufferOf};
 ghost use Rattle.conformance.specs.Judging.{findingOf};
 ghost use Rattle.node.specs.Nodes.{nodesOf};
@@ -18,8 +18,9 @@ ghost use Rattle.steps.specs.Contracts.{foundOf, FoundBelow};
 ghost use Rattle.linear.specs.Mapping.{linearOn, linearFor, placeAmong, entryAt, mappingBy};
 ghost use Rattle.linear.specs.Answer.{entriesIn, entriesOf, acceptedAnswer, linearOf, valuesBy, valuesOf, fieldsOf};
 ghost use Rattle.linear.specs.Contracts.{MapReady, Mappable};
+use basics::u16_at;
+use basics::vrs;
 use conformance::JudgeAnswer;
-use dataset::u16_at;
 use element::tags;
 use pixel::Geometry;
 use steps::Found;
@@ -46,7 +47,7 @@ fn linear_on(bytes: &[u8], rows: &[u32], group: usize) -> Found
     ensures { λ r. ⌜ foundOf r ≡ linearOn (nodesOf (now (bytes .entry))) (num.Is group) ⌝ }
     ensures { λ r. ⌜ FoundBelow (length (nodesOf (now (bytes .entry)))) r ⌝ }
 {
-    if node::vr(bytes, rows, group) == dataset::SQ {
+    if node::vr(bytes, rows, group) == vrs::SQ {
         let to = node::next(bytes, rows, group);
         let j = intensity::next_linear(bytes, rows, group + 1, to);
         if j < to { Found::At(j) } else { Found::Absent }
@@ -134,10 +135,10 @@ fn map(bytes: &[u8], rows: &[u32], frame: usize, item: usize, values: &mut [u16]
     let Num::Is(p) = steps::pixel_element(bytes, rows) else {
         return;
     };
-    let Num::Is(d) = element::find_vr_item(bytes, rows, item, tags::LUT_DESCRIPTOR, tags::US) else {
+    let Num::Is(d) = element::find_vr_item(bytes, rows, item, tags::LUT_DESCRIPTOR, vrs::US) else {
         return;
     };
-    let Num::Is(t) = element::find_vr_item(bytes, rows, item, tags::LUT_DATA, tags::OW) else {
+    let Num::Is(t) = element::find_vr_item(bytes, rows, item, tags::LUT_DATA, vrs::OW) else {
         return;
     };
     map_cells(

@@ -124,7 +124,7 @@ fn masked_by_window(
     let half = pixel::power(g.stored - 1);
     let low = pixel::power(g.stored) - 1;
     for c in 0..columns {
-        let place = pixel::sample(line, g, low, c) + low - pixel::wider(masks[s + c]);
+        let place = pixel::sample(line, g, low, c) + low - basics::wider(masks[s + c]);
         levels[c] = window::shade(window, place + half, low, inverse);
     }
 }

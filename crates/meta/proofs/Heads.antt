@@ -20,7 +20,8 @@ use Rattle.dataset.proofs.Depths.{Deep, RunDeep, value-deep}
 use Rattle.meta.specs.declared.Uid.{Uid}
 use Rattle.meta.specs.declared.Found.{Found}
 use Rattle.meta.specs.declared.Elements.the-variants as elements
-use Rattle.meta.specs.Meta.{MediaStorageSOPClassUID, TransferSyntaxUID, UI, uidAt, nothing, noted, foundIn}
+use Rattle.meta.specs.Meta.{MediaStorageSOPClassUID, TransferSyntaxUID, uidAt, nothing, noted, foundIn}
+use Rattle.basics.specs.Vr.{UI}
 use Rattle.meta.specs.Contracts.{UidWithin, FoundWithin, walkOf}
 
 -- ---- Rows one after another

@@ -7,7 +7,7 @@ use mathlib.Core.Bool.{Bool, true, false, _&&_}
 use mathlib.Core.List.{List}
 use lib.ListN.{length, take, drop, length-take, length-drop}
 use lib.Dec.{eqb, leb}
-use Rattle.dataset.specs.Bytes.{le16, le32, tagAt, vrAt}
+use Rattle.basics.specs.Bytes.{le16, le32, tagAt, vrAt}
 use Rattle.dataset.specs.Header.{cursor}
 use Rattle.dataset.specs.Reading.{Run, done, refused, elementsAt}
 use Rattle.value.specs.Text.{ascii}

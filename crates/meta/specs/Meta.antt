@@ -6,7 +6,8 @@ use mathlib.Core.Bool.{Bool, true, false, cond, _&&_}
 use mathlib.Core.List.{List, [], _∷_}
 use lib.ListN.{length, take, drop}
 use lib.Dec.{eqb, leb}
-use Rattle.dataset.specs.Bytes.{le16, le32, tagAt, vrAt}
+use Rattle.basics.specs.Bytes.{le16, le32, tagAt, vrAt}
+use Rattle.basics.specs.Vr.{UI, UL}
 use Rattle.dataset.specs.Header.{cursor}
 use Rattle.dataset.specs.Reading.{Row, Run, done, refused, elementsAt, depths}
 use Rattle.value.specs.Text.{ascii, equal, isSingle}
@@ -27,12 +28,6 @@ MediaStorageSOPClassUID = 0x0002_0002
 
 abbrev pub TransferSyntaxUID : ℕ
 TransferSyntaxUID = 0x0002_0010
-
-abbrev pub UI : ℕ
-UI = 0x5549
-
-abbrev pub UL : ℕ
-UL = 0x554C
 
 -- Explicit VR Little Endian.
 abbrev pub explicitLittleEndian : List ℕ

@@ -15,10 +15,7 @@ ghost use Rattle.dataset.specs.Contracts.{Within, Walked, Ready};
 ghost use Rattle.meta.specs.Meta.{isMarked, hasGroupLength, endOf, uidAt, noted, named, headedOf, metaOf};
 ghost use Rattle.meta.specs.declared.Uid.the-variants.{At};
 ghost use Rattle.meta.specs.Contracts.{UidWithin, walkOf, ElementsWithin, MetaWithin};
-
-const UI: usize = 0x5549;
-
-const UL: usize = 0x554C;
+use basics::vrs;
 
 const GROUP_LENGTH: usize = 0x0002_0000;
 
@@ -74,13 +71,13 @@ fn has_group_length(file: &[u8]) -> bool
     if file.len() < START + 12 {
         return false;
     }
-    if dataset::tag_at(file, START) != GROUP_LENGTH {
+    if basics::tag_at(file, START) != GROUP_LENGTH {
         return false;
     }
-    if dataset::vr_at(file, START + 4) != UL {
+    if basics::vr_at(file, START + 4) != vrs::UL {
         return false;
     }
-    dataset::u16_at(file, START + 6) == 4
+    basics::u16_at(file, START + 6) == 4
 }
 
 fn uid_at(vr: usize, start: usize, stop: usize) -> Uid
@@ -88,7 +85,7 @@ fn uid_at(vr: usize, start: usize, stop: usize) -> Uid
     ensures { λ r. ⌜ r ≡ uidAt vr start (stop - start) ⌝ }
     ensures { λ r. ⌜ UidWithin stop r ⌝ }
 {
-    if vr == UI {
+    if vr == vrs::UI {
         if stop == start {
             Uid::Lacks
         } else {
@@ -141,20 +138,20 @@ fn header(file: &[u8], c: Cursor, least: usize) -> Head
     if c.end - c.at < 8 {
         return Head::Refused(1);
     }
-    let tag = dataset::tag_at(file, c.at);
+    let tag = basics::tag_at(file, c.at);
     if tag / 65536 == 0xFFFE {
         return Head::Refused(5);
     }
     if tag < least {
         return Head::Refused(2);
     }
-    let vr = dataset::vr_at(file, c.at + 4);
+    let vr = basics::vr_at(file, c.at + 4);
     c.typed(
         file,
         tag,
         vr,
-        dataset::vr_form(vr),
-        dataset::u16_at(file, c.at + 6),
+        basics::vr_form(vr),
+        basics::u16_at(file, c.at + 6),
         DEPTHS,
     )
 }
@@ -195,7 +192,7 @@ fn past(file: &[u8], vr: usize, value: Cursor, none: &mut [u32], first: usize) -
     requires { ⌜ Ready (now file) value 7 first (length (now none)) × (length (now none) ≡ 0) ⌝ }
     ensures { λ r. ⌜ Walked (valueRun 8 (now (file .entry)) first vr value) value first (now (none .entry)) (now (none .exit)) r ⌝ }
 {
-    if vr == dataset::SQ {
+    if vr == vrs::SQ {
         items(file, value, none, first)
     } else {
         Walk::Done(value.end, value.end, first)
@@ -288,7 +285,7 @@ fn headed(file: &[u8]) -> Meta
     ensures { λ r. ⌜ r ≡ headedOf (now (file .entry)) ⌝ }
     ensures { λ r. ⌜ MetaWithin (length (now (file .entry))) r ⌝ }
 {
-    let end = START + 12 + dataset::u32_at(file, START + 8);
+    let end = START + 12 + basics::u32_at(file, START + 8);
     if file.len() < end {
         return Meta::BadHead;
     }

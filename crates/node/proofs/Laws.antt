@@ -6,7 +6,7 @@ use mathlib.Core.List.{List, [], _∷_, map, append-nil}
 use mathlib.Core.Logic.{_⊎_, inl, inr}
 use lib.ListN.{length, getD, take, drop, length-map}
 use borrow.Author.Tests.{ne-eqb}
-use Rattle.dataset.specs.Vr.{SQ}
+use Rattle.basics.specs.Vr.{SQ}
 use Rattle.dataset.specs.Reading.{Row}
 use Rattle.dataset.specs.Answer.{flat}
 use Rattle.dataset.specs.Tree.{rowsOf, rowAt, noRow}

@@ -3,7 +3,7 @@ use mathlib.Core.Path.{_≡_}
 use Prim.Native.Nat.{ℕ, _*_, _≤_, _<_}
 use mathlib.Core.List.{List, [], _∷_}
 use lib.ListN.{length}
-use Rattle.dataset.specs.Reading.{mostRows}
+use Rattle.basics.specs.Limits.{mostRows}
 use Rattle.dataset.specs.Answer.{width, flat}
 use Rattle.dataset.specs.Tree.{rowsOf, rowAt, Kind, Members}
 use Rattle.node.specs.Nodes.{nodesOf, Node, nodeAt, nextNode, members}

@@ -5,17 +5,13 @@ ghost use lib.ListN.{length};
 ghost use Rattle.node.specs.Nodes.{nodesOf, nodeAt, nextNode, members, root, inside};
 ghost use Rattle.node.specs.Find.{find, filled};
 ghost use Rattle.node.specs.Contracts.{Table, Ascends, fromTag, firstIs, Nearby, lower, Container, Held, MemberAbove};
-ghost use Rattle.dataset.specs.Reading.{mostRows};
+ghost use Rattle.basics.specs.Limits.{mostRows};
 ghost use Rattle.dataset.specs.Tree.{rowsOf, rowAt};
 ghost use Rattle.value.specs.Contracts.{Below};
+use basics::vrs;
+use basics::wider;
 use dataset::WIDTH;
 use value::Num;
-
-pub fn wide(x: u32) -> usize
-    ensures { λ r. ⌜ r ≡ x ⌝ }
-{
-    x as usize
-}
 
 // How many nodes there are.
 pub fn count(bytes: &[u8], rows: &[u32]) -> usize
@@ -29,14 +25,14 @@ pub fn tag(bytes: &[u8], rows: &[u32], i: usize) -> usize
     requires { ⌜ Table (now bytes) (now rows) × (i < length (nodesOf (now bytes))) ⌝ }
     ensures { λ r. ⌜ r ≡ nodeAt (nodesOf (now (bytes .entry))) i .tag ⌝ }
 {
-    wide(rows[WIDTH * i])
+    wider(rows[WIDTH * i])
 }
 
 pub fn vr(bytes: &[u8], rows: &[u32], i: usize) -> usize
     requires { ⌜ Table (now bytes) (now rows) × (i < length (nodesOf (now bytes))) ⌝ }
     ensures { λ r. ⌜ r ≡ nodeAt (nodesOf (now (bytes .entry))) i .vr ⌝ }
 {
-    wide(rows[WIDTH * i + dataset::VR])
+    wider(rows[WIDTH * i + dataset::VR])
 }
 
 // The node after node i and all below it.
@@ -44,7 +40,7 @@ pub fn next(bytes: &[u8], rows: &[u32], i: usize) -> usize
     requires { ⌜ Table (now bytes) (now rows) × (i < length (nodesOf (now bytes))) ⌝ }
     ensures { λ r. ⌜ (r ≡ nextNode (nodesOf (now (bytes .entry))) i) × (r ≤ length (nodesOf (now (bytes .entry)))) ⌝ }
 {
-    i + 1 + wide(rows[WIDTH * i + dataset::BELOW])
+    i + 1 + wider(rows[WIDTH * i + dataset::BELOW])
 }
 
 // The value of node i, a part of the data set.
@@ -52,15 +48,15 @@ pub fn value<'a, 'b>(bytes: &'a [u8], rows: &'b [u32], i: usize) -> &'a [u8]
     requires { ⌜ Table (now bytes) (now rows) × (i < length (nodesOf (now bytes))) ⌝ }
     ensures { λ r. ⌜ now r ≡ nodeAt (nodesOf (now (bytes .entry))) i .value ⌝ }
 {
-    let kind = wide(rows[WIDTH * i + dataset::VR]);
-    if kind == dataset::SQ {
+    let kind = wider(rows[WIDTH * i + dataset::VR]);
+    if kind == vrs::SQ {
         return &bytes[..0];
     }
     if kind == 0 {
         return &bytes[..0];
     }
-    let start = wide(rows[WIDTH * i + dataset::OFFSET]);
-    let end = start + wide(rows[WIDTH * i + dataset::LENGTH]);
+    let start = wider(rows[WIDTH * i + dataset::OFFSET]);
+    let end = start + wider(rows[WIDTH * i + dataset::LENGTH]);
     &bytes[start..end]
 }
 
@@ -90,7 +86,7 @@ pub fn is_filled(bytes: &[u8], rows: &[u32], i: usize) -> bool
     requires { ⌜ Table (now bytes) (now rows) × (i < length (nodesOf (now bytes))) ⌝ }
     ensures { λ r. ⌜ r ≡ filled (nodesOf (now (bytes .entry))) i ⌝ }
 {
-    if vr(bytes, rows, i) == dataset::SQ {
+    if vr(bytes, rows, i) == vrs::SQ {
         i + 1 != next(bytes, rows, i)
     } else {
         value(bytes, rows, i).len() != 0
@@ -104,7 +100,7 @@ fn parent(bytes: &[u8], rows: &[u32], i: usize) -> usize
     requires { ⌜ Table (now bytes) (now rows) × (i < length (nodesOf (now bytes))) ⌝ }
     ensures { λ r. ⌜ r ≡ rowAt (rowsOf (now (bytes .entry))) i .parent ⌝ }
 {
-    wide(rows[WIDTH * i + dataset::PARENT])
+    wider(rows[WIDTH * i + dataset::PARENT])
 }
 
 // A container is known by its parent number, as `parent` answers it of its members: 0 is the root. Its first member has that number too.

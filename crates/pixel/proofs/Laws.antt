@@ -13,7 +13,7 @@ use lib.Dec.{T, leb}
 use lib.Pow.{pow-pos, pow-lt, le-ones, lt-of-le-ones}
 use lib.ListN.{length, getD, set, take, drop, length-set, length-drop, List·getD-append}
 use lib.Seq.{getD-set-same, getD-set-other, drop-cons, drop-length, getD-append-add, length-take-le}
-use Rattle.dataset.specs.Bytes.{le16}
+use Rattle.basics.specs.Bytes.{le16}
 use Rattle.value.specs.Number.{usValues}
 use Rattle.pixel.specs.declared.Geometry.{Geometry}
 use Rattle.pixel.specs.Pixel.{leBytes, samplesOf, isFrame, sampleAt, sumAt, averageOf, maskAt}

@@ -8,8 +8,9 @@ ghost use Rattle.shift.specs.Shift.{largestShift};
 ghost use Rattle.shift.specs.Contracts.{tooFar};
 ghost use Rattle.pixel.specs.Pixel.{isFrame, averageOf, weightsOf, blendOf};
 ghost use Rattle.pixel.specs.Contracts.{painted, edges, Masks, Small, Shaped, cellAt, plainPlace, maskPlace, Lies, Row, OffsetOf, shifted, Summed, Spread, Averaged, Cells, Weights, paintedFrom, rowShade, Drawn, Blends, blendsAt, Subtracts};
-use dataset::u16_at;
-use dataset::wide;
+use basics::u16_at;
+use basics::wide;
+use basics::wider;
 use value::Signed;
 use value::us_value;
 
@@ -191,12 +192,6 @@ fn average(sum: usize, n: usize, factor: usize) -> usize
     ensures { λ r. ⌜ r ≡ averageOf sum n ⌝ }
 {
     (2 * sum + n) * factor / SCALE
-}
-
-pub fn wider(x: u32) -> usize
-    ensures { λ r. ⌜ r ≡ x ⌝ }
-{
-    x as usize
 }
 
 // Draws a row of a frame from the sums of a row of n mask frames and the offset to the right.

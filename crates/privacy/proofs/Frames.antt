@@ -4,7 +4,7 @@ use Prim.Native.Nat.{ℕ}
 use mathlib.Core.Bool.{Bool, true, false, cond, _&&_}
 use mathlib.Core.List.{List, [], _∷_}
 use lib.Dec.{eqb}
-use Rattle.dataset.specs.Vr.{SQ}
+use Rattle.basics.specs.Vr.{SQ, DS, US, FL, OW}
 use Rattle.value.specs.Text.{ascii}
 use Rattle.value.specs.Number.{usOf}
 use Rattle.value.specs.declared.Num.{Num}
@@ -13,7 +13,6 @@ use Rattle.shift.specs.Shift.{isFrameShift}
 use Rattle.node.specs.Nodes.{Node, nodeAt, root, inside}
 use Rattle.node.specs.Find.{holds, ifPresent, absent, andThen, find, findVr, ofVr, filled}
 use Rattle.element.specs.Tags
-use Rattle.element.specs.Tags.{DS, US, FL, OW}
 use Rattle.element.specs.Elements.{valueAt, oneItem, theItem, every}
 use Rattle.element.specs.Frames.{framesOf, sharedItem, frameItems, frameItem, groupOf, maskItems, operationIs}
 use Rattle.rules.specs.Frame.{atFrame, isShared, repeatsShared, item27, rule27, item28, rule28, item29, rule29, hasWindow, isVoi, item30, rule30, numberOr0, unique, uniqueIds, hasId, isShiftItem, isShiftGroup, item37, rule37}

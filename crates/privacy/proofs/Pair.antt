@@ -1,8 +1,8 @@
 -- Both data sets are worked out; what is the same of both follows from `privacy`.
 use mathlib.Core.Path.{_≡_, refl, sym, ap, _∙_}
 use mathlib.Core.List.{[], _∷_}
-use Rattle.dataset.specs.Bytes.{le16}
-use Rattle.dataset.specs.Vr.{listed, formOf}
+use Rattle.basics.specs.Bytes.{le16}
+use Rattle.basics.specs.Vr.{listed, formOf}
 use Rattle.dataset.specs.Header.{when, headerBy, delimiterBy, levelBy, definedBy, longBy, typedAt, taggedAt, sizedBy, memberAt}
 use Rattle.dataset.specs.Reading.{level, valueRun, readingOf}
 use Rattle.dataset.specs.Tree.{rowsOf}

@@ -3,14 +3,13 @@ use mathlib.Core.Path.{_≡_, refl, ap}
 use Prim.Native.Nat.{ℕ}
 use mathlib.Core.Bool.{Bool, cond}
 use mathlib.Core.List.{List}
-use Rattle.dataset.specs.Vr.{SQ}
+use Rattle.basics.specs.Vr.{SQ, CS, DS, DT, FD}
 use Rattle.value.specs.Text.{ascii}
 use Rattle.value.specs.Words.{wordAt}
 use Rattle.value.specs.declared.Num.the-variants.{Is}
 use Rattle.node.specs.Nodes.{Node, root}
 use Rattle.node.specs.Find.{absent, find, findVr}
 use Rattle.element.specs.Tags
-use Rattle.element.specs.Tags.{CS, DS, DT, FD}
 use Rattle.element.specs.Elements.{usIn, oneItem}
 use Rattle.element.specs.Frames.{framesOf}
 use Rattle.rules.specs.Root.{isXa, isXrf, imageTypeIs, isImageType, planesAre, isOtherPlane, photometricIs, lossyIs, isOriginal, hasRadiation, hasExposure, rule1, rule2, rule3, rule4, rule5, rule6, rule7, rule8, rule9, rule10, rule11, rule12, rule13, rule14, rule15, rule16, rule17, rule18, rule19, rule20, rule21, rule22, rule23, rule24, rule25, rule26}

@@ -6,14 +6,13 @@ use mathlib.Core.List.{List, [], _∷_}
 use mathlib.Core.Option.{Option, none, some}
 use lib.ListN.{length}
 use lib.Dec.{eqb, leb}
-use Rattle.dataset.specs.Vr.{SQ}
+use Rattle.basics.specs.Vr.{SQ, CS, DS, FL, OW, US}
 use Rattle.value.specs.Text.{ascii}
 use Rattle.value.specs.declared.Num.{Num}
 use Rattle.value.specs.declared.Num.the-variants.{Is, Lacks}
 use Rattle.node.specs.Nodes.{Node, nodeAt, root, inside}
 use Rattle.node.specs.Find.{find, findVr}
 use Rattle.element.specs.Tags
-use Rattle.element.specs.Tags.{CS, DS, FL, OW, US}
 use Rattle.element.specs.Elements.{theItem}
 use Rattle.element.specs.Frames.{sharedItem, frameItem, idIn, operationIs}
 use Rattle.pixel.specs.Pixel.{isFrame}

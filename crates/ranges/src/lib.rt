@@ -6,7 +6,7 @@ ghost use mathlib.Core.List.{[]};
 ghost use Prim.Native.Nat.{_+_, _%_, _≤_, _<_, max};
 ghost use lib.Dec.{leb};
 ghost use lib.ListN.{length, getD};
-ghost use Rattle.dataset.specs.Reading.{mostRows};
+ghost use Rattle.basics.specs.Limits.{mostRows};
 ghost use Rattle.value.specs.declared.Num.the-variants as num;
 ghost use Rattle.value.specs.Number.{usValues};
 ghost use Rattle.node.specs.Nodes.{nodesOf, members};
@@ -169,7 +169,7 @@ pub fn applying_at(which: &[u32], frame: usize) -> Applying
     requires { ⌜ frame < length (now which) ⌝ }
     ensures { λ r. ⌜ r ≡ itemOf (getD (now (which .entry)) frame 0) ⌝ }
 {
-    let item = pixel::wider(which[frame]);
+    let item = basics::wider(which[frame]);
     if item == 0 {
         Applying::Nothing
     } else {

@@ -5,7 +5,7 @@ use mathlib.Core.List.{List, [], _∷_, map}
 use mathlib.Core.Bool.{Bool, true, false, not, _&&_, _||_}
 use lib.ListN.{length}
 use lib.Dec.{eqb, leb}
-use Rattle.dataset.specs.Vr.{SQ}
+use Rattle.basics.specs.Vr.{SQ, DS, FL}
 use Rattle.value.specs.declared.Num.{Num}
 use Rattle.value.specs.declared.Num.the-variants.{Is, Lacks}
 use Rattle.value.specs.Text.{valuesOf}
@@ -16,7 +16,6 @@ use Rattle.shift.specs.Shift.{isFrameShift}
 use Rattle.node.specs.Nodes.{Node, nodeAt, inside}
 use Rattle.node.specs.Find.{holds, ifPresent, absent, find, findVr}
 use Rattle.element.specs.Tags
-use Rattle.element.specs.Tags.{DS, FL}
 use Rattle.element.specs.Elements.{valueAt, oneItem, theItem, functionIn, every, some}
 use Rattle.element.specs.Frames.{frameItem, sharedItem, groupOf, idIn}
 

@@ -6,13 +6,12 @@ use mathlib.Core.List.{List, [], _∷_}
 use mathlib.Core.Bool.{Bool, cond, not, _&&_, _||_}
 use lib.ListN.{length}
 use lib.Dec.{eqb, leb}
-use Rattle.dataset.specs.Bytes.{le16}
-use Rattle.dataset.specs.Vr.{SQ}
+use Rattle.basics.specs.Bytes.{le16}
+use Rattle.basics.specs.Vr.{SQ, US, OW}
 use Rattle.value.specs.Text.{ascii}
 use Rattle.node.specs.Nodes.{Node, nodeAt, inside}
 use Rattle.node.specs.Find.{holds, ifPresent, findVr}
 use Rattle.element.specs.Tags
-use Rattle.element.specs.Tags.{US, OW}
 use Rattle.element.specs.Elements.{valueAt, csIs, oneItem, theItem, every}
 use Rattle.element.specs.Frames.{groupOf}
 use Rattle.rules.specs.Frame.{atFrame}

@@ -4,14 +4,13 @@ use mathlib.Core.List.{List, [], _∷_}
 use mathlib.Core.Bool.{Bool, true, false, cond, _&&_, _||_}
 use lib.ListN.{length}
 use lib.Dec.{eqb, leb}
-use Rattle.dataset.specs.Vr.{SQ}
+use Rattle.basics.specs.Vr.{SQ, US, SS, FL}
 use Rattle.value.specs.Text.{ascii}
 use Rattle.value.specs.Number.{usOf, usValues, ssOf, isNumber}
 use Rattle.shift.specs.Shift.{isShift}
 use Rattle.node.specs.Nodes.{Node, nodeAt, root, inside}
 use Rattle.node.specs.Find.{holds, ifPresent, andThen, find, findVr, ofVr, filled}
 use Rattle.element.specs.Tags
-use Rattle.element.specs.Tags.{US, SS, FL}
 use Rattle.element.specs.Elements.{valueAt, every, some}
 use Rattle.element.specs.Frames.{framesOf, frameItems, sharedItem, groupOf, maskItems, operationIs}
 use Rattle.rules.specs.Frame.{hasId, uniqueIds}

@@ -7,7 +7,7 @@ use lib.Dec.{eqb}
 use Rattle.node.specs.Nodes.{Node, nodeAt, root}
 use Rattle.node.specs.Find.{holds, find}
 use Rattle.element.specs.Tags
-use Rattle.element.specs.Tags.{OW, OB}
+use Rattle.basics.specs.Vr.{OW, OB}
 use Rattle.element.specs.Elements.{valueAt, usIn}
 use Rattle.element.specs.Frames.{framesOf}
 

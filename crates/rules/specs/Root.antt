@@ -7,11 +7,10 @@ use lib.ListN.{length}
 use lib.Dec.{eqb, leb}
 use Rattle.value.specs.Text.{ascii, valuesOf, isSingle}
 use Rattle.value.specs.Words.{wordAt, isWord}
-use Rattle.dataset.specs.Vr.{SQ}
+use Rattle.basics.specs.Vr.{SQ, CS, DS, DT, FD}
 use Rattle.node.specs.Nodes.{Node, root, inside}
 use Rattle.node.specs.Find.{holds, absent, find, findVr, has}
 use Rattle.element.specs.Tags
-use Rattle.element.specs.Tags.{CS, DS, DT, FD}
 use Rattle.element.specs.Elements.{valueAt, usIn, csIs, uiIs, oneItem}
 use Rattle.element.specs.Frames.{framesOf, sharedItem}
 

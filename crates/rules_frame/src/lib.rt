@@ -13,6 +13,7 @@ ghost use Rattle.element.specs.Tags.{FrameContentSequence};
 ghost use Rattle.element.specs.Elements.{every};
 ghost use Rattle.rules.specs.Frame.{repeatsShared, item27, item28, isWindow, hasWindow, isVoi, isShiftItem, uniqueIds, isShiftGroup};
 ghost use Rattle.rules_frame.specs.Contracts.{isRepeated, groupTag, groupFits, groupIn, sharedOk, itemBy, sharedPart, itemGrades, itemRule};
+use basics::vrs;
 use value::Function;
 use value::Num;
 
@@ -30,10 +31,10 @@ fn is_repeated(bytes: &[u8], rows: &[u32], j: usize, k: usize, to: usize) -> boo
     requires { ⌜ Table (now bytes) (now rows) × ((j < length (nodesOf (now bytes))) × (to ≤ length (nodesOf (now bytes)))) ⌝ }
     ensures { λ r. ⌜ r ≡ isRepeated (nodesOf (now (bytes .entry))) j (members (nodesOf (now (bytes .entry))) k to) ⌝ }
 {
-    if node::vr(bytes, rows, j) == dataset::SQ {
+    if node::vr(bytes, rows, j) == vrs::SQ {
         match node::first_is(bytes, rows, k, to, node::tag(bytes, rows, j)) {
             Num::Lacks => false,
-            Num::Is(i) => node::vr(bytes, rows, i) == dataset::SQ,
+            Num::Is(i) => node::vr(bytes, rows, i) == vrs::SQ,
         }
     } else {
         false
@@ -173,22 +174,12 @@ fn has_window(bytes: &[u8], rows: &[u32], item: usize) -> bool
     requires { ⌜ Table (now bytes) (now rows) × (item < length (nodesOf (now bytes))) ⌝ }
     ensures { λ r. ⌜ r ≡ hasWindow (nodesOf (now (bytes .entry))) (inside (nodesOf (now (bytes .entry))) item) ⌝ }
 {
-    let Num::Is(c) = element::find_vr_item(
-        bytes,
-        rows,
-        item,
-        element::tags::WINDOW_CENTER,
-        element::tags::DS,
-    ) else {
+    let Num::Is(c) = element::find_vr_item(bytes, rows, item, element::tags::WINDOW_CENTER, vrs::DS)
+    else {
         return false;
     };
-    let Num::Is(w) = element::find_vr_item(
-        bytes,
-        rows,
-        item,
-        element::tags::WINDOW_WIDTH,
-        element::tags::DS,
-    ) else {
+    let Num::Is(w) = element::find_vr_item(bytes, rows, item, element::tags::WINDOW_WIDTH, vrs::DS)
+    else {
         return false;
     };
     is_window(
@@ -220,7 +211,7 @@ fn is_shift_item(bytes: &[u8], rows: &[u32], item: usize) -> bool
             rows,
             item,
             element::tags::MASK_SUB_PIXEL_SHIFT,
-            element::tags::FL,
+            vrs::FL,
         ) {
             Num::Lacks => false,
             Num::Is(k) => shift::is_frame_shift(node::value(bytes, rows, k)),
@@ -262,7 +253,7 @@ fn is_shift_group(bytes: &[u8], rows: &[u32], group: usize) -> bool
     requires { ⌜ Table (now bytes) (now rows) × (group < length (nodesOf (now bytes))) ⌝ }
     ensures { λ r. ⌜ r ≡ isShiftGroup (nodesOf (now (bytes .entry))) group ⌝ }
 {
-    if node::vr(bytes, rows, group) == dataset::SQ {
+    if node::vr(bytes, rows, group) == vrs::SQ {
         let from = group + 1;
         let to = node::next(bytes, rows, group);
         if from < to {

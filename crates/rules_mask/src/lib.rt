@@ -13,6 +13,7 @@ ghost use Rattle.element.specs.Elements.{every};
 ghost use Rattle.rules.specs.Mask.{isOperation, isMask, rule31, pairsFit, isRange, rangeFits, rule32, allFrames, areMaskFrames, isOne, averageFits, averagesFit, rule33, isOffset, offsetFits, rule34, isShiftAt, shiftFits, rule35, anyShift, masksHaveIds, rule36};
 ghost use Rattle.rules.specs.All.{ruleAt};
 ghost use Rattle.rules_mask.specs.Contracts.{itemFits, shiftIn};
+use basics::vrs;
 use element::tags;
 use value::Num;
 use value::Signed;
@@ -85,7 +86,7 @@ fn is_mask(bytes: &[u8], rows: &[u32], i: usize) -> bool
     requires { ⌜ Table (now bytes) (now rows) × (i < length (nodesOf (now bytes))) ⌝ }
     ensures { λ r. ⌜ r ≡ isMask (nodesOf (now (bytes .entry))) i ⌝ }
 {
-    if node::vr(bytes, rows, i) == dataset::SQ {
+    if node::vr(bytes, rows, i) == vrs::SQ {
         let n = element::count_items(bytes, rows, i);
         if 1 <= n {
             if n <= MOST_MASKS {
@@ -148,7 +149,7 @@ fn is_range(bytes: &[u8], rows: &[u32], i: usize, n: usize) -> bool
     requires { ⌜ Table (now bytes) (now rows) × (i < length (nodesOf (now bytes))) ⌝ }
     ensures { λ r. ⌜ r ≡ isRange (nodesOf (now (bytes .entry))) n i ⌝ }
 {
-    if node::vr(bytes, rows, i) == tags::US {
+    if node::vr(bytes, rows, i) == vrs::US {
         let v = node::value(bytes, rows, i);
         if 4 <= v.len() {
             if v.len() % 4 == 0 {
@@ -237,7 +238,7 @@ fn is_one(bytes: &[u8], rows: &[u32], i: usize) -> bool
     requires { ⌜ Table (now bytes) (now rows) × (i < length (nodesOf (now bytes))) ⌝ }
     ensures { λ r. ⌜ r ≡ isOne (nodesOf (now (bytes .entry))) i ⌝ }
 {
-    if node::vr(bytes, rows, i) == tags::US {
+    if node::vr(bytes, rows, i) == vrs::US {
         match value::us_of(node::value(bytes, rows, i)) {
             Num::Lacks => false,
             Num::Is(x) => x == 1,
@@ -263,7 +264,7 @@ fn average_fits(bytes: &[u8], rows: &[u32], item: usize, n: usize) -> bool
     requires { ⌜ Table (now bytes) (now rows) × (item < length (nodesOf (now bytes))) ⌝ }
     ensures { λ r. ⌜ r ≡ averageFits (nodesOf (now (bytes .entry))) n item ⌝ }
 {
-    match element::find_vr_item(bytes, rows, item, tags::MASK_FRAME_NUMBERS, tags::US) {
+    match element::find_vr_item(bytes, rows, item, tags::MASK_FRAME_NUMBERS, vrs::US) {
         Num::Lacks => false,
         Num::Is(k) => {
             if are_mask_frames(node::value(bytes, rows, k), n) {
@@ -306,7 +307,7 @@ fn is_offset(bytes: &[u8], rows: &[u32], i: usize) -> bool
     requires { ⌜ Table (now bytes) (now rows) × (i < length (nodesOf (now bytes))) ⌝ }
     ensures { λ r. ⌜ r ≡ isOffset (nodesOf (now (bytes .entry))) i ⌝ }
 {
-    if node::vr(bytes, rows, i) == tags::SS {
+    if node::vr(bytes, rows, i) == vrs::SS {
         match value::ss_of(node::value(bytes, rows, i)) {
             Signed::Plus(_) => true,
             Signed::Minus(_) => true,
@@ -347,7 +348,7 @@ fn is_shift_at(bytes: &[u8], rows: &[u32], i: usize) -> bool
     requires { ⌜ Table (now bytes) (now rows) × (i < length (nodesOf (now bytes))) ⌝ }
     ensures { λ r. ⌜ r ≡ isShiftAt (nodesOf (now (bytes .entry))) i ⌝ }
 {
-    if node::vr(bytes, rows, i) == tags::FL {
+    if node::vr(bytes, rows, i) == vrs::FL {
         shift::is_shift(node::value(bytes, rows, i))
     } else {
         false
@@ -384,7 +385,7 @@ fn shift_in(bytes: &[u8], rows: &[u32], item: usize, otherwise: bool) -> bool
     match element::find_item(bytes, rows, item, tags::FRAME_PIXEL_SHIFT_SEQUENCE) {
         Num::Lacks => otherwise,
         Num::Is(g) => {
-            if node::vr(bytes, rows, g) == dataset::SQ {
+            if node::vr(bytes, rows, g) == vrs::SQ {
                 node::is_filled(bytes, rows, g)
             } else {
                 false

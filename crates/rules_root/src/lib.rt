@@ -10,6 +10,7 @@ ghost use Rattle.element.specs.Elements.{usIn};
 ghost use Rattle.rules.specs.Root.{isXa, isXrf, imageTypeIs, isImageType, planesAre, isOtherPlane, photometricIs, bitsFit, lossyIs, isOriginal, hasRadiation, hasExposure, rule1, rule2, rule3, rule4, rule5, rule6, rule7, rule8, rule9, rule10, rule11, rule12, rule13, rule14, rule15, rule16, rule17, rule18, rule19, rule20, rule21, rule22, rule23, rule24, rule25, rule26};
 ghost use Rattle.rules.specs.Pixels.{padded, isPixelVr, isPixelData, rule38};
 ghost use Rattle.rules.specs.All.{ruleAt};
+use basics::vrs;
 use element::tags;
 use value::Num;
 
@@ -46,7 +47,7 @@ fn image_type_is(bytes: &[u8], rows: &[u32], word: &[u8]) -> bool
     requires { ⌜ Table (now bytes) (now rows) ⌝ }
     ensures { λ r. ⌜ r ≡ imageTypeIs (nodesOf (now (bytes .entry))) (now (word .entry)) ⌝ }
 {
-    match element::find_vr_root(bytes, rows, tags::IMAGE_TYPE, tags::CS) {
+    match element::find_vr_root(bytes, rows, tags::IMAGE_TYPE, vrs::CS) {
         Num::Lacks => false,
         Num::Is(i) => value::is_word_at(node::value(bytes, rows, i), 0, word),
     }
@@ -133,7 +134,7 @@ fn rule_3(bytes: &[u8], rows: &[u32]) -> bool
     requires { ⌜ Table (now bytes) (now rows) ⌝ }
     ensures { λ r. ⌜ r ≡ rule3 (nodesOf (now (bytes .entry))) ⌝ }
 {
-    match element::find_vr_root(bytes, rows, tags::IMAGE_TYPE, tags::CS) {
+    match element::find_vr_root(bytes, rows, tags::IMAGE_TYPE, vrs::CS) {
         Num::Lacks => false,
         Num::Is(i) => is_image_type(node::value(bytes, rows, i)),
     }
@@ -175,7 +176,7 @@ fn rule_6(bytes: &[u8], rows: &[u32]) -> bool
     if planes_are(bytes, rows, b"UNDEFINED") {
         element::is_absent_root(bytes, rows, tags::PLANE_IDENTIFICATION)
     } else {
-        element::has_root(bytes, rows, tags::PLANE_IDENTIFICATION, tags::CS)
+        element::has_root(bytes, rows, tags::PLANE_IDENTIFICATION, vrs::CS)
     }
 }
 
@@ -199,7 +200,7 @@ fn rule_7(bytes: &[u8], rows: &[u32]) -> bool
     ensures { λ r. ⌜ r ≡ rule7 (nodesOf (now (bytes .entry))) ⌝ }
 {
     if planes_are(bytes, rows, b"BIPLANE") {
-        match element::find_vr_root(bytes, rows, tags::PLANE_IDENTIFICATION, tags::CS) {
+        match element::find_vr_root(bytes, rows, tags::PLANE_IDENTIFICATION, vrs::CS) {
             Num::Lacks => false,
             Num::Is(i) => is_other_plane(node::value(bytes, rows, i)),
         }
@@ -213,7 +214,7 @@ fn rule_8(bytes: &[u8], rows: &[u32]) -> bool
     requires { ⌜ Table (now bytes) (now rows) ⌝ }
     ensures { λ r. ⌜ r ≡ rule8 (nodesOf (now (bytes .entry))) ⌝ }
 {
-    element::has_root(bytes, rows, tags::ACQUISITION_DATETIME, tags::DT)
+    element::has_root(bytes, rows, tags::ACQUISITION_DATETIME, vrs::DT)
 }
 
 // ---- How the samples are stored
@@ -372,8 +373,8 @@ fn rule_19(bytes: &[u8], rows: &[u32]) -> bool
     ensures { λ r. ⌜ r ≡ rule19 (nodesOf (now (bytes .entry))) ⌝ }
 {
     if lossy_is(bytes, rows, b"01") {
-        if element::has_root(bytes, rows, tags::LOSSY_IMAGE_COMPRESSION_RATIO, tags::DS) {
-            element::has_root(bytes, rows, tags::LOSSY_IMAGE_COMPRESSION_METHOD, tags::CS)
+        if element::has_root(bytes, rows, tags::LOSSY_IMAGE_COMPRESSION_RATIO, vrs::DS) {
+            element::has_root(bytes, rows, tags::LOSSY_IMAGE_COMPRESSION_METHOD, vrs::CS)
         } else {
             false
         }
@@ -419,8 +420,8 @@ fn has_radiation(bytes: &[u8], rows: &[u32]) -> bool
     requires { ⌜ Table (now bytes) (now rows) ⌝ }
     ensures { λ r. ⌜ r ≡ hasRadiation (nodesOf (now (bytes .entry))) ⌝ }
 {
-    if element::has_root(bytes, rows, tags::KVP, tags::DS) {
-        if element::has_root(bytes, rows, tags::RADIATION_MODE, tags::CS) {
+    if element::has_root(bytes, rows, tags::KVP, vrs::DS) {
+        if element::has_root(bytes, rows, tags::RADIATION_MODE, vrs::CS) {
             if element::is_cs_root(bytes, rows, tags::RADIATION_SETTING, b"SC") {
                 true
             } else {
@@ -450,11 +451,11 @@ fn has_exposure(bytes: &[u8], rows: &[u32]) -> bool
     requires { ⌜ Table (now bytes) (now rows) ⌝ }
     ensures { λ r. ⌜ r ≡ hasExposure (nodesOf (now (bytes .entry))) ⌝ }
 {
-    if element::has_root(bytes, rows, tags::EXPOSURE_IN_MAS, tags::FD) {
+    if element::has_root(bytes, rows, tags::EXPOSURE_IN_MAS, vrs::FD) {
         true
     } else {
-        if element::has_root(bytes, rows, tags::EXPOSURE_TIME_IN_MS, tags::FD) {
-            element::has_root(bytes, rows, tags::XRAY_TUBE_CURRENT_IN_MA, tags::FD)
+        if element::has_root(bytes, rows, tags::EXPOSURE_TIME_IN_MS, vrs::FD) {
+            element::has_root(bytes, rows, tags::XRAY_TUBE_CURRENT_IN_MA, vrs::FD)
         } else {
             false
         }
@@ -511,7 +512,7 @@ fn rule_26(bytes: &[u8], rows: &[u32]) -> bool
         bytes,
         rows,
         tags::PER_FRAME_FUNCTIONAL_GROUPS_SEQUENCE,
-        dataset::SQ,
+        vrs::SQ,
     ) else {
         return false;
     };
@@ -526,14 +527,10 @@ fn rule_26(bytes: &[u8], rows: &[u32]) -> bool
 fn is_pixel_vr(vr: usize, allocated: usize) -> bool
     ensures { λ r. ⌜ r ≡ isPixelVr vr allocated ⌝ }
 {
-    if vr == tags::OW {
+    if vr == vrs::OW {
         true
     } else {
-        if vr == tags::OB {
-            allocated == 8
-        } else {
-            false
-        }
+        if vr == vrs::OB { allocated == 8 } else { false }
     }
 }
 

@@ -2,8 +2,8 @@
 -- claim over both lists takes more steps than the checker allows a declaration.
 use mathlib.Core.Path.{_≡_, refl}
 use mathlib.Core.List.{map}
-use Rattle.dataset.specs.Bytes.{le16}
-use Rattle.dataset.specs.Vr.{listed, formOf}
+use Rattle.basics.specs.Bytes.{le16}
+use Rattle.basics.specs.Vr.{listed, formOf}
 use Rattle.dataset.specs.Header.{when, headerBy, delimiterBy, levelBy, definedBy, longBy, typedAt, taggedAt, sizedBy, memberAt}
 use Rattle.dataset.specs.Reading.{level, valueRun, readingOf}
 use Rattle.dataset.specs.Tree.{rowsOf}

@@ -19,7 +19,7 @@ use mathlib.Core.Option.{Option, some}
 use lib.IntN.{pos}
 use lib.ListN.{take, replicate}
 use Rattle.dataset.specs.Reading.{readingOf}
-use Rattle.dataset.specs.Fields.{Fields, placed, counted, drawn, broken}
+use Rattle.basics.specs.Fields.{Fields, placed, counted, drawn, broken}
 use Rattle.dataset.specs.Answer.{answerOf, bufferOf}
 use Rattle.dataset.specs.Answer as read
 use Rattle.value.specs.declared.Num.{Num}

@@ -12,7 +12,7 @@ use Rattle.value.specs.declared.Num.{Num}
 use Rattle.value.specs.declared.Num.the-variants.{Is, Lacks}
 use Rattle.node.specs.Nodes.{Node, nodesOf, root, inside}
 use Rattle.node.specs.Find.{holds, findVr}
-use Rattle.dataset.specs.Vr.{SQ}
+use Rattle.basics.specs.Vr.{SQ}
 use Rattle.element.specs.Tags
 use Rattle.element.specs.Elements.{itemsIn, insideOf}
 use Rattle.element.specs.Frames.{framesOf, sharedItem, frameItems, maskItems}

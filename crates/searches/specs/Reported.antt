@@ -1,7 +1,7 @@
 -- What `judge` reports of its searches (document 02, Q-11): their sum with code 0, and 0 with every other answer.
 use Prim.Native.Nat.{ℕ}
 use mathlib.Core.List.{List}
-use Rattle.dataset.specs.Fields.{Fields}
+use Rattle.basics.specs.Fields.{Fields}
 use Rattle.node.specs.Nodes.{nodesOf}
 use Rattle.conformance.specs.declared.JudgeAnswer.{JudgeAnswer}
 use Rattle.conformance.specs.declared.JudgeAnswer.the-variants as judged

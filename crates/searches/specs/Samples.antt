@@ -3,7 +3,7 @@ use mathlib.Core.Path.{_≡_}
 use Prim.Native.Nat.{ℕ}
 use mathlib.Core.List.{List, [], _∷_, map}
 use Rattle.dataset.specs.Header.{itemTag}
-use Rattle.dataset.specs.Vr.{SQ}
+use Rattle.basics.specs.Vr.{SQ, CS, DS, UI, US}
 use Rattle.node.specs.Nodes.{Node}
 use Rattle.element.specs.Tags
 use Rattle.searches.specs.Searches.{searchesOf}
@@ -19,11 +19,11 @@ item descendants = node itemTag 0 descendants
 
 -- Three elements in the root: of 33 tags sought there two stop at the first, two at the second, and 29 at the third or after it.
 abbrev pub three : List Node
-three = node Tags.SOPClassUID Tags.UI 0 ∷ node Tags.Modality Tags.CS 0 ∷ node Tags.Rows Tags.US 0 ∷ []
+three = node Tags.SOPClassUID UI 0 ∷ node Tags.Modality CS 0 ∷ node Tags.Rows US 0 ∷ []
 
 -- A mask item with its operation, and nothing else: each of 33 searches in the root looks at one row, and so does each of 7 in the item.
 abbrev pub mask : List Node
-mask = sequence Tags.MaskSubtractionSequence 2 ∷ item 1 ∷ node Tags.MaskOperation Tags.CS 0 ∷ []
+mask = sequence Tags.MaskSubtractionSequence 2 ∷ item 1 ∷ node Tags.MaskOperation CS 0 ∷ []
 
 -- Two frames. The shared item has a window without its width; each frame's item has Frame Content, and the second a shift without its
 -- numbers. 35 rows are looked at in the root, 19 for the first frame and 25 for the second.
@@ -33,7 +33,7 @@ frames =
     ∷ item 3
     ∷ sequence Tags.FrameVOILUTSequence 2
     ∷ item 1
-    ∷ node Tags.WindowCenter Tags.DS 0
+    ∷ node Tags.WindowCenter DS 0
     ∷ sequence Tags.PerFrameFunctionalGroupsSequence 9
     ∷ item 2
     ∷ sequence Tags.FrameContentSequence 1
@@ -43,7 +43,7 @@ frames =
     ∷ item 0
     ∷ sequence Tags.FramePixelShiftSequence 2
     ∷ item 1
-    ∷ node Tags.SubtractionItemID Tags.US 0
+    ∷ node Tags.SubtractionItemID US 0
     ∷ []
 
 abbrev pub Samples : Type 0

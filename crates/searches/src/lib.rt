@@ -11,7 +11,7 @@ ghost use Rattle.element.specs.Frames.{sharedItem, frameItems};
 ghost use Rattle.searches.specs.Searches.{readInEach, frameSearches, overFrames, searchesOf};
 ghost use Rattle.searches.specs.Contracts.{allLooked, rises, above, groupAt, overGroup, overGroups, overBoth, InShared, Left};
 ghost use Rattle.dataset.specs.Reading.{readingOf};
-ghost use Rattle.dataset.specs.Fields.{Answers};
+ghost use Rattle.basics.specs.Fields.{Answers};
 ghost use Rattle.dataset.specs.Answer.{bufferOf};
 ghost use Rattle.searches.specs.Reported.{ifAccepted, countedOf, fieldsOf};
 ghost use Rattle.searches.specs.Plain.{Looks, LooksIn};

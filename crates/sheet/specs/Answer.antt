@@ -4,7 +4,7 @@ use Prim.Native.Nat.{ℕ}
 use mathlib.Core.Bool.{cond, _&&_}
 use mathlib.Core.List.{List}
 use lib.Dec.{leb}
-use Rattle.dataset.specs.Fields.{Fields, codeAlone, placed, counted, broken}
+use Rattle.basics.specs.Fields.{Fields, codeAlone, placed, counted, broken}
 use Rattle.node.specs.Nodes.{Node, nodesOf}
 use Rattle.conformance.specs.Judging.{judgeOf}
 use Rattle.conformance.specs.declared.JudgeAnswer.{JudgeAnswer}

@@ -4,7 +4,7 @@ ghost use mathlib.Core.Bool.{true, cond};
 ghost use Prim.Native.Nat.{ℕ, _+_, _-_, _*_, _/_, _%_, _≤_, _<_};
 ghost use lib.ListN.{length, getD, drop};
 ghost use Rattle.dataset.specs.Reading.{readingOf};
-ghost use Rattle.dataset.specs.Fields.{Answers};
+ghost use Rattle.basics.specs.Fields.{Answers};
 ghost use Rattle.dataset.specs.Answer.{bufferOf};
 ghost use Rattle.value.specs.Number.{usValues};
 ghost use Rattle.shift.specs.Contracts.{ShortMoves};
@@ -27,8 +27,8 @@ ghost use Rattle.sheet.specs.Sheet.{levelsOf, nativesOf, countsOf, frame
 ghost use Rattle.sheet.specs.Answer.{acceptedAnswer, withSheet, sheetOf, sampledFields};
 ghost use Rattle.sheet.specs.Sampling.{total};
 ghost use Rattle.sheet.specs.Contracts.{tallied, Room, Few, First, Last, IsAhead, FrameReady, Rooms, IsHeld, IsNothing};
+use basics::wide;
 use conformance::JudgeAnswer;
-use dataset::wide;
 use display::Masking;
 use display::Plan;
 use display::Scene;

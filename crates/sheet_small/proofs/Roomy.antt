@@ -14,7 +14,7 @@ use Rattle.dataset.specs.Tree.{rowsIn, rowsOf}
 use Rattle.dataset.specs.declared.ReadAnswer.the-variants as reads
 use Rattle.dataset.proofs.Buffer.{length-flat}
 use Rattle.dataset.proofs.Laws.{Small, answer-small}
-use Rattle.verdict.proofs.Tests.{false-is-true}
+use Rattle.basics.proofs.Tests.{false-is-true}
 use Rattle.node.specs.Nodes.{Node, nodesOf}
 use Rattle.conformance.specs.declared.Finding.{Finding}
 use Rattle.conformance.specs.declared.Finding.the-variants as finding

@@ -5,7 +5,7 @@ use mathlib.Core.List.{List}
 use lib.ListN.{length}
 use lib.Dec.{eqb, leb}
 use lib.Ieee.{Float, nan, inf, fin, up, down, ofBits, binary32}
-use Rattle.dataset.specs.Bytes.{le32}
+use Rattle.basics.specs.Bytes.{le32}
 use Rattle.value.specs.declared.Signed.{Signed}
 use Rattle.value.specs.declared.Signed.the-variants.{Plus, Minus, Lacks}
 use Rattle.shift.specs.declared.Shift.{Shift}

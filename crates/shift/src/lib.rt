@@ -9,7 +9,7 @@ ghost use Rattle.value.specs.Contracts.{Below, SizeBelow};
 ghost use Rattle.value.specs.Number.{isNumber};
 ghost use Rattle.shift.specs.Shift.{floatAt, shortOf, shortMovesOf, isShiftOf, itemShift, frameShift, isShift, isFrameShift};
 ghost use Rattle.shift.specs.Contracts.{shortSize, tooFar, ShortMoves};
-use dataset::u32_at;
+use basics::u32_at;
 use value::Num;
 use value::Signed;
 

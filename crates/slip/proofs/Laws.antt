@@ -7,9 +7,9 @@ use mathlib.Core.List.{List, [], _∷_, _++_}
 use lib.ListN.{length, take, drop, getD}
 use lib.Dec.{eqb}
 use lib.Seq.{sets, sets-eq}
-use Rattle.dataset.specs.Bytes.{le16, le32}
+use Rattle.basics.specs.Bytes.{le16, le32, le}
 use Rattle.verdict.specs.declared.Verdict.{Verdict}
-use Rattle.slip.specs.Slip.{mark, slipSize, le, number, fieldBytes, slipWith, sameBytes}
+use Rattle.slip.specs.Slip.{mark, slipSize, number, fieldBytes, slipWith, sameBytes}
 
 pub number-one : (s : List ℕ) (p : ℕ) → number 1 s p ≡ getD s p 0
 unfolding number

@@ -16,11 +16,12 @@ use Rattle.verdict.specs.Verdict.{fieldsFit, possible, isKnown, writable, witho
 use Rattle.verdict.specs.declared.RowCount.{RowCount}
 use Rattle.verdict.specs.declared.RowCount.the-variants.{Known, NotKnown}
 use Rattle.verdict.specs.declared.Verdict.{Verdict}
-use Rattle.verdict.proofs.Tests.{false-is-true, and-both}
+use Rattle.basics.proofs.Tests.{false-is-true, and-both}
 use Rattle.verdict.proofs.Bounds.{Small, possible-small, possible-rows}
 use Rattle.slip.specs.declared.SlipAnswer.{SlipAnswer}
 use Rattle.slip.specs.declared.SlipAnswer.the-variants as read
-use Rattle.slip.specs.Slip.{mark, version, oldVersion, versionPlace, codePlace, rulePlace, framePlace, offsetPlace, rowsPlace, headSize, oldSize, slipSize, le, number, fieldBytes, slipWith, slipBy, slipOf, sameBytes, recorded, ifPossible, readSized, readVersion, readOf, slipBuffer}
+use Rattle.slip.specs.Slip.{mark, version, oldVersion, versionPlace, codePlace, rulePlace, framePlace, offsetPlace, rowsPlace, headSize, oldSize, slipSize, number, fieldBytes, slipWith, slipBy, slipOf, sameBytes, recorded, ifPossible, readSized, readVersion, readOf, slipBuffer}
+use Rattle.basics.specs.Bytes.{le}
 use Rattle.slip.specs.Version1.{oldSlipOf}
 use Rattle.slip.specs.Slips.{Bytes, Slips}
 use Rattle.slip.proofs.Laws.{length-slip}

@@ -6,7 +6,8 @@ use mathlib.Core.List.{List, [], _∷_, _++_}
 use mathlib.Core.Option.{Option, none, some}
 use lib.ListN.{length, take, drop, getD}
 use lib.Dec.{eqb, leb}
-use Rattle.dataset.specs.Fields.{Fields, codeAlone}
+use Rattle.basics.specs.Bytes.{le}
+use Rattle.basics.specs.Fields.{Fields, codeAlone}
 use Rattle.verdict.specs.Verdict.{possible, writable}
 use Rattle.verdict.specs.declared.RowCount.{RowCount}
 use Rattle.verdict.specs.declared.RowCount.the-variants.{Known, NotKnown}
@@ -53,11 +54,6 @@ oldSize = 13
 
 abbrev pub slipSize : ℕ
 slipSize = 17
-
--- The lowest n bytes of a number, little-endian.
-unfoldable pub le : ℕ → ℕ → List ℕ
-le zero x = []
-le (suc n) x = x % 256 ∷ le n (x / 256)
 
 -- The number in the n bytes of s from p on, little-endian.
 unfoldable pub number : ℕ → List ℕ → ℕ → ℕ

@@ -4,12 +4,12 @@ ghost use mathlib.Core.Path.{_≡_};
 ghost use mathlib.Core.List.{_++_};
 ghost use Prim.Native.Nat.{_≤_};
 ghost use lib.ListN.{length, take, drop};
-ghost use Rattle.dataset.specs.Fields.{Answers};
+ghost use Rattle.basics.specs.Fields.{Answers};
 ghost use Rattle.verdict.specs.declared.RowCount.the-variants.{Known, NotKnown};
 ghost use Rattle.slip.specs.Slip.{headSize, oldSize, slipSize, rowsPlace, versionPlace, mark, number, sameBytes, recorded, ifPossible, readSized, readVersion, slipWith, readOf, readFields, writeOf, writeFields, slipBuffer};
-use dataset::u16_at;
-use dataset::u32_at;
-use dataset::wide;
+use basics::u16_at;
+use basics::u32_at;
+use basics::wide;
 use verdict::RowCount;
 use verdict::Verdict;
 

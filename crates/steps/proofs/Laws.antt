@@ -17,7 +17,7 @@ use Rattle.value.specs.declared.Signed.the-variants as signed
 use Rattle.value.specs.Number.{usValues, isNumber}
 use Rattle.value.specs.Contracts.{SizeBelow}
 use Rattle.value.proofs.Laws.{usValues-length}
-use Rattle.dataset.specs.Vr.{SQ}
+use Rattle.basics.specs.Vr.{SQ, US}
 use Rattle.node.specs.Nodes.{Node, nodeAt, nextNode, members, root, inside}
 use Rattle.node.specs.Find.{find, ofVr, andThen}
 use Rattle.node.proofs.Walks.{members-end, members-next}
@@ -172,7 +172,7 @@ second false b e = let x : _≡_ {A = ℕ} 0 1 = cc in absurd (omega arith)
 -- A node that holds pairs holds whole ones.
 pub pairs-whole : (ns : List Node) (i : ℕ) → hasPairs ns i ≡ true → length (valueAt ns i) % 4 ≡ 0
 pairs-whole ns i e =
-    eqb-true (length (valueAt ns i) % 4) 0 (second (leb 4 (length (valueAt ns i))) (eqb (length (valueAt ns i) % 4) 0) (second (eqb (nodeAt ns i .vr) Tags.US) (leb 4 (length (valueAt ns i)) && eqb (length (valueAt ns i) % 4) 0) e))
+    eqb-true (length (valueAt ns i) % 4) 0 (second (leb 4 (length (valueAt ns i))) (eqb (length (valueAt ns i) % 4) 0) (second (eqb (nodeAt ns i .vr) US) (leb 4 (length (valueAt ns i)) && eqb (length (valueAt ns i) % 4) 0) e))
 
 module _ (ns : List Node) (id at to : ℕ) where
   pub naming-end : to ≤ at → naming ns id (members ns at to) ≡ some Lacks

@@ -14,6 +14,7 @@ use Rattle.value.specs.Text.{ascii}
 use Rattle.value.specs.Number.{usValues}
 use Rattle.shift.specs.declared.Shift.{Shift}
 use Rattle.node.specs.Nodes.{Node, nodeAt}
+use Rattle.basics.specs.Vr.{US}
 use Rattle.element.specs.Tags
 use Rattle.element.specs.Elements.{valueAt}
 use Rattle.element.specs.Frames.{operationIs}
@@ -80,7 +81,7 @@ holdsOf holds.Lacks = none
 
 -- Node i holds pairs of numbers, at least one.
 abbrev pub hasPairs : List Node → ℕ → Bool
-hasPairs ns i = eqb (nodeAt ns i .vr) Tags.US && (leb 4 (length (valueAt ns i)) && eqb (length (valueAt ns i) % 4) 0)
+hasPairs ns i = eqb (nodeAt ns i .vr) US && (leb 4 (length (valueAt ns i)) && eqb (length (valueAt ns i) % 4) 0)
 
 -- What the search for a mask item found: none, or an item that applies where its range can be read.
 abbrev pub ifRead : List Node → ℕ → Applying → Option Applying

@@ -27,7 +27,7 @@ use mathlib.Core.Option.{Option, none, some}
 use lib.ListN.{length}
 use lib.Dec.{eqb, leb}
 use lib.IntN.{pos, _+ℤ_, _-ℤ_}
-use Rattle.dataset.specs.Vr.{SQ}
+use Rattle.basics.specs.Vr.{SQ, CS, DS, FL, OB, OW, SS, US}
 use Rattle.value.specs.declared.Num.{Num}
 use Rattle.value.specs.declared.Num.the-variants.{Is, Lacks}
 use Rattle.value.specs.declared.Signed.{Signed}
@@ -42,7 +42,6 @@ use Rattle.shift.specs.Shift.{itemShift, frameShift, movesOf}
 use Rattle.node.specs.Nodes.{Node, nodeAt, root, inside}
 use Rattle.node.specs.Find.{find, findVr}
 use Rattle.element.specs.Tags
-use Rattle.element.specs.Tags.{CS, DS, FL, OB, OW, SS, US}
 use Rattle.element.specs.Elements.{valueAt, usIn, theItem, functionIn}
 use Rattle.element.specs.Frames.{framesOf, sharedItem, frameItem, idIn, operationIs}
 use Rattle.pixel.specs.declared.Geometry.{Geometry}

@@ -18,6 +18,7 @@ ghost use Rattle.element.specs.Frames.{framesOf, frameItem};
 ghost use Rattle.steps.specs.Given.{need, check, then};
 ghost use Rattle.steps.specs.Steps.{orShared, groupFor, inPairs, rangeHas, rangeHolds, firstHolding, applyingTo, averageFrames, offsetAt, offsetOf, tidFrame, naming, ownIn, itemShiftAt, shiftFrom, shiftFor, geometryOf, pixelsOf, windowIn, windowOn, windowFor, inverseOf};
 ghost use Rattle.steps.specs.Contracts.{foundOf, FoundBelow, holdsOf, hasPairs, ifRead, GivesItem, ApplyingBelow, valueIn, framesIn, signedOf, shiftsOf, sizedOf, SizedSmall, windowedOf, inverseSaid, sharedNaming, sharedWindow, IsShared, operationOf, IsTold};
+use basics::vrs;
 use element::tags;
 use pixel::Geometry;
 use shift::Shift;
@@ -173,7 +174,7 @@ pub fn has_pairs(bytes: &[u8], rows: &[u32], i: usize) -> bool
     requires { ⌜ Table (now bytes) (now rows) × (i < length (nodesOf (now bytes))) ⌝ }
     ensures { λ r. ⌜ r ≡ hasPairs (nodesOf (now (bytes .entry))) i ⌝ }
 {
-    if node::vr(bytes, rows, i) == tags::US {
+    if node::vr(bytes, rows, i) == vrs::US {
         let v = node::value(bytes, rows, i);
         if 4 <= v.len() {
             v.len() % 4 == 0
@@ -274,7 +275,7 @@ pub fn average_element(bytes: &[u8], rows: &[u32], j: usize) -> Num
     ensures { λ r. ⌜ framesIn (nodesOf (now (bytes .entry))) r ≡ averageFrames (nodesOf (now (bytes .entry))) j ⌝ }
     ensures { λ r. ⌜ Below (length (nodesOf (now (bytes .entry)))) r ⌝ }
 {
-    match element::find_vr_item(bytes, rows, j, tags::MASK_FRAME_NUMBERS, tags::US) {
+    match element::find_vr_item(bytes, rows, j, tags::MASK_FRAME_NUMBERS, vrs::US) {
         Num::Lacks => Num::Lacks,
         Num::Is(k) => {
             let n = node::value(bytes, rows, k).len();
@@ -293,7 +294,7 @@ fn offset_at(bytes: &[u8], rows: &[u32], k: usize) -> Signed
     ensures { λ r. ⌜ signedOf r ≡ offsetAt (nodesOf (now (bytes .entry))) (num.Is k) ⌝ }
     ensures { λ r. ⌜ SizeBelow 32769 r ⌝ }
 {
-    if node::vr(bytes, rows, k) == tags::SS {
+    if node::vr(bytes, rows, k) == vrs::SS {
         value::ss_of(node::value(bytes, rows, k))
     } else {
         Signed::Lacks
@@ -379,7 +380,7 @@ fn own_in(bytes: &[u8], rows: &[u32], j: usize, g: usize) -> Found
     ensures { λ r. ⌜ foundOf r ≡ ownIn (nodesOf (now (bytes .entry))) j (num.Is g) ⌝ }
     ensures { λ r. ⌜ FoundBelow (length (nodesOf (now (bytes .entry)))) r ⌝ }
 {
-    if node::vr(bytes, rows, g) == dataset::SQ {
+    if node::vr(bytes, rows, g) == vrs::SQ {
         let from = g + 1;
         let to = node::next(bytes, rows, g);
         if from < to {
@@ -413,7 +414,7 @@ fn item_shift_at(bytes: &[u8], rows: &[u32], k: usize) -> Shifts
     requires { ⌜ Table (now bytes) (now rows) × (k < length (nodesOf (now bytes))) ⌝ }
     ensures { λ r. ⌜ shiftsOf r ≡ itemShiftAt (nodesOf (now (bytes .entry))) (num.Is k) ⌝ }
 {
-    if node::vr(bytes, rows, k) == tags::FL {
+    if node::vr(bytes, rows, k) == vrs::FL {
         let v = node::value(bytes, rows, k);
         if v.len() == 8 {
             Shifts::Is(shift::item_shift(v))
@@ -441,7 +442,7 @@ fn frame_shift_in(bytes: &[u8], rows: &[u32], j: usize, k: usize) -> Shifts
     requires { ⌜ Table (now bytes) (now rows) × (k < length (nodesOf (now bytes))) ⌝ }
     ensures { λ r. ⌜ shiftsOf r ≡ shiftFrom (nodesOf (now (bytes .entry))) j (num.Is k) ⌝ }
 {
-    match element::find_vr_item(bytes, rows, k, tags::MASK_SUB_PIXEL_SHIFT, tags::FL) {
+    match element::find_vr_item(bytes, rows, k, tags::MASK_SUB_PIXEL_SHIFT, vrs::FL) {
         Num::Lacks => Shifts::Lacks,
         Num::Is(x) => {
             let v = node::value(bytes, rows, x);
@@ -581,10 +582,10 @@ fn window_in(bytes: &[u8], rows: &[u32], j: usize) -> Windowed
     requires { ⌜ Table (now bytes) (now rows) × (j < length (nodesOf (now bytes))) ⌝ }
     ensures { λ r. ⌜ windowedOf r ≡ windowIn (nodesOf (now (bytes .entry))) (inside (nodesOf (now (bytes .entry))) j) ⌝ }
 {
-    let Num::Is(c) = element::find_vr_item(bytes, rows, j, tags::WINDOW_CENTER, tags::DS) else {
+    let Num::Is(c) = element::find_vr_item(bytes, rows, j, tags::WINDOW_CENTER, vrs::DS) else {
         return Windowed::Lacks;
     };
-    let Num::Is(w) = element::find_vr_item(bytes, rows, j, tags::WINDOW_WIDTH, tags::DS) else {
+    let Num::Is(w) = element::find_vr_item(bytes, rows, j, tags::WINDOW_WIDTH, vrs::DS) else {
         return Windowed::Lacks;
     };
     let center = first_decimal(node::value(bytes, rows, c));
@@ -670,7 +671,7 @@ pub fn inverse_of(bytes: &[u8], rows: &[u32]) -> Inverse
     requires { ⌜ Table (now bytes) (now rows) ⌝ }
     ensures { λ r. ⌜ inverseSaid r ≡ inverseOf (nodesOf (now (bytes .entry))) ⌝ }
 {
-    match element::find_vr_root(bytes, rows, tags::PHOTOMETRIC_INTERPRETATION, tags::CS) {
+    match element::find_vr_root(bytes, rows, tags::PHOTOMETRIC_INTERPRETATION, vrs::CS) {
         Num::Lacks => Inverse::Lacks,
         Num::Is(i) => inverse_by(node::value(bytes, rows, i)),
     }
@@ -731,10 +732,10 @@ pub fn pixel_element(bytes: &[u8], rows: &[u32]) -> Num
         Num::Lacks => Num::Lacks,
         Num::Is(p) => {
             let vr = node::vr(bytes, rows, p);
-            if vr == tags::OW {
+            if vr == vrs::OW {
                 Num::Is(p)
             } else {
-                if vr == tags::OB {
+                if vr == vrs::OB {
                     Num::Is(p)
                 } else {
                     Num::Lacks

@@ -16,6 +16,7 @@ ghost use Rattle.element.specs.Frames.{frameItem};
 ghost use Rattle.steps.specs.Steps.{applyingTo};
 ghost use Rattle.steps.specs.Contracts.{ifRead, ApplyingBelow, SizedSmall};
 ghost use Rattle.steps_cases.specs.Contracts.{appliesOf, AppliesBelow};
+use basics::vrs;
 
 // The mask item that applies to a frame, that none does, or that step 2 lacks something.
 pub enum Applies {
@@ -170,7 +171,7 @@ fn applying_to(bytes: &[u8], rows: &[u32], frame: usize) -> Applies
     match element::find_root(bytes, rows, tags::MASK_SUBTRACTION_SEQUENCE) {
         Num::Lacks => Applies::Nothing,
         Num::Is(m) => {
-            if node::vr(bytes, rows, m) == dataset::SQ {
+            if node::vr(bytes, rows, m) == vrs::SQ {
                 let found = steps::first_holding(
                     bytes,
                     rows,

@@ -15,12 +15,12 @@ use Rattle.value.specs.declared.Function.{Function}
 use Rattle.value.specs.Text.{valuesOf, valueOf}
 use Rattle.value.specs.Words.{isFunction}
 use Rattle.value.specs.Number.{isNumber}
-use Rattle.verdict.proofs.Tests.{and-both}
+use Rattle.basics.proofs.Tests.{and-both}
 use Rattle.shift.specs.declared.Moves.{Moves}
 use Rattle.node.specs.Nodes.{Node, inside}
 use Rattle.node.specs.Find.{holds, ifPresent, findVr}
 use Rattle.element.specs.Tags
-use Rattle.element.specs.Tags.{DS}
+use Rattle.basics.specs.Vr.{DS}
 use Rattle.element.specs.Elements.{valueAt, theItem, functionIn}
 use Rattle.element.specs.Frames.{groupOf}
 use Rattle.pixel.specs.declared.Geometry.{Geometry}

@@ -17,11 +17,11 @@ use Rattle.value.specs.Text.{valuesOf}
 use Rattle.value.specs.Words.{isFunction}
 use Rattle.value.specs.Number as current
 use Rattle.value.specs.Number.{isNumber, all}
-use Rattle.verdict.proofs.Tests.{false-is-true, and-both}
+use Rattle.basics.proofs.Tests.{false-is-true, and-both}
 use Rattle.node.specs.Nodes.{Node, inside}
 use Rattle.node.specs.Find.{holds, ifPresent, findVr}
 use Rattle.element.specs.Tags
-use Rattle.element.specs.Tags.{DS}
+use Rattle.basics.specs.Vr.{DS}
 use Rattle.element.specs.Elements.{valueAt, theItem, functionIn}
 use Rattle.element.specs.Frames.{sharedItem, frameItem, groupOf}
 use Rattle.rules.specs.Frame as rules

@@ -10,7 +10,7 @@ use Rattle.value.specs.Words.{isFunction}
 use Rattle.node.specs.Nodes.{Node, inside}
 use Rattle.node.specs.Find.{holds, ifPresent, findVr}
 use Rattle.element.specs.Tags
-use Rattle.element.specs.Tags.{DS}
+use Rattle.basics.specs.Vr.{DS}
 use Rattle.element.specs.Elements.{valueAt, theItem, functionIn}
 use Rattle.element.specs.Frames.{groupOf}
 use Rattle.rules.specs.Frame.{atFrame}

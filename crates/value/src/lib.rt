@@ -7,8 +7,8 @@ ghost use Rattle.value.specs.Text.{equal, valuesOf, valueOf, isSingle, t
 ghost use Rattle.value.specs.Words.{wordAt, isWord, isUid, functionOf, isFunction};
 ghost use Rattle.value.specs.Number.{usOf, usValues, ssOf, plus, minus, signedBy, wholeOf, isOf, sizeLimit, characters, runOf, ifSmall, wholly, exactOf, scaledBy, isMark, exponentOf, endOf, pointBy, sizeOf, decimalOf, isNumber, leastWidth, isWidth, allDecimals, allWidths};
 ghost use Rattle.value.specs.Contracts.{Below, SizeBelow, DigitsRead, partsAt};
-use dataset::u16_at;
-use dataset::wide;
+use basics::u16_at;
+use basics::wide;
 
 // A number, or none.
 pub enum Num {

@@ -7,12 +7,12 @@ use Prim.Native.Nat.{ℕ, _<_, _≤_}
 use native.Mathlib.Omega.{arith}
 use borrow.Author.Tests.{eqb-true, leb-true}
 use lib.Dec.{eqb, leb}
-use Rattle.dataset.specs.Reading.{mostRows}
+use Rattle.basics.specs.Limits.{mostRows}
 use Rattle.verdict.specs.declared.RowCount.{RowCount}
 use Rattle.verdict.specs.declared.RowCount.the-variants.{Known}
 use Rattle.verdict.specs.declared.Verdict.{Verdict}
 use Rattle.verdict.specs.Verdict.{perFrame, frameFits, lastFrame, lastRule, lastOffset, alone, possiblePlain, possibleRefusal, possibleBreach, fieldsFit, countFits, rowsFit, possible}
-use Rattle.verdict.proofs.Tests.{and-both, or-either}
+use Rattle.basics.proofs.Tests.{and-both, or-either}
 
 pub record Small (v : Verdict) : Type 0 where
   pub code : v .code < 256

@@ -3,7 +3,7 @@
 use Prim.Native.Nat.{ℕ}
 use mathlib.Core.Bool.{Bool, true, false, cond, _&&_, _||_}
 use lib.Dec.{eqb, leb}
-use Rattle.dataset.specs.Reading.{largest, mostRows}
+use Rattle.basics.specs.Limits.{largest, mostRows}
 use Rattle.verdict.specs.declared.RowCount.{RowCount}
 use Rattle.verdict.specs.declared.RowCount.the-variants.{Known, NotKnown}
 use Rattle.verdict.specs.declared.Verdict.{Verdict}

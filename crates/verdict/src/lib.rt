@@ -9,7 +9,7 @@ pub const LAST_RULE: usize = 39;
 pub const LAST_FRAME: usize = 65_535;
 
 // The largest offset of a refusal: the size limit.
-const LAST_OFFSET: usize = dataset::LARGEST;
+const LAST_OFFSET: usize = basics::LARGEST;
 
 // A row count, known or not: a slip of version 1 does not say it.
 pub enum RowCount {
@@ -124,10 +124,10 @@ fn count_fits(code: usize, n: usize) -> bool
     ensures { λ r. ⌜ r ≡ countFits code n ⌝ }
 {
     if code == 0 {
-        return n <= dataset::MOST_ROWS;
+        return n <= basics::MOST_ROWS;
     }
     if code == 9 {
-        n <= dataset::MOST_ROWS
+        n <= basics::MOST_ROWS
     } else {
         n == 0
     }

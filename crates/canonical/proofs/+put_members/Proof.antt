@@ -62,23 +62,30 @@ Needed N t = N (claims t) (at-measure t) put-members.Post Inv μ-loop
 
 loop-holds : (t : ℕ) → Needed lts.Need-loop-holds t
 loop-holds t c =
-    going-first (c .before .before .before .pre .1 .1)
+    let entry = c .before .before .before in
+    going-first (entry .pre .1 .1)
 
 tag-requires : (t : ℕ) → Needed lts.Need-tag-requires t
 tag-requires t c κs =
-    (c .before .before .before .before .before .pre .1 .0 .table, turn-known (c .before .before .before .before .before .args .bytes .now) (c .before .before .before .before .before .pre .1 .1) (c .before .loop .inv) (omega arith))
+    let entry = c .before .before .before .before .before in
+    (entry .pre .1 .0 .table, turn-known (entry .args .bytes .now) (entry .pre .1 .1) (c .before .loop .inv) (omega arith))
 
 vr-requires : (t : ℕ) → Needed lts.Need-vr-requires t
 vr-requires t c κs =
-    (c .before .before .before .before .before .before .pre .1 .0 .table, turn-known (c .before .before .before .before .before .before .args .bytes .now) (c .before .before .before .before .before .before .pre .1 .1) (c .before .before .loop .inv) (omega arith))
+    let entry = c .before .before .before .before .before .before in
+    (entry .pre .1 .0 .table, turn-known (entry .args .bytes .now) (entry .pre .1 .1) (c .before .before .loop .inv) (omega arith))
 
 next-requires : (t : ℕ) → Needed lts.Need-next-requires t
 next-requires t c κs =
-    (c .before .before .before .before .before .before .before .pre .1 .0 .table, turn-known (c .before .before .before .before .before .before .before .args .bytes .now) (c .before .before .before .before .before .before .before .pre .1 .1) (c .before .before .before .loop .inv) (omega arith))
+    let at-loop = c .before .before .before in
+    let entry = at-loop .before .before .before .before in
+    (entry .pre .1 .0 .table, turn-known (entry .args .bytes .now) (entry .pre .1 .1) (at-loop .loop .inv) (omega arith))
 
 value-requires : (t : ℕ) → Needed lts.Need-value-requires t
 value-requires t c κs =
-    (c .before .before .before .before .before .before .before .before .pre .1 .0 .table, turn-known (c .before .before .before .before .before .before .before .before .args .bytes .now) (c .before .before .before .before .before .before .before .before .pre .1 .1) (c .before .before .before .before .loop .inv) (omega arith))
+    let at-loop = c .before .before .before .before in
+    let entry = at-loop .before .before .before .before in
+    (entry .pre .1 .0 .table, turn-known (entry .args .bytes .now) (entry .pre .1 .1) (at-loop .loop .inv) (omega arith))
 
 head-size-requires : (t : ℕ) → Needed lts.Need-head-size-requires t
 head-size-requires t c κs =
@@ -86,32 +93,63 @@ head-size-requires t c κs =
 
 add-inside : (t : ℕ) → Needed lts.Need-add-inside t
 add-inside t c =
-    omega (arith, turn-room (c .before .before .before .before .before .before .before .before .before .before .args .bytes .now) (c .before .before .before .before .before .before .before .before .before .before .pre .1 .1) (c .before .before .before .before .before .before .loop .inv) (omega arith) (c .before .before .before .vr .ensures) (c .before .value .ensures), c .head-size .ensures)
+    let at-vr = c .before .before .before in
+    let at-loop = at-vr .before .before .before in
+    let entry = at-loop .before .before .before .before in
+    omega (arith, turn-room (entry .args .bytes .now) (entry .pre .1 .1) (at-loop .loop .inv) (omega arith) (at-vr .vr .ensures) (c .before .value .ensures), c .head-size .ensures)
 
 put-value-requires : (t : ℕ) → Needed lts.Need-put-value-requires t
 put-value-requires t c κs =
-    omega (arith, turn-room (c .before .before .before .before .before .before .before .before .before .before .before .args .bytes .now) (c .before .before .before .before .before .before .before .before .before .before .before .pre .1 .1) (c .before .before .before .before .before .before .before .loop .inv) (omega arith) (c .before .before .before .before .vr .ensures) (c .before .before .value .ensures), c .before .head-size .ensures)
+    let at-vr = c .before .before .before .before in
+    let at-loop = at-vr .before .before .before in
+    let entry = at-loop .before .before .before .before in
+    omega (arith, turn-room (entry .args .bytes .now) (entry .pre .1 .1) (at-loop .loop .inv) (omega arith) (at-vr .vr .ensures) (c .before .before .value .ensures), c .before .head-size .ensures)
 
 add-after : (t : ℕ) → Needed lts.Need-add-after t
 add-after t c =
-    omega (arith, turn-room (c .before .before .before .before .before .before .before .before .before .before .before .before .before .before .args .bytes .now) (c .before .before .before .before .before .before .before .before .before .before .before .before .before .before .pre .1 .1) (c .before .before .before .before .before .before .before .before .before .before .loop .inv) (omega arith) (c .before .before .before .before .before .before .before .vr .ensures) (c .before .before .before .before .before .value .ensures), c .before .before .before .before .head-size .ensures)
+    let at-head-size = c .before .before .before .before in
+    let at-value = at-head-size .before in
+    let at-vr = at-value .before .before in
+    let at-loop = at-vr .before .before .before in
+    let entry = at-loop .before .before .before .before in
+    omega (arith, turn-room (entry .args .bytes .now) (entry .pre .1 .1) (at-loop .loop .inv) (omega arith) (at-vr .vr .ensures) (at-value .value .ensures), at-head-size .head-size .ensures)
 
 add-if1 : (t : ℕ) → Needed lts.Need-add-if1 t
 add-if1 t c =
-    omega (arith, turn-known (c .before .before .before .before .before .before .before .before .before .before .before .before .before .before .args .bytes .now) (c .before .before .before .before .before .before .before .before .before .before .before .before .before .before .pre .1 .1) (c .before .before .before .before .before .before .before .before .before .before .loop .inv) (omega arith), c .before .before .before .before .before .before .before .before .before .before .before .before .before .before .pre .1 .0 .table .few)
+    let at-loop = c .before .before .before .before .before .before .before .before .before .before in
+    let entry = at-loop .before .before .before .before in
+    omega (arith, turn-known (entry .args .bytes .now) (entry .pre .1 .1) (at-loop .loop .inv) (omega arith), entry .pre .1 .0 .table .few)
 
 put-header-requires : (t : ℕ) → Needed lts.Need-put-header-requires t
 put-header-requires t c κs =
-    (c .before .before .before .before .before .before .head-size .ensures .0, omega (arith, turn-room (c .before .before .before .before .before .before .before .before .before .before .before .before .before .before .before .before .args .bytes .now) (c .before .before .before .before .before .before .before .before .before .before .before .before .before .before .before .before .pre .1 .1) (c .before .before .before .before .before .before .before .before .before .before .before .before .loop .inv) (omega arith) (c .before .before .before .before .before .before .before .before .before .vr .ensures) (c .before .before .before .before .before .before .before .value .ensures), c .before .before .before .before .put-value .ensures .kept, c .before .before .before .before .before .before .head-size .ensures))
+    let at-put-value = c .before .before .before .before in
+    let at-head-size = at-put-value .before .before in
+    let at-value = at-head-size .before in
+    let at-vr = at-value .before .before in
+    let at-loop = at-vr .before .before .before in
+    let entry = at-loop .before .before .before .before in
+    (at-head-size .head-size .ensures .0, omega (arith, turn-room (entry .args .bytes .now) (entry .pre .1 .1) (at-loop .loop .inv) (omega arith) (at-vr .vr .ensures) (at-value .value .ensures), at-put-value .put-value .ensures .kept, at-head-size .head-size .ensures))
 
 loop-less : (t : ℕ) → Needed lts.Need-loop-less t
 loop-less t c =
-    omega (arith, turn-next (c .before .before .before .before .before .before .before .before .before .before .before .before .before .before .before .before .before .before .before .args .bytes .now) (c .before .before .before .before .before .before .before .before .before .before .before .before .before .before .before .before .before .before .before .pre .1 .1) (c .before .before .before .before .before .before .before .before .before .before .before .before .before .before .before .loop .inv) (omega arith) (c .before .before .before .before .before .before .before .before .before .before .before .next .ensures .0))
+    let at-next = c .before .before .before .before .before .before .before .before .before .before .before in
+    let at-loop = at-next .before .before .before .before in
+    let entry = at-loop .before .before .before .before in
+    omega (arith, turn-next (entry .args .bytes .now) (entry .pre .1 .1) (at-loop .loop .inv) (omega arith) (at-next .next .ensures .0))
 
 loop-again : (t : ℕ) → Needed lts.Need-loop-again t
 loop-again t c =
-    going-next (c .before .before .before .before .before .before .before .before .before .before .before .before .before .before .before .before .before .before .before .args .bytes .now) (c .before .before .before .before .before .before .before .before .before .before .before .before .before .before .before .before .before .before .before .pre .1 .1) (c .before .before .before .before .before .before .before .before .before .before .before .before .before .before .before .loop .inv) (omega arith) (c .before .before .before .before .before .before .before .before .before .before .before .next .ensures .0)
-    (wrote-leaf (nodesOf (c .before .before .before .before .before .before .before .before .before .before .before .before .before .before .before .before .before .before .before .args .bytes .now)) (c .before .before .before .before .before .before .before .before .before .before .before .before .before .before .before .loop .i) (turn-known (c .before .before .before .before .before .before .before .before .before .before .before .before .before .before .before .before .before .before .before .args .bytes .now) (c .before .before .before .before .before .before .before .before .before .before .before .before .before .before .before .before .before .before .before .pre .1 .1) (c .before .before .before .before .before .before .before .before .before .before .before .before .before .before .before .loop .inv) (omega arith)) (c .before .before .before .before .before .before .before .before .before .before .before .before .before .tag .ensures) (c .before .before .before .before .before .before .before .before .before .before .before .before .vr .ensures) (c .before .before .before .before .before .before .before .before .before .before .value .ensures) (c .before .before .before .before .before .before .before .before .before .before .before .next .ensures .0) (c .before .before .before .before .if1 .taken) (omega (arith, c .before .before .before .before .before .before .before .before .before .head-size .ensures)) (c .before .before .before .before .before .before .before .put-value .ensures) (c .before .before .put-header .ensures))
+    let at-if1 = c .before .before .before .before in
+    let at-put-value = at-if1 .before .before .before in
+    let at-head-size = at-put-value .before .before in
+    let at-value = at-head-size .before in
+    let at-next = at-value .before in
+    let at-vr = at-next .before in
+    let at-tag = at-vr .before in
+    let at-loop = at-tag .before .before in
+    let entry = at-loop .before .before .before .before in
+    going-next (entry .args .bytes .now) (entry .pre .1 .1) (at-loop .loop .inv) (omega arith) (at-next .next .ensures .0)
+    (wrote-leaf (nodesOf (entry .args .bytes .now)) (at-loop .loop .i) (turn-known (entry .args .bytes .now) (entry .pre .1 .1) (at-loop .loop .inv) (omega arith)) (at-tag .tag .ensures) (at-vr .vr .ensures) (at-value .value .ensures) (at-next .next .ensures .0) (at-if1 .if1 .taken) (omega (arith, at-head-size .head-size .ensures)) (at-put-value .put-value .ensures) (c .before .before .put-header .ensures))
 
 add-put-members : (t : ℕ) → Needed lts.Need-add-put-members t
 add-put-members t c =
@@ -119,25 +157,55 @@ add-put-members t c =
 
 put-members-requires : (t : ℕ) → Needed lts.Need-put-members-requires t
 put-members-requires t c κs =
-    let n = turn-next (c .before .before .before .before .before .before .before .before .before .before .before .before .before .before .before .before .args .bytes .now) (c .before .before .before .before .before .before .before .before .before .before .before .before .before .before .before .before .pre .1 .1) (c .before .before .before .before .before .before .before .before .before .before .before .before .loop .inv) (omega arith) (c .before .before .before .before .before .before .before .before .next .ensures .0) in
-    (omega (arith, c .before .before .before .before .before .before .before .before .before .before .before .before .before .before .before .before .pre .0, c .before .before .before .before .before .before .before .before .before .before .before .before .loop .inv .low, n), (c .before .before .before .before .before .before .before .before .before .before .before .before .before .before .before .before .pre .1 .0, turn-fits (c .before .before .before .before .before .before .before .before .before .before .before .before .before .before .before .before .args .bytes .now) (c .before .before .before .before .before .before .before .before .before .before .before .before .before .before .before .before .pre .1 .1) (c .before .before .before .before .before .before .before .before .before .before .before .before .loop .inv) (omega arith) (c .before .before .before .before .before .before .before .before .before .vr .ensures) (c .before .before .before .before .before .before .before .value .ensures) (omega (arith, c .before .before .before .before .before .before .head-size .ensures)) refl (c .before .before .before .before .before .before .before .before .next .ensures .0) (c .before .before .before .before .put-value .ensures .kept)))
+    let at-put-value = c .before .before .before .before in
+    let at-head-size = at-put-value .before .before in
+    let at-value = at-head-size .before in
+    let at-next = at-value .before in
+    let at-vr = at-next .before in
+    let at-loop = at-vr .before .before .before in
+    let entry = at-loop .before .before .before .before in
+    let n = turn-next (entry .args .bytes .now) (entry .pre .1 .1) (at-loop .loop .inv) (omega arith) (at-next .next .ensures .0) in
+    (omega (arith, entry .pre .0, at-loop .loop .inv .low, n), (entry .pre .1 .0, turn-fits (entry .args .bytes .now) (entry .pre .1 .1) (at-loop .loop .inv) (omega arith) (at-vr .vr .ensures) (at-value .value .ensures) (omega (arith, at-head-size .head-size .ensures)) refl (at-next .next .ensures .0) (at-put-value .put-value .ensures .kept)))
 
 sub-put-header : (t : ℕ) → Needed lts.Need-sub-put-header t
 sub-put-header t c =
-    omega (arith, turn-end (c .before .before .before .before .before .before .before .before .before .before .before .before .before .before .before .before .before .before .before .before .args .bytes .now) (c .before .before .before .before .before .before .before .before .before .before .before .before .before .before .before .before .before .before .before .before .pre .1 .1) (c .before .before .before .before .before .before .before .before .before .before .before .before .before .before .before .before .loop .inv) (omega arith) (c .before .before .before .before .before .before .before .before .before .before .before .before .next .ensures .0) (c .before .before .before .put-members .ensures))
+    let at-put-members = c .before .before .before in
+    let at-next = at-put-members .before .before .before .before .before .before .before .before .before in
+    let at-loop = at-next .before .before .before .before in
+    let entry = at-loop .before .before .before .before in
+    omega (arith, turn-end (entry .args .bytes .now) (entry .pre .1 .1) (at-loop .loop .inv) (omega arith) (at-next .next .ensures .0) (at-put-members .put-members .ensures))
 
 put-header-requires-2 : (t : ℕ) → Needed lts.Need-put-header-requires-2 t
 put-header-requires-2 t c κs =
-    (c .before .before .before .before .before .before .before .before .before .before .head-size .ensures .0, omega (arith, turn-room (c .before .before .before .before .before .before .before .before .before .before .before .before .before .before .before .before .before .before .before .before .args .bytes .now) (c .before .before .before .before .before .before .before .before .before .before .before .before .before .before .before .before .before .before .before .before .pre .1 .1) (c .before .before .before .before .before .before .before .before .before .before .before .before .before .before .before .before .loop .inv) (omega arith) (c .before .before .before .before .before .before .before .before .before .before .before .before .before .vr .ensures) (c .before .before .before .before .before .before .before .before .before .before .before .value .ensures), c .before .before .before .put-members .ensures .kept, c .before .before .before .before .before .before .before .before .put-value .ensures .kept, c .before .before .before .before .before .before .before .before .before .before .head-size .ensures))
+    let at-put-members = c .before .before .before in
+    let at-put-value = at-put-members .before .before .before .before .before in
+    let at-head-size = at-put-value .before .before in
+    let at-value = at-head-size .before in
+    let at-vr = at-value .before .before in
+    let at-loop = at-vr .before .before .before in
+    let entry = at-loop .before .before .before .before in
+    (at-head-size .head-size .ensures .0, omega (arith, turn-room (entry .args .bytes .now) (entry .pre .1 .1) (at-loop .loop .inv) (omega arith) (at-vr .vr .ensures) (at-value .value .ensures), at-put-members .put-members .ensures .kept, at-put-value .put-value .ensures .kept, at-head-size .head-size .ensures))
 
 loop-less-2 : (t : ℕ) → Needed lts.Need-loop-less-2 t
 loop-less-2 t c =
-    omega (arith, turn-next (c .before .before .before .before .before .before .before .before .before .before .before .before .before .before .before .before .before .before .before .before .before .before .before .args .bytes .now) (c .before .before .before .before .before .before .before .before .before .before .before .before .before .before .before .before .before .before .before .before .before .before .before .pre .1 .1) (c .before .before .before .before .before .before .before .before .before .before .before .before .before .before .before .before .before .before .before .loop .inv) (omega arith) (c .before .before .before .before .before .before .before .before .before .before .before .before .before .before .before .next .ensures .0))
+    let at-next = c .before .before .before .before .before .before .before .before .before .before .before .before .before .before .before in
+    let at-loop = at-next .before .before .before .before in
+    let entry = at-loop .before .before .before .before in
+    omega (arith, turn-next (entry .args .bytes .now) (entry .pre .1 .1) (at-loop .loop .inv) (omega arith) (at-next .next .ensures .0))
 
 loop-again-2 : (t : ℕ) → Needed lts.Need-loop-again-2 t
 loop-again-2 t c =
-    going-next (c .before .before .before .before .before .before .before .before .before .before .before .before .before .before .before .before .before .before .before .before .before .before .before .args .bytes .now) (c .before .before .before .before .before .before .before .before .before .before .before .before .before .before .before .before .before .before .before .before .before .before .before .pre .1 .1) (c .before .before .before .before .before .before .before .before .before .before .before .before .before .before .before .before .before .before .before .loop .inv) (omega arith) (c .before .before .before .before .before .before .before .before .before .before .before .before .before .before .before .next .ensures .0)
-    (wrote-node (nodesOf (c .before .before .before .before .before .before .before .before .before .before .before .before .before .before .before .before .before .before .before .before .before .before .before .args .bytes .now)) (c .before .before .before .before .before .before .before .before .before .before .before .before .before .before .before .before .before .before .before .loop .i) (turn-known (c .before .before .before .before .before .before .before .before .before .before .before .before .before .before .before .before .before .before .before .before .before .before .before .args .bytes .now) (c .before .before .before .before .before .before .before .before .before .before .before .before .before .before .before .before .before .before .before .before .before .before .before .pre .1 .1) (c .before .before .before .before .before .before .before .before .before .before .before .before .before .before .before .before .before .before .before .loop .inv) (omega arith)) (c .before .before .before .before .before .before .before .before .before .before .before .before .before .before .before .before .before .tag .ensures) (c .before .before .before .before .before .before .before .before .before .before .before .before .before .before .before .before .vr .ensures) (c .before .before .before .before .before .before .before .before .before .before .before .before .before .before .value .ensures) (c .before .before .before .before .before .before .before .before .before .before .before .before .before .before .before .next .ensures .0) (omega (arith, c .before .before .before .before .before .before .before .before .before .before .before .before .before .head-size .ensures)) (c .before .before .before .before .before .before .before .before .before .before .before .put-value .ensures) refl (c .before .before .before .before .before .before .put-members .ensures) refl (c .before .before .put-header2 .ensures) (omega (arith, turn-end (c .before .before .before .before .before .before .before .before .before .before .before .before .before .before .before .before .before .before .before .before .before .before .before .args .bytes .now) (c .before .before .before .before .before .before .before .before .before .before .before .before .before .before .before .before .before .before .before .before .before .before .before .pre .1 .1) (c .before .before .before .before .before .before .before .before .before .before .before .before .before .before .before .before .before .before .before .loop .inv) (omega arith) (c .before .before .before .before .before .before .before .before .before .before .before .before .before .before .before .next .ensures .0) (c .before .before .before .before .before .before .put-members .ensures))))
+    let at-put-members = c .before .before .before .before .before .before in
+    let at-put-value = at-put-members .before .before .before .before .before in
+    let at-head-size = at-put-value .before .before in
+    let at-value = at-head-size .before in
+    let at-next = at-value .before in
+    let at-vr = at-next .before in
+    let at-tag = at-vr .before in
+    let at-loop = at-tag .before .before in
+    let entry = at-loop .before .before .before .before in
+    going-next (entry .args .bytes .now) (entry .pre .1 .1) (at-loop .loop .inv) (omega arith) (at-next .next .ensures .0)
+    (wrote-node (nodesOf (entry .args .bytes .now)) (at-loop .loop .i) (turn-known (entry .args .bytes .now) (entry .pre .1 .1) (at-loop .loop .inv) (omega arith)) (at-tag .tag .ensures) (at-vr .vr .ensures) (at-value .value .ensures) (at-next .next .ensures .0) (omega (arith, at-head-size .head-size .ensures)) (at-put-value .put-value .ensures) refl (at-put-members .put-members .ensures) refl (c .before .before .put-header2 .ensures) (omega (arith, turn-end (entry .args .bytes .now) (entry .pre .1 .1) (at-loop .loop .inv) (omega arith) (at-next .next .ensures .0) (at-put-members .put-members .ensures))))
 
 same-length : (t : ℕ) → Needed lts.Need-same-length t
 same-length t c =

@@ -12,7 +12,8 @@ wide-requires c κs = search needs
 
 returns : tie.Need-returns
 returns c =
-    λ k. omega (arith, c .before .before .before .shared-slice-known .given k)
+    let at-shared-slice-known = c .before .before .before in
+    λ k. omega (arith, at-shared-slice-known .shared-slice-known .given k)
 
 returns-2 : tie.Need-returns-2
 returns-2 c =

@@ -18,11 +18,13 @@ span-requires c κs = search needs
 
 returns : tie.Need-returns
 returns c =
-    sym (le-ltb (c .before .before .before .args .room) (writtenSize (nodesOf (c .before .before .before .args .bytes .now))) (omega (arith, c .before .before .before .pre .fits)))
+    let entry = c .before .before .before in
+    sym (le-ltb (entry .args .room) (writtenSize (nodesOf (entry .args .bytes .now))) (omega (arith, entry .pre .fits)))
 
 returns-2 : tie.Need-returns-2
 returns-2 c =
-    ap (ltb (c .before .before .before .before .before .args .room)) (c .span .ensures .0 ∙ ap writtenSize (slice-all (nodesOf (c .before .before .before .before .before .args .bytes .now)) (c .before .count .result) (c .before .count .ensures .0)))
+    let entry = c .before .before .before .before .before in
+    ap (ltb (entry .args .room)) (c .span .ensures .0 ∙ ap writtenSize (slice-all (nodesOf (entry .args .bytes .now)) (c .before .count .result) (c .before .count .ensures .0)))
 
 pub lacks-room-spec : {M : Type 1} → statement M
 lacks-room-spec = tie.close (tie.spec count-requires span-requires returns returns-2)

@@ -13,7 +13,8 @@ add-put-u16 c = search needs
 
 put-u16-requires-2 : tie.Need-put-u16-requires-2
 put-u16-requires-2 c κs =
-    omega (arith, head-least (c .before .before .before .before .before .before .args .vr), c .before .before .before .before .before .before .pre)
+    let entry = c .before .before .before .before .before .before in
+    omega (arith, head-least (entry .args .vr), entry .pre)
 
 add-put-length : tie.Need-add-put-length
 add-put-length c = search needs
@@ -26,7 +27,10 @@ same-length c = search needs
 
 returns : tie.Need-returns
 returns c =
-    header-puts (c .before .before .before .before .before .before .before .before .before .before .before .before .before .args .tag) (c .before .before .before .before .before .before .before .before .before .before .before .before .before .args .vr) (c .before .before .before .before .before .before .before .before .before .before .before .before .before .args .size) (c .before .before .before .before .before .before .before .before .before .before .put-u16 .ensures) (c .before .before .before .before .before .before .put-u162 .ensures) (c .before .before .put-length .ensures)
+    let at-put-u162 = c .before .before .before .before .before .before in
+    let at-put-u16 = at-put-u162 .before .before .before .before in
+    let entry = at-put-u16 .before .before .before in
+    header-puts (entry .args .tag) (entry .args .vr) (entry .args .size) (at-put-u16 .put-u16 .ensures) (at-put-u162 .put-u162 .ensures) (c .before .before .put-length .ensures)
 
 pub put-header-spec : {M : Type 1} → statement M
 put-header-spec = tie.close (tie.spec put-u16-requires add-put-u16 put-u16-requires-2 add-put-length put-length-requires same-length returns)

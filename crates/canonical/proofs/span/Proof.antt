@@ -20,12 +20,14 @@ loop-holds c =
 
 own-size-requires : tie.Need-own-size-requires Inv-loop μ-loop
 own-size-requires c κs =
-    (c .before .before .before .before .pre .0, omega arith)
+    let entry = c .before .before .before .before in
+    (entry .pre .0, omega arith)
 
 add-sum : tie.Need-add-sum Inv-loop μ-loop
 add-sum c =
-    let n = summed-next (c .before .before .loop .inv) (c .before .loop-test .taken) (c .before .before .before .before .before .pre .1 .1) in
-    omega (arith, n .rest, size-slice (c .before .before .before .before .before .args .from) (c .before .before .before .before .before .args .to) (nodesOf (c .before .before .before .before .before .args .bytes .now)), c .own-size .ensures, c .before .before .before .before .before .pre .0 .small)
+    let entry = c .before .before .before .before .before in
+    let n = summed-next (c .before .before .loop .inv) (c .before .loop-test .taken) (entry .pre .1 .1) in
+    omega (arith, n .rest, size-slice (entry .args .from) (entry .args .to) (nodesOf (entry .args .bytes .now)), c .own-size .ensures, entry .pre .0 .small)
 
 add-i : tie.Need-add-i Inv-loop μ-loop
 add-i c =
@@ -37,12 +39,14 @@ loop-less c =
 
 loop-again : tie.Need-loop-again Inv-loop μ-loop
 loop-again c =
-    rw (c .own-size .ensures) (summed-next (c .before .before .loop .inv) (c .before .loop-test .taken) (c .before .before .before .before .before .pre .1 .1))
+    let entry = c .before .before .before .before .before in
+    rw (c .own-size .ensures) (summed-next (c .before .before .loop .inv) (c .before .loop-test .taken) (entry .pre .1 .1))
 
 returns : tie.Need-returns Inv-loop μ-loop
 returns c =
+    let entry = c .before .before .before .before in
     let e = summed-last (c .before .loop .inv) (c .loop-test .left) in
-    (e, omega (arith, e, size-slice (c .before .before .before .before .args .from) (c .before .before .before .before .args .to) (nodesOf (c .before .before .before .before .args .bytes .now)), c .before .before .before .before .pre .0 .small))
+    (e, omega (arith, e, size-slice (entry .args .from) (entry .args .to) (nodesOf (entry .args .bytes .now)), entry .pre .0 .small))
 
 pub span-spec : {M : Type 1} → statement M
 span-spec =

@@ -3,7 +3,7 @@ use mathlib.Core.Path.{sym, _∙_}
 use native.Mathlib.Omega.{arith}
 use Prim.Native.Nat.{_*_}
 use lib.Seq.{length-take-le}
-use Rattle.dataset.proofs.Promised.{promised}
+use Rattle.basics.proofs.Promised.{promised}
 use borrow.Author.Needs.{needs}
 use Rattle.canonical.specs.Answer.{canonicalOf, targetOf}
 use Rattle.canonical.proofs.Answers.{ready, fitting-all, short-answer, done-answer}
@@ -30,29 +30,49 @@ enum-known-n c = search needs
 
 mul-end : tie.Need-mul-end
 mul-end c =
-    omega (arith, ready (c .before .before .before .before .before .before .before .before .before .before .before .args .bytes .now) (c .before .before .before .before .before .before .before .before .before .before .before .args .rows .now) (c .before .before .before .before .before .read .last .1 .0) (c .before .n .given .0 .0) (c .before .before .before .before .before .before .before .byte-bounds .ensures) (sym (c .before .n .given .1) ∙ c .before .before .before .before .before .read .ensures .0 .same) (c .before .before .before .before .before .read .ensures .1) .room)
+    let at-read = c .before .before .before .before .before in
+    let at-byte-bounds = at-read .before .before in
+    let entry = at-byte-bounds .before .before .before .before in
+    omega (arith, ready (entry .args .bytes .now) (entry .args .rows .now) (at-read .read .last .1 .0) (c .before .n .given .0 .0) (at-byte-bounds .byte-bounds .ensures) (sym (c .before .n .given .1) ∙ at-read .read .ensures .0 .same) (at-read .read .ensures .1) .room)
 
 slice-reshare-prefix-table : tie.Need-slice-reshare-prefix-table
 slice-reshare-prefix-table c =
-    ready (c .before .before .before .before .before .before .before .before .before .before .before .args .bytes .now) (c .before .before .before .before .before .before .before .before .before .before .before .args .rows .now) (c .before .before .before .before .before .read .last .1 .0) (c .before .n .given .0 .0) (c .before .before .before .before .before .before .before .byte-bounds .ensures) (sym (c .before .n .given .1) ∙ c .before .before .before .before .before .read .ensures .0 .same) (c .before .before .before .before .before .read .ensures .1) .room
+    let at-read = c .before .before .before .before .before in
+    let at-byte-bounds = at-read .before .before in
+    let entry = at-byte-bounds .before .before .before .before in
+    ready (entry .args .bytes .now) (entry .args .rows .now) (at-read .read .last .1 .0) (c .before .n .given .0 .0) (at-byte-bounds .byte-bounds .ensures) (sym (c .before .n .given .1) ∙ at-read .read .ensures .0 .same) (at-read .read .ensures .1) .room
 
 slice-aggregate-table : tie.Need-slice-aggregate-table
 slice-aggregate-table c =
-    sym (length-take-le (7 * c .before .before .n .given .0 .0) (c .before .before .before .before .before .before .read .last .1 .0) (ready (c .before .before .before .before .before .before .before .before .before .before .before .before .args .bytes .now) (c .before .before .before .before .before .before .before .before .before .before .before .before .args .rows .now) (c .before .before .before .before .before .before .read .last .1 .0) (c .before .before .n .given .0 .0) (c .before .before .before .before .before .before .before .before .byte-bounds .ensures) (sym (c .before .before .n .given .1) ∙ c .before .before .before .before .before .before .read .ensures .0 .same) (c .before .before .before .before .before .before .read .ensures .1) .room))
+    let at-read = c .before .before .before .before .before .before in
+    let at-byte-bounds = at-read .before .before in
+    let entry = at-byte-bounds .before .before .before .before in
+    sym (length-take-le (7 * c .before .before .n .given .0 .0) (at-read .read .last .1 .0) (ready (entry .args .bytes .now) (entry .args .rows .now) (at-read .read .last .1 .0) (c .before .before .n .given .0 .0) (at-byte-bounds .byte-bounds .ensures) (sym (c .before .before .n .given .1) ∙ at-read .read .ensures .0 .same) (at-read .read .ensures .1) .room))
 
 lacks-room-requires : tie.Need-lacks-room-requires
 lacks-room-requires c κs =
-    ready (c .before .before .before .before .before .before .before .before .before .before .before .before .args .bytes .now) (c .before .before .before .before .before .before .before .before .before .before .before .before .args .rows .now) (c .before .before .before .before .before .before .read .last .1 .0) (c .before .before .n .given .0 .0) (c .before .before .before .before .before .before .before .before .byte-bounds .ensures) (sym (c .before .before .n .given .1) ∙ c .before .before .before .before .before .before .read .ensures .0 .same) (c .before .before .before .before .before .before .read .ensures .1) .sized
+    let at-read = c .before .before .before .before .before .before in
+    let at-byte-bounds = at-read .before .before in
+    let entry = at-byte-bounds .before .before .before .before in
+    ready (entry .args .bytes .now) (entry .args .rows .now) (at-read .read .last .1 .0) (c .before .before .n .given .0 .0) (at-byte-bounds .byte-bounds .ensures) (sym (c .before .before .n .given .1) ∙ at-read .read .ensures .0 .same) (at-read .read .ensures .1) .sized
 
 span-requires : tie.Need-span-requires
 span-requires c κs =
-    let r = ready (c .before .before .before .before .before .before .before .before .before .before .before .before .before .before .args .bytes .now) (c .before .before .before .before .before .before .before .before .before .before .before .before .before .before .args .rows .now) (c .before .before .before .before .before .before .before .before .read .last .1 .0) (c .before .before .before .before .n .given .0 .0) (c .before .before .before .before .before .before .before .before .before .before .byte-bounds .ensures) (sym (c .before .before .before .before .n .given .1) ∙ c .before .before .before .before .before .before .before .before .read .ensures .0 .same) (c .before .before .before .before .before .before .before .before .read .ensures .1) in
+    let at-n = c .before .before .before .before in
+    let at-read = at-n .before .before .before .before in
+    let at-byte-bounds = at-read .before .before in
+    let entry = at-byte-bounds .before .before .before .before in
+    let r = ready (entry .args .bytes .now) (entry .args .rows .now) (at-read .read .last .1 .0) (at-n .n .given .0 .0) (at-byte-bounds .byte-bounds .ensures) (sym (at-n .n .given .1) ∙ at-read .read .ensures .0 .same) (at-read .read .ensures .1) in
     (r .sized, (omega arith, omega (arith, r .count)))
 
 put-members-requires : tie.Need-put-members-requires
 put-members-requires c κs =
-    let r = ready (c .before .before .before .before .before .before .before .before .before .before .before .before .before .before .before .args .bytes .now) (c .before .before .before .before .before .before .before .before .before .before .before .before .before .before .before .args .rows .now) (c .before .before .before .before .before .before .before .before .before .read .last .1 .0) (c .before .before .before .before .before .n .given .0 .0) (c .before .before .before .before .before .before .before .before .before .before .before .byte-bounds .ensures) (sym (c .before .before .before .before .before .n .given .1) ∙ c .before .before .before .before .before .before .before .before .before .read .ensures .0 .same) (c .before .before .before .before .before .before .before .before .before .read .ensures .1) in
-    (r .sized, fitting-all (c .before .before .before .before .before .before .before .before .before .before .before .before .before .before .before .args .bytes .now) (c .before .before .before .before .before .before .before .before .before .before .before .before .before .before .before .args .target .now) r (sym (c .before .before .lacks-room .ensures) ∙ c .before .if1 .left))
+    let at-n = c .before .before .before .before .before in
+    let at-read = at-n .before .before .before .before in
+    let at-byte-bounds = at-read .before .before in
+    let entry = at-byte-bounds .before .before .before .before in
+    let r = ready (entry .args .bytes .now) (entry .args .rows .now) (at-read .read .last .1 .0) (at-n .n .given .0 .0) (at-byte-bounds .byte-bounds .ensures) (sym (at-n .n .given .1) ∙ at-read .read .ensures .0 .same) (at-read .read .ensures .1) in
+    (r .sized, fitting-all (entry .args .bytes .now) (entry .args .target .now) r (sym (c .before .before .lacks-room .ensures) ∙ c .before .if1 .left))
 
 same-length : tie.Need-same-length
 same-length c = search needs
@@ -60,7 +80,8 @@ same-length c = search needs
 returns : tie.Need-returns
 unfolding canonicalOf targetOf
 returns c =
-    (promised (rw (← c .before .before .before .before .read .ensures .0 .same, c .enum-told .given .1)), (c .before .before .before .before .read .ensures .1, rw (← c .before .before .before .before .read .ensures .0 .same, c .enum-told .given .1)))
+    let at-read = c .before .before .before .before in
+    (promised (rw (← at-read .read .ensures .0 .same, c .enum-told .given .1)), (at-read .read .ensures .1, rw (← at-read .read .ensures .0 .same, c .enum-told .given .1)))
 
 same-length-2 : tie.Need-same-length-2
 same-length-2 c = search needs
@@ -68,7 +89,8 @@ same-length-2 c = search needs
 returns-2 : tie.Need-returns-2
 unfolding canonicalOf targetOf
 returns-2 c =
-    (promised (rw (← c .before .before .before .before .before .read .ensures .0 .same, c .before .code .given .1)), (c .before .before .before .before .before .read .ensures .1, rw (← c .before .before .before .before .before .read .ensures .0 .same, c .before .code .given .1)))
+    let at-read = c .before .before .before .before .before in
+    (promised (rw (← at-read .read .ensures .0 .same, c .before .code .given .1)), (at-read .read .ensures .1, rw (← at-read .read .ensures .0 .same, c .before .code .given .1)))
 
 same-length-3 : tie.Need-same-length-3
 same-length-3 c = search needs
@@ -76,16 +98,21 @@ same-length-3 c = search needs
 returns-3 : tie.Need-returns-3
 unfolding canonicalOf targetOf
 returns-3 c =
-    (promised (rw (← c .before .before .before .before .read .ensures .0 .same, c .enum-told2 .given .1)), (c .before .before .before .before .read .ensures .1, rw (← c .before .before .before .before .read .ensures .0 .same, c .enum-told2 .given .1)))
+    let at-read = c .before .before .before .before in
+    (promised (rw (← at-read .read .ensures .0 .same, c .enum-told2 .given .1)), (at-read .read .ensures .1, rw (← at-read .read .ensures .0 .same, c .enum-told2 .given .1)))
 
 same-length-4 : tie.Need-same-length-4
 same-length-4 c = search needs
 
 returns-4 : tie.Need-returns-4
 returns-4 c =
-    let r = ready (c .before .before .before .before .before .before .before .before .before .before .before .before .before .before .before .args .bytes .now) (c .before .before .before .before .before .before .before .before .before .before .before .before .before .before .before .args .rows .now) (c .before .before .before .before .before .before .before .before .before .read .last .1 .0) (c .before .before .before .before .before .n .given .0 .0) (c .before .before .before .before .before .before .before .before .before .before .before .byte-bounds .ensures) (sym (c .before .before .before .before .before .n .given .1) ∙ c .before .before .before .before .before .before .before .before .before .read .ensures .0 .same) (c .before .before .before .before .before .before .before .before .before .read .ensures .1) in
-    let a = short-answer (c .before .before .before .before .before .before .before .before .before .before .before .before .before .before .before .args .bytes .now) (c .before .before .before .before .before .before .before .before .before .before .before .before .before .before .before .args .rows .now) (c .before .before .before .before .before .before .before .before .before .before .before .before .before .before .before .args .target .now) (c .before .before .before .before .before .n .given .0 .0) (sym (c .before .before .before .before .before .n .given .1) ∙ c .before .before .before .before .before .before .before .before .before .read .ensures .0 .same) (r .count) (c .span .result) (c .span .ensures .0) (sym (c .before .before .lacks-room .ensures) ∙ c .before .if1 .taken) in
-    (promised (a .0), (c .before .before .before .before .before .before .before .before .before .read .ensures .1, a .1))
+    let at-n = c .before .before .before .before .before in
+    let at-read = at-n .before .before .before .before in
+    let at-byte-bounds = at-read .before .before in
+    let entry = at-byte-bounds .before .before .before .before in
+    let r = ready (entry .args .bytes .now) (entry .args .rows .now) (at-read .read .last .1 .0) (at-n .n .given .0 .0) (at-byte-bounds .byte-bounds .ensures) (sym (at-n .n .given .1) ∙ at-read .read .ensures .0 .same) (at-read .read .ensures .1) in
+    let a = short-answer (entry .args .bytes .now) (entry .args .rows .now) (entry .args .target .now) (at-n .n .given .0 .0) (sym (at-n .n .given .1) ∙ at-read .read .ensures .0 .same) (r .count) (c .span .result) (c .span .ensures .0) (sym (c .before .before .lacks-room .ensures) ∙ c .before .if1 .taken) in
+    (promised (a .0), (at-read .read .ensures .1, a .1))
 
 same-length-5 : tie.Need-same-length-5
 same-length-5 c = search needs
@@ -95,9 +122,15 @@ same-length-6 c = search needs
 
 returns-5 : tie.Need-returns-5
 returns-5 c =
-    let r = ready (c .before .before .before .before .before .before .before .before .before .before .before .before .before .before .before .before .before .before .args .bytes .now) (c .before .before .before .before .before .before .before .before .before .before .before .before .before .before .before .before .before .before .args .rows .now) (c .before .before .before .before .before .before .before .before .before .before .before .before .read .last .1 .0) (c .before .before .before .before .before .before .before .before .n .given .0 .0) (c .before .before .before .before .before .before .before .before .before .before .before .before .before .before .byte-bounds .ensures) (sym (c .before .before .before .before .before .before .before .before .n .given .1) ∙ c .before .before .before .before .before .before .before .before .before .before .before .before .read .ensures .0 .same) (c .before .before .before .before .before .before .before .before .before .before .before .before .read .ensures .1) in
-    let a = done-answer (c .before .before .before .before .before .before .before .before .before .before .before .before .before .before .before .before .before .before .args .bytes .now) (c .before .before .before .before .before .before .before .before .before .before .before .before .before .before .before .before .before .before .args .rows .now) (c .before .before .before .before .before .before .before .before .before .before .before .before .before .before .before .before .before .before .args .target .now) (c .before .before .before .before .before .before .before .before .n .given .0 .0) (sym (c .before .before .before .before .before .before .before .before .n .given .1) ∙ c .before .before .before .before .before .before .before .before .before .before .before .before .read .ensures .0 .same) (r .count) (c .before .before .put-members .result) _ (c .before .before .put-members .ensures) (sym (c .before .before .before .before .before .lacks-room .ensures) ∙ c .before .before .before .before .if1 .left) in
-    (promised (a .0), (c .before .before .before .before .before .before .before .before .before .before .before .before .read .ensures .1, a .1))
+    let at-if1 = c .before .before .before .before in
+    let at-lacks-room = at-if1 .before in
+    let at-n = at-lacks-room .before .before .before in
+    let at-read = at-n .before .before .before .before in
+    let at-byte-bounds = at-read .before .before in
+    let entry = at-byte-bounds .before .before .before .before in
+    let r = ready (entry .args .bytes .now) (entry .args .rows .now) (at-read .read .last .1 .0) (at-n .n .given .0 .0) (at-byte-bounds .byte-bounds .ensures) (sym (at-n .n .given .1) ∙ at-read .read .ensures .0 .same) (at-read .read .ensures .1) in
+    let a = done-answer (entry .args .bytes .now) (entry .args .rows .now) (entry .args .target .now) (at-n .n .given .0 .0) (sym (at-n .n .given .1) ∙ at-read .read .ensures .0 .same) (r .count) (c .before .before .put-members .result) _ (c .before .before .put-members .ensures) (sym (at-lacks-room .lacks-room .ensures) ∙ at-if1 .if1 .left) in
+    (promised (a .0), (at-read .read .ensures .1, a .1))
 
 pub write-canonical-spec : {M : Type 1} → statement M
 write-canonical-spec =

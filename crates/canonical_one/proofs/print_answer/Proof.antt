@@ -11,7 +11,8 @@ enum-known-answer c = search needs
 
 print-form-requires : tie.Need-print-form-requires
 print-form-requires c κs =
-    subst (λ (a : CanonicalAnswer). Held a (c .before .before .before .before .args .target .now)) (c .before .answer .given .1) (c .before .before .before .before .pre)
+    let entry = c .before .before .before .before in
+    subst (λ (a : CanonicalAnswer). Held a (entry .args .target .now)) (c .before .answer .given .1) (entry .pre)
 
 enum-known-answer-2 : tie.Need-enum-known-answer-2
 enum-known-answer-2 c = search needs

@@ -21,11 +21,14 @@ same-length-2 c = search needs
 
 returns : tie.Need-returns
 returns c =
-    let a = c .before .before .before .before .before .before .before .before .before .before .before .args in
-    let p = c .before .before .before .before .before .before .before .before .before .before .before .pre in
-    let w = c .before .before .before .before .write-canonical in
+    let at-write-canonical = c .before .before .before .before in
+    let at-byte-bounds = at-write-canonical .before .before .before in
+    let entry = at-byte-bounds .before .before .before .before in
+    let a = entry .args in
+    let p = entry .pre in
+    let w = at-write-canonical .write-canonical in
     let e = w .ensures in
-    (e .0 .same, (e .1 .1, (subst (λ (r : CanonicalAnswer). Held r (w .last .1 .1 .0)) (sym (e .0 .same)) (held (a .bytes .now) (a .rows .now) (a .target .now) (w .last .1 .1 .0) (search needs)), subst Roomy (sym (e .0 .same)) (roomy (a .bytes .now) (a .rows .now) (a .target .now) (c .before .before .before .before .before .before .before .byte-bounds .ensures) (p .0) (p .1)))))
+    (e .0 .same, (e .1 .1, (subst (λ (r : CanonicalAnswer). Held r (w .last .1 .1 .0)) (sym (e .0 .same)) (held (a .bytes .now) (a .rows .now) (a .target .now) (w .last .1 .1 .0) (search needs)), subst Roomy (sym (e .0 .same)) (roomy (a .bytes .now) (a .rows .now) (a .target .now) (at-byte-bounds .byte-bounds .ensures) (p .0) (p .1)))))
 
 pub write-roomy-spec : {M : Type 1} → statement M
 write-roomy-spec =

@@ -26,7 +26,8 @@ loop-holds c =
 
 add-place : tie.Need-add-place Inv-loop μ-loop
 add-place c =
-    omega (arith, c .before .before .before .before .pre .inside, c .loop-test .taken, c .before .loop .inv .1 .0)
+    let entry = c .before .before .before .before in
+    omega (arith, entry .pre .inside, c .loop-test .taken, c .before .loop .inv .1 .0)
 
 shared-slice-read-wide : tie.Need-shared-slice-read-wide Inv-loop μ-loop
 shared-slice-read-wide c =
@@ -38,7 +39,10 @@ wide-requires c κs =
 
 shared-slice-read-wide-2 : tie.Need-shared-slice-read-wide-2 Inv-loop μ-loop
 shared-slice-read-wide-2 c =
-    omega (arith, c .before .before .before .before .before .before .before .pre .inside, c .before .before .before .loop-test .taken, c .before .before .before .before .loop .inv .1 .0)
+    let at-loop-test = c .before .before .before in
+    let at-loop = at-loop-test .before in
+    let entry = at-loop .before .before .before in
+    omega (arith, entry .pre .inside, at-loop-test .loop-test .taken, at-loop .loop .inv .1 .0)
 
 wide-requires-2 : tie.Need-wide-requires-2 Inv-loop μ-loop
 wide-requires-2 c κs =
@@ -46,28 +50,41 @@ wide-requires-2 c κs =
 
 is-off-requires : tie.Need-is-off-requires Inv-loop μ-loop
 is-off-requires c κs =
-    (c .before .before .wide .ensures .1, (c .wide2 .ensures .1, c .before .before .before .before .before .before .before .before .pre .most))
+    let entry = c .before .before .before .before .before .before .before .before in
+    (c .before .before .wide .ensures .1, (c .wide2 .ensures .1, entry .pre .most))
 
 look-requires : tie.Need-look-requires Inv-loop μ-loop
 look-requires c κs =
-    (subst (λ (d : Differing). d .count ≤ c .before .before .before .before .before .before .before .before .before .args .at + c .before .before .before .before .before .before .loop .k) (sym (c .before .before .before .before .before .before .loop .inv .1 .1)) (omega (arith, c .before .before .before .before .before .before .before .before .before .pre .few, places.along-most (λ j. not (within (c .before .before .before .before .before .before .before .before .before .args .tolerance) (getD (c .before .before .before .before .before .before .before .before .before .args .line .now) j 0) (getD (c .before .before .before .before .before .before .before .before .before .args .cells .now) (c .before .before .before .before .before .before .before .before .before .args .at + j) 0))) (c .before .before .before .before .before .before .before .before .before .args .at) (c .before .before .before .before .before .before .loop .k) (c .before .before .before .before .before .before .before .before .before .args .sofar))), omega (arith, c .before .before .before .before .before .before .before .before .before .pre .inside, c .before .before .before .before .before .loop-test .taken, c .before .before .before .before .before .before .loop .inv .1 .0))
+    let at-loop-test = c .before .before .before .before .before in
+    let at-loop = at-loop-test .before in
+    let entry = at-loop .before .before .before in
+    (subst (λ (d : Differing). d .count ≤ entry .args .at + at-loop .loop .k) (sym (at-loop .loop .inv .1 .1)) (omega (arith, entry .pre .few, places.along-most (λ j. not (within (entry .args .tolerance) (getD (entry .args .line .now) j 0) (getD (entry .args .cells .now) (entry .args .at + j) 0))) (entry .args .at) (at-loop .loop .k) (entry .args .sofar))), omega (arith, entry .pre .inside, at-loop-test .loop-test .taken, at-loop .loop .inv .1 .0))
 
 add-k : tie.Need-add-k Inv-loop μ-loop
 add-k c =
-    omega (arith, c .before .before .before .before .before .before .before .before .before .before .pre .inside, c .before .before .before .before .before .before .loop-test .taken, c .before .before .before .before .before .before .before .loop .inv .1 .0)
+    let at-loop-test = c .before .before .before .before .before .before in
+    let at-loop = at-loop-test .before in
+    let entry = at-loop .before .before .before in
+    omega (arith, entry .pre .inside, at-loop-test .loop-test .taken, at-loop .loop .inv .1 .0)
 
 loop-less : tie.Need-loop-less Inv-loop μ-loop
 loop-less c =
-    omega (arith, c .before .before .before .before .before .before .loop-test .taken)
+    let at-loop-test = c .before .before .before .before .before .before in
+    omega (arith, at-loop-test .loop-test .taken)
 
 loop-again : tie.Need-loop-again Inv-loop μ-loop
 loop-again c =
-    (omega (arith, c .before .before .before .before .before .before .loop-test .taken), (c .before .before .before .before .before .before .before .loop .inv .1 .0, places.along-next (λ j. not (within (c .before .before .before .before .before .before .before .before .before .before .args .tolerance) (getD (c .before .before .before .before .before .before .before .before .before .before .args .line .now) j 0) (getD (c .before .before .before .before .before .before .before .before .before .before .args .cells .now) (c .before .before .before .before .before .before .before .before .before .before .args .at + j) 0))) (c .before .before .before .before .before .before .before .before .before .before .args .at) (c .before .before .before .before .before .before .before .loop .k) (c .before .before .before .before .before .before .before .before .before .before .args .sofar) (c .before .before .before .before .before .before .before .loop .now) _ _ (c .before .before .before .before .before .before .before .loop .inv .1 .1) (c .before .is-off .ensures ∙ rw (c .before .before .before .before .wide .ensures .0, c .before .before .wide2 .ensures .0)) (c .look .ensures)))
+    let at-wide = c .before .before .before .before in
+    let at-loop-test = at-wide .before .before in
+    let at-loop = at-loop-test .before in
+    let entry = at-loop .before .before .before in
+    (omega (arith, at-loop-test .loop-test .taken), (at-loop .loop .inv .1 .0, places.along-next (λ j. not (within (entry .args .tolerance) (getD (entry .args .line .now) j 0) (getD (entry .args .cells .now) (entry .args .at + j) 0))) (entry .args .at) (at-loop .loop .k) (entry .args .sofar) (at-loop .loop .now) _ _ (at-loop .loop .inv .1 .1) (c .before .is-off .ensures ∙ rw (at-wide .wide .ensures .0, c .before .before .wide2 .ensures .0)) (c .look .ensures)))
 
 returns : tie.Need-returns Inv-loop μ-loop
 returns c =
-    let e : c .before .loop .k ≡ length (c .before .before .before .before .args .line .now) = omega (arith, c .loop-test .left, c .before .loop .inv .0, c .before .loop .inv .1 .0) in
-    subst (λ (n : ℕ). c .before .loop .now ≡ along (λ j. not (within (c .before .before .before .before .args .tolerance) (getD (c .before .before .before .before .args .line .now) j 0) (getD (c .before .before .before .before .args .cells .now) (c .before .before .before .before .args .at + j) 0))) (c .before .before .before .before .args .at) n (c .before .before .before .before .args .sofar)) e (c .before .loop .inv .1 .1)
+    let entry = c .before .before .before .before in
+    let e : c .before .loop .k ≡ length (entry .args .line .now) = omega (arith, c .loop-test .left, c .before .loop .inv .0, c .before .loop .inv .1 .0) in
+    subst (λ (n : ℕ). c .before .loop .now ≡ along (λ j. not (within (entry .args .tolerance) (getD (entry .args .line .now) j 0) (getD (entry .args .cells .now) (entry .args .at + j) 0))) (entry .args .at) n (entry .args .sofar)) e (c .before .loop .inv .1 .1)
 
 pub compare-line-spec : {M : Type 1} → statement M
 compare-line-spec =

@@ -5,7 +5,10 @@ use Rattle.compare.proofs.compare_masked.Tie as tie
 
 compare-whole-requires : tie.Need-compare-whole-requires
 compare-whole-requires c κs =
-    (c .before .before .before .before .before .before .before .before .before .before .before .before .pre .0, (c .before .before .before .before .before .before .before .before .before .before .before .before .pre .1 .0, (c .before .before .before .before .before .before .before .before .before .before .before .before .pre .1 .1 .0, (c .before .before .before .before .if1 .taken, (c .before .before .before .if2 .taken, (c .before .before .if3 .taken, (c .before .before .before .before .before .before .before .before .before .before .before .before .pre .1 .1 .1 .0, c .before .before .before .before .before .before .before .before .before .before .before .before .pre .1 .1 .1 .1 .1)))))))
+    let at-if2 = c .before .before .before in
+    let at-if1 = at-if2 .before in
+    let entry = at-if1 .before .before .before .before .before .before .before .before in
+    (entry .pre .0, (entry .pre .1 .0, (entry .pre .1 .1 .0, (at-if1 .if1 .taken, (at-if2 .if2 .taken, (c .before .before .if3 .taken, (entry .pre .1 .1 .1 .0, entry .pre .1 .1 .1 .1 .1)))))))
 
 same-length : tie.Need-same-length
 same-length c =
@@ -17,7 +20,8 @@ same-length-2 c =
 
 returns : tie.Need-returns
 returns c =
-    c .before .before .before .before .compare-whole .ensures
+    let at-compare-whole = c .before .before .before .before in
+    at-compare-whole .compare-whole .ensures
 
 compare-blended-requires : tie.Need-compare-blended-requires
 compare-blended-requires c κs =
@@ -37,7 +41,8 @@ same-length-5 c =
 
 returns-2 : tie.Need-returns-2
 returns-2 c =
-    c .before .before .before .before .before .before .compare-blended .ensures
+    let at-compare-blended = c .before .before .before .before .before .before in
+    at-compare-blended .compare-blended .ensures
 
 pub compare-masked-spec : {M : Type 1} → statement M
 compare-masked-spec =

@@ -4,16 +4,19 @@ use Rattle.compare.proofs.compare_picture.Tie as tie
 
 scene-of-requires : tie.Need-scene-of-requires
 scene-of-requires c κs =
-    (c .before .before .before .pre .0, c .before .before .before .pre .1 .0)
+    let entry = c .before .before .before in
+    (entry .pre .0, entry .pre .1 .0)
 
 plan-for-requires : tie.Need-plan-for-requires
 plan-for-requires c κs =
-    let p = c .before .before .before .before .pre in
+    let entry = c .before .before .before .before in
+    let p = entry .pre in
     (p .0, (p .1 .0, (c .scene-of .ensures, (p .1 .1 .0, p .1 .1 .1 .0))))
 
 compare-planned-requires : tie.Need-compare-planned-requires
 compare-planned-requires c κs =
-    let p = c .before .before .before .before .before .pre in
+    let entry = c .before .before .before .before .before in
+    let p = entry .pre in
     (p .0, (p .1 .0, (c .before .scene-of .ensures, (c .plan-for .ensures, (p .1 .1 .0, (p .1 .1 .1 .0, p .1 .1 .1 .1))))))
 
 returns : tie.Need-returns

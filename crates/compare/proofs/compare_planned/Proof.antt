@@ -26,8 +26,9 @@ slice-aggregate-fill c =
 
 fill-requires : tie.Need-fill-requires
 fill-requires c κs =
-    let b = scenes.based (c .before .before .before .before .before .before .args .bytes .now) (c .before .before .before .before .before .before .args .n) (c .before .before .before .before .before .before .args .frame) (c .before .before .before .before .before .before .pre .1 .0) (c .before .before .before .before .before .before .pre .1 .1 .1 .1 .0) (c .before .before .before .before .before .before .pre .1 .1 .1 .1 .1 .0) (c .before .before .before .before .before .before .args .c) (c .before .before .before .before .before .before .pre .1 .1 .0) in
-    (c .before .before .before .before .before .before .pre .1 .1 .1 .0 .drawable, (b .shape .stored-some, (b .shape .stored-most, length-replicate {A = ℕ} 131072 0)))
+    let entry = c .before .before .before .before .before .before in
+    let b = scenes.based (entry .args .bytes .now) (entry .args .n) (entry .args .frame) (entry .pre .1 .0) (entry .pre .1 .1 .1 .1 .0) (entry .pre .1 .1 .1 .1 .1 .0) (entry .args .c) (entry .pre .1 .1 .0) in
+    (entry .pre .1 .1 .1 .0 .drawable, (b .shape .stored-some, (b .shape .stored-most, length-replicate {A = ℕ} 131072 0)))
 
 slice-aggregate-compare-frame : tie.Need-slice-aggregate-compare-frame
 slice-aggregate-compare-frame c =
@@ -47,15 +48,19 @@ slice-aggregate-compare-frame-4 c =
 
 compare-frame-requires : tie.Need-compare-frame-requires
 compare-frame-requires c κs =
-    let b = scenes.based (c .before .before .before .before .before .before .before .before .before .before .before .before .args .bytes .now) (c .before .before .before .before .before .before .before .before .before .before .before .before .args .n) (c .before .before .before .before .before .before .before .before .before .before .before .before .args .frame) (c .before .before .before .before .before .before .before .before .before .before .before .before .pre .1 .0) (c .before .before .before .before .before .before .before .before .before .before .before .before .pre .1 .1 .1 .1 .0) (c .before .before .before .before .before .before .before .before .before .before .before .before .pre .1 .1 .1 .1 .1 .0) (c .before .before .before .before .before .before .before .before .before .before .before .before .args .c) (c .before .before .before .before .before .before .before .before .before .before .before .before .pre .1 .1 .0) in
-    (c .before .before .before .before .before .before .before .before .before .before .before .before .pre .0, (scenes.is-pixels (c .before .before .before .before .before .before .before .before .before .before .before .before .args .bytes .now) (c .before .before .before .before .before .before .before .before .before .before .before .before .args .n) (c .before .before .before .before .before .before .before .before .before .before .before .before .args .frame) (c .before .before .before .before .before .before .before .before .before .before .before .before .pre .1 .0) (c .before .before .before .before .before .before .before .before .before .before .before .before .pre .1 .1 .1 .1 .0) (c .before .before .before .before .before .before .before .before .before .before .before .before .pre .1 .1 .1 .1 .1 .0) (c .before .before .before .before .before .before .before .before .before .before .before .before .args .c) (c .before .before .before .before .before .before .before .before .before .before .before .before .pre .1 .1 .0), (record { shape = b .shape; inside = b .inside; wide = omega (arith, length-replicate {A = ℕ} 65535 0) }, (scenes.ready (c .before .before .before .before .before .before .before .before .before .before .before .before .args .bytes .now) (c .before .before .before .before .before .before .before .before .before .before .before .before .args .n) (c .before .before .before .before .before .before .before .before .before .before .before .before .args .frame) (c .before .before .before .before .before .before .before .before .before .before .before .before .pre .1 .0) (c .before .before .before .before .before .before .before .before .before .before .before .before .pre .1 .1 .1 .1 .0) (c .before .before .before .before .before .before .before .before .before .before .before .before .pre .1 .1 .1 .1 .1 .0) (c .before .before .before .before .before .before .before .before .before .before .before .before .args .c) (c .before .before .before .before .before .before .before .before .before .before .before .before .pre .1 .1 .0) (c .before .before .before .before .before .before .before .before .before .before .before .before .args .own) (c .before .before .before .before .before .before .before .before .before .before .before .before .pre .1 .1 .1 .0), (record { drawable = c .before .before .before .before .before .before .before .before .before .before .before .before .pre .1 .1 .1 .0 .drawable; shades = λ e. c .before .before .before .before .before .fill .ensures }, (omega (arith, length-replicate {A = ℕ} 65664 0), (omega (arith, length-replicate {A = ℕ} 65664 0), subst (λ (k : ℕ). Against (c .before .before .before .before .before .before .before .before .before .before .before .before .args .cells .now) (c .before .before .before .before .before .before .before .before .before .before .before .before .args .tolerance) k) (sym (b .size)) (c .before .before .before .before .before .before .before .before .before .before .before .before .pre .1 .1 .1 .1 .1 .1))))))))
+    let at-fill = c .before .before .before .before .before in
+    let entry = at-fill .before .before .before .before .before .before .before in
+    let b = scenes.based (entry .args .bytes .now) (entry .args .n) (entry .args .frame) (entry .pre .1 .0) (entry .pre .1 .1 .1 .1 .0) (entry .pre .1 .1 .1 .1 .1 .0) (entry .args .c) (entry .pre .1 .1 .0) in
+    (entry .pre .0, (scenes.is-pixels (entry .args .bytes .now) (entry .args .n) (entry .args .frame) (entry .pre .1 .0) (entry .pre .1 .1 .1 .1 .0) (entry .pre .1 .1 .1 .1 .1 .0) (entry .args .c) (entry .pre .1 .1 .0), (record { shape = b .shape; inside = b .inside; wide = omega (arith, length-replicate {A = ℕ} 65535 0) }, (scenes.ready (entry .args .bytes .now) (entry .args .n) (entry .args .frame) (entry .pre .1 .0) (entry .pre .1 .1 .1 .1 .0) (entry .pre .1 .1 .1 .1 .1 .0) (entry .args .c) (entry .pre .1 .1 .0) (entry .args .own) (entry .pre .1 .1 .1 .0), (record { drawable = entry .pre .1 .1 .1 .0 .drawable; shades = λ e. at-fill .fill .ensures }, (omega (arith, length-replicate {A = ℕ} 65664 0), (omega (arith, length-replicate {A = ℕ} 65664 0), subst (λ (k : ℕ). Against (entry .args .cells .now) (entry .args .tolerance) k) (sym (b .size)) (entry .pre .1 .1 .1 .1 .1 .1))))))))
 
 returns : tie.Need-returns
 returns c =
-    let b = scenes.based (c .before .before .before .before .before .before .before .before .before .before .before .before .before .before .before .before .args .bytes .now) (c .before .before .before .before .before .before .before .before .before .before .before .before .before .before .before .before .args .n) (c .before .before .before .before .before .before .before .before .before .before .before .before .before .before .before .before .args .frame) (c .before .before .before .before .before .before .before .before .before .before .before .before .before .before .before .before .pre .1 .0) (c .before .before .before .before .before .before .before .before .before .before .before .before .before .before .before .before .pre .1 .1 .1 .1 .0) (c .before .before .before .before .before .before .before .before .before .before .before .before .before .before .before .before .pre .1 .1 .1 .1 .1 .0) (c .before .before .before .before .before .before .before .before .before .before .before .before .before .before .before .before .args .c) (c .before .before .before .before .before .before .before .before .before .before .before .before .before .before .before .before .pre .1 .1 .0) in
-    let t : Shades = record { window = c .before .before .before .before .before .before .before .before .before .before .before .before .before .before .before .before .args .own .window; inverse = c .before .before .before .before .before .before .before .before .before .before .before .before .before .before .before .before .args .c .inverse; filled = true } in
-    let d = counted.picture (c .before .before .before .before .before .before .before .before .before .before .before .before .before .before .before .before .args .bytes .now) (c .before .before .before .before .before .before .before .before .before .before .before .before .before .before .before .before .args .n) (c .before .before .before .before .before .before .before .before .before .before .before .before .before .before .before .before .args .frame) (c .before .before .before .before .before .before .before .before .before .before .before .before .before .before .before .before .pre .1 .0) (c .before .before .before .before .before .before .before .before .before .before .before .before .before .before .before .before .pre .1 .1 .1 .1 .0) (c .before .before .before .before .before .before .before .before .before .before .before .before .before .before .before .before .pre .1 .1 .1 .1 .1 .0) (c .before .before .before .before .before .before .before .before .before .before .before .before .before .before .before .before .args .c) (c .before .before .before .before .before .before .before .before .before .before .before .before .before .before .before .before .pre .1 .1 .0) (c .before .before .before .before .before .before .before .before .before .before .before .before .before .before .before .before .args .own) (c .before .before .before .before .before .before .before .before .before .before .before .before .before .before .before .before .pre .1 .1 .1 .0) t refl refl in
-    c .before .before .before .compare-frame .ensures ∙ (met-list (c .before .before .before .before .before .before .before .before .before .before .before .before .before .before .before .before .args .tolerance) (shadeBy (nodesOf (c .before .before .before .before .before .before .before .before .before .before .before .before .before .before .before .before .args .bytes .now)) (shadesOf t (c .before .before .before .before .before .before .before .before .before .before .before .before .before .before .before .before .args .c .g .stored)) (c .before .before .before .before .before .before .before .before .before .before .before .before .before .before .before .before .args .c .g) (valueAt (nodesOf (c .before .before .before .before .before .before .before .before .before .before .before .before .before .before .before .before .args .bytes .now)) (c .before .before .before .before .before .before .before .before .before .before .before .before .before .before .before .before .args .c .p)) (c .before .before .before .before .before .before .before .before .before .before .before .before .before .before .before .before .args .frame) (c .before .before .before .before .before .before .before .before .before .before .before .before .before .before .before .before .args .own .masking)) (c .before .before .before .before .before .before .before .before .before .before .before .before .before .before .before .before .args .cells .now) (pictureOf (nodesOf (c .before .before .before .before .before .before .before .before .before .before .before .before .before .before .before .before .args .bytes .now)) (c .before .before .before .before .before .before .before .before .before .before .before .before .before .before .before .before .args .frame) .samples) (samplesOf (c .before .before .before .before .before .before .before .before .before .before .before .before .before .before .before .before .args .c .g)) (d .cells) ∙ ap (λ (k : ℕ). along (isOff (c .before .before .before .before .before .before .before .before .before .before .before .before .before .before .before .before .args .tolerance) (pictureOf (nodesOf (c .before .before .before .before .before .before .before .before .before .before .before .before .before .before .before .before .args .bytes .now)) (c .before .before .before .before .before .before .before .before .before .before .before .before .before .before .before .before .args .frame) .samples) (c .before .before .before .before .before .before .before .before .before .before .before .before .before .before .before .before .args .cells .now)) 0 k nothing) (b .size))
+    let at-compare-frame = c .before .before .before in
+    let entry = at-compare-frame .before .before .before .before .before .before .before .before .before .before .before .before .before in
+    let b = scenes.based (entry .args .bytes .now) (entry .args .n) (entry .args .frame) (entry .pre .1 .0) (entry .pre .1 .1 .1 .1 .0) (entry .pre .1 .1 .1 .1 .1 .0) (entry .args .c) (entry .pre .1 .1 .0) in
+    let t : Shades = record { window = entry .args .own .window; inverse = entry .args .c .inverse; filled = true } in
+    let d = counted.picture (entry .args .bytes .now) (entry .args .n) (entry .args .frame) (entry .pre .1 .0) (entry .pre .1 .1 .1 .1 .0) (entry .pre .1 .1 .1 .1 .1 .0) (entry .args .c) (entry .pre .1 .1 .0) (entry .args .own) (entry .pre .1 .1 .1 .0) t refl refl in
+    at-compare-frame .compare-frame .ensures ∙ (met-list (entry .args .tolerance) (shadeBy (nodesOf (entry .args .bytes .now)) (shadesOf t (entry .args .c .g .stored)) (entry .args .c .g) (valueAt (nodesOf (entry .args .bytes .now)) (entry .args .c .p)) (entry .args .frame) (entry .args .own .masking)) (entry .args .cells .now) (pictureOf (nodesOf (entry .args .bytes .now)) (entry .args .frame) .samples) (samplesOf (entry .args .c .g)) (d .cells) ∙ ap (λ (k : ℕ). along (isOff (entry .args .tolerance) (pictureOf (nodesOf (entry .args .bytes .now)) (entry .args .frame) .samples) (entry .args .cells .now)) 0 k nothing) (b .size))
 
 pub compare-planned-spec : {M : Type 1} → statement M
 compare-planned-spec =

@@ -39,7 +39,9 @@ part-compare-parts-end c = search needs
 
 compare-parts-requires : tie.Need-compare-parts-requires
 compare-parts-requires c κs =
-    omega (arith, length-take-le (c .before .before .before .before .before .args .size) (c .before .before .before .before .before .args .input .now) (c .before .before .if2 .left), c .before .before .before .if1 .left)
+    let at-if1 = c .before .before .before in
+    let entry = at-if1 .before .before in
+    omega (arith, length-take-le (entry .args .size) (entry .args .input .now) (c .before .before .if2 .left), at-if1 .if1 .left)
 
 returns-3 : tie.Need-returns-3
 returns-3 c = search needs

@@ -17,7 +17,9 @@ compare-requires c κs = search needs
 
 returns : tie.Need-returns
 returns c =
-    c .before .compare .ensures .0 .same ∙ roomy-compare _ _ _ _ _ (omega (arith, c .before .before .before .row-buffer .ensures, c .before .before .before .before .before .before .pre))
+    let at-row-buffer = c .before .before .before in
+    let entry = at-row-buffer .before .before .before in
+    c .before .compare .ensures .0 .same ∙ roomy-compare _ _ _ _ _ (omega (arith, at-row-buffer .row-buffer .ensures, entry .pre))
 
 pub compare-small-spec : {M : Type 1} → statement M
 compare-small-spec =

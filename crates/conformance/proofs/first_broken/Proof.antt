@@ -60,7 +60,9 @@ loop-holds c =
 shared-ok-requires :
     tie.Need-shared-ok-requires Inv-loop2 μ-loop2 Inv-loop μ-loop Inv-judge μ-judge
 shared-ok-requires c κs =
-    (c .before .before .before .before .before .before .before .before .pre, c .before .before .before .before .shared-item .ensures .1)
+    let at-shared-item = c .before .before .before .before in
+    let entry = at-shared-item .before .before .before .before in
+    (entry .pre, at-shared-item .shared-item .ensures .1)
 
 first-frame-requires :
     tie.Need-first-frame-requires Inv-loop2 μ-loop2 Inv-loop μ-loop Inv-judge μ-judge
@@ -70,33 +72,47 @@ first-frame-requires c κs =
 end-frame-requires :
     tie.Need-end-frame-requires Inv-loop2 μ-loop2 Inv-loop μ-loop Inv-judge μ-judge
 end-frame-requires c κs =
-    c .before .before .before .before .before .before .before .frame-total .ensures .1
+    let at-frame-total = c .before .before .before .before .before .before .before in
+    at-frame-total .frame-total .ensures .1
 
 loop2-holds : tie.Need-loop2-holds Inv-loop2 μ-loop2 Inv-loop μ-loop Inv-judge μ-judge
-loop2-holds c = (
-  rw (c .before .first-frame .ensures, c .end-frame .ensures .0, c .before .before .before .before .before .before .before .before .frame-total .ensures .0) (sym (loops.rules-start _ _ (c .before .before .before .loop-test .taken)) ∙ c .before .before .before .before .loop .inv .1 .1),
-  (omega arith, loops.along-start _ (c .before .first-frame .result) (c .before .before .before .before .before .before .frame-items .ensures)),
-)
+loop2-holds c =
+    let at-loop-test = c .before .before .before in
+    let at-loop = at-loop-test .before in
+    let at-frame-items = at-loop .before .before in
+    let at-frame-total = at-frame-items .before .before in (
+      rw (c .before .first-frame .ensures, c .end-frame .ensures .0, at-frame-total .frame-total .ensures .0) (sym (loops.rules-start _ _ (at-loop-test .loop-test .taken)) ∙ at-loop .loop .inv .1 .1),
+      (omega arith, loops.along-start _ (c .before .first-frame .result) (at-frame-items .frame-items .ensures)),
+    )
 
 rule-holds-requires :
     tie.Need-rule-holds-requires Inv-loop2 μ-loop2 Inv-loop μ-loop Inv-judge μ-judge
-rule-holds-requires c κs = (
-  c .before .before .before .before .before .before .before .before .before .before .before .before .before .pre,
-  (
-    c .before .before .before .before .before .before .before .before .before .shared-item .ensures .1,
-    (
-      c .before .before .before .before .before .before .before .before .before .shared-item .ensures .0,
+rule-holds-requires c κs =
+    let at-first-frame = c .before .before .before in
+    let at-shared-ok = at-first-frame .before in
+    let at-loop-test = at-shared-ok .before in
+    let at-loop = at-loop-test .before in
+    let at-shared-item = at-loop .before .before .before in
+    let at-frame-total = at-shared-item .before in
+    let entry = at-frame-total .before .before .before in (
+      entry .pre,
       (
-        c .before .before .before .before .shared-ok .ensures,
-        loops.asked-at _ (c .before .before .before .before .before .before .before .before .before .before .frame-total .result) (c .before .before .before .before .before .before .loop .rule) (c .before .loop2 .frame) (c .before .before .before .before .before .before .loop .inv .0) (c .before .before .before .before .before .loop-test .taken) (omega (arith, c .before .before .before .first-frame .ensures, c .before .loop2 .inv .1 .0)) (omega (arith, c .before .before .end-frame .ensures .0, c .loop2-test .taken)) (rw (c .before .before .before .first-frame .ensures) at (c .before .loop2 .inv .1 .1)),
+        at-shared-item .shared-item .ensures .1,
+        (
+          at-shared-item .shared-item .ensures .0,
+          (
+            at-shared-ok .shared-ok .ensures,
+            loops.asked-at _ (at-frame-total .frame-total .result) (at-loop .loop .rule) (c .before .loop2 .frame) (at-loop .loop .inv .0) (at-loop-test .loop-test .taken) (omega (arith, at-first-frame .first-frame .ensures, c .before .loop2 .inv .1 .0)) (omega (arith, c .before .before .end-frame .ensures .0, c .loop2-test .taken)) (rw (at-first-frame .first-frame .ensures) at (c .before .loop2 .inv .1 .1)),
+          ),
+        ),
       ),
-    ),
-  ),
-)
+    )
 
 advance-requires : tie.Need-advance-requires Inv-loop2 μ-loop2 Inv-loop μ-loop Inv-judge μ-judge
 advance-requires c κs =
-    (c .before .before .before .before .before .before .before .before .before .before .before .before .before .before .before .pre, c .before .before .before .loop2 .inv .1 .1 .inner)
+    let at-loop2 = c .before .before .before in
+    let entry = at-loop2 .before .before .before .before .before .before .before .before .before .before .before .before in
+    (entry .pre, at-loop2 .loop2 .inv .1 .1 .inner)
 
 add-frame : tie.Need-add-frame Inv-loop2 μ-loop2 Inv-loop μ-loop Inv-judge μ-judge
 add-frame c =
@@ -107,10 +123,13 @@ loop2-less c =
     search needs
 
 loop2-again : tie.Need-loop2-again Inv-loop2 μ-loop2 Inv-loop μ-loop Inv-judge μ-judge
-loop2-again c = (
-  sym (loops.frames-pass _ _ _ _ _ (c .before .before .before .loop2-test .taken) (sym (c .before .before .rule-holds .ensures) ∙ c .before .if1 .taken)) ∙ c .before .before .before .before .loop2 .inv .0,
-  (omega (arith, c .before .before .before .before .loop2 .inv .1 .0), loops.along-more _ (c .before .before .before .before .before .before .first-frame .result) (c .before .before .before .before .loop2 .frame) (c .before .before .before .before .loop2 .inv .1 .0) (c .before .before .before .before .loop2 .inv .1 .1) (c .advance .ensures)),
-)
+loop2-again c =
+    let at-loop2-test = c .before .before .before in
+    let at-loop2 = at-loop2-test .before in
+    let at-first-frame = at-loop2 .before .before in (
+      sym (loops.frames-pass _ _ _ _ _ (at-loop2-test .loop2-test .taken) (sym (c .before .before .rule-holds .ensures) ∙ c .before .if1 .taken)) ∙ at-loop2 .loop2 .inv .0,
+      (omega (arith, at-loop2 .loop2 .inv .1 .0), loops.along-more _ (at-first-frame .first-frame .result) (at-loop2 .loop2 .frame) (at-loop2 .loop2 .inv .1 .0) (at-loop2 .loop2 .inv .1 .1) (c .advance .ensures)),
+    )
 
 add-rule : tie.Need-add-rule Inv-loop2 μ-loop2 Inv-loop μ-loop Inv-judge μ-judge
 add-rule c =
@@ -126,7 +145,8 @@ loop-again c =
 
 returns : tie.Need-returns Inv-loop2 μ-loop2 Inv-loop μ-loop Inv-judge μ-judge
 returns c =
-    sym (loops.frames-hit _ _ _ _ _ (c .before .before .loop2-test .taken) (sym (c .before .rule-holds .ensures) ∙ c .if1 .left)) ∙ c .before .before .before .loop2 .inv .0
+    let at-loop2 = c .before .before .before in
+    sym (loops.frames-hit _ _ _ _ _ (c .before .before .loop2-test .taken) (sym (c .before .rule-holds .ensures) ∙ c .if1 .left)) ∙ at-loop2 .loop2 .inv .0
 
 returns-2 : tie.Need-returns-2 Inv-loop2 μ-loop2 Inv-loop μ-loop Inv-judge μ-judge
 returns-2 c =

@@ -20,8 +20,9 @@ enum-known-shared c = search needs
 
 item-rule-requires : tie.Need-item-rule-requires
 item-rule-requires c κs =
-    let p = c .before .before .before .before .before .before .pre in
-    let a = c .before .before .before .before .before .before .args in (
+    let entry = c .before .before .before .before .before .before in
+    let p = entry .pre in
+    let a = entry .args in (
       p .0,
       (
         node-laws.within _ (c .before .before .shared .given .1) (p .1 .0),
@@ -35,20 +36,24 @@ item-rule-requires c κs =
 
 returns : tie.Need-returns
 returns c =
-    let p = c .before .before .before .before .pre in
-    let a = c .before .before .before .before .args in
+    let entry = c .before .before .before .before in
+    let p = entry .pre in
+    let a = entry .args in
     rw (frames.asked (nodesOf (a .bytes .now)) (a .frame) (a .rule) (p .1 .1 .1 .1 .0), sym (p .1 .1 .0) ∙ c .enum-told .given .1)
 
 returns-2 : tie.Need-returns-2
 returns-2 c =
-    let p = c .before .before .before .before .before .before .before .pre in
-    let a = c .before .before .before .before .before .before .before .args in
-    rw (frames.asked (nodesOf (a .bytes .now)) (a .frame) (a .rule) (p .1 .1 .1 .1 .0), sym (p .1 .1 .0) ∙ c .before .before .before .shared .given .1, frames.item-here (nodesOf (a .bytes .now)) (a .frame) (a .items) (p .1 .1 .1 .1 .1 .0) (p .1 .1 .1 .1 .1 .1) (c .before .if1 .taken)) (c .item-rule .ensures)
+    let at-shared = c .before .before .before in
+    let entry = at-shared .before .before .before .before in
+    let p = entry .pre in
+    let a = entry .args in
+    rw (frames.asked (nodesOf (a .bytes .now)) (a .frame) (a .rule) (p .1 .1 .1 .1 .0), sym (p .1 .1 .0) ∙ at-shared .shared .given .1, frames.item-here (nodesOf (a .bytes .now)) (a .frame) (a .items) (p .1 .1 .1 .1 .1 .0) (p .1 .1 .1 .1 .1 .1) (c .before .if1 .taken)) (c .item-rule .ensures)
 
 returns-3 : tie.Need-returns-3
 returns-3 c =
-    let p = c .before .before .before .before .before .before .pre in
-    let a = c .before .before .before .before .before .before .args in
+    let entry = c .before .before .before .before .before .before in
+    let p = entry .pre in
+    let a = entry .args in
     rw (frames.asked (nodesOf (a .bytes .now)) (a .frame) (a .rule) (p .1 .1 .1 .1 .0), sym (p .1 .1 .0) ∙ c .before .before .shared .given .1, frames.item-none (nodesOf (a .bytes .now)) (a .frame) (a .items) (p .1 .1 .1 .1 .1 .0) (p .1 .1 .1 .1 .1 .1) (c .if1 .left))
 
 pub frame-holds-spec : {M : Type 1} → statement M

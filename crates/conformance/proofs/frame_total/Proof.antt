@@ -16,7 +16,8 @@ enum-told c = search needs
 
 returns : tie.Need-returns
 returns c =
-    (rw (node-laws.had (c .before .n .given .1) (c .before .before .before .frame-count .ensures .0)), node-laws.within _ (c .before .n .given .1) (c .before .before .before .frame-count .ensures .1))
+    let at-frame-count = c .before .before .before in
+    (rw (node-laws.had (c .before .n .given .1) (at-frame-count .frame-count .ensures .0)), node-laws.within _ (c .before .n .given .1) (at-frame-count .frame-count .ensures .1))
 
 returns-2 : tie.Need-returns-2
 returns-2 c =

@@ -5,7 +5,7 @@ use Rattle.node.proofs.After.{after-reading}
 use Prim.Native.Nat.{_*_}
 use lib.Seq.{length-take-le}
 use Rattle.conformance.specs.Judging.{judgeOf}
-use Rattle.dataset.proofs.Promised.{promised}
+use Rattle.basics.proofs.Promised.{promised}
 use borrow.Author.Needs.{needs}
 use Rattle.conformance.proofs.judge.Statement.{statement}
 use Rattle.conformance.proofs.judge.Tie as tie
@@ -27,20 +27,28 @@ enum-known-n c = search needs
 
 mul-end : tie.Need-mul-end
 mul-end c =
-    let t = after-reading (c .before .before .before .before .before .before .before .before .before .args .bytes .now) (c .before .before .before .before .before .before .before .before .before .args .rows .now) (c .before .before .before .before .before .read .last .1 .0) (c .before .n .given .0 .0) (sym (c .before .n .given .1) ∙ c .before .before .before .before .before .read .ensures .0 .same) (c .before .before .before .before .before .read .ensures .1) in
-    omega (arith, t .1 .size, t .1 .few, length-take-le (7 * c .before .n .given .0 .0) (c .before .before .before .before .before .read .last .1 .0) (t .0))
+    let at-read = c .before .before .before .before .before in
+    let entry = at-read .before .before .before .before in
+    let t = after-reading (entry .args .bytes .now) (entry .args .rows .now) (at-read .read .last .1 .0) (c .before .n .given .0 .0) (sym (c .before .n .given .1) ∙ at-read .read .ensures .0 .same) (at-read .read .ensures .1) in
+    omega (arith, t .1 .size, t .1 .few, length-take-le (7 * c .before .n .given .0 .0) (at-read .read .last .1 .0) (t .0))
 
 slice-reshare-prefix-first-broken : tie.Need-slice-reshare-prefix-first-broken
 slice-reshare-prefix-first-broken c =
-    after-reading (c .before .before .before .before .before .before .before .before .before .args .bytes .now) (c .before .before .before .before .before .before .before .before .before .args .rows .now) (c .before .before .before .before .before .read .last .1 .0) (c .before .n .given .0 .0) (sym (c .before .n .given .1) ∙ c .before .before .before .before .before .read .ensures .0 .same) (c .before .before .before .before .before .read .ensures .1) .0
+    let at-read = c .before .before .before .before .before in
+    let entry = at-read .before .before .before .before in
+    after-reading (entry .args .bytes .now) (entry .args .rows .now) (at-read .read .last .1 .0) (c .before .n .given .0 .0) (sym (c .before .n .given .1) ∙ at-read .read .ensures .0 .same) (at-read .read .ensures .1) .0
 
 slice-aggregate-first-broken : tie.Need-slice-aggregate-first-broken
 slice-aggregate-first-broken c =
-    sym (length-take-le _ _ (after-reading (c .before .before .before .before .before .before .before .before .before .before .args .bytes .now) (c .before .before .before .before .before .before .before .before .before .before .args .rows .now) (c .before .before .before .before .before .before .read .last .1 .0) (c .before .before .n .given .0 .0) (sym (c .before .before .n .given .1) ∙ c .before .before .before .before .before .before .read .ensures .0 .same) (c .before .before .before .before .before .before .read .ensures .1) .0))
+    let at-read = c .before .before .before .before .before .before in
+    let entry = at-read .before .before .before .before in
+    sym (length-take-le _ _ (after-reading (entry .args .bytes .now) (entry .args .rows .now) (at-read .read .last .1 .0) (c .before .before .n .given .0 .0) (sym (c .before .before .n .given .1) ∙ at-read .read .ensures .0 .same) (at-read .read .ensures .1) .0))
 
 first-broken-requires : tie.Need-first-broken-requires
 first-broken-requires c κs =
-    after-reading (c .before .before .before .before .before .before .before .before .before .before .args .bytes .now) (c .before .before .before .before .before .before .before .before .before .before .args .rows .now) (c .before .before .before .before .before .before .read .last .1 .0) (c .before .before .n .given .0 .0) (sym (c .before .before .n .given .1) ∙ c .before .before .before .before .before .before .read .ensures .0 .same) (c .before .before .before .before .before .before .read .ensures .1) .1
+    let at-read = c .before .before .before .before .before .before in
+    let entry = at-read .before .before .before .before in
+    after-reading (entry .args .bytes .now) (entry .args .rows .now) (at-read .read .last .1 .0) (c .before .before .n .given .0 .0) (sym (c .before .before .n .given .1) ∙ at-read .read .ensures .0 .same) (at-read .read .ensures .1) .1
 
 enum-told-3 : tie.Need-enum-told-3
 enum-told-3 c = search needs
@@ -54,7 +62,8 @@ same-length c = search needs
 returns : tie.Need-returns
 unfolding judgeOf
 returns c =
-    (promised (rw (← c .before .before .before .before .read .ensures .0 .same, c .enum-told .given .1)), c .before .before .before .before .read .ensures .1)
+    let at-read = c .before .before .before .before in
+    (promised (rw (← at-read .read .ensures .0 .same, c .enum-told .given .1)), at-read .read .ensures .1)
 
 same-length-2 : tie.Need-same-length-2
 same-length-2 c = search needs
@@ -62,7 +71,8 @@ same-length-2 c = search needs
 returns-2 : tie.Need-returns-2
 unfolding judgeOf
 returns-2 c =
-    (promised (rw (← c .before .before .before .before .before .read .ensures .0 .same, c .before .code .given .1)), c .before .before .before .before .before .read .ensures .1)
+    let at-read = c .before .before .before .before .before in
+    (promised (rw (← at-read .read .ensures .0 .same, c .before .code .given .1)), at-read .read .ensures .1)
 
 same-length-3 : tie.Need-same-length-3
 same-length-3 c = search needs
@@ -70,7 +80,8 @@ same-length-3 c = search needs
 returns-3 : tie.Need-returns-3
 unfolding judgeOf
 returns-3 c =
-    (promised (rw (← c .before .before .before .before .read .ensures .0 .same, c .enum-told2 .given .1)), c .before .before .before .before .read .ensures .1)
+    let at-read = c .before .before .before .before in
+    (promised (rw (← at-read .read .ensures .0 .same, c .enum-told2 .given .1)), at-read .read .ensures .1)
 
 same-length-4 : tie.Need-same-length-4
 same-length-4 c = search needs
@@ -78,7 +89,9 @@ same-length-4 c = search needs
 returns-4 : tie.Need-returns-4
 unfolding judgeOf
 returns-4 c =
-    (promised (rw (← c .before .before .before .before .before .before .before .before .before .read .ensures .0 .same, c .before .before .before .before .before .n .given .1, ← c .before .before .first-broken .ensures, c .enum-told3 .given .1)), c .before .before .before .before .before .before .before .before .before .read .ensures .1)
+    let at-n = c .before .before .before .before .before in
+    let at-read = at-n .before .before .before .before in
+    (promised (rw (← at-read .read .ensures .0 .same, at-n .n .given .1, ← c .before .before .first-broken .ensures, c .enum-told3 .given .1)), at-read .read .ensures .1)
 
 same-length-5 : tie.Need-same-length-5
 same-length-5 c = search needs
@@ -86,7 +99,10 @@ same-length-5 c = search needs
 returns-5 : tie.Need-returns-5
 unfolding judgeOf
 returns-5 c =
-    (promised (rw (← c .before .before .before .before .before .before .before .before .before .before .read .ensures .0 .same, c .before .before .before .before .before .before .n .given .1, ← c .before .before .before .first-broken .ensures, c .before .rule .given .1)), c .before .before .before .before .before .before .before .before .before .before .read .ensures .1)
+    let at-first-broken = c .before .before .before in
+    let at-n = at-first-broken .before .before .before in
+    let at-read = at-n .before .before .before .before in
+    (promised (rw (← at-read .read .ensures .0 .same, at-n .n .given .1, ← at-first-broken .first-broken .ensures, c .before .rule .given .1)), at-read .read .ensures .1)
 
 pub judge-spec : {M : Type 1} → statement M
 judge-spec =

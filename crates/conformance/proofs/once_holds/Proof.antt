@@ -14,7 +14,8 @@ root-rule-requires c κs = search needs
 
 mask-rule-requires : tie.Need-mask-rule-requires
 mask-rule-requires c κs =
-    (c .before .before .before .before .pre .0, (loops.once-mask (c .before .before .before .before .args .rule) (c .before .before .before .before .pre .1 .1 .1) (omega (arith, c .before .if1 .left)), c .if2 .taken))
+    let entry = c .before .before .before .before in
+    (entry .pre .0, (loops.once-mask (entry .args .rule) (entry .pre .1 .1 .1) (omega (arith, c .before .if1 .left)), c .if2 .taken))
 
 rule-38-requires : tie.Need-rule-38-requires
 rule-38-requires c κs = search needs
@@ -27,7 +28,8 @@ returns-2 c = search needs
 
 returns-3 : tie.Need-returns-3
 returns-3 c =
-    c .rule-38 .ensures .1 ∙ ap (λ (k : ℕ). ruleAt (nodesOf (c .before .before .before .before .before .args .bytes .now)) k 0) (sym (loops.once-last (c .before .before .before .before .before .args .rule) (c .before .before .before .before .before .pre .1 .1 .1) (omega (arith, c .before .if2 .left)) (c .before .before .before .before .before .pre .1 .1 .0)))
+    let entry = c .before .before .before .before .before in
+    c .rule-38 .ensures .1 ∙ ap (λ (k : ℕ). ruleAt (nodesOf (entry .args .bytes .now)) k 0) (sym (loops.once-last (entry .args .rule) (entry .pre .1 .1 .1) (omega (arith, c .before .if2 .left)) (entry .pre .1 .1 .0)))
 
 pub once-holds-spec : {M : Type 1} → statement M
 once-holds-spec =

@@ -12,13 +12,15 @@ is-per-frame-requires c κs = search needs
 
 frame-holds-requires : tie.Need-frame-holds-requires
 frame-holds-requires c κs =
-    let p = c .before .before .before .before .pre in
+    let entry = c .before .before .before .before in
+    let p = entry .pre in
     let q = sym (c .before .is-per-frame .ensures) ∙ c .if1 .taken in
     (p .0, (p .1 .0, (p .1 .1 .0, (p .1 .1 .1 .0, (q, (p .1 .1 .1 .1 .from q, p .1 .1 .1 .1 .along q))))))
 
 once-holds-requires : tie.Need-once-holds-requires
 once-holds-requires c κs =
-    let p = c .before .before .before .before .pre in
+    let entry = c .before .before .before .before in
+    let p = entry .pre in
     (p .0, (p .1 .1 .1 .1 .low, (p .1 .1 .1 .1 .high, sym (c .before .is-per-frame .ensures) ∙ c .if1 .left)))
 
 returns : tie.Need-returns
@@ -26,7 +28,8 @@ returns c = search needs
 
 returns-2 : tie.Need-returns-2
 returns-2 c =
-    c .once-holds .ensures ∙ ap (λ (k : ℕ). ruleAt (nodesOf (c .before .before .before .before .before .args .bytes .now)) (c .before .before .before .before .before .args .rule) k) (sym (c .before .before .before .before .before .pre .1 .1 .1 .1 .once (sym (c .before .before .is-per-frame .ensures) ∙ c .before .if1 .left)))
+    let entry = c .before .before .before .before .before in
+    c .once-holds .ensures ∙ ap (λ (k : ℕ). ruleAt (nodesOf (entry .args .bytes .now)) (entry .args .rule) k) (sym (entry .pre .1 .1 .1 .1 .once (sym (c .before .before .is-per-frame .ensures) ∙ c .before .if1 .left)))
 
 pub rule-holds-spec : {M : Type 1} → statement M
 rule-holds-spec =

@@ -19,8 +19,10 @@ is-per-frame-requires c κs = search needs
 
 shared-part-requires : tie.Need-shared-part-requires
 shared-part-requires c κs =
-    let start = c .before .before .before .before .before .before .before in
-    (start .pre .0, node-laws.within _ (c .before .before .before .shared .given .1) (start .pre .1))
+    let at-shared = c .before .before .before in
+    let earlier = at-shared .before .before .before .before in
+    let start = earlier in
+    (start .pre .0, node-laws.within _ (at-shared .shared .given .1) (start .pre .1))
 
 no-part-requires-2 : tie.Need-no-part-requires-2
 no-part-requires-2 c κs = search needs
@@ -30,11 +32,13 @@ returns c = rw (c .before .enum-told .given .1) (c .no-part .ensures)
 
 returns-2 : tie.Need-returns-2
 returns-2 c =
-    rw (c .before .before .before .before .shared .given .1, sym (c .before .before .is-per-frame .ensures) ∙ c .before .if1 .taken) (c .shared-part .ensures)
+    let at-shared = c .before .before .before .before in
+    rw (at-shared .shared .given .1, sym (c .before .before .is-per-frame .ensures) ∙ c .before .if1 .taken) (c .shared-part .ensures)
 
 returns-3 : tie.Need-returns-3
 returns-3 c =
-    rw (c .before .before .before .before .shared .given .1, sym (c .before .before .is-per-frame .ensures) ∙ c .before .if1 .left) (c .no-part2 .ensures)
+    let at-shared = c .before .before .before .before in
+    rw (at-shared .shared .given .1, sym (c .before .before .is-per-frame .ensures) ∙ c .before .if1 .left) (c .no-part2 .ensures)
 
 pub shared-ok-spec : {M : Type 1} → statement M
 shared-ok-spec =

@@ -79,47 +79,67 @@ item-loop-holds t c =
     (refl, level.started _ _ _ _ (c .before .before .args .c) _ _ (c .before .before .args .s .now) (c .before .before .pre .1 .start) (c .before .before .pre .1 .stop) refl)
 
 item-element-requires : (t : ℕ) → Item item-lts.Need-element-requires t
-item-element-requires t c κs = omega (arith, c .loop .inv .1 .high, ap (λ (x : Cursor). x .end) (c .loop .inv .0), c .before .before .before .pre .1 .stop)
+item-element-requires t c κs =
+    let entry = c .before .before .before in
+    omega (arith, c .loop .inv .1 .high, ap (λ (x : Cursor). x .end) (c .loop .inv .0), entry .pre .1 .stop)
 
 item-enum-known-code : (t : ℕ) → Item item-lts.Need-enum-known-code t
 item-enum-known-code t c = search needs
 
 item-same-length : (t : ℕ) → Item item-lts.Need-same-length t
-item-same-length t c = c .before .before .before .before .loop .inv .1 .kept
+item-same-length t c =
+    let at-loop = c .before .before .before .before in
+    at-loop .loop .inv .1 .kept
 
 item-returns : (t : ℕ) → Item item-lts.Need-returns t
 item-returns t c =
-    let a = c .before .before .before .before .before .before .before .args in
-    let there = level.stands (a .c) (c .before .before .before .before .loop .here) (λ (x : Cursor). elementAt (a .s .now) x (c .before .before .before .before .loop .least) (a .levels)) (c .before .before .before .before .loop .inv .0) (c .before .before .before .element .ensures) (c .before .code .given .1) in
-    level.refuses _ _ _ _ (a .c) _ _ (c .before .before .before .before .loop .inv .1) (there .0) (there .1)
+    let at-element = c .before .before .before in
+    let at-loop = at-element .before in
+    let entry = at-loop .before .before .before in
+    let a = entry .args in
+    let there = level.stands (a .c) (at-loop .loop .here) (λ (x : Cursor). elementAt (a .s .now) x (at-loop .loop .least) (a .levels)) (at-loop .loop .inv .0) (at-element .element .ensures) (c .before .code .given .1) in
+    level.refuses _ _ _ _ (a .c) _ _ (at-loop .loop .inv .1) (there .0) (there .1)
 
 item-enum-known-next : (t : ℕ) → Item item-lts.Need-enum-known-next t
 item-enum-known-next t c = search needs
 
 item-same-length-2 : (t : ℕ) → Item item-lts.Need-same-length-2 t
-item-same-length-2 t c = c .before .before .before .before .loop .inv .1 .kept
+item-same-length-2 t c =
+    let at-loop = c .before .before .before .before in
+    at-loop .loop .inv .1 .kept
 
 item-returns-2 : (t : ℕ) → Item item-lts.Need-returns-2 t
 item-returns-2 t c =
-    let a = c .before .before .before .before .before .before .before .args in
-    let there = level.stands (a .c) (c .before .before .before .before .loop .here) (λ (x : Cursor). elementAt (a .s .now) x (c .before .before .before .before .loop .least) (a .levels)) (c .before .before .before .before .loop .inv .0) (c .before .before .before .element .ensures) (c .before .next .given .1) in
-    level.ended _ _ _ _ (a .c) _ _ (c .before .before .before .before .loop .inv .1) (there .0) (there .1 .0) (there .1 .1)
+    let at-element = c .before .before .before in
+    let at-loop = at-element .before in
+    let entry = at-loop .before .before .before in
+    let a = entry .args in
+    let there = level.stands (a .c) (at-loop .loop .here) (λ (x : Cursor). elementAt (a .s .now) x (at-loop .loop .least) (a .levels)) (at-loop .loop .inv .0) (at-element .element .ensures) (c .before .next .given .1) in
+    level.ended _ _ _ _ (a .c) _ _ (at-loop .loop .inv .1) (there .0) (there .1 .0) (there .1 .1)
 
 item-enum-known-tag : (t : ℕ) → Item item-lts.Need-enum-known-tag t
 item-enum-known-tag t c = search needs
 
 item-add-put-row : (t : ℕ) → Item item-lts.Need-add-put-row t
 item-add-put-row t c =
-    let a = c .before .before .before .before .before .before .before .before .before .args in
-    let there = level.stands (a .c) (c .before .before .before .before .before .before .loop .here) (λ (x : Cursor). elementAt (a .s .now) x (c .before .before .before .before .before .before .loop .least) (a .levels)) (c .before .before .before .before .before .before .loop .inv .0) (c .before .before .before .before .before .element .ensures) (c .before .before .before .tag .given .1) in
-    omega (arith, c .before .before .before .before .before .before .loop .inv .1 .count, c .before .before .before .before .before .before .loop .inv .1 .few, there .1, c .before .before .before .before .before .before .before .before .before .pre .1, c .before .before .before .before .before .before .before .before .before .good)
+    let at-tag = c .before .before .before in
+    let at-element = at-tag .before .before in
+    let at-loop = at-element .before in
+    let entry = at-loop .before .before .before in
+    let a = entry .args in
+    let there = level.stands (a .c) (at-loop .loop .here) (λ (x : Cursor). elementAt (a .s .now) x (at-loop .loop .least) (a .levels)) (at-loop .loop .inv .0) (at-element .element .ensures) (at-tag .tag .given .1) in
+    omega (arith, at-loop .loop .inv .1 .count, at-loop .loop .inv .1 .few, there .1, entry .pre .1, entry .good)
 
 item-put-row-requires : (t : ℕ) → Item item-lts.Need-put-row-requires t
 item-put-row-requires t c κs =
-    let a = c .before .before .before .before .before .before .before .before .before .args in
-    let there = level.stands (a .c) (c .before .before .before .before .before .before .loop .here) (λ (x : Cursor). elementAt (a .s .now) x (c .before .before .before .before .before .before .loop .least) (a .levels)) (c .before .before .before .before .before .before .loop .inv .0) (c .before .before .before .before .before .element .ensures) (c .before .before .before .tag .given .1) in (
-      omega (arith, c .before .before .before .before .before .before .loop .inv .1 .count, c .before .before .before .before .before .before .loop .inv .1 .few, there .1, c .before .before .before .before .before .before .before .before .before .pre .1),
-      λ h. omega (arith, c .before .before .before .before .before .before .loop .inv .1 .count, c .before .before .before .before .before .before .loop .inv .1 .few, there .1, c .before .before .before .before .before .before .before .before .before .pre .1, c .before .before .before .before .before .before .before .before .before .pre .1 .small (omega (arith, h, c .before .before .before .before .before .before .loop .inv .1 .kept))),
+    let at-tag = c .before .before .before in
+    let at-element = at-tag .before .before in
+    let at-loop = at-element .before in
+    let entry = at-loop .before .before .before in
+    let a = entry .args in
+    let there = level.stands (a .c) (at-loop .loop .here) (λ (x : Cursor). elementAt (a .s .now) x (at-loop .loop .least) (a .levels)) (at-loop .loop .inv .0) (at-element .element .ensures) (at-tag .tag .given .1) in (
+      omega (arith, at-loop .loop .inv .1 .count, at-loop .loop .inv .1 .few, there .1, entry .pre .1),
+      λ h. omega (arith, at-loop .loop .inv .1 .count, at-loop .loop .inv .1 .few, there .1, entry .pre .1, entry .pre .1 .small (omega (arith, h, at-loop .loop .inv .1 .kept))),
     )
 
 item-moved-requires : (t : ℕ) → Item item-lts.Need-moved-requires t
@@ -127,72 +147,114 @@ item-moved-requires t c κs = search needs
 
 item-add-n : (t : ℕ) → Item item-lts.Need-add-n t
 item-add-n t c =
-    let a = c .before .before .before .before .before .before .before .before .before .before .before .before .before .args in
-    let there = level.stands (a .c) (c .before .before .before .before .before .before .before .before .before .before .loop .here) (λ (x : Cursor). elementAt (a .s .now) x (c .before .before .before .before .before .before .before .before .before .before .loop .least) (a .levels)) (c .before .before .before .before .before .before .before .before .before .before .loop .inv .0) (c .before .before .before .before .before .before .before .before .before .element .ensures) (c .before .before .before .before .before .before .before .tag .given .1) in
-    omega (arith, c .before .before .before .before .before .before .before .before .before .before .loop .inv .1 .count, c .before .before .before .before .before .before .before .before .before .before .loop .inv .1 .few, there .1, c .before .before .before .before .before .before .before .before .before .before .before .before .before .pre .1, c .before .before .before .before .before .before .before .before .before .before .before .before .before .good)
+    let at-tag = c .before .before .before .before .before .before .before in
+    let at-element = at-tag .before .before in
+    let at-loop = at-element .before in
+    let entry = at-loop .before .before .before in
+    let a = entry .args in
+    let there = level.stands (a .c) (at-loop .loop .here) (λ (x : Cursor). elementAt (a .s .now) x (at-loop .loop .least) (a .levels)) (at-loop .loop .inv .0) (at-element .element .ensures) (at-tag .tag .given .1) in
+    omega (arith, at-loop .loop .inv .1 .count, at-loop .loop .inv .1 .few, there .1, entry .pre .1, entry .good)
 
 item-add-least : (t : ℕ) → Item item-lts.Need-add-least t
 item-add-least t c =
-    let a = c .before .before .before .before .before .before .before .before .before .before .before .before .before .args in
-    let there = level.stands (a .c) (c .before .before .before .before .before .before .before .before .before .before .loop .here) (λ (x : Cursor). elementAt (a .s .now) x (c .before .before .before .before .before .before .before .before .before .before .loop .least) (a .levels)) (c .before .before .before .before .before .before .before .before .before .before .loop .inv .0) (c .before .before .before .before .before .before .before .before .before .element .ensures) (c .before .before .before .before .before .before .before .tag .given .1) in
+    let at-tag = c .before .before .before .before .before .before .before in
+    let at-element = at-tag .before .before in
+    let at-loop = at-element .before in
+    let entry = at-loop .before .before .before in
+    let a = entry .args in
+    let there = level.stands (a .c) (at-loop .loop .here) (λ (x : Cursor). elementAt (a .s .now) x (at-loop .loop .least) (a .levels)) (at-loop .loop .inv .0) (at-element .element .ensures) (at-tag .tag .given .1) in
     omega (arith, there .1)
 
 item-loop-less : (t : ℕ) → Item item-lts.Need-loop-less t
 item-loop-less t c =
-    let a = c .before .before .before .before .before .before .before .before .before .before .before .before .before .args in
-    let there = level.stands (a .c) (c .before .before .before .before .before .before .before .before .before .before .loop .here) (λ (x : Cursor). elementAt (a .s .now) x (c .before .before .before .before .before .before .before .before .before .before .loop .least) (a .levels)) (c .before .before .before .before .before .before .before .before .before .before .loop .inv .0) (c .before .before .before .before .before .before .before .before .before .element .ensures) (c .before .before .before .before .before .before .before .tag .given .1) in
-    omega (arith, there .1, c .before .before .before .before .before .before .before .before .before .before .loop .inv .1 .high, ap (λ (x : Cursor). x .end) (c .moved .ensures), ap (λ (x : Cursor). x .at) (c .moved .ensures), ap (λ (x : Cursor). x .end) (c .before .before .before .before .before .before .before .before .before .before .loop .inv .0))
+    let at-tag = c .before .before .before .before .before .before .before in
+    let at-element = at-tag .before .before in
+    let at-loop = at-element .before in
+    let entry = at-loop .before .before .before in
+    let a = entry .args in
+    let there = level.stands (a .c) (at-loop .loop .here) (λ (x : Cursor). elementAt (a .s .now) x (at-loop .loop .least) (a .levels)) (at-loop .loop .inv .0) (at-element .element .ensures) (at-tag .tag .given .1) in
+    omega (arith, there .1, at-loop .loop .inv .1 .high, ap (λ (x : Cursor). x .end) (c .moved .ensures), ap (λ (x : Cursor). x .at) (c .moved .ensures), ap (λ (x : Cursor). x .end) (at-loop .loop .inv .0))
 
 item-loop-again : (t : ℕ) → Item item-lts.Need-loop-again t
 item-loop-again t c =
-    let a = c .before .before .before .before .before .before .before .before .before .before .before .before .before .args in
-    let there = level.stands (a .c) (c .before .before .before .before .before .before .before .before .before .before .loop .here) (λ (x : Cursor). elementAt (a .s .now) x (c .before .before .before .before .before .before .before .before .before .before .loop .least) (a .levels)) (c .before .before .before .before .before .before .before .before .before .before .loop .inv .0) (c .before .before .before .before .before .before .before .before .before .element .ensures) (c .before .before .before .before .before .before .before .tag .given .1) in
-    level.along _ _ _ _ (a .c) _ _ (c .before .before .before .before .before .before .before .before .before .before .loop .here) _ (c .before .before .before .before .before .before .before .before .before .before .loop .inv .0) (c .moved .ensures)
-    (level.again _ _ _ _ (a .c) _ _ (c .before .before .before .before .before .before .before .before .before .before .loop .inv .1) (there .0) (there .1) refl (c .before .before .before .put-row .kept .0)
-    (level.leaf _ _ _ _ (there .1 .1 .0) (level.value-plain _ _ _ _ _ (c .before .before .before .before .before .if1 .taken))) (c .before .before .before .put-row .ensures))
+    let at-put-row = c .before .before .before in
+    let at-if1 = at-put-row .before .before in
+    let at-tag = at-if1 .before .before in
+    let at-element = at-tag .before .before in
+    let at-loop = at-element .before in
+    let entry = at-loop .before .before .before in
+    let a = entry .args in
+    let there = level.stands (a .c) (at-loop .loop .here) (λ (x : Cursor). elementAt (a .s .now) x (at-loop .loop .least) (a .levels)) (at-loop .loop .inv .0) (at-element .element .ensures) (at-tag .tag .given .1) in
+    level.along _ _ _ _ (a .c) _ _ (at-loop .loop .here) _ (at-loop .loop .inv .0) (c .moved .ensures)
+    (level.again _ _ _ _ (a .c) _ _ (at-loop .loop .inv .1) (there .0) (there .1) refl (at-put-row .put-row .kept .0)
+    (level.leaf _ _ _ _ (there .1 .1 .0) (level.value-plain _ _ _ _ _ (at-if1 .if1 .taken))) (at-put-row .put-row .ensures))
 
 item-sub-read-sequence : (t : ℕ) → Item item-lts.Need-sub-read-sequence t
 item-sub-read-sequence t c =
-    let a = c .before .before .before .before .before .before .before .before .args in
-    let there = level.stands (a .c) (c .before .before .before .before .before .loop .here) (λ (x : Cursor). elementAt (a .s .now) x (c .before .before .before .before .before .loop .least) (a .levels)) (c .before .before .before .before .before .loop .inv .0) (c .before .before .before .before .element .ensures) (c .before .before .tag .given .1) in
-    omega (arith, sequence-level (a .levels) (a .s .now) (moved (a .c) (c .before .before .before .before .before .loop .here .at)) (c .before .before .before .before .before .loop .least) (there .0) (c .if1 .left))
+    let at-element = c .before .before .before .before in
+    let at-loop = at-element .before in
+    let entry = at-loop .before .before .before in
+    let a = entry .args in
+    let there = level.stands (a .c) (at-loop .loop .here) (λ (x : Cursor). elementAt (a .s .now) x (at-loop .loop .least) (a .levels)) (at-loop .loop .inv .0) (at-element .element .ensures) (c .before .before .tag .given .1) in
+    omega (arith, sequence-level (a .levels) (a .s .now) (moved (a .c) (at-loop .loop .here .at)) (at-loop .loop .least) (there .0) (c .if1 .left))
 
 item-add-read-sequence : (t : ℕ) → Item item-lts.Need-add-read-sequence t
 item-add-read-sequence t c =
-    let a = c .before .before .before .before .before .before .before .before .before .args in
-    let there = level.stands (a .c) (c .before .before .before .before .before .before .loop .here) (λ (x : Cursor). elementAt (a .s .now) x (c .before .before .before .before .before .before .loop .least) (a .levels)) (c .before .before .before .before .before .before .loop .inv .0) (c .before .before .before .before .before .element .ensures) (c .before .before .before .tag .given .1) in
-    omega (arith, c .before .before .before .before .before .before .loop .inv .1 .count, c .before .before .before .before .before .before .loop .inv .1 .few, there .1, c .before .before .before .before .before .before .before .before .before .pre .1, c .before .before .before .before .before .before .before .before .before .good)
+    let at-tag = c .before .before .before in
+    let at-element = at-tag .before .before in
+    let at-loop = at-element .before in
+    let entry = at-loop .before .before .before in
+    let a = entry .args in
+    let there = level.stands (a .c) (at-loop .loop .here) (λ (x : Cursor). elementAt (a .s .now) x (at-loop .loop .least) (a .levels)) (at-loop .loop .inv .0) (at-element .element .ensures) (at-tag .tag .given .1) in
+    omega (arith, at-loop .loop .inv .1 .count, at-loop .loop .inv .1 .few, there .1, entry .pre .1, entry .good)
 
 item-read-sequence-requires : (t : ℕ) → Item item-lts.Need-read-sequence-requires t
 item-read-sequence-requires t c κs =
-    let a = c .before .before .before .before .before .before .before .before .before .args in
-    let there = level.stands (a .c) (c .before .before .before .before .before .before .loop .here) (λ (x : Cursor). elementAt (a .s .now) x (c .before .before .before .before .before .before .loop .least) (a .levels)) (c .before .before .before .before .before .before .loop .inv .0) (c .before .before .before .before .before .element .ensures) (c .before .before .before .tag .given .1) in
-    (omega (arith, c .before .before .before .before .before .before .before .before .before .pre .0, there .1, c .before .before .before .before .before .before .loop .inv .1 .low, c .before .before .before .before .before .before .loop .inv .1 .high), record { start = there .1 .1 .0; stop = omega (arith, there .1, c .before .before .before .before .before .before .before .before .before .pre .1); small = λ h. c .before .before .before .before .before .before .before .before .before .pre .1 .small (omega (arith, h, c .before .before .before .before .before .before .loop .inv .1 .kept)); deep = omega (arith, c .before .before .before .before .before .before .before .before .before .pre .1); count = omega (arith, c .before .before .before .before .before .before .loop .inv .1 .count, c .before .before .before .before .before .before .loop .inv .1 .few, c .before .before .before .before .before .before .loop .inv .1 .low, there .1, c .before .before .before .before .before .before .before .before .before .pre .1) })
+    let at-tag = c .before .before .before in
+    let at-element = at-tag .before .before in
+    let at-loop = at-element .before in
+    let entry = at-loop .before .before .before in
+    let a = entry .args in
+    let there = level.stands (a .c) (at-loop .loop .here) (λ (x : Cursor). elementAt (a .s .now) x (at-loop .loop .least) (a .levels)) (at-loop .loop .inv .0) (at-element .element .ensures) (at-tag .tag .given .1) in
+    (omega (arith, entry .pre .0, there .1, at-loop .loop .inv .1 .low, at-loop .loop .inv .1 .high), record { start = there .1 .1 .0; stop = omega (arith, there .1, entry .pre .1); small = λ h. entry .pre .1 .small (omega (arith, h, at-loop .loop .inv .1 .kept)); deep = omega (arith, entry .pre .1); count = omega (arith, at-loop .loop .inv .1 .count, at-loop .loop .inv .1 .few, at-loop .loop .inv .1 .low, there .1, entry .pre .1) })
 
 item-enum-known-code-2 : (t : ℕ) → Item item-lts.Need-enum-known-code-2 t
 item-enum-known-code-2 t c = search needs
 
 item-same-length-3 : (t : ℕ) → Item item-lts.Need-same-length-3 t
 item-same-length-3 t c =
-    c .before .before .before .before .before .read-sequence .kept .1 .1 .1 .0 ∙ c .before .before .before .before .before .before .before .before .before .before .before .before .loop .inv .1 .kept
+    let at-read-sequence = c .before .before .before .before .before in
+    let at-loop = at-read-sequence .before .before .before .before .before .before .before in
+    at-read-sequence .read-sequence .kept .1 .1 .1 .0 ∙ at-loop .loop .inv .1 .kept
 
 item-returns-3 : (t : ℕ) → Item item-lts.Need-returns-3 t
 item-returns-3 t c =
-    let a = c .before .before .before .before .before .before .before .before .before .before .before .before .before .before .before .args in
-    let there = level.stands (a .c) (c .before .before .before .before .before .before .before .before .before .before .before .before .loop .here) (λ (x : Cursor). elementAt (a .s .now) x (c .before .before .before .before .before .before .before .before .before .before .before .before .loop .least) (a .levels)) (c .before .before .before .before .before .before .before .before .before .before .before .before .loop .inv .0) (c .before .before .before .before .before .before .before .before .before .before .before .element .ensures) (c .before .before .before .before .before .before .before .before .before .tag .given .1) in
-    let e = level.value-items (a .levels) (a .s .now) (c .before .before .before .before .before .before .before .before .before .before .before .before .loop .n + 1) _ _ (λ z. absurd (omega (arith, z, sequence-level (a .levels) (a .s .now) (moved (a .c) (c .before .before .before .before .before .before .before .before .before .before .before .before .loop .here .at)) (c .before .before .before .before .before .before .before .before .before .before .before .before .loop .least) (there .0) (c .before .before .before .before .before .before .before .if1 .left)))) (c .before .before .before .before .before .before .before .if1 .left) in
-    level.fails _ _ _ _ (a .c) _ _ (c .before .before .before .before .before .before .before .before .before .before .before .before .loop .inv .1) (there .0) (there .1) (level.of-run (sym e) (level.walked (c .before .code2 .given .1) (c .before .before .before .before .before .read-sequence .ensures)))
+    let at-read-sequence = c .before .before .before .before .before in
+    let at-if1 = at-read-sequence .before .before in
+    let at-tag = at-if1 .before .before in
+    let at-element = at-tag .before .before in
+    let at-loop = at-element .before in
+    let entry = at-loop .before .before .before in
+    let a = entry .args in
+    let there = level.stands (a .c) (at-loop .loop .here) (λ (x : Cursor). elementAt (a .s .now) x (at-loop .loop .least) (a .levels)) (at-loop .loop .inv .0) (at-element .element .ensures) (at-tag .tag .given .1) in
+    let e = level.value-items (a .levels) (a .s .now) (at-loop .loop .n + 1) _ _ (λ z. absurd (omega (arith, z, sequence-level (a .levels) (a .s .now) (moved (a .c) (at-loop .loop .here .at)) (at-loop .loop .least) (there .0) (at-if1 .if1 .left)))) (at-if1 .if1 .left) in
+    level.fails _ _ _ _ (a .c) _ _ (at-loop .loop .inv .1) (there .0) (there .1) (level.of-run (sym e) (level.walked (c .before .code2 .given .1) (at-read-sequence .read-sequence .ensures)))
 
 item-enum-known-stop : (t : ℕ) → Item item-lts.Need-enum-known-stop t
 item-enum-known-stop t c = search needs
 
 item-put-row-requires-2 : (t : ℕ) → Item item-lts.Need-put-row-requires-2 t
 item-put-row-requires-2 t c κs =
-    let a = c .before .before .before .before .before .before .before .before .before .before .before .before .before .before .before .before .args in
-    let there = level.stands (a .c) (c .before .before .before .before .before .before .before .before .before .before .before .before .before .loop .here) (λ (x : Cursor). elementAt (a .s .now) x (c .before .before .before .before .before .before .before .before .before .before .before .before .before .loop .least) (a .levels)) (c .before .before .before .before .before .before .before .before .before .before .before .before .before .loop .inv .0) (c .before .before .before .before .before .before .before .before .before .before .before .before .element .ensures) (c .before .before .before .before .before .before .before .before .before .before .tag .given .1) in
-    let d = level.below _ (level.walked (c .before .before .stop .given .1) (c .before .before .before .before .before .before .read-sequence .ensures)) in (
-      omega (arith, d .within, d .count, there .1, c .before .before .before .before .before .before .before .before .before .before .before .before .before .loop .inv .1 .count, c .before .before .before .before .before .before .before .before .before .before .before .before .before .loop .inv .1 .few, c .before .before .before .before .before .before .before .before .before .before .before .before .before .before .before .before .pre .1),
-      λ h. omega (arith, d .within, d .count, there .1, c .before .before .before .before .before .before .before .before .before .before .before .before .before .loop .inv .1 .count, c .before .before .before .before .before .before .before .before .before .before .before .before .before .loop .inv .1 .few, c .before .before .before .before .before .before .before .before .before .before .before .before .before .before .before .before .pre .1, c .before .before .before .before .before .before .before .before .before .before .before .before .before .before .before .before .pre .1 .small (omega (arith, h, c .before .before .before .before .before .before .before .before .before .before .before .before .before .loop .inv .1 .kept, c .before .before .before .before .before .before .read-sequence .kept .1 .1 .1 .0))),
+    let at-read-sequence = c .before .before .before .before .before .before in
+    let at-tag = at-read-sequence .before .before .before .before in
+    let at-element = at-tag .before .before in
+    let at-loop = at-element .before in
+    let entry = at-loop .before .before .before in
+    let a = entry .args in
+    let there = level.stands (a .c) (at-loop .loop .here) (λ (x : Cursor). elementAt (a .s .now) x (at-loop .loop .least) (a .levels)) (at-loop .loop .inv .0) (at-element .element .ensures) (at-tag .tag .given .1) in
+    let d = level.below _ (level.walked (c .before .before .stop .given .1) (at-read-sequence .read-sequence .ensures)) in (
+      omega (arith, d .within, d .count, there .1, at-loop .loop .inv .1 .count, at-loop .loop .inv .1 .few, entry .pre .1),
+      λ h. omega (arith, d .within, d .count, there .1, at-loop .loop .inv .1 .count, at-loop .loop .inv .1 .few, entry .pre .1, entry .pre .1 .small (omega (arith, h, at-loop .loop .inv .1 .kept, at-read-sequence .read-sequence .kept .1 .1 .1 .0))),
     )
 
 item-moved-requires-2 : (t : ℕ) → Item item-lts.Need-moved-requires-2 t
@@ -200,25 +262,43 @@ item-moved-requires-2 t c κs = search needs
 
 item-add-least-2 : (t : ℕ) → Item item-lts.Need-add-least-2 t
 item-add-least-2 t c =
-    let a = c .before .before .before .before .before .before .before .before .before .before .before .before .before .before .before .before .before .before .before .before .args in
-    let there = level.stands (a .c) (c .before .before .before .before .before .before .before .before .before .before .before .before .before .before .before .before .before .loop .here) (λ (x : Cursor). elementAt (a .s .now) x (c .before .before .before .before .before .before .before .before .before .before .before .before .before .before .before .before .before .loop .least) (a .levels)) (c .before .before .before .before .before .before .before .before .before .before .before .before .before .before .before .before .before .loop .inv .0) (c .before .before .before .before .before .before .before .before .before .before .before .before .before .before .before .before .element .ensures) (c .before .before .before .before .before .before .before .before .before .before .before .before .before .before .tag .given .1) in
+    let at-tag = c .before .before .before .before .before .before .before .before .before .before .before .before .before .before in
+    let at-element = at-tag .before .before in
+    let at-loop = at-element .before in
+    let entry = at-loop .before .before .before in
+    let a = entry .args in
+    let there = level.stands (a .c) (at-loop .loop .here) (λ (x : Cursor). elementAt (a .s .now) x (at-loop .loop .least) (a .levels)) (at-loop .loop .inv .0) (at-element .element .ensures) (at-tag .tag .given .1) in
     omega (arith, there .1)
 
 item-loop-less-2 : (t : ℕ) → Item item-lts.Need-loop-less-2 t
 item-loop-less-2 t c =
-    let a = c .before .before .before .before .before .before .before .before .before .before .before .before .before .before .before .before .before .before .before .before .args in
-    let there = level.stands (a .c) (c .before .before .before .before .before .before .before .before .before .before .before .before .before .before .before .before .before .loop .here) (λ (x : Cursor). elementAt (a .s .now) x (c .before .before .before .before .before .before .before .before .before .before .before .before .before .before .before .before .before .loop .least) (a .levels)) (c .before .before .before .before .before .before .before .before .before .before .before .before .before .before .before .before .before .loop .inv .0) (c .before .before .before .before .before .before .before .before .before .before .before .before .before .before .before .before .element .ensures) (c .before .before .before .before .before .before .before .before .before .before .before .before .before .before .tag .given .1) in
-    let d = level.below _ (level.walked (c .before .before .before .before .before .before .stop .given .1) (c .before .before .before .before .before .before .before .before .before .before .read-sequence .ensures)) in
-    omega (arith, there .1, d .within, c .before .before .before .before .before .before .before .before .before .before .before .before .before .before .before .before .before .loop .inv .1 .high, ap (λ (x : Cursor). x .end) (c .moved2 .ensures), ap (λ (x : Cursor). x .at) (c .moved2 .ensures), ap (λ (x : Cursor). x .end) (c .before .before .before .before .before .before .before .before .before .before .before .before .before .before .before .before .before .loop .inv .0))
+    let at-stop = c .before .before .before .before .before .before in
+    let at-read-sequence = at-stop .before .before .before .before in
+    let at-tag = at-read-sequence .before .before .before .before in
+    let at-element = at-tag .before .before in
+    let at-loop = at-element .before in
+    let entry = at-loop .before .before .before in
+    let a = entry .args in
+    let there = level.stands (a .c) (at-loop .loop .here) (λ (x : Cursor). elementAt (a .s .now) x (at-loop .loop .least) (a .levels)) (at-loop .loop .inv .0) (at-element .element .ensures) (at-tag .tag .given .1) in
+    let d = level.below _ (level.walked (at-stop .stop .given .1) (at-read-sequence .read-sequence .ensures)) in
+    omega (arith, there .1, d .within, at-loop .loop .inv .1 .high, ap (λ (x : Cursor). x .end) (c .moved2 .ensures), ap (λ (x : Cursor). x .at) (c .moved2 .ensures), ap (λ (x : Cursor). x .end) (at-loop .loop .inv .0))
 
 item-loop-again-2 : (t : ℕ) → Item item-lts.Need-loop-again-2 t
 item-loop-again-2 t c =
-    let a = c .before .before .before .before .before .before .before .before .before .before .before .before .before .before .before .before .before .before .before .before .args in
-    let there = level.stands (a .c) (c .before .before .before .before .before .before .before .before .before .before .before .before .before .before .before .before .before .loop .here) (λ (x : Cursor). elementAt (a .s .now) x (c .before .before .before .before .before .before .before .before .before .before .before .before .before .before .before .before .before .loop .least) (a .levels)) (c .before .before .before .before .before .before .before .before .before .before .before .before .before .before .before .before .before .loop .inv .0) (c .before .before .before .before .before .before .before .before .before .before .before .before .before .before .before .before .element .ensures) (c .before .before .before .before .before .before .before .before .before .before .before .before .before .before .tag .given .1) in
-    let e = level.value-items (a .levels) (a .s .now) (c .before .before .before .before .before .before .before .before .before .before .before .before .before .before .before .before .before .loop .n + 1) _ _ (λ z. absurd (omega (arith, z, sequence-level (a .levels) (a .s .now) (moved (a .c) (c .before .before .before .before .before .before .before .before .before .before .before .before .before .before .before .before .before .loop .here .at)) (c .before .before .before .before .before .before .before .before .before .before .before .before .before .before .before .before .before .loop .least) (there .0) (c .before .before .before .before .before .before .before .before .before .before .before .before .if1 .left)))) (c .before .before .before .before .before .before .before .before .before .before .before .before .if1 .left) in
-    level.along _ _ _ _ (a .c) _ _ (c .before .before .before .before .before .before .before .before .before .before .before .before .before .before .before .before .before .loop .here) _ (c .before .before .before .before .before .before .before .before .before .before .before .before .before .before .before .before .before .loop .inv .0) (c .moved2 .ensures)
-    (level.again _ _ _ _ (a .c) _ _ (c .before .before .before .before .before .before .before .before .before .before .before .before .before .before .before .before .before .loop .inv .1) (there .0) (there .1) (c .before .before .before .before .before .before .before .before .before .before .read-sequence .kept .1 .1 .1 .0) (c .before .before .before .put-row2 .kept .0)
-    (level.of-run (sym e) (level.walked (c .before .before .before .before .before .before .stop .given .1) (c .before .before .before .before .before .before .before .before .before .before .read-sequence .ensures))) (c .before .before .before .put-row2 .ensures))
+    let at-put-row2 = c .before .before .before in
+    let at-stop = at-put-row2 .before .before .before in
+    let at-read-sequence = at-stop .before .before .before .before in
+    let at-if1 = at-read-sequence .before .before in
+    let at-tag = at-if1 .before .before in
+    let at-element = at-tag .before .before in
+    let at-loop = at-element .before in
+    let entry = at-loop .before .before .before in
+    let a = entry .args in
+    let there = level.stands (a .c) (at-loop .loop .here) (λ (x : Cursor). elementAt (a .s .now) x (at-loop .loop .least) (a .levels)) (at-loop .loop .inv .0) (at-element .element .ensures) (at-tag .tag .given .1) in
+    let e = level.value-items (a .levels) (a .s .now) (at-loop .loop .n + 1) _ _ (λ z. absurd (omega (arith, z, sequence-level (a .levels) (a .s .now) (moved (a .c) (at-loop .loop .here .at)) (at-loop .loop .least) (there .0) (at-if1 .if1 .left)))) (at-if1 .if1 .left) in
+    level.along _ _ _ _ (a .c) _ _ (at-loop .loop .here) _ (at-loop .loop .inv .0) (c .moved2 .ensures)
+    (level.again _ _ _ _ (a .c) _ _ (at-loop .loop .inv .1) (there .0) (there .1) (at-read-sequence .read-sequence .kept .1 .1 .1 .0) (at-put-row2 .put-row2 .kept .0)
+    (level.of-run (sym e) (level.walked (at-stop .stop .given .1) (at-read-sequence .read-sequence .ensures))) (at-put-row2 .put-row2 .ensures))
 
 sequence-loop-holds : (t : ℕ) → Sequence sequence-lts.Need-loop-holds t
 sequence-loop-holds t c =
@@ -226,70 +306,99 @@ sequence-loop-holds t c =
 
 sequence-item-requires : (t : ℕ) → Sequence sequence-lts.Need-item-requires t
 sequence-item-requires t c κs =
-    omega (arith, c .loop .inv .1 .1 .high, ap (λ (x : Cursor). x .end) (c .loop .inv .1 .0), c .before .before .before .pre .1 .stop)
+    let entry = c .before .before .before in
+    omega (arith, c .loop .inv .1 .1 .high, ap (λ (x : Cursor). x .end) (c .loop .inv .1 .0), entry .pre .1 .stop)
 
 sequence-enum-known-code : (t : ℕ) → Sequence sequence-lts.Need-enum-known-code t
 sequence-enum-known-code t c = search needs
 
 sequence-same-length : (t : ℕ) → Sequence sequence-lts.Need-same-length t
-sequence-same-length t c = c .before .before .before .before .loop .inv .1 .1 .kept
+sequence-same-length t c =
+    let at-loop = c .before .before .before .before in
+    at-loop .loop .inv .1 .1 .kept
 
 sequence-returns : (t : ℕ) → Sequence sequence-lts.Need-returns t
 sequence-returns t c =
-    let a = c .before .before .before .before .before .before .before .args in
-    let there = level.stands (a .c) (c .before .before .before .before .loop .here) (λ (x : Cursor). itemAt (a .s .now) x) (c .before .before .before .before .loop .inv .1 .0) (c .before .before .before .item .ensures) (c .before .code .given .1) in
-    level.refuses _ _ _ _ (a .c) _ _ (c .before .before .before .before .loop .inv .1 .1) (there .0) (there .1)
+    let at-item = c .before .before .before in
+    let at-loop = at-item .before in
+    let entry = at-loop .before .before .before in
+    let a = entry .args in
+    let there = level.stands (a .c) (at-loop .loop .here) (λ (x : Cursor). itemAt (a .s .now) x) (at-loop .loop .inv .1 .0) (at-item .item .ensures) (c .before .code .given .1) in
+    level.refuses _ _ _ _ (a .c) _ _ (at-loop .loop .inv .1 .1) (there .0) (there .1)
 
 sequence-enum-known-next : (t : ℕ) → Sequence sequence-lts.Need-enum-known-next t
 sequence-enum-known-next t c = search needs
 
 sequence-same-length-2 : (t : ℕ) → Sequence sequence-lts.Need-same-length-2 t
-sequence-same-length-2 t c = c .before .before .before .before .loop .inv .1 .1 .kept
+sequence-same-length-2 t c =
+    let at-loop = c .before .before .before .before in
+    at-loop .loop .inv .1 .1 .kept
 
 sequence-returns-2 : (t : ℕ) → Sequence sequence-lts.Need-returns-2 t
 sequence-returns-2 t c =
-    let a = c .before .before .before .before .before .before .before .args in
-    let there = level.stands (a .c) (c .before .before .before .before .loop .here) (λ (x : Cursor). itemAt (a .s .now) x) (c .before .before .before .before .loop .inv .1 .0) (c .before .before .before .item .ensures) (c .before .next .given .1) in
-    level.ended _ _ _ _ (a .c) _ _ (c .before .before .before .before .loop .inv .1 .1) (there .0) (there .1 .0) (there .1 .1)
+    let at-item = c .before .before .before in
+    let at-loop = at-item .before in
+    let entry = at-loop .before .before .before in
+    let a = entry .args in
+    let there = level.stands (a .c) (at-loop .loop .here) (λ (x : Cursor). itemAt (a .s .now) x) (at-loop .loop .inv .1 .0) (at-item .item .ensures) (c .before .next .given .1) in
+    level.ended _ _ _ _ (a .c) _ _ (at-loop .loop .inv .1 .1) (there .0) (there .1 .0) (there .1 .1)
 
 sequence-enum-known-tag : (t : ℕ) → Sequence sequence-lts.Need-enum-known-tag t
 sequence-enum-known-tag t c = search needs
 
 sequence-add-read-leaf : (t : ℕ) → Sequence sequence-lts.Need-add-read-leaf t
 sequence-add-read-leaf t c =
-    let a = c .before .before .before .before .before .before .before .before .args in
-    let there = level.stands (a .c) (c .before .before .before .before .before .loop .here) (λ (x : Cursor). itemAt (a .s .now) x) (c .before .before .before .before .before .loop .inv .1 .0) (c .before .before .before .before .item .ensures) (c .before .before .tag .given .1) in
-    omega (arith, c .before .before .before .before .before .loop .inv .1 .1 .count, c .before .before .before .before .before .loop .inv .1 .1 .few, there .1, c .before .before .before .before .before .before .before .before .pre .1, c .before .before .before .before .before .before .before .before .good)
+    let at-item = c .before .before .before .before in
+    let at-loop = at-item .before in
+    let entry = at-loop .before .before .before in
+    let a = entry .args in
+    let there = level.stands (a .c) (at-loop .loop .here) (λ (x : Cursor). itemAt (a .s .now) x) (at-loop .loop .inv .1 .0) (at-item .item .ensures) (c .before .before .tag .given .1) in
+    omega (arith, at-loop .loop .inv .1 .1 .count, at-loop .loop .inv .1 .1 .few, there .1, entry .pre .1, entry .good)
 
 sequence-read-leaf-requires : (t : ℕ) → Sequence sequence-lts.Need-read-leaf-requires t
 sequence-read-leaf-requires t c κs =
-    let a = c .before .before .before .before .before .before .before .before .args in
-    let there = level.stands (a .c) (c .before .before .before .before .before .loop .here) (λ (x : Cursor). itemAt (a .s .now) x) (c .before .before .before .before .before .loop .inv .1 .0) (c .before .before .before .before .item .ensures) (c .before .before .tag .given .1) in
-    record { start = there .1 .1 .0; stop = omega (arith, there .1, c .before .before .before .before .before .before .before .before .pre .1); small = λ h. c .before .before .before .before .before .before .before .before .pre .1 .small (omega (arith, h, c .before .before .before .before .before .loop .inv .1 .1 .kept)); deep = omega (arith, c .before .before .before .before .before .before .before .before .pre .1); count = omega (arith, c .before .before .before .before .before .loop .inv .1 .1 .count, c .before .before .before .before .before .loop .inv .1 .1 .few, c .before .before .before .before .before .loop .inv .1 .1 .low, there .1, c .before .before .before .before .before .before .before .before .pre .1) }
+    let at-item = c .before .before .before .before in
+    let at-loop = at-item .before in
+    let entry = at-loop .before .before .before in
+    let a = entry .args in
+    let there = level.stands (a .c) (at-loop .loop .here) (λ (x : Cursor). itemAt (a .s .now) x) (at-loop .loop .inv .1 .0) (at-item .item .ensures) (c .before .before .tag .given .1) in
+    record { start = there .1 .1 .0; stop = omega (arith, there .1, entry .pre .1); small = λ h. entry .pre .1 .small (omega (arith, h, at-loop .loop .inv .1 .1 .kept)); deep = omega (arith, entry .pre .1); count = omega (arith, at-loop .loop .inv .1 .1 .count, at-loop .loop .inv .1 .1 .few, at-loop .loop .inv .1 .1 .low, there .1, entry .pre .1) }
 
 sequence-enum-known-code-2 : (t : ℕ) → Sequence sequence-lts.Need-enum-known-code-2 t
 sequence-enum-known-code-2 t c = search needs
 
 sequence-same-length-3 : (t : ℕ) → Sequence sequence-lts.Need-same-length-3 t
 sequence-same-length-3 t c =
-    c .before .before .before .before .before .read-leaf .kept .1 .1 .1 .0 ∙ c .before .before .before .before .before .before .before .before .before .before .before .loop .inv .1 .1 .kept
+    let at-read-leaf = c .before .before .before .before .before in
+    let at-loop = at-read-leaf .before .before .before .before .before .before in
+    at-read-leaf .read-leaf .kept .1 .1 .1 .0 ∙ at-loop .loop .inv .1 .1 .kept
 
 sequence-returns-3 : (t : ℕ) → Sequence sequence-lts.Need-returns-3 t
 sequence-returns-3 t c =
-    let a = c .before .before .before .before .before .before .before .before .before .before .before .before .before .before .args in
-    let there = level.stands (a .c) (c .before .before .before .before .before .before .before .before .before .before .before .loop .here) (λ (x : Cursor). itemAt (a .s .now) x) (c .before .before .before .before .before .before .before .before .before .before .before .loop .inv .1 .0) (c .before .before .before .before .before .before .before .before .before .before .item .ensures) (c .before .before .before .before .before .before .before .before .tag .given .1) in
-    level.fails _ _ _ _ (a .c) _ _ (c .before .before .before .before .before .before .before .before .before .before .before .loop .inv .1 .1) (there .0) (there .1) (level.leaf-walked _ _ _ _ _ (c .before .code2 .given .1) (c .before .before .before .before .before .read-leaf .ensures))
+    let at-read-leaf = c .before .before .before .before .before in
+    let at-tag = at-read-leaf .before .before .before in
+    let at-item = at-tag .before .before in
+    let at-loop = at-item .before in
+    let entry = at-loop .before .before .before in
+    let a = entry .args in
+    let there = level.stands (a .c) (at-loop .loop .here) (λ (x : Cursor). itemAt (a .s .now) x) (at-loop .loop .inv .1 .0) (at-item .item .ensures) (at-tag .tag .given .1) in
+    level.fails _ _ _ _ (a .c) _ _ (at-loop .loop .inv .1 .1) (there .0) (there .1) (level.leaf-walked _ _ _ _ _ (c .before .code2 .given .1) (at-read-leaf .read-leaf .ensures))
 
 sequence-enum-known-stop : (t : ℕ) → Sequence sequence-lts.Need-enum-known-stop t
 sequence-enum-known-stop t c = search needs
 
 sequence-put-row-requires : (t : ℕ) → Sequence sequence-lts.Need-put-row-requires t
 sequence-put-row-requires t c κs =
-    let a = c .before .before .before .before .before .before .before .before .before .before .before .before .before .before .before .args in
-    let there = level.stands (a .c) (c .before .before .before .before .before .before .before .before .before .before .before .before .loop .here) (λ (x : Cursor). itemAt (a .s .now) x) (c .before .before .before .before .before .before .before .before .before .before .before .before .loop .inv .1 .0) (c .before .before .before .before .before .before .before .before .before .before .before .item .ensures) (c .before .before .before .before .before .before .before .before .before .tag .given .1) in
-    let d = level.below _ (level.leaf-walked _ _ _ _ _ (c .before .before .stop .given .1) (c .before .before .before .before .before .before .read-leaf .ensures)) in (
-      omega (arith, d .within, d .count, there .1, c .before .before .before .before .before .before .before .before .before .before .before .before .loop .inv .1 .1 .count, c .before .before .before .before .before .before .before .before .before .before .before .before .loop .inv .1 .1 .few, c .before .before .before .before .before .before .before .before .before .before .before .before .before .before .before .pre .1),
-      λ h. omega (arith, d .within, d .count, there .1, c .before .before .before .before .before .before .before .before .before .before .before .before .loop .inv .1 .1 .count, c .before .before .before .before .before .before .before .before .before .before .before .before .loop .inv .1 .1 .few, c .before .before .before .before .before .before .before .before .before .before .before .before .before .before .before .pre .1, c .before .before .before .before .before .before .before .before .before .before .before .before .before .before .before .pre .1 .small (omega (arith, h, c .before .before .before .before .before .before .before .before .before .before .before .before .loop .inv .1 .1 .kept, c .before .before .before .before .before .before .read-leaf .kept .1 .1 .1 .0))),
+    let at-read-leaf = c .before .before .before .before .before .before in
+    let at-tag = at-read-leaf .before .before .before in
+    let at-item = at-tag .before .before in
+    let at-loop = at-item .before in
+    let entry = at-loop .before .before .before in
+    let a = entry .args in
+    let there = level.stands (a .c) (at-loop .loop .here) (λ (x : Cursor). itemAt (a .s .now) x) (at-loop .loop .inv .1 .0) (at-item .item .ensures) (at-tag .tag .given .1) in
+    let d = level.below _ (level.leaf-walked _ _ _ _ _ (c .before .before .stop .given .1) (at-read-leaf .read-leaf .ensures)) in (
+      omega (arith, d .within, d .count, there .1, at-loop .loop .inv .1 .1 .count, at-loop .loop .inv .1 .1 .few, entry .pre .1),
+      λ h. omega (arith, d .within, d .count, there .1, at-loop .loop .inv .1 .1 .count, at-loop .loop .inv .1 .1 .few, entry .pre .1, entry .pre .1 .small (omega (arith, h, at-loop .loop .inv .1 .1 .kept, at-read-leaf .read-leaf .kept .1 .1 .1 .0))),
     )
 
 sequence-moved-requires : (t : ℕ) → Sequence sequence-lts.Need-moved-requires t
@@ -297,18 +406,31 @@ sequence-moved-requires t c κs = search needs
 
 sequence-loop-less : (t : ℕ) → Sequence sequence-lts.Need-loop-less t
 sequence-loop-less t c =
-    let a = c .before .before .before .before .before .before .before .before .before .before .before .before .before .before .before .before .before .before .before .args in
-    let there = level.stands (a .c) (c .before .before .before .before .before .before .before .before .before .before .before .before .before .before .before .before .loop .here) (λ (x : Cursor). itemAt (a .s .now) x) (c .before .before .before .before .before .before .before .before .before .before .before .before .before .before .before .before .loop .inv .1 .0) (c .before .before .before .before .before .before .before .before .before .before .before .before .before .before .before .item .ensures) (c .before .before .before .before .before .before .before .before .before .before .before .before .before .tag .given .1) in
-    let d = level.below _ (level.leaf-walked _ _ _ _ _ (c .before .before .before .before .before .before .stop .given .1) (c .before .before .before .before .before .before .before .before .before .before .read-leaf .ensures)) in
-    omega (arith, there .1, d .within, c .before .before .before .before .before .before .before .before .before .before .before .before .before .before .before .before .loop .inv .1 .1 .high, ap (λ (x : Cursor). x .end) (c .moved .ensures), ap (λ (x : Cursor). x .at) (c .moved .ensures), ap (λ (x : Cursor). x .end) (c .before .before .before .before .before .before .before .before .before .before .before .before .before .before .before .before .loop .inv .1 .0))
+    let at-stop = c .before .before .before .before .before .before in
+    let at-read-leaf = at-stop .before .before .before .before in
+    let at-tag = at-read-leaf .before .before .before in
+    let at-item = at-tag .before .before in
+    let at-loop = at-item .before in
+    let entry = at-loop .before .before .before in
+    let a = entry .args in
+    let there = level.stands (a .c) (at-loop .loop .here) (λ (x : Cursor). itemAt (a .s .now) x) (at-loop .loop .inv .1 .0) (at-item .item .ensures) (at-tag .tag .given .1) in
+    let d = level.below _ (level.leaf-walked _ _ _ _ _ (at-stop .stop .given .1) (at-read-leaf .read-leaf .ensures)) in
+    omega (arith, there .1, d .within, at-loop .loop .inv .1 .1 .high, ap (λ (x : Cursor). x .end) (c .moved .ensures), ap (λ (x : Cursor). x .at) (c .moved .ensures), ap (λ (x : Cursor). x .end) (at-loop .loop .inv .1 .0))
 
 sequence-loop-again : (t : ℕ) → Sequence sequence-lts.Need-loop-again t
 sequence-loop-again t c =
-    let a = c .before .before .before .before .before .before .before .before .before .before .before .before .before .before .before .before .before .before .before .args in
-    let there = level.stands (a .c) (c .before .before .before .before .before .before .before .before .before .before .before .before .before .before .before .before .loop .here) (λ (x : Cursor). itemAt (a .s .now) x) (c .before .before .before .before .before .before .before .before .before .before .before .before .before .before .before .before .loop .inv .1 .0) (c .before .before .before .before .before .before .before .before .before .before .before .before .before .before .before .item .ensures) (c .before .before .before .before .before .before .before .before .before .before .before .before .before .tag .given .1) in (
-      c .before .before .before .before .before .before .before .before .before .before .before .before .before .tag .given .0 .0 + 1,
-      level.along _ _ _ _ (a .c) _ _ (c .before .before .before .before .before .before .before .before .before .before .before .before .before .before .before .before .loop .here) _ (c .before .before .before .before .before .before .before .before .before .before .before .before .before .before .before .before .loop .inv .1 .0) (c .moved .ensures)
-          (level.again _ _ _ _ (a .c) _ _ (c .before .before .before .before .before .before .before .before .before .before .before .before .before .before .before .before .loop .inv .1 .1) (there .0) (there .1) (c .before .before .before .before .before .before .before .before .before .before .read-leaf .kept .1 .1 .1 .0) (c .before .before .before .put-row .kept .0) (level.leaf-walked _ _ _ _ _ (c .before .before .before .before .before .before .stop .given .1) (c .before .before .before .before .before .before .before .before .before .before .read-leaf .ensures)) (c .before .before .before .put-row .ensures)),
+    let at-put-row = c .before .before .before in
+    let at-stop = at-put-row .before .before .before in
+    let at-read-leaf = at-stop .before .before .before .before in
+    let at-tag = at-read-leaf .before .before .before in
+    let at-item = at-tag .before .before in
+    let at-loop = at-item .before in
+    let entry = at-loop .before .before .before in
+    let a = entry .args in
+    let there = level.stands (a .c) (at-loop .loop .here) (λ (x : Cursor). itemAt (a .s .now) x) (at-loop .loop .inv .1 .0) (at-item .item .ensures) (at-tag .tag .given .1) in (
+      at-tag .tag .given .0 .0 + 1,
+      level.along _ _ _ _ (a .c) _ _ (at-loop .loop .here) _ (at-loop .loop .inv .1 .0) (c .moved .ensures)
+          (level.again _ _ _ _ (a .c) _ _ (at-loop .loop .inv .1 .1) (there .0) (there .1) (at-read-leaf .read-leaf .kept .1 .1 .1 .0) (at-put-row .put-row .kept .0) (level.leaf-walked _ _ _ _ _ (at-stop .stop .given .1) (at-read-leaf .read-leaf .ensures)) (at-put-row .put-row .ensures)),
     )
 
 sequence-enum-told : (t : ℕ) → Sequence sequence-lts.Need-enum-told t
@@ -316,39 +438,65 @@ sequence-enum-told t c = search needs
 
 sequence-add-read-item : (t : ℕ) → Sequence sequence-lts.Need-add-read-item t
 sequence-add-read-item t c =
-    let a = c .before .before .before .before .before .before .before .before .before .before .before .before .before .before .args in
-    let there = level.stands (a .c) (c .before .before .before .before .before .before .before .before .before .before .before .loop .here) (λ (x : Cursor). itemAt (a .s .now) x) (c .before .before .before .before .before .before .before .before .before .before .before .loop .inv .1 .0) (c .before .before .before .before .before .before .before .before .before .before .item .ensures) (c .before .before .before .before .before .before .before .before .tag .given .1) in
-    omega (arith, c .before .before .before .before .before .before .before .before .before .before .before .loop .inv .1 .1 .count, c .before .before .before .before .before .before .before .before .before .before .before .loop .inv .1 .1 .few, there .1, c .before .before .before .before .before .before .before .before .before .before .before .before .before .before .pre .1, c .before .before .before .before .before .before .before .before .before .before .before .before .before .before .good)
+    let at-tag = c .before .before .before .before .before .before .before .before in
+    let at-item = at-tag .before .before in
+    let at-loop = at-item .before in
+    let entry = at-loop .before .before .before in
+    let a = entry .args in
+    let there = level.stands (a .c) (at-loop .loop .here) (λ (x : Cursor). itemAt (a .s .now) x) (at-loop .loop .inv .1 .0) (at-item .item .ensures) (at-tag .tag .given .1) in
+    omega (arith, at-loop .loop .inv .1 .1 .count, at-loop .loop .inv .1 .1 .few, there .1, entry .pre .1, entry .good)
 
 sequence-read-item-requires : (t : ℕ) → Sequence sequence-lts.Need-read-item-requires t
 sequence-read-item-requires t c κs =
-    let a = c .before .before .before .before .before .before .before .before .before .before .before .before .before .before .args in
-    let there = level.stands (a .c) (c .before .before .before .before .before .before .before .before .before .before .before .loop .here) (λ (x : Cursor). itemAt (a .s .now) x) (c .before .before .before .before .before .before .before .before .before .before .before .loop .inv .1 .0) (c .before .before .before .before .before .before .before .before .before .before .item .ensures) (c .before .before .before .before .before .before .before .before .tag .given .1) in
-    (omega (arith, c .before .before .before .before .before .before .before .before .before .before .before .before .before .before .pre .0, there .1, c .before .before .before .before .before .before .before .before .before .before .before .loop .inv .1 .1 .low, c .before .before .before .before .before .before .before .before .before .before .before .loop .inv .1 .1 .high), record { start = there .1 .1 .0; stop = omega (arith, there .1, c .before .before .before .before .before .before .before .before .before .before .before .before .before .before .pre .1); small = λ h. c .before .before .before .before .before .before .before .before .before .before .before .before .before .before .pre .1 .small (omega (arith, h, c .before .before .before .before .before .before .before .before .before .before .before .loop .inv .1 .1 .kept, c .before .before .before .before .before .read-leaf .kept .1 .1 .1 .0)); deep = omega (arith, c .before .before .before .before .before .before .before .before .before .before .before .before .before .before .pre .1); count = omega (arith, c .before .before .before .before .before .before .before .before .before .before .before .loop .inv .1 .1 .count, c .before .before .before .before .before .before .before .before .before .before .before .loop .inv .1 .1 .few, c .before .before .before .before .before .before .before .before .before .before .before .loop .inv .1 .1 .low, there .1, c .before .before .before .before .before .before .before .before .before .before .before .before .before .before .pre .1) })
+    let at-read-leaf = c .before .before .before .before .before in
+    let at-tag = at-read-leaf .before .before .before in
+    let at-item = at-tag .before .before in
+    let at-loop = at-item .before in
+    let entry = at-loop .before .before .before in
+    let a = entry .args in
+    let there = level.stands (a .c) (at-loop .loop .here) (λ (x : Cursor). itemAt (a .s .now) x) (at-loop .loop .inv .1 .0) (at-item .item .ensures) (at-tag .tag .given .1) in
+    (omega (arith, entry .pre .0, there .1, at-loop .loop .inv .1 .1 .low, at-loop .loop .inv .1 .1 .high), record { start = there .1 .1 .0; stop = omega (arith, there .1, entry .pre .1); small = λ h. entry .pre .1 .small (omega (arith, h, at-loop .loop .inv .1 .1 .kept, at-read-leaf .read-leaf .kept .1 .1 .1 .0)); deep = omega (arith, entry .pre .1); count = omega (arith, at-loop .loop .inv .1 .1 .count, at-loop .loop .inv .1 .1 .few, at-loop .loop .inv .1 .1 .low, there .1, entry .pre .1) })
 
 sequence-enum-known-code-3 : (t : ℕ) → Sequence sequence-lts.Need-enum-known-code-3 t
 sequence-enum-known-code-3 t c = search needs
 
 sequence-same-length-4 : (t : ℕ) → Sequence sequence-lts.Need-same-length-4 t
 sequence-same-length-4 t c =
-    c .before .before .before .before .before .read-item .kept .1 .1 .1 .0 ∙ c .before .before .before .before .before .before .before .before .before .before .before .read-leaf .kept .1 .1 .1 .0 ∙ c .before .before .before .before .before .before .before .before .before .before .before .before .before .before .before .before .before .loop .inv .1 .1 .kept
+    let at-read-item = c .before .before .before .before .before in
+    let at-read-leaf = at-read-item .before .before .before .before .before .before in
+    let at-loop = at-read-leaf .before .before .before .before .before .before in
+    at-read-item .read-item .kept .1 .1 .1 .0 ∙ at-read-leaf .read-leaf .kept .1 .1 .1 .0 ∙ at-loop .loop .inv .1 .1 .kept
 
 sequence-returns-4 : (t : ℕ) → Sequence sequence-lts.Need-returns-4 t
 sequence-returns-4 t c =
-    let a = c .before .before .before .before .before .before .before .before .before .before .before .before .before .before .before .before .before .before .before .before .args in
-    let there = level.stands (a .c) (c .before .before .before .before .before .before .before .before .before .before .before .before .before .before .before .before .before .loop .here) (λ (x : Cursor). itemAt (a .s .now) x) (c .before .before .before .before .before .before .before .before .before .before .before .before .before .before .before .before .before .loop .inv .1 .0) (c .before .before .before .before .before .before .before .before .before .before .before .before .before .before .before .before .item .ensures) (c .before .before .before .before .before .before .before .before .before .before .before .before .before .before .tag .given .1) in
-    level.fails _ _ _ _ (a .c) _ _ (c .before .before .before .before .before .before .before .before .before .before .before .before .before .before .before .before .before .loop .inv .1 .1) (there .0) (there .1) (level.over _ (c .before .before .before .before .before .before .before .before .before .before .before .read-leaf .kept .1 .1 .1 .0) (level.leaf-walked _ _ _ _ _ (c .before .before .before .before .before .before .before .enum-told .given .1) (c .before .before .before .before .before .before .before .before .before .before .before .read-leaf .ensures)) (level.walked (c .before .code3 .given .1) (c .before .before .before .before .before .read-item .ensures)))
+    let at-read-item = c .before .before .before .before .before in
+    let at-enum-told = at-read-item .before .before in
+    let at-read-leaf = at-enum-told .before .before .before .before in
+    let at-tag = at-read-leaf .before .before .before in
+    let at-item = at-tag .before .before in
+    let at-loop = at-item .before in
+    let entry = at-loop .before .before .before in
+    let a = entry .args in
+    let there = level.stands (a .c) (at-loop .loop .here) (λ (x : Cursor). itemAt (a .s .now) x) (at-loop .loop .inv .1 .0) (at-item .item .ensures) (at-tag .tag .given .1) in
+    level.fails _ _ _ _ (a .c) _ _ (at-loop .loop .inv .1 .1) (there .0) (there .1) (level.over _ (at-read-leaf .read-leaf .kept .1 .1 .1 .0) (level.leaf-walked _ _ _ _ _ (at-enum-told .enum-told .given .1) (at-read-leaf .read-leaf .ensures)) (level.walked (c .before .code3 .given .1) (at-read-item .read-item .ensures)))
 
 sequence-enum-known-stop-2 : (t : ℕ) → Sequence sequence-lts.Need-enum-known-stop-2 t
 sequence-enum-known-stop-2 t c = search needs
 
 sequence-put-row-requires-2 : (t : ℕ) → Sequence sequence-lts.Need-put-row-requires-2 t
 sequence-put-row-requires-2 t c κs =
-    let a = c .before .before .before .before .before .before .before .before .before .before .before .before .before .before .before .before .before .before .before .before .before .args in
-    let there = level.stands (a .c) (c .before .before .before .before .before .before .before .before .before .before .before .before .before .before .before .before .before .before .loop .here) (λ (x : Cursor). itemAt (a .s .now) x) (c .before .before .before .before .before .before .before .before .before .before .before .before .before .before .before .before .before .before .loop .inv .1 .0) (c .before .before .before .before .before .before .before .before .before .before .before .before .before .before .before .before .before .item .ensures) (c .before .before .before .before .before .before .before .before .before .before .before .before .before .before .before .tag .given .1) in
-    let d = level.below _ (level.over _ (c .before .before .before .before .before .before .before .before .before .before .before .before .read-leaf .kept .1 .1 .1 .0) (level.leaf-walked _ _ _ _ _ (c .before .before .before .before .before .before .before .before .enum-told .given .1) (c .before .before .before .before .before .before .before .before .before .before .before .before .read-leaf .ensures)) (level.walked (c .before .before .stop2 .given .1) (c .before .before .before .before .before .before .read-item .ensures))) in (
-      omega (arith, d .within, d .count, there .1, c .before .before .before .before .before .before .before .before .before .before .before .before .before .before .before .before .before .before .loop .inv .1 .1 .count, c .before .before .before .before .before .before .before .before .before .before .before .before .before .before .before .before .before .before .loop .inv .1 .1 .few, c .before .before .before .before .before .before .before .before .before .before .before .before .before .before .before .before .before .before .before .before .before .pre .1),
-      λ h. omega (arith, d .within, d .count, there .1, c .before .before .before .before .before .before .before .before .before .before .before .before .before .before .before .before .before .before .loop .inv .1 .1 .count, c .before .before .before .before .before .before .before .before .before .before .before .before .before .before .before .before .before .before .loop .inv .1 .1 .few, c .before .before .before .before .before .before .before .before .before .before .before .before .before .before .before .before .before .before .before .before .before .pre .1, c .before .before .before .before .before .before .before .before .before .before .before .before .before .before .before .before .before .before .before .before .before .pre .1 .small (omega (arith, h, c .before .before .before .before .before .before .before .before .before .before .before .before .before .before .before .before .before .before .loop .inv .1 .1 .kept, c .before .before .before .before .before .before .before .before .before .before .before .before .read-leaf .kept .1 .1 .1 .0, c .before .before .before .before .before .before .read-item .kept .1 .1 .1 .0))),
+    let at-read-item = c .before .before .before .before .before .before in
+    let at-enum-told = at-read-item .before .before in
+    let at-read-leaf = at-enum-told .before .before .before .before in
+    let at-tag = at-read-leaf .before .before .before in
+    let at-item = at-tag .before .before in
+    let at-loop = at-item .before in
+    let entry = at-loop .before .before .before in
+    let a = entry .args in
+    let there = level.stands (a .c) (at-loop .loop .here) (λ (x : Cursor). itemAt (a .s .now) x) (at-loop .loop .inv .1 .0) (at-item .item .ensures) (at-tag .tag .given .1) in
+    let d = level.below _ (level.over _ (at-read-leaf .read-leaf .kept .1 .1 .1 .0) (level.leaf-walked _ _ _ _ _ (at-enum-told .enum-told .given .1) (at-read-leaf .read-leaf .ensures)) (level.walked (c .before .before .stop2 .given .1) (at-read-item .read-item .ensures))) in (
+      omega (arith, d .within, d .count, there .1, at-loop .loop .inv .1 .1 .count, at-loop .loop .inv .1 .1 .few, entry .pre .1),
+      λ h. omega (arith, d .within, d .count, there .1, at-loop .loop .inv .1 .1 .count, at-loop .loop .inv .1 .1 .few, entry .pre .1, entry .pre .1 .small (omega (arith, h, at-loop .loop .inv .1 .1 .kept, at-read-leaf .read-leaf .kept .1 .1 .1 .0, at-read-item .read-item .kept .1 .1 .1 .0))),
     )
 
 sequence-moved-requires-2 : (t : ℕ) → Sequence sequence-lts.Need-moved-requires-2 t
@@ -356,19 +504,36 @@ sequence-moved-requires-2 t c κs = search needs
 
 sequence-loop-less-2 : (t : ℕ) → Sequence sequence-lts.Need-loop-less-2 t
 sequence-loop-less-2 t c =
-    let a = c .before .before .before .before .before .before .before .before .before .before .before .before .before .before .before .before .before .before .before .before .before .before .before .before .before .args in
-    let there = level.stands (a .c) (c .before .before .before .before .before .before .before .before .before .before .before .before .before .before .before .before .before .before .before .before .before .before .loop .here) (λ (x : Cursor). itemAt (a .s .now) x) (c .before .before .before .before .before .before .before .before .before .before .before .before .before .before .before .before .before .before .before .before .before .before .loop .inv .1 .0) (c .before .before .before .before .before .before .before .before .before .before .before .before .before .before .before .before .before .before .before .before .before .item .ensures) (c .before .before .before .before .before .before .before .before .before .before .before .before .before .before .before .before .before .before .before .tag .given .1) in
-    let d = level.below _ (level.over _ (c .before .before .before .before .before .before .before .before .before .before .before .before .before .before .before .before .read-leaf .kept .1 .1 .1 .0) (level.leaf-walked _ _ _ _ _ (c .before .before .before .before .before .before .before .before .before .before .before .before .enum-told .given .1) (c .before .before .before .before .before .before .before .before .before .before .before .before .before .before .before .before .read-leaf .ensures)) (level.walked (c .before .before .before .before .before .before .stop2 .given .1) (c .before .before .before .before .before .before .before .before .before .before .read-item .ensures))) in
-    omega (arith, there .1, d .within, c .before .before .before .before .before .before .before .before .before .before .before .before .before .before .before .before .before .before .before .before .before .before .loop .inv .1 .1 .high, ap (λ (x : Cursor). x .end) (c .moved2 .ensures), ap (λ (x : Cursor). x .at) (c .moved2 .ensures), ap (λ (x : Cursor). x .end) (c .before .before .before .before .before .before .before .before .before .before .before .before .before .before .before .before .before .before .before .before .before .before .loop .inv .1 .0))
+    let at-stop2 = c .before .before .before .before .before .before in
+    let at-read-item = at-stop2 .before .before .before .before in
+    let at-enum-told = at-read-item .before .before in
+    let at-read-leaf = at-enum-told .before .before .before .before in
+    let at-tag = at-read-leaf .before .before .before in
+    let at-item = at-tag .before .before in
+    let at-loop = at-item .before in
+    let entry = at-loop .before .before .before in
+    let a = entry .args in
+    let there = level.stands (a .c) (at-loop .loop .here) (λ (x : Cursor). itemAt (a .s .now) x) (at-loop .loop .inv .1 .0) (at-item .item .ensures) (at-tag .tag .given .1) in
+    let d = level.below _ (level.over _ (at-read-leaf .read-leaf .kept .1 .1 .1 .0) (level.leaf-walked _ _ _ _ _ (at-enum-told .enum-told .given .1) (at-read-leaf .read-leaf .ensures)) (level.walked (at-stop2 .stop2 .given .1) (at-read-item .read-item .ensures))) in
+    omega (arith, there .1, d .within, at-loop .loop .inv .1 .1 .high, ap (λ (x : Cursor). x .end) (c .moved2 .ensures), ap (λ (x : Cursor). x .at) (c .moved2 .ensures), ap (λ (x : Cursor). x .end) (at-loop .loop .inv .1 .0))
 
 sequence-loop-again-2 : (t : ℕ) → Sequence sequence-lts.Need-loop-again-2 t
 sequence-loop-again-2 t c =
-    let a = c .before .before .before .before .before .before .before .before .before .before .before .before .before .before .before .before .before .before .before .before .before .before .before .before .before .args in
-    let there = level.stands (a .c) (c .before .before .before .before .before .before .before .before .before .before .before .before .before .before .before .before .before .before .before .before .before .before .loop .here) (λ (x : Cursor). itemAt (a .s .now) x) (c .before .before .before .before .before .before .before .before .before .before .before .before .before .before .before .before .before .before .before .before .before .before .loop .inv .1 .0) (c .before .before .before .before .before .before .before .before .before .before .before .before .before .before .before .before .before .before .before .before .before .item .ensures) (c .before .before .before .before .before .before .before .before .before .before .before .before .before .before .before .before .before .before .before .tag .given .1) in (
-      c .before .before .before .before .before .before .before .before .before .before .before .before .before .before .before .before .before .before .before .tag .given .0 .0 + 1,
-      level.along _ _ _ _ (a .c) _ _ (c .before .before .before .before .before .before .before .before .before .before .before .before .before .before .before .before .before .before .before .before .before .before .loop .here) _ (c .before .before .before .before .before .before .before .before .before .before .before .before .before .before .before .before .before .before .before .before .before .before .loop .inv .1 .0) (c .moved2 .ensures)
-          (level.again _ _ _ _ (a .c) _ _ (c .before .before .before .before .before .before .before .before .before .before .before .before .before .before .before .before .before .before .before .before .before .before .loop .inv .1 .1) (there .0) (there .1) (c .before .before .before .before .before .before .before .before .before .before .read-item .kept .1 .1 .1 .0 ∙ c .before .before .before .before .before .before .before .before .before .before .before .before .before .before .before .before .read-leaf .kept .1 .1 .1 .0) (c .before .before .before .put-row2 .kept .0)
-          (level.over _ (c .before .before .before .before .before .before .before .before .before .before .before .before .before .before .before .before .read-leaf .kept .1 .1 .1 .0) (level.leaf-walked _ _ _ _ _ (c .before .before .before .before .before .before .before .before .before .before .before .before .enum-told .given .1) (c .before .before .before .before .before .before .before .before .before .before .before .before .before .before .before .before .read-leaf .ensures)) (level.walked (c .before .before .before .before .before .before .stop2 .given .1) (c .before .before .before .before .before .before .before .before .before .before .read-item .ensures))) (c .before .before .before .put-row2 .ensures)),
+    let at-put-row2 = c .before .before .before in
+    let at-stop2 = at-put-row2 .before .before .before in
+    let at-read-item = at-stop2 .before .before .before .before in
+    let at-enum-told = at-read-item .before .before in
+    let at-read-leaf = at-enum-told .before .before .before .before in
+    let at-tag = at-read-leaf .before .before .before in
+    let at-item = at-tag .before .before in
+    let at-loop = at-item .before in
+    let entry = at-loop .before .before .before in
+    let a = entry .args in
+    let there = level.stands (a .c) (at-loop .loop .here) (λ (x : Cursor). itemAt (a .s .now) x) (at-loop .loop .inv .1 .0) (at-item .item .ensures) (at-tag .tag .given .1) in (
+      at-tag .tag .given .0 .0 + 1,
+      level.along _ _ _ _ (a .c) _ _ (at-loop .loop .here) _ (at-loop .loop .inv .1 .0) (c .moved2 .ensures)
+          (level.again _ _ _ _ (a .c) _ _ (at-loop .loop .inv .1 .1) (there .0) (there .1) (at-read-item .read-item .kept .1 .1 .1 .0 ∙ at-read-leaf .read-leaf .kept .1 .1 .1 .0) (at-put-row2 .put-row2 .kept .0)
+          (level.over _ (at-read-leaf .read-leaf .kept .1 .1 .1 .0) (level.leaf-walked _ _ _ _ _ (at-enum-told .enum-told .given .1) (at-read-leaf .read-leaf .ensures)) (level.walked (at-stop2 .stop2 .given .1) (at-read-item .read-item .ensures))) (at-put-row2 .put-row2 .ensures)),
     )
 
 pub +read-item+read-sequence-spec : {M : Type 1} → statement M

@@ -1,7 +1,7 @@
 -- The walk is lent no room, so that it only counts.
 use Rattle.dataset.proofs.Level as level
 use Rattle.dataset.proofs.Whole as whole
-use Rattle.dataset.proofs.Promised.{promised}
+use Rattle.basics.proofs.Promised.{promised}
 use borrow.Author.Needs.{needs}
 use Rattle.dataset.proofs.count.Statement.{statement}
 use Rattle.dataset.proofs.count.Tie as tie
@@ -32,13 +32,19 @@ enum-known-n c = search needs
 
 returns-2 : tie.Need-returns-2
 returns-2 c =
-    promised (whole.refused-count (c .before .before .before .before .before .before .before .before .args .bytes .now) (c .before .before .before .before .before .before .if1 .left)
-    (level.walked (c .before .code .given .1) (c .before .before .before .before .read-item .ensures)))
+    let at-read-item = c .before .before .before .before in
+    let at-if1 = at-read-item .before .before in
+    let entry = at-if1 .before .before in
+    promised (whole.refused-count (entry .args .bytes .now) (at-if1 .if1 .left)
+    (level.walked (c .before .code .given .1) (at-read-item .read-item .ensures)))
 
 returns-3 : tie.Need-returns-3
 returns-3 c =
-    promised (whole.counted (c .before .before .before .before .before .before .before .before .args .bytes .now) (c .before .before .before .before .before .before .if1 .left)
-    (level.walked (c .before .n .given .1) (c .before .before .before .before .read-item .ensures)))
+    let at-read-item = c .before .before .before .before in
+    let at-if1 = at-read-item .before .before in
+    let entry = at-if1 .before .before in
+    promised (whole.counted (entry .args .bytes .now) (at-if1 .if1 .left)
+    (level.walked (c .before .n .given .1) (at-read-item .read-item .ensures)))
 
 pub count-spec : {M : Type 1} → statement M
 count-spec =

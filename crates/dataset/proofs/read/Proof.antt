@@ -13,7 +13,9 @@ use Rattle.dataset.proofs.read.Statement.{statement}
 use Rattle.dataset.proofs.read.Tie as tie
 
 returns : tie.Need-returns
-returns c = whole.too-large (c .before .before .before .args .bytes .now) (c .before .before .before .args .rows .now) (c .if1 .taken)
+returns c =
+    let entry = c .before .before .before in
+    whole.too-large (entry .args .bytes .now) (entry .args .rows .now) (c .if1 .taken)
 
 mul-read-item : tie.Need-mul-read-item
 mul-read-item c = search needs
@@ -41,10 +43,13 @@ same-length c = search needs
 
 returns-2 : tie.Need-returns-2
 returns-2 c =
-    let a = c .before .before .before .before .before .before .before .before .before .before .before .args in
-    let call = c .before .before .before .before .before .before .read-item in
+    let at-read-item = c .before .before .before .before .before .before in
+    let at-if1 = at-read-item .before .before in
+    let entry = at-if1 .before .before .before in
+    let a = entry .args in
+    let call = at-read-item .read-item in
     let e = whole.nothing (call .last .1 .1 .1 .0) (a .rows .now) (call .kept .1 .1 .1 .0) in
-    let x = whole.no-room (a .bytes .now) (a .rows .now) (c .before .before .before .before .before .before .before .before .if1 .left) (level.walked (c .before .before .n .given .1) (call .ensures)) (omega (arith, c .if2 .taken, ap (λ (l : List ℕ). length l) e)) in
+    let x = whole.no-room (a .bytes .now) (a .rows .now) (at-if1 .if1 .left) (level.walked (c .before .before .n .given .1) (call .ensures)) (omega (arith, c .if2 .taken, ap (λ (l : List ℕ). length l) e)) in
     (x .0, e ∙ x .1)
 
 read-item-requires-2 : tie.Need-read-item-requires-2
@@ -55,10 +60,13 @@ same-length-2 c = search needs
 
 returns-3 : tie.Need-returns-3
 returns-3 c =
-    let a = c .before .before .before .before .before .before .before .before .before .before .args in
-    let call = c .before .before .before .before .before .read-item in
+    let at-read-item = c .before .before .before .before .before in
+    let at-if1 = at-read-item .before .before in
+    let entry = at-if1 .before .before .before in
+    let a = entry .args in
+    let call = at-read-item .read-item in
     let e = whole.nothing (call .last .1 .1 .1 .0) (a .rows .now) (call .kept .1 .1 .1 .0) in
-    let x = whole.refusal (a .bytes .now) (a .rows .now) (c .before .before .before .before .before .before .before .if1 .left) (level.walked (c .before .code .given .1) (call .ensures)) in
+    let x = whole.refusal (a .bytes .now) (a .rows .now) (at-if1 .if1 .left) (level.walked (c .before .code .given .1) (call .ensures)) in
     (x .0, e ∙ x .1)
 
 same-length-3 : tie.Need-same-length-3
@@ -66,11 +74,16 @@ same-length-3 c = search needs
 
 returns-4 : tie.Need-returns-4
 returns-4 c =
-    let a = c .before .before .before .before .before .before .before .before .before .before .before .before .before .before .before .args in
-    let call = c .before .before .before .before .before .before .before .before .before .before .read-item in
+    let at-if2 = c .before .before .before .before in
+    let at-n = at-if2 .before .before in
+    let at-read-item = at-n .before .before .before .before in
+    let at-if1 = at-read-item .before .before in
+    let entry = at-if1 .before .before .before in
+    let a = entry .args in
+    let call = at-read-item .read-item in
     let e = whole.nothing (call .last .1 .1 .1 .0) (a .rows .now) (call .kept .1 .1 .1 .0) in
     let again = c .before .before .read-item2 in
-    whole.filled (a .bytes .now) (a .rows .now) (c .before .before .before .before .before .before .before .before .before .before .before .before .if1 .left) (level.walked (c .before .before .before .before .before .before .n .given .1) (call .ensures)) (omega (arith, c .before .before .before .before .if2 .left, ap (λ (l : List ℕ). length l) e))
+    whole.filled (a .bytes .now) (a .rows .now) (at-if1 .if1 .left) (level.walked (at-n .n .given .1) (call .ensures)) (omega (arith, at-if2 .if2 .left, ap (λ (l : List ℕ). length l) e))
     (subst (λ (l : List ℕ). Walked (elementsAt 8 (a .bytes .now) 0 (whole.all (a .bytes .now))) (whole.all (a .bytes .now)) 0 l (again .last .1 .1 .1 .0) (again .result)) e (again .ensures))
 
 pub read-spec : {M : Type 1} → statement M

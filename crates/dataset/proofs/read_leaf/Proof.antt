@@ -24,7 +24,8 @@ loop-holds c =
 
 element-requires : tie.Need-element-requires Inv-loop μ-loop
 element-requires c κs =
-    omega (arith, c .loop .inv .1 .high, ap (λ (x : Cursor). x .end) (c .loop .inv .0), c .before .before .before .pre .stop)
+    let entry = c .before .before .before in
+    omega (arith, c .loop .inv .1 .high, ap (λ (x : Cursor). x .end) (c .loop .inv .0), entry .pre .stop)
 
 enum-known-code : tie.Need-enum-known-code Inv-loop μ-loop
 enum-known-code c =
@@ -32,13 +33,17 @@ enum-known-code c =
 
 same-length : tie.Need-same-length Inv-loop μ-loop
 same-length c =
-    c .before .before .before .before .loop .inv .1 .kept
+    let at-loop = c .before .before .before .before in
+    at-loop .loop .inv .1 .kept
 
 returns : tie.Need-returns Inv-loop μ-loop
 returns c =
-    let a = c .before .before .before .before .before .before .before .args in
-    let there = level.stands (a .c) (c .before .before .before .before .loop .here) (λ (x : Cursor). elementAt (a .s .now) x (c .before .before .before .before .loop .least) (a .levels)) (c .before .before .before .before .loop .inv .0) (c .before .before .before .element .ensures) (c .before .code .given .1) in
-    level.refuses _ _ _ _ (a .c) _ _ (c .before .before .before .before .loop .inv .1) (there .0) (there .1)
+    let at-element = c .before .before .before in
+    let at-loop = at-element .before in
+    let entry = at-loop .before .before .before in
+    let a = entry .args in
+    let there = level.stands (a .c) (at-loop .loop .here) (λ (x : Cursor). elementAt (a .s .now) x (at-loop .loop .least) (a .levels)) (at-loop .loop .inv .0) (at-element .element .ensures) (c .before .code .given .1) in
+    level.refuses _ _ _ _ (a .c) _ _ (at-loop .loop .inv .1) (there .0) (there .1)
 
 enum-known-next : tie.Need-enum-known-next Inv-loop μ-loop
 enum-known-next c =
@@ -46,13 +51,17 @@ enum-known-next c =
 
 same-length-2 : tie.Need-same-length-2 Inv-loop μ-loop
 same-length-2 c =
-    c .before .before .before .before .loop .inv .1 .kept
+    let at-loop = c .before .before .before .before in
+    at-loop .loop .inv .1 .kept
 
 returns-2 : tie.Need-returns-2 Inv-loop μ-loop
 returns-2 c =
-    let a = c .before .before .before .before .before .before .before .args in
-    let there = level.stands (a .c) (c .before .before .before .before .loop .here) (λ (x : Cursor). elementAt (a .s .now) x (c .before .before .before .before .loop .least) (a .levels)) (c .before .before .before .before .loop .inv .0) (c .before .before .before .element .ensures) (c .before .next .given .1) in
-    level.ended _ _ _ _ (a .c) _ _ (c .before .before .before .before .loop .inv .1) (there .0) (there .1 .0) (there .1 .1)
+    let at-element = c .before .before .before in
+    let at-loop = at-element .before in
+    let entry = at-loop .before .before .before in
+    let a = entry .args in
+    let there = level.stands (a .c) (at-loop .loop .here) (λ (x : Cursor). elementAt (a .s .now) x (at-loop .loop .least) (a .levels)) (at-loop .loop .inv .0) (at-element .element .ensures) (c .before .next .given .1) in
+    level.ended _ _ _ _ (a .c) _ _ (at-loop .loop .inv .1) (there .0) (there .1 .0) (there .1 .1)
 
 enum-known-tag : tie.Need-enum-known-tag Inv-loop μ-loop
 enum-known-tag c =
@@ -60,24 +69,35 @@ enum-known-tag c =
 
 same-length-3 : tie.Need-same-length-3 Inv-loop μ-loop
 same-length-3 c =
-    c .before .before .before .before .before .loop .inv .1 .kept
+    let at-loop = c .before .before .before .before .before in
+    at-loop .loop .inv .1 .kept
 
 returns-3 : tie.Need-returns-3 Inv-loop μ-loop
 returns-3 c =
-    level.given-up _ _ _ _ (c .before .before .before .before .before .before .before .before .args .c) _ _ (c .before .before .before .before .before .loop .inv .1)
+    let at-loop = c .before .before .before .before .before in
+    let entry = at-loop .before .before .before in
+    level.given-up _ _ _ _ (entry .args .c) _ _ (at-loop .loop .inv .1)
 
 add-put-row : tie.Need-add-put-row Inv-loop μ-loop
 add-put-row c =
-    let a = c .before .before .before .before .before .before .before .before .before .args in
-    let there = level.stands (a .c) (c .before .before .before .before .before .before .loop .here) (λ (x : Cursor). elementAt (a .s .now) x (c .before .before .before .before .before .before .loop .least) (a .levels)) (c .before .before .before .before .before .before .loop .inv .0) (c .before .before .before .before .before .element .ensures) (c .before .before .before .tag .given .1) in
-    omega (arith, c .before .before .before .before .before .before .loop .inv .1 .count, c .before .before .before .before .before .before .loop .inv .1 .few, there .1, c .before .before .before .before .before .before .before .before .before .pre, c .before .before .before .before .before .before .before .before .before .good)
+    let at-tag = c .before .before .before in
+    let at-element = at-tag .before .before in
+    let at-loop = at-element .before in
+    let entry = at-loop .before .before .before in
+    let a = entry .args in
+    let there = level.stands (a .c) (at-loop .loop .here) (λ (x : Cursor). elementAt (a .s .now) x (at-loop .loop .least) (a .levels)) (at-loop .loop .inv .0) (at-element .element .ensures) (at-tag .tag .given .1) in
+    omega (arith, at-loop .loop .inv .1 .count, at-loop .loop .inv .1 .few, there .1, entry .pre, entry .good)
 
 put-row-requires : tie.Need-put-row-requires Inv-loop μ-loop
 put-row-requires c κs =
-    let a = c .before .before .before .before .before .before .before .before .before .args in
-    let there = level.stands (a .c) (c .before .before .before .before .before .before .loop .here) (λ (x : Cursor). elementAt (a .s .now) x (c .before .before .before .before .before .before .loop .least) (a .levels)) (c .before .before .before .before .before .before .loop .inv .0) (c .before .before .before .before .before .element .ensures) (c .before .before .before .tag .given .1) in (
-      omega (arith, c .before .before .before .before .before .before .loop .inv .1 .count, c .before .before .before .before .before .before .loop .inv .1 .few, there .1, c .before .before .before .before .before .before .before .before .before .pre),
-      λ h. omega (arith, c .before .before .before .before .before .before .loop .inv .1 .count, c .before .before .before .before .before .before .loop .inv .1 .few, there .1, c .before .before .before .before .before .before .before .before .before .pre, c .before .before .before .before .before .before .before .before .before .pre .small (omega (arith, h, c .before .before .before .before .before .before .loop .inv .1 .kept))),
+    let at-tag = c .before .before .before in
+    let at-element = at-tag .before .before in
+    let at-loop = at-element .before in
+    let entry = at-loop .before .before .before in
+    let a = entry .args in
+    let there = level.stands (a .c) (at-loop .loop .here) (λ (x : Cursor). elementAt (a .s .now) x (at-loop .loop .least) (a .levels)) (at-loop .loop .inv .0) (at-element .element .ensures) (at-tag .tag .given .1) in (
+      omega (arith, at-loop .loop .inv .1 .count, at-loop .loop .inv .1 .few, there .1, entry .pre),
+      λ h. omega (arith, at-loop .loop .inv .1 .count, at-loop .loop .inv .1 .few, there .1, entry .pre, entry .pre .small (omega (arith, h, at-loop .loop .inv .1 .kept))),
     )
 
 moved-requires : tie.Need-moved-requires Inv-loop μ-loop
@@ -86,29 +106,47 @@ moved-requires c κs =
 
 add-n : tie.Need-add-n Inv-loop μ-loop
 add-n c =
-    let a = c .before .before .before .before .before .before .before .before .before .before .before .before .before .args in
-    let there = level.stands (a .c) (c .before .before .before .before .before .before .before .before .before .before .loop .here) (λ (x : Cursor). elementAt (a .s .now) x (c .before .before .before .before .before .before .before .before .before .before .loop .least) (a .levels)) (c .before .before .before .before .before .before .before .before .before .before .loop .inv .0) (c .before .before .before .before .before .before .before .before .before .element .ensures) (c .before .before .before .before .before .before .before .tag .given .1) in
-    omega (arith, c .before .before .before .before .before .before .before .before .before .before .loop .inv .1 .count, c .before .before .before .before .before .before .before .before .before .before .loop .inv .1 .few, there .1, c .before .before .before .before .before .before .before .before .before .before .before .before .before .pre, c .before .before .before .before .before .before .before .before .before .before .before .before .before .good)
+    let at-tag = c .before .before .before .before .before .before .before in
+    let at-element = at-tag .before .before in
+    let at-loop = at-element .before in
+    let entry = at-loop .before .before .before in
+    let a = entry .args in
+    let there = level.stands (a .c) (at-loop .loop .here) (λ (x : Cursor). elementAt (a .s .now) x (at-loop .loop .least) (a .levels)) (at-loop .loop .inv .0) (at-element .element .ensures) (at-tag .tag .given .1) in
+    omega (arith, at-loop .loop .inv .1 .count, at-loop .loop .inv .1 .few, there .1, entry .pre, entry .good)
 
 add-least : tie.Need-add-least Inv-loop μ-loop
 add-least c =
-    let a = c .before .before .before .before .before .before .before .before .before .before .before .before .before .args in
-    let there = level.stands (a .c) (c .before .before .before .before .before .before .before .before .before .before .loop .here) (λ (x : Cursor). elementAt (a .s .now) x (c .before .before .before .before .before .before .before .before .before .before .loop .least) (a .levels)) (c .before .before .before .before .before .before .before .before .before .before .loop .inv .0) (c .before .before .before .before .before .before .before .before .before .element .ensures) (c .before .before .before .before .before .before .before .tag .given .1) in
+    let at-tag = c .before .before .before .before .before .before .before in
+    let at-element = at-tag .before .before in
+    let at-loop = at-element .before in
+    let entry = at-loop .before .before .before in
+    let a = entry .args in
+    let there = level.stands (a .c) (at-loop .loop .here) (λ (x : Cursor). elementAt (a .s .now) x (at-loop .loop .least) (a .levels)) (at-loop .loop .inv .0) (at-element .element .ensures) (at-tag .tag .given .1) in
     omega (arith, there .1)
 
 loop-less : tie.Need-loop-less Inv-loop μ-loop
 loop-less c =
-    let a = c .before .before .before .before .before .before .before .before .before .before .before .before .before .args in
-    let there = level.stands (a .c) (c .before .before .before .before .before .before .before .before .before .before .loop .here) (λ (x : Cursor). elementAt (a .s .now) x (c .before .before .before .before .before .before .before .before .before .before .loop .least) (a .levels)) (c .before .before .before .before .before .before .before .before .before .before .loop .inv .0) (c .before .before .before .before .before .before .before .before .before .element .ensures) (c .before .before .before .before .before .before .before .tag .given .1) in
-    omega (arith, there .1, c .before .before .before .before .before .before .before .before .before .before .loop .inv .1 .high, ap (λ (x : Cursor). x .end) (c .moved .ensures), ap (λ (x : Cursor). x .at) (c .moved .ensures), ap (λ (x : Cursor). x .end) (c .before .before .before .before .before .before .before .before .before .before .loop .inv .0))
+    let at-tag = c .before .before .before .before .before .before .before in
+    let at-element = at-tag .before .before in
+    let at-loop = at-element .before in
+    let entry = at-loop .before .before .before in
+    let a = entry .args in
+    let there = level.stands (a .c) (at-loop .loop .here) (λ (x : Cursor). elementAt (a .s .now) x (at-loop .loop .least) (a .levels)) (at-loop .loop .inv .0) (at-element .element .ensures) (at-tag .tag .given .1) in
+    omega (arith, there .1, at-loop .loop .inv .1 .high, ap (λ (x : Cursor). x .end) (c .moved .ensures), ap (λ (x : Cursor). x .at) (c .moved .ensures), ap (λ (x : Cursor). x .end) (at-loop .loop .inv .0))
 
 loop-again : tie.Need-loop-again Inv-loop μ-loop
 loop-again c =
-    let a = c .before .before .before .before .before .before .before .before .before .before .before .before .before .args in
-    let there = level.stands (a .c) (c .before .before .before .before .before .before .before .before .before .before .loop .here) (λ (x : Cursor). elementAt (a .s .now) x (c .before .before .before .before .before .before .before .before .before .before .loop .least) (a .levels)) (c .before .before .before .before .before .before .before .before .before .before .loop .inv .0) (c .before .before .before .before .before .before .before .before .before .element .ensures) (c .before .before .before .before .before .before .before .tag .given .1) in
-    level.along _ _ _ _ (a .c) _ _ (c .before .before .before .before .before .before .before .before .before .before .loop .here) _ (c .before .before .before .before .before .before .before .before .before .before .loop .inv .0) (c .moved .ensures)
-    (level.again _ _ _ _ (a .c) _ _ (c .before .before .before .before .before .before .before .before .before .before .loop .inv .1) (there .0) (there .1) refl (c .before .before .before .put-row .kept .0)
-    (level.leaf _ _ _ _ (there .1 .1 .0) (level.value-plain _ _ _ _ _ (c .before .before .before .before .before .if1 .left))) (c .before .before .before .put-row .ensures))
+    let at-put-row = c .before .before .before in
+    let at-if1 = at-put-row .before .before in
+    let at-tag = at-if1 .before .before in
+    let at-element = at-tag .before .before in
+    let at-loop = at-element .before in
+    let entry = at-loop .before .before .before in
+    let a = entry .args in
+    let there = level.stands (a .c) (at-loop .loop .here) (λ (x : Cursor). elementAt (a .s .now) x (at-loop .loop .least) (a .levels)) (at-loop .loop .inv .0) (at-element .element .ensures) (at-tag .tag .given .1) in
+    level.along _ _ _ _ (a .c) _ _ (at-loop .loop .here) _ (at-loop .loop .inv .0) (c .moved .ensures)
+    (level.again _ _ _ _ (a .c) _ _ (at-loop .loop .inv .1) (there .0) (there .1) refl (at-put-row .put-row .kept .0)
+    (level.leaf _ _ _ _ (there .1 .1 .0) (level.value-plain _ _ _ _ _ (at-if1 .if1 .left))) (at-put-row .put-row .ensures))
 
 pub read-leaf-spec : {M : Type 1} → statement M
 read-leaf-spec =

@@ -18,13 +18,15 @@ use Rattle.display.proofs.draw.Tie as tie
 
 scene-of-requires : tie.Need-scene-of-requires
 scene-of-requires c κs =
-    let object : IsObject (c .before .before .before .args .bytes .now) (c .before .before .before .args .n) = record { bytes = c .before .before .before .pre .1 .0; sound = c .before .before .before .pre .1 .1 .0; frames = c .before .before .before .pre .1 .1 .1 .0; some-frame = omega (arith, c .before .before .before .pre .1 .1 .1 .1 .0, c .before .before .before .pre .1 .1 .1 .1 .1 .0) } in
-    (c .before .before .before .pre .0, object)
+    let entry = c .before .before .before in
+    let object : IsObject (entry .args .bytes .now) (entry .args .n) = record { bytes = entry .pre .1 .0; sound = entry .pre .1 .1 .0; frames = entry .pre .1 .1 .1 .0; some-frame = omega (arith, entry .pre .1 .1 .1 .1 .0, entry .pre .1 .1 .1 .1 .1 .0) } in
+    (entry .pre .0, object)
 
 plan-for-requires : tie.Need-plan-for-requires
 plan-for-requires c κs =
-    let object : IsObject (c .before .before .before .before .args .bytes .now) (c .before .before .before .before .args .n) = record { bytes = c .before .before .before .before .pre .1 .0; sound = c .before .before .before .before .pre .1 .1 .0; frames = c .before .before .before .before .pre .1 .1 .1 .0; some-frame = omega (arith, c .before .before .before .before .pre .1 .1 .1 .1 .0, c .before .before .before .before .pre .1 .1 .1 .1 .1 .0) } in
-    (c .before .before .before .before .pre .0, (object, (c .scene-of .ensures, (c .before .before .before .before .pre .1 .1 .1 .1 .0, c .before .before .before .before .pre .1 .1 .1 .1 .1 .0))))
+    let entry = c .before .before .before .before in
+    let object : IsObject (entry .args .bytes .now) (entry .args .n) = record { bytes = entry .pre .1 .0; sound = entry .pre .1 .1 .0; frames = entry .pre .1 .1 .1 .0; some-frame = omega (arith, entry .pre .1 .1 .1 .1 .0, entry .pre .1 .1 .1 .1 .1 .0) } in
+    (entry .pre .0, (object, (c .scene-of .ensures, (entry .pre .1 .1 .1 .1 .0, entry .pre .1 .1 .1 .1 .1 .0))))
 
 slice-aggregate-fill : tie.Need-slice-aggregate-fill
 slice-aggregate-fill c =
@@ -32,9 +34,12 @@ slice-aggregate-fill c =
 
 fill-requires : tie.Need-fill-requires
 fill-requires c κs =
-    let object : IsObject (c .before .before .before .before .before .before .before .before .args .bytes .now) (c .before .before .before .before .before .before .before .before .args .n) = record { bytes = c .before .before .before .before .before .before .before .before .pre .1 .0; sound = c .before .before .before .before .before .before .before .before .pre .1 .1 .0; frames = c .before .before .before .before .before .before .before .before .pre .1 .1 .1 .0; some-frame = omega (arith, c .before .before .before .before .before .before .before .before .pre .1 .1 .1 .1 .0, c .before .before .before .before .before .before .before .before .pre .1 .1 .1 .1 .1 .0) } in
-    let b = scenes.based (c .before .before .before .before .before .before .before .before .args .bytes .now) (c .before .before .before .before .before .before .before .before .args .n) (c .before .before .before .before .before .before .before .before .args .frame) object (c .before .before .before .before .before .before .before .before .pre .1 .1 .1 .1 .0) (c .before .before .before .before .before .before .before .before .pre .1 .1 .1 .1 .1 .0) (c .before .before .before .before .scene-of .result) (c .before .before .before .before .scene-of .ensures) in
-    (c .before .before .before .plan-for .ensures .drawable, (b .shape .stored-some, (b .shape .stored-most, length-replicate {A = ℕ} 131072 0)))
+    let at-plan-for = c .before .before .before in
+    let at-scene-of = at-plan-for .before in
+    let entry = at-scene-of .before .before .before .before in
+    let object : IsObject (entry .args .bytes .now) (entry .args .n) = record { bytes = entry .pre .1 .0; sound = entry .pre .1 .1 .0; frames = entry .pre .1 .1 .1 .0; some-frame = omega (arith, entry .pre .1 .1 .1 .1 .0, entry .pre .1 .1 .1 .1 .1 .0) } in
+    let b = scenes.based (entry .args .bytes .now) (entry .args .n) (entry .args .frame) object (entry .pre .1 .1 .1 .1 .0) (entry .pre .1 .1 .1 .1 .1 .0) (at-scene-of .scene-of .result) (at-scene-of .scene-of .ensures) in
+    (at-plan-for .plan-for .ensures .drawable, (b .shape .stored-some, (b .shape .stored-most, length-replicate {A = ℕ} 131072 0)))
 
 slice-aggregate-paint : tie.Need-slice-aggregate-paint
 slice-aggregate-paint c =
@@ -42,9 +47,13 @@ slice-aggregate-paint c =
 
 paint-requires : tie.Need-paint-requires
 paint-requires c κs =
-    let object : IsObject (c .before .before .before .before .before .before .before .before .before .before .before .before .args .bytes .now) (c .before .before .before .before .before .before .before .before .before .before .before .before .args .n) = record { bytes = c .before .before .before .before .before .before .before .before .before .before .before .before .pre .1 .0; sound = c .before .before .before .before .before .before .before .before .before .before .before .before .pre .1 .1 .0; frames = c .before .before .before .before .before .before .before .before .before .before .before .before .pre .1 .1 .1 .0; some-frame = omega (arith, c .before .before .before .before .before .before .before .before .before .before .before .before .pre .1 .1 .1 .1 .0, c .before .before .before .before .before .before .before .before .before .before .before .before .pre .1 .1 .1 .1 .1 .0) } in
-    let b = scenes.based (c .before .before .before .before .before .before .before .before .before .before .before .before .args .bytes .now) (c .before .before .before .before .before .before .before .before .before .before .before .before .args .n) (c .before .before .before .before .before .before .before .before .before .before .before .before .args .frame) object (c .before .before .before .before .before .before .before .before .before .before .before .before .pre .1 .1 .1 .1 .0) (c .before .before .before .before .before .before .before .before .before .before .before .before .pre .1 .1 .1 .1 .1 .0) (c .before .before .before .before .before .before .before .before .scene-of .result) (c .before .before .before .before .before .before .before .before .scene-of .ensures) in
-    (c .before .before .before .before .before .before .before .before .before .before .before .before .pre .0, (c .before .before .before .before .before .before .before .before .scene-of .ensures .below, (record { shape = b .shape; inside = b .inside; room = omega (arith, b .size, c .before .before .before .before .before .before .before .before .before .before .before .before .pre .1 .1 .1 .1 .1 .1) }, (scenes.ready (c .before .before .before .before .before .before .before .before .before .before .before .before .args .bytes .now) (c .before .before .before .before .before .before .before .before .before .before .before .before .args .n) (c .before .before .before .before .before .before .before .before .before .before .before .before .args .frame) object (c .before .before .before .before .before .before .before .before .before .before .before .before .pre .1 .1 .1 .1 .0) (c .before .before .before .before .before .before .before .before .before .before .before .before .pre .1 .1 .1 .1 .1 .0) (c .before .before .before .before .before .before .before .before .scene-of .result) (c .before .before .before .before .before .before .before .before .scene-of .ensures) (c .before .before .before .before .before .before .before .plan-for .result) (c .before .before .before .before .before .before .before .plan-for .ensures), (record { drawable = c .before .before .before .before .before .before .before .plan-for .ensures .drawable; shades = λ e. c .before .before .before .fill .ensures }, refl)))))
+    let at-fill = c .before .before .before in
+    let at-plan-for = at-fill .before .before .before .before in
+    let at-scene-of = at-plan-for .before in
+    let entry = at-scene-of .before .before .before .before in
+    let object : IsObject (entry .args .bytes .now) (entry .args .n) = record { bytes = entry .pre .1 .0; sound = entry .pre .1 .1 .0; frames = entry .pre .1 .1 .1 .0; some-frame = omega (arith, entry .pre .1 .1 .1 .1 .0, entry .pre .1 .1 .1 .1 .1 .0) } in
+    let b = scenes.based (entry .args .bytes .now) (entry .args .n) (entry .args .frame) object (entry .pre .1 .1 .1 .1 .0) (entry .pre .1 .1 .1 .1 .1 .0) (at-scene-of .scene-of .result) (at-scene-of .scene-of .ensures) in
+    (entry .pre .0, (at-scene-of .scene-of .ensures .below, (record { shape = b .shape; inside = b .inside; room = omega (arith, b .size, entry .pre .1 .1 .1 .1 .1 .1) }, (scenes.ready (entry .args .bytes .now) (entry .args .n) (entry .args .frame) object (entry .pre .1 .1 .1 .1 .0) (entry .pre .1 .1 .1 .1 .1 .0) (at-scene-of .scene-of .result) (at-scene-of .scene-of .ensures) (at-plan-for .plan-for .result) (at-plan-for .plan-for .ensures), (record { drawable = at-plan-for .plan-for .ensures .drawable; shades = λ e. at-fill .fill .ensures }, refl)))))
 
 same-length : tie.Need-same-length
 same-length c =
@@ -52,10 +61,13 @@ same-length c =
 
 returns : tie.Need-returns
 returns c =
-    let object : IsObject (c .before .before .before .before .before .before .before .before .before .before .before .before .before .before .before .args .bytes .now) (c .before .before .before .before .before .before .before .before .before .before .before .before .before .before .before .args .n) = record { bytes = c .before .before .before .before .before .before .before .before .before .before .before .before .before .before .before .pre .1 .0; sound = c .before .before .before .before .before .before .before .before .before .before .before .before .before .before .before .pre .1 .1 .0; frames = c .before .before .before .before .before .before .before .before .before .before .before .before .before .before .before .pre .1 .1 .1 .0; some-frame = omega (arith, c .before .before .before .before .before .before .before .before .before .before .before .before .before .before .before .pre .1 .1 .1 .1 .0, c .before .before .before .before .before .before .before .before .before .before .before .before .before .before .before .pre .1 .1 .1 .1 .1 .0) } in
-    let b = scenes.based (c .before .before .before .before .before .before .before .before .before .before .before .before .before .before .before .args .bytes .now) (c .before .before .before .before .before .before .before .before .before .before .before .before .before .before .before .args .n) (c .before .before .before .before .before .before .before .before .before .before .before .before .before .before .before .args .frame) object (c .before .before .before .before .before .before .before .before .before .before .before .before .before .before .before .pre .1 .1 .1 .1 .0) (c .before .before .before .before .before .before .before .before .before .before .before .before .before .before .before .pre .1 .1 .1 .1 .1 .0) (c .before .before .before .before .before .before .before .before .before .before .before .scene-of .result) (c .before .before .before .before .before .before .before .before .before .before .before .scene-of .ensures) in
-    let t : Shades = record { window = c .before .before .before .before .before .before .before .before .before .before .plan-for .result .window; inverse = c .before .before .before .before .before .before .before .before .before .before .before .scene-of .result .inverse; filled = true } in
-    let s = painted-shows (nodesOf (c .before .before .before .before .before .before .before .before .before .before .before .before .before .before .before .args .bytes .now)) (c .before .before .before .before .before .before .before .before .before .before .before .before .before .before .before .args .frame) (c .before .before .before .before .before .before .before .before .before .before .before .before .before .before .before .args .n) (c .before .before .before .before .before .before .before .before .before .before .before .scene-of .result .g) (valueAt (nodesOf (c .before .before .before .before .before .before .before .before .before .before .before .before .before .before .before .args .bytes .now)) (c .before .before .before .before .before .before .before .before .before .before .before .scene-of .result .p)) (c .before .before .before .before .before .before .before .before .before .before .plan-for .result .window) (c .before .before .before .before .before .before .before .before .before .before .before .scene-of .result .inverse) (c .before .before .before .before .before .before .before .before .before .before .before .scene-of .ensures .geometry) (scenes.pixels-are (c .before .before .before .before .before .before .before .before .before .before .before .before .before .before .before .args .bytes .now) (c .before .before .before .before .before .before .before .before .before .before .before .before .before .before .before .args .n) (c .before .before .before .before .before .before .before .before .before .before .before .before .before .before .before .args .frame) object (c .before .before .before .before .before .before .before .before .before .before .before .before .before .before .before .pre .1 .1 .1 .1 .0) (c .before .before .before .before .before .before .before .before .before .before .before .before .before .before .before .pre .1 .1 .1 .1 .1 .0) (c .before .before .before .before .before .before .before .before .before .before .before .scene-of .result) (c .before .before .before .before .before .before .before .before .before .before .before .scene-of .ensures) .is) (b .inside) (c .before .before .before .before .before .before .before .before .before .before .plan-for .ensures .window-is) (c .before .before .before .before .before .before .before .before .before .before .plan-for .ensures .drawable) (c .before .before .before .before .before .before .before .before .before .before .before .scene-of .ensures .inverse-is) (b .each) (b .shape .stored-some) (shadesOf t (c .before .before .before .before .before .before .before .before .before .before .before .scene-of .result .g .stored)) (ideal-filled t (c .before .before .before .before .before .before .before .before .before .before .before .scene-of .result .g .stored) (b .shape .stored-most)) (c .before .before .before .before .before .before .before .before .before .before .before .before .before .before .before .args .image .now) (omega (arith, b .size, c .before .before .before .before .before .before .before .before .before .before .before .before .before .before .before .pre .1 .1 .1 .1 .1 .1)) (c .before .before .before .before .before .before .before .before .before .before .plan-for .result .masking) (c .before .before .before .before .before .before .before .before .before .before .plan-for .ensures .masking-is) (scenes.all (c .before .before .before .before .before .before .before .before .before .before .before .before .before .before .before .args .bytes .now) (c .before .before .before .before .before .before .before .before .before .before .before .before .before .before .before .args .n) (c .before .before .before .before .before .before .before .before .before .before .before .before .before .before .before .args .frame) object (c .before .before .before .before .before .before .before .before .before .before .before .before .before .before .before .pre .1 .1 .1 .1 .0) (c .before .before .before .before .before .before .before .before .before .before .before .before .before .before .before .pre .1 .1 .1 .1 .1 .0) (c .before .before .before .before .before .before .before .before .before .before .before .scene-of .result) (c .before .before .before .before .before .before .before .before .before .before .before .scene-of .ensures) .mask) in
+    let at-plan-for = c .before .before .before .before .before .before .before .before .before .before in
+    let at-scene-of = at-plan-for .before in
+    let entry = at-scene-of .before .before .before .before in
+    let object : IsObject (entry .args .bytes .now) (entry .args .n) = record { bytes = entry .pre .1 .0; sound = entry .pre .1 .1 .0; frames = entry .pre .1 .1 .1 .0; some-frame = omega (arith, entry .pre .1 .1 .1 .1 .0, entry .pre .1 .1 .1 .1 .1 .0) } in
+    let b = scenes.based (entry .args .bytes .now) (entry .args .n) (entry .args .frame) object (entry .pre .1 .1 .1 .1 .0) (entry .pre .1 .1 .1 .1 .1 .0) (at-scene-of .scene-of .result) (at-scene-of .scene-of .ensures) in
+    let t : Shades = record { window = at-plan-for .plan-for .result .window; inverse = at-scene-of .scene-of .result .inverse; filled = true } in
+    let s = painted-shows (nodesOf (entry .args .bytes .now)) (entry .args .frame) (entry .args .n) (at-scene-of .scene-of .result .g) (valueAt (nodesOf (entry .args .bytes .now)) (at-scene-of .scene-of .result .p)) (at-plan-for .plan-for .result .window) (at-scene-of .scene-of .result .inverse) (at-scene-of .scene-of .ensures .geometry) (scenes.pixels-are (entry .args .bytes .now) (entry .args .n) (entry .args .frame) object (entry .pre .1 .1 .1 .1 .0) (entry .pre .1 .1 .1 .1 .1 .0) (at-scene-of .scene-of .result) (at-scene-of .scene-of .ensures) .is) (b .inside) (at-plan-for .plan-for .ensures .window-is) (at-plan-for .plan-for .ensures .drawable) (at-scene-of .scene-of .ensures .inverse-is) (b .each) (b .shape .stored-some) (shadesOf t (at-scene-of .scene-of .result .g .stored)) (ideal-filled t (at-scene-of .scene-of .result .g .stored) (b .shape .stored-most)) (entry .args .image .now) (omega (arith, b .size, entry .pre .1 .1 .1 .1 .1 .1)) (at-plan-for .plan-for .result .masking) (at-plan-for .plan-for .ensures .masking-is) (scenes.all (entry .args .bytes .now) (entry .args .n) (entry .args .frame) object (entry .pre .1 .1 .1 .1 .0) (entry .pre .1 .1 .1 .1 .1 .0) (at-scene-of .scene-of .result) (at-scene-of .scene-of .ensures) .mask) in
     (c .before .before .paint .ensures .0 ∙ s .masked-is, c .before .before .paint .ensures .1 ∙ s .image-is)
 
 pub draw-spec : {M : Type 1} → statement M

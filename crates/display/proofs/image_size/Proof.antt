@@ -23,7 +23,8 @@ mul-result c =
 
 returns : tie.Need-returns
 returns c =
-    rw (c .before .before .number-of .ensures .0, c .number-of2 .ensures .0, c .before .before .before .us-root .ensures .0, c .before .us-root2 .ensures .0)
+    let at-us-root = c .before .before .before in
+    rw (c .before .before .number-of .ensures .0, c .number-of2 .ensures .0, at-us-root .us-root .ensures .0, c .before .us-root2 .ensures .0)
 
 pub image-size-spec : {M : Type 1} → statement M
 image-size-spec =

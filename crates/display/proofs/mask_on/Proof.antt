@@ -21,19 +21,22 @@ enum-told c = search needs
 returns : tie.Need-returns
 unfolding maskFor
 returns c =
-    (rw (c .before .before .before .before .pre .1 .1 .1 .1 .1 .0 ∙ ap some (c .enum-told .given .1)), tt)
+    let entry = c .before .before .before .before in
+    (rw (entry .pre .1 .1 .1 .1 .1 .0 ∙ ap some (c .enum-told .given .1)), tt)
 
 mask-by-requires : tie.Need-mask-by-requires
 unfolding maskFor
 mask-by-requires c κs =
-    let p = c .before .before .before .before .before .pre in
-    let ns = nodesOf (c .before .before .before .before .before .args .bytes .now) in
-    (p .0, (p .1 .0, (p .1 .1 .0, (subst (λ (x : Applying). ApplyingBelow (length ns) x) (c .before .applies .given .1) (p .1 .1 .1 .1 .1 .1 .0), (p .1 .1 .1 .0, (plan.gives-same (c .before .before .before .before .before .args .n) (maskFor ns (c .before .before .before .before .before .args .frame)) (maskBy ns (c .before .before .before .before .before .args .frame) (c .before .applies .given .0 .0)) (rw (p .1 .1 .1 .1 .1 .0 ∙ ap some (c .before .applies .given .1)) refl) (p .1 .1 .1 .1 .0), (subst (λ (x : Applying). ToldBy ns x (c .before .before .before .before .before .args .told)) (c .before .applies .given .1) (p .1 .1 .1 .1 .1 .1 .1 .0), p .1 .1 .1 .1 .1 .1 .1 .1)))))))
+    let entry = c .before .before .before .before .before in
+    let p = entry .pre in
+    let ns = nodesOf (entry .args .bytes .now) in
+    (p .0, (p .1 .0, (p .1 .1 .0, (subst (λ (x : Applying). ApplyingBelow (length ns) x) (c .before .applies .given .1) (p .1 .1 .1 .1 .1 .1 .0), (p .1 .1 .1 .0, (plan.gives-same (entry .args .n) (maskFor ns (entry .args .frame)) (maskBy ns (entry .args .frame) (c .before .applies .given .0 .0)) (rw (p .1 .1 .1 .1 .1 .0 ∙ ap some (c .before .applies .given .1)) refl) (p .1 .1 .1 .1 .0), (subst (λ (x : Applying). ToldBy ns x (entry .args .told)) (c .before .applies .given .1) (p .1 .1 .1 .1 .1 .1 .1 .0), p .1 .1 .1 .1 .1 .1 .1 .1)))))))
 
 returns-2 : tie.Need-returns-2
 unfolding maskFor
 returns-2 c =
-    (rw (c .before .before .before .before .before .before .pre .1 .1 .1 .1 .1 .0 ∙ ap some (c .before .before .applies .given .1)) (c .mask-by .ensures .0), c .mask-by .ensures .1)
+    let entry = c .before .before .before .before .before .before in
+    (rw (entry .pre .1 .1 .1 .1 .1 .0 ∙ ap some (c .before .before .applies .given .1)) (c .mask-by .ensures .0), c .mask-by .ensures .1)
 
 pub mask-on-spec : {M : Type 1} → statement M
 mask-on-spec = tie.close (tie.spec enum-known-applies enum-told returns mask-by-requires returns-2)

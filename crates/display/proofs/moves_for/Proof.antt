@@ -26,11 +26,15 @@ no-moves-requires c κs = search needs
 
 returns : tie.Need-returns
 returns c =
-    plan.moves-are (nodesOf (c .before .before .before .before .before .before .before .args .bytes .now)) (c .before .before .before .before .before .before .before .args .frame) (c .before .before .before .before .before .before .before .args .j) (c .before .before .s .given .0 .0) (steps-laws.said shiftsOf (c .before .before .s .given .1) (c .before .before .before .before .shift-by .ensures)) (c .before .before .before .before .before .before .before .pre .1 .1 .1 .1 .0) ∙ ap some (sym (c .short-moves-of .ensures .0))
+    let at-shift-by = c .before .before .before .before in
+    let entry = at-shift-by .before .before .before in
+    plan.moves-are (nodesOf (entry .args .bytes .now)) (entry .args .frame) (entry .args .j) (c .before .before .s .given .0 .0) (steps-laws.said shiftsOf (c .before .before .s .given .1) (at-shift-by .shift-by .ensures)) (entry .pre .1 .1 .1 .1 .0) ∙ ap some (sym (c .short-moves-of .ensures .0))
 
 returns-2 : tie.Need-returns-2
 returns-2 c =
-    absurd (plan.moves-none (nodesOf (c .before .before .before .before .before .before .args .bytes .now)) (c .before .before .before .before .before .before .args .frame) (c .before .before .before .before .before .before .args .j) (steps-laws.said shiftsOf (c .before .enum-told .given .1) (c .before .before .before .shift-by .ensures)) (c .before .before .before .before .before .before .pre .1 .1 .1 .1 .0))
+    let at-shift-by = c .before .before .before in
+    let entry = at-shift-by .before .before .before in
+    absurd (plan.moves-none (nodesOf (entry .args .bytes .now)) (entry .args .frame) (entry .args .j) (steps-laws.said shiftsOf (c .before .enum-told .given .1) (at-shift-by .shift-by .ensures)) (entry .pre .1 .1 .1 .1 .0))
 
 pub moves-for-spec : {M : Type 1} → statement M
 moves-for-spec =

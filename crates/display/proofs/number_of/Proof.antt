@@ -14,7 +14,8 @@ enum-told c = search needs
 
 returns : tie.Need-returns
 returns c =
-    (ap numberOf (sym (c .before .n .given .1)), node-laws.within _ (c .before .n .given .1) (c .before .before .before .pre))
+    let entry = c .before .before .before in
+    (ap numberOf (sym (c .before .n .given .1)), node-laws.within _ (c .before .n .given .1) (entry .pre))
 
 returns-2 : tie.Need-returns-2
 returns-2 c = search needs

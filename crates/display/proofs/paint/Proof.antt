@@ -19,7 +19,9 @@ enum-told c =
 
 paint-native-requires : tie.Need-paint-native-requires
 paint-native-requires c κs =
-    rw (c .before .before .before .value .ensures) (c .before .before .before .before .before .before .before .before .pre .1 .1 .0, c .before .before .before .before .before .before .before .before .pre .1 .1 .1 .1 .0)
+    let at-value = c .before .before .before in
+    let entry = at-value .before .before .before .before .before in
+    rw (at-value .value .ensures) (entry .pre .1 .1 .0, entry .pre .1 .1 .1 .1 .0)
 
 enum-known-masking : tie.Need-enum-known-masking
 enum-known-masking c =
@@ -27,13 +29,17 @@ enum-known-masking c =
 
 value-requires-2 : tie.Need-value-requires-2
 value-requires-2 c κs =
-    let r = subst (λ (x : Masking). MasksReady (nodesOf (c .before .before .before .before .before .before .before .before .args .bytes .now)) (valueAt (nodesOf (c .before .before .before .before .before .before .before .before .args .bytes .now)) (c .before .before .before .before .before .before .before .before .args .p)) (c .before .before .before .before .before .before .before .before .args .g) x) (c .before .masking .given .1) (c .before .before .before .before .before .before .before .before .pre .1 .1 .1 .0) in
-    (c .before .before .before .before .before .before .before .before .pre .0, r .0)
+    let entry = c .before .before .before .before .before .before .before .before in
+    let r = subst (λ (x : Masking). MasksReady (nodesOf (entry .args .bytes .now)) (valueAt (nodesOf (entry .args .bytes .now)) (entry .args .p)) (entry .args .g) x) (c .before .masking .given .1) (entry .pre .1 .1 .1 .0) in
+    (entry .pre .0, r .0)
 
 paint-masked-requires : tie.Need-paint-masked-requires
 paint-masked-requires c κs =
-    let r = subst (λ (x : Masking). MasksReady (nodesOf (c .before .before .before .before .before .before .before .before .before .before .args .bytes .now)) (valueAt (nodesOf (c .before .before .before .before .before .before .before .before .before .before .args .bytes .now)) (c .before .before .before .before .before .before .before .before .before .before .args .p)) (c .before .before .before .before .before .before .before .before .before .before .args .g) x) (c .before .before .before .masking .given .1) (c .before .before .before .before .before .before .before .before .before .before .pre .1 .1 .1 .0) in
-    rw (c .before .before .before .before .before .value .ensures, c .before .value2 .ensures) (c .before .before .before .before .before .before .before .before .before .before .pre .1 .1 .0, (r .1 .0, (r .1 .1, c .before .before .before .before .before .before .before .before .before .before .pre .1 .1 .1 .1)))
+    let at-masking = c .before .before .before in
+    let at-value = at-masking .before .before in
+    let entry = at-value .before .before .before .before .before in
+    let r = subst (λ (x : Masking). MasksReady (nodesOf (entry .args .bytes .now)) (valueAt (nodesOf (entry .args .bytes .now)) (entry .args .p)) (entry .args .g) x) (at-masking .masking .given .1) (entry .pre .1 .1 .1 .0) in
+    rw (at-value .value .ensures, c .before .value2 .ensures) (entry .pre .1 .1 .0, (r .1 .0, (r .1 .1, entry .pre .1 .1 .1 .1)))
 
 enum-known-masking-2 : tie.Need-enum-known-masking-2
 enum-known-masking-2 c =
@@ -53,8 +59,11 @@ slice-aggregate-paint-masked c =
 
 paint-masked-requires-2 : tie.Need-paint-masked-requires-2
 paint-masked-requires-2 c κs =
-    let r = subst (λ (x : Masking). MasksReady (nodesOf (c .before .before .before .before .before .before .before .before .before .before .args .bytes .now)) (valueAt (nodesOf (c .before .before .before .before .before .before .before .before .before .before .args .bytes .now)) (c .before .before .before .before .before .before .before .before .before .before .args .p)) (c .before .before .before .before .before .before .before .before .before .before .args .g) x) (c .before .before .before .masking2 .given .1) (c .before .before .before .before .before .before .before .before .before .before .pre .1 .1 .1 .0) in
-    rw (c .before .before .before .before .before .value .ensures) (c .before .before .before .before .before .before .before .before .before .before .pre .1 .1 .0, (pair-masks (valueAt (nodesOf (c .before .before .before .before .before .before .before .before .before .before .args .bytes .now)) (c .before .before .before .before .before .before .before .before .before .before .args .p)) (c .before .before .before .before .before .before .before .before .before .before .args .g) (c .before .before .before .masking2 .given .0 .0) (r .0) (r .1 .0), (r .1 .1, c .before .before .before .before .before .before .before .before .before .before .pre .1 .1 .1 .1)))
+    let at-masking2 = c .before .before .before in
+    let at-value = at-masking2 .before .before in
+    let entry = at-value .before .before .before .before .before in
+    let r = subst (λ (x : Masking). MasksReady (nodesOf (entry .args .bytes .now)) (valueAt (nodesOf (entry .args .bytes .now)) (entry .args .p)) (entry .args .g) x) (at-masking2 .masking2 .given .1) (entry .pre .1 .1 .1 .0) in
+    rw (at-value .value .ensures) (entry .pre .1 .1 .0, (pair-masks (valueAt (nodesOf (entry .args .bytes .now)) (entry .args .p)) (entry .args .g) (at-masking2 .masking2 .given .0 .0) (r .0) (r .1 .0), (r .1 .1, entry .pre .1 .1 .1 .1)))
 
 enum-told-2 : tie.Need-enum-told-2
 enum-told-2 c =
@@ -66,7 +75,9 @@ same-length c =
 
 returns : tie.Need-returns
 returns c =
-    rw (c .before .before .before .before .enum-told .given .1, ← c .before .before .before .before .before .before .value .ensures) (refl, c .before .before .paint-native .ensures)
+    let at-enum-told = c .before .before .before .before in
+    let at-value = at-enum-told .before .before in
+    rw (at-enum-told .enum-told .given .1, ← at-value .value .ensures) (refl, c .before .before .paint-native .ensures)
 
 same-length-2 : tie.Need-same-length-2
 same-length-2 c =
@@ -74,7 +85,10 @@ same-length-2 c =
 
 returns-2 : tie.Need-returns-2
 returns-2 c =
-    rw (c .before .before .before .before .before .before .masking .given .1, ← c .before .before .before .before .before .before .before .before .value .ensures, ← c .before .before .before .before .value2 .ensures) (refl, c .before .before .paint-masked .ensures)
+    let at-value2 = c .before .before .before .before in
+    let at-masking = at-value2 .before .before in
+    let at-value = at-masking .before .before in
+    rw (at-masking .masking .given .1, ← at-value .value .ensures, ← at-value2 .value2 .ensures) (refl, c .before .before .paint-masked .ensures)
 
 same-length-3 : tie.Need-same-length-3
 same-length-3 c =
@@ -82,12 +96,16 @@ same-length-3 c =
 
 returns-3 : tie.Need-returns-3
 returns-3 c =
-    let r = subst (λ (x : Masking). MasksReady (nodesOf (c .before .before .before .before .before .before .before .before .before .before .before .before .before .args .bytes .now)) (valueAt (nodesOf (c .before .before .before .before .before .before .before .before .before .before .before .before .before .args .bytes .now)) (c .before .before .before .before .before .before .before .before .before .before .before .before .before .args .p)) (c .before .before .before .before .before .before .before .before .before .before .before .before .before .args .g) x) (c .before .before .before .before .before .before .masking2 .given .1) (c .before .before .before .before .before .before .before .before .before .before .before .before .before .pre .1 .1 .1 .0) in
-    rw (c .before .before .before .before .before .before .masking2 .given .1, ← c .before .before .before .before .before .before .before .before .value .ensures, ← pair-values (c .before .before .before .before .before .before .masking2 .given .0 .0) (r .0)) (refl, c .before .before .paint-masked2 .ensures)
+    let at-masking2 = c .before .before .before .before .before .before in
+    let at-value = at-masking2 .before .before in
+    let entry = at-value .before .before .before .before .before in
+    let r = subst (λ (x : Masking). MasksReady (nodesOf (entry .args .bytes .now)) (valueAt (nodesOf (entry .args .bytes .now)) (entry .args .p)) (entry .args .g) x) (at-masking2 .masking2 .given .1) (entry .pre .1 .1 .1 .0) in
+    rw (at-masking2 .masking2 .given .1, ← at-value .value .ensures, ← pair-values (at-masking2 .masking2 .given .0 .0) (r .0)) (refl, c .before .before .paint-masked2 .ensures)
 
 returns-4 : tie.Need-returns-4
 returns-4 c =
-    absurd (subst (λ (x : Masking). MasksReady (nodesOf (c .before .before .before .before .before .before .before .args .bytes .now)) (valueAt (nodesOf (c .before .before .before .before .before .before .before .args .bytes .now)) (c .before .before .before .before .before .before .before .args .p)) (c .before .before .before .before .before .before .before .args .g) x) (c .enum-told2 .given .1) (c .before .before .before .before .before .before .before .pre .1 .1 .1 .0))
+    let entry = c .before .before .before .before .before .before .before in
+    absurd (subst (λ (x : Masking). MasksReady (nodesOf (entry .args .bytes .now)) (valueAt (nodesOf (entry .args .bytes .now)) (entry .args .p)) (entry .args .g) x) (c .enum-told2 .given .1) (entry .pre .1 .1 .1 .0))
 
 pub paint-spec : {M : Type 1} → statement M
 paint-spec =

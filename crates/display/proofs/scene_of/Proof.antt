@@ -29,8 +29,10 @@ no-scene-requires c κs =
 
 returns : tie.Need-returns
 returns c =
-    let all = scenes.objects (c .before .before .before .before .before .before .args .bytes .now) (c .before .before .before .before .before .before .args .n) 1 (c .before .before .before .before .before .before .pre .1) (omega arith) (c .before .before .before .before .before .before .pre .1 .some-frame) in
-    absurd (never (sym (steps-laws.said sizedOf (c .before .enum-told .given .1) (c .before .before .before .geometry-of .ensures .0)) ∙ all .o .geometry))
+    let at-geometry-of = c .before .before .before in
+    let entry = at-geometry-of .before .before .before in
+    let all = scenes.objects (entry .args .bytes .now) (entry .args .n) 1 (entry .pre .1) (omega arith) (entry .pre .1 .some-frame) in
+    absurd (never (sym (steps-laws.said sizedOf (c .before .enum-told .given .1) (at-geometry-of .geometry-of .ensures .0)) ∙ all .o .geometry))
 
 find-root-requires : tie.Need-find-root-requires
 find-root-requires c κs =
@@ -50,26 +52,36 @@ no-scene-requires-2 c κs =
 
 returns-2 : tie.Need-returns-2
 returns-2 c =
-    let all = scenes.objects (c .before .before .before .before .before .before .before .before .before .before .args .bytes .now) (c .before .before .before .before .before .before .before .before .before .before .args .n) 1 (c .before .before .before .before .before .before .before .before .before .before .pre .1) (omega arith) (c .before .before .before .before .before .before .before .before .before .before .pre .1 .some-frame) in
-    absurd (scenes.no-pixels (nodesOf (c .before .before .before .before .before .before .before .before .before .before .args .bytes .now)) (all .o .v) (node-laws.lacked (c .before .enum-told2 .given .1) (c .before .before .before .find-root .ensures .0)) (all .o .pixels))
+    let at-find-root = c .before .before .before in
+    let entry = at-find-root .before .before .before .before .before .before .before in
+    let all = scenes.objects (entry .args .bytes .now) (entry .args .n) 1 (entry .pre .1) (omega arith) (entry .pre .1 .some-frame) in
+    absurd (scenes.no-pixels (nodesOf (entry .args .bytes .now)) (all .o .v) (node-laws.lacked (c .before .enum-told2 .given .1) (at-find-root .find-root .ensures .0)) (all .o .pixels))
 
 is-inverse-requires : tie.Need-is-inverse-requires
 is-inverse-requires c κs =
-    let all = scenes.objects (c .before .before .before .before .before .before .before .before .before .before .args .bytes .now) (c .before .before .before .before .before .before .before .before .before .before .args .n) 1 (c .before .before .before .before .before .before .before .before .before .before .pre .1) (omega arith) (c .before .before .before .before .before .before .before .before .before .before .pre .1 .some-frame) in
-    (c .before .before .before .before .before .before .before .before .before .before .pre .0, record { b = all .o .inverse; is = all .o .photometric })
+    let entry = c .before .before .before .before .before .before .before .before .before .before in
+    let all = scenes.objects (entry .args .bytes .now) (entry .args .n) 1 (entry .pre .1) (omega arith) (entry .pre .1 .some-frame) in
+    (entry .pre .0, record { b = all .o .inverse; is = all .o .photometric })
 
 shared-window-requires : tie.Need-shared-window-requires
 shared-window-requires c κs =
-    let a = c .before .before .before .before .before .before .before .before .before .before .before .args in
-    let p = c .before .before .before .before .before .before .before .before .before .before .before .pre in
-    (p .0, scenes.stored-most _ _ _ _ (scenes.objects (a .bytes .now) (a .n) 1 (p .1) (omega arith) (p .1 .some-frame)) (steps-laws.said sizedOf (c .before .before .before .before .before .before .g .given .1) (c .before .before .before .before .before .before .before .before .geometry-of .ensures .0)))
+    let at-g = c .before .before .before .before .before .before in
+    let at-geometry-of = at-g .before .before in
+    let entry = at-geometry-of .before .before .before in
+    let a = entry .args in
+    let p = entry .pre in
+    (p .0, scenes.stored-most _ _ _ _ (scenes.objects (a .bytes .now) (a .n) 1 (p .1) (omega arith) (p .1 .some-frame)) (steps-laws.said sizedOf (at-g .g .given .1) (at-geometry-of .geometry-of .ensures .0)))
 
 returns-3 : tie.Need-returns-3
 returns-3 c =
+    let at-p = c .before .before .before in
+    let at-find-root = at-p .before .before in
+    let at-g = at-find-root .before .before in
+    let at-geometry-of = at-g .before .before in
     record {
-      geometry = steps-laws.said sizedOf (c .before .before .before .before .before .before .before .g .given .1) (c .before .before .before .before .before .before .before .before .before .geometry-of .ensures .0);
-      pixels = node-laws.had (c .before .before .before .p .given .1) (c .before .before .before .before .before .find-root .ensures .0);
-      below = node-laws.within _ (c .before .before .before .p .given .1) (c .before .before .before .before .before .find-root .ensures .1);
+      geometry = steps-laws.said sizedOf (at-g .g .given .1) (at-geometry-of .geometry-of .ensures .0);
+      pixels = node-laws.had (at-p .p .given .1) (at-find-root .find-root .ensures .0);
+      below = node-laws.within _ (at-p .p .given .1) (at-find-root .find-root .ensures .1);
       inverse-is = c .before .is-inverse .ensures;
       window-is = c .shared-window .ensures;
     }

@@ -29,10 +29,12 @@ enum-known-t c = search needs
 
 moves-for-requires : tie.Need-moves-for-requires
 moves-for-requires c κs =
-    let ns = nodesOf (c .before .before .before .before .before .before .args .bytes .now) in
-    let e = steps-laws.said foundOf (c .before .t .given .1) (c .before .before .before .tid-frame .ensures) in
-    let p = c .before .before .before .before .before .before .pre in
-    (p .0, (p .1 .0, (p .1 .1 .0, (p .1 .1 .1 .0, (plan.gives-moves (c .before .before .before .before .before .before .args .n) (c .before .t .given .0 .0 ∷ []) (movesFor ns (c .before .before .before .before .before .before .args .frame) (c .before .before .before .before .before .before .args .j)) (plan.gives-same (c .before .before .before .before .before .before .args .n) _ _ (ap (λ (o : Option Num). then o (onTid ns (c .before .before .before .before .before .before .args .frame) (c .before .before .before .before .before .before .args .j))) e) (p .1 .1 .1 .1 .1 .0)), p .1 .1 .1 .1 .1 .1 .0)))))
+    let at-tid-frame = c .before .before .before in
+    let entry = at-tid-frame .before .before .before in
+    let ns = nodesOf (entry .args .bytes .now) in
+    let e = steps-laws.said foundOf (c .before .t .given .1) (at-tid-frame .tid-frame .ensures) in
+    let p = entry .pre in
+    (p .0, (p .1 .0, (p .1 .1 .0, (p .1 .1 .1 .0, (plan.gives-moves (entry .args .n) (c .before .t .given .0 .0 ∷ []) (movesFor ns (entry .args .frame) (entry .args .j)) (plan.gives-same (entry .args .n) _ _ (ap (λ (o : Option Num). then o (onTid ns (entry .args .frame) (entry .args .j))) e) (p .1 .1 .1 .1 .1 .0)), p .1 .1 .1 .1 .1 .1 .0)))))
 
 returns : tie.Need-returns
 returns c =
@@ -44,7 +46,8 @@ returns-2 c =
 
 returns-3 : tie.Need-returns-3
 returns-3 c =
-    (rw (steps-laws.said foundOf (c .before .before .t .given .1) (c .before .before .before .before .tid-frame .ensures), c .moves-for .ensures), tt)
+    let at-tid-frame = c .before .before .before .before in
+    (rw (steps-laws.said foundOf (c .before .before .t .given .1) (at-tid-frame .tid-frame .ensures), c .moves-for .ensures), tt)
 
 pub tid-by-spec : {M : Type 1} → statement M
 tid-by-spec =

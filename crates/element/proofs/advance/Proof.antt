@@ -9,11 +9,13 @@ next-requires c κs = search needs
 
 returns : tie.Need-returns
 returns c =
-    record { ahead = rw (c .next .ensures .0) (laws.rest-next _ _ _ (c .before .if1 .taken)); inner = c .before .before .before .before .pre .1 }
+    let entry = c .before .before .before .before in
+    record { ahead = rw (c .next .ensures .0) (laws.rest-next _ _ _ (c .before .if1 .taken)); inner = entry .pre .1 }
 
 returns-2 : tie.Need-returns-2
 returns-2 c =
-    record { ahead = laws.rest-end _ _ _ (c .if1 .left); inner = c .before .before .before .pre .1 }
+    let entry = c .before .before .before in
+    record { ahead = laws.rest-end _ _ _ (c .if1 .left); inner = entry .pre .1 }
 
 pub advance-spec : {M : Type 1} → statement M
 advance-spec = tie.close (tie.spec next-requires returns returns-2)

@@ -23,20 +23,24 @@ next-requires c κs =
 
 add-at : tie.Need-add-at Inv-loop μ-loop
 add-at c =
-    omega (arith, c .before .before .before .pre .1, c .before .before .before .pre .0 .few)
+    let entry = c .before .before .before in
+    omega (arith, entry .pre .1, entry .pre .0 .few)
 
 loop-holds : tie.Need-loop-holds Inv-loop μ-loop
 loop-holds c =
-    let ns = nodesOf (c .before .before .before .args .bytes .now) in
-    (omega (arith, ap (λ (k : ℕ). length (members ns (c .before .before .before .args .i + 1) k)) (c .next .ensures .0)), (c .next .ensures .1, omega arith))
+    let entry = c .before .before .before in
+    let ns = nodesOf (entry .args .bytes .now) in
+    (omega (arith, ap (λ (k : ℕ). length (members ns (entry .args .i + 1) k)) (c .next .ensures .0)), (c .next .ensures .1, omega arith))
 
 next-requires-2 : tie.Need-next-requires-2 Inv-loop μ-loop
 next-requires-2 c κs =
-    (c .before .before .before .before .before .pre .0, omega (arith, c .loop-test .taken, c .before .loop .inv .1))
+    let entry = c .before .before .before .before .before in
+    (entry .pre .0, omega (arith, c .loop-test .taken, c .before .loop .inv .1))
 
 add-n : tie.Need-add-n Inv-loop μ-loop
 add-n c =
-    omega (arith, c .before .loop-test .taken, c .before .before .loop .inv .1, c .before .before .before .before .before .before .pre .0 .few)
+    let entry = c .before .before .before .before .before .before in
+    omega (arith, c .before .loop-test .taken, c .before .before .loop .inv .1, entry .pre .0 .few)
 
 loop-less : tie.Need-loop-less Inv-loop μ-loop
 loop-less c =
@@ -44,14 +48,17 @@ loop-less c =
 
 loop-again : tie.Need-loop-again Inv-loop μ-loop
 loop-again c =
-    let ns = nodesOf (c .before .before .before .before .before .before .args .bytes .now) in
-    let e = ap (λ (l : List ℕ). length l) (members-next ns (c .before .before .loop .at) (c .before .before .before .next .result) (c .before .loop-test .taken)) in
-    let f = ap (λ (k : ℕ). length (members ns k (c .before .before .before .next .result))) (c .next2 .ensures .0) in
+    let at-next = c .before .before .before in
+    let entry = at-next .before .before .before in
+    let ns = nodesOf (entry .args .bytes .now) in
+    let e = ap (λ (l : List ℕ). length l) (members-next ns (c .before .before .loop .at) (at-next .next .result) (c .before .loop-test .taken)) in
+    let f = ap (λ (k : ℕ). length (members ns k (at-next .next .result))) (c .next2 .ensures .0) in
     (omega (arith, c .before .before .loop .inv .0, e, f), (c .before .before .loop .inv .1 .0, omega (arith, c .before .before .loop .inv .1 .1, c .next2 .ensures .0)))
 
 returns : tie.Need-returns Inv-loop μ-loop
 returns c =
-    let ns = nodesOf (c .before .before .before .before .before .args .bytes .now) in
+    let entry = c .before .before .before .before .before in
+    let ns = nodesOf (entry .args .bytes .now) in
     omega (arith, c .before .loop .inv .0, ap (λ (l : List ℕ). length l) (members-end ns (c .before .loop .at) (c .before .before .next .result) (c .loop-test .left)))
 
 pub count-items-spec : {M : Type 1} → statement M

@@ -18,7 +18,8 @@ enum-told-2 c = search needs
 
 returns : tie.Need-returns
 returns c =
-    (ap asCount (sym (c .before .n .given .1)), subst (λ (x : Signed). SizeBelow 100000000000 x) (c .before .n .given .1) (c .before .before .before .pre))
+    let entry = c .before .before .before in
+    (ap asCount (sym (c .before .n .given .1)), subst (λ (x : Signed). SizeBelow 100000000000 x) (c .before .n .given .1) (entry .pre))
 
 returns-2 : tie.Need-returns-2
 returns-2 c = search needs

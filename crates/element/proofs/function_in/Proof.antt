@@ -16,7 +16,9 @@ enum-known-k c = search needs
 
 function-at-requires : tie.Need-function-at-requires
 function-at-requires c κs =
-    (c .before .before .before .before .before .before .pre .0, node-laws.within _ (c .before .k .given .1) (c .before .before .before .find-item .ensures .1))
+    let at-find-item = c .before .before .before in
+    let entry = at-find-item .before .before .before in
+    (entry .pre .0, node-laws.within _ (c .before .k .given .1) (at-find-item .find-item .ensures .1))
 
 returns : tie.Need-returns
 unfolding functionIn
@@ -26,7 +28,8 @@ returns c =
 returns-2 : tie.Need-returns-2
 unfolding functionIn
 returns-2 c =
-    rw (node-laws.had (c .before .before .k .given .1) (c .before .before .before .before .find-item .ensures .0)) (c .function-at .ensures)
+    let at-find-item = c .before .before .before .before in
+    rw (node-laws.had (c .before .before .k .given .1) (at-find-item .find-item .ensures .0)) (c .function-at .ensures)
 
 pub function-in-spec : {M : Type 1} → statement M
 function-in-spec =

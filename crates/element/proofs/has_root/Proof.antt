@@ -16,8 +16,10 @@ enum-known-i c = search needs
 
 is-filled-requires : tie.Need-is-filled-requires
 is-filled-requires c κs =
-    let p = c .before .before .before .before .before .before .pre in
-    (p, laws.within _ (c .before .i .given .1) (c .before .before .before .find-vr-root .ensures .1))
+    let at-find-vr-root = c .before .before .before in
+    let entry = at-find-vr-root .before .before .before in
+    let p = entry .pre in
+    (p, laws.within _ (c .before .i .given .1) (at-find-vr-root .find-vr-root .ensures .1))
 
 returns : tie.Need-returns
 unfolding has
@@ -26,7 +28,8 @@ returns c = rw (laws.lacked (c .enum-told .given .1) (c .before .before .find-vr
 returns-2 : tie.Need-returns-2
 unfolding has
 returns-2 c =
-    rw (laws.had (c .before .before .i .given .1) (c .before .before .before .before .find-vr-root .ensures .0)) (c .is-filled .ensures)
+    let at-find-vr-root = c .before .before .before .before in
+    rw (laws.had (c .before .before .i .given .1) (at-find-vr-root .find-vr-root .ensures .0)) (c .is-filled .ensures)
 
 pub has-root-spec : {M : Type 1} → statement M
 has-root-spec =

@@ -20,21 +20,27 @@ enum-known-i c = search needs
 
 add-t7 : tie.Need-add-t7
 add-t7 c =
-    omega (arith, node-laws.within _ (c .before .i .given .1) (c .before .before .before .find-vr-root .ensures .1), c .before .before .before .before .before .before .pre .few)
+    let at-find-vr-root = c .before .before .before in
+    let entry = at-find-vr-root .before .before .before in
+    omega (arith, node-laws.within _ (c .before .i .given .1) (at-find-vr-root .find-vr-root .ensures .1), entry .pre .few)
 
 next-requires : tie.Need-next-requires
 next-requires c κs =
-    (c .before .before .before .before .before .before .pre, node-laws.within _ (c .before .i .given .1) (c .before .before .before .find-vr-root .ensures .1))
+    let at-find-vr-root = c .before .before .before in
+    let entry = at-find-vr-root .before .before .before in
+    (entry .pre, node-laws.within _ (c .before .i .given .1) (at-find-vr-root .find-vr-root .ensures .1))
 
 returns : tie.Need-returns
 unfolding itemsIn
 returns c =
-    rw (node-laws.lacked (c .enum-told .given .1) (c .before .before .find-vr-root .ensures .0)) (laws.along-none (nodesOf (c .before .before .before .before .before .args .bytes .now)))
+    let entry = c .before .before .before .before .before in
+    rw (node-laws.lacked (c .enum-told .given .1) (c .before .before .find-vr-root .ensures .0)) (laws.along-none (nodesOf (entry .args .bytes .now)))
 
 returns-2 : tie.Need-returns-2
 unfolding itemsIn
 returns-2 c =
-    rw (node-laws.had (c .before .before .i .given .1) (c .before .before .before .before .find-vr-root .ensures .0), ← c .next .ensures .0)
+    let at-find-vr-root = c .before .before .before .before in
+    rw (node-laws.had (c .before .before .i .given .1) (at-find-vr-root .find-vr-root .ensures .0), ← c .next .ensures .0)
     (record { ahead = refl; inner = c .next .ensures .1 })
 
 pub items-root-spec : {M : Type 1} → statement M

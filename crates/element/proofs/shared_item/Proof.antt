@@ -16,7 +16,9 @@ enum-known-i c = search needs
 
 the-item-requires : tie.Need-the-item-requires
 the-item-requires c κs =
-    (c .before .before .before .before .before .before .pre, node-laws.within _ (c .before .i .given .1) (c .before .before .before .find-root .ensures .1))
+    let at-find-root = c .before .before .before in
+    let entry = at-find-root .before .before .before in
+    (entry .pre, node-laws.within _ (c .before .i .given .1) (at-find-root .find-root .ensures .1))
 
 returns : tie.Need-returns
 unfolding sharedItem
@@ -26,7 +28,8 @@ returns c =
 returns-2 : tie.Need-returns-2
 unfolding sharedItem
 returns-2 c =
-    (rw (node-laws.had (c .before .before .i .given .1) (c .before .before .before .before .find-root .ensures .0)) (c .the-item .ensures .0), c .the-item .ensures .1)
+    let at-find-root = c .before .before .before .before in
+    (rw (node-laws.had (c .before .before .i .given .1) (at-find-root .find-root .ensures .0)) (c .the-item .ensures .0), c .the-item .ensures .1)
 
 pub shared-item-spec : {M : Type 1} → statement M
 shared-item-spec =

@@ -21,22 +21,33 @@ next-requires-2 c κs = search needs
 
 returns : tie.Need-returns
 returns c =
-    let q = sym (c .before .before .before .before .before .vr .ensures) ∙ c .before .before .before .before .if1 .taken in
-    (sym (laws.one-item-many (nodesOf (c .before .before .before .before .before .before .before .before .args .bytes .now)) (c .before .before .before .before .before .before .before .before .args .i) q (omega (arith, c .before .before .before .next .ensures .0, c .before .before .if2 .taken)) (omega (arith, c .before .before .before .next .ensures .0, c .before .next2 .ensures .0, c .if3 .taken))), tt)
+    let at-next = c .before .before .before in
+    let at-if1 = at-next .before in
+    let at-vr = at-if1 .before in
+    let entry = at-vr .before .before .before in
+    let q = sym (at-vr .vr .ensures) ∙ at-if1 .if1 .taken in
+    (sym (laws.one-item-many (nodesOf (entry .args .bytes .now)) (entry .args .i) q (omega (arith, at-next .next .ensures .0, c .before .before .if2 .taken)) (omega (arith, at-next .next .ensures .0, c .before .next2 .ensures .0, c .if3 .taken))), tt)
 
 returns-2 : tie.Need-returns-2
 returns-2 c =
-    let q = sym (c .before .before .before .before .before .vr .ensures) ∙ c .before .before .before .before .if1 .taken in
-    (sym (laws.one-item-one (nodesOf (c .before .before .before .before .before .before .before .before .args .bytes .now)) (c .before .before .before .before .before .before .before .before .args .i) q (omega (arith, c .before .before .before .next .ensures .0, c .before .before .if2 .taken)) (omega (arith, c .before .before .before .next .ensures .0, c .before .next2 .ensures .0, c .if3 .left))), omega (arith, c .before .before .before .next .ensures .1, c .before .before .if2 .taken))
+    let at-next = c .before .before .before in
+    let at-if1 = at-next .before in
+    let at-vr = at-if1 .before in
+    let entry = at-vr .before .before .before in
+    let q = sym (at-vr .vr .ensures) ∙ at-if1 .if1 .taken in
+    (sym (laws.one-item-one (nodesOf (entry .args .bytes .now)) (entry .args .i) q (omega (arith, at-next .next .ensures .0, c .before .before .if2 .taken)) (omega (arith, at-next .next .ensures .0, c .before .next2 .ensures .0, c .if3 .left))), omega (arith, at-next .next .ensures .1, c .before .before .if2 .taken))
 
 returns-3 : tie.Need-returns-3
 returns-3 c =
-    let q = sym (c .before .before .before .vr .ensures) ∙ c .before .before .if1 .taken in
-    (sym (laws.one-item-none (nodesOf (c .before .before .before .before .before .before .args .bytes .now)) (c .before .before .before .before .before .before .args .i) q (omega (arith, c .before .next .ensures .0, c .if2 .left))), tt)
+    let at-vr = c .before .before .before in
+    let entry = at-vr .before .before .before in
+    let q = sym (at-vr .vr .ensures) ∙ c .before .before .if1 .taken in
+    (sym (laws.one-item-none (nodesOf (entry .args .bytes .now)) (entry .args .i) q (omega (arith, c .before .next .ensures .0, c .if2 .left))), tt)
 
 returns-4 : tie.Need-returns-4
 returns-4 c =
-    (sym (laws.one-item-other (nodesOf (c .before .before .before .before .args .bytes .now)) (c .before .before .before .before .args .i) (λ e. c .if1 .left (c .before .vr .ensures ∙ e))), tt)
+    let entry = c .before .before .before .before in
+    (sym (laws.one-item-other (nodesOf (entry .args .bytes .now)) (entry .args .i) (λ e. c .if1 .left (c .before .vr .ensures ∙ e))), tt)
 
 pub the-item-spec : {M : Type 1} → statement M
 the-item-spec =

@@ -14,7 +14,8 @@ enum-known-found c = search needs
 
 vr-requires : tie.Need-vr-requires
 vr-requires c κs =
-    let p = c .before .before .before .before .before .pre in
+    let entry = c .before .before .before .before .before in
+    let p = entry .pre in
     (p .0, laws.within _ (c .before .found .given .1) (p .1))
 
 returns : tie.Need-returns
@@ -23,12 +24,16 @@ returns c = search needs
 returns-2 : tie.Need-returns-2
 unfolding ofVr
 returns-2 c =
-    let found = c .before .before .before .found .given .1 in
-    (rw (found, ← c .before .vr .ensures, eq-eqb _ _ (c .if1 .taken)), laws.within _ found (c .before .before .before .before .before .before .before .pre .1))
+    let at-found = c .before .before .before in
+    let entry = at-found .before .before .before .before in
+    let found = at-found .found .given .1 in
+    (rw (found, ← c .before .vr .ensures, eq-eqb _ _ (c .if1 .taken)), laws.within _ found (entry .pre .1))
 
 returns-3 : tie.Need-returns-3
 unfolding ofVr
-returns-3 c = (rw (c .before .before .before .found .given .1, ← c .before .vr .ensures, ne-eqb _ _ (c .if1 .left)), tt)
+returns-3 c =
+    let at-found = c .before .before .before in
+    (rw (at-found .found .given .1, ← c .before .vr .ensures, ne-eqb _ _ (c .if1 .left)), tt)
 
 pub vr-at-spec : {M : Type 1} → statement M
 vr-at-spec =

@@ -11,7 +11,7 @@ use Rattle.meta.specs.Meta.{part}
 use Rattle.meta.specs.Contracts.{MetaWithin}
 use Rattle.file.specs.File.{judgeFileOf, rowsLeft}
 use Rattle.file.specs.Searches.{searchesFileOf, countedPart}
-use Rattle.dataset.proofs.Promised.{promised}
+use Rattle.basics.proofs.Promised.{promised}
 use borrow.Author.Needs.{needs}
 use Rattle.file.proofs.judge_file_counted.Statement.{statement}
 use Rattle.file.proofs.judge_file_counted.Tie as tie
@@ -37,15 +37,21 @@ data-set-requires c κs =
 
 sub-count-part : tie.Need-sub-count-part
 sub-count-part c =
-    omega (arith, subst (λ (m : Meta). MetaWithin (length (c .before .before .before .before .before .before .before .args .file .now)) m) (c .before .before .from .given .1) (c .before .before .before .before .read-head .ensures .1))
+    let at-read-head = c .before .before .before .before in
+    let entry = at-read-head .before .before .before in
+    omega (arith, subst (λ (m : Meta). MetaWithin (length (entry .args .file .now)) m) (c .before .before .from .given .1) (at-read-head .read-head .ensures .1))
 
 part-count-part-start : tie.Need-part-count-part-start
 part-count-part-start c =
-    omega (arith, subst (λ (m : Meta). MetaWithin (length (c .before .before .before .before .before .before .before .args .file .now)) m) (c .before .before .from .given .1) (c .before .before .before .before .read-head .ensures .1))
+    let at-read-head = c .before .before .before .before in
+    let entry = at-read-head .before .before .before in
+    omega (arith, subst (λ (m : Meta). MetaWithin (length (entry .args .file .now)) m) (c .before .before .from .given .1) (at-read-head .read-head .ensures .1))
 
 part-count-part-end : tie.Need-part-count-part-end
 part-count-part-end c =
-    omega (arith, subst (λ (m : Meta). MetaWithin (length (c .before .before .before .before .before .before .before .args .file .now)) m) (c .before .before .from .given .1) (c .before .before .before .before .read-head .ensures .1))
+    let at-read-head = c .before .before .before .before in
+    let entry = at-read-head .before .before .before in
+    omega (arith, subst (λ (m : Meta). MetaWithin (length (entry .args .file .now)) m) (c .before .before .from .given .1) (at-read-head .read-head .ensures .1))
 
 count-part-requires : tie.Need-count-part-requires
 count-part-requires c κs = search needs
@@ -71,11 +77,15 @@ same-length c = search needs
 returns-4 : tie.Need-returns-4
 unfolding judgeFileOf rowsLeft searchesFileOf
 returns-4 c =
-    let file = c .before .before .before .before .before .before .before .before .before .before .before .before .args .file .now in
-    let rows = c .before .before .before .before .before .before .before .before .before .before .before .before .args .rows .now in
-    let p = part file (c .before .before .before .before .before .before .before .from .given .0 .1 .0) (c .before .before .before .before .before .before .before .from .given .0 .1 .1 .0) in (
-      rw (← c .before .before .before .before .before .before .before .before .before .read-head .ensures .0, c .before .before .before .before .before .before .before .from .given .1) (promised (c .before .before .count-part .ensures .0 ∙ ap (λ (x : List ℕ). countedPart x p rows) (c .before .before .before .before .before .data-set .ensures .bytes))),
-      rw (← c .before .before .before .before .before .before .before .before .before .read-head .ensures .0, c .before .before .before .before .before .before .before .from .given .1) (c .before .before .count-part .ensures .1 ∙ ap (λ (x : List ℕ). bufferOf (readingOf x) rows) (c .before .before .before .before .before .data-set .ensures .bytes)),
+    let at-data-set = c .before .before .before .before .before in
+    let at-from = at-data-set .before .before in
+    let at-read-head = at-from .before .before in
+    let entry = at-read-head .before .before .before in
+    let file = entry .args .file .now in
+    let rows = entry .args .rows .now in
+    let p = part file (at-from .from .given .0 .1 .0) (at-from .from .given .0 .1 .1 .0) in (
+      rw (← at-read-head .read-head .ensures .0, at-from .from .given .1) (promised (c .before .before .count-part .ensures .0 ∙ ap (λ (x : List ℕ). countedPart x p rows) (at-data-set .data-set .ensures .bytes))),
+      rw (← at-read-head .read-head .ensures .0, at-from .from .given .1) (c .before .before .count-part .ensures .1 ∙ ap (λ (x : List ℕ). bufferOf (readingOf x) rows) (at-data-set .data-set .ensures .bytes)),
     )
 
 pub judge-file-counted-spec : {M : Type 1} → statement M

@@ -26,20 +26,28 @@ enum-known-n c = search needs
 
 mul-end : tie.Need-mul-end
 mul-end c =
-    let t = after-reading (c .before .before .before .before .before .before .before .before .before .before .args .bytes .now) (c .before .before .before .before .before .before .before .before .before .before .args .rows .now) (c .before .before .before .before .before .read .last .1 .0) (c .before .n .given .0 .0) (sym (c .before .n .given .1) ∙ c .before .before .before .before .before .read .ensures .0 .same) (c .before .before .before .before .before .read .ensures .1) in
-    omega (arith, t .1 .size, t .1 .few, length-take-le (7 * c .before .n .given .0 .0) (c .before .before .before .before .before .read .last .1 .0) (t .0))
+    let at-read = c .before .before .before .before .before in
+    let entry = at-read .before .before .before .before .before in
+    let t = after-reading (entry .args .bytes .now) (entry .args .rows .now) (at-read .read .last .1 .0) (c .before .n .given .0 .0) (sym (c .before .n .given .1) ∙ at-read .read .ensures .0 .same) (at-read .read .ensures .1) in
+    omega (arith, t .1 .size, t .1 .few, length-take-le (7 * c .before .n .given .0 .0) (at-read .read .last .1 .0) (t .0))
 
 slice-reshare-prefix-same-class : tie.Need-slice-reshare-prefix-same-class
 slice-reshare-prefix-same-class c =
-    after-reading (c .before .before .before .before .before .before .before .before .before .before .args .bytes .now) (c .before .before .before .before .before .before .before .before .before .before .args .rows .now) (c .before .before .before .before .before .read .last .1 .0) (c .before .n .given .0 .0) (sym (c .before .n .given .1) ∙ c .before .before .before .before .before .read .ensures .0 .same) (c .before .before .before .before .before .read .ensures .1) .0
+    let at-read = c .before .before .before .before .before in
+    let entry = at-read .before .before .before .before .before in
+    after-reading (entry .args .bytes .now) (entry .args .rows .now) (at-read .read .last .1 .0) (c .before .n .given .0 .0) (sym (c .before .n .given .1) ∙ at-read .read .ensures .0 .same) (at-read .read .ensures .1) .0
 
 slice-aggregate-same-class : tie.Need-slice-aggregate-same-class
 slice-aggregate-same-class c =
-    sym (length-take-le _ _ (after-reading (c .before .before .before .before .before .before .before .before .before .before .before .args .bytes .now) (c .before .before .before .before .before .before .before .before .before .before .before .args .rows .now) (c .before .before .before .before .before .before .read .last .1 .0) (c .before .before .n .given .0 .0) (sym (c .before .before .n .given .1) ∙ c .before .before .before .before .before .before .read .ensures .0 .same) (c .before .before .before .before .before .before .read .ensures .1) .0))
+    let at-read = c .before .before .before .before .before .before in
+    let entry = at-read .before .before .before .before .before in
+    sym (length-take-le _ _ (after-reading (entry .args .bytes .now) (entry .args .rows .now) (at-read .read .last .1 .0) (c .before .before .n .given .0 .0) (sym (c .before .before .n .given .1) ∙ at-read .read .ensures .0 .same) (at-read .read .ensures .1) .0))
 
 same-class-requires : tie.Need-same-class-requires
 same-class-requires c κs =
-    after-reading (c .before .before .before .before .before .before .before .before .before .before .before .args .bytes .now) (c .before .before .before .before .before .before .before .before .before .before .before .args .rows .now) (c .before .before .before .before .before .before .read .last .1 .0) (c .before .before .n .given .0 .0) (sym (c .before .before .n .given .1) ∙ c .before .before .before .before .before .before .read .ensures .0 .same) (c .before .before .before .before .before .before .read .ensures .1) .1
+    let at-read = c .before .before .before .before .before .before in
+    let entry = at-read .before .before .before .before .before in
+    after-reading (entry .args .bytes .now) (entry .args .rows .now) (at-read .read .last .1 .0) (c .before .before .n .given .0 .0) (sym (c .before .before .n .given .1) ∙ at-read .read .ensures .0 .same) (at-read .read .ensures .1) .1
 
 same-length : tie.Need-same-length
 same-length c = search needs
@@ -47,7 +55,8 @@ same-length c = search needs
 returns : tie.Need-returns
 unfolding readPart
 returns c =
-    (rw (← c .before .before .before .before .read .ensures .0 .same, c .enum-told .given .1), c .before .before .before .before .read .ensures .1)
+    let at-read = c .before .before .before .before in
+    (rw (← at-read .read .ensures .0 .same, c .enum-told .given .1), at-read .read .ensures .1)
 
 same-length-2 : tie.Need-same-length-2
 same-length-2 c = search needs
@@ -55,7 +64,8 @@ same-length-2 c = search needs
 returns-2 : tie.Need-returns-2
 unfolding readPart
 returns-2 c =
-    (rw (← c .before .before .before .before .before .read .ensures .0 .same, c .before .code .given .1), c .before .before .before .before .before .read .ensures .1)
+    let at-read = c .before .before .before .before .before in
+    (rw (← at-read .read .ensures .0 .same, c .before .code .given .1), at-read .read .ensures .1)
 
 same-length-3 : tie.Need-same-length-3
 same-length-3 c = search needs
@@ -63,7 +73,8 @@ same-length-3 c = search needs
 returns-3 : tie.Need-returns-3
 unfolding readPart
 returns-3 c =
-    (rw (← c .before .before .before .before .read .ensures .0 .same, c .enum-told2 .given .1), c .before .before .before .before .read .ensures .1)
+    let at-read = c .before .before .before .before in
+    (rw (← at-read .read .ensures .0 .same, c .enum-told2 .given .1), at-read .read .ensures .1)
 
 same-length-4 : tie.Need-same-length-4
 same-length-4 c = search needs
@@ -71,7 +82,9 @@ same-length-4 c = search needs
 returns-4 : tie.Need-returns-4
 unfolding readPart
 returns-4 c =
-    (rw (← c .before .before .before .before .before .before .before .before .read .ensures .0 .same, c .before .before .before .before .n .given .1, ← c .before .same-class .ensures, c .if1 .taken), c .before .before .before .before .before .before .before .before .read .ensures .1)
+    let at-n = c .before .before .before .before in
+    let at-read = at-n .before .before .before .before in
+    (rw (← at-read .read .ensures .0 .same, at-n .n .given .1, ← c .before .same-class .ensures, c .if1 .taken), at-read .read .ensures .1)
 
 same-length-5 : tie.Need-same-length-5
 same-length-5 c = search needs
@@ -79,7 +92,9 @@ same-length-5 c = search needs
 returns-5 : tie.Need-returns-5
 unfolding readPart
 returns-5 c =
-    (rw (← c .before .before .before .before .before .before .before .before .read .ensures .0 .same, c .before .before .before .before .n .given .1, ← c .before .same-class .ensures, c .if1 .left), c .before .before .before .before .before .before .before .before .read .ensures .1)
+    let at-n = c .before .before .before .before in
+    let at-read = at-n .before .before .before .before in
+    (rw (← at-read .read .ensures .0 .same, at-n .n .given .1, ← c .before .same-class .ensures, c .if1 .left), at-read .read .ensures .1)
 
 pub read-part-spec : {M : Type 1} → statement M
 read-part-spec =

@@ -21,7 +21,9 @@ is-ui-root-requires c κs = search needs
 returns : tie.Need-returns
 unfolding sameClass
 returns c =
-    rw (← c .before .before .before .has-root .ensures, c .before .before .if1 .taken) (c .is-ui-root .ensures ∙ ap (λ (x : List ℕ). uiIs (nodesOf (c .before .before .before .before .before .before .before .args .bytes .now)) 0x0008_0016 x (root (nodesOf (c .before .before .before .before .before .before .before .args .bytes .now)))) (c .before .trim-end .ensures))
+    let at-has-root = c .before .before .before in
+    let entry = at-has-root .before .before .before .before in
+    rw (← at-has-root .has-root .ensures, c .before .before .if1 .taken) (c .is-ui-root .ensures ∙ ap (λ (x : List ℕ). uiIs (nodesOf (entry .args .bytes .now)) 0x0008_0016 x (root (nodesOf (entry .args .bytes .now)))) (c .before .trim-end .ensures))
 
 returns-2 : tie.Need-returns-2
 unfolding sameClass

@@ -9,7 +9,8 @@ enum-known-answer c = search needs
 
 reported-requires : tie.Need-reported-requires
 reported-requires c κs =
-    left-judged (c .before .before .before .before .before .args .bytes .now) (c .before .before .before .before .before .args .rows .now) (c .before .answer .given .1) (c .before .before .before .before .before .pre)
+    let entry = c .before .before .before .before .before in
+    left-judged (entry .args .bytes .now) (entry .args .rows .now) (c .before .answer .given .1) (entry .pre)
 
 enum-told : tie.Need-enum-told
 enum-told c = search needs

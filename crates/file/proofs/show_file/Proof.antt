@@ -10,7 +10,7 @@ use Rattle.meta.specs.declared.Meta.{Meta}
 use Rattle.meta.specs.Meta.{part}
 use Rattle.meta.specs.Contracts.{MetaWithin}
 use Rattle.file.specs.File.{showPart, imagePart, showFileOf, rowsLeft, imageLeft}
-use Rattle.dataset.proofs.Promised.{promised}
+use Rattle.basics.proofs.Promised.{promised}
 use borrow.Author.Needs.{needs}
 use Rattle.file.proofs.show_file.Statement.{statement}
 use Rattle.file.proofs.show_file.Tie as tie
@@ -36,15 +36,21 @@ data-set-requires c κs =
 
 sub-show-part : tie.Need-sub-show-part
 sub-show-part c =
-    omega (arith, subst (λ (m : Meta). MetaWithin (length (c .before .before .before .before .before .before .before .before .args .file .now)) m) (c .before .before .from .given .1) (c .before .before .before .before .read-head .ensures .1))
+    let at-read-head = c .before .before .before .before in
+    let entry = at-read-head .before .before .before .before in
+    omega (arith, subst (λ (m : Meta). MetaWithin (length (entry .args .file .now)) m) (c .before .before .from .given .1) (at-read-head .read-head .ensures .1))
 
 part-show-part-start : tie.Need-part-show-part-start
 part-show-part-start c =
-    omega (arith, subst (λ (m : Meta). MetaWithin (length (c .before .before .before .before .before .before .before .before .args .file .now)) m) (c .before .before .from .given .1) (c .before .before .before .before .read-head .ensures .1))
+    let at-read-head = c .before .before .before .before in
+    let entry = at-read-head .before .before .before .before in
+    omega (arith, subst (λ (m : Meta). MetaWithin (length (entry .args .file .now)) m) (c .before .before .from .given .1) (at-read-head .read-head .ensures .1))
 
 part-show-part-end : tie.Need-part-show-part-end
 part-show-part-end c =
-    omega (arith, subst (λ (m : Meta). MetaWithin (length (c .before .before .before .before .before .before .before .before .args .file .now)) m) (c .before .before .from .given .1) (c .before .before .before .before .read-head .ensures .1))
+    let at-read-head = c .before .before .before .before in
+    let entry = at-read-head .before .before .before .before in
+    omega (arith, subst (λ (m : Meta). MetaWithin (length (entry .args .file .now)) m) (c .before .before .from .given .1) (at-read-head .read-head .ensures .1))
 
 show-part-requires : tie.Need-show-part-requires
 show-part-requires c κs = search needs
@@ -73,7 +79,12 @@ same-length-2 c = search needs
 returns-4 : tie.Need-returns-4
 unfolding showFileOf rowsLeft imageLeft
 returns-4 c =
-    (promised (rw (← c .before .before .before .before .before .before .before .before .before .before .before .before .read-head .ensures .0, c .before .before .before .before .before .before .before .before .before .before .from .given .1) (c .before .before .before .before .show-part .ensures .0 ∙ ap (λ (x : List ℕ). showPart x (part (c .before .before .before .before .before .before .before .before .before .before .before .before .before .before .before .before .args .file .now) (c .before .before .before .before .before .before .before .before .before .before .from .given .0 .1 .0) (c .before .before .before .before .before .before .before .before .before .before .from .given .0 .1 .1 .0)) (c .before .before .before .before .before .before .before .before .before .before .before .before .before .before .before .before .args .frame) (c .before .before .before .before .before .before .before .before .before .before .before .before .before .before .before .before .args .rows .now) (c .before .before .before .before .before .before .before .before .before .before .before .before .before .before .before .before .args .image .now)) (c .before .before .before .before .before .before .before .before .data-set .ensures .bytes))), (rw (← c .before .before .before .before .before .before .before .before .before .before .before .before .read-head .ensures .0, c .before .before .before .before .before .before .before .before .before .before .from .given .1) (c .before .before .before .before .show-part .ensures .1 .0 ∙ ap (λ (x : List ℕ). bufferOf (readingOf x) (c .before .before .before .before .before .before .before .before .before .before .before .before .before .before .before .before .args .rows .now)) (c .before .before .before .before .before .before .before .before .data-set .ensures .bytes)), rw (← c .before .before .before .before .before .before .before .before .before .before .before .before .read-head .ensures .0, c .before .before .before .before .before .before .before .before .before .before .from .given .1) (c .before .before .before .before .show-part .ensures .1 .1 ∙ ap (λ (x : List ℕ). imagePart x (part (c .before .before .before .before .before .before .before .before .before .before .before .before .before .before .before .before .args .file .now) (c .before .before .before .before .before .before .before .before .before .before .from .given .0 .1 .0) (c .before .before .before .before .before .before .before .before .before .before .from .given .0 .1 .1 .0)) (c .before .before .before .before .before .before .before .before .before .before .before .before .before .before .before .before .args .frame) (c .before .before .before .before .before .before .before .before .before .before .before .before .before .before .before .before .args .rows .now) (c .before .before .before .before .before .before .before .before .before .before .before .before .before .before .before .before .args .image .now)) (c .before .before .before .before .before .before .before .before .data-set .ensures .bytes))))
+    let at-show-part = c .before .before .before .before in
+    let at-data-set = at-show-part .before .before .before .before in
+    let at-from = at-data-set .before .before in
+    let at-read-head = at-from .before .before in
+    let entry = at-read-head .before .before .before .before in
+    (promised (rw (← at-read-head .read-head .ensures .0, at-from .from .given .1) (at-show-part .show-part .ensures .0 ∙ ap (λ (x : List ℕ). showPart x (part (entry .args .file .now) (at-from .from .given .0 .1 .0) (at-from .from .given .0 .1 .1 .0)) (entry .args .frame) (entry .args .rows .now) (entry .args .image .now)) (at-data-set .data-set .ensures .bytes))), (rw (← at-read-head .read-head .ensures .0, at-from .from .given .1) (at-show-part .show-part .ensures .1 .0 ∙ ap (λ (x : List ℕ). bufferOf (readingOf x) (entry .args .rows .now)) (at-data-set .data-set .ensures .bytes)), rw (← at-read-head .read-head .ensures .0, at-from .from .given .1) (at-show-part .show-part .ensures .1 .1 ∙ ap (λ (x : List ℕ). imagePart x (part (entry .args .file .now) (at-from .from .given .0 .1 .0) (at-from .from .given .0 .1 .1 .0)) (entry .args .frame) (entry .args .rows .now) (entry .args .image .now)) (at-data-set .data-set .ensures .bytes))))
 
 pub show-file-spec : {M : Type 1} → statement M
 show-file-spec =

@@ -33,7 +33,8 @@ array-read-if1 c = search needs
 
 returns : tie.Need-returns Inv-loop μ-loop
 returns c =
-    sym (laws.fresh-marked _ _ _ _ _ (c .before .id-of .ensures .0) (c .before .before .loop-test .taken) (c .if1 .taken)) ∙ c .before .before .before .loop .inv .1
+    let at-loop = c .before .before .before in
+    sym (laws.fresh-marked _ _ _ _ _ (c .before .id-of .ensures .0) (c .before .before .loop-test .taken) (c .if1 .taken)) ∙ at-loop .loop .inv .1
 
 array-write-marks : tie.Need-array-write-marks Inv-loop μ-loop
 array-write-marks c = search needs
@@ -46,7 +47,9 @@ loop-less c = search needs
 
 loop-again : tie.Need-loop-again Inv-loop μ-loop
 loop-again c =
-    (omega (arith, length-set (c .before .before .before .before .loop .marks) (c .before .before .id-of .result) 1, c .before .before .before .before .loop .inv .0), rw (c .next .ensures .0) (laws.fresh-later _ _ _ _ _ (c .before .before .id-of .ensures .0) (c .before .before .before .loop-test .taken) (omega (arith, c .before .before .id-of .ensures .1, c .before .before .before .before .loop .inv .0)) (c .before .if1 .left) ∙ c .before .before .before .before .loop .inv .1))
+    let at-loop-test = c .before .before .before in
+    let at-loop = at-loop-test .before in
+    (omega (arith, length-set (at-loop .loop .marks) (c .before .before .id-of .result) 1, at-loop .loop .inv .0), rw (c .next .ensures .0) (laws.fresh-later _ _ _ _ _ (c .before .before .id-of .ensures .0) (at-loop-test .loop-test .taken) (omega (arith, c .before .before .id-of .ensures .1, at-loop .loop .inv .0)) (c .before .if1 .left) ∙ at-loop .loop .inv .1))
 
 returns-2 : tie.Need-returns-2 Inv-loop μ-loop
 returns-2 c =

@@ -29,14 +29,20 @@ is-among-requires c κs = search needs
 
 returns : tie.Need-returns Inv-loop μ-loop
 returns c =
-    sym (laws.unique-twice _ _ _ _ _ (c .before .before .id-of .ensures .0) (c .before .before .before .next .ensures .0) (c .before .before .before .before .loop-test .taken) (sym (c .before .is-among .ensures) ∙ c .if1 .taken)) ∙ c .before .before .before .before .before .loop .inv
+    let at-next = c .before .before .before in
+    let at-loop-test = at-next .before in
+    let at-loop = at-loop-test .before in
+    sym (laws.unique-twice _ _ _ _ _ (c .before .before .id-of .ensures .0) (at-next .next .ensures .0) (at-loop-test .loop-test .taken) (sym (c .before .is-among .ensures) ∙ c .if1 .taken)) ∙ at-loop .loop .inv
 
 loop-less : tie.Need-loop-less Inv-loop μ-loop
 loop-less c = search needs
 
 loop-again : tie.Need-loop-again Inv-loop μ-loop
 loop-again c =
-    sym (laws.unique-later _ _ _ _ _ (c .before .before .id-of .ensures .0) (c .before .before .before .next .ensures .0) (c .before .before .before .before .loop-test .taken) (sym (c .before .is-among .ensures) ∙ c .if1 .left)) ∙ c .before .before .before .before .before .loop .inv
+    let at-next = c .before .before .before in
+    let at-loop-test = at-next .before in
+    let at-loop = at-loop-test .before in
+    sym (laws.unique-later _ _ _ _ _ (c .before .before .id-of .ensures .0) (at-next .next .ensures .0) (at-loop-test .loop-test .taken) (sym (c .before .is-among .ensures) ∙ c .if1 .left)) ∙ at-loop .loop .inv
 
 returns-2 : tie.Need-returns-2 Inv-loop μ-loop
 returns-2 c =

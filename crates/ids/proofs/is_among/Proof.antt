@@ -24,7 +24,8 @@ id-of-requires c κs = search needs
 
 returns : tie.Need-returns Inv-loop μ-loop
 returns c =
-    sym (laws.among-here _ _ _ _ (c .before .before .loop-test .taken) (sym (c .before .id-of .ensures .0) ∙ c .if1 .taken)) ∙ c .before .before .before .loop .inv
+    let at-loop = c .before .before .before in
+    sym (laws.among-here _ _ _ _ (c .before .before .loop-test .taken) (sym (c .before .id-of .ensures .0) ∙ c .if1 .taken)) ∙ at-loop .loop .inv
 
 next-requires : tie.Need-next-requires Inv-loop μ-loop
 next-requires c κs = search needs
@@ -34,7 +35,9 @@ loop-less c = search needs
 
 loop-again : tie.Need-loop-again Inv-loop μ-loop
 loop-again c =
-    rw (c .next .ensures .0) (sym (laws.among-later _ _ _ _ (c .before .before .before .loop-test .taken) (λ e. c .before .if1 .left (c .before .before .id-of .ensures .0 ∙ e))) ∙ c .before .before .before .before .loop .inv)
+    let at-loop-test = c .before .before .before in
+    let at-loop = at-loop-test .before in
+    rw (c .next .ensures .0) (sym (laws.among-later _ _ _ _ (at-loop-test .loop-test .taken) (λ e. c .before .if1 .left (c .before .before .id-of .ensures .0 ∙ e))) ∙ at-loop .loop .inv)
 
 returns-2 : tie.Need-returns-2 Inv-loop μ-loop
 returns-2 c =

@@ -31,15 +31,22 @@ enum-told-2 c = search needs
 returns-2 : tie.Need-returns-2
 unfolding hasLut
 returns-2 c =
-    rw (node-laws.had (c .before .before .before .before .d .given .1) (c .before .before .before .before .before .before .find-vr-item .ensures .0), node-laws.lacked (c .enum-told2 .given .1) (c .before .before .find-vr-item2 .ensures .0))
+    let at-d = c .before .before .before .before in
+    let at-find-vr-item = at-d .before .before in
+    rw (node-laws.had (at-d .d .given .1) (at-find-vr-item .find-vr-item .ensures .0), node-laws.lacked (c .enum-told2 .given .1) (c .before .before .find-vr-item2 .ensures .0))
 
 value-requires : tie.Need-value-requires
 value-requires c κs =
-    (c .before .before .before .before .before .before .before .before .before .before .pre .0, node-laws.within _ (c .before .before .before .before .before .d .given .1) (c .before .before .before .before .before .before .before .find-vr-item .ensures .1))
+    let at-d = c .before .before .before .before .before in
+    let at-find-vr-item = at-d .before .before in
+    let entry = at-find-vr-item .before .before .before in
+    (entry .pre .0, node-laws.within _ (at-d .d .given .1) (at-find-vr-item .find-vr-item .ensures .1))
 
 value-requires-2 : tie.Need-value-requires-2
 value-requires-2 c κs =
-    (c .before .before .before .before .before .before .before .before .before .before .before .pre .0, node-laws.within _ (c .before .before .t .given .1) (c .before .before .before .before .find-vr-item2 .ensures .1))
+    let at-find-vr-item2 = c .before .before .before .before in
+    let entry = at-find-vr-item2 .before .before .before .before .before .before .before in
+    (entry .pre .0, node-laws.within _ (c .before .before .t .given .1) (at-find-vr-item2 .find-vr-item2 .ensures .1))
 
 is-lut-requires : tie.Need-is-lut-requires
 is-lut-requires c κs = search needs
@@ -47,7 +54,11 @@ is-lut-requires c κs = search needs
 returns-3 : tie.Need-returns-3
 unfolding hasLut
 returns-3 c =
-    rw (node-laws.had (c .before .before .before .before .before .before .before .before .d .given .1) (c .before .before .before .before .before .before .before .before .before .before .find-vr-item .ensures .0), node-laws.had (c .before .before .before .before .t .given .1) (c .before .before .before .before .before .before .find-vr-item2 .ensures .0), ← c .before .before .value .ensures, ← c .before .value2 .ensures) (c .is-lut .ensures)
+    let at-t = c .before .before .before .before in
+    let at-find-vr-item2 = at-t .before .before in
+    let at-d = at-find-vr-item2 .before .before in
+    let at-find-vr-item = at-d .before .before in
+    rw (node-laws.had (at-d .d .given .1) (at-find-vr-item .find-vr-item .ensures .0), node-laws.had (at-t .t .given .1) (at-find-vr-item2 .find-vr-item2 .ensures .0), ← c .before .before .value .ensures, ← c .before .value2 .ensures) (c .is-lut .ensures)
 
 pub has-lut-spec : {M : Type 1} → statement M
 has-lut-spec =

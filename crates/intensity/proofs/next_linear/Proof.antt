@@ -22,15 +22,18 @@ loop-holds c =
 
 is-linear-requires : tie.Need-is-linear-requires Inv-loop μ-loop
 is-linear-requires c κs =
-    (c .before .before .before .before .pre .0, omega (arith, c .loop-test .taken, c .before .before .before .before .pre .1))
+    let entry = c .before .before .before .before in
+    (entry .pre .0, omega (arith, c .loop-test .taken, entry .pre .1))
 
 returns : tie.Need-returns Inv-loop μ-loop
 returns c =
-    record { same = c .before .before .before .loop .inv; stands = λ h. sym (c .before .is-linear .ensures) ∙ c .if1 .taken }
+    let at-loop = c .before .before .before in
+    record { same = at-loop .loop .inv; stands = λ h. sym (c .before .is-linear .ensures) ∙ c .if1 .taken }
 
 next-requires : tie.Need-next-requires Inv-loop μ-loop
 next-requires c κs =
-    (c .before .before .before .before .before .before .pre .0, omega (arith, c .before .before .loop-test .taken, c .before .before .before .before .before .before .pre .1))
+    let entry = c .before .before .before .before .before .before in
+    (entry .pre .0, omega (arith, c .before .before .loop-test .taken, entry .pre .1))
 
 loop-less : tie.Need-loop-less Inv-loop μ-loop
 loop-less c =
@@ -38,7 +41,9 @@ loop-less c =
 
 loop-again : tie.Need-loop-again Inv-loop μ-loop
 loop-again c =
-    rw (c .next .ensures .0) (sym (laws.linear-later _ _ _ (c .before .before .before .loop-test .taken) (sym (c .before .before .is-linear .ensures) ∙ c .before .if1 .left)) ∙ c .before .before .before .before .loop .inv)
+    let at-loop-test = c .before .before .before in
+    let at-loop = at-loop-test .before in
+    rw (c .next .ensures .0) (sym (laws.linear-later _ _ _ (at-loop-test .loop-test .taken) (sym (c .before .before .is-linear .ensures) ∙ c .before .if1 .left)) ∙ at-loop .loop .inv)
 
 returns-2 : tie.Need-returns-2 Inv-loop μ-loop
 returns-2 c =

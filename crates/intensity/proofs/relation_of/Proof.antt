@@ -21,7 +21,9 @@ slice-aggregate-is-cs-item c = search needs
 
 is-cs-item-requires : tie.Need-is-cs-item-requires
 is-cs-item-requires c κs =
-    (c .before .before .before .before .before .before .before .pre .0, node-laws.within _ (c .before .before .j .given .1) (c .before .before .before .before .the-item .ensures .1))
+    let at-the-item = c .before .before .before .before in
+    let entry = at-the-item .before .before .before in
+    (entry .pre .0, node-laws.within _ (c .before .before .j .given .1) (at-the-item .the-item .ensures .1))
 
 returns : tie.Need-returns
 unfolding relationOf
@@ -31,12 +33,16 @@ returns c =
 returns-2 : tie.Need-returns-2
 unfolding relationOf isLog
 returns-2 c =
-    rw (← element-laws.one-item-is _ _ _ (node-laws.had (c .before .before .before .before .j .given .1) (c .before .before .before .before .before .before .the-item .ensures .0)), node-laws.had (c .before .before .before .before .j .given .1) (c .before .before .before .before .before .before .the-item .ensures .0), ← c .before .is-cs-item .ensures, c .if1 .taken)
+    let at-j = c .before .before .before .before in
+    let at-the-item = at-j .before .before in
+    rw (← element-laws.one-item-is _ _ _ (node-laws.had (at-j .j .given .1) (at-the-item .the-item .ensures .0)), node-laws.had (at-j .j .given .1) (at-the-item .the-item .ensures .0), ← c .before .is-cs-item .ensures, c .if1 .taken)
 
 returns-3 : tie.Need-returns-3
 unfolding relationOf isLog
 returns-3 c =
-    rw (← element-laws.one-item-is _ _ _ (node-laws.had (c .before .before .before .before .j .given .1) (c .before .before .before .before .before .before .the-item .ensures .0)), node-laws.had (c .before .before .before .before .j .given .1) (c .before .before .before .before .before .before .the-item .ensures .0), ← c .before .is-cs-item .ensures, c .if1 .left)
+    let at-j = c .before .before .before .before in
+    let at-the-item = at-j .before .before in
+    rw (← element-laws.one-item-is _ _ _ (node-laws.had (at-j .j .given .1) (at-the-item .the-item .ensures .0)), node-laws.had (at-j .j .given .1) (at-the-item .the-item .ensures .0), ← c .before .is-cs-item .ensures, c .if1 .left)
 
 pub relation-of-spec : {M : Type 1} → statement M
 relation-of-spec =

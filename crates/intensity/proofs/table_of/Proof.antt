@@ -22,12 +22,15 @@ luts-of-requires c κs = search needs
 returns : tie.Need-returns
 unfolding tableOf isLutGroup hasLinear lutsOf
 returns c =
-    rw (← c .before .before .before .before .vr .ensures, eq-eqb _ _ (c .before .before .before .if1 .taken), ← c .before .before .next .ensures .0, members-some _ _ _ (c .before .if2 .taken)) (c .luts-of .ensures)
+    let at-if1 = c .before .before .before in
+    let at-vr = at-if1 .before in
+    rw (← at-vr .vr .ensures, eq-eqb _ _ (at-if1 .if1 .taken), ← c .before .before .next .ensures .0, members-some _ _ _ (c .before .if2 .taken)) (c .luts-of .ensures)
 
 returns-2 : tie.Need-returns-2
 unfolding tableOf isLutGroup
 returns-2 c =
-    rw (← c .before .before .before .vr .ensures, eq-eqb _ _ (c .before .before .if1 .taken), ← c .before .next .ensures .0, members-none _ _ _ (c .if2 .left))
+    let at-vr = c .before .before .before in
+    rw (← at-vr .vr .ensures, eq-eqb _ _ (c .before .before .if1 .taken), ← c .before .next .ensures .0, members-none _ _ _ (c .if2 .left))
 
 returns-3 : tie.Need-returns-3
 unfolding tableOf isLutGroup

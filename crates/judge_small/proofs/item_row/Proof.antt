@@ -18,18 +18,25 @@ enum-known-i c = search needs
 
 add-result : tie.Need-add-result
 add-result c =
-    omega (arith, node-laws.within _ (c .before .i .given .1) (c .before .before .before .item-at .ensures .1), c .before .before .before .before .before .before .before .pre .few)
+    let at-item-at = c .before .before .before in
+    let entry = at-item-at .before .before .before .before in
+    omega (arith, node-laws.within _ (c .before .i .given .1) (at-item-at .item-at .ensures .1), entry .pre .few)
 
 enum-told : tie.Need-enum-told
 enum-told c = search needs
 
 returns-2 : tie.Need-returns-2
 returns-2 c =
-    rw (ne-eqb (c .before .before .before .before .before .before .before .args .frame) 0 (c .before .before .before .before .if1 .left), node-laws.had (c .before .i .given .1) (c .before .before .before .item-at .ensures .0))
+    let at-item-at = c .before .before .before in
+    let at-if1 = at-item-at .before in
+    let entry = at-if1 .before .before .before in
+    rw (ne-eqb (entry .args .frame) 0 (at-if1 .if1 .left), node-laws.had (c .before .i .given .1) (at-item-at .item-at .ensures .0))
 
 returns-3 : tie.Need-returns-3
 returns-3 c =
-    rw (ne-eqb (c .before .before .before .before .before .before .args .frame) 0 (c .before .before .before .if1 .left), node-laws.lacked (c .enum-told .given .1) (c .before .before .item-at .ensures .0))
+    let at-if1 = c .before .before .before in
+    let entry = at-if1 .before .before .before in
+    rw (ne-eqb (entry .args .frame) 0 (at-if1 .if1 .left), node-laws.lacked (c .enum-told .given .1) (c .before .before .item-at .ensures .0))
 
 pub item-row-spec : {M : Type 1} → statement M
 item-row-spec =

@@ -24,28 +24,38 @@ enum-known-answer c = search needs
 
 returns : tie.Need-returns
 returns c =
-    laws.not-broken (nodesOf (c .before .before .before .before .before .before .args .bytes .now)) (c .before .before .judge .result) (c .match .keys2) ∙ laws.roomy-located _ _ (omega (arith, c .before .before .before .before .row-buffer .ensures, c .before .before .before .before .before .before .pre)) _ (c .before .before .judge .ensures .0 .same)
+    let at-row-buffer = c .before .before .before .before in
+    let entry = at-row-buffer .before .before in
+    laws.not-broken (nodesOf (entry .args .bytes .now)) (c .before .before .judge .result) (c .match .keys2) ∙ laws.roomy-located _ _ (omega (arith, at-row-buffer .row-buffer .ensures, entry .pre)) _ (c .before .before .judge .ensures .0 .same)
 
 mul-end : tie.Need-mul-end
 mul-end c =
-    let t = laws.after-broken _ _ _ _ _ _ (sym (c .before .answer .given .1) ∙ c .before .before .before .before .judge .ensures .0 .same) (c .before .before .before .before .judge .ensures .1) in
-    omega (arith, t .1 .size, t .1 .few, length-take-le (7 * c .before .answer .given .0 .0) (c .before .before .before .before .judge .last .1 .0) (t .0))
+    let at-judge = c .before .before .before .before in
+    let t = laws.after-broken _ _ _ _ _ _ (sym (c .before .answer .given .1) ∙ at-judge .judge .ensures .0 .same) (at-judge .judge .ensures .1) in
+    omega (arith, t .1 .size, t .1 .few, length-take-le (7 * c .before .answer .given .0 .0) (at-judge .judge .last .1 .0) (t .0))
 
 array-share-prefix-rows : tie.Need-array-share-prefix-rows
 array-share-prefix-rows c =
-    laws.after-broken _ _ _ _ _ _ (sym (c .before .answer .given .1) ∙ c .before .before .before .before .judge .ensures .0 .same) (c .before .before .before .before .judge .ensures .1) .0
+    let at-judge = c .before .before .before .before in
+    laws.after-broken _ _ _ _ _ _ (sym (c .before .answer .given .1) ∙ at-judge .judge .ensures .0 .same) (at-judge .judge .ensures .1) .0
 
 slice-aggregate-broken-at : tie.Need-slice-aggregate-broken-at
 slice-aggregate-broken-at c =
-    sym (length-take-le _ _ (laws.after-broken _ _ _ _ _ _ (sym (c .before .before .answer .given .1) ∙ c .before .before .before .before .before .judge .ensures .0 .same) (c .before .before .before .before .before .judge .ensures .1) .0))
+    let at-judge = c .before .before .before .before .before in
+    sym (length-take-le _ _ (laws.after-broken _ _ _ _ _ _ (sym (c .before .before .answer .given .1) ∙ at-judge .judge .ensures .0 .same) (at-judge .judge .ensures .1) .0))
 
 broken-at-requires : tie.Need-broken-at-requires
 broken-at-requires c κs =
-    laws.after-broken _ _ _ _ _ _ (sym (c .before .before .answer .given .1) ∙ c .before .before .before .before .before .judge .ensures .0 .same) (c .before .before .before .before .before .judge .ensures .1) .1
+    let at-judge = c .before .before .before .before .before in
+    laws.after-broken _ _ _ _ _ _ (sym (c .before .before .answer .given .1) ∙ at-judge .judge .ensures .0 .same) (at-judge .judge .ensures .1) .1
 
 returns-2 : tie.Need-returns-2
 returns-2 c =
-    c .broken-at .ensures ∙ laws.roomy-located _ _ (omega (arith, c .before .before .before .before .before .before .before .before .row-buffer .ensures, c .before .before .before .before .before .before .before .before .before .before .pre)) _ (sym (c .before .before .before .answer .given .1) ∙ c .before .before .before .before .before .before .judge .ensures .0 .same)
+    let at-answer = c .before .before .before in
+    let at-judge = at-answer .before .before .before in
+    let at-row-buffer = at-judge .before .before in
+    let entry = at-row-buffer .before .before in
+    c .broken-at .ensures ∙ laws.roomy-located _ _ (omega (arith, at-row-buffer .row-buffer .ensures, entry .pre)) _ (sym (at-answer .answer .given .1) ∙ at-judge .judge .ensures .0 .same)
 
 pub judge-located-spec : {M : Type 1} → statement M
 judge-located-spec =

@@ -17,7 +17,9 @@ judge-requires c κs = search needs
 
 returns : tie.Need-returns
 returns c =
-    c .before .judge .ensures .0 .same ∙ roomy _ _ (omega (arith, c .before .before .before .row-buffer .ensures, c .before .before .before .before .before .pre))
+    let at-row-buffer = c .before .before .before in
+    let entry = at-row-buffer .before .before in
+    c .before .judge .ensures .0 .same ∙ roomy _ _ (omega (arith, at-row-buffer .row-buffer .ensures, entry .pre))
 
 pub judge-small-spec : {M : Type 1} → statement M
 judge-small-spec =

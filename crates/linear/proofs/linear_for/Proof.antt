@@ -23,7 +23,9 @@ enum-known-g c = search needs
 
 linear-on-requires : tie.Need-linear-on-requires
 linear-on-requires c κs =
-    (c .before .before .before .before .before .before .before .pre, steps-laws.found-within _ (c .before .g .given .1) (c .before .before .before .group-for .ensures .1))
+    let at-group-for = c .before .before .before in
+    let entry = at-group-for .before .before .before .before in
+    (entry .pre, steps-laws.found-within _ (c .before .g .given .1) (at-group-for .group-for .ensures .1))
 
 returns : tie.Need-returns
 unfolding linearFor
@@ -38,7 +40,8 @@ returns-2 c =
 returns-3 : tie.Need-returns-3
 unfolding linearFor
 returns-3 c =
-    (rw (steps-laws.said foundOf (c .before .before .g .given .1) (c .before .before .before .before .group-for .ensures .0)) (c .linear-on .ensures .0), c .linear-on .ensures .1)
+    let at-group-for = c .before .before .before .before in
+    (rw (steps-laws.said foundOf (c .before .before .g .given .1) (at-group-for .group-for .ensures .0)) (c .linear-on .ensures .0), c .linear-on .ensures .1)
 
 pub linear-for-spec : {M : Type 1} → statement M
 linear-for-spec =

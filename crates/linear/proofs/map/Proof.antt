@@ -20,7 +20,8 @@ enum-told c = search needs
 
 returns : tie.Need-returns
 returns c =
-    absurd (maps.no-geometry _ _ _ _ (c .before .before .before .before .before .before .pre .1 .1) (steps-laws.said sizedOf (c .enum-told .given .1) (c .before .before .geometry-of .ensures .0)))
+    let entry = c .before .before .before .before .before .before in
+    absurd (maps.no-geometry _ _ _ _ (entry .pre .1 .1) (steps-laws.said sizedOf (c .enum-told .given .1) (c .before .before .geometry-of .ensures .0)))
 
 pixel-element-requires : tie.Need-pixel-element-requires
 pixel-element-requires c κs = search needs
@@ -33,7 +34,8 @@ enum-told-2 c = search needs
 
 returns-2 : tie.Need-returns-2
 returns-2 c =
-    absurd (maps.no-pixels _ _ _ _ (c .before .before .before .before .before .before .before .before .before .before .pre .1 .1) (steps-laws.said (valueIn (nodesOf (c .before .before .before .before .before .before .before .before .before .before .args .bytes .now))) (c .enum-told2 .given .1) (c .before .before .pixel-element .ensures .0)))
+    let entry = c .before .before .before .before .before .before .before .before .before .before in
+    absurd (maps.no-pixels _ _ _ _ (entry .pre .1 .1) (steps-laws.said (valueIn (nodesOf (entry .args .bytes .now))) (c .enum-told2 .given .1) (c .before .before .pixel-element .ensures .0)))
 
 find-vr-item-requires : tie.Need-find-vr-item-requires
 find-vr-item-requires c κs = search needs
@@ -46,7 +48,8 @@ enum-told-3 c = search needs
 
 returns-3 : tie.Need-returns-3
 returns-3 c =
-    absurd (maps.no-descriptor _ _ _ _ (c .before .before .before .before .before .before .before .before .before .before .before .before .before .before .pre .1 .1) (node-laws.lacked (c .enum-told3 .given .1) (c .before .before .find-vr-item .ensures .0)))
+    let entry = c .before .before .before .before .before .before .before .before .before .before .before .before .before .before in
+    absurd (maps.no-descriptor _ _ _ _ (entry .pre .1 .1) (node-laws.lacked (c .enum-told3 .given .1) (c .before .before .find-vr-item .ensures .0)))
 
 find-vr-item-requires-2 : tie.Need-find-vr-item-requires-2
 find-vr-item-requires-2 c κs = search needs
@@ -59,30 +62,64 @@ enum-told-4 c = search needs
 
 returns-4 : tie.Need-returns-4
 returns-4 c =
-    absurd (maps.no-data _ _ _ _ (c .before .before .before .before .before .before .before .before .before .before .before .before .before .before .before .before .before .before .pre .1 .1) _ (node-laws.had (c .before .before .before .before .d .given .1) (c .before .before .before .before .before .before .find-vr-item .ensures .0)) (node-laws.lacked (c .enum-told4 .given .1) (c .before .before .find-vr-item2 .ensures .0)))
+    let at-d = c .before .before .before .before in
+    let at-find-vr-item = at-d .before .before in
+    let entry = at-find-vr-item .before .before .before .before .before .before .before .before .before .before .before .before in
+    absurd (maps.no-data _ _ _ _ (entry .pre .1 .1) _ (node-laws.had (at-d .d .given .1) (at-find-vr-item .find-vr-item .ensures .0)) (node-laws.lacked (c .enum-told4 .given .1) (c .before .before .find-vr-item2 .ensures .0)))
 
 value-requires : tie.Need-value-requires
 value-requires c κs =
-    (c .before .before .before .before .before .before .before .before .before .before .before .before .before .before .before .before .before .before .before .pre .0, node-laws.within _ (c .before .before .before .before .before .before .before .before .before .p .given .1) (c .before .before .before .before .before .before .before .before .before .before .before .pixel-element .ensures .1))
+    let at-p = c .before .before .before .before .before .before .before .before .before in
+    let at-pixel-element = at-p .before .before in
+    let entry = at-pixel-element .before .before .before .before .before .before .before .before in
+    (entry .pre .0, node-laws.within _ (at-p .p .given .1) (at-pixel-element .pixel-element .ensures .1))
 
 value-requires-2 : tie.Need-value-requires-2
 value-requires-2 c κs =
-    (c .before .before .before .before .before .before .before .before .before .before .before .before .before .before .before .before .before .before .before .before .pre .0, node-laws.within _ (c .before .before .before .before .before .before .d .given .1) (c .before .before .before .before .before .before .before .before .find-vr-item .ensures .1))
+    let at-d = c .before .before .before .before .before .before in
+    let at-find-vr-item = at-d .before .before in
+    let entry = at-find-vr-item .before .before .before .before .before .before .before .before .before .before .before .before in
+    (entry .pre .0, node-laws.within _ (at-d .d .given .1) (at-find-vr-item .find-vr-item .ensures .1))
 
 value-requires-3 : tie.Need-value-requires-3
 value-requires-3 c κs =
-    (c .before .before .before .before .before .before .before .before .before .before .before .before .before .before .before .before .before .before .before .before .before .pre .0, node-laws.within _ (c .before .before .before .t .given .1) (c .before .before .before .before .before .find-vr-item2 .ensures .1))
+    let at-t = c .before .before .before in
+    let at-find-vr-item2 = at-t .before .before in
+    let entry = at-find-vr-item2 .before .before .before .before .before .before .before .before .before .before .before .before .before .before .before .before in
+    (entry .pre .0, node-laws.within _ (at-t .t .given .1) (at-find-vr-item2 .find-vr-item2 .ensures .1))
 
 map-cells-requires : tie.Need-map-cells-requires
 map-cells-requires c κs =
-    rw (c .before .before .before .value .ensures, c .before .before .value2 .ensures, c .before .value3 .ensures) (maps.ready _ _ _ _ (c .before .before .before .before .before .before .before .before .before .before .before .before .before .before .before .before .before .before .before .before .before .before .before .pre .1 .1) _ _ _ _ (steps-laws.said sizedOf (c .before .before .before .before .before .before .before .before .before .before .before .before .before .before .before .before .before .g .given .1) (c .before .before .before .before .before .before .before .before .before .before .before .before .before .before .before .before .before .before .before .geometry-of .ensures .0)) (steps-laws.said (valueIn (nodesOf (c .before .before .before .before .before .before .before .before .before .before .before .before .before .before .before .before .before .before .before .before .before .before .before .args .bytes .now))) (c .before .before .before .before .before .before .before .before .before .before .before .before .before .p .given .1) (c .before .before .before .before .before .before .before .before .before .before .before .before .before .before .before .pixel-element .ensures .0)) (node-laws.had (c .before .before .before .before .before .before .before .before .before .d .given .1) (c .before .before .before .before .before .before .before .before .before .before .before .find-vr-item .ensures .0)) (node-laws.had (c .before .before .before .before .before .t .given .1) (c .before .before .before .before .before .before .before .find-vr-item2 .ensures .0)) (c .before .before .before .before .before .before .before .before .before .before .before .before .before .before .before .before .before .before .before .before .before .before .before .args .values .now) refl)
+    let at-value = c .before .before .before in
+    let at-t = at-value .before .before in
+    let at-find-vr-item2 = at-t .before .before in
+    let at-d = at-find-vr-item2 .before .before in
+    let at-find-vr-item = at-d .before .before in
+    let at-p = at-find-vr-item .before .before in
+    let at-pixel-element = at-p .before .before in
+    let at-g = at-pixel-element .before .before in
+    let at-geometry-of = at-g .before .before in
+    let entry = at-geometry-of .before .before .before .before in
+    rw (at-value .value .ensures, c .before .before .value2 .ensures, c .before .value3 .ensures) (maps.ready _ _ _ _ (entry .pre .1 .1) _ _ _ _ (steps-laws.said sizedOf (at-g .g .given .1) (at-geometry-of .geometry-of .ensures .0)) (steps-laws.said (valueIn (nodesOf (entry .args .bytes .now))) (at-p .p .given .1) (at-pixel-element .pixel-element .ensures .0)) (node-laws.had (at-d .d .given .1) (at-find-vr-item .find-vr-item .ensures .0)) (node-laws.had (at-t .t .given .1) (at-find-vr-item2 .find-vr-item2 .ensures .0)) (entry .args .values .now) refl)
 
 same-length : tie.Need-same-length
 same-length c = search needs
 
 returns-5 : tie.Need-returns-5
 returns-5 c =
-    c .before .before .map-cells .ensures ∙ rw (c .before .before .before .before .before .before .value .ensures, c .before .before .before .before .before .value2 .ensures, c .before .before .before .before .value3 .ensures) (maps.leaves _ _ _ _ (c .before .before .before .before .before .before .before .before .before .before .before .before .before .before .before .before .before .before .before .before .before .before .before .before .before .before .pre .1 .1) _ _ _ _ (steps-laws.said sizedOf (c .before .before .before .before .before .before .before .before .before .before .before .before .before .before .before .before .before .before .before .before .g .given .1) (c .before .before .before .before .before .before .before .before .before .before .before .before .before .before .before .before .before .before .before .before .before .before .geometry-of .ensures .0)) (steps-laws.said (valueIn (nodesOf (c .before .before .before .before .before .before .before .before .before .before .before .before .before .before .before .before .before .before .before .before .before .before .before .before .before .before .args .bytes .now))) (c .before .before .before .before .before .before .before .before .before .before .before .before .before .before .before .before .p .given .1) (c .before .before .before .before .before .before .before .before .before .before .before .before .before .before .before .before .before .before .pixel-element .ensures .0)) (node-laws.had (c .before .before .before .before .before .before .before .before .before .before .before .before .d .given .1) (c .before .before .before .before .before .before .before .before .before .before .before .before .before .before .find-vr-item .ensures .0)) (node-laws.had (c .before .before .before .before .before .before .before .before .t .given .1) (c .before .before .before .before .before .before .before .before .before .before .find-vr-item2 .ensures .0)) (c .before .before .before .before .before .before .before .before .before .before .before .before .before .before .before .before .before .before .before .before .before .before .before .before .before .before .args .values .now) refl)
+    let at-value3 = c .before .before .before .before in
+    let at-value2 = at-value3 .before in
+    let at-value = at-value2 .before in
+    let at-t = at-value .before .before in
+    let at-find-vr-item2 = at-t .before .before in
+    let at-d = at-find-vr-item2 .before .before in
+    let at-find-vr-item = at-d .before .before in
+    let at-p = at-find-vr-item .before .before in
+    let at-pixel-element = at-p .before .before in
+    let at-g = at-pixel-element .before .before in
+    let at-geometry-of = at-g .before .before in
+    let entry = at-geometry-of .before .before .before .before in
+    c .before .before .map-cells .ensures ∙ rw (at-value .value .ensures, at-value2 .value2 .ensures, at-value3 .value3 .ensures) (maps.leaves _ _ _ _ (entry .pre .1 .1) _ _ _ _ (steps-laws.said sizedOf (at-g .g .given .1) (at-geometry-of .geometry-of .ensures .0)) (steps-laws.said (valueIn (nodesOf (entry .args .bytes .now))) (at-p .p .given .1) (at-pixel-element .pixel-element .ensures .0)) (node-laws.had (at-d .d .given .1) (at-find-vr-item .find-vr-item .ensures .0)) (node-laws.had (at-t .t .given .1) (at-find-vr-item2 .find-vr-item2 .ensures .0)) (entry .args .values .now) refl)
 
 pub map-spec : {M : Type 1} → statement M
 map-spec =

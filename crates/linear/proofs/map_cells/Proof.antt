@@ -22,31 +22,38 @@ abbrev μ-loop : tie.MeasureT-loop
 
 mul-n : tie.Need-mul-n Inv-loop μ-loop
 mul-n c =
-    omega (arith, c .before .before .before .before .before .pre .room)
+    let entry = c .before .before .before .before .before in
+    omega (arith, entry .pre .room)
 
 sub-first : tie.Need-sub-first Inv-loop μ-loop
 sub-first c =
-    omega (arith, frame-facts _ _ _ (c .before .before .before .before .before .pre .inside) .0)
+    let entry = c .before .before .before .before .before in
+    omega (arith, frame-facts _ _ _ (entry .pre .inside) .0)
 
 mul-first : tie.Need-mul-first Inv-loop μ-loop
 mul-first c =
-    omega (arith, native-run (c .before .before .before .before .before .args .g) (c .before .before .before .before .before .args .pixels .now) (c .before .before .before .before .before .args .frame) (c .before .before .before .before .before .pre .shape .width) (c .before .before .before .before .before .pre .inside) .1)
+    let entry = c .before .before .before .before .before in
+    omega (arith, native-run (entry .args .g) (entry .args .pixels .now) (entry .args .frame) (entry .pre .shape .width) (entry .pre .inside) .1)
 
 power-requires : tie.Need-power-requires Inv-loop μ-loop
 power-requires c κs =
-    c .before .before .before .before .before .pre .shape .stored-most
+    let entry = c .before .before .before .before .before in
+    entry .pre .shape .stored-most
 
 sub-low : tie.Need-sub-low Inv-loop μ-loop
 sub-low c =
-    omega (arith, c .power .ensures, pow-pos (c .before .before .before .before .before .before .args .g .stored))
+    let entry = c .before .before .before .before .before .before in
+    omega (arith, c .power .ensures, pow-pos (entry .args .g .stored))
 
 u16-at-requires : tie.Need-u16-at-requires Inv-loop μ-loop
 u16-at-requires c κs =
-    omega (arith, laws.lut-is _ _ (c .before .before .before .before .before .before .pre .lut) .three)
+    let entry = c .before .before .before .before .before .before in
+    omega (arith, laws.lut-is _ _ (entry .pre .lut) .three)
 
 entry-count-requires : tie.Need-entry-count-requires Inv-loop μ-loop
 entry-count-requires c κs =
-    omega (arith, laws.lut-is _ _ (c .before .before .before .before .before .before .before .pre .lut) .three)
+    let entry = c .before .before .before .before .before .before .before in
+    omega (arith, laws.lut-is _ _ (entry .pre .lut) .three)
 
 loop-holds : tie.Need-loop-holds Inv-loop μ-loop
 unfolding painted
@@ -55,31 +62,43 @@ loop-holds c =
 
 add-sample : tie.Need-add-sample Inv-loop μ-loop
 add-sample c =
-    omega (arith, native-run (c .before .before .before .before .before .before .before .before .before .before .args .g) (c .before .before .before .before .before .before .before .before .before .before .args .pixels .now) (c .before .before .before .before .before .before .before .before .before .before .args .frame) (c .before .before .before .before .before .before .before .before .before .before .pre .shape .width) (c .before .before .before .before .before .before .before .before .before .before .pre .inside) .0 (c .before .loop .i) (c .loop-test .taken) .1)
+    let entry = c .before .before .before .before .before .before .before .before .before .before in
+    omega (arith, native-run (entry .args .g) (entry .args .pixels .now) (entry .args .frame) (entry .pre .shape .width) (entry .pre .inside) .0 (c .before .loop .i) (c .loop-test .taken) .1)
 
 sample-requires : tie.Need-sample-requires Inv-loop μ-loop
 sample-requires c κs =
+    let at-power = c .before .before .before .before in
+    let entry = at-power .before .before .before .before .before .before in
     record {
-      width = c .before .before .before .before .before .before .before .before .before .before .pre .shape .width;
-      kept = ap (λ (x : ℕ). x - 1) (c .before .before .before .before .power .ensures);
-      inside = native-run (c .before .before .before .before .before .before .before .before .before .before .args .g) (c .before .before .before .before .before .before .before .before .before .before .args .pixels .now) (c .before .before .before .before .before .before .before .before .before .before .args .frame) (c .before .before .before .before .before .before .before .before .before .before .pre .shape .width) (c .before .before .before .before .before .before .before .before .before .before .pre .inside) .0 (c .before .loop .i) (c .loop-test .taken) .0;
+      width = entry .pre .shape .width;
+      kept = ap (λ (x : ℕ). x - 1) (at-power .power .ensures);
+      inside = native-run (entry .args .g) (entry .args .pixels .now) (entry .args .frame) (entry .pre .shape .width) (entry .pre .inside) .0 (c .before .loop .i) (c .loop-test .taken) .0;
     }
 
 place-requires : tie.Need-place-requires Inv-loop μ-loop
 place-requires c κs =
-    (c .before .before .before .entry-count .ensures .1 .0, (c .before .before .before .entry-count .ensures .1 .1, c .before .before .before .before .u16-at .ensures .1))
+    let at-entry-count = c .before .before .before in
+    let at-u16-at = at-entry-count .before in
+    (at-entry-count .entry-count .ensures .1 .0, (at-entry-count .entry-count .ensures .1 .1, at-u16-at .u16-at .ensures .1))
 
 entry-requires : tie.Need-entry-requires Inv-loop μ-loop
 entry-requires c κs =
-    omega (arith, c .place .ensures .1, laws.lut-is _ _ (c .before .before .before .before .before .before .before .before .before .before .before .before .pre .lut) .two, c .before .before .before .before .entry-count .ensures .0)
+    let at-entry-count = c .before .before .before .before in
+    let entry = at-entry-count .before .before .before .before .before .before .before .before in
+    omega (arith, c .place .ensures .1, laws.lut-is _ _ (entry .pre .lut) .two, at-entry-count .entry-count .ensures .0)
 
 mul-values : tie.Need-mul-values Inv-loop μ-loop
 mul-values c =
-    omega (arith, laws.samples-few (c .before .before .before .before .before .before .before .before .before .before .before .before .before .args .g) (c .before .before .before .before .before .before .before .before .before .before .before .before .before .pre .shape), c .before .before .before .loop-test .taken)
+    let at-loop-test = c .before .before .before in
+    let entry = at-loop-test .before .before .before .before .before .before .before .before .before .before in
+    omega (arith, laws.samples-few (entry .args .g) (entry .pre .shape), at-loop-test .loop-test .taken)
 
 slice-write-values : tie.Need-slice-write-values Inv-loop μ-loop
 slice-write-values c =
-    omega (arith, ap length (c .before .before .before .before .loop .inv .1) ∙ painted-length _ _ _, c .before .before .before .before .before .before .before .before .before .before .before .before .before .pre .room, c .before .before .before .loop-test .taken)
+    let at-loop-test = c .before .before .before in
+    let at-loop = at-loop-test .before in
+    let entry = at-loop .before .before .before .before .before .before .before .before .before in
+    omega (arith, ap length (at-loop .loop .inv .1) ∙ painted-length _ _ _, entry .pre .room, at-loop-test .loop-test .taken)
 
 add-i : tie.Need-add-i Inv-loop μ-loop
 add-i c =
@@ -87,11 +106,17 @@ add-i c =
 
 loop-less : tie.Need-loop-less Inv-loop μ-loop
 loop-less c =
-    omega (arith, c .before .before .before .loop-test .taken)
+    let at-loop-test = c .before .before .before in
+    omega (arith, at-loop-test .loop-test .taken)
 
 loop-again : tie.Need-loop-again Inv-loop μ-loop
 loop-again c =
-    (omega (arith, c .before .before .before .loop-test .taken), rw (c .before .before .before .before .loop .inv .1, laws.cell-entry (c .before .before .before .before .before .before .before .before .before .before .before .before .before .args .g) (c .before .before .before .before .before .before .before .before .before .before .before .before .before .args .pixels .now) (c .before .before .before .before .before .before .before .before .before .before .before .before .before .args .frame) (c .before .before .before .before .before .before .before .before .before .before .before .before .before .args .descriptor .now) (c .before .before .before .before .before .before .before .before .before .before .before .before .before .args .entries .now) (c .before .before .before .before .loop .i) _ _ _ _ _ (c .before .before .sample .ensures .0) (c .before .before .before .before .before .before .u16-at .ensures .0) (c .before .before .before .before .before .entry-count .ensures .0) (c .before .place .ensures .0) (c .entry .ensures)) (painted-more _ _ _))
+    let at-loop-test = c .before .before .before in
+    let at-loop = at-loop-test .before in
+    let at-entry-count = at-loop .before in
+    let at-u16-at = at-entry-count .before in
+    let entry-2 = at-u16-at .before .before .before .before .before .before .before in
+    (omega (arith, at-loop-test .loop-test .taken), rw (at-loop .loop .inv .1, laws.cell-entry (entry-2 .args .g) (entry-2 .args .pixels .now) (entry-2 .args .frame) (entry-2 .args .descriptor .now) (entry-2 .args .entries .now) (at-loop .loop .i) _ _ _ _ _ (c .before .before .sample .ensures .0) (at-u16-at .u16-at .ensures .0) (at-entry-count .entry-count .ensures .0) (c .before .place .ensures .0) (c .entry .ensures)) (painted-more _ _ _))
 
 same-length : tie.Need-same-length Inv-loop μ-loop
 same-length c =

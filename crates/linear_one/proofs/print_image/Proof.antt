@@ -13,7 +13,8 @@ mul-size c = search needs
 
 slice-aggregate-print-values : tie.Need-slice-aggregate-print-values
 slice-aggregate-print-values c =
-    sym (length-take-le _ _ (c .before .before .before .pre))
+    let entry = c .before .before .before in
+    sym (length-take-le _ _ (entry .pre))
 
 print-values-requires : tie.Need-print-values-requires
 print-values-requires c κs = search needs

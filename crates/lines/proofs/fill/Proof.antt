@@ -48,23 +48,30 @@ sub-n c =
 
 loop-holds : tie.Need-loop-holds Inv-loop μ-loop
 loop-holds c =
-    (omega arith, record { size = c .before .before .before .before .pre .1 .1 .1; value = λ i h. absurd (omega arith) })
+    let entry = c .before .before .before .before in
+    (omega arith, record { size = entry .pre .1 .1 .1; value = λ i h. absurd (omega arith) })
 
 add-shade : tie.Need-add-shade Inv-loop μ-loop
 add-shade c =
-    omega (arith, c .before .before .before .before .power .ensures .1 .1, c .before .before .power3 .ensures .1 .1, c .loop-test .taken)
+    let at-power = c .before .before .before .before in
+    omega (arith, at-power .power .ensures .1 .1, c .before .before .power3 .ensures .1 .1, c .loop-test .taken)
 
 shade-requires : tie.Need-shade-requires Inv-loop μ-loop
 shade-requires c κs =
-    (c .before .before .before .before .before .before .pre .0, omega (arith, c .before .before .before .before .power .ensures .1 .1, c .before .before .before .power2 .ensures .1 .1, c .before .before .power3 .ensures .1 .1, c .loop-test .taken, power-small (c .before .before .before .before .before .before .args .stored - 1) 15 (omega arith), c .before .before .before .before .power .ensures .0))
+    let at-power2 = c .before .before .before in
+    let at-power = at-power2 .before in
+    let entry = at-power .before .before in
+    (entry .pre .0, omega (arith, at-power .power .ensures .1 .1, at-power2 .power2 .ensures .1 .1, c .before .before .power3 .ensures .1 .1, c .loop-test .taken, power-small (entry .args .stored - 1) 15 (omega arith), at-power .power .ensures .0))
 
 slice-write-table : tie.Need-slice-write-table Inv-loop μ-loop
 slice-write-table c =
-    omega (arith, c .before .before .loop .inv .1 .size, c .before .before .before .power3 .ensures .1 .1, c .before .loop-test .taken)
+    let at-power3 = c .before .before .before in
+    omega (arith, c .before .before .loop .inv .1 .size, at-power3 .power3 .ensures .1 .1, c .before .loop-test .taken)
 
 add-i : tie.Need-add-i Inv-loop μ-loop
 add-i c =
-    omega (arith, c .before .before .before .power3 .ensures .1 .1, c .before .loop-test .taken)
+    let at-power3 = c .before .before .before in
+    omega (arith, at-power3 .power3 .ensures .1 .1, c .before .loop-test .taken)
 
 loop-less : tie.Need-loop-less Inv-loop μ-loop
 loop-less c =
@@ -73,21 +80,27 @@ loop-less c =
 loop-again : tie.Need-loop-again Inv-loop μ-loop
 unfolding shadeAt
 loop-again c =
-    let a = c .before .before .before .before .before .before .before .args in
+    let at-power3 = c .before .before .before in
+    let at-power2 = at-power3 .before in
+    let at-power = at-power2 .before in
+    let entry = at-power .before .before in
+    let a = entry .args in
     let i = c .before .before .loop .i in
     let e : c .shade .result ≡ shadeAt (a .window) (a .stored) (a .inverse) i =
     c .shade .ensures
-    ∙ ap (λ (h : ℕ). number (shaded (a .inverse) (levelOf (a .window) (pos (i + h) -ℤ pos (c .before .before .before .before .power2 .result - 1))))) (c .before .before .before .before .before .power .ensures .0)
-    ∙ ap (λ (l : ℕ). number (shaded (a .inverse) (levelOf (a .window) (pos (i + 2 ^ (a .stored - 1)) -ℤ pos (l - 1))))) (c .before .before .before .before .power2 .ensures .0) in
-    (omega (arith, c .before .loop-test .taken), rw e (filled-more (shadeAt (a .window) (a .stored) (a .inverse)) i (c .before .before .loop .table) (c .before .before .loop .inv .1) (omega (arith, c .before .before .before .power3 .ensures .1 .1, c .before .loop-test .taken))))
+    ∙ ap (λ (h : ℕ). number (shaded (a .inverse) (levelOf (a .window) (pos (i + h) -ℤ pos (at-power2 .power2 .result - 1))))) (at-power .power .ensures .0)
+    ∙ ap (λ (l : ℕ). number (shaded (a .inverse) (levelOf (a .window) (pos (i + 2 ^ (a .stored - 1)) -ℤ pos (l - 1))))) (at-power2 .power2 .ensures .0) in
+    (omega (arith, c .before .loop-test .taken), rw e (filled-more (shadeAt (a .window) (a .stored) (a .inverse)) i (c .before .before .loop .table) (c .before .before .loop .inv .1) (omega (arith, at-power3 .power3 .ensures .1 .1, c .before .loop-test .taken))))
 
 same-length : tie.Need-same-length Inv-loop μ-loop
 same-length c =
-    c .before .loop .inv .1 .size ∙ sym (c .before .before .before .before .before .before .pre .1 .1 .1)
+    let entry = c .before .before .before .before .before .before in
+    c .before .loop .inv .1 .size ∙ sym (entry .pre .1 .1 .1)
 
 returns : tie.Need-returns Inv-loop μ-loop
 returns c =
-    let a = c .before .before .before .before .before .before .args in
+    let entry = c .before .before .before .before .before .before in
+    let a = entry .args in
     subst (λ (k : ℕ). Filled (shadeAt (a .window) (a .stored) (a .inverse)) k (c .before .loop .table)) (omega (arith, c .before .before .power3 .ensures .0, c .before .loop .inv .0, c .loop-test .left)) (c .before .loop .inv .1)
 
 pub fill-spec : {M : Type 1} → statement M

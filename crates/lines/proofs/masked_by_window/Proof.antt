@@ -22,19 +22,23 @@ abbrev μ-loop : tie.MeasureT-loop
 
 sub-power : tie.Need-sub-power Inv-loop μ-loop
 sub-power c =
-    c .before .before .before .before .pre .0 .row .shape .stored-some
+    let entry = c .before .before .before .before in
+    entry .pre .0 .row .shape .stored-some
 
 power-requires : tie.Need-power-requires Inv-loop μ-loop
 power-requires c κs =
-    omega (arith, c .before .before .before .before .pre .0 .row .shape .stored-most)
+    let entry = c .before .before .before .before in
+    omega (arith, entry .pre .0 .row .shape .stored-most)
 
 power-requires-2 : tie.Need-power-requires-2 Inv-loop μ-loop
 power-requires-2 c κs =
-    c .before .before .before .before .before .pre .0 .row .shape .stored-most
+    let entry = c .before .before .before .before .before in
+    entry .pre .0 .row .shape .stored-most
 
 sub-low : tie.Need-sub-low Inv-loop μ-loop
 sub-low c =
-    omega (arith, c .power2 .ensures, pow-pos (c .before .before .before .before .before .before .args .g .stored))
+    let entry = c .before .before .before .before .before .before in
+    omega (arith, c .power2 .ensures, pow-pos (entry .args .g .stored))
 
 loop-holds : tie.Need-loop-holds Inv-loop μ-loop
 unfolding painted
@@ -43,27 +47,34 @@ loop-holds c =
 
 sample-requires : tie.Need-sample-requires Inv-loop μ-loop
 sample-requires c κs =
+    let entry = c .before .before .before .before .before .before .before .before in
     record {
-      width = c .before .before .before .before .before .before .before .before .pre .0 .row .shape .width;
+      width = entry .pre .0 .row .shape .width;
       kept = ap (λ (x : ℕ). x - 1) (c .before .before .power2 .ensures);
-      inside = row-at (c .before .before .before .before .before .before .before .before .args .line .now) (c .before .before .before .before .before .before .before .before .args .g) (c .before .before .before .before .before .before .before .before .pre .0 .row) (c .before .loop .c) (c .loop-test .taken);
+      inside = row-at (entry .args .line .now) (entry .args .g) (entry .pre .0 .row) (c .before .loop .c) (c .loop-test .taken);
     }
 
 add-place : tie.Need-add-place Inv-loop μ-loop
 add-place c =
-    omega (arith, c .sample .ensures .1, power-most (c .before .before .before .before .before .before .before .before .before .args .g .stored) (c .before .before .before .before .before .before .before .before .before .pre .0 .row .shape .stored-most), c .before .before .before .power2 .ensures)
+    let at-power2 = c .before .before .before in
+    let entry = at-power2 .before .before .before .before .before .before in
+    omega (arith, c .sample .ensures .1, power-most (entry .args .g .stored) (entry .pre .0 .row .shape .stored-most), at-power2 .power2 .ensures)
 
 add-wider : tie.Need-add-wider Inv-loop μ-loop
 add-wider c =
-    omega (arith, c .before .before .before .before .before .before .before .before .before .pre .0 .row .shape .columns-most, c .before .before .before .before .before .before .before .before .before .pre .0 .most, c .before .loop-test .taken)
+    let entry = c .before .before .before .before .before .before .before .before .before in
+    omega (arith, entry .pre .0 .row .shape .columns-most, entry .pre .0 .most, c .before .loop-test .taken)
 
 mul-wider : tie.Need-mul-wider Inv-loop μ-loop
 mul-wider c =
-    omega (arith, c .before .before .before .before .before .before .before .before .before .pre .0 .row .shape .columns-most, c .before .before .before .before .before .before .before .before .before .pre .0 .most, c .before .loop-test .taken)
+    let entry = c .before .before .before .before .before .before .before .before .before in
+    omega (arith, entry .pre .0 .row .shape .columns-most, entry .pre .0 .most, c .before .loop-test .taken)
 
 shared-slice-read-wider : tie.Need-shared-slice-read-wider Inv-loop μ-loop
 shared-slice-read-wider c =
-    c .before .before .before .before .before .before .before .before .before .before .pre .0 .masked (c .before .before .before .loop .c) (c .before .before .loop-test .taken) .0
+    let at-loop = c .before .before .before in
+    let entry = at-loop .before .before .before .before .before .before .before in
+    entry .pre .0 .masked (at-loop .loop .c) (c .before .before .loop-test .taken) .0
 
 wider-requires : tie.Need-wider-requires Inv-loop μ-loop
 wider-requires c κs =
@@ -71,34 +82,56 @@ wider-requires c κs =
 
 sub-place : tie.Need-sub-place Inv-loop μ-loop
 sub-place c =
-    omega (arith, c .wider .ensures, c .before .before .before .before .before .power2 .ensures, c .before .before .before .before .before .before .before .before .before .before .before .pre .0 .masked (c .before .before .before .before .loop .c) (c .before .before .before .loop-test .taken) .1)
+    let at-loop-test = c .before .before .before in
+    let at-loop = at-loop-test .before in
+    let at-power2 = at-loop .before in
+    let entry = at-power2 .before .before .before .before .before .before in
+    omega (arith, c .wider .ensures, at-power2 .power2 .ensures, entry .pre .0 .masked (at-loop .loop .c) (at-loop-test .loop-test .taken) .1)
 
 add-shade : tie.Need-add-shade Inv-loop μ-loop
 add-shade c =
-    omega (arith, c .before .before .sample .ensures .1, power-most (c .before .before .before .before .before .before .before .before .before .before .before .args .g .stored) (c .before .before .before .before .before .before .before .before .before .before .before .pre .0 .row .shape .stored-most), c .before .before .before .before .before .before .power .ensures, c .before .before .before .before .before .power2 .ensures, half-low (c .before .before .before .before .before .before .before .before .before .before .before .args .g .stored) (c .before .before .before .before .before .before .before .before .before .before .before .pre .0 .row .shape .stored-some))
+    let at-power2 = c .before .before .before .before .before in
+    let at-power = at-power2 .before in
+    let entry = at-power .before .before .before .before .before in
+    omega (arith, c .before .before .sample .ensures .1, power-most (entry .args .g .stored) (entry .pre .0 .row .shape .stored-most), at-power .power .ensures, at-power2 .power2 .ensures, half-low (entry .args .g .stored) (entry .pre .0 .row .shape .stored-some))
 
 shade-requires : tie.Need-shade-requires Inv-loop μ-loop
 shade-requires c κs =
-    (c .before .before .before .before .before .before .before .before .before .before .before .pre .1, omega (arith, c .before .before .sample .ensures .1, power-most (c .before .before .before .before .before .before .before .before .before .before .before .args .g .stored) (c .before .before .before .before .before .before .before .before .before .before .before .pre .0 .row .shape .stored-most), c .before .before .before .before .before .before .power .ensures, c .before .before .before .before .before .power2 .ensures, half-low (c .before .before .before .before .before .before .before .before .before .before .before .args .g .stored) (c .before .before .before .before .before .before .before .before .before .before .before .pre .0 .row .shape .stored-some)))
+    let at-power2 = c .before .before .before .before .before in
+    let at-power = at-power2 .before in
+    let entry = at-power .before .before .before .before .before in
+    (entry .pre .1, omega (arith, c .before .before .sample .ensures .1, power-most (entry .args .g .stored) (entry .pre .0 .row .shape .stored-most), at-power .power .ensures, at-power2 .power2 .ensures, half-low (entry .args .g .stored) (entry .pre .0 .row .shape .stored-some)))
 
 slice-write-levels : tie.Need-slice-write-levels Inv-loop μ-loop
 slice-write-levels c =
-    omega (arith, ap length (c .before .before .before .before .before .loop .inv .1) ∙ painted-length _ _ _, c .before .before .before .before .before .before .before .before .before .before .before .before .pre .0 .room, c .before .before .before .before .loop-test .taken)
+    let at-loop-test = c .before .before .before .before in
+    let at-loop = at-loop-test .before in
+    let entry = at-loop .before .before .before .before .before .before .before in
+    omega (arith, ap length (at-loop .loop .inv .1) ∙ painted-length _ _ _, entry .pre .0 .room, at-loop-test .loop-test .taken)
 
 add-c : tie.Need-add-c Inv-loop μ-loop
 add-c c =
-    omega (arith, c .before .before .before .before .loop-test .taken, c .before .before .before .before .before .before .before .before .before .before .before .before .pre .0 .row .shape .columns-most)
+    let at-loop-test = c .before .before .before .before in
+    let entry = at-loop-test .before .before .before .before .before .before .before .before in
+    omega (arith, at-loop-test .loop-test .taken, entry .pre .0 .row .shape .columns-most)
 
 loop-less : tie.Need-loop-less Inv-loop μ-loop
 loop-less c =
-    omega (arith, c .before .before .before .before .loop-test .taken)
+    let at-loop-test = c .before .before .before .before in
+    omega (arith, at-loop-test .loop-test .taken)
 
 loop-again : tie.Need-loop-again Inv-loop μ-loop
 loop-again c =
-    let a = c .before .before .before .before .before .before .before .before .before .before .before .before .args in
-    let e : c .shade .result ≡ shadeAt (a .window) (a .g .stored) (a .inverse) (maskPlace (a .g) (a .line .now) (a .masks .now) (a .s) (c .before .before .before .before .before .loop .c)) =
-    c .shade .ensures ∙ shade-at (a .window) (a .g .stored) (a .inverse) _ (c .before .before .before .before .before .before .before .power .result) (c .before .before .before .before .before .before .power2 .result) _ (c .before .before .before .before .before .before .before .power .ensures) (c .before .before .before .before .before .before .power2 .ensures) (mask-place (a .g) (a .line .now) (a .masks .now) (a .s) (c .before .before .before .before .before .loop .c) _ _ _ (c .before .before .before .sample .ensures .0) (c .before .before .before .before .before .before .power2 .ensures) (c .before .wider .ensures)) in
-    (omega (arith, c .before .before .before .before .loop-test .taken), rw (c .before .before .before .before .before .loop .inv .1, e) (painted-more (λ i. shadeAt (a .window) (a .g .stored) (a .inverse) (maskPlace (a .g) (a .line .now) (a .masks .now) (a .s) i)) _ _))
+    let at-sample = c .before .before .before in
+    let at-loop-test = at-sample .before in
+    let at-loop = at-loop-test .before in
+    let at-power2 = at-loop .before in
+    let at-power = at-power2 .before in
+    let entry = at-power .before .before .before .before .before in
+    let a = entry .args in
+    let e : c .shade .result ≡ shadeAt (a .window) (a .g .stored) (a .inverse) (maskPlace (a .g) (a .line .now) (a .masks .now) (a .s) (at-loop .loop .c)) =
+    c .shade .ensures ∙ shade-at (a .window) (a .g .stored) (a .inverse) _ (at-power .power .result) (at-power2 .power2 .result) _ (at-power .power .ensures) (at-power2 .power2 .ensures) (mask-place (a .g) (a .line .now) (a .masks .now) (a .s) (at-loop .loop .c) _ _ _ (at-sample .sample .ensures .0) (at-power2 .power2 .ensures) (c .before .wider .ensures)) in
+    (omega (arith, at-loop-test .loop-test .taken), rw (at-loop .loop .inv .1, e) (painted-more (λ i. shadeAt (a .window) (a .g .stored) (a .inverse) (maskPlace (a .g) (a .line .now) (a .masks .now) (a .s) i)) _ _))
 
 same-length : tie.Need-same-length Inv-loop μ-loop
 same-length c =

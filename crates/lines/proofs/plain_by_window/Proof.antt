@@ -22,23 +22,28 @@ abbrev μ-loop : tie.MeasureT-loop
 
 sub-power : tie.Need-sub-power Inv-loop μ-loop
 sub-power c =
-    c .before .before .before .pre .0 .shape .stored-some
+    let entry = c .before .before .before in
+    entry .pre .0 .shape .stored-some
 
 power-requires : tie.Need-power-requires Inv-loop μ-loop
 power-requires c κs =
-    omega (arith, c .before .before .before .pre .0 .shape .stored-most)
+    let entry = c .before .before .before in
+    omega (arith, entry .pre .0 .shape .stored-most)
 
 power-requires-2 : tie.Need-power-requires-2 Inv-loop μ-loop
 power-requires-2 c κs =
-    c .before .before .before .before .pre .0 .shape .stored-most
+    let entry = c .before .before .before .before in
+    entry .pre .0 .shape .stored-most
 
 sub-low : tie.Need-sub-low Inv-loop μ-loop
 sub-low c =
-    omega (arith, c .power2 .ensures, pow-pos (c .before .before .before .before .before .args .g .stored))
+    let entry = c .before .before .before .before .before in
+    omega (arith, c .power2 .ensures, pow-pos (entry .args .g .stored))
 
 sub-middle : tie.Need-sub-middle Inv-loop μ-loop
 sub-middle c =
-    omega (arith, c .before .power .ensures, c .power2 .ensures, half-low (c .before .before .before .before .before .args .g .stored) (c .before .before .before .before .before .pre .0 .shape .stored-some))
+    let entry = c .before .before .before .before .before in
+    omega (arith, c .before .power .ensures, c .power2 .ensures, half-low (entry .args .g .stored) (entry .pre .0 .shape .stored-some))
 
 loop-holds : tie.Need-loop-holds Inv-loop μ-loop
 unfolding painted
@@ -47,27 +52,38 @@ loop-holds c =
 
 sample-requires : tie.Need-sample-requires Inv-loop μ-loop
 sample-requires c κs =
+    let entry = c .before .before .before .before .before .before .before in
     record {
-      width = c .before .before .before .before .before .before .before .pre .0 .shape .width;
+      width = entry .pre .0 .shape .width;
       kept = ap (λ (x : ℕ). x - 1) (c .before .before .power2 .ensures);
-      inside = omega (arith, run-at 0 (c .before .before .before .before .before .before .before .args .g .columns) (c .before .before .before .before .before .before .before .args .g .width) (length (c .before .before .before .before .before .before .before .args .line .now)) (c .before .loop .c) (width-some _ (c .before .before .before .before .before .before .before .pre .0 .shape .width)) (c .before .before .before .before .before .before .before .pre .0 .inside) (c .loop-test .taken) .0);
+      inside = omega (arith, run-at 0 (entry .args .g .columns) (entry .args .g .width) (length (entry .args .line .now)) (c .before .loop .c) (width-some _ (entry .pre .0 .shape .width)) (entry .pre .0 .inside) (c .loop-test .taken) .0);
     }
 
 add-place : tie.Need-add-place Inv-loop μ-loop
 add-place c =
-    omega (arith, c .sample .ensures .1, power-most (c .before .before .before .before .before .before .before .before .args .g .stored) (c .before .before .before .before .before .before .before .before .pre .0 .shape .stored-most), c .before .before .before .power2 .ensures)
+    let at-power2 = c .before .before .before in
+    let entry = at-power2 .before .before .before .before .before in
+    omega (arith, c .sample .ensures .1, power-most (entry .args .g .stored) (entry .pre .0 .shape .stored-most), at-power2 .power2 .ensures)
 
 add-shade : tie.Need-add-shade Inv-loop μ-loop
 add-shade c =
-    omega (arith, c .sample .ensures .1, power-most (c .before .before .before .before .before .before .before .before .args .g .stored) (c .before .before .before .before .before .before .before .before .pre .0 .shape .stored-most), c .before .before .before .before .power .ensures, c .before .before .before .power2 .ensures, half-low (c .before .before .before .before .before .before .before .before .args .g .stored) (c .before .before .before .before .before .before .before .before .pre .0 .shape .stored-some))
+    let at-power2 = c .before .before .before in
+    let at-power = at-power2 .before in
+    let entry = at-power .before .before .before .before in
+    omega (arith, c .sample .ensures .1, power-most (entry .args .g .stored) (entry .pre .0 .shape .stored-most), at-power .power .ensures, at-power2 .power2 .ensures, half-low (entry .args .g .stored) (entry .pre .0 .shape .stored-some))
 
 shade-requires : tie.Need-shade-requires Inv-loop μ-loop
 shade-requires c κs =
-    (c .before .before .before .before .before .before .before .before .pre .1 .0, omega (arith, c .sample .ensures .1, power-most (c .before .before .before .before .before .before .before .before .args .g .stored) (c .before .before .before .before .before .before .before .before .pre .0 .shape .stored-most), c .before .before .before .before .power .ensures, c .before .before .before .power2 .ensures, half-low (c .before .before .before .before .before .before .before .before .args .g .stored) (c .before .before .before .before .before .before .before .before .pre .0 .shape .stored-some)))
+    let at-power2 = c .before .before .before in
+    let at-power = at-power2 .before in
+    let entry = at-power .before .before .before .before in
+    (entry .pre .1 .0, omega (arith, c .sample .ensures .1, power-most (entry .args .g .stored) (entry .pre .0 .shape .stored-most), at-power .power .ensures, at-power2 .power2 .ensures, half-low (entry .args .g .stored) (entry .pre .0 .shape .stored-some)))
 
 slice-write-levels : tie.Need-slice-write-levels Inv-loop μ-loop
 slice-write-levels c =
-    omega (arith, ap length (c .before .before .before .loop .inv .1) ∙ painted-length _ _ _, c .before .before .before .before .before .before .before .before .before .pre .1 .1, c .before .before .loop-test .taken)
+    let at-loop = c .before .before .before in
+    let entry = at-loop .before .before .before .before .before .before in
+    omega (arith, ap length (at-loop .loop .inv .1) ∙ painted-length _ _ _, entry .pre .1 .1, c .before .before .loop-test .taken)
 
 add-c : tie.Need-add-c Inv-loop μ-loop
 add-c c =
@@ -79,10 +95,14 @@ loop-less c =
 
 loop-again : tie.Need-loop-again Inv-loop μ-loop
 loop-again c =
-    let a = c .before .before .before .before .before .before .before .before .before .args in
-    let e : c .shade .result ≡ shadeAt (a .window) (a .g .stored) (a .inverse) (plainPlace (a .g) (a .line .now) (c .before .before .before .loop .c)) =
-    c .shade .ensures ∙ shade-at (a .window) (a .g .stored) (a .inverse) _ (c .before .before .before .before .before .power .result) (c .before .before .before .before .power2 .result) _ (c .before .before .before .before .before .power .ensures) (c .before .before .before .before .power2 .ensures) (plain-place (a .g) (a .line .now) (c .before .before .before .loop .c) _ _ _ (c .before .sample .ensures .0) (c .before .before .before .before .power2 .ensures) (c .before .before .before .before .before .power .ensures)) in
-    (omega (arith, c .before .before .loop-test .taken), rw (c .before .before .before .loop .inv .1, e) (painted-more (λ i. shadeAt (a .window) (a .g .stored) (a .inverse) (plainPlace (a .g) (a .line .now) i)) _ _))
+    let at-loop = c .before .before .before in
+    let at-power2 = at-loop .before in
+    let at-power = at-power2 .before in
+    let entry = at-power .before .before .before .before in
+    let a = entry .args in
+    let e : c .shade .result ≡ shadeAt (a .window) (a .g .stored) (a .inverse) (plainPlace (a .g) (a .line .now) (at-loop .loop .c)) =
+    c .shade .ensures ∙ shade-at (a .window) (a .g .stored) (a .inverse) _ (at-power .power .result) (at-power2 .power2 .result) _ (at-power .power .ensures) (at-power2 .power2 .ensures) (plain-place (a .g) (a .line .now) (at-loop .loop .c) _ _ _ (c .before .sample .ensures .0) (at-power2 .power2 .ensures) (at-power .power .ensures)) in
+    (omega (arith, c .before .before .loop-test .taken), rw (at-loop .loop .inv .1, e) (painted-more (λ i. shadeAt (a .window) (a .g .stored) (a .inverse) (plainPlace (a .g) (a .line .now) i)) _ _))
 
 same-length : tie.Need-same-length Inv-loop μ-loop
 same-length c =

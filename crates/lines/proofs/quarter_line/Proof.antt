@@ -15,51 +15,83 @@ use Rattle.lines.proofs.quarter_line.Tie as tie
 
 cast-weights : tie.Need-cast-weights
 cast-weights c =
-    omega (arith, fourths (c .before .before .before .before .before .before .args .down))
+    let entry = c .before .before .before .before .before .before in
+    omega (arith, fourths (entry .args .down))
 
 cast-weights-2 : tie.Need-cast-weights-2
 cast-weights-2 c =
-    omega (arith, fourths (c .before .before .before .before .before .before .args .right))
+    let entry = c .before .before .before .before .before .before in
+    omega (arith, fourths (entry .args .right))
 
 weights-requires : tie.Need-weights-requires
 weights-requires c κs =
-    (fourths (c .before .before .before .before .before .before .args .down), fourths (c .before .before .before .before .before .before .args .right))
+    let entry = c .before .before .before .before .before .before in
+    (fourths (entry .args .down), fourths (entry .args .right))
 
 frame-line-requires : tie.Need-frame-line-requires
 frame-line-requires c κs =
-    (laws.fits (c .before .before .before .before .before .before .before .args .g) (c .before .before .before .before .before .before .before .args .pixels) (c .before .before .before .before .before .before .before .args .frame) (c .before .before .before .before .before .before .before .args .row) (c .before .before .before .before .before .before .before .pre .0 .shape) (c .before .before .before .before .before .before .before .pre .0 .inside), c .before .before .before .before .before .before .before .pre .0 .lies)
+    let entry = c .before .before .before .before .before .before .before in
+    (laws.fits (entry .args .g) (entry .args .pixels) (entry .args .frame) (entry .args .row) (entry .pre .0 .shape) (entry .pre .0 .inside), entry .pre .0 .lies)
 
 add-copy : tie.Need-add-copy
 add-copy c =
-    omega (arith, c .before .before .before .before .before .before .before .before .pre .0 .shape .columns-most)
+    let entry = c .before .before .before .before .before .before .before .before in
+    omega (arith, entry .pre .0 .shape .columns-most)
 
 copy-requires : tie.Need-copy-requires
 copy-requires c κs =
-    (omega (arith, c .before .before .before .before .before .before .before .before .before .before .pre .0 .shape .columns-most, c .before .before .before .before .before .before .before .before .before .before .pre .1 .1 .1 .1 .0), omega (arith, c .before .before .before .before .before .before .before .before .before .before .pre .0 .shape .columns-most, c .before .before .before .before .before .before .before .before .before .before .pre .1 .1 .1 .0))
+    let entry = c .before .before .before .before .before .before .before .before .before .before in
+    (omega (arith, entry .pre .0 .shape .columns-most, entry .pre .1 .1 .1 .1 .0), omega (arith, entry .pre .0 .shape .columns-most, entry .pre .1 .1 .1 .0))
 
 add-moved : tie.Need-add-moved
 add-moved c =
-    omega (arith, c .before .before .before .before .before .before .before .before .before .before .before .before .before .pre .1 .0 .down-most, div-add-mod' (c .before .before .before .before .before .before .before .before .before .before .before .before .before .args .down) 4)
+    let entry = c .before .before .before .before .before .before .before .before .before .before .before .before .before in
+    omega (arith, entry .pre .1 .0 .down-most, div-add-mod' (entry .args .down) 4)
 
 moved-requires : tie.Need-moved-requires
 moved-requires c κs =
-    (c .before .before .before .before .before .before .before .before .before .before .before .before .before .pre .0 .lies, (c .before .before .before .before .before .before .before .before .before .before .before .before .before .pre .0 .shape .rows-most, omega (arith, c .before .before .before .before .before .before .before .before .before .before .before .before .before .pre .1 .0 .down-most, div-add-mod' (c .before .before .before .before .before .before .before .before .before .before .before .before .before .args .down) 4)))
+    let entry = c .before .before .before .before .before .before .before .before .before .before .before .before .before in
+    (entry .pre .0 .lies, (entry .pre .0 .shape .rows-most, omega (arith, entry .pre .1 .0 .down-most, div-add-mod' (entry .args .down) 4)))
 
 average-row-requires : tie.Need-average-row-requires
 average-row-requires c κs =
-    (c .before .before .before .before .before .before .before .before .before .before .before .before .before .before .before .pre .0 .shape, (c .before .before .before .before .before .before .before .before .before .before .before .before .before .before .before .pre .1 .0 .taken, (c .before .moved .ensures .1, omega (arith, c .before .before .before .before .before .before .before .before .before .before .before .before .before .before .before .pre .1 .1 .1 .1 .0, c .before .before .before .before .before .before .before .before .before .before .before .before .before .before .before .pre .0 .shape .columns-most))))
+    let entry = c .before .before .before .before .before .before .before .before .before .before .before .before .before .before .before in
+    (entry .pre .0 .shape, (entry .pre .1 .0 .taken, (c .before .moved .ensures .1, omega (arith, entry .pre .1 .1 .1 .1 .0, entry .pre .0 .shape .columns-most))))
 
 blend-all-requires : tie.Need-blend-all-requires
 blend-all-requires c κs =
-    rw (c .before .before .before .before .before .before .before .before .before .before .before .before .before .weights .ensures, c .before .before .before .before .before .before .before .before .before .copy .ensures) (laws.line-blends (c .before .before .before .before .before .before .before .before .before .before .before .before .before .before .before .before .before .before .before .before .args .g) (c .before .before .before .before .before .before .before .before .before .before .before .before .before .before .before .before .before .before .before .before .pre .0 .shape) (c .before .before .before .before .before .before .before .before .before .before .before .before .before .before .before .before .before .before .before .before .args .pixels) (c .before .before .before .before .before .before .before .before .before .before .before .before .before .before .before .before .before .before .before .before .args .frame) (c .before .before .before .before .before .before .before .before .before .before .before .before .before .before .before .before .before .before .before .before .args .row) _ (c .before .before .before .before .before .before .before .before .before .before .before .before .frame-line .ensures) (c .before .before .before .before .before .before .before .before .before .before .before .before .before .before .before .before .before .before .before .before .args .shades) (c .before .before .before .before .before .before .before .before .before .before .before .before .before .before .before .before .before .before .before .before .args .table .now) (c .before .before .before .before .before .before .before .before .before .before .before .before .before .before .before .before .before .before .before .before .args .levels .now) (usValues (c .before .before .before .before .before .before .before .before .before .before .before .before .before .before .before .before .before .before .before .before .args .masks .now)) (c .before .before .before .before .before .before .before .before .before .before .before .before .before .before .before .before .before .before .before .before .args .down) (c .before .before .before .before .before .before .before .before .before .before .before .before .before .before .before .before .before .before .before .before .args .right) (c .before .before .before .before .before .before .before .before .before .before .before .before .before .before .before .before .before .before .before .before .pre .1 .0 .right-most) _ _ (averaged-copy (c .before .before .before .before .before .before .before .before .before .before .before .before .before .before .before .before .before .before .before .before .args .pixels .now) (c .before .before .before .before .before .before .before .before .before .before .before .before .before .before .before .before .before .before .before .before .args .g) (usValues (c .before .before .before .before .before .before .before .before .before .before .before .before .before .before .before .before .before .before .before .before .args .masks .now)) (shifted (c .before .before .before .before .before .before .before .before .before .before .before .before .before .before .before .before .before .before .before .before .args .down / 4) (c .before .before .before .before .before .before .before .before .before .before .before .before .before .before .before .before .before .before .before .before .args .g .rows) (c .before .before .before .before .before .before .before .before .before .before .before .before .before .before .before .before .before .before .before .before .args .row)) (c .before .before .before .before .before .before .before .before .before .before .before .before .before .before .before .before .before .before .before .before .args .lower .now) (c .before .before .before .before .before .before .before .before .before .before .before .before .before .before .before .before .before .before .before .before .args .upper .now) (omega (arith, c .before .before .before .before .before .before .before .before .before .before .before .before .before .before .before .before .before .before .before .before .pre .0 .shape .columns-most, c .before .before .before .before .before .before .before .before .before .before .before .before .before .before .before .before .before .before .before .before .pre .1 .1 .1 .0)) (c .before .before .before .before .before .before .before .before .before .before .before .before .before .before .before .before .before .before .before .before .pre .1 .1 .1 .1 .1)) (rw (c .before .before .before .before .before .before .moved .ensures .0) at (c .before .before .before .before .average-row .ensures)) (c .before .before .before .before .before .before .before .before .before .before .before .before .before .before .before .before .before .before .before .before .pre .1 .0 .taken .some) (c .before .before .before .before .before .before .before .before .before .before .before .before .before .before .before .before .before .before .before .before .pre .1 .0 .taken .few) (rw (painted-length _ _ _) (omega (arith, c .before .before .before .before .before .before .before .before .before .before .before .before .before .before .before .before .before .before .before .before .pre .0 .shape .columns-most, c .before .before .before .before .before .before .before .before .before .before .before .before .before .before .before .before .before .before .before .before .pre .1 .1 .1 .0))) (omega (arith, c .before .before .before .before .before .before .before .before .before .before .before .before .before .before .before .before .before .before .before .before .pre .1 .1 .1 .1 .0, c .before .before .before .before .before .before .before .before .before .before .before .before .before .before .before .before .before .before .before .before .pre .0 .shape .columns-most, c .before .before .before .lower .given)))
+    let at-lower = c .before .before .before in
+    let at-average-row = at-lower .before in
+    let at-moved = at-average-row .before .before in
+    let at-copy = at-moved .before .before .before in
+    let at-frame-line = at-copy .before .before .before in
+    let at-weights = at-frame-line .before in
+    let entry = at-weights .before .before .before .before .before .before .before in
+    rw (at-weights .weights .ensures, at-copy .copy .ensures) (laws.line-blends (entry .args .g) (entry .pre .0 .shape) (entry .args .pixels) (entry .args .frame) (entry .args .row) _ (at-frame-line .frame-line .ensures) (entry .args .shades) (entry .args .table .now) (entry .args .levels .now) (usValues (entry .args .masks .now)) (entry .args .down) (entry .args .right) (entry .pre .1 .0 .right-most) _ _ (averaged-copy (entry .args .pixels .now) (entry .args .g) (usValues (entry .args .masks .now)) (shifted (entry .args .down / 4) (entry .args .g .rows) (entry .args .row)) (entry .args .lower .now) (entry .args .upper .now) (omega (arith, entry .pre .0 .shape .columns-most, entry .pre .1 .1 .1 .0)) (entry .pre .1 .1 .1 .1 .1)) (rw (at-moved .moved .ensures .0) at (at-average-row .average-row .ensures)) (entry .pre .1 .0 .taken .some) (entry .pre .1 .0 .taken .few) (rw (painted-length _ _ _) (omega (arith, entry .pre .0 .shape .columns-most, entry .pre .1 .1 .1 .0))) (omega (arith, entry .pre .1 .1 .1 .1 .0, entry .pre .0 .shape .columns-most, at-lower .lower .given)))
 
 masked-row-requires : tie.Need-masked-row-requires
 masked-row-requires c κs =
-    (laws.line-masks (c .before .before .before .before .before .before .before .before .before .before .before .before .before .before .before .before .before .before .before .before .before .before .before .before .before .before .args .g) (c .before .before .before .before .before .before .before .before .before .before .before .before .before .before .before .before .before .before .before .before .before .before .before .before .before .before .pre .0 .shape) (c .before .before .before .before .before .before .before .before .before .before .before .before .before .before .before .before .before .before .before .before .before .before .before .before .before .before .args .pixels) (c .before .before .before .before .before .before .before .before .before .before .before .before .before .before .before .before .before .before .before .before .before .before .before .before .before .before .args .frame) (c .before .before .before .before .before .before .before .before .before .before .before .before .before .before .before .before .before .before .before .before .before .before .before .before .before .before .args .row) _ (c .before .before .before .before .before .before .before .before .before .before .before .before .before .before .before .before .before .before .frame-line .ensures) (c .before .before .before .before .before .before .before .before .before .before .before .before .before .before .before .before .before .before .before .before .before .before .before .before .before .before .args .shades) (c .before .before .before .before .before .before .before .before .before .before .before .before .before .before .before .before .before .before .before .before .before .before .before .before .before .before .args .table .now) (c .before .before .before .before .before .before .before .before .before .before .before .before .before .before .before .before .before .before .before .before .before .before .before .before .before .before .args .levels .now) (usValues (c .before .before .before .before .before .before .before .before .before .before .before .before .before .before .before .before .before .before .before .before .before .before .before .before .before .before .args .masks .now)) (c .before .before .before .before .before .before .before .before .before .before .before .before .before .before .before .before .before .before .before .before .before .before .before .before .before .before .args .down) (c .before .before .before .before .before .before .before .before .before .before .before .before .before .before .before .before .before .before .before .before .before .before .before .before .before .before .args .right) (c .before .before .before .before .before .before .before .before .before .before .before .before .before .before .before .before .before .before .before .before .before .before .before .before .before .before .pre .1 .0 .right-most) _ _ (averaged-copy (c .before .before .before .before .before .before .before .before .before .before .before .before .before .before .before .before .before .before .before .before .before .before .before .before .before .before .args .pixels .now) (c .before .before .before .before .before .before .before .before .before .before .before .before .before .before .before .before .before .before .before .before .before .before .before .before .before .before .args .g) (usValues (c .before .before .before .before .before .before .before .before .before .before .before .before .before .before .before .before .before .before .before .before .before .before .before .before .before .before .args .masks .now)) (shifted (c .before .before .before .before .before .before .before .before .before .before .before .before .before .before .before .before .before .before .before .before .before .before .before .before .before .before .args .down / 4) (c .before .before .before .before .before .before .before .before .before .before .before .before .before .before .before .before .before .before .before .before .before .before .before .before .before .before .args .g .rows) (c .before .before .before .before .before .before .before .before .before .before .before .before .before .before .before .before .before .before .before .before .before .before .before .before .before .before .args .row)) (c .before .before .before .before .before .before .before .before .before .before .before .before .before .before .before .before .before .before .before .before .before .before .before .before .before .before .args .lower .now) (c .before .before .before .before .before .before .before .before .before .before .before .before .before .before .before .before .before .before .before .before .before .before .before .before .before .before .args .upper .now) (omega (arith, c .before .before .before .before .before .before .before .before .before .before .before .before .before .before .before .before .before .before .before .before .before .before .before .before .before .before .pre .0 .shape .columns-most, c .before .before .before .before .before .before .before .before .before .before .before .before .before .before .before .before .before .before .before .before .before .before .before .before .before .before .pre .1 .1 .1 .0)) (c .before .before .before .before .before .before .before .before .before .before .before .before .before .before .before .before .before .before .before .before .before .before .before .before .before .before .pre .1 .1 .1 .1 .1)) (rw (c .before .before .before .before .before .before .before .before .before .before .before .before .moved .ensures .0) at (c .before .before .before .before .before .before .before .before .before .before .average-row .ensures)) (c .before .before .before .before .before .before .before .before .before .before .before .before .before .before .before .before .before .before .before .before .before .before .before .before .before .before .pre .1 .0 .taken .some) (c .before .before .before .before .before .before .before .before .before .before .before .before .before .before .before .before .before .before .before .before .before .before .before .before .before .before .pre .1 .0 .taken .few) (rw (painted-length _ _ _) (omega (arith, c .before .before .before .before .before .before .before .before .before .before .before .before .before .before .before .before .before .before .before .before .before .before .before .before .before .before .pre .0 .shape .columns-most, c .before .before .before .before .before .before .before .before .before .before .before .before .before .before .before .before .before .before .before .before .before .before .before .before .before .before .pre .1 .1 .1 .0))) (omega (arith, c .before .before .before .before .before .before .before .before .before .before .before .before .before .before .before .before .before .before .before .before .before .before .before .before .before .before .pre .1 .1 .1 .1 .0, c .before .before .before .before .before .before .before .before .before .before .before .before .before .before .before .before .before .before .before .before .before .before .before .before .before .before .pre .0 .shape .columns-most, c .before .before .before .before .before .before .before .before .before .lower .given)) _ (rw (c .before .before .before .before .before .before .before .before .before .before .before .before .before .before .before .before .before .before .before .weights .ensures, c .before .before .before .before .before .before .before .before .before .before .before .before .before .before .before .copy .ensures) at (c .before .before .before .before .before .blend-all .ensures)) (c .before .before .before .before .before .before .before .before .before .before .before .before .before .before .before .before .before .before .before .before .before .before .before .before .before .before .pre .0 .room), omega (arith, c .before .before .before .before .before .before .before .before .before .before .before .before .before .before .before .before .before .before .before .before .before .before .before .before .before .before .pre .1 .1 .0 .shades (c .before .before .if1 .taken) .size))
+    let at-blend-all = c .before .before .before .before .before in
+    let at-lower = at-blend-all .before .before .before .before in
+    let at-average-row = at-lower .before in
+    let at-moved = at-average-row .before .before in
+    let at-copy = at-moved .before .before .before in
+    let at-frame-line = at-copy .before .before .before in
+    let at-weights = at-frame-line .before in
+    let entry = at-weights .before .before .before .before .before .before .before in
+    (laws.line-masks (entry .args .g) (entry .pre .0 .shape) (entry .args .pixels) (entry .args .frame) (entry .args .row) _ (at-frame-line .frame-line .ensures) (entry .args .shades) (entry .args .table .now) (entry .args .levels .now) (usValues (entry .args .masks .now)) (entry .args .down) (entry .args .right) (entry .pre .1 .0 .right-most) _ _ (averaged-copy (entry .args .pixels .now) (entry .args .g) (usValues (entry .args .masks .now)) (shifted (entry .args .down / 4) (entry .args .g .rows) (entry .args .row)) (entry .args .lower .now) (entry .args .upper .now) (omega (arith, entry .pre .0 .shape .columns-most, entry .pre .1 .1 .1 .0)) (entry .pre .1 .1 .1 .1 .1)) (rw (at-moved .moved .ensures .0) at (at-average-row .average-row .ensures)) (entry .pre .1 .0 .taken .some) (entry .pre .1 .0 .taken .few) (rw (painted-length _ _ _) (omega (arith, entry .pre .0 .shape .columns-most, entry .pre .1 .1 .1 .0))) (omega (arith, entry .pre .1 .1 .1 .1 .0, entry .pre .0 .shape .columns-most, at-lower .lower .given)) _ (rw (at-weights .weights .ensures, at-copy .copy .ensures) at (at-blend-all .blend-all .ensures)) (entry .pre .0 .room), omega (arith, entry .pre .1 .1 .0 .shades (c .before .before .if1 .taken) .size))
 
 masked-by-window-requires : tie.Need-masked-by-window-requires
 masked-by-window-requires c κs =
-    (laws.line-masks (c .before .before .before .before .before .before .before .before .before .before .before .before .before .before .before .before .before .before .before .before .before .before .before .before .before .before .args .g) (c .before .before .before .before .before .before .before .before .before .before .before .before .before .before .before .before .before .before .before .before .before .before .before .before .before .before .pre .0 .shape) (c .before .before .before .before .before .before .before .before .before .before .before .before .before .before .before .before .before .before .before .before .before .before .before .before .before .before .args .pixels) (c .before .before .before .before .before .before .before .before .before .before .before .before .before .before .before .before .before .before .before .before .before .before .before .before .before .before .args .frame) (c .before .before .before .before .before .before .before .before .before .before .before .before .before .before .before .before .before .before .before .before .before .before .before .before .before .before .args .row) _ (c .before .before .before .before .before .before .before .before .before .before .before .before .before .before .before .before .before .before .frame-line .ensures) (c .before .before .before .before .before .before .before .before .before .before .before .before .before .before .before .before .before .before .before .before .before .before .before .before .before .before .args .shades) (c .before .before .before .before .before .before .before .before .before .before .before .before .before .before .before .before .before .before .before .before .before .before .before .before .before .before .args .table .now) (c .before .before .before .before .before .before .before .before .before .before .before .before .before .before .before .before .before .before .before .before .before .before .before .before .before .before .args .levels .now) (usValues (c .before .before .before .before .before .before .before .before .before .before .before .before .before .before .before .before .before .before .before .before .before .before .before .before .before .before .args .masks .now)) (c .before .before .before .before .before .before .before .before .before .before .before .before .before .before .before .before .before .before .before .before .before .before .before .before .before .before .args .down) (c .before .before .before .before .before .before .before .before .before .before .before .before .before .before .before .before .before .before .before .before .before .before .before .before .before .before .args .right) (c .before .before .before .before .before .before .before .before .before .before .before .before .before .before .before .before .before .before .before .before .before .before .before .before .before .before .pre .1 .0 .right-most) _ _ (averaged-copy (c .before .before .before .before .before .before .before .before .before .before .before .before .before .before .before .before .before .before .before .before .before .before .before .before .before .before .args .pixels .now) (c .before .before .before .before .before .before .before .before .before .before .before .before .before .before .before .before .before .before .before .before .before .before .before .before .before .before .args .g) (usValues (c .before .before .before .before .before .before .before .before .before .before .before .before .before .before .before .before .before .before .before .before .before .before .before .before .before .before .args .masks .now)) (shifted (c .before .before .before .before .before .before .before .before .before .before .before .before .before .before .before .before .before .before .before .before .before .before .before .before .before .before .args .down / 4) (c .before .before .before .before .before .before .before .before .before .before .before .before .before .before .before .before .before .before .before .before .before .before .before .before .before .before .args .g .rows) (c .before .before .before .before .before .before .before .before .before .before .before .before .before .before .before .before .before .before .before .before .before .before .before .before .before .before .args .row)) (c .before .before .before .before .before .before .before .before .before .before .before .before .before .before .before .before .before .before .before .before .before .before .before .before .before .before .args .lower .now) (c .before .before .before .before .before .before .before .before .before .before .before .before .before .before .before .before .before .before .before .before .before .before .before .before .before .before .args .upper .now) (omega (arith, c .before .before .before .before .before .before .before .before .before .before .before .before .before .before .before .before .before .before .before .before .before .before .before .before .before .before .pre .0 .shape .columns-most, c .before .before .before .before .before .before .before .before .before .before .before .before .before .before .before .before .before .before .before .before .before .before .before .before .before .before .pre .1 .1 .1 .0)) (c .before .before .before .before .before .before .before .before .before .before .before .before .before .before .before .before .before .before .before .before .before .before .before .before .before .before .pre .1 .1 .1 .1 .1)) (rw (c .before .before .before .before .before .before .before .before .before .before .before .before .moved .ensures .0) at (c .before .before .before .before .before .before .before .before .before .before .average-row .ensures)) (c .before .before .before .before .before .before .before .before .before .before .before .before .before .before .before .before .before .before .before .before .before .before .before .before .before .before .pre .1 .0 .taken .some) (c .before .before .before .before .before .before .before .before .before .before .before .before .before .before .before .before .before .before .before .before .before .before .before .before .before .before .pre .1 .0 .taken .few) (rw (painted-length _ _ _) (omega (arith, c .before .before .before .before .before .before .before .before .before .before .before .before .before .before .before .before .before .before .before .before .before .before .before .before .before .before .pre .0 .shape .columns-most, c .before .before .before .before .before .before .before .before .before .before .before .before .before .before .before .before .before .before .before .before .before .before .before .before .before .before .pre .1 .1 .1 .0))) (omega (arith, c .before .before .before .before .before .before .before .before .before .before .before .before .before .before .before .before .before .before .before .before .before .before .before .before .before .before .pre .1 .1 .1 .1 .0, c .before .before .before .before .before .before .before .before .before .before .before .before .before .before .before .before .before .before .before .before .before .before .before .before .before .before .pre .0 .shape .columns-most, c .before .before .before .before .before .before .before .before .before .lower .given)) _ (rw (c .before .before .before .before .before .before .before .before .before .before .before .before .before .before .before .before .before .before .before .weights .ensures, c .before .before .before .before .before .before .before .before .before .before .before .before .before .before .before .copy .ensures) at (c .before .before .before .before .before .blend-all .ensures)) (c .before .before .before .before .before .before .before .before .before .before .before .before .before .before .before .before .before .before .before .before .before .before .before .before .before .before .pre .0 .room), c .before .before .before .before .before .before .before .before .before .before .before .before .before .before .before .before .before .before .before .before .before .before .before .before .before .before .pre .1 .1 .0 .drawable)
+    let at-blend-all = c .before .before .before .before .before in
+    let at-lower = at-blend-all .before .before .before .before in
+    let at-average-row = at-lower .before in
+    let at-moved = at-average-row .before .before in
+    let at-copy = at-moved .before .before .before in
+    let at-frame-line = at-copy .before .before .before in
+    let at-weights = at-frame-line .before in
+    let entry = at-weights .before .before .before .before .before .before .before in
+    (laws.line-masks (entry .args .g) (entry .pre .0 .shape) (entry .args .pixels) (entry .args .frame) (entry .args .row) _ (at-frame-line .frame-line .ensures) (entry .args .shades) (entry .args .table .now) (entry .args .levels .now) (usValues (entry .args .masks .now)) (entry .args .down) (entry .args .right) (entry .pre .1 .0 .right-most) _ _ (averaged-copy (entry .args .pixels .now) (entry .args .g) (usValues (entry .args .masks .now)) (shifted (entry .args .down / 4) (entry .args .g .rows) (entry .args .row)) (entry .args .lower .now) (entry .args .upper .now) (omega (arith, entry .pre .0 .shape .columns-most, entry .pre .1 .1 .1 .0)) (entry .pre .1 .1 .1 .1 .1)) (rw (at-moved .moved .ensures .0) at (at-average-row .average-row .ensures)) (entry .pre .1 .0 .taken .some) (entry .pre .1 .0 .taken .few) (rw (painted-length _ _ _) (omega (arith, entry .pre .0 .shape .columns-most, entry .pre .1 .1 .1 .0))) (omega (arith, entry .pre .1 .1 .1 .1 .0, entry .pre .0 .shape .columns-most, at-lower .lower .given)) _ (rw (at-weights .weights .ensures, at-copy .copy .ensures) at (at-blend-all .blend-all .ensures)) (entry .pre .0 .room), entry .pre .1 .1 .0 .drawable)
 
 same-length : tie.Need-same-length
 same-length c =
@@ -75,7 +107,16 @@ same-length-3 c =
 
 returns : tie.Need-returns
 returns c =
-    (c .before .before .masked-row .ensures ∙ laws.quarter-by-table (c .before .before .before .before .before .before .before .before .before .before .before .before .before .before .before .before .before .before .before .before .before .before .before .before .before .before .before .before .before .args .g) (c .before .before .before .before .before .before .before .before .before .before .before .before .before .before .before .before .before .before .before .before .before .before .before .before .before .before .before .before .before .pre .0 .shape) (c .before .before .before .before .before .before .before .before .before .before .before .before .before .before .before .before .before .before .before .before .before .before .before .before .before .before .before .before .before .args .pixels) (c .before .before .before .before .before .before .before .before .before .before .before .before .before .before .before .before .before .before .before .before .before .before .before .before .before .before .before .before .before .args .frame) (c .before .before .before .before .before .before .before .before .before .before .before .before .before .before .before .before .before .before .before .before .before .before .before .before .before .before .before .before .before .args .row) _ (c .before .before .before .before .before .before .before .before .before .before .before .before .before .before .before .before .before .before .before .before .before .frame-line .ensures) (c .before .before .before .before .before .before .before .before .before .before .before .before .before .before .before .before .before .before .before .before .before .before .before .before .before .before .before .before .before .args .shades) (c .before .before .before .before .before .before .before .before .before .before .before .before .before .before .before .before .before .before .before .before .before .before .before .before .before .before .before .before .before .args .table .now) (c .before .before .before .before .before .before .before .before .before .before .before .before .before .before .before .before .before .before .before .before .before .before .before .before .before .before .before .before .before .args .levels .now) (usValues (c .before .before .before .before .before .before .before .before .before .before .before .before .before .before .before .before .before .before .before .before .before .before .before .before .before .before .before .before .before .args .masks .now)) (c .before .before .before .before .before .before .before .before .before .before .before .before .before .before .before .before .before .before .before .before .before .before .before .before .before .before .before .before .before .args .down) (c .before .before .before .before .before .before .before .before .before .before .before .before .before .before .before .before .before .before .before .before .before .before .before .before .before .before .before .before .before .args .right) (c .before .before .before .before .before .before .before .before .before .before .before .before .before .before .before .before .before .before .before .before .before .before .before .before .before .before .before .before .before .pre .1 .0 .right-most) _ _ (averaged-copy (c .before .before .before .before .before .before .before .before .before .before .before .before .before .before .before .before .before .before .before .before .before .before .before .before .before .before .before .before .before .args .pixels .now) (c .before .before .before .before .before .before .before .before .before .before .before .before .before .before .before .before .before .before .before .before .before .before .before .before .before .before .before .before .before .args .g) (usValues (c .before .before .before .before .before .before .before .before .before .before .before .before .before .before .before .before .before .before .before .before .before .before .before .before .before .before .before .before .before .args .masks .now)) (shifted (c .before .before .before .before .before .before .before .before .before .before .before .before .before .before .before .before .before .before .before .before .before .before .before .before .before .before .before .before .before .args .down / 4) (c .before .before .before .before .before .before .before .before .before .before .before .before .before .before .before .before .before .before .before .before .before .before .before .before .before .before .before .before .before .args .g .rows) (c .before .before .before .before .before .before .before .before .before .before .before .before .before .before .before .before .before .before .before .before .before .before .before .before .before .before .before .before .before .args .row)) (c .before .before .before .before .before .before .before .before .before .before .before .before .before .before .before .before .before .before .before .before .before .before .before .before .before .before .before .before .before .args .lower .now) (c .before .before .before .before .before .before .before .before .before .before .before .before .before .before .before .before .before .before .before .before .before .before .before .before .before .before .before .before .before .args .upper .now) (omega (arith, c .before .before .before .before .before .before .before .before .before .before .before .before .before .before .before .before .before .before .before .before .before .before .before .before .before .before .before .before .before .pre .0 .shape .columns-most, c .before .before .before .before .before .before .before .before .before .before .before .before .before .before .before .before .before .before .before .before .before .before .before .before .before .before .before .before .before .pre .1 .1 .1 .0)) (c .before .before .before .before .before .before .before .before .before .before .before .before .before .before .before .before .before .before .before .before .before .before .before .before .before .before .before .before .before .pre .1 .1 .1 .1 .1)) (rw (c .before .before .before .before .before .before .before .before .before .before .before .before .before .before .before .moved .ensures .0) at (c .before .before .before .before .before .before .before .before .before .before .before .before .before .average-row .ensures)) (c .before .before .before .before .before .before .before .before .before .before .before .before .before .before .before .before .before .before .before .before .before .before .before .before .before .before .before .before .before .pre .1 .0 .taken .some) (c .before .before .before .before .before .before .before .before .before .before .before .before .before .before .before .before .before .before .before .before .before .before .before .before .before .before .before .before .before .pre .1 .0 .taken .few) (rw (painted-length _ _ _) (omega (arith, c .before .before .before .before .before .before .before .before .before .before .before .before .before .before .before .before .before .before .before .before .before .before .before .before .before .before .before .before .before .pre .0 .shape .columns-most, c .before .before .before .before .before .before .before .before .before .before .before .before .before .before .before .before .before .before .before .before .before .before .before .before .before .before .before .before .before .pre .1 .1 .1 .0))) (omega (arith, c .before .before .before .before .before .before .before .before .before .before .before .before .before .before .before .before .before .before .before .before .before .before .before .before .before .before .before .before .before .pre .1 .1 .1 .1 .0, c .before .before .before .before .before .before .before .before .before .before .before .before .before .before .before .before .before .before .before .before .before .before .before .before .before .before .before .before .before .pre .0 .shape .columns-most, c .before .before .before .before .before .before .before .before .before .before .before .before .lower .given)) _ (rw (c .before .before .before .before .before .before .before .before .before .before .before .before .before .before .before .before .before .before .before .before .before .before .weights .ensures, c .before .before .before .before .before .before .before .before .before .before .before .before .before .before .before .before .before .before .copy .ensures) at (c .before .before .before .before .before .before .before .before .blend-all .ensures)) (c .before .before .before .before .before .before .before .before .before .before .before .before .before .before .before .before .before .before .before .before .before .before .before .before .before .before .before .before .before .pre .1 .1 .0 .shades (c .before .before .before .before .before .if1 .taken)), next-row (c .before .before .before .before .before .before .before .before .before .before .before .before .before .before .before .before .before .before .before .before .before .before .before .before .before .before .before .before .before .args .pixels .now) (c .before .before .before .before .before .before .before .before .before .before .before .before .before .before .before .before .before .before .before .before .before .before .before .before .before .before .before .before .before .args .g) (usValues (c .before .before .before .before .before .before .before .before .before .before .before .before .before .before .before .before .before .before .before .before .before .before .before .before .before .before .before .before .before .args .masks .now)) (c .before .before .before .before .before .before .before .before .before .before .before .before .before .before .before .before .before .before .before .before .before .before .before .before .before .before .before .before .before .args .down / 4) (c .before .before .before .before .before .before .before .before .before .before .before .before .before .before .before .before .before .before .before .before .before .before .before .before .before .before .before .before .before .args .row) _ (rw (c .before .before .before .before .before .before .before .before .before .before .before .before .before .before .before .moved .ensures .0) at (c .before .before .before .before .before .before .before .before .before .before .before .before .before .average-row .ensures)))
+    let at-if1 = c .before .before .before .before .before in
+    let at-blend-all = at-if1 .before .before .before in
+    let at-lower = at-blend-all .before .before .before .before in
+    let at-average-row = at-lower .before in
+    let at-moved = at-average-row .before .before in
+    let at-copy = at-moved .before .before .before in
+    let at-frame-line = at-copy .before .before .before in
+    let at-weights = at-frame-line .before in
+    let entry = at-weights .before .before .before .before .before .before .before in
+    (c .before .before .masked-row .ensures ∙ laws.quarter-by-table (entry .args .g) (entry .pre .0 .shape) (entry .args .pixels) (entry .args .frame) (entry .args .row) _ (at-frame-line .frame-line .ensures) (entry .args .shades) (entry .args .table .now) (entry .args .levels .now) (usValues (entry .args .masks .now)) (entry .args .down) (entry .args .right) (entry .pre .1 .0 .right-most) _ _ (averaged-copy (entry .args .pixels .now) (entry .args .g) (usValues (entry .args .masks .now)) (shifted (entry .args .down / 4) (entry .args .g .rows) (entry .args .row)) (entry .args .lower .now) (entry .args .upper .now) (omega (arith, entry .pre .0 .shape .columns-most, entry .pre .1 .1 .1 .0)) (entry .pre .1 .1 .1 .1 .1)) (rw (at-moved .moved .ensures .0) at (at-average-row .average-row .ensures)) (entry .pre .1 .0 .taken .some) (entry .pre .1 .0 .taken .few) (rw (painted-length _ _ _) (omega (arith, entry .pre .0 .shape .columns-most, entry .pre .1 .1 .1 .0))) (omega (arith, entry .pre .1 .1 .1 .1 .0, entry .pre .0 .shape .columns-most, at-lower .lower .given)) _ (rw (at-weights .weights .ensures, at-copy .copy .ensures) at (at-blend-all .blend-all .ensures)) (entry .pre .1 .1 .0 .shades (at-if1 .if1 .taken)), next-row (entry .args .pixels .now) (entry .args .g) (usValues (entry .args .masks .now)) (entry .args .down / 4) (entry .args .row) _ (rw (at-moved .moved .ensures .0) at (at-average-row .average-row .ensures)))
 
 same-length-4 : tie.Need-same-length-4
 same-length-4 c =
@@ -91,7 +132,15 @@ same-length-6 c =
 
 returns-2 : tie.Need-returns-2
 returns-2 c =
-    (c .before .before .masked-by-window .ensures ∙ laws.quarter-by-window (c .before .before .before .before .before .before .before .before .before .before .before .before .before .before .before .before .before .before .before .before .before .before .before .before .before .before .before .before .before .args .g) (c .before .before .before .before .before .before .before .before .before .before .before .before .before .before .before .before .before .before .before .before .before .before .before .before .before .before .before .before .before .pre .0 .shape) (c .before .before .before .before .before .before .before .before .before .before .before .before .before .before .before .before .before .before .before .before .before .before .before .before .before .before .before .before .before .args .pixels) (c .before .before .before .before .before .before .before .before .before .before .before .before .before .before .before .before .before .before .before .before .before .before .before .before .before .before .before .before .before .args .frame) (c .before .before .before .before .before .before .before .before .before .before .before .before .before .before .before .before .before .before .before .before .before .before .before .before .before .before .before .before .before .args .row) _ (c .before .before .before .before .before .before .before .before .before .before .before .before .before .before .before .before .before .before .before .before .before .frame-line .ensures) (c .before .before .before .before .before .before .before .before .before .before .before .before .before .before .before .before .before .before .before .before .before .before .before .before .before .before .before .before .before .args .shades) (c .before .before .before .before .before .before .before .before .before .before .before .before .before .before .before .before .before .before .before .before .before .before .before .before .before .before .before .before .before .args .table .now) (c .before .before .before .before .before .before .before .before .before .before .before .before .before .before .before .before .before .before .before .before .before .before .before .before .before .before .before .before .before .args .levels .now) (usValues (c .before .before .before .before .before .before .before .before .before .before .before .before .before .before .before .before .before .before .before .before .before .before .before .before .before .before .before .before .before .args .masks .now)) (c .before .before .before .before .before .before .before .before .before .before .before .before .before .before .before .before .before .before .before .before .before .before .before .before .before .before .before .before .before .args .down) (c .before .before .before .before .before .before .before .before .before .before .before .before .before .before .before .before .before .before .before .before .before .before .before .before .before .before .before .before .before .args .right) (c .before .before .before .before .before .before .before .before .before .before .before .before .before .before .before .before .before .before .before .before .before .before .before .before .before .before .before .before .before .pre .1 .0 .right-most) _ _ (averaged-copy (c .before .before .before .before .before .before .before .before .before .before .before .before .before .before .before .before .before .before .before .before .before .before .before .before .before .before .before .before .before .args .pixels .now) (c .before .before .before .before .before .before .before .before .before .before .before .before .before .before .before .before .before .before .before .before .before .before .before .before .before .before .before .before .before .args .g) (usValues (c .before .before .before .before .before .before .before .before .before .before .before .before .before .before .before .before .before .before .before .before .before .before .before .before .before .before .before .before .before .args .masks .now)) (shifted (c .before .before .before .before .before .before .before .before .before .before .before .before .before .before .before .before .before .before .before .before .before .before .before .before .before .before .before .before .before .args .down / 4) (c .before .before .before .before .before .before .before .before .before .before .before .before .before .before .before .before .before .before .before .before .before .before .before .before .before .before .before .before .before .args .g .rows) (c .before .before .before .before .before .before .before .before .before .before .before .before .before .before .before .before .before .before .before .before .before .before .before .before .before .before .before .before .before .args .row)) (c .before .before .before .before .before .before .before .before .before .before .before .before .before .before .before .before .before .before .before .before .before .before .before .before .before .before .before .before .before .args .lower .now) (c .before .before .before .before .before .before .before .before .before .before .before .before .before .before .before .before .before .before .before .before .before .before .before .before .before .before .before .before .before .args .upper .now) (omega (arith, c .before .before .before .before .before .before .before .before .before .before .before .before .before .before .before .before .before .before .before .before .before .before .before .before .before .before .before .before .before .pre .0 .shape .columns-most, c .before .before .before .before .before .before .before .before .before .before .before .before .before .before .before .before .before .before .before .before .before .before .before .before .before .before .before .before .before .pre .1 .1 .1 .0)) (c .before .before .before .before .before .before .before .before .before .before .before .before .before .before .before .before .before .before .before .before .before .before .before .before .before .before .before .before .before .pre .1 .1 .1 .1 .1)) (rw (c .before .before .before .before .before .before .before .before .before .before .before .before .before .before .before .moved .ensures .0) at (c .before .before .before .before .before .before .before .before .before .before .before .before .before .average-row .ensures)) (c .before .before .before .before .before .before .before .before .before .before .before .before .before .before .before .before .before .before .before .before .before .before .before .before .before .before .before .before .before .pre .1 .0 .taken .some) (c .before .before .before .before .before .before .before .before .before .before .before .before .before .before .before .before .before .before .before .before .before .before .before .before .before .before .before .before .before .pre .1 .0 .taken .few) (rw (painted-length _ _ _) (omega (arith, c .before .before .before .before .before .before .before .before .before .before .before .before .before .before .before .before .before .before .before .before .before .before .before .before .before .before .before .before .before .pre .0 .shape .columns-most, c .before .before .before .before .before .before .before .before .before .before .before .before .before .before .before .before .before .before .before .before .before .before .before .before .before .before .before .before .before .pre .1 .1 .1 .0))) (omega (arith, c .before .before .before .before .before .before .before .before .before .before .before .before .before .before .before .before .before .before .before .before .before .before .before .before .before .before .before .before .before .pre .1 .1 .1 .1 .0, c .before .before .before .before .before .before .before .before .before .before .before .before .before .before .before .before .before .before .before .before .before .before .before .before .before .before .before .before .before .pre .0 .shape .columns-most, c .before .before .before .before .before .before .before .before .before .before .before .before .lower .given)) _ (rw (c .before .before .before .before .before .before .before .before .before .before .before .before .before .before .before .before .before .before .before .before .before .before .weights .ensures, c .before .before .before .before .before .before .before .before .before .before .before .before .before .before .before .before .before .before .copy .ensures) at (c .before .before .before .before .before .before .before .before .blend-all .ensures)), next-row (c .before .before .before .before .before .before .before .before .before .before .before .before .before .before .before .before .before .before .before .before .before .before .before .before .before .before .before .before .before .args .pixels .now) (c .before .before .before .before .before .before .before .before .before .before .before .before .before .before .before .before .before .before .before .before .before .before .before .before .before .before .before .before .before .args .g) (usValues (c .before .before .before .before .before .before .before .before .before .before .before .before .before .before .before .before .before .before .before .before .before .before .before .before .before .before .before .before .before .args .masks .now)) (c .before .before .before .before .before .before .before .before .before .before .before .before .before .before .before .before .before .before .before .before .before .before .before .before .before .before .before .before .before .args .down / 4) (c .before .before .before .before .before .before .before .before .before .before .before .before .before .before .before .before .before .before .before .before .before .before .before .before .before .before .before .before .before .args .row) _ (rw (c .before .before .before .before .before .before .before .before .before .before .before .before .before .before .before .moved .ensures .0) at (c .before .before .before .before .before .before .before .before .before .before .before .before .before .average-row .ensures)))
+    let at-blend-all = c .before .before .before .before .before .before .before .before in
+    let at-lower = at-blend-all .before .before .before .before in
+    let at-average-row = at-lower .before in
+    let at-moved = at-average-row .before .before in
+    let at-copy = at-moved .before .before .before in
+    let at-frame-line = at-copy .before .before .before in
+    let at-weights = at-frame-line .before in
+    let entry = at-weights .before .before .before .before .before .before .before in
+    (c .before .before .masked-by-window .ensures ∙ laws.quarter-by-window (entry .args .g) (entry .pre .0 .shape) (entry .args .pixels) (entry .args .frame) (entry .args .row) _ (at-frame-line .frame-line .ensures) (entry .args .shades) (entry .args .table .now) (entry .args .levels .now) (usValues (entry .args .masks .now)) (entry .args .down) (entry .args .right) (entry .pre .1 .0 .right-most) _ _ (averaged-copy (entry .args .pixels .now) (entry .args .g) (usValues (entry .args .masks .now)) (shifted (entry .args .down / 4) (entry .args .g .rows) (entry .args .row)) (entry .args .lower .now) (entry .args .upper .now) (omega (arith, entry .pre .0 .shape .columns-most, entry .pre .1 .1 .1 .0)) (entry .pre .1 .1 .1 .1 .1)) (rw (at-moved .moved .ensures .0) at (at-average-row .average-row .ensures)) (entry .pre .1 .0 .taken .some) (entry .pre .1 .0 .taken .few) (rw (painted-length _ _ _) (omega (arith, entry .pre .0 .shape .columns-most, entry .pre .1 .1 .1 .0))) (omega (arith, entry .pre .1 .1 .1 .1 .0, entry .pre .0 .shape .columns-most, at-lower .lower .given)) _ (rw (at-weights .weights .ensures, at-copy .copy .ensures) at (at-blend-all .blend-all .ensures)), next-row (entry .args .pixels .now) (entry .args .g) (usValues (entry .args .masks .now)) (entry .args .down / 4) (entry .args .row) _ (rw (at-moved .moved .ensures .0) at (at-average-row .average-row .ensures)))
 
 pub quarter-line-spec : {M : Type 1} → statement M
 quarter-line-spec =

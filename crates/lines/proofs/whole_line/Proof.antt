@@ -12,26 +12,34 @@ use Rattle.lines.proofs.whole_line.Tie as tie
 
 frame-line-requires : tie.Need-frame-line-requires
 frame-line-requires c κs =
-    (laws.fits (c .before .before .before .before .before .args .g) (c .before .before .before .before .before .args .pixels) (c .before .before .before .before .before .args .frame) (c .before .before .before .before .before .args .row) (c .before .before .before .before .before .pre .0 .shape) (c .before .before .before .before .before .pre .0 .inside), c .before .before .before .before .before .pre .0 .lies)
+    let entry = c .before .before .before .before .before in
+    (laws.fits (entry .args .g) (entry .args .pixels) (entry .args .frame) (entry .args .row) (entry .pre .0 .shape) (entry .pre .0 .inside), entry .pre .0 .lies)
 
 moved-requires : tie.Need-moved-requires
 moved-requires c κs =
-    (c .before .before .before .before .before .before .pre .0 .lies, (c .before .before .before .before .before .before .pre .0 .shape .rows-most, omega (arith, c .before .before .before .before .before .before .pre .1 .0 .down-most, div-add-mod' (c .before .before .before .before .before .before .args .down) 4)))
+    let entry = c .before .before .before .before .before .before in
+    (entry .pre .0 .lies, (entry .pre .0 .shape .rows-most, omega (arith, entry .pre .1 .0 .down-most, div-add-mod' (entry .args .down) 4)))
 
 mask-row-requires : tie.Need-mask-row-requires
 mask-row-requires c κs =
-    (c .before .before .before .before .before .before .before .before .pre .0 .shape, (c .before .before .before .before .before .before .before .before .pre .1 .0 .taken, (c .before .moved .ensures .1, omega (arith, c .before .before .before .before .before .before .before .before .pre .1 .1 .1 .1 .1 .1, c .before .before .before .before .before .before .before .before .pre .0 .shape .columns-most))))
+    let entry = c .before .before .before .before .before .before .before .before in
+    (entry .pre .0 .shape, (entry .pre .1 .0 .taken, (c .before .moved .ensures .1, omega (arith, entry .pre .1 .1 .1 .1 .1 .1, entry .pre .0 .shape .columns-most))))
 
 draw-row-requires : tie.Need-draw-row-requires
 draw-row-requires c κs =
+    let at-sums = c .before .before .before in
+    let at-mask-row = at-sums .before in
+    let at-moved = at-mask-row .before .before in
+    let at-frame-line = at-moved .before in
+    let entry = at-frame-line .before .before .before .before .before .before in
     record {
-      row = laws.line-row (c .before .before .before .before .before .before .before .before .before .before .before .before .before .args .g) (c .before .before .before .before .before .before .before .before .before .before .before .before .before .pre .0 .shape) (c .before .before .before .before .before .before .before .before .before .before .before .before .before .args .pixels) (c .before .before .before .before .before .before .before .before .before .before .before .before .before .args .frame) (c .before .before .before .before .before .before .before .before .before .before .before .before .before .args .row) _ (c .before .before .before .before .before .before .before .frame-line .ensures);
-      some = omega (arith, usValues-length (c .before .before .before .before .before .before .before .before .before .before .before .before .before .args .masks .now), c .before .before .before .before .before .before .before .before .before .before .before .before .before .pre .1 .0 .taken .some);
-      few = omega (arith, usValues-length (c .before .before .before .before .before .before .before .before .before .before .before .before .before .args .masks .now), c .before .before .before .before .before .before .before .before .before .before .before .before .before .pre .1 .0 .taken .few);
-      most = omega (arith, c .before .before .before .before .before .before .before .before .before .before .before .before .before .pre .1 .0 .right-most, div-add-mod' (c .before .before .before .before .before .before .before .before .before .before .before .before .before .args .right) 4);
-      shades = omega (arith, c .before .before .before .before .before .before .before .before .before .before .before .before .before .pre .1 .1 .0 .shades (c .before .before .before .before .before .before .before .before .before .before .before .before .before .pre .1 .1 .1 .0) .size);
-      summed = λ k l. (omega (arith, c .before .before .before .sums .given, c .before .before .before .before .before .before .before .before .before .before .before .before .before .pre .1 .1 .1 .1 .1 .1, c .before .before .before .before .before .before .before .before .before .before .before .before .before .pre .0 .shape .columns-most), spread-most (c .before .before .before .before .before .before .before .before .before .before .before .before .before .args .pixels .now) (c .before .before .before .before .before .before .before .before .before .before .before .before .before .args .g) (usValues (c .before .before .before .before .before .before .before .before .before .before .before .before .before .args .masks .now)) (c .before .before .before .before .before .before .moved .result) _ _ (sym (usValues-length (c .before .before .before .before .before .before .before .before .before .before .before .before .before .args .masks .now))) (c .before .before .before .before .mask-row .ensures) k l);
-      room = omega (arith, c .before .before .before .before .before .before .before .before .before .before .before .before .before .pre .0 .room);
+      row = laws.line-row (entry .args .g) (entry .pre .0 .shape) (entry .args .pixels) (entry .args .frame) (entry .args .row) _ (at-frame-line .frame-line .ensures);
+      some = omega (arith, usValues-length (entry .args .masks .now), entry .pre .1 .0 .taken .some);
+      few = omega (arith, usValues-length (entry .args .masks .now), entry .pre .1 .0 .taken .few);
+      most = omega (arith, entry .pre .1 .0 .right-most, div-add-mod' (entry .args .right) 4);
+      shades = omega (arith, entry .pre .1 .1 .0 .shades (entry .pre .1 .1 .1 .0) .size);
+      summed = λ k l. (omega (arith, at-sums .sums .given, entry .pre .1 .1 .1 .1 .1 .1, entry .pre .0 .shape .columns-most), spread-most (entry .args .pixels .now) (entry .args .g) (usValues (entry .args .masks .now)) (at-moved .moved .result) _ _ (sym (usValues-length (entry .args .masks .now))) (at-mask-row .mask-row .ensures) k l);
+      room = omega (arith, entry .pre .0 .room);
     }
 
 same-length : tie.Need-same-length
@@ -42,7 +50,11 @@ same-length-2 c = search needs
 
 returns : tie.Need-returns
 returns c =
-    c .before .before .draw-row .ensures ∙ laws.whole-by-table (c .before .before .before .before .before .before .before .before .before .before .before .before .before .before .before .before .args .g) (c .before .before .before .before .before .before .before .before .before .before .before .before .before .before .before .before .pre .0 .shape) (c .before .before .before .before .before .before .before .before .before .before .before .before .before .before .before .before .args .pixels) (c .before .before .before .before .before .before .before .before .before .before .before .before .before .before .before .before .args .frame) (c .before .before .before .before .before .before .before .before .before .before .before .before .before .before .before .before .args .row) _ (c .before .before .before .before .before .before .before .before .before .before .frame-line .ensures) (c .before .before .before .before .before .before .before .before .before .before .before .before .before .before .before .before .args .shades) (c .before .before .before .before .before .before .before .before .before .before .before .before .before .before .before .before .args .table .now) (c .before .before .before .before .before .before .before .before .before .before .before .before .before .before .before .before .args .levels .now) (usValues (c .before .before .before .before .before .before .before .before .before .before .before .before .before .before .before .before .args .masks .now)) (c .before .before .before .before .before .before .before .before .before .before .before .before .before .before .before .before .args .down) (c .before .before .before .before .before .before .before .before .before .before .before .before .before .before .before .before .args .right) (c .before .before .before .before .before .before .before .before .before .before .before .before .before .before .before .before .pre .1 .0 .right-most) (c .before .before .before .before .before .before .before .before .before .before .before .before .before .before .before .before .pre .1 .1 .0 .shades (c .before .before .before .before .before .before .before .before .before .before .before .before .before .before .before .before .pre .1 .1 .1 .0)) _ _ (c .before .before .before .before .before .before .before .before .before .before .before .before .before .before .before .before .pre .1 .1 .1 .1 .0) (c .before .before .before .before .before .before .before .before .before .before .before .before .before .before .before .before .pre .1 .1 .1 .1 .1 .0) (omega (arith, c .before .before .before .before .before .before .before .before .before .before .before .before .before .before .before .before .pre .1 .0 .right-most, div-add-mod' (c .before .before .before .before .before .before .before .before .before .before .before .before .before .before .before .before .args .right) 4)) (sym (usValues-length (c .before .before .before .before .before .before .before .before .before .before .before .before .before .before .before .before .args .masks .now))) (rw (← c .before .before .before .before .before .before .before .before .before .moved .ensures .0) (c .before .before .before .before .before .before .before .mask-row .ensures))
+    let at-mask-row = c .before .before .before .before .before .before .before in
+    let at-moved = at-mask-row .before .before in
+    let at-frame-line = at-moved .before in
+    let entry = at-frame-line .before .before .before .before .before .before in
+    c .before .before .draw-row .ensures ∙ laws.whole-by-table (entry .args .g) (entry .pre .0 .shape) (entry .args .pixels) (entry .args .frame) (entry .args .row) _ (at-frame-line .frame-line .ensures) (entry .args .shades) (entry .args .table .now) (entry .args .levels .now) (usValues (entry .args .masks .now)) (entry .args .down) (entry .args .right) (entry .pre .1 .0 .right-most) (entry .pre .1 .1 .0 .shades (entry .pre .1 .1 .1 .0)) _ _ (entry .pre .1 .1 .1 .1 .0) (entry .pre .1 .1 .1 .1 .1 .0) (omega (arith, entry .pre .1 .0 .right-most, div-add-mod' (entry .args .right) 4)) (sym (usValues-length (entry .args .masks .now))) (rw (← at-moved .moved .ensures .0) (at-mask-row .mask-row .ensures))
 
 pub whole-line-spec : {M : Type 1} → statement M
 whole-line-spec =

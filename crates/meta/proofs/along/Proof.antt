@@ -24,8 +24,9 @@ loop-holds c =
 
 header-requires : tie.Need-header-requires Inv-loop μ-loop
 header-requires c κs =
+    let entry = c .before .before .before in
     let e = ap (λ (x : Cursor). x .end) (c .loop .inv .0) in
-    (omega (arith, c .loop .inv .1 .0 .high, e), (omega (arith, e, c .before .before .before .pre), ap (λ (x : Cursor). x .delimited) (c .loop .inv .0)))
+    (omega (arith, c .loop .inv .1 .0 .high, e), (omega (arith, e, entry .pre), ap (λ (x : Cursor). x .delimited) (c .loop .inv .0)))
 
 enum-told : tie.Need-enum-told Inv-loop μ-loop
 enum-told c =
@@ -33,12 +34,15 @@ enum-told c =
 
 same-length : tie.Need-same-length Inv-loop μ-loop
 same-length c =
-    c .before .before .before .loop .inv .1 .0 .kept
+    let at-loop = c .before .before .before in
+    at-loop .loop .inv .1 .0 .kept
 
 returns : tie.Need-returns Inv-loop μ-loop
 returns c =
-    let there = level.stands (heads.from (c .before .before .before .before .before .before .args .file .now) (c .before .before .before .before .before .before .args .end)) (c .before .before .before .loop .here) (λ (x : Cursor). elementAt (c .before .before .before .before .before .before .args .file .now) x (c .before .before .before .loop .least) 8) (c .before .before .before .loop .inv .0) (c .before .before .header .ensures) (c .enum-told .given .1) in
-    (heads.refuses (c .before .before .before .before .before .before .args .file .now) (c .before .before .before .before .before .before .args .end) (c .before .before .before .before .before .before .args .none .now) (c .before .before .before .loop .inv) (there .0) (there .1), tt)
+    let at-loop = c .before .before .before in
+    let entry = at-loop .before .before .before in
+    let there = level.stands (heads.from (entry .args .file .now) (entry .args .end)) (at-loop .loop .here) (λ (x : Cursor). elementAt (entry .args .file .now) x (at-loop .loop .least) 8) (at-loop .loop .inv .0) (c .before .before .header .ensures) (c .enum-told .given .1) in
+    (heads.refuses (entry .args .file .now) (entry .args .end) (entry .args .none .now) (at-loop .loop .inv) (there .0) (there .1), tt)
 
 enum-told-2 : tie.Need-enum-told-2 Inv-loop μ-loop
 enum-told-2 c =
@@ -46,12 +50,15 @@ enum-told-2 c =
 
 same-length-2 : tie.Need-same-length-2 Inv-loop μ-loop
 same-length-2 c =
-    c .before .before .before .loop .inv .1 .0 .kept
+    let at-loop = c .before .before .before in
+    at-loop .loop .inv .1 .0 .kept
 
 returns-2 : tie.Need-returns-2 Inv-loop μ-loop
 returns-2 c =
-    let there = level.stands (heads.from (c .before .before .before .before .before .before .args .file .now) (c .before .before .before .before .before .before .args .end)) (c .before .before .before .loop .here) (λ (x : Cursor). elementAt (c .before .before .before .before .before .before .args .file .now) x (c .before .before .before .loop .least) 8) (c .before .before .before .loop .inv .0) (c .before .before .header .ensures) (c .enum-told2 .given .1) in
-    (heads.ended (c .before .before .before .before .before .before .args .file .now) (c .before .before .before .before .before .before .args .end) (c .before .before .before .before .before .before .args .none .now) (c .before .before .before .loop .inv) (there .0), c .before .before .before .loop .inv .1 .1 .1)
+    let at-loop = c .before .before .before in
+    let entry = at-loop .before .before .before in
+    let there = level.stands (heads.from (entry .args .file .now) (entry .args .end)) (at-loop .loop .here) (λ (x : Cursor). elementAt (entry .args .file .now) x (at-loop .loop .least) 8) (at-loop .loop .inv .0) (c .before .before .header .ensures) (c .enum-told2 .given .1) in
+    (heads.ended (entry .args .file .now) (entry .args .end) (entry .args .none .now) (at-loop .loop .inv) (there .0), at-loop .loop .inv .1 .1 .1)
 
 enum-known-tag : tie.Need-enum-known-tag Inv-loop μ-loop
 enum-known-tag c =
@@ -59,20 +66,26 @@ enum-known-tag c =
 
 add-past : tie.Need-add-past Inv-loop μ-loop
 add-past c =
-    let there = level.stands (heads.from (c .before .before .before .before .before .before .before .before .args .file .now) (c .before .before .before .before .before .before .before .before .args .end)) (c .before .before .before .before .before .loop .here) (λ (x : Cursor). elementAt (c .before .before .before .before .before .before .before .before .args .file .now) x (c .before .before .before .before .before .loop .least) 8) (c .before .before .before .before .before .loop .inv .0) (c .before .before .before .before .header .ensures) (c .before .before .tag .given .1) in
-    omega (arith, c .before .before .before .before .before .loop .inv .1 .0 .count, c .before .before .before .before .before .loop .inv .1 .0 .few, there .1, c .before .before .before .before .before .before .before .before .pre, c .before .before .before .before .before .before .before .before .good)
+    let at-header = c .before .before .before .before in
+    let at-loop = at-header .before in
+    let entry = at-loop .before .before .before in
+    let there = level.stands (heads.from (entry .args .file .now) (entry .args .end)) (at-loop .loop .here) (λ (x : Cursor). elementAt (entry .args .file .now) x (at-loop .loop .least) 8) (at-loop .loop .inv .0) (at-header .header .ensures) (c .before .before .tag .given .1) in
+    omega (arith, at-loop .loop .inv .1 .0 .count, at-loop .loop .inv .1 .0 .few, there .1, entry .pre, entry .good)
 
 past-requires : tie.Need-past-requires Inv-loop μ-loop
 past-requires c κs =
-    let there = level.stands (heads.from (c .before .before .before .before .before .before .before .before .args .file .now) (c .before .before .before .before .before .before .before .before .args .end)) (c .before .before .before .before .before .loop .here) (λ (x : Cursor). elementAt (c .before .before .before .before .before .before .before .before .args .file .now) x (c .before .before .before .before .before .loop .least) 8) (c .before .before .before .before .before .loop .inv .0) (c .before .before .before .before .header .ensures) (c .before .before .tag .given .1) in (
+    let at-header = c .before .before .before .before in
+    let at-loop = at-header .before in
+    let entry = at-loop .before .before .before in
+    let there = level.stands (heads.from (entry .args .file .now) (entry .args .end)) (at-loop .loop .here) (λ (x : Cursor). elementAt (entry .args .file .now) x (at-loop .loop .least) 8) (at-loop .loop .inv .0) (at-header .header .ensures) (c .before .before .tag .given .1) in (
       record {
         start = there .1 .1 .0;
-        stop = omega (arith, there .1, c .before .before .before .before .before .before .before .before .pre);
-        small = λ h. absurd (omega (arith, h, c .before .before .before .before .before .loop .inv .1 .0 .kept, c .before .before .before .before .before .before .before .before .pre));
+        stop = omega (arith, there .1, entry .pre);
+        small = λ h. absurd (omega (arith, h, at-loop .loop .inv .1 .0 .kept, entry .pre));
         deep = omega arith;
-        count = omega (arith, c .before .before .before .before .before .loop .inv .1 .0 .count, c .before .before .before .before .before .loop .inv .1 .0 .few, c .before .before .before .before .before .loop .inv .1 .0 .low, there .1, c .before .before .before .before .before .before .before .before .pre);
+        count = omega (arith, at-loop .loop .inv .1 .0 .count, at-loop .loop .inv .1 .0 .few, at-loop .loop .inv .1 .0 .low, there .1, entry .pre);
       },
-      c .before .before .before .before .before .loop .inv .1 .0 .kept ∙ c .before .before .before .before .before .before .before .before .pre .1 .1,
+      at-loop .loop .inv .1 .0 .kept ∙ entry .pre .1 .1,
     )
 
 enum-told-3 : tie.Need-enum-told-3 Inv-loop μ-loop
@@ -81,12 +94,19 @@ enum-told-3 c =
 
 same-length-3 : tie.Need-same-length-3 Inv-loop μ-loop
 same-length-3 c =
-    c .before .before .before .before .past .kept .1 .1 .1 .0 ∙ c .before .before .before .before .before .before .before .before .before .before .loop .inv .1 .0 .kept
+    let at-past = c .before .before .before .before in
+    let at-loop = at-past .before .before .before .before .before .before in
+    at-past .past .kept .1 .1 .1 .0 ∙ at-loop .loop .inv .1 .0 .kept
 
 returns-3 : tie.Need-returns-3 Inv-loop μ-loop
 returns-3 c =
-    let there = level.stands (heads.from (c .before .before .before .before .before .before .before .before .before .before .before .before .before .args .file .now) (c .before .before .before .before .before .before .before .before .before .before .before .before .before .args .end)) (c .before .before .before .before .before .before .before .before .before .before .loop .here) (λ (x : Cursor). elementAt (c .before .before .before .before .before .before .before .before .before .before .before .before .before .args .file .now) x (c .before .before .before .before .before .before .before .before .before .before .loop .least) 8) (c .before .before .before .before .before .before .before .before .before .before .loop .inv .0) (c .before .before .before .before .before .before .before .before .before .header .ensures) (c .before .before .before .before .before .before .before .tag .given .1) in
-    (heads.fails (c .before .before .before .before .before .before .before .before .before .before .before .before .before .args .file .now) (c .before .before .before .before .before .before .before .before .before .before .before .before .before .args .end) (c .before .before .before .before .before .before .before .before .before .before .before .before .before .args .none .now) (c .before .before .before .before .before .before .before .before .before .before .loop .inv) (there .0) (there .1) (level.walked (c .enum-told3 .given .1) (c .before .before .before .before .past .ensures)), tt)
+    let at-past = c .before .before .before .before in
+    let at-tag = at-past .before .before .before in
+    let at-header = at-tag .before .before in
+    let at-loop = at-header .before in
+    let entry = at-loop .before .before .before in
+    let there = level.stands (heads.from (entry .args .file .now) (entry .args .end)) (at-loop .loop .here) (λ (x : Cursor). elementAt (entry .args .file .now) x (at-loop .loop .least) 8) (at-loop .loop .inv .0) (at-header .header .ensures) (at-tag .tag .given .1) in
+    (heads.fails (entry .args .file .now) (entry .args .end) (entry .args .none .now) (at-loop .loop .inv) (there .0) (there .1) (level.walked (c .enum-told3 .given .1) (at-past .past .ensures)), tt)
 
 enum-known-stop : tie.Need-enum-known-stop Inv-loop μ-loop
 enum-known-stop c =
@@ -94,8 +114,13 @@ enum-known-stop c =
 
 note-requires : tie.Need-note-requires Inv-loop μ-loop
 note-requires c κs =
-    let there = level.stands (heads.from (c .before .before .before .before .before .before .before .before .before .before .before .before .before .before .args .file .now) (c .before .before .before .before .before .before .before .before .before .before .before .before .before .before .args .end)) (c .before .before .before .before .before .before .before .before .before .before .before .loop .here) (λ (x : Cursor). elementAt (c .before .before .before .before .before .before .before .before .before .before .before .before .before .before .args .file .now) x (c .before .before .before .before .before .before .before .before .before .before .before .loop .least) 8) (c .before .before .before .before .before .before .before .before .before .before .before .loop .inv .0) (c .before .before .before .before .before .before .before .before .before .before .header .ensures) (c .before .before .before .before .before .before .before .before .tag .given .1) in
-    let d = level.below _ (level.walked (c .before .stop .given .1) (c .before .before .before .before .before .past .ensures)) in
+    let at-past = c .before .before .before .before .before in
+    let at-tag = at-past .before .before .before in
+    let at-header = at-tag .before .before in
+    let at-loop = at-header .before in
+    let entry = at-loop .before .before .before in
+    let there = level.stands (heads.from (entry .args .file .now) (entry .args .end)) (at-loop .loop .here) (λ (x : Cursor). elementAt (entry .args .file .now) x (at-loop .loop .least) 8) (at-loop .loop .inv .0) (at-header .header .ensures) (at-tag .tag .given .1) in
+    let d = level.below _ (level.walked (c .before .stop .given .1) (at-past .past .ensures)) in
     omega (arith, d .within, there .1)
 
 moved-requires : tie.Need-moved-requires Inv-loop μ-loop
@@ -104,19 +129,35 @@ moved-requires c κs =
 
 add-least : tie.Need-add-least Inv-loop μ-loop
 add-least c =
-    let there = level.stands (heads.from (c .before .before .before .before .before .before .before .before .before .before .before .before .before .before .before .before .args .file .now) (c .before .before .before .before .before .before .before .before .before .before .before .before .before .before .before .before .args .end)) (c .before .before .before .before .before .before .before .before .before .before .before .before .before .loop .here) (λ (x : Cursor). elementAt (c .before .before .before .before .before .before .before .before .before .before .before .before .before .before .before .before .args .file .now) x (c .before .before .before .before .before .before .before .before .before .before .before .before .before .loop .least) 8) (c .before .before .before .before .before .before .before .before .before .before .before .before .before .loop .inv .0) (c .before .before .before .before .before .before .before .before .before .before .before .before .header .ensures) (c .before .before .before .before .before .before .before .before .before .before .tag .given .1) in
+    let at-tag = c .before .before .before .before .before .before .before .before .before .before in
+    let at-header = at-tag .before .before in
+    let at-loop = at-header .before in
+    let entry = at-loop .before .before .before in
+    let there = level.stands (heads.from (entry .args .file .now) (entry .args .end)) (at-loop .loop .here) (λ (x : Cursor). elementAt (entry .args .file .now) x (at-loop .loop .least) 8) (at-loop .loop .inv .0) (at-header .header .ensures) (at-tag .tag .given .1) in
     omega (arith, there .1)
 
 loop-less : tie.Need-loop-less Inv-loop μ-loop
 loop-less c =
-    let there = level.stands (heads.from (c .before .before .before .before .before .before .before .before .before .before .before .before .before .before .before .before .args .file .now) (c .before .before .before .before .before .before .before .before .before .before .before .before .before .before .before .before .args .end)) (c .before .before .before .before .before .before .before .before .before .before .before .before .before .loop .here) (λ (x : Cursor). elementAt (c .before .before .before .before .before .before .before .before .before .before .before .before .before .before .before .before .args .file .now) x (c .before .before .before .before .before .before .before .before .before .before .before .before .before .loop .least) 8) (c .before .before .before .before .before .before .before .before .before .before .before .before .before .loop .inv .0) (c .before .before .before .before .before .before .before .before .before .before .before .before .header .ensures) (c .before .before .before .before .before .before .before .before .before .before .tag .given .1) in
-    let d = level.below _ (level.walked (c .before .before .before .stop .given .1) (c .before .before .before .before .before .before .before .past .ensures)) in
-    omega (arith, there .1, d .within, c .before .before .before .before .before .before .before .before .before .before .before .before .before .loop .inv .1 .0 .high, ap (λ (x : Cursor). x .end) (c .moved .ensures), ap (λ (x : Cursor). x .at) (c .moved .ensures), ap (λ (x : Cursor). x .end) (c .before .before .before .before .before .before .before .before .before .before .before .before .before .loop .inv .0))
+    let at-stop = c .before .before .before in
+    let at-past = at-stop .before .before .before .before in
+    let at-tag = at-past .before .before .before in
+    let at-header = at-tag .before .before in
+    let at-loop = at-header .before in
+    let entry = at-loop .before .before .before in
+    let there = level.stands (heads.from (entry .args .file .now) (entry .args .end)) (at-loop .loop .here) (λ (x : Cursor). elementAt (entry .args .file .now) x (at-loop .loop .least) 8) (at-loop .loop .inv .0) (at-header .header .ensures) (at-tag .tag .given .1) in
+    let d = level.below _ (level.walked (at-stop .stop .given .1) (at-past .past .ensures)) in
+    omega (arith, there .1, d .within, at-loop .loop .inv .1 .0 .high, ap (λ (x : Cursor). x .end) (c .moved .ensures), ap (λ (x : Cursor). x .at) (c .moved .ensures), ap (λ (x : Cursor). x .end) (at-loop .loop .inv .0))
 
 loop-again : tie.Need-loop-again Inv-loop μ-loop
 loop-again c =
-    let there = level.stands (heads.from (c .before .before .before .before .before .before .before .before .before .before .before .before .before .before .before .before .args .file .now) (c .before .before .before .before .before .before .before .before .before .before .before .before .before .before .before .before .args .end)) (c .before .before .before .before .before .before .before .before .before .before .before .before .before .loop .here) (λ (x : Cursor). elementAt (c .before .before .before .before .before .before .before .before .before .before .before .before .before .before .before .before .args .file .now) x (c .before .before .before .before .before .before .before .before .before .before .before .before .before .loop .least) 8) (c .before .before .before .before .before .before .before .before .before .before .before .before .before .loop .inv .0) (c .before .before .before .before .before .before .before .before .before .before .before .before .header .ensures) (c .before .before .before .before .before .before .before .before .before .before .tag .given .1) in
-    heads.goes-on (c .before .before .before .before .before .before .before .before .before .before .before .before .before .before .before .before .args .file .now) (c .before .before .before .before .before .before .before .before .before .before .before .before .before .before .before .before .args .end) (c .before .before .before .before .before .before .before .before .before .before .before .before .before .before .before .before .args .none .now) (c .before .before .before .before .before .before .before .before .before .before .before .before .before .loop .inv) (there .0) (there .1) (c .before .before .before .before .before .before .before .before .before .before .before .before .before .before .before .before .pre .1 .0) (c .before .before .before .before .before .before .before .before .before .before .before .before .before .before .before .before .pre .1 .1) (c .before .before .before .before .before .before .before .past .kept .1 .1 .1 .0) (level.walked (c .before .before .before .stop .given .1) (c .before .before .before .before .before .before .before .past .ensures)) (c .before .note .ensures) (c .moved .ensures)
+    let at-stop = c .before .before .before in
+    let at-past = at-stop .before .before .before .before in
+    let at-tag = at-past .before .before .before in
+    let at-header = at-tag .before .before in
+    let at-loop = at-header .before in
+    let entry = at-loop .before .before .before in
+    let there = level.stands (heads.from (entry .args .file .now) (entry .args .end)) (at-loop .loop .here) (λ (x : Cursor). elementAt (entry .args .file .now) x (at-loop .loop .least) 8) (at-loop .loop .inv .0) (at-header .header .ensures) (at-tag .tag .given .1) in
+    heads.goes-on (entry .args .file .now) (entry .args .end) (entry .args .none .now) (at-loop .loop .inv) (there .0) (there .1) (entry .pre .1 .0) (entry .pre .1 .1) (at-past .past .kept .1 .1 .1 .0) (level.walked (at-stop .stop .given .1) (at-past .past .ensures)) (c .before .note .ensures) (c .moved .ensures)
 
 pub along-spec : {M : Type 1} → statement M
 along-spec =

@@ -38,18 +38,29 @@ is-uid-requires : tie.Need-is-uid-requires
 is-uid-requires c κs = search needs
 
 returns : tie.Need-returns
-returns c = (
-  rw (← c .before .before .before .before .before .before .before .is-single .ensures, c .before .before .before .before .before .before .if1 .taken, ← c .before .before .before .before .is-single2 .ensures, c .before .before .before .if2 .taken, ← c .before .is-uid .ensures, c .if3 .taken) (ap (λ (x : ℕ). Good x (c .before .before .before .before .before .before .before .before .before .before .args .a) (c .before .before .before .before .before .before .before .before .before .before .args .b)) (c .before .before .before .before .before .before .before .before .before .before .pre .0 .0)),
-  omega (arith, c .before .before .before .before .before .before .before .before .before .before .pre),
-)
+returns c =
+    let at-if2 = c .before .before .before in
+    let at-is-single2 = at-if2 .before in
+    let at-if1 = at-is-single2 .before .before in
+    let at-is-single = at-if1 .before in
+    let entry = at-is-single .before .before .before in (
+      rw (← at-is-single .is-single .ensures, at-if1 .if1 .taken, ← at-is-single2 .is-single2 .ensures, at-if2 .if2 .taken, ← c .before .is-uid .ensures, c .if3 .taken) (ap (λ (x : ℕ). Good x (entry .args .a) (entry .args .b)) (entry .pre .0 .0)),
+      omega (arith, entry .pre),
+    )
 
 returns-2 : tie.Need-returns-2
 returns-2 c =
-    (rw (← c .before .before .before .before .before .before .before .is-single .ensures, c .before .before .before .before .before .before .if1 .taken, ← c .before .before .before .before .is-single2 .ensures, c .before .before .before .if2 .taken, ← c .before .is-uid .ensures, c .if3 .left), tt)
+    let at-if2 = c .before .before .before in
+    let at-is-single2 = at-if2 .before in
+    let at-if1 = at-is-single2 .before .before in
+    let at-is-single = at-if1 .before in
+    (rw (← at-is-single .is-single .ensures, at-if1 .if1 .taken, ← at-is-single2 .is-single2 .ensures, at-if2 .if2 .taken, ← c .before .is-uid .ensures, c .if3 .left), tt)
 
 returns-3 : tie.Need-returns-3
 returns-3 c =
-    (rw (← c .before .before .before .before .is-single .ensures, c .before .before .before .if1 .taken, ← c .before .is-single2 .ensures, c .if2 .left), tt)
+    let at-if1 = c .before .before .before in
+    let at-is-single = at-if1 .before in
+    (rw (← at-is-single .is-single .ensures, at-if1 .if1 .taken, ← c .before .is-single2 .ensures, c .if2 .left), tt)
 
 returns-4 : tie.Need-returns-4
 returns-4 c = (rw (← c .before .is-single .ensures, c .if1 .left), tt)

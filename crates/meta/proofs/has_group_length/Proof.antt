@@ -17,7 +17,8 @@ tag-at-requires c κs = search needs
 
 returns-2 : tie.Need-returns-2
 returns-2 c =
-    sym (tests.other-tag (c .before .before .before .before .args .file .now) (omega (arith, c .before .before .if1 .left)) (λ e. c .if2 .taken (c .before .tag-at .ensures .0 ∙ e)))
+    let entry = c .before .before .before .before in
+    sym (tests.other-tag (entry .args .file .now) (omega (arith, c .before .before .if1 .left)) (λ e. c .if2 .taken (c .before .tag-at .ensures .0 ∙ e)))
 
 add-vr-at : tie.Need-add-vr-at
 add-vr-at c = search needs
@@ -27,7 +28,10 @@ vr-at-requires c κs = search needs
 
 returns-3 : tie.Need-returns-3
 returns-3 c =
-    sym (tests.other-vr (c .before .before .before .before .before .before .args .file .now) (omega (arith, c .before .before .before .before .if1 .left)) (sym (c .before .before .before .tag-at .ensures .0) ∙ c .before .before .if2 .left) (λ e. c .if3 .taken (c .before .vr-at .ensures .0 ∙ e)))
+    let at-tag-at = c .before .before .before in
+    let at-if1 = at-tag-at .before in
+    let entry = at-if1 .before .before in
+    sym (tests.other-vr (entry .args .file .now) (omega (arith, at-if1 .if1 .left)) (sym (at-tag-at .tag-at .ensures .0) ∙ c .before .before .if2 .left) (λ e. c .if3 .taken (c .before .vr-at .ensures .0 ∙ e)))
 
 add-u16-at : tie.Need-add-u16-at
 add-u16-at c = search needs
@@ -37,7 +41,11 @@ u16-at-requires c κs = search needs
 
 returns-4 : tie.Need-returns-4
 returns-4 c =
-    rw (c .u16-at .ensures .0) (tests.of-length (c .before .before .before .before .before .before .before .args .file .now) (omega (arith, c .before .before .before .before .before .if1 .left)) (sym (c .before .before .before .before .tag-at .ensures .0) ∙ c .before .before .before .if2 .left) (sym (c .before .before .vr-at .ensures .0) ∙ c .before .if3 .left))
+    let at-if2 = c .before .before .before in
+    let at-tag-at = at-if2 .before in
+    let at-if1 = at-tag-at .before in
+    let entry = at-if1 .before .before in
+    rw (c .u16-at .ensures .0) (tests.of-length (entry .args .file .now) (omega (arith, at-if1 .if1 .left)) (sym (at-tag-at .tag-at .ensures .0) ∙ at-if2 .if2 .left) (sym (c .before .before .vr-at .ensures .0) ∙ c .before .if3 .left))
 
 pub has-group-length-spec : {M : Type 1} → statement M
 has-group-length-spec = tie.close (tie.spec add-if1 returns tag-at-requires returns-2 add-vr-at vr-at-requires returns-3 add-u16-at u16-at-requires returns-4)

@@ -23,29 +23,40 @@ loop-holds c =
 
 item-requires : tie.Need-item-requires Inv-loop μ-loop
 item-requires c κs =
-    omega (arith, c .loop .inv .1 .1 .high, ap (λ (x : Cursor). x .end) (c .loop .inv .1 .0), c .before .before .before .pre .0 .stop)
+    let entry = c .before .before .before in
+    omega (arith, c .loop .inv .1 .1 .high, ap (λ (x : Cursor). x .end) (c .loop .inv .1 .0), entry .pre .0 .stop)
 
 enum-known-code : tie.Need-enum-known-code Inv-loop μ-loop
 enum-known-code c = search needs
 
 same-length : tie.Need-same-length Inv-loop μ-loop
-same-length c = c .before .before .before .before .loop .inv .1 .1 .kept
+same-length c =
+    let at-loop = c .before .before .before .before in
+    at-loop .loop .inv .1 .1 .kept
 
 returns : tie.Need-returns Inv-loop μ-loop
 returns c =
-    let there = level.stands (c .before .before .before .before .before .before .before .args .c) (c .before .before .before .before .loop .here) (λ (x : Cursor). itemAt (c .before .before .before .before .before .before .before .args .file .now) x) (c .before .before .before .before .loop .inv .1 .0) (c .before .before .before .item .ensures) (c .before .code .given .1) in
-    level.refuses _ _ _ _ (c .before .before .before .before .before .before .before .args .c) _ _ (c .before .before .before .before .loop .inv .1 .1) (there .0) (there .1)
+    let at-item = c .before .before .before in
+    let at-loop = at-item .before in
+    let entry = at-loop .before .before .before in
+    let there = level.stands (entry .args .c) (at-loop .loop .here) (λ (x : Cursor). itemAt (entry .args .file .now) x) (at-loop .loop .inv .1 .0) (at-item .item .ensures) (c .before .code .given .1) in
+    level.refuses _ _ _ _ (entry .args .c) _ _ (at-loop .loop .inv .1 .1) (there .0) (there .1)
 
 enum-known-next : tie.Need-enum-known-next Inv-loop μ-loop
 enum-known-next c = search needs
 
 same-length-2 : tie.Need-same-length-2 Inv-loop μ-loop
-same-length-2 c = c .before .before .before .before .loop .inv .1 .1 .kept
+same-length-2 c =
+    let at-loop = c .before .before .before .before in
+    at-loop .loop .inv .1 .1 .kept
 
 returns-2 : tie.Need-returns-2 Inv-loop μ-loop
 returns-2 c =
-    let there = level.stands (c .before .before .before .before .before .before .before .args .c) (c .before .before .before .before .loop .here) (λ (x : Cursor). itemAt (c .before .before .before .before .before .before .before .args .file .now) x) (c .before .before .before .before .loop .inv .1 .0) (c .before .before .before .item .ensures) (c .before .next .given .1) in
-    level.ended _ _ _ _ (c .before .before .before .before .before .before .before .args .c) _ _ (c .before .before .before .before .loop .inv .1 .1) (there .0) (there .1 .0) (there .1 .1)
+    let at-item = c .before .before .before in
+    let at-loop = at-item .before in
+    let entry = at-loop .before .before .before in
+    let there = level.stands (entry .args .c) (at-loop .loop .here) (λ (x : Cursor). itemAt (entry .args .file .now) x) (at-loop .loop .inv .1 .0) (at-item .item .ensures) (c .before .next .given .1) in
+    level.ended _ _ _ _ (entry .args .c) _ _ (at-loop .loop .inv .1 .1) (there .0) (there .1 .0) (there .1 .1)
 
 enum-known-item : tie.Need-enum-known-item Inv-loop μ-loop
 enum-known-item c = search needs
@@ -55,18 +66,24 @@ sub-read-item c = search needs
 
 add-read-item : tie.Need-add-read-item Inv-loop μ-loop
 add-read-item c =
-    let there = level.stands (c .before .before .before .before .before .before .before .before .args .c) (c .before .before .before .before .before .loop .here) (λ (x : Cursor). itemAt (c .before .before .before .before .before .before .before .before .args .file .now) x) (c .before .before .before .before .before .loop .inv .1 .0) (c .before .before .before .before .item .ensures) (c .before .before .item2 .given .1) in
-    omega (arith, c .before .before .before .before .before .loop .inv .1 .1 .count, c .before .before .before .before .before .loop .inv .1 .1 .few, there .1, c .before .before .before .before .before .before .before .before .pre .0, c .before .before .before .before .before .before .before .before .good)
+    let at-item = c .before .before .before .before in
+    let at-loop = at-item .before in
+    let entry = at-loop .before .before .before in
+    let there = level.stands (entry .args .c) (at-loop .loop .here) (λ (x : Cursor). itemAt (entry .args .file .now) x) (at-loop .loop .inv .1 .0) (at-item .item .ensures) (c .before .before .item2 .given .1) in
+    omega (arith, at-loop .loop .inv .1 .1 .count, at-loop .loop .inv .1 .1 .few, there .1, entry .pre .0, entry .good)
 
 read-item-requires : tie.Need-read-item-requires Inv-loop μ-loop
 read-item-requires c κs =
-    let there = level.stands (c .before .before .before .before .before .before .before .before .args .c) (c .before .before .before .before .before .loop .here) (λ (x : Cursor). itemAt (c .before .before .before .before .before .before .before .before .args .file .now) x) (c .before .before .before .before .before .loop .inv .1 .0) (c .before .before .before .before .item .ensures) (c .before .before .item2 .given .1) in
+    let at-item = c .before .before .before .before in
+    let at-loop = at-item .before in
+    let entry = at-loop .before .before .before in
+    let there = level.stands (entry .args .c) (at-loop .loop .here) (λ (x : Cursor). itemAt (entry .args .file .now) x) (at-loop .loop .inv .1 .0) (at-item .item .ensures) (c .before .before .item2 .given .1) in
     record {
       start = there .1 .1 .0;
-      stop = omega (arith, there .1, c .before .before .before .before .before .before .before .before .pre .0);
-      small = λ h. absurd (omega (arith, h, c .before .before .before .before .before .loop .inv .1 .1 .kept, c .before .before .before .before .before .before .before .before .pre .1));
+      stop = omega (arith, there .1, entry .pre .0);
+      small = λ h. absurd (omega (arith, h, at-loop .loop .inv .1 .1 .kept, entry .pre .1));
       deep = omega arith;
-      count = omega (arith, c .before .before .before .before .before .loop .inv .1 .1 .count, c .before .before .before .before .before .loop .inv .1 .1 .few, c .before .before .before .before .before .loop .inv .1 .1 .low, there .1, c .before .before .before .before .before .before .before .before .pre .0);
+      count = omega (arith, at-loop .loop .inv .1 .1 .count, at-loop .loop .inv .1 .1 .few, at-loop .loop .inv .1 .1 .low, there .1, entry .pre .0);
     }
 
 enum-known-code-2 : tie.Need-enum-known-code-2 Inv-loop μ-loop
@@ -74,12 +91,19 @@ enum-known-code-2 c = search needs
 
 same-length-3 : tie.Need-same-length-3 Inv-loop μ-loop
 same-length-3 c =
-    c .before .before .before .before .before .read-item .kept .1 .1 .1 .0 ∙ c .before .before .before .before .before .before .before .before .before .before .before .loop .inv .1 .1 .kept
+    let at-read-item = c .before .before .before .before .before in
+    let at-loop = at-read-item .before .before .before .before .before .before in
+    at-read-item .read-item .kept .1 .1 .1 .0 ∙ at-loop .loop .inv .1 .1 .kept
 
 returns-3 : tie.Need-returns-3 Inv-loop μ-loop
 returns-3 c =
-    let there = level.stands (c .before .before .before .before .before .before .before .before .before .before .before .before .before .before .args .c) (c .before .before .before .before .before .before .before .before .before .before .before .loop .here) (λ (x : Cursor). itemAt (c .before .before .before .before .before .before .before .before .before .before .before .before .before .before .args .file .now) x) (c .before .before .before .before .before .before .before .before .before .before .before .loop .inv .1 .0) (c .before .before .before .before .before .before .before .before .before .before .item .ensures) (c .before .before .before .before .before .before .before .before .item2 .given .1) in
-    level.fails _ _ _ _ (c .before .before .before .before .before .before .before .before .before .before .before .before .before .before .args .c) _ _ (c .before .before .before .before .before .before .before .before .before .before .before .loop .inv .1 .1) (there .0) (there .1) (level.walked (c .before .code2 .given .1) (c .before .before .before .before .before .read-item .ensures))
+    let at-read-item = c .before .before .before .before .before in
+    let at-item2 = at-read-item .before .before .before in
+    let at-item = at-item2 .before .before in
+    let at-loop = at-item .before in
+    let entry = at-loop .before .before .before in
+    let there = level.stands (entry .args .c) (at-loop .loop .here) (λ (x : Cursor). itemAt (entry .args .file .now) x) (at-loop .loop .inv .1 .0) (at-item .item .ensures) (at-item2 .item2 .given .1) in
+    level.fails _ _ _ _ (entry .args .c) _ _ (at-loop .loop .inv .1 .1) (there .0) (there .1) (level.walked (c .before .code2 .given .1) (at-read-item .read-item .ensures))
 
 enum-known-next-2 : tie.Need-enum-known-next-2 Inv-loop μ-loop
 enum-known-next-2 c = search needs
@@ -89,17 +113,27 @@ moved-requires c κs = search needs
 
 loop-less : tie.Need-loop-less Inv-loop μ-loop
 loop-less c =
-    let there = level.stands (c .before .before .before .before .before .before .before .before .before .before .before .before .before .before .before .args .c) (c .before .before .before .before .before .before .before .before .before .before .before .before .loop .here) (λ (x : Cursor). itemAt (c .before .before .before .before .before .before .before .before .before .before .before .before .before .before .before .args .file .now) x) (c .before .before .before .before .before .before .before .before .before .before .before .before .loop .inv .1 .0) (c .before .before .before .before .before .before .before .before .before .before .before .item .ensures) (c .before .before .before .before .before .before .before .before .before .item2 .given .1) in
-    let d = level.below _ (level.walked (c .before .before .next2 .given .1) (c .before .before .before .before .before .before .read-item .ensures)) in
-    omega (arith, there .1, d .within, c .before .before .before .before .before .before .before .before .before .before .before .before .loop .inv .1 .1 .high, ap (λ (x : Cursor). x .end) (c .moved .ensures), ap (λ (x : Cursor). x .at) (c .moved .ensures), ap (λ (x : Cursor). x .end) (c .before .before .before .before .before .before .before .before .before .before .before .before .loop .inv .1 .0))
+    let at-read-item = c .before .before .before .before .before .before in
+    let at-item2 = at-read-item .before .before .before in
+    let at-item = at-item2 .before .before in
+    let at-loop = at-item .before in
+    let entry = at-loop .before .before .before in
+    let there = level.stands (entry .args .c) (at-loop .loop .here) (λ (x : Cursor). itemAt (entry .args .file .now) x) (at-loop .loop .inv .1 .0) (at-item .item .ensures) (at-item2 .item2 .given .1) in
+    let d = level.below _ (level.walked (c .before .before .next2 .given .1) (at-read-item .read-item .ensures)) in
+    omega (arith, there .1, d .within, at-loop .loop .inv .1 .1 .high, ap (λ (x : Cursor). x .end) (c .moved .ensures), ap (λ (x : Cursor). x .at) (c .moved .ensures), ap (λ (x : Cursor). x .end) (at-loop .loop .inv .1 .0))
 
 loop-again : tie.Need-loop-again Inv-loop μ-loop
 loop-again c =
-    let there = level.stands (c .before .before .before .before .before .before .before .before .before .before .before .before .before .before .before .args .c) (c .before .before .before .before .before .before .before .before .before .before .before .before .loop .here) (λ (x : Cursor). itemAt (c .before .before .before .before .before .before .before .before .before .before .before .before .before .before .before .args .file .now) x) (c .before .before .before .before .before .before .before .before .before .before .before .before .loop .inv .1 .0) (c .before .before .before .before .before .before .before .before .before .before .before .item .ensures) (c .before .before .before .before .before .before .before .before .before .item2 .given .1) in (
-      c .before .before .before .before .before .before .before .before .before .item2 .given .0 .0 + 1,
-      level.along _ _ _ _ (c .before .before .before .before .before .before .before .before .before .before .before .before .before .before .before .args .c) _ _ (c .before .before .before .before .before .before .before .before .before .before .before .before .loop .here) _ (c .before .before .before .before .before .before .before .before .before .before .before .before .loop .inv .1 .0) (c .moved .ensures)
-          (level.again _ _ _ _ (c .before .before .before .before .before .before .before .before .before .before .before .before .before .before .before .args .c) _ _ (c .before .before .before .before .before .before .before .before .before .before .before .before .loop .inv .1 .1) (there .0) (there .1) (c .before .before .before .before .before .before .read-item .kept .1 .1 .1 .0) refl (level.walked (c .before .before .next2 .given .1) (c .before .before .before .before .before .before .read-item .ensures))
-          (λ h. absurd (omega (arith, h, c .before .before .before .before .before .before .read-item .kept .1 .1 .1 .0, c .before .before .before .before .before .before .before .before .before .before .before .before .loop .inv .1 .1 .kept, c .before .before .before .before .before .before .before .before .before .before .before .before .before .before .before .pre .1)))),
+    let at-read-item = c .before .before .before .before .before .before in
+    let at-item2 = at-read-item .before .before .before in
+    let at-item = at-item2 .before .before in
+    let at-loop = at-item .before in
+    let entry = at-loop .before .before .before in
+    let there = level.stands (entry .args .c) (at-loop .loop .here) (λ (x : Cursor). itemAt (entry .args .file .now) x) (at-loop .loop .inv .1 .0) (at-item .item .ensures) (at-item2 .item2 .given .1) in (
+      at-item2 .item2 .given .0 .0 + 1,
+      level.along _ _ _ _ (entry .args .c) _ _ (at-loop .loop .here) _ (at-loop .loop .inv .1 .0) (c .moved .ensures)
+          (level.again _ _ _ _ (entry .args .c) _ _ (at-loop .loop .inv .1 .1) (there .0) (there .1) (at-read-item .read-item .kept .1 .1 .1 .0) refl (level.walked (c .before .before .next2 .given .1) (at-read-item .read-item .ensures))
+          (λ h. absurd (omega (arith, h, at-read-item .read-item .kept .1 .1 .1 .0, at-loop .loop .inv .1 .1 .kept, entry .pre .1)))),
     )
 
 pub items-spec : {M : Type 1} → statement M

@@ -21,18 +21,23 @@ enum-known-syntax c = search needs
 
 checked-requires : tie.Need-checked-requires
 checked-requires c κs =
-    let size = length (c .before .before .before .before .before .before .before .args .file .now) in
-    (c .before .before .before .before .before .before .before .pre .0, (subst (λ (x : Uid). UidWithin size x) (c .before .before .before .before .class .given .1) (c .before .before .before .before .before .before .before .pre .1 .0), subst (λ (x : Uid). UidWithin size x) (c .before .syntax .given .1) (c .before .before .before .before .before .before .before .pre .1 .1)))
+    let at-class = c .before .before .before .before in
+    let entry = at-class .before .before .before in
+    let size = length (entry .args .file .now) in
+    (entry .pre .0, (subst (λ (x : Uid). UidWithin size x) (at-class .class .given .1) (entry .pre .1 .0), subst (λ (x : Uid). UidWithin size x) (c .before .syntax .given .1) (entry .pre .1 .1)))
 
 returns : tie.Need-returns
 returns c = (rw (c .enum-told .given .1), tt)
 
 returns-2 : tie.Need-returns-2
-returns-2 c = (rw (c .before .before .before .class .given .1, c .enum-told2 .given .1), tt)
+returns-2 c =
+    let at-class = c .before .before .before in
+    (rw (at-class .class .given .1, c .enum-told2 .given .1), tt)
 
 returns-3 : tie.Need-returns-3
 returns-3 c =
-    (rw (c .before .before .before .before .before .class .given .1, c .before .before .syntax .given .1) (c .checked .ensures .0), c .checked .ensures .1)
+    let at-class = c .before .before .before .before .before in
+    (rw (at-class .class .given .1, c .before .before .syntax .given .1) (c .checked .ensures .0), c .checked .ensures .1)
 
 pub names-spec : {M : Type 1} → statement M
 names-spec = tie.close (tie.spec enum-told enum-known-class enum-told-2 enum-known-syntax checked-requires returns returns-2 returns-3)

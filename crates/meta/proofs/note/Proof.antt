@@ -19,7 +19,8 @@ chosen-requires-2 c κs = search needs
 returns : tie.Need-returns
 unfolding noted
 returns c =
-    rw (c .before .before .has-only-group-2 .ensures, c .before .chosen .ensures, c .chosen2 .ensures, c .before .before .before .uid-at .ensures .0)
+    let at-uid-at = c .before .before .before in
+    rw (c .before .before .has-only-group-2 .ensures, c .before .chosen .ensures, c .chosen2 .ensures, at-uid-at .uid-at .ensures .0)
 
 pub note-spec : {M : Type 1} → statement M
 note-spec =

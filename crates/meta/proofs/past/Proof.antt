@@ -14,11 +14,14 @@ same-length c = search needs
 
 returns : tie.Need-returns
 returns c =
-    level.of-run (sym (level.value-items 8 (c .before .before .before .before .before .before .before .args .file .now) (c .before .before .before .before .before .before .before .args .first) (c .before .before .before .before .before .before .before .args .vr) (c .before .before .before .before .before .before .before .args .value) (λ z. absurd (omega (arith, z))) (c .before .before .before .before .if1 .taken))) (c .before .before .items .ensures)
+    let at-if1 = c .before .before .before .before in
+    let entry = at-if1 .before .before .before in
+    level.of-run (sym (level.value-items 8 (entry .args .file .now) (entry .args .first) (entry .args .vr) (entry .args .value) (λ z. absurd (omega (arith, z))) (at-if1 .if1 .taken))) (c .before .before .items .ensures)
 
 returns-2 : tie.Need-returns-2
 returns-2 c =
-    level.leaf _ (c .before .before .before .args .value) (c .before .before .before .args .first) (c .before .before .before .args .none .now) (c .before .before .before .pre .0 .start) (level.value-plain 8 (c .before .before .before .args .file .now) (c .before .before .before .args .first) (c .before .before .before .args .vr) (c .before .before .before .args .value) (c .if1 .left))
+    let entry = c .before .before .before in
+    level.leaf _ (entry .args .value) (entry .args .first) (entry .args .none .now) (entry .pre .0 .start) (level.value-plain 8 (entry .args .file .now) (entry .args .first) (entry .args .vr) (entry .args .value) (c .if1 .left))
 
 pub past-spec : {M : Type 1} → statement M
 past-spec = tie.close (tie.spec items-requires same-length returns returns-2)

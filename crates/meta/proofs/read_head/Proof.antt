@@ -14,17 +14,21 @@ has-group-length-requires c κs = search needs
 
 headed-requires : tie.Need-headed-requires
 headed-requires c κs =
-    tests.long-enough (c .before .before .before .before .before .args .file .now) (sym (c .before .has-group-length .ensures) ∙ c .if2 .taken)
+    let entry = c .before .before .before .before .before in
+    tests.long-enough (entry .args .file .now) (sym (c .before .has-group-length .ensures) ∙ c .if2 .taken)
 
 returns : tie.Need-returns
 unfolding metaOf
 returns c =
-    (rw (← c .before .before .before .before .is-marked .ensures, c .before .before .before .if1 .taken, ← c .before .before .has-group-length .ensures, c .before .if2 .taken) (c .headed .ensures .0), c .headed .ensures .1)
+    let at-if1 = c .before .before .before in
+    let at-is-marked = at-if1 .before in
+    (rw (← at-is-marked .is-marked .ensures, at-if1 .if1 .taken, ← c .before .before .has-group-length .ensures, c .before .if2 .taken) (c .headed .ensures .0), c .headed .ensures .1)
 
 returns-2 : tie.Need-returns-2
 unfolding metaOf
 returns-2 c =
-    (rw (← c .before .before .before .is-marked .ensures, c .before .before .if1 .taken, ← c .before .has-group-length .ensures, c .if2 .left), tt)
+    let at-is-marked = c .before .before .before in
+    (rw (← at-is-marked .is-marked .ensures, c .before .before .if1 .taken, ← c .before .has-group-length .ensures, c .if2 .left), tt)
 
 returns-3 : tie.Need-returns-3
 unfolding metaOf

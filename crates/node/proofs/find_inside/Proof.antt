@@ -18,13 +18,15 @@ add-find-tag c = search needs
 
 find-tag-requires : tie.Need-find-tag-requires
 find-tag-requires c κs =
-    let start = c .before .before .before .before in
+    let earlier = c .before .before .before .before in
+    let start = earlier in
     let n = c .before .next .ensures in
     (start .pre .0, (n .1, rw (n .0) (halves.inside-ascends _ _ (start .pre .0) (start .args .holder) (start .pre .1))))
 
 returns : tie.Need-returns
 returns c =
-    let start = c .before .before .before .before .before in
+    let earlier = c .before .before .before .before .before in
+    let start = earlier in
     let n = c .before .before .next in (
       rw (← n .ensures .0) (c .find-tag .ensures .0),
       below-more (n .result) (length (nodesOf (start .args .bytes .now))) (c .find-tag .result) (n .ensures .1) (c .find-tag .ensures .1),
@@ -35,12 +37,14 @@ add-find-wide c = search needs
 
 find-wide-requires : tie.Need-find-wide-requires
 find-wide-requires c κs =
-    let start = c .before .before .before .before in
+    let earlier = c .before .before .before .before in
+    let start = earlier in
     (start .pre .0, halves.node-container _ _ (start .pre .0) (start .args .holder) (start .pre .1) _ (c .before .next .ensures .0))
 
 returns-2 : tie.Need-returns-2
 returns-2 c =
-    let start = c .before .before .before .before .before in
+    let earlier = c .before .before .before .before .before in
+    let start = earlier in
     let n = c .before .before .next in (
       rw (← n .ensures .0) (c .find-wide .ensures .0),
       below-more (n .result) (length (nodesOf (start .args .bytes .now))) (c .find-wide .result) (n .ensures .1) (c .find-wide .ensures .1),

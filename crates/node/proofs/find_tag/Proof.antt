@@ -24,22 +24,29 @@ loop-holds : tie.Need-loop-holds Inv-loop μ-loop
 loop-holds c = (refl, (0, c .before .before .pre .1 .1))
 
 tag-requires : tie.Need-tag-requires Inv-loop μ-loop
-tag-requires c κs = (c .before .before .before .before .pre .0, omega (arith, c .loop-test .taken, c .before .before .before .before .pre .1 .0))
+tag-requires c κs =
+    let entry = c .before .before .before .before in
+    (entry .pre .0, omega (arith, c .loop-test .taken, entry .pre .1 .0))
 
 returns : tie.Need-returns Inv-loop μ-loop
 returns c =
-    let inside = c .before .before .before .loop-test .taken in
-    (sym (find-here _ _ _ _ inside (sym (c .before .before .tag .ensures) ∙ c .if2 .taken)) ∙ c .before .before .before .before .loop .inv .0, inside)
+    let at-loop-test = c .before .before .before in
+    let at-loop = at-loop-test .before in
+    let inside = at-loop-test .loop-test .taken in
+    (sym (find-here _ _ _ _ inside (sym (c .before .before .tag .ensures) ∙ c .if2 .taken)) ∙ at-loop .loop .inv .0, inside)
 
 returns-2 : tie.Need-returns-2 Inv-loop μ-loop
 returns-2 c =
-    let inside = c .before .before .before .loop-test .taken in
-    let inv = c .before .before .before .before .loop .inv in
+    let at-loop-test = c .before .before .before in
+    let at-loop = at-loop-test .before in
+    let inside = at-loop-test .loop-test .taken in
+    let inv = at-loop .loop .inv in
     (sym (find-past _ _ _ _ (inv .1 .0) inside (inv .1 .1) (omega (arith, c .before .before .tag .ensures, c .before .if1 .taken, c .if2 .left))) ∙ inv .0, tt)
 
 next-requires : tie.Need-next-requires Inv-loop μ-loop
 next-requires c κs =
-    let start = c .before .before .before .before .before .before in
+    let earlier = c .before .before .before .before .before .before in
+    let start = earlier in
     (start .pre .0, omega (arith, c .before .before .loop-test .taken, start .pre .1 .0))
 
 loop-less : tie.Need-loop-less Inv-loop μ-loop
@@ -47,12 +54,15 @@ loop-less c = search needs
 
 loop-again : tie.Need-loop-again Inv-loop μ-loop
 loop-again c =
-    let inside = c .before .before .before .loop-test .taken in
-    let inv = c .before .before .before .before .loop .inv in
-    let start = c .before .before .before .before .before .before .before in
+    let at-loop-test = c .before .before .before in
+    let at-loop = at-loop-test .before in
+    let earlier = at-loop .before .before .before in
+    let inside = at-loop-test .loop-test .taken in
+    let inv = at-loop .loop .inv in
+    let start = earlier in
     rw (c .next .ensures .0) (
       sym (find-later _ _ _ _ inside (λ e. omega (arith, c .before .if1 .left, c .before .before .tag .ensures ∙ e))) ∙ inv .0,
-      (nodeAt (nodesOf (start .args .bytes .now)) (c .before .before .before .before .loop .i) .tag, ascends-next _ _ _ (inv .1 .0) inside (inv .1 .1)),
+      (nodeAt (nodesOf (start .args .bytes .now)) (at-loop .loop .i) .tag, ascends-next _ _ _ (inv .1 .0) inside (inv .1 .1)),
     )
 
 returns-3 : tie.Need-returns-3 Inv-loop μ-loop

@@ -9,7 +9,8 @@ count-requires c κs = search needs
 
 find-wide-requires : tie.Need-find-wide-requires
 find-wide-requires c κs =
-    let p = c .before .before .before .pre in
+    let entry = c .before .before .before in
+    let p = entry .pre in
     (p, halves.root-container _ _ p _ (c .count .ensures .0))
 
 returns : tie.Need-returns

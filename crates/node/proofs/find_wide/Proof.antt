@@ -13,12 +13,14 @@ reach-requires c κs =
 
 first-is-requires : tie.Need-first-is-requires
 first-is-requires c κs =
-    let p = c .before .before .before .pre in
+    let entry = c .before .before .before in
+    let p = entry .pre in
     (p .0, p .1 .ends)
 
 returns : tie.Need-returns
 returns c =
-    let start = c .before .before .before .before in
+    let earlier = c .before .before .before .before in
+    let start = earlier in
     let a = start .args in
     let p = start .pre in
     let ns = nodesOf (a .bytes .now) in (

@@ -25,12 +25,14 @@ sub-member-above c = omega (arith, c .loop-test .taken)
 
 add-member-above : tie.Need-add-member-above Inv-loop μ-loop
 add-member-above c =
-    let p = c .before .before .before .before .pre in
+    let entry = c .before .before .before .before in
+    let p = entry .pre in
     omega (arith, c .loop-test .taken, c .before .loop .inv, p .1 .ends, p .0 .few)
 
 member-above-requires : tie.Need-member-above-requires Inv-loop μ-loop
 member-above-requires c κs =
-    let start = c .before .before .before .before in
+    let earlier = c .before .before .before .before in
+    let start = earlier in
     let p = start .pre in
     let inv = c .before .loop .inv in (
       p .0,
@@ -44,42 +46,57 @@ member-above-requires c κs =
 
 tag-requires : tie.Need-tag-requires Inv-loop μ-loop
 tag-requires c κs =
-    let start = c .before .before .before .before .before in
+    let earlier = c .before .before .before .before .before in
+    let start = earlier in
     let p = start .pre in
     let up = c .member-above in
     (p .0, halves.member-known _ _ (p .0) (start .args .up) (start .args .to) (p .1) _ (up .result) (up .ensures) (omega (arith, c .before .loop-test .taken, c .before .before .loop .inv)))
 
 next-requires : tie.Need-next-requires Inv-loop μ-loop
 next-requires c κs =
-    let start = c .before .before .before .before .before .before .before in
+    let at-loop-test = c .before .before .before in
+    let at-loop = at-loop-test .before in
+    let earlier = at-loop .before .before .before in
+    let start = earlier in
     let p = start .pre in
     let up = c .before .before .member-above in
-    (p .0, halves.member-known _ _ (p .0) (start .args .up) (start .args .to) (p .1) _ (up .result) (up .ensures) (omega (arith, c .before .before .before .loop-test .taken, c .before .before .before .before .loop .inv)))
+    (p .0, halves.member-known _ _ (p .0) (start .args .up) (start .args .to) (p .1) _ (up .result) (up .ensures) (omega (arith, at-loop-test .loop-test .taken, at-loop .loop .inv)))
 
 loop-less : tie.Need-loop-less Inv-loop μ-loop
 loop-less c =
-    omega (arith, c .before .before .before .before .loop-test .taken, c .next .ensures .0, c .before .before .before .member-above .ensures .high)
+    let at-member-above = c .before .before .before in
+    let at-loop-test = at-member-above .before in
+    omega (arith, at-loop-test .loop-test .taken, c .next .ensures .0, at-member-above .member-above .ensures .high)
 
 loop-again : tie.Need-loop-again Inv-loop μ-loop
 loop-again c =
-    let start = c .before .before .before .before .before .before .before .before in
+    let at-member-above = c .before .before .before in
+    let at-loop-test = at-member-above .before in
+    let at-loop = at-loop-test .before in
+    let earlier = at-loop .before .before .before in
+    let start = earlier in
     let p = start .pre in
-    let inv = c .before .before .before .before .before .loop .inv in
-    let inside = c .before .before .before .before .loop-test .taken in
-    let up = c .before .before .before .member-above in
+    let inv = at-loop .loop .inv in
+    let inside = at-loop-test .loop-test .taken in
+    let up = at-member-above .member-above in
     let s = halves.first-side _ _ (p .0) (start .args .up) (start .args .to) (p .1) _ (up .result) (up .ensures) (omega (arith, inside, inv)) (start .args .wanted) in
     let r = s .right (omega (arith, c .before .before .tag .ensures, c .before .if1 .taken)) in
     omega (arith, inv, up .ensures .after, c .next .ensures .0, r)
 
 loop-less-2 : tie.Need-loop-less-2 Inv-loop μ-loop
-loop-less-2 c = omega (arith, c .before .before .before .loop-test .taken, c .before .before .member-above .ensures .low)
+loop-less-2 c =
+    let at-loop-test = c .before .before .before in
+    omega (arith, at-loop-test .loop-test .taken, c .before .before .member-above .ensures .low)
 
 loop-again-2 : tie.Need-loop-again-2 Inv-loop μ-loop
 loop-again-2 c =
-    let start = c .before .before .before .before .before .before .before in
+    let at-loop-test = c .before .before .before in
+    let at-loop = at-loop-test .before in
+    let earlier = at-loop .before .before .before in
+    let start = earlier in
     let p = start .pre in
-    let inv = c .before .before .before .before .loop .inv in
-    let inside = c .before .before .before .loop-test .taken in
+    let inv = at-loop .loop .inv in
+    let inside = at-loop-test .loop-test .taken in
     let up = c .before .before .member-above in
     let s = halves.first-side _ _ (p .0) (start .args .up) (start .args .to) (p .1) _ (up .result) (up .ensures) (omega (arith, inside, inv)) (start .args .wanted) in
     let r = s .left (omega (arith, c .before .tag .ensures, c .if1 .left)) in

@@ -18,7 +18,8 @@ loop-holds c = omega (arith, c .before .before .pre .1 .low)
 
 parent-requires : tie.Need-parent-requires Inv-loop μ-loop
 parent-requires c κs =
-    let p = c .before .before .before .pre in
+    let entry = c .before .before .before in
+    let p = entry .pre in
     (p .0, omega (arith, c .loop .inv, p .1 .high, p .1 .within .ends))
 
 returns : tie.Need-returns Inv-loop μ-loop
@@ -28,7 +29,8 @@ returns c =
 
 sub-m : tie.Need-sub-m Inv-loop μ-loop
 sub-m c =
-    let start = c .before .before .before .before .before in
+    let earlier = c .before .before .before .before .before in
+    let start = earlier in
     let p = start .pre in
     let h = p .1 in
     let inv = c .before .before .loop .inv in
@@ -37,7 +39,8 @@ sub-m c =
 
 loop-less : tie.Need-loop-less Inv-loop μ-loop
 loop-less c =
-    let start = c .before .before .before .before .before in
+    let earlier = c .before .before .before .before .before in
+    let start = earlier in
     let p = start .pre in
     let h = p .1 in
     let inv = c .before .before .loop .inv in
@@ -46,7 +49,8 @@ loop-less c =
 
 loop-again : tie.Need-loop-again Inv-loop μ-loop
 loop-again c =
-    let start = c .before .before .before .before .before in
+    let earlier = c .before .before .before .before .before in
+    let start = earlier in
     let p = start .pre in
     let h = p .1 in
     let inv = c .before .before .loop .inv in

@@ -20,12 +20,14 @@ loop-holds c = refl
 
 tag-requires : tie.Need-tag-requires Inv-loop μ-loop
 tag-requires c κs =
-    let start = c .before .before .before .before .before in
+    let earlier = c .before .before .before .before .before in
+    let start = earlier in
     (start .pre .0, omega (arith, c .if1 .taken, start .pre .1))
 
 next-requires : tie.Need-next-requires Inv-loop μ-loop
 next-requires c κs =
-    let start = c .before .before .before .before .before .before .before in
+    let earlier = c .before .before .before .before .before .before .before in
+    let start = earlier in
     (start .pre .0, omega (arith, c .before .before .if1 .taken, start .pre .1))
 
 sub-left : tie.Need-sub-left Inv-loop μ-loop
@@ -36,13 +38,16 @@ loop-less c = search needs
 
 loop-again : tie.Need-loop-again Inv-loop μ-loop
 loop-again c =
+    let at-if1 = c .before .before .before in
+    let at-loop = at-if1 .before .before in
     rw (c .next .ensures .0)
-    (from-later _ _ _ _ (c .before .before .before .if1 .taken) (omega (arith, c .before .before .tag .ensures, c .before .if2 .taken))
-    ∙ c .before .before .before .before .before .loop .inv)
+    (from-later _ _ _ _ (at-if1 .if1 .taken) (omega (arith, c .before .before .tag .ensures, c .before .if2 .taken))
+    ∙ at-loop .loop .inv)
 
 returns : tie.Need-returns Inv-loop μ-loop
 returns c =
-    from-here _ _ _ _ (c .before .before .if1 .taken) (omega (arith, c .before .tag .ensures, c .if2 .left)) ∙ c .before .before .before .before .loop .inv
+    let at-loop = c .before .before .before .before in
+    from-here _ _ _ _ (c .before .before .if1 .taken) (omega (arith, c .before .tag .ensures, c .if2 .left)) ∙ at-loop .loop .inv
 
 returns-2 : tie.Need-returns-2 Inv-loop μ-loop
 returns-2 c = from-end _ _ _ _ (omega (arith, c .if1 .left)) ∙ c .before .before .loop .inv

@@ -9,40 +9,42 @@ use Rattle.node.proofs.next.Tie as tie
 add-result : tie.Need-add-result
 add-result c = search needs
 
-mul-wide : tie.Need-mul-wide
-mul-wide c = search needs
+mul-wider : tie.Need-mul-wider
+mul-wider c = search needs
 
-add-wide : tie.Need-add-wide
-add-wide c = search needs
+add-wider : tie.Need-add-wider
+add-wider c = search needs
 
-mul-wide-2 : tie.Need-mul-wide-2
-mul-wide-2 c = search needs
+mul-wider-2 : tie.Need-mul-wider-2
+mul-wider-2 c = search needs
 
-shared-slice-read-wide : tie.Need-shared-slice-read-wide
-shared-slice-read-wide c = search needs
+shared-slice-read-wider : tie.Need-shared-slice-read-wider
+shared-slice-read-wider c = search needs
 
-wide-requires : tie.Need-wide-requires
-wide-requires c κs = search needs
+wider-requires : tie.Need-wider-requires
+wider-requires c κs = search needs
 
 add-result-2 : tie.Need-add-result-2
 add-result-2 c =
-    let e = c .wide .ensures ∙ laws.descendants-is (c .before .before .before .before .args .bytes .now) (c .before .before .before .before .args .rows .now) (c .before .before .before .before .pre .0) (c .before .before .before .before .args .i) (c .before .before .before .before .pre .1) in
-    omega (arith, e, laws.next-within (c .before .before .before .before .args .bytes .now) (c .before .before .before .before .args .rows .now) (c .before .before .before .before .pre .0) (c .before .before .before .before .args .i) (c .before .before .before .before .pre .1), c .before .before .before .before .pre .0 .few)
+    let entry = c .before .before .before .before in
+    let e = c .wider .ensures ∙ laws.descendants-is (entry .args .bytes .now) (entry .args .rows .now) (entry .pre .0) (entry .args .i) (entry .pre .1) in
+    omega (arith, e, laws.next-within (entry .args .bytes .now) (entry .args .rows .now) (entry .pre .0) (entry .args .i) (entry .pre .1), entry .pre .0 .few)
 
 returns : tie.Need-returns
 returns c =
-    let e = c .wide .ensures ∙ laws.descendants-is (c .before .before .before .before .args .bytes .now) (c .before .before .before .before .args .rows .now) (c .before .before .before .before .pre .0) (c .before .before .before .before .args .i) (c .before .before .before .before .pre .1) in
-    omega (arith, e, laws.next-within (c .before .before .before .before .args .bytes .now) (c .before .before .before .before .args .rows .now) (c .before .before .before .before .pre .0) (c .before .before .before .before .args .i) (c .before .before .before .before .pre .1))
+    let entry = c .before .before .before .before in
+    let e = c .wider .ensures ∙ laws.descendants-is (entry .args .bytes .now) (entry .args .rows .now) (entry .pre .0) (entry .args .i) (entry .pre .1) in
+    omega (arith, e, laws.next-within (entry .args .bytes .now) (entry .args .rows .now) (entry .pre .0) (entry .args .i) (entry .pre .1))
 
 pub next-spec : {M : Type 1} → statement M
 next-spec =
     tie.close
     (tie.spec
     add-result
-    mul-wide
-    add-wide
-    mul-wide-2
-    shared-slice-read-wide
-    wide-requires
+    mul-wider
+    add-wider
+    mul-wider-2
+    shared-slice-read-wider
+    wider-requires
     add-result-2
     returns)

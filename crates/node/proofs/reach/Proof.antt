@@ -21,19 +21,23 @@ enum-told c = search needs
 
 first-from-requires : tie.Need-first-from-requires
 first-from-requires c κs =
-    let p = c .before .before .before .before .before .pre in
+    let entry = c .before .before .before .before .before in
+    let p = entry .pre in
     (p .0, p .1 .0)
 
 returns : tie.Need-returns
 returns c =
-    let start = c .before .before .before .before .before .before in
+    let at-near = c .before .before .before in
+    let earlier = at-near .before .before .before in
+    let start = earlier in
     let a = start .args in
-    subst (λ (x : Num). Nearby (nodesOf (a .bytes .now)) (a .wanted) (a .from) (a .to) x) (c .before .n .given .1) (c .before .before .before .near .ensures)
+    subst (λ (x : Num). Nearby (nodesOf (a .bytes .now)) (a .wanted) (a .from) (a .to) x) (c .before .n .given .1) (at-near .near .ensures)
     ∙ start .pre .1 .1
 
 returns-2 : tie.Need-returns-2
 returns-2 c =
-    let start = c .before .before .before .before .before .before in
+    let earlier = c .before .before .before .before .before .before in
+    let start = earlier in
     let a = start .args in
     let p = start .pre in
     halves.first-goes-on _ _ (p .0) (a .up) (a .to) (p .1 .0) (a .wanted) _ (c .first-from .ensures)

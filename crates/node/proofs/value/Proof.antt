@@ -9,70 +9,74 @@ use borrow.Author.Needs.{needs}
 use Rattle.node.proofs.value.Statement.{statement}
 use Rattle.node.proofs.value.Tie as tie
 
-mul-wide : tie.Need-mul-wide
-mul-wide c = search needs
+mul-wider : tie.Need-mul-wider
+mul-wider c = search needs
 
-add-wide : tie.Need-add-wide
-add-wide c = search needs
+add-wider : tie.Need-add-wider
+add-wider c = search needs
 
-mul-wide-2 : tie.Need-mul-wide-2
-mul-wide-2 c = search needs
+mul-wider-2 : tie.Need-mul-wider-2
+mul-wider-2 c = search needs
 
-shared-slice-read-wide : tie.Need-shared-slice-read-wide
-shared-slice-read-wide c = search needs
+shared-slice-read-wider : tie.Need-shared-slice-read-wider
+shared-slice-read-wider c = search needs
 
-wide-requires : tie.Need-wide-requires
-wide-requires c κs = search needs
+wider-requires : tie.Need-wider-requires
+wider-requires c κs = search needs
 
 slice-aggregate-result : tie.Need-slice-aggregate-result
 slice-aggregate-result c = search needs
 
 returns : tie.Need-returns
 returns c =
-    laws.value-none (c .before .before .before .before .before .before .args .bytes .now) (c .before .before .before .before .before .before .args .rows .now) (c .before .before .before .before .before .before .pre .0) (c .before .before .before .before .before .before .args .i) (c .before .before .before .before .before .before .pre .1)
-    (inl (sym (laws.vr-is (c .before .before .before .before .before .before .args .bytes .now) (c .before .before .before .before .before .before .args .rows .now) (c .before .before .before .before .before .before .pre .0) (c .before .before .before .before .before .before .args .i) (c .before .before .before .before .before .before .pre .1)) ∙ sym (c .before .before .wide .ensures) ∙ c .before .if1 .taken))
+    let entry = c .before .before .before .before .before .before in
+    laws.value-none (entry .args .bytes .now) (entry .args .rows .now) (entry .pre .0) (entry .args .i) (entry .pre .1)
+    (inl (sym (laws.vr-is (entry .args .bytes .now) (entry .args .rows .now) (entry .pre .0) (entry .args .i) (entry .pre .1)) ∙ sym (c .before .before .wider .ensures) ∙ c .before .if1 .taken))
 
 slice-aggregate-result-2 : tie.Need-slice-aggregate-result-2
 slice-aggregate-result-2 c = search needs
 
 returns-2 : tie.Need-returns-2
 returns-2 c =
-    laws.value-none (c .before .before .before .before .before .before .before .args .bytes .now) (c .before .before .before .before .before .before .before .args .rows .now) (c .before .before .before .before .before .before .before .pre .0) (c .before .before .before .before .before .before .before .args .i) (c .before .before .before .before .before .before .before .pre .1)
-    (inr (sym (laws.vr-is (c .before .before .before .before .before .before .before .args .bytes .now) (c .before .before .before .before .before .before .before .args .rows .now) (c .before .before .before .before .before .before .before .pre .0) (c .before .before .before .before .before .before .before .args .i) (c .before .before .before .before .before .before .before .pre .1)) ∙ sym (c .before .before .before .wide .ensures) ∙ c .before .if2 .taken))
+    let at-wider = c .before .before .before in
+    let entry = at-wider .before .before .before .before in
+    laws.value-none (entry .args .bytes .now) (entry .args .rows .now) (entry .pre .0) (entry .args .i) (entry .pre .1)
+    (inr (sym (laws.vr-is (entry .args .bytes .now) (entry .args .rows .now) (entry .pre .0) (entry .args .i) (entry .pre .1)) ∙ sym (at-wider .wider .ensures) ∙ c .before .if2 .taken))
 
-mul-wide-3 : tie.Need-mul-wide-3
-mul-wide-3 c = search needs
+mul-wider-3 : tie.Need-mul-wider-3
+mul-wider-3 c = search needs
 
-add-wide-2 : tie.Need-add-wide-2
-add-wide-2 c = search needs
+add-wider-2 : tie.Need-add-wider-2
+add-wider-2 c = search needs
 
-mul-wide-4 : tie.Need-mul-wide-4
-mul-wide-4 c = search needs
+mul-wider-4 : tie.Need-mul-wider-4
+mul-wider-4 c = search needs
 
-shared-slice-read-wide-2 : tie.Need-shared-slice-read-wide-2
-shared-slice-read-wide-2 c = search needs
+shared-slice-read-wider-2 : tie.Need-shared-slice-read-wider-2
+shared-slice-read-wider-2 c = search needs
 
-wide-requires-2 : tie.Need-wide-requires-2
-wide-requires-2 c κs = search needs
+wider-requires-2 : tie.Need-wider-requires-2
+wider-requires-2 c κs = search needs
 
-mul-wide-5 : tie.Need-mul-wide-5
-mul-wide-5 c = search needs
+mul-wider-5 : tie.Need-mul-wider-5
+mul-wider-5 c = search needs
 
-add-wide-3 : tie.Need-add-wide-3
-add-wide-3 c = search needs
+add-wider-3 : tie.Need-add-wider-3
+add-wider-3 c = search needs
 
-mul-wide-6 : tie.Need-mul-wide-6
-mul-wide-6 c = search needs
+mul-wider-6 : tie.Need-mul-wider-6
+mul-wider-6 c = search needs
 
-shared-slice-read-wide-3 : tie.Need-shared-slice-read-wide-3
-shared-slice-read-wide-3 c = search needs
+shared-slice-read-wider-3 : tie.Need-shared-slice-read-wider-3
+shared-slice-read-wider-3 c = search needs
 
-wide-requires-3 : tie.Need-wide-requires-3
-wide-requires-3 c κs = search needs
+wider-requires-3 : tie.Need-wider-requires-3
+wider-requires-3 c κs = search needs
 
 add-end : tie.Need-add-end
 add-end c =
-    omega (arith, c .before .before .wide2 .ensures, c .wide3 .ensures, laws.value-within (c .before .before .before .before .before .before .before .before .before .before .args .bytes .now) (c .before .before .before .before .before .before .before .before .before .before .args .rows .now) (c .before .before .before .before .before .before .before .before .before .before .pre .0) (c .before .before .before .before .before .before .before .before .before .before .args .i) (c .before .before .before .before .before .before .before .before .before .before .pre .1))
+    let entry = c .before .before .before .before .before .before .before .before .before .before in
+    omega (arith, c .before .before .wider2 .ensures, c .wider3 .ensures, laws.value-within (entry .args .bytes .now) (entry .args .rows .now) (entry .pre .0) (entry .args .i) (entry .pre .1))
 
 sub-result : tie.Need-sub-result
 sub-result c = search needs
@@ -82,40 +86,46 @@ part-result-start c = search needs
 
 part-result-end : tie.Need-part-result-end
 part-result-end c =
-    omega (arith, c .before .before .wide2 .ensures, c .wide3 .ensures, laws.value-within (c .before .before .before .before .before .before .before .before .before .before .args .bytes .now) (c .before .before .before .before .before .before .before .before .before .before .args .rows .now) (c .before .before .before .before .before .before .before .before .before .before .pre .0) (c .before .before .before .before .before .before .before .before .before .before .args .i) (c .before .before .before .before .before .before .before .before .before .before .pre .1))
+    let entry = c .before .before .before .before .before .before .before .before .before .before in
+    omega (arith, c .before .before .wider2 .ensures, c .wider3 .ensures, laws.value-within (entry .args .bytes .now) (entry .args .rows .now) (entry .pre .0) (entry .args .i) (entry .pre .1))
 
 returns-3 : tie.Need-returns-3
 returns-3 c =
-    let s = c .before .before .before .before .before .before .before .before .before .before .before .args .bytes .now in
-    let rows = c .before .before .before .before .before .before .before .before .before .before .before .args .rows .now in
-    let v = laws.vr-is s rows (c .before .before .before .before .before .before .before .before .before .before .before .pre .0) (c .before .before .before .before .before .before .before .before .before .before .before .args .i) (c .before .before .before .before .before .before .before .before .before .before .before .pre .1) in
-    let e : getD rows (7 * c .before .before .before .before .before .before .before .before .before .before .before .args .i + 3) 0 + getD rows (7 * c .before .before .before .before .before .before .before .before .before .before .before .args .i + 4) 0 - getD rows (7 * c .before .before .before .before .before .before .before .before .before .before .before .args .i + 3) 0 ≡ getD rows (7 * c .before .before .before .before .before .before .before .before .before .before .before .args .i + 4) 0 = omega arith in
-    rw (c .before .before .before .wide2 .ensures, c .before .wide3 .ensures, e)
-    (laws.value-part s rows (c .before .before .before .before .before .before .before .before .before .before .before .pre .0) (c .before .before .before .before .before .before .before .before .before .before .before .args .i) (c .before .before .before .before .before .before .before .before .before .before .before .pre .1) (λ q. c .before .before .before .before .before .before .if1 .left (c .before .before .before .before .before .before .before .wide .ensures ∙ v ∙ q)) (λ q. c .before .before .before .before .before .if2 .left (c .before .before .before .before .before .before .before .wide .ensures ∙ v ∙ q)))
+    let at-wide2 = c .before .before .before in
+    let at-if2 = at-wide2 .before .before in
+    let at-if1 = at-if2 .before in
+    let at-wider = at-if1 .before in
+    let entry = at-wider .before .before .before .before in
+    let s = entry .args .bytes .now in
+    let rows = entry .args .rows .now in
+    let v = laws.vr-is s rows (entry .pre .0) (entry .args .i) (entry .pre .1) in
+    let e : getD rows (7 * entry .args .i + 3) 0 + getD rows (7 * entry .args .i + 4) 0 - getD rows (7 * entry .args .i + 3) 0 ≡ getD rows (7 * entry .args .i + 4) 0 = omega arith in
+    rw (at-wide2 .wider2 .ensures, c .before .wider3 .ensures, e)
+    (laws.value-part s rows (entry .pre .0) (entry .args .i) (entry .pre .1) (λ q. at-if1 .if1 .left (at-wider .wider .ensures ∙ v ∙ q)) (λ q. at-if2 .if2 .left (at-wider .wider .ensures ∙ v ∙ q)))
 
 pub value-spec : {M : Type 1} → statement M
 value-spec =
     tie.close
     (tie.spec
-    mul-wide
-    add-wide
-    mul-wide-2
-    shared-slice-read-wide
-    wide-requires
+    mul-wider
+    add-wider
+    mul-wider-2
+    shared-slice-read-wider
+    wider-requires
     slice-aggregate-result
     returns
     slice-aggregate-result-2
     returns-2
-    mul-wide-3
-    add-wide-2
-    mul-wide-4
-    shared-slice-read-wide-2
-    wide-requires-2
-    mul-wide-5
-    add-wide-3
-    mul-wide-6
-    shared-slice-read-wide-3
-    wide-requires-3
+    mul-wider-3
+    add-wider-2
+    mul-wider-4
+    shared-slice-read-wider-2
+    wider-requires-2
+    mul-wider-5
+    add-wider-3
+    mul-wider-6
+    shared-slice-read-wider-3
+    wider-requires-3
     add-end
     sub-result
     part-result-start

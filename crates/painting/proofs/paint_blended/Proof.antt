@@ -21,7 +21,8 @@ abbrev μ-loop : tie.MeasureT-loop
 
 loop-holds : tie.Need-loop-holds Inv-loop μ-loop
 loop-holds c =
-    (omega arith, (refl, (refl, (c .before .before .before .before .before .before .pre .1 .1 .1 .1 .1, sym (painted-none _ _ _)))))
+    let entry = c .before .before .before .before .before .before in
+    (omega arith, (refl, (refl, (entry .pre .1 .1 .1 .1 .1, sym (painted-none _ _ _)))))
 
 mul-at : tie.Need-mul-at Inv-loop μ-loop
 mul-at c =
@@ -29,31 +30,49 @@ mul-at c =
 
 sub-quarter-line : tie.Need-sub-quarter-line Inv-loop μ-loop
 sub-quarter-line c =
-    omega (arith, row-end (c .before .before .before .before .before .before .before .before .before .before .args .g) (c .before .before .before .loop .row) (c .before .before .loop-test .taken), c .before .before .before .before .before .before .before .before .before .before .pre .0 .room, ap length (c .before .before .before .loop .inv .1 .1 .1 .1) ∙ painted-length _ _ _)
+    let at-loop = c .before .before .before in
+    let entry = at-loop .before .before .before .before .before .before .before in
+    omega (arith, row-end (entry .args .g) (at-loop .loop .row) (c .before .before .loop-test .taken), entry .pre .0 .room, ap length (at-loop .loop .inv .1 .1 .1 .1) ∙ painted-length _ _ _)
 
 part-quarter-line-start : tie.Need-part-quarter-line-start Inv-loop μ-loop
 part-quarter-line-start c =
-    omega (arith, row-end (c .before .before .before .before .before .before .before .before .before .before .args .g) (c .before .before .before .loop .row) (c .before .before .loop-test .taken), c .before .before .before .before .before .before .before .before .before .before .pre .0 .room, ap length (c .before .before .before .loop .inv .1 .1 .1 .1) ∙ painted-length _ _ _)
+    let at-loop = c .before .before .before in
+    let entry = at-loop .before .before .before .before .before .before .before in
+    omega (arith, row-end (entry .args .g) (at-loop .loop .row) (c .before .before .loop-test .taken), entry .pre .0 .room, ap length (at-loop .loop .inv .1 .1 .1 .1) ∙ painted-length _ _ _)
 
 part-quarter-line-end : tie.Need-part-quarter-line-end Inv-loop μ-loop
 part-quarter-line-end c =
-    omega (arith, row-end (c .before .before .before .before .before .before .before .before .before .before .args .g) (c .before .before .before .loop .row) (c .before .before .loop-test .taken), c .before .before .before .before .before .before .before .before .before .before .pre .0 .room, ap length (c .before .before .before .loop .inv .1 .1 .1 .1) ∙ painted-length _ _ _)
+    let at-loop = c .before .before .before in
+    let entry = at-loop .before .before .before .before .before .before .before in
+    omega (arith, row-end (entry .args .g) (at-loop .loop .row) (c .before .before .loop-test .taken), entry .pre .0 .room, ap length (at-loop .loop .inv .1 .1 .1 .1) ∙ painted-length _ _ _)
 
 quarter-line-requires : tie.Need-quarter-line-requires Inv-loop μ-loop
 quarter-line-requires c κs =
-    (record { shape = c .before .before .before .before .before .before .before .before .before .before .before .pre .0 .shape; inside = c .before .before .before .before .before .before .before .before .before .before .before .pre .0 .inside; lies = c .before .before .before .loop-test .taken; room = simp (length-take, length-drop) (omega (arith, row-end (c .before .before .before .before .before .before .before .before .before .before .before .args .g) (c .before .before .before .before .loop .row) (c .before .before .before .loop-test .taken), c .before .before .before .before .before .before .before .before .before .before .before .pre .0 .room, ap length (c .before .before .before .before .loop .inv .1 .1 .1 .1) ∙ painted-length _ _ _)) }, (c .before .before .before .before .before .before .before .before .before .before .before .pre .1 .0, (c .before .before .before .before .before .before .before .before .before .before .before .pre .1 .1 .0, (omega (arith, c .before .before .before .before .loop .inv .1 .0, c .before .before .before .before .before .before .before .before .before .before .before .pre .1 .1 .1 .0), (omega (arith, c .before .before .before .before .loop .inv .1 .1 .0, c .before .before .before .before .before .before .before .before .before .before .before .pre .1 .1 .1 .1 .0), c .before .before .before .before .loop .inv .1 .1 .1 .0)))))
+    let at-loop-test = c .before .before .before in
+    let at-loop = at-loop-test .before in
+    let entry = at-loop .before .before .before .before .before .before .before in
+    (record { shape = entry .pre .0 .shape; inside = entry .pre .0 .inside; lies = at-loop-test .loop-test .taken; room = simp (length-take, length-drop) (omega (arith, row-end (entry .args .g) (at-loop .loop .row) (at-loop-test .loop-test .taken), entry .pre .0 .room, ap length (at-loop .loop .inv .1 .1 .1 .1) ∙ painted-length _ _ _)) }, (entry .pre .1 .0, (entry .pre .1 .1 .0, (omega (arith, at-loop .loop .inv .1 .0, entry .pre .1 .1 .1 .0), (omega (arith, at-loop .loop .inv .1 .1 .0, entry .pre .1 .1 .1 .1 .0), at-loop .loop .inv .1 .1 .1 .0)))))
 
 add-row : tie.Need-add-row Inv-loop μ-loop
 add-row c =
-    omega (arith, c .before .before .before .before .before .before .before .before .before .before .loop-test .taken, c .before .before .before .before .before .before .before .before .before .before .before .before .before .before .before .before .before .before .pre .0 .shape .rows-most)
+    let at-loop-test = c .before .before .before .before .before .before .before .before .before .before in
+    let entry = at-loop-test .before .before .before .before .before .before .before .before in
+    omega (arith, at-loop-test .loop-test .taken, entry .pre .0 .shape .rows-most)
 
 loop-less : tie.Need-loop-less Inv-loop μ-loop
 loop-less c =
-    omega (arith, c .before .before .before .before .before .before .before .before .before .before .loop-test .taken)
+    let at-loop-test = c .before .before .before .before .before .before .before .before .before .before in
+    omega (arith, at-loop-test .loop-test .taken)
 
 loop-again : tie.Need-loop-again Inv-loop μ-loop
 loop-again c =
-    (omega (arith, c .before .before .before .before .before .before .before .before .before .before .loop-test .taken), (c .before .before .before .before .before .upper .given ∙ c .before .before .before .before .before .before .before .before .before .before .before .loop .inv .1 .0, (c .before .before .before .lower .given ∙ c .before .before .before .before .before .before .before .before .before .before .before .loop .inv .1 .1 .0, (c .before .before .before .before .before .before .quarter-line .ensures .1, next-line (quarterShade (shadesOf (c .before .before .before .before .before .before .before .before .before .before .before .before .before .before .before .before .before .before .args .shades) ((c .before .before .before .before .before .before .before .before .before .before .before .before .before .before .before .before .before .before .args .g) .stored)) (c .before .before .before .before .before .before .before .before .before .before .before .before .before .before .before .before .before .before .args .g) (c .before .before .before .before .before .before .before .before .before .before .before .before .before .before .before .before .before .before .args .pixels .now) (c .before .before .before .before .before .before .before .before .before .before .before .before .before .before .before .before .before .before .args .frame) (usValues (c .before .before .before .before .before .before .before .before .before .before .before .before .before .before .before .before .before .before .args .masks .now)) (c .before .before .before .before .before .before .before .before .before .before .before .before .before .before .before .before .before .before .args .down) (c .before .before .before .before .before .before .before .before .before .before .before .before .before .before .before .before .before .before .args .right)) (c .before .before .before .before .before .before .before .before .before .before .before .loop .row) (c .before .before .before .before .before .before .before .before .before .before .before .before .before .before .before .before .before .before .args .g .columns) (c .before .before .before .before .before .before .before .before .before .before .before .before .before .before .before .before .before .before .args .image .now) (c .before .before .before .before .before .before .before .before .before .before .before .loop .image) (c .before .before .before .before .before .before .quarter-line .last .1 .1 .1 .1 .1 .1 .1 .1 .1 .1 .1 .0) (omega (arith, row-end (c .before .before .before .before .before .before .before .before .before .before .before .before .before .before .before .before .before .before .args .g) (c .before .before .before .before .before .before .before .before .before .before .before .loop .row) (c .before .before .before .before .before .before .before .before .before .before .loop-test .taken), c .before .before .before .before .before .before .before .before .before .before .before .before .before .before .before .before .before .before .pre .0 .room)) (c .before .before .before .before .before .before .before .before .before .before .before .loop .inv .1 .1 .1 .1) (c .before .before .before .before .before .before .quarter-line .ensures .0)))))
+    let at-lower = c .before .before .before in
+    let at-upper = at-lower .before .before in
+    let at-quarter-line = at-upper .before in
+    let at-loop-test = at-quarter-line .before .before .before .before in
+    let at-loop = at-loop-test .before in
+    let entry = at-loop .before .before .before .before .before .before .before in
+    (omega (arith, at-loop-test .loop-test .taken), (at-upper .upper .given ∙ at-loop .loop .inv .1 .0, (at-lower .lower .given ∙ at-loop .loop .inv .1 .1 .0, (at-quarter-line .quarter-line .ensures .1, next-line (quarterShade (shadesOf (entry .args .shades) ((entry .args .g) .stored)) (entry .args .g) (entry .args .pixels .now) (entry .args .frame) (usValues (entry .args .masks .now)) (entry .args .down) (entry .args .right)) (at-loop .loop .row) (entry .args .g .columns) (entry .args .image .now) (at-loop .loop .image) (at-quarter-line .quarter-line .last .1 .1 .1 .1 .1 .1 .1 .1 .1 .1 .1 .0) (omega (arith, row-end (entry .args .g) (at-loop .loop .row) (at-loop-test .loop-test .taken), entry .pre .0 .room)) (at-loop .loop .inv .1 .1 .1 .1) (at-quarter-line .quarter-line .ensures .0)))))
 
 same-length : tie.Need-same-length Inv-loop μ-loop
 same-length c =

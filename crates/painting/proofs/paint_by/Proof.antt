@@ -5,15 +5,19 @@ use Rattle.painting.proofs.paint_by.Tie as tie
 
 paint-whole-requires : tie.Need-paint-whole-requires
 paint-whole-requires c κs =
-    (c .before .before .before .before .before .before .before .before .before .pre .0, (c .before .before .before .before .before .before .before .before .before .pre .1 .0, (c .before .before .before .before .before .before .before .before .before .pre .1 .1 .0, (c .before .before .before .before .before .before .before .before .before .pre .1 .1 .1 .0, (c .before .before .before .if1 .taken, (c .before .before .if2 .taken, c .before .before .before .before .before .before .before .before .before .pre .1 .1 .1 .1))))))
+    let at-if1 = c .before .before .before in
+    let entry = at-if1 .before .before .before .before .before .before in
+    (entry .pre .0, (entry .pre .1 .0, (entry .pre .1 .1 .0, (entry .pre .1 .1 .1 .0, (at-if1 .if1 .taken, (c .before .before .if2 .taken, entry .pre .1 .1 .1 .1))))))
 
 paint-quarters-requires : tie.Need-paint-quarters-requires
 paint-quarters-requires c κs =
-    (c .before .before .before .before .before .before .before .before .before .pre .0, (c .before .before .before .before .before .before .before .before .before .pre .1 .0, (c .before .before .before .before .before .before .before .before .before .pre .1 .1 .0, c .before .before .before .before .before .before .before .before .before .pre .1 .1 .1 .1)))
+    let entry = c .before .before .before .before .before .before .before .before .before in
+    (entry .pre .0, (entry .pre .1 .0, (entry .pre .1 .1 .0, entry .pre .1 .1 .1 .1)))
 
 paint-quarters-requires-2 : tie.Need-paint-quarters-requires-2
 paint-quarters-requires-2 c κs =
-    (c .before .before .before .before .before .before .before .before .pre .0, (c .before .before .before .before .before .before .before .before .pre .1 .0, (c .before .before .before .before .before .before .before .before .pre .1 .1 .0, c .before .before .before .before .before .before .before .before .pre .1 .1 .1 .1)))
+    let entry = c .before .before .before .before .before .before .before .before in
+    (entry .pre .0, (entry .pre .1 .0, (entry .pre .1 .1 .0, entry .pre .1 .1 .1 .1)))
 
 same-length : tie.Need-same-length
 same-length c =
@@ -25,7 +29,8 @@ same-length-2 c =
 
 returns : tie.Need-returns
 returns c =
-    c .before .before .before .before .paint-whole .ensures
+    let at-paint-whole = c .before .before .before .before in
+    at-paint-whole .paint-whole .ensures
 
 same-length-3 : tie.Need-same-length-3
 same-length-3 c =
@@ -37,7 +42,8 @@ same-length-4 c =
 
 returns-2 : tie.Need-returns-2
 returns-2 c =
-    c .before .before .before .before .paint-quarters .ensures
+    let at-paint-quarters = c .before .before .before .before in
+    at-paint-quarters .paint-quarters .ensures
 
 same-length-5 : tie.Need-same-length-5
 same-length-5 c =
@@ -49,7 +55,8 @@ same-length-6 c =
 
 returns-3 : tie.Need-returns-3
 returns-3 c =
-    c .before .before .before .before .paint-quarters2 .ensures
+    let at-paint-quarters2 = c .before .before .before .before in
+    at-paint-quarters2 .paint-quarters2 .ensures
 
 pub paint-by-spec : {M : Type 1} → statement M
 paint-by-spec =

@@ -11,11 +11,13 @@ use Rattle.painting.proofs.paint_masked.Tie as tie
 
 offset-of-requires : tie.Need-offset-of-requires
 offset-of-requires c κs =
-    c .before .before .before .before .pre .1 .1 .0 .vertical
+    let entry = c .before .before .before .before in
+    entry .pre .1 .1 .0 .vertical
 
 offset-of-requires-2 : tie.Need-offset-of-requires-2
 offset-of-requires-2 c κs =
-    c .before .before .before .before .before .pre .1 .1 .0 .horizontal
+    let entry = c .before .before .before .before .before in
+    entry .pre .1 .1 .0 .horizontal
 
 slice-aggregate-paint-by : tie.Need-slice-aggregate-paint-by
 slice-aggregate-paint-by c =
@@ -23,7 +25,9 @@ slice-aggregate-paint-by c =
 
 paint-by-requires : tie.Need-paint-by-requires
 paint-by-requires c κs =
-    (c .before .before .before .before .before .before .before .before .pre .0, (record { taken = c .before .before .before .before .before .before .before .before .pre .1 .0; down-most = c .before .before .before .offset-of .ensures .most; right-most = c .before .before .offset-of2 .ensures .most }, (c .before .before .before .before .before .before .before .before .pre .1 .1 .1 .0, (c .before .before .before .before .before .before .before .before .pre .1 .1 .1 .1, search needs))))
+    let at-offset-of = c .before .before .before in
+    let entry = at-offset-of .before .before .before .before .before in
+    (entry .pre .0, (record { taken = entry .pre .1 .0; down-most = at-offset-of .offset-of .ensures .most; right-most = c .before .before .offset-of2 .ensures .most }, (entry .pre .1 .1 .1 .0, (entry .pre .1 .1 .1 .1, search needs))))
 
 same-length : tie.Need-same-length
 same-length c =
@@ -31,7 +35,11 @@ same-length c =
 
 returns : tie.Need-returns
 returns c =
-    c .before .before .before .paint-by .ensures ∙ painted-same _ _ (samplesOf (c .before .before .before .before .before .before .before .before .before .before .before .before .args .g)) (c .before .before .before .before .before .before .before .before .before .before .before .before .args .image .now) (λ i l. offset-shade (shadesOf (c .before .before .before .before .before .before .before .before .before .before .before .before .args .shades) (c .before .before .before .before .before .before .before .before .before .before .before .before .args .g .stored)) (c .before .before .before .before .before .before .before .before .before .before .before .before .args .g) (c .before .before .before .before .before .before .before .before .before .before .before .before .args .pixels .now) (c .before .before .before .before .before .before .before .before .before .before .before .before .args .frame) (usValues (c .before .before .before .before .before .before .before .before .before .before .before .before .args .masks .now)) (c .before .before .before .before .before .before .before .before .before .before .before .before .args .moves) (c .before .before .before .before .before .before .before .offset-of .result) (c .before .before .before .before .before .before .offset-of2 .result) i (c .before .before .before .before .before .before .before .offset-of .ensures) (c .before .before .before .before .before .before .offset-of2 .ensures))
+    let at-paint-by = c .before .before .before in
+    let at-offset-of2 = at-paint-by .before .before .before in
+    let at-offset-of = at-offset-of2 .before in
+    let entry = at-offset-of .before .before .before .before .before in
+    at-paint-by .paint-by .ensures ∙ painted-same _ _ (samplesOf (entry .args .g)) (entry .args .image .now) (λ i l. offset-shade (shadesOf (entry .args .shades) (entry .args .g .stored)) (entry .args .g) (entry .args .pixels .now) (entry .args .frame) (usValues (entry .args .masks .now)) (entry .args .moves) (at-offset-of .offset-of .result) (at-offset-of2 .offset-of2 .result) i (at-offset-of .offset-of .ensures) (at-offset-of2 .offset-of2 .ensures))
 
 pub paint-masked-spec : {M : Type 1} → statement M
 paint-masked-spec =

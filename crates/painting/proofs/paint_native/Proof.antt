@@ -24,35 +24,46 @@ loop-holds c =
 
 mul-at : tie.Need-mul-at Inv-loop μ-loop
 mul-at c =
-    omega (arith, row-end (c .before .before .before .before .before .args .g) (c .before .loop .row) (c .loop-test .taken), c .before .before .before .before .before .pre .0 .room)
+    let entry = c .before .before .before .before .before in
+    omega (arith, row-end (entry .args .g) (c .before .loop .row) (c .loop-test .taken), entry .pre .0 .room)
 
 sub-native-line : tie.Need-sub-native-line Inv-loop μ-loop
 sub-native-line c =
-    omega (arith, row-end (c .before .before .before .before .before .args .g) (c .before .loop .row) (c .loop-test .taken), c .before .before .before .before .before .pre .0 .room, ap length (c .before .loop .inv .1) ∙ painted-length _ _ _)
+    let entry = c .before .before .before .before .before in
+    omega (arith, row-end (entry .args .g) (c .before .loop .row) (c .loop-test .taken), entry .pre .0 .room, ap length (c .before .loop .inv .1) ∙ painted-length _ _ _)
 
 part-native-line-start : tie.Need-part-native-line-start Inv-loop μ-loop
 part-native-line-start c =
-    omega (arith, row-end (c .before .before .before .before .before .args .g) (c .before .loop .row) (c .loop-test .taken), c .before .before .before .before .before .pre .0 .room, ap length (c .before .loop .inv .1) ∙ painted-length _ _ _)
+    let entry = c .before .before .before .before .before in
+    omega (arith, row-end (entry .args .g) (c .before .loop .row) (c .loop-test .taken), entry .pre .0 .room, ap length (c .before .loop .inv .1) ∙ painted-length _ _ _)
 
 part-native-line-end : tie.Need-part-native-line-end Inv-loop μ-loop
 part-native-line-end c =
-    omega (arith, row-end (c .before .before .before .before .before .args .g) (c .before .loop .row) (c .loop-test .taken), c .before .before .before .before .before .pre .0 .room, ap length (c .before .loop .inv .1) ∙ painted-length _ _ _)
+    let entry = c .before .before .before .before .before in
+    omega (arith, row-end (entry .args .g) (c .before .loop .row) (c .loop-test .taken), entry .pre .0 .room, ap length (c .before .loop .inv .1) ∙ painted-length _ _ _)
 
 native-line-requires : tie.Need-native-line-requires Inv-loop μ-loop
 native-line-requires c κs =
-    (record { shape = c .before .before .before .before .before .before .pre .0 .shape; inside = c .before .before .before .before .before .before .pre .0 .inside; lies = c .before .loop-test .taken; room = simp (length-take, length-drop) (omega (arith, row-end (c .before .before .before .before .before .before .args .g) (c .before .before .loop .row) (c .before .loop-test .taken), c .before .before .before .before .before .before .pre .0 .room, ap length (c .before .before .loop .inv .1) ∙ painted-length _ _ _)) }, c .before .before .before .before .before .before .pre .1)
+    let entry = c .before .before .before .before .before .before in
+    (record { shape = entry .pre .0 .shape; inside = entry .pre .0 .inside; lies = c .before .loop-test .taken; room = simp (length-take, length-drop) (omega (arith, row-end (entry .args .g) (c .before .before .loop .row) (c .before .loop-test .taken), entry .pre .0 .room, ap length (c .before .before .loop .inv .1) ∙ painted-length _ _ _)) }, entry .pre .1)
 
 add-row : tie.Need-add-row Inv-loop μ-loop
 add-row c =
-    omega (arith, c .before .before .before .before .loop-test .taken, c .before .before .before .before .before .before .before .before .before .pre .0 .shape .rows-most)
+    let at-loop-test = c .before .before .before .before in
+    let entry = at-loop-test .before .before .before .before .before in
+    omega (arith, at-loop-test .loop-test .taken, entry .pre .0 .shape .rows-most)
 
 loop-less : tie.Need-loop-less Inv-loop μ-loop
 loop-less c =
-    omega (arith, c .before .before .before .before .loop-test .taken)
+    let at-loop-test = c .before .before .before .before in
+    omega (arith, at-loop-test .loop-test .taken)
 
 loop-again : tie.Need-loop-again Inv-loop μ-loop
 loop-again c =
-    (omega (arith, c .before .before .before .before .loop-test .taken), next-line (nativeShade (shadesOf (c .before .before .before .before .before .before .before .before .before .args .shades) ((c .before .before .before .before .before .before .before .before .before .args .g) .stored)) (c .before .before .before .before .before .before .before .before .before .args .g) (c .before .before .before .before .before .before .before .before .before .args .pixels .now) (c .before .before .before .before .before .before .before .before .before .args .frame)) (c .before .before .before .before .before .loop .row) (c .before .before .before .before .before .before .before .before .before .args .g .columns) (c .before .before .before .before .before .before .before .before .before .args .image .now) (c .before .before .before .before .before .loop .image) (c .before .before .native-line .last .1 .1 .1 .1 .1 .1 .0) (omega (arith, row-end (c .before .before .before .before .before .before .before .before .before .args .g) (c .before .before .before .before .before .loop .row) (c .before .before .before .before .loop-test .taken), c .before .before .before .before .before .before .before .before .before .pre .0 .room)) (c .before .before .before .before .before .loop .inv .1) (c .before .before .native-line .ensures))
+    let at-loop-test = c .before .before .before .before in
+    let at-loop = at-loop-test .before in
+    let entry = at-loop .before .before .before .before in
+    (omega (arith, at-loop-test .loop-test .taken), next-line (nativeShade (shadesOf (entry .args .shades) ((entry .args .g) .stored)) (entry .args .g) (entry .args .pixels .now) (entry .args .frame)) (at-loop .loop .row) (entry .args .g .columns) (entry .args .image .now) (at-loop .loop .image) (c .before .before .native-line .last .1 .1 .1 .1 .1 .1 .0) (omega (arith, row-end (entry .args .g) (at-loop .loop .row) (at-loop-test .loop-test .taken), entry .pre .0 .room)) (at-loop .loop .inv .1) (c .before .before .native-line .ensures))
 
 same-length : tie.Need-same-length Inv-loop μ-loop
 same-length c =

@@ -9,7 +9,8 @@ use Rattle.painting.proofs.paint_quarters.Tie as tie
 
 moved-requires : tie.Need-moved-requires
 moved-requires c κs =
-    (c .before .before .before .before .before .pre .0 .shape .rows-some, (c .before .before .before .before .before .pre .0 .shape .rows-most, omega (arith, c .before .before .before .before .before .pre .1 .0 .down-most, div-add-mod' (c .before .before .before .before .before .args .down) 4)))
+    let entry = c .before .before .before .before .before in
+    (entry .pre .0 .shape .rows-some, (entry .pre .0 .shape .rows-most, omega (arith, entry .pre .1 .0 .down-most, div-add-mod' (entry .args .down) 4)))
 
 slice-aggregate-average-row : tie.Need-slice-aggregate-average-row
 slice-aggregate-average-row c =
@@ -17,7 +18,8 @@ slice-aggregate-average-row c =
 
 average-row-requires : tie.Need-average-row-requires
 average-row-requires c κs =
-    (c .before .before .before .before .before .before .before .pre .0 .shape, (c .before .before .before .before .before .before .before .pre .1 .0 .taken, (c .before .moved .ensures .1, omega (arith, c .before .before .before .before .before .before .before .pre .0 .shape .columns-most, length-replicate {A = ℕ} 65664 0))))
+    let entry = c .before .before .before .before .before .before .before in
+    (entry .pre .0 .shape, (entry .pre .1 .0 .taken, (c .before .moved .ensures .1, omega (arith, entry .pre .0 .shape .columns-most, length-replicate {A = ℕ} 65664 0))))
 
 slice-aggregate-paint-blended : tie.Need-slice-aggregate-paint-blended
 slice-aggregate-paint-blended c =
@@ -25,7 +27,10 @@ slice-aggregate-paint-blended c =
 
 paint-blended-requires : tie.Need-paint-blended-requires
 paint-blended-requires c κs =
-    (c .before .before .before .before .before .before .before .before .before .before .before .before .pre .0, (c .before .before .before .before .before .before .before .before .before .before .before .before .pre .1 .0, (c .before .before .before .before .before .before .before .before .before .before .before .before .pre .1 .1 .0, (c .before .before .before .before .before .before .before .before .before .before .before .before .pre .1 .1 .1, (search needs, rw (c .before .before .before .before .before .before .moved .ensures .0) at (c .before .before .before .before .average-row .ensures))))))
+    let at-average-row = c .before .before .before .before in
+    let at-moved = at-average-row .before .before in
+    let entry = at-moved .before .before .before .before .before .before in
+    (entry .pre .0, (entry .pre .1 .0, (entry .pre .1 .1 .0, (entry .pre .1 .1 .1, (search needs, rw (at-moved .moved .ensures .0) at (at-average-row .average-row .ensures))))))
 
 same-length : tie.Need-same-length
 same-length c =
@@ -37,7 +42,8 @@ same-length-2 c =
 
 returns : tie.Need-returns
 returns c =
-    c .before .before .before .before .before .paint-blended .ensures
+    let at-paint-blended = c .before .before .before .before .before in
+    at-paint-blended .paint-blended .ensures
 
 pub paint-quarters-spec : {M : Type 1} → statement M
 paint-quarters-spec =

@@ -25,35 +25,49 @@ loop-holds c =
 
 mul-at : tie.Need-mul-at Inv-loop μ-loop
 mul-at c =
-    omega (arith, row-end (c .before .before .before .before .before .before .before .args .g) (c .before .loop .row) (c .loop-test .taken), c .before .before .before .before .before .before .before .pre .0 .room)
+    let entry = c .before .before .before .before .before .before .before in
+    omega (arith, row-end (entry .args .g) (c .before .loop .row) (c .loop-test .taken), entry .pre .0 .room)
 
 sub-whole-line : tie.Need-sub-whole-line Inv-loop μ-loop
 sub-whole-line c =
-    omega (arith, row-end (c .before .before .before .before .before .before .before .before .args .g) (c .before .before .loop .row) (c .before .loop-test .taken), c .before .before .before .before .before .before .before .before .pre .0 .room, ap length (c .before .before .loop .inv .1 .1) ∙ painted-length _ _ _)
+    let entry = c .before .before .before .before .before .before .before .before in
+    omega (arith, row-end (entry .args .g) (c .before .before .loop .row) (c .before .loop-test .taken), entry .pre .0 .room, ap length (c .before .before .loop .inv .1 .1) ∙ painted-length _ _ _)
 
 part-whole-line-start : tie.Need-part-whole-line-start Inv-loop μ-loop
 part-whole-line-start c =
-    omega (arith, row-end (c .before .before .before .before .before .before .before .before .args .g) (c .before .before .loop .row) (c .before .loop-test .taken), c .before .before .before .before .before .before .before .before .pre .0 .room, ap length (c .before .before .loop .inv .1 .1) ∙ painted-length _ _ _)
+    let entry = c .before .before .before .before .before .before .before .before in
+    omega (arith, row-end (entry .args .g) (c .before .before .loop .row) (c .before .loop-test .taken), entry .pre .0 .room, ap length (c .before .before .loop .inv .1 .1) ∙ painted-length _ _ _)
 
 part-whole-line-end : tie.Need-part-whole-line-end Inv-loop μ-loop
 part-whole-line-end c =
-    omega (arith, row-end (c .before .before .before .before .before .before .before .before .args .g) (c .before .before .loop .row) (c .before .loop-test .taken), c .before .before .before .before .before .before .before .before .pre .0 .room, ap length (c .before .before .loop .inv .1 .1) ∙ painted-length _ _ _)
+    let entry = c .before .before .before .before .before .before .before .before in
+    omega (arith, row-end (entry .args .g) (c .before .before .loop .row) (c .before .loop-test .taken), entry .pre .0 .room, ap length (c .before .before .loop .inv .1 .1) ∙ painted-length _ _ _)
 
 whole-line-requires : tie.Need-whole-line-requires Inv-loop μ-loop
 whole-line-requires c κs =
-    (record { shape = c .before .before .before .before .before .before .before .before .before .pre .0 .shape; inside = c .before .before .before .before .before .before .before .before .before .pre .0 .inside; lies = c .before .before .loop-test .taken; room = simp (length-take, length-drop) (omega (arith, row-end (c .before .before .before .before .before .before .before .before .before .args .g) (c .before .before .before .loop .row) (c .before .before .loop-test .taken), c .before .before .before .before .before .before .before .before .before .pre .0 .room, ap length (c .before .before .before .loop .inv .1 .1) ∙ painted-length _ _ _)) }, (c .before .before .before .before .before .before .before .before .before .pre .1 .0, (c .before .before .before .before .before .before .before .before .before .pre .1 .1 .0, (c .before .before .before .before .before .before .before .before .before .pre .1 .1 .1 .0, (c .before .before .before .before .before .before .before .before .before .pre .1 .1 .1 .1 .0, (c .before .before .before .before .before .before .before .before .before .pre .1 .1 .1 .1 .1 .0, omega (arith, c .before .before .before .loop .inv .1 .0, c .before .before .before .before .before .before .before .before .before .pre .1 .1 .1 .1 .1 .1)))))))
+    let at-loop = c .before .before .before in
+    let entry = at-loop .before .before .before .before .before .before in
+    (record { shape = entry .pre .0 .shape; inside = entry .pre .0 .inside; lies = c .before .before .loop-test .taken; room = simp (length-take, length-drop) (omega (arith, row-end (entry .args .g) (at-loop .loop .row) (c .before .before .loop-test .taken), entry .pre .0 .room, ap length (at-loop .loop .inv .1 .1) ∙ painted-length _ _ _)) }, (entry .pre .1 .0, (entry .pre .1 .1 .0, (entry .pre .1 .1 .1 .0, (entry .pre .1 .1 .1 .1 .0, (entry .pre .1 .1 .1 .1 .1 .0, omega (arith, at-loop .loop .inv .1 .0, entry .pre .1 .1 .1 .1 .1 .1)))))))
 
 add-row : tie.Need-add-row Inv-loop μ-loop
 add-row c =
-    omega (arith, c .before .before .before .before .before .before .before .loop-test .taken, c .before .before .before .before .before .before .before .before .before .before .before .before .before .before .pre .0 .shape .rows-most)
+    let at-loop-test = c .before .before .before .before .before .before .before in
+    let entry = at-loop-test .before .before .before .before .before .before .before in
+    omega (arith, at-loop-test .loop-test .taken, entry .pre .0 .shape .rows-most)
 
 loop-less : tie.Need-loop-less Inv-loop μ-loop
 loop-less c =
-    omega (arith, c .before .before .before .before .before .before .before .loop-test .taken)
+    let at-loop-test = c .before .before .before .before .before .before .before in
+    omega (arith, at-loop-test .loop-test .taken)
 
 loop-again : tie.Need-loop-again Inv-loop μ-loop
 loop-again c =
-    (omega (arith, c .before .before .before .before .before .before .before .loop-test .taken), (c .before .before .before .sums .given ∙ c .before .before .before .before .before .before .before .before .loop .inv .1 .0, next-line (quarterShade (shadesOf (c .before .before .before .before .before .before .before .before .before .before .before .before .before .before .args .shades) ((c .before .before .before .before .before .before .before .before .before .before .before .before .before .before .args .g) .stored)) (c .before .before .before .before .before .before .before .before .before .before .before .before .before .before .args .g) (c .before .before .before .before .before .before .before .before .before .before .before .before .before .before .args .pixels .now) (c .before .before .before .before .before .before .before .before .before .before .before .before .before .before .args .frame) (usValues (c .before .before .before .before .before .before .before .before .before .before .before .before .before .before .args .masks .now)) (c .before .before .before .before .before .before .before .before .before .before .before .before .before .before .args .down) (c .before .before .before .before .before .before .before .before .before .before .before .before .before .before .args .right)) (c .before .before .before .before .before .before .before .before .loop .row) (c .before .before .before .before .before .before .before .before .before .before .before .before .before .before .args .g .columns) (c .before .before .before .before .before .before .before .before .before .before .before .before .before .before .args .image .now) (c .before .before .before .before .before .before .before .before .loop .image) (c .before .before .before .before .whole-line .last .1 .1 .1 .1 .1 .1 .1 .1 .1 .1 .0) (omega (arith, row-end (c .before .before .before .before .before .before .before .before .before .before .before .before .before .before .args .g) (c .before .before .before .before .before .before .before .before .loop .row) (c .before .before .before .before .before .before .before .loop-test .taken), c .before .before .before .before .before .before .before .before .before .before .before .before .before .before .pre .0 .room)) (c .before .before .before .before .before .before .before .before .loop .inv .1 .1) (c .before .before .before .before .whole-line .ensures)))
+    let at-sums = c .before .before .before in
+    let at-whole-line = at-sums .before in
+    let at-loop-test = at-whole-line .before .before .before in
+    let at-loop = at-loop-test .before in
+    let entry = at-loop .before .before .before .before .before .before in
+    (omega (arith, at-loop-test .loop-test .taken), (at-sums .sums .given ∙ at-loop .loop .inv .1 .0, next-line (quarterShade (shadesOf (entry .args .shades) ((entry .args .g) .stored)) (entry .args .g) (entry .args .pixels .now) (entry .args .frame) (usValues (entry .args .masks .now)) (entry .args .down) (entry .args .right)) (at-loop .loop .row) (entry .args .g .columns) (entry .args .image .now) (at-loop .loop .image) (at-whole-line .whole-line .last .1 .1 .1 .1 .1 .1 .1 .1 .1 .1 .0) (omega (arith, row-end (entry .args .g) (at-loop .loop .row) (at-loop-test .loop-test .taken), entry .pre .0 .room)) (at-loop .loop .inv .1 .1) (at-whole-line .whole-line .ensures)))
 
 same-length : tie.Need-same-length Inv-loop μ-loop
 same-length c =

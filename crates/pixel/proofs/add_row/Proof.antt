@@ -25,7 +25,8 @@ power-requires c κs =
 
 sub-low : tie.Need-sub-low Inv-loop μ-loop
 sub-low c =
-    omega (arith, c .power .ensures, pow-pos (c .before .before .before .args .g .stored))
+    let entry = c .before .before .before in
+    omega (arith, c .power .ensures, pow-pos (entry .args .g .stored))
 
 loop-holds : tie.Need-loop-holds Inv-loop μ-loop
 unfolding painted
@@ -34,19 +35,23 @@ loop-holds c =
 
 add-sample : tie.Need-add-sample Inv-loop μ-loop
 add-sample c =
-    omega (arith, run-at (c .before .before .before .before .before .args .from) (c .before .before .before .before .before .args .g .columns) (c .before .before .before .before .before .args .g .width) (length (c .before .before .before .before .before .args .pixels .now)) (c .before .loop .c) (width-some _ (c .before .before .before .before .before .pre .0 .shape .width)) (c .before .before .before .before .before .pre .0 .inside) (c .loop-test .taken) .1)
+    let entry = c .before .before .before .before .before in
+    omega (arith, run-at (entry .args .from) (entry .args .g .columns) (entry .args .g .width) (length (entry .args .pixels .now)) (c .before .loop .c) (width-some _ (entry .pre .0 .shape .width)) (entry .pre .0 .inside) (c .loop-test .taken) .1)
 
 sample-requires : tie.Need-sample-requires Inv-loop μ-loop
 sample-requires c κs =
+    let entry = c .before .before .before .before .before in
     record {
-      width = c .before .before .before .before .before .pre .0 .shape .width;
+      width = entry .pre .0 .shape .width;
       kept = ap (λ (x : ℕ). x - 1) (c .before .before .power .ensures);
-      inside = run-at (c .before .before .before .before .before .args .from) (c .before .before .before .before .before .args .g .columns) (c .before .before .before .before .before .args .g .width) (length (c .before .before .before .before .before .args .pixels .now)) (c .before .loop .c) (width-some _ (c .before .before .before .before .before .pre .0 .shape .width)) (c .before .before .before .before .before .pre .0 .inside) (c .loop-test .taken) .0;
+      inside = run-at (entry .args .from) (entry .args .g .columns) (entry .args .g .width) (length (entry .args .pixels .now)) (c .before .loop .c) (width-some _ (entry .pre .0 .shape .width)) (entry .pre .0 .inside) (c .loop-test .taken) .0;
     }
 
 cast-sums : tie.Need-cast-sums Inv-loop μ-loop
 cast-sums c =
-    omega (arith, c .sample .ensures .1, power-most (c .before .before .before .before .before .before .args .g .stored) (c .before .before .before .before .before .before .pre .0 .shape .stored-most), c .before .before .before .power .ensures)
+    let at-power = c .before .before .before in
+    let entry = at-power .before .before .before in
+    omega (arith, c .sample .ensures .1, power-most (entry .args .g .stored) (entry .pre .0 .shape .stored-most), at-power .power .ensures)
 
 mul-sums : tie.Need-mul-sums Inv-loop μ-loop
 mul-sums c =
@@ -54,15 +59,22 @@ mul-sums c =
 
 slice-read-sums : tie.Need-slice-read-sums Inv-loop μ-loop
 slice-read-sums c =
-    omega (arith, ap length (c .before .before .before .loop .inv .1) ∙ painted-length _ _ _, c .before .before .before .before .before .before .before .pre .1 (c .before .before .before .loop .c) (c .before .before .loop-test .taken) .0)
+    let at-loop = c .before .before .before in
+    let entry = at-loop .before .before .before .before in
+    omega (arith, ap length (at-loop .loop .inv .1) ∙ painted-length _ _ _, entry .pre .1 (at-loop .loop .c) (c .before .before .loop-test .taken) .0)
 
 add-sums : tie.Need-add-sums Inv-loop μ-loop
 add-sums c =
-    omega (arith, ap (λ (s : List ℕ). getD s (c .before .before .before .loop .c) 0) (c .before .before .before .loop .inv .1) ∙ painted-beyond _ _ _ _ (omega arith), c .before .before .before .before .before .before .before .pre .1 (c .before .before .before .loop .c) (c .before .before .loop-test .taken) .1, c .before .sample .ensures .1, power-most (c .before .before .before .before .before .before .before .args .g .stored) (c .before .before .before .before .before .before .before .pre .0 .shape .stored-most), c .before .before .before .before .power .ensures)
+    let at-loop = c .before .before .before in
+    let at-power = at-loop .before in
+    let entry = at-power .before .before .before in
+    omega (arith, ap (λ (s : List ℕ). getD s (at-loop .loop .c) 0) (at-loop .loop .inv .1) ∙ painted-beyond _ _ _ _ (omega arith), entry .pre .1 (at-loop .loop .c) (c .before .before .loop-test .taken) .1, c .before .sample .ensures .1, power-most (entry .args .g .stored) (entry .pre .0 .shape .stored-most), at-power .power .ensures)
 
 slice-write-sums : tie.Need-slice-write-sums Inv-loop μ-loop
 slice-write-sums c =
-    omega (arith, ap length (c .before .before .before .loop .inv .1) ∙ painted-length _ _ _, c .before .before .before .before .before .before .before .pre .1 (c .before .before .before .loop .c) (c .before .before .loop-test .taken) .0)
+    let at-loop = c .before .before .before in
+    let entry = at-loop .before .before .before .before in
+    omega (arith, ap length (at-loop .loop .inv .1) ∙ painted-length _ _ _, entry .pre .1 (at-loop .loop .c) (c .before .before .loop-test .taken) .0)
 
 add-c : tie.Need-add-c Inv-loop μ-loop
 add-c c =

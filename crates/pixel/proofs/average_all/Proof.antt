@@ -40,11 +40,13 @@ loop-holds c =
 
 mul-wider : tie.Need-mul-wider Inv-loop μ-loop
 mul-wider c =
-    omega (arith, c .before .before .before .pre .1 .1 .0)
+    let entry = c .before .before .before in
+    omega (arith, entry .pre .1 .1 .0)
 
 slice-read-wider : tie.Need-slice-read-wider Inv-loop μ-loop
 slice-read-wider c =
-    omega (arith, ap length (c .before .before .loop .inv .1) ∙ painted-length _ _ _, c .before .before .before .before .pre .1 .1 .0)
+    let entry = c .before .before .before .before in
+    omega (arith, ap length (c .before .before .loop .inv .1) ∙ painted-length _ _ _, entry .pre .1 .1 .0)
 
 wider-requires : tie.Need-wider-requires Inv-loop μ-loop
 wider-requires c κs =
@@ -52,19 +54,27 @@ wider-requires c κs =
 
 average-requires : tie.Need-average-requires Inv-loop μ-loop
 average-requires c κs =
-    (c .before .before .before .before .before .pre .0, (c .before .before .before .before .before .pre .1 .0, (omega (arith, c .wider .ensures, ap (λ (s : List ℕ). getD s (c .before .before .before .loop .j) 0) (c .before .before .before .loop .inv .1) ∙ painted-beyond _ _ _ _ (omega arith), c .before .before .before .before .before .pre .1 .1 .1 (c .before .before .before .loop .j) (c .before .before .loop-test .taken)), refl)))
+    let at-loop = c .before .before .before in
+    let entry = at-loop .before .before in
+    (entry .pre .0, (entry .pre .1 .0, (omega (arith, c .wider .ensures, ap (λ (s : List ℕ). getD s (at-loop .loop .j) 0) (at-loop .loop .inv .1) ∙ painted-beyond _ _ _ _ (omega arith), entry .pre .1 .1 .1 (at-loop .loop .j) (c .before .before .loop-test .taken)), refl)))
 
 cast-sums : tie.Need-cast-sums Inv-loop μ-loop
 cast-sums c =
-    omega (arith, c .average .ensures, average-fits (c .before .wider .result) (c .before .before .before .before .before .before .args .n) (c .before .before .before .before .before .before .pre .0) (c .before .before .before .before .before .before .pre .1 .0) (omega (arith, c .before .wider .ensures, ap (λ (s : List ℕ). getD s (c .before .before .before .before .loop .j) 0) (c .before .before .before .before .loop .inv .1) ∙ painted-beyond _ _ _ _ (omega arith), c .before .before .before .before .before .before .pre .1 .1 .1 (c .before .before .before .before .loop .j) (c .before .before .before .loop-test .taken))))
+    let at-loop-test = c .before .before .before in
+    let at-loop = at-loop-test .before in
+    let entry = at-loop .before .before in
+    omega (arith, c .average .ensures, average-fits (c .before .wider .result) (entry .args .n) (entry .pre .0) (entry .pre .1 .0) (omega (arith, c .before .wider .ensures, ap (λ (s : List ℕ). getD s (at-loop .loop .j) 0) (at-loop .loop .inv .1) ∙ painted-beyond _ _ _ _ (omega arith), entry .pre .1 .1 .1 (at-loop .loop .j) (at-loop-test .loop-test .taken))))
 
 mul-sums : tie.Need-mul-sums Inv-loop μ-loop
 mul-sums c =
-    omega (arith, c .before .before .before .before .before .before .pre .1 .1 .0)
+    let entry = c .before .before .before .before .before .before in
+    omega (arith, entry .pre .1 .1 .0)
 
 slice-write-sums : tie.Need-slice-write-sums Inv-loop μ-loop
 slice-write-sums c =
-    omega (arith, ap length (c .before .before .before .before .loop .inv .1) ∙ painted-length _ _ _, c .before .before .before .before .before .before .pre .1 .1 .0)
+    let at-loop = c .before .before .before .before in
+    let entry = at-loop .before .before in
+    omega (arith, ap length (at-loop .loop .inv .1) ∙ painted-length _ _ _, entry .pre .1 .1 .0)
 
 add-j : tie.Need-add-j Inv-loop μ-loop
 add-j c =
@@ -76,7 +86,9 @@ loop-less c =
 
 loop-again : tie.Need-loop-again Inv-loop μ-loop
 loop-again c =
-    (omega arith, rw (c .average .ensures, c .before .wider .ensures, c .before .before .before .before .loop .inv .1) (changed-more (λ x. averageOf x (c .before .before .before .before .before .before .args .n)) (c .before .before .before .before .loop .j) (c .before .before .before .before .before .before .args .sums .now)))
+    let at-loop = c .before .before .before .before in
+    let entry = at-loop .before .before in
+    (omega arith, rw (c .average .ensures, c .before .wider .ensures, at-loop .loop .inv .1) (changed-more (λ x. averageOf x (entry .args .n)) (at-loop .loop .j) (entry .args .sums .now)))
 
 same-length : tie.Need-same-length Inv-loop μ-loop
 same-length c =

@@ -26,72 +26,104 @@ loop-holds c =
 
 add-j : tie.Need-add-j Inv-loop μ-loop
 add-j c =
-    omega (arith, c .before .before .before .before .pre .shape .columns-most, c .before .before .before .before .pre .most, c .loop-test .taken)
+    let entry = c .before .before .before .before in
+    omega (arith, entry .pre .shape .columns-most, entry .pre .most, c .loop-test .taken)
 
 mul-t11 : tie.Need-mul-t11 Inv-loop μ-loop
 mul-t11 c =
-    omega (arith, c .before .before .before .before .pre .shape .columns-most, c .before .before .before .before .pre .most, c .loop-test .taken)
+    let entry = c .before .before .before .before in
+    omega (arith, entry .pre .shape .columns-most, entry .pre .most, c .loop-test .taken)
 
 slice-read-t13 : tie.Need-slice-read-t13 Inv-loop μ-loop
 slice-read-t13 c =
-    omega (arith, ap length (c .before .before .loop .inv .1) ∙ from-length _ _ _ _, c .before .before .before .before .before .pre .above .at (c .before .before .before .before .before .args .s + c .before .before .loop .c) (omega (arith, c .before .before .before .before .before .pre .most, c .before .loop-test .taken)) .0)
+    let entry = c .before .before .before .before .before in
+    omega (arith, ap length (c .before .before .loop .inv .1) ∙ from-length _ _ _ _, entry .pre .above .at (entry .args .s + c .before .before .loop .c) (omega (arith, entry .pre .most, c .before .loop-test .taken)) .0)
 
 add-t14 : tie.Need-add-t14 Inv-loop μ-loop
 add-t14 c =
-    omega (arith, c .before .before .before .before .before .pre .shape .columns-most, c .before .before .before .before .before .pre .most, c .before .loop-test .taken)
+    let entry = c .before .before .before .before .before in
+    omega (arith, entry .pre .shape .columns-most, entry .pre .most, c .before .loop-test .taken)
 
 mul-t15 : tie.Need-mul-t15 Inv-loop μ-loop
 mul-t15 c =
-    omega (arith, c .before .before .before .before .before .pre .shape .columns-most, c .before .before .before .before .before .pre .most, c .before .loop-test .taken)
+    let entry = c .before .before .before .before .before in
+    omega (arith, entry .pre .shape .columns-most, entry .pre .most, c .before .loop-test .taken)
 
 slice-read-t17 : tie.Need-slice-read-t17 Inv-loop μ-loop
 slice-read-t17 c =
-    omega (arith, ap length (c .before .before .before .loop .inv .1) ∙ from-length _ _ _ _, c .before .before .before .before .before .before .pre .above .at (c .before .before .before .before .before .before .args .s + c .before .before .before .loop .c + 1) (omega (arith, c .before .before .before .before .before .before .pre .most, c .before .before .loop-test .taken)) .0)
+    let at-loop = c .before .before .before in
+    let entry = at-loop .before .before .before in
+    omega (arith, ap length (at-loop .loop .inv .1) ∙ from-length _ _ _ _, entry .pre .above .at (entry .args .s + at-loop .loop .c + 1) (omega (arith, entry .pre .most, c .before .before .loop-test .taken)) .0)
 
 mul-t19 : tie.Need-mul-t19 Inv-loop μ-loop
 mul-t19 c =
-    omega (arith, c .before .before .before .before .before .before .pre .shape .columns-most, c .before .before .before .before .before .before .pre .most, c .before .before .loop-test .taken)
+    let entry = c .before .before .before .before .before .before in
+    omega (arith, entry .pre .shape .columns-most, entry .pre .most, c .before .before .loop-test .taken)
 
 shared-slice-read-t21 : tie.Need-shared-slice-read-t21 Inv-loop μ-loop
 shared-slice-read-t21 c =
-    c .before .before .before .before .before .before .before .pre .below .at (c .before .before .before .before .before .before .before .args .s + c .before .before .before .before .loop .c) (omega (arith, c .before .before .before .before .before .before .before .pre .most, c .before .before .before .loop-test .taken)) .0
+    let at-loop-test = c .before .before .before in
+    let at-loop = at-loop-test .before in
+    let entry = at-loop .before .before .before in
+    entry .pre .below .at (entry .args .s + at-loop .loop .c) (omega (arith, entry .pre .most, at-loop-test .loop-test .taken)) .0
 
 add-t22 : tie.Need-add-t22 Inv-loop μ-loop
 add-t22 c =
-    omega (arith, c .before .before .before .before .before .before .before .pre .shape .columns-most, c .before .before .before .before .before .before .before .pre .most, c .before .before .before .loop-test .taken)
+    let at-loop-test = c .before .before .before in
+    let entry = at-loop-test .before .before .before .before in
+    omega (arith, entry .pre .shape .columns-most, entry .pre .most, at-loop-test .loop-test .taken)
 
 mul-t23 : tie.Need-mul-t23 Inv-loop μ-loop
 mul-t23 c =
-    omega (arith, c .before .before .before .before .before .before .before .pre .shape .columns-most, c .before .before .before .before .before .before .before .pre .most, c .before .before .before .loop-test .taken)
+    let at-loop-test = c .before .before .before in
+    let entry = at-loop-test .before .before .before .before in
+    omega (arith, entry .pre .shape .columns-most, entry .pre .most, at-loop-test .loop-test .taken)
 
 shared-slice-read-t25 : tie.Need-shared-slice-read-t25 Inv-loop μ-loop
 shared-slice-read-t25 c =
-    c .before .before .before .before .before .before .before .before .pre .below .at (c .before .before .before .before .before .before .before .before .args .s + c .before .before .before .before .before .loop .c + 1) (omega (arith, c .before .before .before .before .before .before .before .before .pre .most, c .before .before .before .before .loop-test .taken)) .0
+    let at-loop-test = c .before .before .before .before in
+    let at-loop = at-loop-test .before in
+    let entry = at-loop .before .before .before in
+    entry .pre .below .at (entry .args .s + at-loop .loop .c + 1) (omega (arith, entry .pre .most, at-loop-test .loop-test .taken)) .0
 
 blended-requires : tie.Need-blended-requires Inv-loop μ-loop
 blended-requires c κs =
-    (subst (Cells 65535) (sym (block-now (c .before .before .before .before .before .before .before .before .args .upper .now) (c .before .before .before .before .before .before .before .before .args .lower .now) (c .before .before .before .before .before .before .before .before .args .w) (c .before .before .before .before .before .before .before .before .args .s) (c .before .before .before .before .before .loop .c) (c .before .before .before .before .before .loop .upper) (c .before .before .before .before .before .loop .inv .1))) (cells-more (2 ^ c .before .before .before .before .before .before .before .before .args .g .stored - 1) 65535 _ (omega (arith, power-most (c .before .before .before .before .before .before .before .before .args .g .stored) (c .before .before .before .before .before .before .before .before .pre .shape .stored-most))) (block-cells (c .before .before .before .before .before .before .before .before .args .g) (c .before .before .before .before .before .before .before .before .args .upper .now) (c .before .before .before .before .before .before .before .before .args .lower .now) (c .before .before .before .before .before .before .before .before .pre .above) (c .before .before .before .before .before .before .before .before .pre .below) (c .before .before .before .before .before .before .before .before .args .s + c .before .before .before .before .before .loop .c) (omega (arith, c .before .before .before .before .before .before .before .before .pre .most, c .before .before .before .before .loop-test .taken)))), c .before .before .before .before .before .before .before .before .pre .weights)
+    let at-loop-test = c .before .before .before .before in
+    let at-loop = at-loop-test .before in
+    let entry = at-loop .before .before .before in
+    (subst (Cells 65535) (sym (block-now (entry .args .upper .now) (entry .args .lower .now) (entry .args .w) (entry .args .s) (at-loop .loop .c) (at-loop .loop .upper) (at-loop .loop .inv .1))) (cells-more (2 ^ entry .args .g .stored - 1) 65535 _ (omega (arith, power-most (entry .args .g .stored) (entry .pre .shape .stored-most))) (block-cells (entry .args .g) (entry .args .upper .now) (entry .args .lower .now) (entry .pre .above) (entry .pre .below) (entry .args .s + at-loop .loop .c) (omega (arith, entry .pre .most, at-loop-test .loop-test .taken)))), entry .pre .weights)
 
 mul-upper : tie.Need-mul-upper Inv-loop μ-loop
 mul-upper c =
-    omega (arith, c .before .before .before .before .before .before .before .before .before .pre .shape .columns-most, c .before .before .before .before .before .before .before .before .before .pre .most, c .before .before .before .before .before .loop-test .taken)
+    let at-loop-test = c .before .before .before .before .before in
+    let entry = at-loop-test .before .before .before .before in
+    omega (arith, entry .pre .shape .columns-most, entry .pre .most, at-loop-test .loop-test .taken)
 
 slice-write-upper : tie.Need-slice-write-upper Inv-loop μ-loop
 slice-write-upper c =
-    omega (arith, ap length (c .before .before .before .before .before .before .loop .inv .1) ∙ from-length _ _ _ _, c .before .before .before .before .before .before .before .before .before .pre .above .at (c .before .before .before .before .before .before .before .before .before .args .s + c .before .before .before .before .before .before .loop .c) (omega (arith, c .before .before .before .before .before .before .before .before .before .pre .most, c .before .before .before .before .before .loop-test .taken)) .0)
+    let at-loop-test = c .before .before .before .before .before in
+    let at-loop = at-loop-test .before in
+    let entry = at-loop .before .before .before in
+    omega (arith, ap length (at-loop .loop .inv .1) ∙ from-length _ _ _ _, entry .pre .above .at (entry .args .s + at-loop .loop .c) (omega (arith, entry .pre .most, at-loop-test .loop-test .taken)) .0)
 
 add-c : tie.Need-add-c Inv-loop μ-loop
 add-c c =
-    omega (arith, c .before .before .before .before .before .before .before .before .before .pre .shape .columns-most, c .before .before .before .before .before .loop-test .taken)
+    let at-loop-test = c .before .before .before .before .before in
+    let entry = at-loop-test .before .before .before .before in
+    omega (arith, entry .pre .shape .columns-most, at-loop-test .loop-test .taken)
 
 loop-less : tie.Need-loop-less Inv-loop μ-loop
 loop-less c =
-    omega (arith, c .before .before .before .before .before .loop-test .taken)
+    let at-loop-test = c .before .before .before .before .before in
+    omega (arith, at-loop-test .loop-test .taken)
 
 loop-again : tie.Need-loop-again Inv-loop μ-loop
 loop-again c =
-    let e : c .blended .result ≡ blendsAt (c .before .before .before .before .before .before .before .before .before .args .upper .now) (c .before .before .before .before .before .before .before .before .before .args .lower .now) (c .before .before .before .before .before .before .before .before .before .args .w) (c .before .before .before .before .before .before .before .before .before .args .s) (c .before .before .before .before .before .before .loop .c) = c .blended .ensures ∙ ap (λ (b : List (List ℕ)). blendOf b (c .before .before .before .before .before .before .before .before .before .args .w)) (block-now (c .before .before .before .before .before .before .before .before .before .args .upper .now) (c .before .before .before .before .before .before .before .before .before .args .lower .now) (c .before .before .before .before .before .before .before .before .before .args .w) (c .before .before .before .before .before .before .before .before .before .args .s) (c .before .before .before .before .before .before .loop .c) (c .before .before .before .before .before .before .loop .upper) (c .before .before .before .before .before .before .loop .inv .1)) in
-    (omega (arith, c .before .before .before .before .before .loop-test .taken), ap (λ (x : ℕ). set (c .before .before .before .before .before .before .loop .upper) (c .before .before .before .before .before .before .before .before .before .args .s + c .before .before .before .before .before .before .loop .c) x) e ∙ (ap (λ (u : List ℕ). set u (c .before .before .before .before .before .before .before .before .before .args .s + c .before .before .before .before .before .before .loop .c) (blendsAt (c .before .before .before .before .before .before .before .before .before .args .upper .now) (c .before .before .before .before .before .before .before .before .before .args .lower .now) (c .before .before .before .before .before .before .before .before .before .args .w) (c .before .before .before .before .before .before .before .before .before .args .s) (c .before .before .before .before .before .before .loop .c))) (c .before .before .before .before .before .before .loop .inv .1) ∙ from-more (blendsAt (c .before .before .before .before .before .before .before .before .before .args .upper .now) (c .before .before .before .before .before .before .before .before .before .args .lower .now) (c .before .before .before .before .before .before .before .before .before .args .w) (c .before .before .before .before .before .before .before .before .before .args .s)) (c .before .before .before .before .before .before .before .before .before .args .s) (c .before .before .before .before .before .before .loop .c) (c .before .before .before .before .before .before .before .before .before .args .upper .now)))
+    let at-loop-test = c .before .before .before .before .before in
+    let at-loop = at-loop-test .before in
+    let entry = at-loop .before .before .before in
+    let e : c .blended .result ≡ blendsAt (entry .args .upper .now) (entry .args .lower .now) (entry .args .w) (entry .args .s) (at-loop .loop .c) = c .blended .ensures ∙ ap (λ (b : List (List ℕ)). blendOf b (entry .args .w)) (block-now (entry .args .upper .now) (entry .args .lower .now) (entry .args .w) (entry .args .s) (at-loop .loop .c) (at-loop .loop .upper) (at-loop .loop .inv .1)) in
+    (omega (arith, at-loop-test .loop-test .taken), ap (λ (x : ℕ). set (at-loop .loop .upper) (entry .args .s + at-loop .loop .c) x) e ∙ (ap (λ (u : List ℕ). set u (entry .args .s + at-loop .loop .c) (blendsAt (entry .args .upper .now) (entry .args .lower .now) (entry .args .w) (entry .args .s) (at-loop .loop .c))) (at-loop .loop .inv .1) ∙ from-more (blendsAt (entry .args .upper .now) (entry .args .lower .now) (entry .args .w) (entry .args .s)) (entry .args .s) (at-loop .loop .c) (entry .args .upper .now)))
 
 same-length : tie.Need-same-length Inv-loop μ-loop
 same-length c =

@@ -47,11 +47,13 @@ array-read-result-3 c = search needs
 
 mul-result-3 : tie.Need-mul-result-3
 mul-result-3 c =
-    omega (arith, products (c .before .before .before .args .t1) (c .before .before .before .args .t2) (c .before .before .before .pre))
+    let entry = c .before .before .before in
+    omega (arith, products (entry .args .t1) (entry .args .t2) (entry .pre))
 
 add-result-2 : tie.Need-add-result-2
 add-result-2 c =
-    omega (arith, products (c .before .before .before .args .t1) (c .before .before .before .args .t2) (c .before .before .before .pre))
+    let entry = c .before .before .before in
+    omega (arith, products (entry .args .t1) (entry .args .t2) (entry .pre))
 
 index-1-result-4 : tie.Need-index-1-result-4
 index-1-result-4 c = search needs
@@ -64,15 +66,18 @@ array-read-result-4 c = search needs
 
 mul-result-4 : tie.Need-mul-result-4
 mul-result-4 c =
-    omega (arith, products (c .before .before .before .before .args .t1) (c .before .before .before .before .args .t2) (c .before .before .before .before .pre))
+    let entry = c .before .before .before .before in
+    omega (arith, products (entry .args .t1) (entry .args .t2) (entry .pre))
 
 add-result-3 : tie.Need-add-result-3
 add-result-3 c =
-    omega (arith, products (c .before .before .before .before .args .t1) (c .before .before .before .before .args .t2) (c .before .before .before .before .pre))
+    let entry = c .before .before .before .before in
+    omega (arith, products (entry .args .t1) (entry .args .t2) (entry .pre))
 
 add-result-4 : tie.Need-add-result-4
 add-result-4 c =
-    omega (arith, products (c .before .before .before .before .args .t1) (c .before .before .before .before .args .t2) (c .before .before .before .before .pre))
+    let entry = c .before .before .before .before in
+    omega (arith, products (entry .args .t1) (entry .args .t2) (entry .pre))
 
 returns : tie.Need-returns
 unfolding blendOf

@@ -28,7 +28,8 @@ mul-to c =
 
 shared-slice-read-to : tie.Need-shared-slice-read-to Inv-loop μ-loop
 shared-slice-read-to c =
-    omega (arith, c .before .before .before .pre .0)
+    let entry = c .before .before .before in
+    omega (arith, entry .pre .0)
 
 mul-to-2 : tie.Need-mul-to-2 Inv-loop μ-loop
 mul-to-2 c =
@@ -36,7 +37,8 @@ mul-to-2 c =
 
 slice-write-to : tie.Need-slice-write-to Inv-loop μ-loop
 slice-write-to c =
-    omega (arith, ap length (c .before .before .loop .inv .1) ∙ painted-length _ _ _, c .before .before .before .pre .1)
+    let entry = c .before .before .before in
+    omega (arith, ap length (c .before .before .loop .inv .1) ∙ painted-length _ _ _, entry .pre .1)
 
 add-j : tie.Need-add-j Inv-loop μ-loop
 add-j c =

@@ -24,23 +24,28 @@ abbrev μ-loop : tie.MeasureT-loop
 
 power-requires : tie.Need-power-requires Inv-loop μ-loop
 power-requires c κs =
-    c .before .before .before .before .pre .row .shape .stored-most
+    let entry = c .before .before .before .before in
+    entry .pre .row .shape .stored-most
 
 sub-low : tie.Need-sub-low Inv-loop μ-loop
 sub-low c =
-    omega (arith, c .power .ensures, pow-pos (c .before .before .before .before .before .args .g .stored))
+    let entry = c .before .before .before .before .before in
+    omega (arith, c .power .ensures, pow-pos (entry .args .g .stored))
 
 mul-factor : tie.Need-mul-factor Inv-loop μ-loop
 mul-factor c =
-    omega (arith, c .before .before .before .before .before .pre .few)
+    let entry = c .before .before .before .before .before in
+    omega (arith, entry .pre .few)
 
 div-factor : tie.Need-div-factor Inv-loop μ-loop
 div-factor c =
-    omega (arith, c .before .before .before .before .before .pre .some)
+    let entry = c .before .before .before .before .before in
+    omega (arith, entry .pre .some)
 
 add-factor : tie.Need-add-factor Inv-loop μ-loop
 add-factor c =
-    omega (arith, div-le-self 4294967296 (2 * c .before .before .before .before .before .args .n))
+    let entry = c .before .before .before .before .before in
+    omega (arith, div-le-self 4294967296 (2 * entry .args .n))
 
 loop-holds : tie.Need-loop-holds Inv-loop μ-loop
 unfolding painted
@@ -49,15 +54,18 @@ loop-holds c =
 
 add-wider : tie.Need-add-wider Inv-loop μ-loop
 add-wider c =
-    omega (arith, c .before .before .before .before .before .before .before .pre .row .shape .columns-most, c .before .before .before .before .before .before .before .pre .most, c .loop-test .taken)
+    let entry = c .before .before .before .before .before .before .before in
+    omega (arith, entry .pre .row .shape .columns-most, entry .pre .most, c .loop-test .taken)
 
 mul-wider : tie.Need-mul-wider Inv-loop μ-loop
 mul-wider c =
-    omega (arith, c .before .before .before .before .before .before .before .pre .row .shape .columns-most, c .before .before .before .before .before .before .before .pre .most, c .loop-test .taken)
+    let entry = c .before .before .before .before .before .before .before in
+    omega (arith, entry .pre .row .shape .columns-most, entry .pre .most, c .loop-test .taken)
 
 shared-slice-read-wider : tie.Need-shared-slice-read-wider Inv-loop μ-loop
 shared-slice-read-wider c =
-    c .before .before .before .before .before .before .before .before .pre .summed (c .before .before .loop .c + c .before .before .before .before .before .before .before .before .args .s) (omega (arith, c .before .before .before .before .before .before .before .before .pre .most, c .before .loop-test .taken)) .0
+    let entry = c .before .before .before .before .before .before .before .before in
+    entry .pre .summed (c .before .before .loop .c + entry .args .s) (omega (arith, entry .pre .most, c .before .loop-test .taken)) .0
 
 wider-requires : tie.Need-wider-requires Inv-loop μ-loop
 wider-requires c κs =
@@ -65,43 +73,68 @@ wider-requires c κs =
 
 average-requires : tie.Need-average-requires Inv-loop μ-loop
 average-requires c κs =
-    (c .before .before .before .before .before .before .before .before .before .pre .some, (c .before .before .before .before .before .before .before .before .before .pre .few, (omega (arith, c .wider .ensures, c .before .before .before .before .before .before .before .before .before .pre .summed (c .before .before .before .loop .c + c .before .before .before .before .before .before .before .before .before .args .s) (omega (arith, c .before .before .before .before .before .before .before .before .before .pre .most, c .before .before .loop-test .taken)) .1, sum-fits (c .before .before .before .before .before .before .before .before .before .args .n) (c .before .before .before .before .before .before .before .before .before .args .g .stored) (c .before .before .before .before .before .before .before .before .before .pre .few) (c .before .before .before .before .before .before .before .before .before .pre .row .shape .stored-most)), refl)))
+    let at-loop = c .before .before .before in
+    let entry = at-loop .before .before .before .before .before .before in
+    (entry .pre .some, (entry .pre .few, (omega (arith, c .wider .ensures, entry .pre .summed (at-loop .loop .c + entry .args .s) (omega (arith, entry .pre .most, c .before .before .loop-test .taken)) .1, sum-fits (entry .args .n) (entry .args .g .stored) (entry .pre .few) (entry .pre .row .shape .stored-most)), refl)))
 
 sample-requires : tie.Need-sample-requires Inv-loop μ-loop
 sample-requires c κs =
+    let at-loop-test = c .before .before .before in
+    let at-loop = at-loop-test .before in
+    let at-power = at-loop .before in
+    let entry = at-power .before .before .before .before .before in
     record {
-      width = c .before .before .before .before .before .before .before .before .before .before .pre .row .shape .width;
-      kept = ap (λ (x : ℕ). x - 1) (c .before .before .before .before .before .power .ensures);
-      inside = row-at (c .before .before .before .before .before .before .before .before .before .before .args .line .now) (c .before .before .before .before .before .before .before .before .before .before .args .g) (c .before .before .before .before .before .before .before .before .before .before .pre .row) (c .before .before .before .before .loop .c) (c .before .before .before .loop-test .taken);
+      width = entry .pre .row .shape .width;
+      kept = ap (λ (x : ℕ). x - 1) (at-power .power .ensures);
+      inside = row-at (entry .args .line .now) (entry .args .g) (entry .pre .row) (at-loop .loop .c) (at-loop-test .loop-test .taken);
     }
 
 add-levels : tie.Need-add-levels Inv-loop μ-loop
 add-levels c =
-    omega (arith, c .sample .ensures .1, power-most (c .before .before .before .before .before .before .before .before .before .before .before .args .g .stored) (c .before .before .before .before .before .before .before .before .before .before .before .pre .row .shape .stored-most), c .before .before .before .before .before .before .power .ensures)
+    let at-power = c .before .before .before .before .before .before in
+    let entry = at-power .before .before .before .before .before in
+    omega (arith, c .sample .ensures .1, power-most (entry .args .g .stored) (entry .pre .row .shape .stored-most), at-power .power .ensures)
 
 sub-levels : tie.Need-sub-levels Inv-loop μ-loop
 sub-levels c =
-    omega (arith, c .before .average .ensures, c .before .before .before .before .before .before .power .ensures, average-most (c .before .before .wider .result) (c .before .before .before .before .before .before .before .before .before .before .before .args .n) (c .before .before .before .before .before .before .before .before .before .before .before .pre .some) (c .before .before .before .before .before .before .before .before .before .before .before .pre .few) (2 ^ c .before .before .before .before .before .before .before .before .before .before .before .args .g .stored - 1) (rw (c .before .before .wider .ensures) (c .before .before .before .before .before .before .before .before .before .before .before .pre .summed (c .before .before .before .before .before .loop .c + c .before .before .before .before .before .before .before .before .before .before .before .args .s) (omega (arith, c .before .before .before .before .before .before .before .before .before .before .before .pre .most, c .before .before .before .before .loop-test .taken)) .1)))
+    let at-loop-test = c .before .before .before .before in
+    let at-loop = at-loop-test .before in
+    let at-power = at-loop .before in
+    let entry = at-power .before .before .before .before .before in
+    omega (arith, c .before .average .ensures, at-power .power .ensures, average-most (c .before .before .wider .result) (entry .args .n) (entry .pre .some) (entry .pre .few) (2 ^ entry .args .g .stored - 1) (rw (c .before .before .wider .ensures) (entry .pre .summed (at-loop .loop .c + entry .args .s) (omega (arith, entry .pre .most, at-loop-test .loop-test .taken)) .1)))
 
 shared-slice-read-levels : tie.Need-shared-slice-read-levels Inv-loop μ-loop
 shared-slice-read-levels c =
-    omega (arith, c .before .sample .ensures .1, power-most (c .before .before .before .before .before .before .before .before .before .before .before .before .args .g .stored) (c .before .before .before .before .before .before .before .before .before .before .before .before .pre .row .shape .stored-most), c .before .before .before .before .before .before .before .power .ensures, c .before .before .before .before .before .before .before .before .before .before .before .before .pre .shades)
+    let at-power = c .before .before .before .before .before .before .before in
+    let entry = at-power .before .before .before .before .before in
+    omega (arith, c .before .sample .ensures .1, power-most (entry .args .g .stored) (entry .pre .row .shape .stored-most), at-power .power .ensures, entry .pre .shades)
 
 slice-write-levels : tie.Need-slice-write-levels Inv-loop μ-loop
 slice-write-levels c =
-    omega (arith, ap length (c .before .before .before .before .before .before .loop .inv .1) ∙ painted-length _ _ _, c .before .before .before .before .before .before .before .before .before .before .before .before .pre .room, c .before .before .before .before .before .loop-test .taken)
+    let at-loop-test = c .before .before .before .before .before in
+    let at-loop = at-loop-test .before in
+    let entry = at-loop .before .before .before .before .before .before in
+    omega (arith, ap length (at-loop .loop .inv .1) ∙ painted-length _ _ _, entry .pre .room, at-loop-test .loop-test .taken)
 
 add-c : tie.Need-add-c Inv-loop μ-loop
 add-c c =
-    omega (arith, c .before .before .before .before .before .before .before .before .before .before .before .before .pre .row .shape .columns-most, c .before .before .before .before .before .loop-test .taken)
+    let at-loop-test = c .before .before .before .before .before in
+    let entry = at-loop-test .before .before .before .before .before .before .before in
+    omega (arith, entry .pre .row .shape .columns-most, at-loop-test .loop-test .taken)
 
 loop-less : tie.Need-loop-less Inv-loop μ-loop
 loop-less c =
-    omega (arith, c .before .before .before .before .before .loop-test .taken)
+    let at-loop-test = c .before .before .before .before .before in
+    omega (arith, at-loop-test .loop-test .taken)
 
 loop-again : tie.Need-loop-again Inv-loop μ-loop
 loop-again c =
-    (omega (arith, c .before .before .before .before .before .loop-test .taken), rw (c .before .before .before .before .before .before .loop .inv .1, row-shade (c .before .before .before .before .before .before .before .before .before .before .before .before .args .g) (c .before .before .before .before .before .before .before .before .before .before .before .before .args .line .now) (c .before .before .before .before .before .before .before .before .before .before .before .before .args .table .now) (c .before .before .before .before .before .before .before .before .before .before .before .before .args .sums .now) (c .before .before .before .before .before .before .before .before .before .before .before .before .args .n) (c .before .before .before .before .before .before .before .before .before .before .before .before .args .s) (c .before .before .before .before .before .before .loop .c) (c .before .sample .result) (c .before .before .before .before .before .before .before .power .result) (c .before .before .average .result) (c .before .sample .ensures .0) (c .before .before .before .before .before .before .before .power .ensures) (c .before .before .average .ensures ∙ ap (λ (x : ℕ). averageOf x (c .before .before .before .before .before .before .before .before .before .before .before .before .args .n)) (c .before .before .before .wider .ensures))) (painted-more _ _ _))
+    let at-wider = c .before .before .before in
+    let at-loop-test = at-wider .before .before in
+    let at-loop = at-loop-test .before in
+    let at-power = at-loop .before in
+    let entry = at-power .before .before .before .before .before in
+    (omega (arith, at-loop-test .loop-test .taken), rw (at-loop .loop .inv .1, row-shade (entry .args .g) (entry .args .line .now) (entry .args .table .now) (entry .args .sums .now) (entry .args .n) (entry .args .s) (at-loop .loop .c) (c .before .sample .result) (at-power .power .result) (c .before .before .average .result) (c .before .sample .ensures .0) (at-power .power .ensures) (c .before .before .average .ensures ∙ ap (λ (x : ℕ). averageOf x (entry .args .n)) (at-wider .wider .ensures))) (painted-more _ _ _))
 
 same-length : tie.Need-same-length Inv-loop μ-loop
 same-length c =

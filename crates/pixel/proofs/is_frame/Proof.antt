@@ -16,7 +16,8 @@ mul-result-2 c =
 
 mul-result-3 : tie.Need-mul-result-3
 mul-result-3 c =
-    omega (arith, bytes-fit (c .before .before .before .args .k) (c .before .before .before .args .g .rows) (c .before .before .before .args .g .columns) (c .before .before .before .args .g .width) (c .before .before .before .pre .number) (c .before .before .before .pre .rows) (c .before .before .before .pre .columns) (c .before .before .before .pre .width))
+    let entry = c .before .before .before in
+    omega (arith, bytes-fit (entry .args .k) (entry .args .g .rows) (entry .args .g .columns) (entry .args .g .width) (entry .pre .number) (entry .pre .rows) (entry .pre .columns) (entry .pre .width))
 
 returns : tie.Need-returns
 unfolding isFrame

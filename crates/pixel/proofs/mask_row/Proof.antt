@@ -21,7 +21,8 @@ part-sum-row-end c = search needs
 
 sum-row-requires : tie.Need-sum-row-requires
 sum-row-requires c κs =
-    (c .before .before .before .before .pre .0, (c .before .before .before .before .pre .1 .0, (c .before .before .before .before .pre .1 .1 .0, simp (length-take, length-drop) (omega (arith, c .before .before .before .before .pre .1 .1 .1)))))
+    let entry = c .before .before .before .before in
+    (entry .pre .0, (entry .pre .1 .0, (entry .pre .1 .1 .0, simp (length-take, length-drop) (omega (arith, entry .pre .1 .1 .1)))))
 
 spread-requires : tie.Need-spread-requires
 spread-requires c κs = search needs
@@ -31,7 +32,10 @@ same-length c = search needs
 
 returns : tie.Need-returns
 returns c =
-    spread-row (c .before .before .before .before .before .before .before .before .before .before .before .args .pixels .now) (c .before .before .before .before .before .before .before .before .before .before .before .args .g) (usValues (c .before .before .before .before .before .before .before .before .before .before .before .args .masks .now)) (c .before .before .before .before .before .before .before .before .before .before .before .args .row) (c .before .before .before .before .before .before .sum-row .last .1 .1 .1 .1 .0) (c .before .before .before .before .before .before .before .before .before .before .before .args .sums .now) _ _ (c .before .before .before .before .before .before .before .before .before .before .before .pre .0 .columns-some) (omega (arith, simp (length-take, length-drop) at (c .before .before .before .before .before .sums .given .0), c .before .before .before .before .before .before .before .before .before .before .before .pre .1 .1 .1)) (omega (arith, c .before .before .before .before .before .before .before .before .before .before .before .pre .1 .1 .1)) (c .before .before .before .before .before .before .sum-row .ensures) (c .before .before .spread .ensures)
+    let at-sums = c .before .before .before .before .before in
+    let at-sum-row = at-sums .before in
+    let entry = at-sum-row .before .before .before .before .before in
+    spread-row (entry .args .pixels .now) (entry .args .g) (usValues (entry .args .masks .now)) (entry .args .row) (at-sum-row .sum-row .last .1 .1 .1 .1 .0) (entry .args .sums .now) _ _ (entry .pre .0 .columns-some) (omega (arith, simp (length-take, length-drop) at (at-sums .sums .given .0), entry .pre .1 .1 .1)) (omega (arith, entry .pre .1 .1 .1)) (at-sum-row .sum-row .ensures) (c .before .before .spread .ensures)
 
 pub mask-row-spec : {M : Type 1} → statement M
 mask-row-spec =

@@ -11,25 +11,29 @@ enum-known-m c = search needs
 
 sub-result : tie.Need-sub-result
 sub-result c =
-    omega (arith, below-plus 257 _ _ (c .before .m .given .1) (c .before .before .before .pre))
+    let entry = c .before .before .before in
+    omega (arith, below-plus 257 _ _ (c .before .m .given .1) (entry .pre))
 
 enum-known-m-2 : tie.Need-enum-known-m-2
 enum-known-m-2 c = search needs
 
 add-result : tie.Need-add-result
 add-result c =
-    omega (arith, below-minus 257 _ _ (c .before .m2 .given .1) (c .before .before .before .pre))
+    let entry = c .before .before .before in
+    omega (arith, below-minus 257 _ _ (c .before .m2 .given .1) (entry .pre))
 
 enum-told : tie.Need-enum-told
 enum-told c = search needs
 
 returns : tie.Need-returns
 returns c =
-    rw (c .before .m .given .1) (offset-plus _ (below-plus 257 _ _ (c .before .m .given .1) (c .before .before .before .pre)))
+    let entry = c .before .before .before in
+    rw (c .before .m .given .1) (offset-plus _ (below-plus 257 _ _ (c .before .m .given .1) (entry .pre)))
 
 returns-2 : tie.Need-returns-2
 returns-2 c =
-    rw (c .before .m2 .given .1) (offset-minus _ (below-minus 257 _ _ (c .before .m2 .given .1) (c .before .before .before .pre)))
+    let entry = c .before .before .before in
+    rw (c .before .m2 .given .1) (offset-minus _ (below-minus 257 _ _ (c .before .m2 .given .1) (entry .pre)))
 
 returns-3 : tie.Need-returns-3
 returns-3 c =

@@ -20,23 +20,28 @@ abbrev μ-loop : tie.MeasureT-loop
 
 power-requires : tie.Need-power-requires Inv-loop μ-loop
 power-requires c κs =
-    c .before .before .before .pre .0 .shape .stored-most
+    let entry = c .before .before .before in
+    entry .pre .0 .shape .stored-most
 
 sub-low : tie.Need-sub-low Inv-loop μ-loop
 sub-low c =
-    omega (arith, c .power .ensures, pow-pos (c .before .before .before .before .args .g .stored))
+    let entry = c .before .before .before .before in
+    omega (arith, c .power .ensures, pow-pos (entry .args .g .stored))
 
 sub-power : tie.Need-sub-power Inv-loop μ-loop
 sub-power c =
-    c .before .before .before .before .before .pre .0 .shape .stored-some
+    let entry = c .before .before .before .before .before in
+    entry .pre .0 .shape .stored-some
 
 power-requires-2 : tie.Need-power-requires-2 Inv-loop μ-loop
 power-requires-2 c κs =
-    omega (arith, c .before .before .before .before .before .pre .0 .shape .stored-most)
+    let entry = c .before .before .before .before .before in
+    omega (arith, entry .pre .0 .shape .stored-most)
 
 sub-middle : tie.Need-sub-middle Inv-loop μ-loop
 sub-middle c =
-    omega (arith, c .before .before .power .ensures, c .power2 .ensures, half-low (c .before .before .before .before .before .before .args .g .stored) (c .before .before .before .before .before .before .pre .0 .shape .stored-some))
+    let entry = c .before .before .before .before .before .before in
+    omega (arith, c .before .before .power .ensures, c .power2 .ensures, half-low (entry .args .g .stored) (entry .pre .0 .shape .stored-some))
 
 loop-holds : tie.Need-loop-holds Inv-loop μ-loop
 unfolding painted
@@ -45,23 +50,31 @@ loop-holds c =
 
 sample-requires : tie.Need-sample-requires Inv-loop μ-loop
 sample-requires c κs =
+    let at-power = c .before .before .before .before in
+    let entry = at-power .before .before .before .before in
     record {
-      width = c .before .before .before .before .before .before .before .before .pre .0 .shape .width;
-      kept = ap (λ (x : ℕ). x - 1) (c .before .before .before .before .power .ensures);
-      inside = row-at (c .before .before .before .before .before .before .before .before .args .line .now) (c .before .before .before .before .before .before .before .before .args .g) (c .before .before .before .before .before .before .before .before .pre .0) (c .before .loop .c) (c .loop-test .taken);
+      width = entry .pre .0 .shape .width;
+      kept = ap (λ (x : ℕ). x - 1) (at-power .power .ensures);
+      inside = row-at (entry .args .line .now) (entry .args .g) (entry .pre .0) (c .before .loop .c) (c .loop-test .taken);
     }
 
 add-levels : tie.Need-add-levels Inv-loop μ-loop
 add-levels c =
-    omega (arith, c .sample .ensures .1, power-most (c .before .before .before .before .before .before .before .before .before .args .g .stored) (c .before .before .before .before .before .before .before .before .before .pre .0 .shape .stored-most), c .before .before .before .before .before .power .ensures)
+    let at-power = c .before .before .before .before .before in
+    let entry = at-power .before .before .before .before in
+    omega (arith, c .sample .ensures .1, power-most (entry .args .g .stored) (entry .pre .0 .shape .stored-most), at-power .power .ensures)
 
 shared-slice-read-levels : tie.Need-shared-slice-read-levels Inv-loop μ-loop
 shared-slice-read-levels c =
-    omega (arith, c .before .sample .ensures .1, power-most (c .before .before .before .before .before .before .before .before .before .before .args .g .stored) (c .before .before .before .before .before .before .before .before .before .before .pre .0 .shape .stored-most), c .before .before .before .before .before .before .power .ensures, c .before .before .before .before .before .before .before .before .before .before .pre .1 .0)
+    let at-power = c .before .before .before .before .before .before in
+    let entry = at-power .before .before .before .before in
+    omega (arith, c .before .sample .ensures .1, power-most (entry .args .g .stored) (entry .pre .0 .shape .stored-most), at-power .power .ensures, entry .pre .1 .0)
 
 slice-write-levels : tie.Need-slice-write-levels Inv-loop μ-loop
 slice-write-levels c =
-    omega (arith, ap length (c .before .before .before .loop .inv .1) ∙ painted-length _ _ _, c .before .before .before .before .before .before .before .before .before .before .pre .1 .1, c .before .before .loop-test .taken)
+    let at-loop = c .before .before .before in
+    let entry = at-loop .before .before .before .before .before .before .before in
+    omega (arith, ap length (at-loop .loop .inv .1) ∙ painted-length _ _ _, entry .pre .1 .1, c .before .before .loop-test .taken)
 
 add-c : tie.Need-add-c Inv-loop μ-loop
 add-c c =
@@ -73,7 +86,11 @@ loop-less c =
 
 loop-again : tie.Need-loop-again Inv-loop μ-loop
 loop-again c =
-    (omega (arith, c .before .before .loop-test .taken), rw (c .before .before .before .loop .inv .1, plain-place (c .before .before .before .before .before .before .before .before .before .before .args .g) (c .before .before .before .before .before .before .before .before .before .before .args .line .now) (c .before .before .before .loop .c) _ _ _ (c .before .sample .ensures .0) (c .before .before .before .before .before .before .power .ensures) (c .before .before .before .before .power2 .ensures)) (painted-more (λ j. getD (c .before .before .before .before .before .before .before .before .before .before .args .table .now) (plainPlace (c .before .before .before .before .before .before .before .before .before .before .args .g) (c .before .before .before .before .before .before .before .before .before .before .args .line .now) j) 0) _ _))
+    let at-loop = c .before .before .before in
+    let at-power2 = at-loop .before in
+    let at-power = at-power2 .before .before in
+    let entry = at-power .before .before .before .before in
+    (omega (arith, c .before .before .loop-test .taken), rw (at-loop .loop .inv .1, plain-place (entry .args .g) (entry .args .line .now) (at-loop .loop .c) _ _ _ (c .before .sample .ensures .0) (at-power .power .ensures) (at-power2 .power2 .ensures)) (painted-more (λ j. getD (entry .args .table .now) (plainPlace (entry .args .g) (entry .args .line .now) j) 0) _ _))
 
 same-length : tie.Need-same-length Inv-loop μ-loop
 same-length c =

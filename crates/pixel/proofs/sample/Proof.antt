@@ -9,26 +9,31 @@ use Rattle.pixel.proofs.sample.Tie as tie
 
 shared-slice-read-wide : tie.Need-shared-slice-read-wide
 shared-slice-read-wide c =
-    one-byte _ _ _ (c .before .if1 .taken) (c .before .before .before .before .pre .inside)
+    let entry = c .before .before .before .before in
+    one-byte _ _ _ (c .before .if1 .taken) (entry .pre .inside)
 
 wide-requires : tie.Need-wide-requires
 wide-requires c κs = search needs
 
 mul-u16-at : tie.Need-mul-u16-at
 mul-u16-at c =
-    omega (arith, two-bytes (c .before .before .before .args .g .width) (c .before .before .before .args .j) (length (c .before .before .before .args .pixels .now)) (c .before .before .before .pre .width) (c .if1 .left) (c .before .before .before .pre .inside))
+    let entry = c .before .before .before in
+    omega (arith, two-bytes (entry .args .g .width) (entry .args .j) (length (entry .args .pixels .now)) (entry .pre .width) (c .if1 .left) (entry .pre .inside))
 
 u16-at-requires : tie.Need-u16-at-requires
 u16-at-requires c κs =
-    two-bytes _ _ _ (c .before .before .before .pre .width) (c .if1 .left) (c .before .before .before .pre .inside)
+    let entry = c .before .before .before in
+    two-bytes _ _ _ (entry .pre .width) (c .if1 .left) (entry .pre .inside)
 
 returns : tie.Need-returns
 returns c =
-    (rw (c .wide .ensures .0) (cell-narrow (c .before .before .before .before .before .args .g) (c .before .before .before .before .before .args .pixels .now) (c .before .before .before .before .before .args .low) (c .before .before .before .before .before .args .j) (c .before .before .if1 .taken) (c .before .before .before .before .before .pre .kept)), and-le-r (c .wide .result) (c .before .before .before .before .before .args .low))
+    let entry = c .before .before .before .before .before in
+    (rw (c .wide .ensures .0) (cell-narrow (entry .args .g) (entry .args .pixels .now) (entry .args .low) (entry .args .j) (c .before .before .if1 .taken) (entry .pre .kept)), and-le-r (c .wide .result) (entry .args .low))
 
 returns-2 : tie.Need-returns-2
 returns-2 c =
-    (rw (c .u16-at .ensures .0) (cell-wide (c .before .before .before .before .args .g) (c .before .before .before .before .args .pixels .now) (c .before .before .before .before .args .low) (c .before .before .before .before .args .j) (width-two _ (c .before .before .before .before .pre .width) (c .before .if1 .left)) (c .before .before .before .before .pre .kept)), and-le-r (c .u16-at .result) (c .before .before .before .before .args .low))
+    let entry = c .before .before .before .before in
+    (rw (c .u16-at .ensures .0) (cell-wide (entry .args .g) (entry .args .pixels .now) (entry .args .low) (entry .args .j) (width-two _ (entry .pre .width) (c .before .if1 .left)) (entry .pre .kept)), and-le-r (c .u16-at .result) (entry .args .low))
 
 pub sample-spec : {M : Type 1} → statement M
 sample-spec =

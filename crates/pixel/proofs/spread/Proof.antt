@@ -33,7 +33,9 @@ same-length c = search needs
 
 returns : tie.Need-returns
 returns c =
-    rw (c .before .before .fill2 .ensures, c .before .before .before .before .before .before .fill .ensures) (spread-at (c .before .before .before .before .before .before .before .before .before .before .before .args .columns) (c .before .before .before .before .before .before .before .before .before .before .before .args .sums .now) (c .before .before .before .before .before .before .before .before .before .before .before .pre .0) (c .before .before .before .before .before .before .before .before .before .before .before .pre .1))
+    let at-fill = c .before .before .before .before .before .before in
+    let entry = at-fill .before .before .before .before .before in
+    rw (c .before .before .fill2 .ensures, at-fill .fill .ensures) (spread-at (entry .args .columns) (entry .args .sums .now) (entry .pre .0) (entry .pre .1))
 
 pub spread-spec : {M : Type 1} → statement M
 spread-spec =

@@ -24,19 +24,23 @@ abbrev μ-loop : tie.MeasureT-loop
 
 mul-n : tie.Need-mul-n Inv-loop μ-loop
 mul-n c =
-    omega (arith, cells-fit 0 (c .before .before .before .before .args .g .rows) (c .before .before .before .before .args .g .columns) 0 (omega arith) (c .before .before .before .before .pre .0 .rows-most) (c .before .before .before .before .pre .0 .columns-most) (omega arith))
+    let entry = c .before .before .before .before in
+    omega (arith, cells-fit 0 (entry .args .g .rows) (entry .args .g .columns) 0 (omega arith) (entry .pre .0 .rows-most) (entry .pre .0 .columns-most) (omega arith))
 
 mul-at : tie.Need-mul-at Inv-loop μ-loop
 mul-at c =
-    omega (arith, cells-fit 0 (c .before .before .before .before .args .row) (c .before .before .before .before .args .g .columns) 0 (omega arith) (omega (arith, c .before .before .before .before .pre .1 .1 .0, c .before .before .before .before .pre .0 .rows-most)) (c .before .before .before .before .pre .0 .columns-most) (omega arith))
+    let entry = c .before .before .before .before in
+    omega (arith, cells-fit 0 (entry .args .row) (entry .args .g .columns) 0 (omega arith) (omega (arith, entry .pre .1 .1 .0, entry .pre .0 .rows-most)) (entry .pre .0 .columns-most) (omega arith))
 
 fill-requires : tie.Need-fill-requires Inv-loop μ-loop
 fill-requires c κs =
-    omega (arith, c .before .before .before .before .before .pre .1 .1 .1)
+    let entry = c .before .before .before .before .before in
+    omega (arith, entry .pre .1 .1 .1)
 
 loop-holds : tie.Need-loop-holds Inv-loop μ-loop
 loop-holds c =
-    (omega (arith, usValues-length (c .before .before .before .before .before .before .before .before .args .masks .now)), (refl, rw (c .before .before .fill .ensures) (summed-none (c .before .before .before .before .before .before .before .before .args .pixels .now) (c .before .before .before .before .before .before .before .before .args .g) (usValues (c .before .before .before .before .before .before .before .before .args .masks .now)) (c .before .before .before .before .before .before .before .before .args .row) _ _ (sym (usValues-length (c .before .before .before .before .before .before .before .before .args .masks .now))) (c .before .before .before .before .before .before .before .before .pre .1 .1 .1))))
+    let entry = c .before .before .before .before .before .before .before .before in
+    (omega (arith, usValues-length (entry .args .masks .now)), (refl, rw (c .before .before .fill .ensures) (summed-none (entry .args .pixels .now) (entry .args .g) (usValues (entry .args .masks .now)) (entry .args .row) _ _ (sym (usValues-length (entry .args .masks .now))) (entry .pre .1 .1 .1))))
 
 sub-k : tie.Need-sub-k Inv-loop μ-loop
 sub-k c =
@@ -44,19 +48,23 @@ sub-k c =
 
 us-value-requires : tie.Need-us-value-requires Inv-loop μ-loop
 us-value-requires c κs =
-    omega (arith, usValues-length (c .before .before .before .before .before .before .before .before .before .before .args .masks .now), c .before .loop .inv .0)
+    let entry = c .before .before .before .before .before .before .before .before .before .before in
+    omega (arith, usValues-length (entry .args .masks .now), c .before .loop .inv .0)
 
 sub-add-row : tie.Need-sub-add-row Inv-loop μ-loop
 sub-add-row c =
-    omega (arith, frame-facts (c .before .before .before .before .before .before .before .before .before .before .before .args .g) (c .before .before .before .before .before .before .before .before .before .before .before .args .pixels .now) (c .us-value .result) (mask-frame _ _ (c .before .before .before .before .before .before .before .before .before .before .before .args .masks .now) (c .before .before .loop .k) _ (c .before .before .before .before .before .before .before .before .before .before .before .pre .1 .0) (c .before .loop-test .taken) (c .before .before .loop .inv .0) (c .us-value .ensures .0)) .0)
+    let entry = c .before .before .before .before .before .before .before .before .before .before .before in
+    omega (arith, frame-facts (entry .args .g) (entry .args .pixels .now) (c .us-value .result) (mask-frame _ _ (entry .args .masks .now) (c .before .before .loop .k) _ (entry .pre .1 .0) (c .before .loop-test .taken) (c .before .before .loop .inv .0) (c .us-value .ensures .0)) .0)
 
 mul-add-row : tie.Need-mul-add-row Inv-loop μ-loop
 mul-add-row c =
-    omega (arith, native-run (c .before .before .before .before .before .before .before .before .before .before .before .args .g) (c .before .before .before .before .before .before .before .before .before .before .before .args .pixels .now) (c .us-value .result) (c .before .before .before .before .before .before .before .before .before .before .before .pre .0 .width) (mask-frame _ _ (c .before .before .before .before .before .before .before .before .before .before .before .args .masks .now) (c .before .before .loop .k) _ (c .before .before .before .before .before .before .before .before .before .before .before .pre .1 .0) (c .before .loop-test .taken) (c .before .before .loop .inv .0) (c .us-value .ensures .0)) .1)
+    let entry = c .before .before .before .before .before .before .before .before .before .before .before in
+    omega (arith, native-run (entry .args .g) (entry .args .pixels .now) (c .us-value .result) (entry .pre .0 .width) (mask-frame _ _ (entry .args .masks .now) (c .before .before .loop .k) _ (entry .pre .1 .0) (c .before .loop-test .taken) (c .before .before .loop .inv .0) (c .us-value .ensures .0)) .1)
 
 add-add-row : tie.Need-add-add-row Inv-loop μ-loop
 add-add-row c =
-    omega (arith, frame-row (c .before .before .before .before .before .before .before .before .before .before .before .args .g) (c .before .before .before .before .before .before .before .before .before .before .before .args .pixels .now) (c .us-value .result) (c .before .before .before .before .before .before .before .before .before .before .before .args .row) (c .before .before .before .before .before .before .before .before .before .before .before .pre .0 .width) (mask-frame _ _ (c .before .before .before .before .before .before .before .before .before .before .before .args .masks .now) (c .before .before .loop .k) _ (c .before .before .before .before .before .before .before .before .before .before .before .pre .1 .0) (c .before .loop-test .taken) (c .before .before .loop .inv .0) (c .us-value .ensures .0)) (c .before .before .before .before .before .before .before .before .before .before .before .pre .1 .1 .0) .1)
+    let entry = c .before .before .before .before .before .before .before .before .before .before .before in
+    omega (arith, frame-row (entry .args .g) (entry .args .pixels .now) (c .us-value .result) (entry .args .row) (entry .pre .0 .width) (mask-frame _ _ (entry .args .masks .now) (c .before .before .loop .k) _ (entry .pre .1 .0) (c .before .loop-test .taken) (c .before .before .loop .inv .0) (c .us-value .ensures .0)) (entry .pre .1 .1 .0) .1)
 
 add-row-requires : tie.Need-add-row-requires Inv-loop μ-loop
 add-row-requires c κs = (
@@ -69,20 +77,27 @@ add-row-requires c κs = (
 
 loop-less : tie.Need-loop-less Inv-loop μ-loop
 loop-less c =
-    omega (arith, c .before .before .before .before .before .loop-test .taken)
+    let at-loop-test = c .before .before .before .before .before in
+    omega (arith, at-loop-test .loop-test .taken)
 
 loop-again : tie.Need-loop-again Inv-loop μ-loop
-loop-again c = (
-  omega (arith, c .before .before .before .before .before .before .loop .inv .0),
-  (
-    ap length (c .before .before .add-row .ensures) ∙ painted-length _ _ _ ∙ c .before .before .before .before .before .before .loop .inv .1 .0,
-    rw (c .before .before .add-row .ensures) (summed-more (c .before .before .before .before .before .before .before .before .before .before .before .before .before .before .before .args .pixels .now) (c .before .before .before .before .before .before .before .before .before .before .before .before .before .before .before .args .g) (usValues (c .before .before .before .before .before .before .before .before .before .before .before .before .before .before .before .args .masks .now)) (c .before .before .before .before .before .before .before .before .before .before .before .before .before .before .before .args .row) (c .before .before .before .before .before .before .loop .k) (c .before .before .before .before .us-value .result) _ _ (c .before .before .before .before .before .loop-test .taken) (c .before .before .before .before .before .before .loop .inv .0) (c .before .before .before .before .us-value .ensures .0) refl (omega (arith, c .before .before .before .before .before .before .loop .inv .1 .0, ap length (c .before .before .before .before .before .before .before .before .before .fill .ensures) ∙ from-length _ _ _ _, c .before .before .before .before .before .before .before .before .before .before .before .before .before .before .before .pre .1 .1 .1)) (c .before .before .before .before .before .before .loop .inv .1 .1)),
-  ),
-)
+loop-again c =
+    let at-us-value = c .before .before .before .before in
+    let at-loop-test = at-us-value .before in
+    let at-loop = at-loop-test .before in
+    let at-fill = at-loop .before .before .before in
+    let entry = at-fill .before .before .before .before .before .before in (
+      omega (arith, at-loop .loop .inv .0),
+      (
+        ap length (c .before .before .add-row .ensures) ∙ painted-length _ _ _ ∙ at-loop .loop .inv .1 .0,
+        rw (c .before .before .add-row .ensures) (summed-more (entry .args .pixels .now) (entry .args .g) (usValues (entry .args .masks .now)) (entry .args .row) (at-loop .loop .k) (at-us-value .us-value .result) _ _ (at-loop-test .loop-test .taken) (at-loop .loop .inv .0) (at-us-value .us-value .ensures .0) refl (omega (arith, at-loop .loop .inv .1 .0, ap length (at-fill .fill .ensures) ∙ from-length _ _ _ _, entry .pre .1 .1 .1)) (at-loop .loop .inv .1 .1)),
+      ),
+    )
 
 same-length : tie.Need-same-length Inv-loop μ-loop
 same-length c =
-    c .before .loop .inv .1 .0 ∙ ap length (c .before .before .before .before .fill .ensures) ∙ from-length _ _ _ _
+    let at-fill = c .before .before .before .before in
+    c .before .loop .inv .1 .0 ∙ ap length (at-fill .fill .ensures) ∙ from-length _ _ _ _
 
 returns : tie.Need-returns Inv-loop μ-loop
 returns c =

@@ -20,10 +20,14 @@ clear-requires c κs = search needs
 
 cover-items-requires : tie.Need-cover-items-requires
 cover-items-requires c κs =
-    let p = c .before .before .before .before .before .before .before .before .before .before .before .pre in
-    let ns = nodesOf (c .before .before .before .before .before .before .before .before .before .before .before .args .bytes .now) in
-    let m = c .before .before .before .before .before .before .mask-items .ensures in
-    (p .0, (m .inner, (record { few = p .1 .0 .few; marks = p .1 .0 .marks; frames = omega (arith, c .before .before .before .which .given, p .1 .0 .frames) }, (c .before .before .before .before .clear .ensures, record { each = λ f low high q. p .1 .1 .each f low high (steps-laws.among-items ns f (p .1 .1 .each f low high) ∙ (ap (firstHolding ns f) (sym (m .ahead)) ∙ q)) }))))
+    let at-which = c .before .before .before in
+    let at-clear = at-which .before in
+    let at-mask-items = at-clear .before .before in
+    let entry = at-mask-items .before .before .before .before .before in
+    let p = entry .pre in
+    let ns = nodesOf (entry .args .bytes .now) in
+    let m = at-mask-items .mask-items .ensures in
+    (p .0, (m .inner, (record { few = p .1 .0 .few; marks = p .1 .0 .marks; frames = omega (arith, at-which .which .given, p .1 .0 .frames) }, (at-clear .clear .ensures, record { each = λ f low high q. p .1 .1 .each f low high (steps-laws.among-items ns f (p .1 .1 .each f low high) ∙ (ap (firstHolding ns f) (sym (m .ahead)) ∙ q)) }))))
 
 same-length : tie.Need-same-length
 same-length c = search needs
@@ -33,12 +37,15 @@ same-length-2 c = search needs
 
 returns : tie.Need-returns
 returns c =
-    let p = c .before .before .before .before .before .before .before .before .before .before .before .before .before .before .before .before .pre in
-    let ns = nodesOf (c .before .before .before .before .before .before .before .before .before .before .before .before .before .before .before .before .args .bytes .now) in
-    let m = c .before .before .before .before .before .before .before .before .before .before .before .mask-items .ensures in
+    let at-cover-items = c .before .before .before .before in
+    let at-mask-items = at-cover-items .before .before .before .before .before .before .before in
+    let entry = at-mask-items .before .before .before .before .before in
+    let p = entry .pre in
+    let ns = nodesOf (entry .args .bytes .now) in
+    let m = at-mask-items .mask-items .ensures in
     record {
-      each = λ f low high. steps-laws.among-items ns f (p .1 .1 .each f low high) ∙ (ap (firstHolding ns f) (sym (m .ahead)) ∙ items.left-all _ _ _ _ (c .before .before .before .before .cover-items .ensures) f low high);
-      below = c .before .before .before .before .cover-items .ensures .below;
+      each = λ f low high. steps-laws.among-items ns f (p .1 .1 .each f low high) ∙ (ap (firstHolding ns f) (sym (m .ahead)) ∙ items.left-all _ _ _ _ (at-cover-items .cover-items .ensures) f low high);
+      below = at-cover-items .cover-items .ensures .below;
     }
 
 pub apply-all-spec : {M : Type 1} → statement M

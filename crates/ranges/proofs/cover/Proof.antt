@@ -25,7 +25,8 @@ add-end c =
 
 shared-slice-read-far : tie.Need-shared-slice-read-far Inv-loop μ-loop
 shared-slice-read-far c =
-    omega (arith, c .before .before .before .pre .marks)
+    let entry = c .before .before .before in
+    omega (arith, entry .pre .marks)
 
 loop-holds : tie.Need-loop-holds Inv-loop μ-loop
 unfolding farOf
@@ -38,7 +39,8 @@ mul-larger c =
 
 shared-slice-read-larger : tie.Need-shared-slice-read-larger Inv-loop μ-loop
 shared-slice-read-larger c =
-    omega (arith, c .before .loop-test .taken, c .before .before .before .before .before .before .pre .marks, c .before .before .before .before .before .before .pre .few)
+    let entry = c .before .before .before .before .before .before in
+    omega (arith, c .before .loop-test .taken, entry .pre .marks, entry .pre .few)
 
 larger-requires : tie.Need-larger-requires Inv-loop μ-loop
 larger-requires c κs =
@@ -50,7 +52,10 @@ mul-taken c =
 
 slice-read-taken : tie.Need-slice-read-taken Inv-loop μ-loop
 slice-read-taken c =
-    omega (arith, c .before .before .before .loop-test .taken, c .before .before .before .before .before .before .before .before .pre .frames, c .before .before .before .before .loop .inv .1 .1 .1 .0)
+    let at-loop-test = c .before .before .before in
+    let at-loop = at-loop-test .before in
+    let entry = at-loop .before .before .before .before in
+    omega (arith, at-loop-test .loop-test .taken, entry .pre .frames, at-loop .loop .inv .1 .1 .1 .0)
 
 taken-requires : tie.Need-taken-requires Inv-loop μ-loop
 taken-requires c κs =
@@ -62,22 +67,31 @@ mul-which c =
 
 slice-write-which : tie.Need-slice-write-which Inv-loop μ-loop
 slice-write-which c =
-    omega (arith, c .before .before .before .before .loop-test .taken, c .before .before .before .before .before .before .before .before .before .pre .frames, c .before .before .before .before .before .loop .inv .1 .1 .1 .0)
+    let at-loop-test = c .before .before .before .before in
+    let at-loop = at-loop-test .before in
+    let entry = at-loop .before .before .before .before in
+    omega (arith, at-loop-test .loop-test .taken, entry .pre .frames, at-loop .loop .inv .1 .1 .1 .0)
 
 add-frame : tie.Need-add-frame Inv-loop μ-loop
 add-frame c =
-    omega (arith, c .before .before .before .before .loop-test .taken, c .before .before .before .before .before .before .before .before .before .pre .few)
+    let at-loop-test = c .before .before .before .before in
+    let entry = at-loop-test .before .before .before .before .before in
+    omega (arith, at-loop-test .loop-test .taken, entry .pre .few)
 
 loop-less : tie.Need-loop-less Inv-loop μ-loop
 loop-less c =
-    omega (arith, c .before .before .before .before .loop-test .taken)
+    let at-loop-test = c .before .before .before .before in
+    omega (arith, at-loop-test .loop-test .taken)
 
 loop-again : tie.Need-loop-again Inv-loop μ-loop
 loop-again c =
-    let f = c .before .before .before .before .before .loop .frame in
-    let far : c .before .before .larger .result ≡ farOf (c .before .before .before .before .before .before .before .before .before .args .reach .now) f = c .before .before .larger .ensures ∙ (ap (λ (x : ℕ). max x (getD (c .before .before .before .before .before .before .before .before .before .args .reach .now) f 0)) (c .before .before .before .before .before .loop .inv .1 .1 .0) ∙ reaching.far-next (c .before .before .before .before .before .before .before .before .before .args .reach .now) f (c .before .before .before .before .before .loop .inv .0)) in
+    let at-loop-test = c .before .before .before .before in
+    let at-loop = at-loop-test .before in
+    let entry = at-loop .before .before .before .before in
+    let f = at-loop .loop .frame in
+    let far : c .before .before .larger .result ≡ farOf (entry .args .reach .now) f = c .before .before .larger .ensures ∙ (ap (λ (x : ℕ). max x (getD (entry .args .reach .now) f 0)) (at-loop .loop .inv .1 .1 .0) ∙ reaching.far-next (entry .args .reach .now) f (at-loop .loop .inv .0)) in
     let e : f + 1 - 1 ≡ f = omega arith in
-    (omega arith, (omega (arith, c .before .before .before .before .loop-test .taken), (far ∙ ap (farOf (c .before .before .before .before .before .before .before .before .before .args .reach .now)) (sym e), (length-set (c .before .before .before .before .before .loop .which) (c .before .before .before .before .before .loop .frame) (c .taken .result) ∙ c .before .before .before .before .before .loop .inv .1 .1 .1 .0, (tables.done-more (λ i. leb i (farOf (c .before .before .before .before .before .before .before .before .before .args .reach .now) i)) (c .before .before .before .before .before .before .before .before .before .args .item) f (c .before .before .before .before .before .before .before .before .before .args .which .now) (c .before .before .before .before .before .loop .which) (c .taken .result) (omega (arith, c .before .before .before .before .loop-test .taken, c .before .before .before .before .before .before .before .before .before .pre .frames, c .before .before .before .before .before .loop .inv .1 .1 .1 .0)) (c .taken .ensures ∙ ap (λ (x : ℕ). takenBy (getD (c .before .before .before .before .before .loop .which) f 0) (leb f x) (c .before .before .before .before .before .before .before .before .before .args .item)) far) (c .before .before .before .before .before .loop .inv .1 .1 .1 .1 .1 f (omega arith)) (c .before .before .before .before .before .loop .inv .1 .1 .1 .1 .0), tables.rest-more (λ i. leb i (farOf (c .before .before .before .before .before .before .before .before .before .args .reach .now) i)) (c .before .before .before .before .before .before .before .before .before .args .item) f (c .before .before .before .before .before .before .before .before .before .args .which .now) (c .before .before .before .before .before .loop .which) (c .taken .result) (c .before .before .before .before .before .loop .inv .1 .1 .1 .1 .1))))))
+    (omega arith, (omega (arith, at-loop-test .loop-test .taken), (far ∙ ap (farOf (entry .args .reach .now)) (sym e), (length-set (at-loop .loop .which) (at-loop .loop .frame) (c .taken .result) ∙ at-loop .loop .inv .1 .1 .1 .0, (tables.done-more (λ i. leb i (farOf (entry .args .reach .now) i)) (entry .args .item) f (entry .args .which .now) (at-loop .loop .which) (c .taken .result) (omega (arith, at-loop-test .loop-test .taken, entry .pre .frames, at-loop .loop .inv .1 .1 .1 .0)) (c .taken .ensures ∙ ap (λ (x : ℕ). takenBy (getD (at-loop .loop .which) f 0) (leb f x) (entry .args .item)) far) (at-loop .loop .inv .1 .1 .1 .1 .1 f (omega arith)) (at-loop .loop .inv .1 .1 .1 .1 .0), tables.rest-more (λ i. leb i (farOf (entry .args .reach .now) i)) (entry .args .item) f (entry .args .which .now) (at-loop .loop .which) (c .taken .result) (at-loop .loop .inv .1 .1 .1 .1 .1))))))
 
 same-length : tie.Need-same-length Inv-loop μ-loop
 same-length c =

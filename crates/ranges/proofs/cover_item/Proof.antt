@@ -29,7 +29,10 @@ enum-known-i c = search needs
 
 cover-range-requires : tie.Need-cover-range-requires
 cover-range-requires c κs =
-    (c .before .before .before .before .before .before .before .before .before .before .pre .0, (node-laws.within _ (c .before .before .before .i .given .1) (c .before .before .before .before .before .find-item .ensures .1), c .before .before .before .before .before .before .before .before .before .before .pre .1 .1))
+    let at-i = c .before .before .before in
+    let at-find-item = at-i .before .before in
+    let entry = at-find-item .before .before .before .before .before in
+    (entry .pre .0, (node-laws.within _ (at-i .i .given .1) (at-find-item .find-item .ensures .1), entry .pre .1 .1))
 
 same-length : tie.Need-same-length
 same-length c = search needs
@@ -40,7 +43,11 @@ same-length-2 c = search needs
 returns : tie.Need-returns
 unfolding rangeHolds
 returns c =
-    items.tried-by (λ f. true) (λ f. rangeHolds (nodesOf (c .before .before .before .before .before .before .before .before .before .before .before .before .before .before .args .bytes .now)) f (c .before .before .before .before .before .before .before .before .before .before .before .before .before .before .args .j)) _ _ _ _ (λ f. rw (node-laws.lacked (c .before .before .before .before .before .before .before .enum-told .given .1) (c .before .before .before .before .before .before .before .before .before .find-item .ensures .0))) (c .before .before .before .before .cover-all .ensures)
+    let at-cover-all = c .before .before .before .before in
+    let at-enum-told = at-cover-all .before .before .before in
+    let at-find-item = at-enum-told .before .before in
+    let entry = at-find-item .before .before .before .before .before in
+    items.tried-by (λ f. true) (λ f. rangeHolds (nodesOf (entry .args .bytes .now)) f (entry .args .j)) _ _ _ _ (λ f. rw (node-laws.lacked (at-enum-told .enum-told .given .1) (at-find-item .find-item .ensures .0))) (at-cover-all .cover-all .ensures)
 
 same-length-3 : tie.Need-same-length-3
 same-length-3 c = search needs
@@ -51,7 +58,11 @@ same-length-4 c = search needs
 returns-2 : tie.Need-returns-2
 unfolding rangeHolds
 returns-2 c =
-    items.tried-same (λ f. rangeHas (nodesOf (c .before .before .before .before .before .before .before .before .before .before .before .before .before .before .before .args .bytes .now)) f (num.Is (c .before .before .before .before .before .before .before .before .i .given .0 .0))) (λ f. rangeHolds (nodesOf (c .before .before .before .before .before .before .before .before .before .before .before .before .before .before .before .args .bytes .now)) f (c .before .before .before .before .before .before .before .before .before .before .before .before .before .before .before .args .j)) _ _ _ _ (λ f. rw (node-laws.had (c .before .before .before .before .before .before .before .before .i .given .1) (c .before .before .before .before .before .before .before .before .before .before .find-item .ensures .0))) (c .before .before .before .before .cover-range .ensures)
+    let at-cover-range = c .before .before .before .before in
+    let at-i = at-cover-range .before .before .before .before in
+    let at-find-item = at-i .before .before in
+    let entry = at-find-item .before .before .before .before .before in
+    items.tried-same (λ f. rangeHas (nodesOf (entry .args .bytes .now)) f (num.Is (at-i .i .given .0 .0))) (λ f. rangeHolds (nodesOf (entry .args .bytes .now)) f (entry .args .j)) _ _ _ _ (λ f. rw (node-laws.had (at-i .i .given .1) (at-find-item .find-item .ensures .0))) (at-cover-range .cover-range .ensures)
 
 pub cover-item-spec : {M : Type 1} → statement M
 cover-item-spec =

@@ -20,15 +20,20 @@ abbrev μ-loop : tie.MeasureT-loop
 
 loop-holds : tie.Need-loop-holds Inv-loop μ-loop
 loop-holds c =
-    (refl, (refl, items.left-start _ _ _ _ (c .before .before .before .before .pre .1 .1 .1 .0)))
+    let entry = c .before .before .before .before in
+    (refl, (refl, items.left-start _ _ _ _ (entry .pre .1 .1 .1 .0)))
 
 cover-item-requires : tie.Need-cover-item-requires Inv-loop μ-loop
 cover-item-requires c κs =
-    (c .before .before .before .before .before .before .before .before .pre .0, (omega (arith, c .before .before .loop-test .taken, c .before .before .before .before .before .before .before .before .pre .1 .0), record { few = c .before .before .before .before .before .before .before .before .pre .1 .1 .0 .few; marks = omega (arith, c .before .before .before .loop .inv .0, c .before .before .before .before .before .before .before .before .pre .1 .1 .0 .marks); frames = omega (arith, c .before .before .before .loop .inv .1 .0, c .before .before .before .before .before .before .before .before .pre .1 .1 .0 .frames) }))
+    let at-loop = c .before .before .before in
+    let entry = at-loop .before .before .before .before .before in
+    (entry .pre .0, (omega (arith, c .before .before .loop-test .taken, entry .pre .1 .0), record { few = entry .pre .1 .1 .0 .few; marks = omega (arith, at-loop .loop .inv .0, entry .pre .1 .1 .0 .marks); frames = omega (arith, at-loop .loop .inv .1 .0, entry .pre .1 .1 .0 .frames) }))
 
 next-requires : tie.Need-next-requires Inv-loop μ-loop
 next-requires c κs =
-    (c .before .before .before .before .before .before .before .before .before .before .before .before .before .pre .0, omega (arith, c .before .before .before .before .before .before .before .loop-test .taken, c .before .before .before .before .before .before .before .before .before .before .before .before .before .pre .1 .0))
+    let at-loop-test = c .before .before .before .before .before .before .before in
+    let entry = at-loop-test .before .before .before .before .before .before in
+    (entry .pre .0, omega (arith, at-loop-test .loop-test .taken, entry .pre .1 .0))
 
 loop-less : tie.Need-loop-less Inv-loop μ-loop
 loop-less c =
@@ -36,7 +41,12 @@ loop-less c =
 
 loop-again : tie.Need-loop-again Inv-loop μ-loop
 loop-again c =
-    (c .before .before .before .before .reach .given ∙ c .before .before .before .before .before .before .before .before .before .loop .inv .0, (c .before .before .which .given ∙ c .before .before .before .before .before .before .before .before .before .loop .inv .1 .0, items.left-next _ _ _ _ _ (c .before .before .before .before .before .before .before .before .before .loop .at) (c .before .before .before .before .before .before .before .before .before .before .before .before .before .before .args .to) _ (c .before .before .before .before .before .before .before .before .loop-test .taken) (c .before .before .before .before .before .before .before .before .before .before .before .before .before .before .pre .1 .0) (c .next .ensures .0) (c .before .before .before .before .before .before .before .before .before .before .before .before .before .before .pre .1 .1 .1 .1) (c .before .before .before .before .before .before .before .before .before .loop .inv .1 .1) (c .before .before .before .before .before .cover-item .ensures)))
+    let at-reach = c .before .before .before .before in
+    let at-cover-item = at-reach .before in
+    let at-loop-test = at-cover-item .before .before .before in
+    let at-loop = at-loop-test .before in
+    let entry = at-loop .before .before .before .before .before in
+    (at-reach .reach .given ∙ at-loop .loop .inv .0, (c .before .before .which .given ∙ at-loop .loop .inv .1 .0, items.left-next _ _ _ _ _ (at-loop .loop .at) (entry .args .to) _ (at-loop-test .loop-test .taken) (entry .pre .1 .0) (c .next .ensures .0) (entry .pre .1 .1 .1 .1) (at-loop .loop .inv .1 .1) (at-cover-item .cover-item .ensures)))
 
 same-length : tie.Need-same-length Inv-loop μ-loop
 same-length c =
@@ -48,7 +58,8 @@ same-length-2 c =
 
 returns : tie.Need-returns Inv-loop μ-loop
 returns c =
-    items.left-end _ _ _ _ (c .before .loop .at) (c .before .before .before .before .before .before .args .to) (c .loop-test .left) (c .before .loop .inv .1 .1)
+    let entry = c .before .before .before .before .before .before in
+    items.left-end _ _ _ _ (c .before .loop .at) (entry .args .to) (c .loop-test .left) (c .before .loop .inv .1 .1)
 
 pub cover-items-spec : {M : Type 1} → statement M
 cover-items-spec =

@@ -24,7 +24,9 @@ same-length-2 c = search needs
 
 returns : tie.Need-returns
 returns c =
-    items.covered-pairs _ _ _ _ _ _ _ (c .before .before .before .before .before .before .before .before .before .before .before .clear .ensures) (c .before .before .before .before .before .before .before .mark .ensures) (c .before .before .cover .ensures)
+    let at-mark = c .before .before .before .before .before .before .before in
+    let at-clear = at-mark .before .before .before .before in
+    items.covered-pairs _ _ _ _ _ _ _ (at-clear .clear .ensures) (at-mark .mark .ensures) (c .before .before .cover .ensures)
 
 pub cover-pairs-spec : {M : Type 1} → statement M
 cover-pairs-spec =

@@ -29,7 +29,8 @@ mul-us-value c =
 
 us-value-requires : tie.Need-us-value-requires Inv-loop μ-loop
 us-value-requires c κs =
-    omega (arith, c .loop-test .taken, c .before .loop .inv .1 .0, c .before .before .before .before .pre .0)
+    let entry = c .before .before .before .before in
+    omega (arith, c .loop-test .taken, c .before .loop .inv .1 .0, entry .pre .0)
 
 mul-us-value-2 : tie.Need-mul-us-value-2 Inv-loop μ-loop
 mul-us-value-2 c =
@@ -41,7 +42,8 @@ add-us-value c =
 
 us-value-requires-2 : tie.Need-us-value-requires-2 Inv-loop μ-loop
 us-value-requires-2 c κs =
-    omega (arith, c .before .loop-test .taken, c .before .before .loop .inv .1 .0, c .before .before .before .before .before .pre .0)
+    let entry = c .before .before .before .before .before in
+    omega (arith, c .before .loop-test .taken, c .before .before .loop .inv .1 .0, entry .pre .0)
 
 mul-larger : tie.Need-mul-larger Inv-loop μ-loop
 mul-larger c =
@@ -49,7 +51,9 @@ mul-larger c =
 
 slice-read-larger : tie.Need-slice-read-larger Inv-loop μ-loop
 slice-read-larger c =
-    omega (arith, c .before .before .us-value .ensures .1, c .before .before .before .before .loop .inv .1 .1 .0, c .before .before .before .before .before .before .before .pre .1)
+    let at-loop = c .before .before .before .before in
+    let entry = at-loop .before .before .before in
+    omega (arith, c .before .before .us-value .ensures .1, at-loop .loop .inv .1 .1 .0, entry .pre .1)
 
 cast-larger : tie.Need-cast-larger Inv-loop μ-loop
 cast-larger c =
@@ -65,19 +69,28 @@ mul-reach c =
 
 slice-write-reach : tie.Need-slice-write-reach Inv-loop μ-loop
 slice-write-reach c =
-    omega (arith, c .before .before .before .us-value .ensures .1, c .before .before .before .before .before .loop .inv .1 .1 .0, c .before .before .before .before .before .before .before .before .pre .1)
+    let at-us-value = c .before .before .before in
+    let at-loop = at-us-value .before .before in
+    let entry = at-loop .before .before .before in
+    omega (arith, at-us-value .us-value .ensures .1, at-loop .loop .inv .1 .1 .0, entry .pre .1)
 
 add-k : tie.Need-add-k Inv-loop μ-loop
 add-k c =
-    omega (arith, c .before .before .before .before .loop-test .taken)
+    let at-loop-test = c .before .before .before .before in
+    omega (arith, at-loop-test .loop-test .taken)
 
 loop-less : tie.Need-loop-less Inv-loop μ-loop
 loop-less c =
-    omega (arith, c .before .before .before .before .loop-test .taken)
+    let at-loop-test = c .before .before .before .before in
+    omega (arith, at-loop-test .loop-test .taken)
 
 loop-again : tie.Need-loop-again Inv-loop μ-loop
 loop-again c =
-    (omega (arith, c .before .before .before .before .loop-test .taken), (c .before .before .before .before .before .loop .inv .1 .0, (length-set (c .before .before .before .before .before .loop .reach) (c .before .before .before .us-value .result) (c .larger .result) ∙ c .before .before .before .before .before .loop .inv .1 .1 .0, λ i. tables.mark-more (c .before .before .before .before .before .before .before .before .args .v .now) (c .before .before .before .before .before .loop .k) (c .before .before .before .us-value .result) (c .before .before .us-value2 .result) (c .before .before .before .us-value .ensures .0) (c .before .before .us-value2 .ensures .0) (omega (arith, c .before .before .before .before .loop-test .taken, c .before .before .before .before .before .loop .inv .1 .0, c .before .before .before .before .before .before .before .before .pre .0)) (c .before .before .before .before .before .loop .reach) (c .larger .result) i (omega (arith, c .before .before .before .us-value .ensures .1, c .before .before .before .before .before .loop .inv .1 .1 .0, c .before .before .before .before .before .before .before .before .pre .1)) (c .larger .ensures) ∙ c .before .before .before .before .before .loop .inv .1 .1 .1 i)))
+    let at-us-value = c .before .before .before in
+    let at-loop-test = at-us-value .before in
+    let at-loop = at-loop-test .before in
+    let entry = at-loop .before .before .before in
+    (omega (arith, at-loop-test .loop-test .taken), (at-loop .loop .inv .1 .0, (length-set (at-loop .loop .reach) (at-us-value .us-value .result) (c .larger .result) ∙ at-loop .loop .inv .1 .1 .0, λ i. tables.mark-more (entry .args .v .now) (at-loop .loop .k) (at-us-value .us-value .result) (c .before .before .us-value2 .result) (at-us-value .us-value .ensures .0) (c .before .before .us-value2 .ensures .0) (omega (arith, at-loop-test .loop-test .taken, at-loop .loop .inv .1 .0, entry .pre .0)) (at-loop .loop .reach) (c .larger .result) i (omega (arith, at-us-value .us-value .ensures .1, at-loop .loop .inv .1 .1 .0, entry .pre .1)) (c .larger .ensures) ∙ at-loop .loop .inv .1 .1 .1 i)))
 
 same-length : tie.Need-same-length Inv-loop μ-loop
 same-length c =
@@ -85,7 +98,8 @@ same-length c =
 
 returns : tie.Need-returns Inv-loop μ-loop
 returns c =
-    record { each = λ i. sym (max-zero (getD (c .before .loop .reach) i 0)) ∙ (ap (max (getD (c .before .loop .reach) i 0)) (sym (tables.marks-end i (c .before .before .before .before .args .v .now) (c .before .loop .k) (omega (arith, c .loop-test .left, c .before .loop .inv .0, c .before .loop .inv .1 .0, c .before .before .before .before .pre .0)))) ∙ c .before .loop .inv .1 .1 .1 i) }
+    let entry = c .before .before .before .before in
+    record { each = λ i. sym (max-zero (getD (c .before .loop .reach) i 0)) ∙ (ap (max (getD (c .before .loop .reach) i 0)) (sym (tables.marks-end i (entry .args .v .now) (c .before .loop .k) (omega (arith, c .loop-test .left, c .before .loop .inv .0, c .before .loop .inv .1 .0, entry .pre .0)))) ∙ c .before .loop .inv .1 .1 .1 i) }
 
 pub mark-spec : {M : Type 1} → statement M
 mark-spec =

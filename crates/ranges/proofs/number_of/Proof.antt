@@ -18,11 +18,13 @@ enum-known-r c = search needs
 
 add-result : tie.Need-add-result
 add-result c =
-    omega (arith, steps-laws.found-within 134217728 (c .before .r .given .1) (c .before .before .before .pre))
+    let entry = c .before .before .before in
+    omega (arith, steps-laws.found-within 134217728 (c .before .r .given .1) (entry .pre))
 
 cast-result : tie.Need-cast-result
 cast-result c =
-    omega (arith, steps-laws.found-within 134217728 (c .before .r .given .1) (c .before .before .before .pre))
+    let entry = c .before .before .before in
+    omega (arith, steps-laws.found-within 134217728 (c .before .r .given .1) (entry .pre))
 
 returns : tie.Need-returns
 returns c = (sym (c .enum-told .given .1), omega arith)
@@ -32,7 +34,8 @@ returns-2 c = (sym (c .enum-told2 .given .1), omega arith)
 
 returns-3 : tie.Need-returns-3
 returns-3 c =
-    (names.found-at (c .before .r .given .0 .0) ∙ sym (c .before .r .given .1), omega (arith, steps-laws.found-within 134217728 (c .before .r .given .1) (c .before .before .before .pre)))
+    let entry = c .before .before .before in
+    (names.found-at (c .before .r .given .0 .0) ∙ sym (c .before .r .given .1), omega (arith, steps-laws.found-within 134217728 (c .before .r .given .1) (entry .pre)))
 
 pub number-of-spec : {M : Type 1} → statement M
 number-of-spec =

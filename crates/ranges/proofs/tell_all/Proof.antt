@@ -13,7 +13,11 @@ clear-requires c κs = search needs
 
 tell-items-requires : tie.Need-tell-items-requires
 tell-items-requires c κs =
-    (c .before .before .before .before .before .before .before .before .before .before .before .pre .0, (c .before .before .before .before .before .before .mask-items .ensures .inner, (omega (arith, c .before .before .before .keys .given, c .before .before .before .before .before .before .before .before .before .before .before .pre .1 .0), (c .before .before .before .before .before .before .before .before .before .before .before .pre .1 .1, names.known-none _ _ _ (c .before .before .before .before .clear .ensures)))))
+    let at-keys = c .before .before .before in
+    let at-clear = at-keys .before in
+    let at-mask-items = at-clear .before .before in
+    let entry = at-mask-items .before .before .before .before .before in
+    (entry .pre .0, (at-mask-items .mask-items .ensures .inner, (omega (arith, at-keys .keys .given, entry .pre .1 .0), (entry .pre .1 .1, names.known-none _ _ _ (at-clear .clear .ensures)))))
 
 same-length : tie.Need-same-length
 same-length c = search needs

@@ -20,15 +20,18 @@ abbrev μ-loop : tie.MeasureT-loop
 
 loop-holds : tie.Need-loop-holds Inv-loop μ-loop
 loop-holds c =
-    (omega arith, (refl, (refl, c .before .before .before .before .pre .1 .1 .1 .1)))
+    let entry = c .before .before .before .before in
+    (omega arith, (refl, (refl, entry .pre .1 .1 .1 .1)))
 
 told-by-requires : tie.Need-told-by-requires Inv-loop μ-loop
 told-by-requires c κs =
-    (c .before .before .before .before .before .before .before .pre .0, omega (arith, c .if1 .taken, c .before .before .before .before .before .before .before .pre .1 .0))
+    let entry = c .before .before .before .before .before .before .before in
+    (entry .pre .0, omega (arith, c .if1 .taken, entry .pre .1 .0))
 
 packed-requires : tie.Need-packed-requires Inv-loop μ-loop
 packed-requires c κs =
-    names.found-fewer (length (nodesOf (c .before .before .before .before .before .before .before .before .args .bytes .now))) 134217728 (c .told-by .result .shared) (c .before .before .before .before .before .before .before .before .pre .0 .few) (c .told-by .ensures .names .below)
+    let entry = c .before .before .before .before .before .before .before .before in
+    names.found-fewer (length (nodesOf (entry .args .bytes .now))) 134217728 (c .told-by .result .shared) (entry .pre .0 .few) (c .told-by .ensures .names .below)
 
 mul-answers : tie.Need-mul-answers Inv-loop μ-loop
 mul-answers c =
@@ -36,15 +39,20 @@ mul-answers c =
 
 slice-write-answers : tie.Need-slice-write-answers Inv-loop μ-loop
 slice-write-answers c =
-    omega (arith, c .before .before .before .before .loop .inv .1 .1 .0, c .before .before .before .loop-test .taken, c .before .before .before .before .before .before .before .before .before .pre .1 .1 .1 .0)
+    let at-loop-test = c .before .before .before in
+    let at-loop = at-loop-test .before in
+    let entry = at-loop .before .before .before .before .before in
+    omega (arith, at-loop .loop .inv .1 .1 .0, at-loop-test .loop-test .taken, entry .pre .1 .1 .1 .0)
 
 add-keys : tie.Need-add-keys Inv-loop μ-loop
 add-keys c =
-    omega (arith, c .before .before .if1 .taken, c .before .before .before .before .before .before .before .before .before .pre .1 .0, c .before .before .before .before .before .before .before .before .before .pre .0 .few)
+    let entry = c .before .before .before .before .before .before .before .before .before in
+    omega (arith, c .before .before .if1 .taken, entry .pre .1 .0, entry .pre .0 .few)
 
 cast-keys : tie.Need-cast-keys Inv-loop μ-loop
 cast-keys c =
-    omega (arith, c .before .before .if1 .taken, c .before .before .before .before .before .before .before .before .before .pre .1 .0, c .before .before .before .before .before .before .before .before .before .pre .0 .few)
+    let entry = c .before .before .before .before .before .before .before .before .before in
+    omega (arith, c .before .before .if1 .taken, entry .pre .1 .0, entry .pre .0 .few)
 
 mul-keys : tie.Need-mul-keys Inv-loop μ-loop
 mul-keys c =
@@ -52,11 +60,15 @@ mul-keys c =
 
 slice-write-keys : tie.Need-slice-write-keys Inv-loop μ-loop
 slice-write-keys c =
-    omega (arith, c .before .before .before .before .loop .inv .1 .0, c .before .before .before .loop-test .taken, c .before .before .before .before .before .before .before .before .before .pre .1 .1 .0)
+    let at-loop-test = c .before .before .before in
+    let at-loop = at-loop-test .before in
+    let entry = at-loop .before .before .before .before .before in
+    omega (arith, at-loop .loop .inv .1 .0, at-loop-test .loop-test .taken, entry .pre .1 .1 .0)
 
 next-requires : tie.Need-next-requires Inv-loop μ-loop
 next-requires c κs =
-    (c .before .before .before .before .before .before .before .before .before .pre .0, omega (arith, c .before .before .if1 .taken, c .before .before .before .before .before .before .before .before .before .pre .1 .0))
+    let entry = c .before .before .before .before .before .before .before .before .before in
+    (entry .pre .0, omega (arith, c .before .before .if1 .taken, entry .pre .1 .0))
 
 same-length : tie.Need-same-length Inv-loop μ-loop
 same-length c =
@@ -72,15 +84,20 @@ returns c =
 
 add-i : tie.Need-add-i Inv-loop μ-loop
 add-i c =
-    omega (arith, c .before .before .before .before .loop-test .taken)
+    let at-loop-test = c .before .before .before .before in
+    omega (arith, at-loop-test .loop-test .taken)
 
 loop-less : tie.Need-loop-less Inv-loop μ-loop
 loop-less c =
-    omega (arith, c .before .before .before .before .loop-test .taken)
+    let at-loop-test = c .before .before .before .before in
+    omega (arith, at-loop-test .loop-test .taken)
 
 loop-again : tie.Need-loop-again Inv-loop μ-loop
 loop-again c =
-    (omega (arith, c .before .before .before .before .loop-test .taken), (length-set (c .before .before .before .before .before .loop .keys) (c .before .before .before .before .before .loop .i) (c .before .before .before .before .before .loop .at + 1) ∙ c .before .before .before .before .before .loop .inv .1 .0, (length-set (c .before .before .before .before .before .loop .answers) (c .before .before .before .before .before .loop .i) (c .before .packed .result) ∙ c .before .before .before .before .before .loop .inv .1 .1 .0, names.known-more _ (c .before .before .before .before .before .loop .keys) (c .before .before .before .before .before .loop .answers) (c .before .before .before .before .before .loop .i) (c .before .before .before .before .before .loop .at) (c .before .packed .result) _ (omega (arith, c .before .before .before .before .before .loop .inv .1 .0, c .before .before .before .before .loop-test .taken, c .before .before .before .before .before .before .before .before .before .before .pre .1 .1 .0)) (omega (arith, c .before .before .before .before .before .loop .inv .1 .1 .0, c .before .before .before .before .loop-test .taken, c .before .before .before .before .before .before .before .before .before .before .pre .1 .1 .1 .0)) (c .before .before .before .before .before .loop .inv .1 .1 .1) (c .before .packed .ensures) (c .before .before .told-by .ensures))))
+    let at-loop-test = c .before .before .before .before in
+    let at-loop = at-loop-test .before in
+    let entry = at-loop .before .before .before .before .before in
+    (omega (arith, at-loop-test .loop-test .taken), (length-set (at-loop .loop .keys) (at-loop .loop .i) (at-loop .loop .at + 1) ∙ at-loop .loop .inv .1 .0, (length-set (at-loop .loop .answers) (at-loop .loop .i) (c .before .packed .result) ∙ at-loop .loop .inv .1 .1 .0, names.known-more _ (at-loop .loop .keys) (at-loop .loop .answers) (at-loop .loop .i) (at-loop .loop .at) (c .before .packed .result) _ (omega (arith, at-loop .loop .inv .1 .0, at-loop-test .loop-test .taken, entry .pre .1 .1 .0)) (omega (arith, at-loop .loop .inv .1 .1 .0, at-loop-test .loop-test .taken, entry .pre .1 .1 .1 .0)) (at-loop .loop .inv .1 .1 .1) (c .before .packed .ensures) (c .before .before .told-by .ensures))))
 
 same-length-3 : tie.Need-same-length-3 Inv-loop μ-loop
 same-length-3 c =

@@ -18,11 +18,13 @@ abbrev μ-loop : tie.MeasureT-loop
 
 add-key : tie.Need-add-key Inv-loop μ-loop
 add-key c =
-    omega (arith, c .before .before .before .before .pre .1 .0, c .before .before .before .before .pre .0 .few)
+    let entry = c .before .before .before .before in
+    omega (arith, entry .pre .1 .0, entry .pre .0 .few)
 
 cast-key : tie.Need-cast-key Inv-loop μ-loop
 cast-key c =
-    omega (arith, c .before .before .before .before .pre .1 .0, c .before .before .before .before .pre .0 .few)
+    let entry = c .before .before .before .before in
+    omega (arith, entry .pre .1 .0, entry .pre .0 .few)
 
 loop-holds : tie.Need-loop-holds Inv-loop μ-loop
 loop-holds c =
@@ -34,7 +36,8 @@ mul-if1 c =
 
 shared-slice-read-if1 : tie.Need-shared-slice-read-if1 Inv-loop μ-loop
 shared-slice-read-if1 c =
-    omega (arith, c .before .loop-test .taken, c .before .before .before .before .before .before .before .pre .1 .1 .0)
+    let entry = c .before .before .before .before .before .before .before in
+    omega (arith, c .before .loop-test .taken, entry .pre .1 .1 .0)
 
 mul-told-in : tie.Need-mul-told-in Inv-loop μ-loop
 mul-told-in c =
@@ -42,7 +45,9 @@ mul-told-in c =
 
 shared-slice-read-told-in : tie.Need-shared-slice-read-told-in Inv-loop μ-loop
 shared-slice-read-told-in c =
-    omega (arith, c .before .before .before .loop-test .taken, c .before .before .before .before .before .before .before .before .before .pre .1 .1 .1 .0)
+    let at-loop-test = c .before .before .before in
+    let entry = at-loop-test .before .before .before .before .before .before in
+    omega (arith, at-loop-test .loop-test .taken, entry .pre .1 .1 .1 .0)
 
 told-in-requires : tie.Need-told-in-requires Inv-loop μ-loop
 told-in-requires c κs =
@@ -50,7 +55,10 @@ told-in-requires c κs =
 
 returns : tie.Need-returns Inv-loop μ-loop
 returns c =
-    subst (IsTold (nodesOf (c .before .before .before .before .before .before .before .before .before .before .args .bytes .now)) (c .before .before .before .before .before .before .before .before .before .before .args .j)) (sym (c .told-in .ensures)) (c .before .before .before .before .before .before .before .before .before .before .pre .1 .1 .1 .1 .each (c .before .before .before .before .before .loop .i) (c .before .before .before .before .before .before .before .before .before .before .args .j) (c .before .before .before .before .loop-test .taken) (c .before .before .if1 .taken))
+    let at-loop-test = c .before .before .before .before in
+    let at-loop = at-loop-test .before in
+    let entry = at-loop .before .before .before .before .before in
+    subst (IsTold (nodesOf (entry .args .bytes .now)) (entry .args .j)) (sym (c .told-in .ensures)) (entry .pre .1 .1 .1 .1 .each (at-loop .loop .i) (entry .args .j) (at-loop-test .loop-test .taken) (c .before .before .if1 .taken))
 
 add-i : tie.Need-add-i Inv-loop μ-loop
 add-i c =
@@ -66,7 +74,8 @@ loop-again c =
 
 told-by-requires : tie.Need-told-by-requires Inv-loop μ-loop
 told-by-requires c κs =
-    (c .before .before .before .before .before .before .pre .0, c .before .before .before .before .before .before .pre .1 .0)
+    let entry = c .before .before .before .before .before .before in
+    (entry .pre .0, entry .pre .1 .0)
 
 returns-2 : tie.Need-returns-2 Inv-loop μ-loop
 returns-2 c =

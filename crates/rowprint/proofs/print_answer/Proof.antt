@@ -11,7 +11,8 @@ enum-known-answer c = search needs
 
 print-rows-requires : tie.Need-print-rows-requires
 print-rows-requires c κs =
-    subst (λ (a : ReadAnswer). Held a (c .before .before .before .before .args .rows .now)) (c .before .answer .given .1) (c .before .before .before .before .pre)
+    let entry = c .before .before .before .before in
+    subst (λ (a : ReadAnswer). Held a (entry .args .rows .now)) (c .before .answer .given .1) (entry .pre)
 
 enum-known-answer-2 : tie.Need-enum-known-answer-2
 enum-known-answer-2 c = search needs

@@ -23,11 +23,13 @@ loop-holds c =
 
 is-shift-item-requires : tie.Need-is-shift-item-requires Inv-loop μ-loop
 is-shift-item-requires c κs =
-    (c .before .before .before .before .pre .0, omega (arith, c .loop-test .taken, c .before .before .before .before .pre .1))
+    let entry = c .before .before .before .before in
+    (entry .pre .0, omega (arith, c .loop-test .taken, entry .pre .1))
 
 next-requires : tie.Need-next-requires Inv-loop μ-loop
 next-requires c κs =
-    (c .before .before .before .before .before .before .pre .0, omega (arith, c .before .before .loop-test .taken, c .before .before .before .before .before .before .pre .1))
+    let entry = c .before .before .before .before .before .before in
+    (entry .pre .0, omega (arith, c .before .before .loop-test .taken, entry .pre .1))
 
 loop-less : tie.Need-loop-less Inv-loop μ-loop
 loop-less c =
@@ -35,11 +37,14 @@ loop-less c =
 
 loop-again : tie.Need-loop-again Inv-loop μ-loop
 loop-again c =
-    rw (c .next .ensures .0) (sym (every-later _ _ _ _ (c .before .before .before .loop-test .taken) (sym (c .before .before .is-shift-item .ensures) ∙ c .before .if1 .taken)) ∙ c .before .before .before .before .loop .inv)
+    let at-loop-test = c .before .before .before in
+    let at-loop = at-loop-test .before in
+    rw (c .next .ensures .0) (sym (every-later _ _ _ _ (at-loop-test .loop-test .taken) (sym (c .before .before .is-shift-item .ensures) ∙ c .before .if1 .taken)) ∙ at-loop .loop .inv)
 
 returns : tie.Need-returns Inv-loop μ-loop
 returns c =
-    sym (every-no _ _ _ _ (c .before .before .loop-test .taken) (sym (c .before .is-shift-item .ensures) ∙ c .if1 .left)) ∙ c .before .before .before .loop .inv
+    let at-loop = c .before .before .before in
+    sym (every-no _ _ _ _ (c .before .before .loop-test .taken) (sym (c .before .is-shift-item .ensures) ∙ c .if1 .left)) ∙ at-loop .loop .inv
 
 returns-2 : tie.Need-returns-2 Inv-loop μ-loop
 returns-2 c =

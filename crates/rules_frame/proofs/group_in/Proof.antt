@@ -19,17 +19,22 @@ enum-known-g c = search needs
 
 group-fits-requires : tie.Need-group-fits-requires
 group-fits-requires c κs =
-    (c .before .before .before .before .before .before .before .pre .0, node-laws.within _ (c .before .g .given .1) (c .before .before .before .find-item .ensures .1))
+    let at-find-item = c .before .before .before in
+    let entry = at-find-item .before .before .before .before in
+    (entry .pre .0, node-laws.within _ (c .before .g .given .1) (at-find-item .find-item .ensures .1))
 
 returns : tie.Need-returns
 unfolding groupIn
 returns c =
-    rw (← c .before .before .before .group-tag .ensures, node-laws.lacked (c .enum-told .given .1) (c .before .before .find-item .ensures .0))
+    let at-group-tag = c .before .before .before in
+    rw (← at-group-tag .group-tag .ensures, node-laws.lacked (c .enum-told .given .1) (c .before .before .find-item .ensures .0))
 
 returns-2 : tie.Need-returns-2
 unfolding groupIn
 returns-2 c =
-    rw (← c .before .before .before .before .before .group-tag .ensures, node-laws.had (c .before .before .g .given .1) (c .before .before .before .before .find-item .ensures .0)) (c .group-fits .ensures)
+    let at-find-item = c .before .before .before .before in
+    let at-group-tag = at-find-item .before in
+    rw (← at-group-tag .group-tag .ensures, node-laws.had (c .before .before .g .given .1) (at-find-item .find-item .ensures .0)) (c .group-fits .ensures)
 
 pub group-in-spec : {M : Type 1} → statement M
 group-in-spec =

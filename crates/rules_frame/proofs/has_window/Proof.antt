@@ -31,18 +31,26 @@ enum-told-2 c = search needs
 returns-2 : tie.Need-returns-2
 unfolding hasWindow
 returns-2 c =
-    rw (node-laws.had (c .before .before .before .before .c .given .1) (c .before .before .before .before .before .before .find-vr-item .ensures .0), node-laws.lacked (c .enum-told2 .given .1) (c .before .before .find-vr-item2 .ensures .0))
+    let at-c = c .before .before .before .before in
+    let at-find-vr-item = at-c .before .before in
+    rw (node-laws.had (at-c .c .given .1) (at-find-vr-item .find-vr-item .ensures .0), node-laws.lacked (c .enum-told2 .given .1) (c .before .before .find-vr-item2 .ensures .0))
 
 function-in-requires : tie.Need-function-in-requires
 function-in-requires c κs = search needs
 
 value-requires : tie.Need-value-requires
 value-requires c κs =
-    (c .before .before .before .before .before .before .before .before .before .before .before .pre .0, node-laws.within _ (c .before .before .before .before .before .before .c .given .1) (c .before .before .before .before .before .before .before .before .find-vr-item .ensures .1))
+    let at-c = c .before .before .before .before .before .before in
+    let at-find-vr-item = at-c .before .before in
+    let entry = at-find-vr-item .before .before .before in
+    (entry .pre .0, node-laws.within _ (at-c .c .given .1) (at-find-vr-item .find-vr-item .ensures .1))
 
 value-requires-2 : tie.Need-value-requires-2
 value-requires-2 c κs =
-    (c .before .before .before .before .before .before .before .before .before .before .before .before .pre .0, node-laws.within _ (c .before .before .before .w .given .1) (c .before .before .before .before .before .find-vr-item2 .ensures .1))
+    let at-w = c .before .before .before in
+    let at-find-vr-item2 = at-w .before .before in
+    let entry = at-find-vr-item2 .before .before .before .before .before .before .before in
+    (entry .pre .0, node-laws.within _ (at-w .w .given .1) (at-find-vr-item2 .find-vr-item2 .ensures .1))
 
 is-window-requires : tie.Need-is-window-requires
 is-window-requires c κs = search needs
@@ -50,7 +58,12 @@ is-window-requires c κs = search needs
 returns-3 : tie.Need-returns-3
 unfolding hasWindow
 returns-3 c =
-    rw (node-laws.had (c .before .before .before .before .before .before .before .before .before .c .given .1) (c .before .before .before .before .before .before .before .before .before .before .before .find-vr-item .ensures .0), node-laws.had (c .before .before .before .before .before .w .given .1) (c .before .before .before .before .before .before .before .find-vr-item2 .ensures .0), ← c .before .before .before .function-in .ensures, ← c .before .before .value .ensures, ← c .before .value2 .ensures) (c .is-window .ensures)
+    let at-function-in = c .before .before .before in
+    let at-w = at-function-in .before .before in
+    let at-find-vr-item2 = at-w .before .before in
+    let at-c = at-find-vr-item2 .before .before in
+    let at-find-vr-item = at-c .before .before in
+    rw (node-laws.had (at-c .c .given .1) (at-find-vr-item .find-vr-item .ensures .0), node-laws.had (at-w .w .given .1) (at-find-vr-item2 .find-vr-item2 .ensures .0), ← at-function-in .function-in .ensures, ← c .before .before .value .ensures, ← c .before .value2 .ensures) (c .is-window .ensures)
 
 pub has-window-spec : {M : Type 1} → statement M
 has-window-spec =

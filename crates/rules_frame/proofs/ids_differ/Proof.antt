@@ -13,7 +13,8 @@ next-requires c κs =
 
 are-unique-ids-requires : tie.Need-are-unique-ids-requires
 are-unique-ids-requires c κs =
-    let p = c .before .before .before .before .pre in
+    let entry = c .before .before .before .before in
+    let p = entry .pre in
     (p .0, p .1 .1)
 
 returns : tie.Need-returns
@@ -22,7 +23,8 @@ returns c = c .are-unique-ids .ensures
 returns-2 : tie.Need-returns-2
 unfolding uniqueIds unique
 returns-2 c =
-    let start = c .before .before .before .before in
+    let earlier = c .before .before .before .before in
+    let start = earlier in
     let a = start .args in
     let ns = nodesOf (a .bytes .now) in
     rw (members-next ns (a .from) (a .to) (start .pre .1 .0), members-end ns (nextNode ns (a .from)) (a .to) (omega (arith, c .before .next .ensures .0, c .if1 .left)))

@@ -24,19 +24,28 @@ enum-known-i c = search needs
 
 vr-requires-2 : tie.Need-vr-requires-2
 vr-requires-2 c κs =
-    let start = c .before .before .before .before .before .before .before .before .before in
-    let found = laws.within (start .args .to) (c .before .i .given .1) (c .before .before .before .first-is .ensures .1) in
+    let at-first-is = c .before .before .before in
+    let earlier = at-first-is .before .before .before .before .before .before in
+    let start = earlier in
+    let found = laws.within (start .args .to) (c .before .i .given .1) (at-first-is .first-is .ensures .1) in
     (start .pre .0, omega (arith, found, start .pre .1 .1))
 
 returns : tie.Need-returns
 unfolding isRepeated
 returns c =
-    rw (← c .before .before .before .before .before .vr .ensures, eq-eqb _ _ (c .before .before .before .before .if1 .taken), ← c .before .before .before .tag .ensures, laws.lacked (c .enum-told .given .1) (c .before .before .first-is .ensures .0))
+    let at-tag = c .before .before .before in
+    let at-if1 = at-tag .before in
+    let at-vr = at-if1 .before in
+    rw (← at-vr .vr .ensures, eq-eqb _ _ (at-if1 .if1 .taken), ← at-tag .tag .ensures, laws.lacked (c .enum-told .given .1) (c .before .before .first-is .ensures .0))
 
 returns-2 : tie.Need-returns-2
 unfolding isRepeated
 returns-2 c =
-    rw (← c .before .before .before .before .before .before .before .vr .ensures, eq-eqb _ _ (c .before .before .before .before .before .before .if1 .taken), ← c .before .before .before .before .before .tag .ensures, laws.had (c .before .before .i .given .1) (c .before .before .before .before .first-is .ensures .0), ← c .vr2 .ensures)
+    let at-first-is = c .before .before .before .before in
+    let at-tag = at-first-is .before in
+    let at-if1 = at-tag .before in
+    let at-vr = at-if1 .before in
+    rw (← at-vr .vr .ensures, eq-eqb _ _ (at-if1 .if1 .taken), ← at-tag .tag .ensures, laws.had (c .before .before .i .given .1) (at-first-is .first-is .ensures .0), ← c .vr2 .ensures)
 
 returns-3 : tie.Need-returns-3
 unfolding isRepeated

@@ -24,17 +24,25 @@ ids-differ-requires c κs = search needs
 returns : tie.Need-returns
 unfolding isShiftGroup
 returns c =
-    rw (← c .before .before .before .before .before .before .vr .ensures, eq-eqb _ _ (c .before .before .before .before .before .if1 .taken), ← c .before .before .before .before .next .ensures .0, members-some _ _ _ (c .before .before .before .if2 .taken), ← c .before .before .are-shift-items .ensures, c .before .if3 .taken) (c .ids-differ .ensures)
+    let at-if2 = c .before .before .before in
+    let at-next = at-if2 .before in
+    let at-if1 = at-next .before in
+    let at-vr = at-if1 .before in
+    rw (← at-vr .vr .ensures, eq-eqb _ _ (at-if1 .if1 .taken), ← at-next .next .ensures .0, members-some _ _ _ (at-if2 .if2 .taken), ← c .before .before .are-shift-items .ensures, c .before .if3 .taken) (c .ids-differ .ensures)
 
 returns-2 : tie.Need-returns-2
 unfolding isShiftGroup
 returns-2 c =
-    rw (← c .before .before .before .before .before .vr .ensures, eq-eqb _ _ (c .before .before .before .before .if1 .taken), ← c .before .before .before .next .ensures .0, members-some _ _ _ (c .before .before .if2 .taken), ← c .before .are-shift-items .ensures, c .if3 .left)
+    let at-next = c .before .before .before in
+    let at-if1 = at-next .before in
+    let at-vr = at-if1 .before in
+    rw (← at-vr .vr .ensures, eq-eqb _ _ (at-if1 .if1 .taken), ← at-next .next .ensures .0, members-some _ _ _ (c .before .before .if2 .taken), ← c .before .are-shift-items .ensures, c .if3 .left)
 
 returns-3 : tie.Need-returns-3
 unfolding isShiftGroup
 returns-3 c =
-    rw (← c .before .before .before .vr .ensures, eq-eqb _ _ (c .before .before .if1 .taken), ← c .before .next .ensures .0, members-none _ _ _ (c .if2 .left))
+    let at-vr = c .before .before .before in
+    rw (← at-vr .vr .ensures, eq-eqb _ _ (c .before .before .if1 .taken), ← c .before .next .ensures .0, members-none _ _ _ (c .if2 .left))
 
 returns-4 : tie.Need-returns-4
 unfolding isShiftGroup

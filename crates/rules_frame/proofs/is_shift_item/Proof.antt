@@ -19,7 +19,9 @@ enum-known-k c = search needs
 
 value-requires : tie.Need-value-requires
 value-requires c κs =
-    (c .before .before .before .before .before .before .before .before .pre .0, node-laws.within _ (c .before .k .given .1) (c .before .before .before .find-vr-item .ensures .1))
+    let at-find-vr-item = c .before .before .before in
+    let entry = at-find-vr-item .before .before .before .before .before in
+    (entry .pre .0, node-laws.within _ (c .before .k .given .1) (at-find-vr-item .find-vr-item .ensures .1))
 
 is-frame-shift-requires : tie.Need-is-frame-shift-requires
 is-frame-shift-requires c κs = search needs
@@ -27,12 +29,18 @@ is-frame-shift-requires c κs = search needs
 returns : tie.Need-returns
 unfolding isShiftItem
 returns c =
-    rw (← c .before .before .before .before .has-id .ensures, c .before .before .before .if1 .taken, node-laws.lacked (c .enum-told .given .1) (c .before .before .find-vr-item .ensures .0))
+    let at-if1 = c .before .before .before in
+    let at-has-id = at-if1 .before in
+    rw (← at-has-id .has-id .ensures, at-if1 .if1 .taken, node-laws.lacked (c .enum-told .given .1) (c .before .before .find-vr-item .ensures .0))
 
 returns-2 : tie.Need-returns-2
 unfolding isShiftItem
 returns-2 c =
-    rw (← c .before .before .before .before .before .before .before .has-id .ensures, c .before .before .before .before .before .before .if1 .taken, node-laws.had (c .before .before .before .k .given .1) (c .before .before .before .before .before .find-vr-item .ensures .0), ← c .before .value .ensures) (c .is-frame-shift .ensures)
+    let at-k = c .before .before .before in
+    let at-find-vr-item = at-k .before .before in
+    let at-if1 = at-find-vr-item .before in
+    let at-has-id = at-if1 .before in
+    rw (← at-has-id .has-id .ensures, at-if1 .if1 .taken, node-laws.had (at-k .k .given .1) (at-find-vr-item .find-vr-item .ensures .0), ← c .before .value .ensures) (c .is-frame-shift .ensures)
 
 returns-3 : tie.Need-returns-3
 unfolding isShiftItem

@@ -16,7 +16,9 @@ enum-known-j c = search needs
 
 has-window-requires : tie.Need-has-window-requires
 has-window-requires c κs =
-    (c .before .before .before .before .before .before .pre .0, node-laws.within _ (c .before .j .given .1) (c .before .before .before .the-item .ensures .1))
+    let at-the-item = c .before .before .before in
+    let entry = at-the-item .before .before .before in
+    (entry .pre .0, node-laws.within _ (c .before .j .given .1) (at-the-item .the-item .ensures .1))
 
 returns : tie.Need-returns
 unfolding isVoi
@@ -26,7 +28,8 @@ returns c =
 returns-2 : tie.Need-returns-2
 unfolding isVoi
 returns-2 c =
-    rw (node-laws.had (c .before .before .j .given .1) (c .before .before .before .before .the-item .ensures .0)) (c .has-window .ensures)
+    let at-the-item = c .before .before .before .before in
+    rw (node-laws.had (c .before .before .j .given .1) (at-the-item .the-item .ensures .0)) (c .has-window .ensures)
 
 pub is-voi-spec : {M : Type 1} → statement M
 is-voi-spec =

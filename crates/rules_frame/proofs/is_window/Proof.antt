@@ -17,7 +17,8 @@ are-pairs-requires c κs = search needs
 returns : tie.Need-returns
 unfolding isWindow
 returns c =
-    rw (sym (c .before .before .before .is-function .ensures) ∙ c .before .before .if1 .taken, ← c .before .least-width .ensures) (c .are-pairs .ensures)
+    let at-is-function = c .before .before .before in
+    rw (sym (at-is-function .is-function .ensures) ∙ c .before .before .if1 .taken, ← c .before .least-width .ensures) (c .are-pairs .ensures)
 
 returns-2 : tie.Need-returns-2
 unfolding isWindow

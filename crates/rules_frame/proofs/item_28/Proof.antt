@@ -16,22 +16,30 @@ enum-known-g c = search needs
 
 is-one-item-requires : tie.Need-is-one-item-requires
 is-one-item-requires c κs =
-    (c .before .before .before .before .before .before .before .pre .0, node-laws.within _ (c .before .g .given .1) (c .before .before .before .find-item .ensures .1))
+    let at-find-item = c .before .before .before in
+    let entry = at-find-item .before .before .before .before in
+    (entry .pre .0, node-laws.within _ (c .before .g .given .1) (at-find-item .find-item .ensures .1))
 
 returns : tie.Need-returns
 unfolding item28
 returns c =
-    rw (← c .before .before .before .before .before .before .pre .1 .1, c .before .before .before .if1 .taken, node-laws.lacked (c .enum-told .given .1) (c .before .before .find-item .ensures .0))
+    let at-if1 = c .before .before .before in
+    let entry = at-if1 .before .before .before in
+    rw (← entry .pre .1 .1, at-if1 .if1 .taken, node-laws.lacked (c .enum-told .given .1) (c .before .before .find-item .ensures .0))
 
 returns-2 : tie.Need-returns-2
 unfolding item28
 returns-2 c =
-    rw (← c .before .before .before .before .before .before .before .before .pre .1 .1, c .before .before .before .before .before .if1 .taken, node-laws.had (c .before .before .g .given .1) (c .before .before .before .before .find-item .ensures .0)) (c .is-one-item .ensures)
+    let at-find-item = c .before .before .before .before in
+    let at-if1 = at-find-item .before in
+    let entry = at-if1 .before .before .before in
+    rw (← entry .pre .1 .1, at-if1 .if1 .taken, node-laws.had (c .before .before .g .given .1) (at-find-item .find-item .ensures .0)) (c .is-one-item .ensures)
 
 returns-3 : tie.Need-returns-3
 unfolding item28
 returns-3 c =
-    rw (← c .before .before .before .pre .1 .1, c .if1 .left)
+    let entry = c .before .before .before in
+    rw (← entry .pre .1 .1, c .if1 .left)
 
 pub item-28-spec : {M : Type 1} → statement M
 item-28-spec =

@@ -14,7 +14,8 @@ item-27-requires c κs = search needs
 item-28-requires : tie.Need-item-28-requires
 unfolding sharedOk
 item-28-requires c κs =
-    (c .before .before .before .before .pre .0, (c .before .before .before .before .pre .1 .1 .0, rw (ne-eqb _ _ (c .before .if1 .left), eq-eqb _ _ (c .if2 .taken)) at (c .before .before .before .before .pre .1 .1 .1)))
+    let entry = c .before .before .before .before in
+    (entry .pre .0, (entry .pre .1 .1 .0, rw (ne-eqb _ _ (c .before .if1 .left), eq-eqb _ _ (c .if2 .taken)) at (entry .pre .1 .1 .1)))
 
 group-in-requires : tie.Need-group-in-requires
 group-in-requires c κs = search needs
@@ -32,8 +33,9 @@ returns-2 c =
 returns-3 : tie.Need-returns-3
 unfolding itemBy sharedOk
 returns-3 c =
+    let entry = c .before .before .before .before .before in
     rw (ne-eqb _ _ (c .before .before .if1 .left), ne-eqb _ _ (c .before .if2 .left))
-    (c .group-in .ensures ∙ ap (λ (b : Bool). groupIn (nodesOf (c .before .before .before .before .before .args .bytes .now)) (c .before .before .before .before .before .args .rule) (c .before .before .before .before .before .args .item) b) (rw (ne-eqb _ _ (c .before .before .if1 .left), ne-eqb _ _ (c .before .if2 .left)) at (c .before .before .before .before .before .pre .1 .1 .1)))
+    (c .group-in .ensures ∙ ap (λ (b : Bool). groupIn (nodesOf (entry .args .bytes .now)) (entry .args .rule) (entry .args .item) b) (rw (ne-eqb _ _ (c .before .before .if1 .left), ne-eqb _ _ (c .before .if2 .left)) at (entry .pre .1 .1 .1)))
 
 pub item-by-spec : {M : Type 1} → statement M
 item-by-spec =

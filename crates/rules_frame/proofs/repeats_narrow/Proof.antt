@@ -28,18 +28,21 @@ next-requires-2 c κs = search needs
 
 add-j : tie.Need-add-j Inv-loop μ-loop
 add-j c =
-    let p = c .before .before .before .before .pre in
+    let entry = c .before .before .before .before in
+    let p = entry .pre in
     omega (arith, p .1 .1, p .0 .few)
 
 add-k : tie.Need-add-k Inv-loop μ-loop
 add-k c =
-    let p = c .before .before .before .before .pre in
+    let entry = c .before .before .before .before in
+    let p = entry .pre in
     omega (arith, p .1 .0, p .0 .few)
 
 loop-holds : tie.Need-loop-holds Inv-loop μ-loop
 unfolding repeatsShared
 loop-holds c =
-    let start = c .before .before .before .before in
+    let earlier = c .before .before .before .before in
+    let start = earlier in
     let p = start .pre in (
       rw (← c .before .next .ensures .0),
       ahead-start _ _ _ _ _ (c .before .next .ensures .0) (c .next2 .ensures .0) (inside-ascends _ _ (p .0) (start .args .item) (p .1 .1)),
@@ -47,64 +50,100 @@ loop-holds c =
 
 returns : tie.Need-returns Inv-loop μ-loop
 returns c =
-    let start = c .before .before .before .before .before .before .before in
+    let earlier = c .before .before .before .before .before .before .before in
+    let start = earlier in
     let p = start .pre in
     let inv = c .before .before .loop .inv in
     sym (ahead-over _ _ _ _ _ _ (inv .1) (c .if1 .taken) (inside-ascends _ _ (p .0) (start .args .shared) (p .1 .0))) ∙ inv .0
 
 tag-requires : tie.Need-tag-requires Inv-loop μ-loop
 tag-requires c κs =
-    let p = c .before .before .before .before .before .before .before .pre in
-    (p .0, omega (arith, c .if1 .left, c .before .before .before .next2 .ensures .1))
+    let at-next2 = c .before .before .before in
+    let entry = at-next2 .before .before .before .before in
+    let p = entry .pre in
+    (p .0, omega (arith, c .if1 .left, at-next2 .next2 .ensures .1))
 
 tag-requires-2 : tie.Need-tag-requires-2 Inv-loop μ-loop
 tag-requires-2 c κs =
-    let p = c .before .before .before .before .before .before .before .before .pre in
-    (p .0, omega (arith, c .before .before .loop-test .taken, c .before .before .before .before .before .next .ensures .1))
+    let at-next = c .before .before .before .before .before in
+    let entry = at-next .before .before .before in
+    let p = entry .pre in
+    (p .0, omega (arith, c .before .before .loop-test .taken, at-next .next .ensures .1))
 
 next-requires-3 : tie.Need-next-requires-3 Inv-loop μ-loop
 next-requires-3 c κs =
-    let p = c .before .before .before .before .before .before .before .before .before .before .pre in
-    (p .0, omega (arith, c .before .before .before .if1 .left, c .before .before .before .before .before .before .next2 .ensures .1))
+    let at-if1 = c .before .before .before in
+    let at-next2 = at-if1 .before .before .before in
+    let entry = at-next2 .before .before .before .before in
+    let p = entry .pre in
+    (p .0, omega (arith, at-if1 .if1 .left, at-next2 .next2 .ensures .1))
 
 loop-less : tie.Need-loop-less Inv-loop μ-loop
-loop-less c = omega (arith, c .next3 .ensures .0, c .before .before .before .before .if1 .left)
+loop-less c =
+    let at-if1 = c .before .before .before .before in
+    omega (arith, c .next3 .ensures .0, at-if1 .if1 .left)
 
 loop-again : tie.Need-loop-again Inv-loop μ-loop
 loop-again c =
-    let inv = c .before .before .before .before .before .before .loop .inv in
-    rw (c .next3 .ensures .0) (inv .0, ahead-pass _ _ _ _ _ _ (inv .1) (c .before .before .before .before .before .loop-test .taken) (omega (arith, c .before .before .before .before .if1 .left)) (omega (arith, c .before .before .before .tag .ensures, c .before .before .tag2 .ensures, c .before .if2 .taken)))
+    let at-tag = c .before .before .before in
+    let at-if1 = at-tag .before in
+    let at-loop-test = at-if1 .before in
+    let at-loop = at-loop-test .before in
+    let inv = at-loop .loop .inv in
+    rw (c .next3 .ensures .0) (inv .0, ahead-pass _ _ _ _ _ _ (inv .1) (at-loop-test .loop-test .taken) (omega (arith, at-if1 .if1 .left)) (omega (arith, at-tag .tag .ensures, c .before .before .tag2 .ensures, c .before .if2 .taken)))
 
 is-repeated-requires : tie.Need-is-repeated-requires Inv-loop μ-loop
 is-repeated-requires c κs =
-    let p = c .before .before .before .before .before .before .before .before .before .before .pre in
-    (p .0, (omega (arith, c .before .before .before .before .loop-test .taken, c .before .before .before .before .before .before .before .next .ensures .1), c .before .before .before .before .before .before .next2 .ensures .1))
+    let at-loop-test = c .before .before .before .before in
+    let at-next2 = at-loop-test .before .before in
+    let at-next = at-next2 .before in
+    let entry = at-next .before .before .before in
+    let p = entry .pre in
+    (p .0, (omega (arith, at-loop-test .loop-test .taken, at-next .next .ensures .1), at-next2 .next2 .ensures .1))
 
 returns-2 : tie.Need-returns-2 Inv-loop μ-loop
 returns-2 c =
-    let start = c .before .before .before .before .before .before .before .before .before .before .before .before in
+    let at-tag2 = c .before .before .before in
+    let at-tag = at-tag2 .before in
+    let at-if1 = at-tag .before in
+    let at-loop-test = at-if1 .before in
+    let at-loop = at-loop-test .before in
+    let earlier = at-loop .before .before .before .before .before in
+    let start = earlier in
     let p = start .pre in
-    let inside-j = c .before .before .before .before .before .before .loop-test .taken in
-    let inv = c .before .before .before .before .before .before .before .loop .inv in
-    let from = ahead-at _ _ _ _ _ _ (inv .1) inside-j (omega (arith, c .before .before .before .before .before .if1 .left)) (omega (arith, c .before .before .before .before .tag .ensures, c .before .before .before .tag2 .ensures, c .before .before .if2 .left)) in
+    let inside-j = at-loop-test .loop-test .taken in
+    let inv = at-loop .loop .inv in
+    let from = ahead-at _ _ _ _ _ _ (inv .1) inside-j (omega (arith, at-if1 .if1 .left)) (omega (arith, at-tag .tag .ensures, at-tag2 .tag2 .ensures, c .before .before .if2 .left)) in
     let here = ahead-here _ _ _ _ _ _ inside-j (inv .1) _ from (inside-ascends _ _ (p .0) (start .args .shared) (p .1 .0)) in
     sym (some-here _ _ _ _ inside-j (here ∙ sym (c .before .is-repeated .ensures) ∙ c .if3 .taken)) ∙ inv .0
 
 next-requires-4 : tie.Need-next-requires-4 Inv-loop μ-loop
 next-requires-4 c κs =
-    let p = c .before .before .before .before .before .before .before .before .before .before .before .before .pre in
-    (p .0, omega (arith, c .before .before .before .before .before .before .loop-test .taken, c .before .before .before .before .before .before .before .before .before .next .ensures .1))
+    let at-loop-test = c .before .before .before .before .before .before in
+    let at-next = at-loop-test .before .before .before in
+    let entry = at-next .before .before .before in
+    let p = entry .pre in
+    (p .0, omega (arith, at-loop-test .loop-test .taken, at-next .next .ensures .1))
 
 loop-less-2 : tie.Need-loop-less-2 Inv-loop μ-loop
-loop-less-2 c = omega (arith, c .next4 .ensures .0, c .before .before .before .before .before .before .before .loop-test .taken)
+loop-less-2 c =
+    let at-loop-test = c .before .before .before .before .before .before .before in
+    omega (arith, c .next4 .ensures .0, at-loop-test .loop-test .taken)
 
 loop-again-2 : tie.Need-loop-again-2 Inv-loop μ-loop
 loop-again-2 c =
-    let start = c .before .before .before .before .before .before .before .before .before .before .before .before .before in
+    let at-if2 = c .before .before .before in
+    let at-tag2 = at-if2 .before in
+    let at-tag = at-tag2 .before in
+    let at-if1 = at-tag .before in
+    let at-loop-test = at-if1 .before in
+    let at-loop = at-loop-test .before in
+    let earlier = at-loop .before .before .before .before .before in
+    let start = earlier in
     let p = start .pre in
-    let inside-j = c .before .before .before .before .before .before .before .loop-test .taken in
-    let inv = c .before .before .before .before .before .before .before .before .loop .inv in
-    let from = ahead-at _ _ _ _ _ _ (inv .1) inside-j (omega (arith, c .before .before .before .before .before .before .if1 .left)) (omega (arith, c .before .before .before .before .before .tag .ensures, c .before .before .before .before .tag2 .ensures, c .before .before .before .if2 .left)) in
+    let inside-j = at-loop-test .loop-test .taken in
+    let inv = at-loop .loop .inv in
+    let from = ahead-at _ _ _ _ _ _ (inv .1) inside-j (omega (arith, at-if1 .if1 .left)) (omega (arith, at-tag .tag .ensures, at-tag2 .tag2 .ensures, at-if2 .if2 .left)) in
     let here = ahead-here _ _ _ _ _ _ inside-j (inv .1) _ from (inside-ascends _ _ (p .0) (start .args .shared) (p .1 .0)) in
     rw (c .next4 .ensures .0) (
       sym (some-later _ _ _ _ inside-j (here ∙ sym (c .before .before .is-repeated .ensures) ∙ c .before .if3 .left)) ∙ inv .0,

@@ -30,11 +30,14 @@ loop-less c = search needs
 
 loop-again : tie.Need-loop-again Inv-loop μ-loop
 loop-again c =
-    sym (laws.every-next _ _ _ _ _ (c .next .ensures .0) (c .before .before .before .loop-test .taken) (sym (c .before .before .item-fits .ensures) ∙ c .before .if1 .taken)) ∙ c .before .before .before .before .loop .inv
+    let at-loop-test = c .before .before .before in
+    let at-loop = at-loop-test .before in
+    sym (laws.every-next _ _ _ _ _ (c .next .ensures .0) (at-loop-test .loop-test .taken) (sym (c .before .before .item-fits .ensures) ∙ c .before .if1 .taken)) ∙ at-loop .loop .inv
 
 returns : tie.Need-returns Inv-loop μ-loop
 returns c =
-    sym (laws.every-not _ _ _ _ (c .before .before .loop-test .taken) (sym (c .before .item-fits .ensures) ∙ c .if1 .left)) ∙ c .before .before .before .loop .inv
+    let at-loop = c .before .before .before in
+    sym (laws.every-not _ _ _ _ (c .before .before .loop-test .taken) (sym (c .before .item-fits .ensures) ∙ c .if1 .left)) ∙ at-loop .loop .inv
 
 returns-2 : tie.Need-returns-2 Inv-loop μ-loop
 returns-2 c =

@@ -34,18 +34,25 @@ shift-in-requires-2 c κs = search needs
 
 returns : tie.Need-returns Inv-loop μ-loop
 returns c =
-    sym (laws.some-here _ _ _ _ (c .before .before .loop-test .taken) (laws.shift-found _ _ _ _ _ _ (c .before .before .before .before .before .shift-in .ensures) (c .before .shift-in2 .ensures) (c .if1 .taken))) ∙ c .before .before .before .loop .inv .0
+    let at-loop = c .before .before .before in
+    let at-shift-in = at-loop .before .before in
+    sym (laws.some-here _ _ _ _ (c .before .before .loop-test .taken) (laws.shift-found _ _ _ _ _ _ (at-shift-in .shift-in .ensures) (c .before .shift-in2 .ensures) (c .if1 .taken))) ∙ at-loop .loop .inv .0
 
 next-requires : tie.Need-next-requires Inv-loop μ-loop
 next-requires c κs =
-    (c .before .before .before .before .before .before .before .before .pre .0, omega (arith, c .before .before .loop-test .taken, c .before .before .before .loop .inv .1))
+    let at-loop = c .before .before .before in
+    let entry = at-loop .before .before .before .before .before in
+    (entry .pre .0, omega (arith, c .before .before .loop-test .taken, at-loop .loop .inv .1))
 
 loop-less : tie.Need-loop-less Inv-loop μ-loop
 loop-less c = search needs
 
 loop-again : tie.Need-loop-again Inv-loop μ-loop
 loop-again c =
-    (sym (laws.some-next _ _ _ _ _ (c .next .ensures .0) (c .before .before .before .loop-test .taken) (laws.shift-found _ _ _ _ _ _ (c .before .before .before .before .before .before .shift-in .ensures) (c .before .before .shift-in2 .ensures) (c .before .if1 .left))) ∙ c .before .before .before .before .loop .inv .0, c .before .before .before .before .loop .inv .1)
+    let at-loop-test = c .before .before .before in
+    let at-loop = at-loop-test .before in
+    let at-shift-in = at-loop .before .before in
+    (sym (laws.some-next _ _ _ _ _ (c .next .ensures .0) (at-loop-test .loop-test .taken) (laws.shift-found _ _ _ _ _ _ (at-shift-in .shift-in .ensures) (c .before .before .shift-in2 .ensures) (c .before .if1 .left))) ∙ at-loop .loop .inv .0, at-loop .loop .inv .1)
 
 returns-2 : tie.Need-returns-2 Inv-loop μ-loop
 returns-2 c =

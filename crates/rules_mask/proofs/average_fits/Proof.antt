@@ -18,7 +18,9 @@ enum-known-k c = search needs
 
 value-requires : tie.Need-value-requires
 value-requires c κs =
-    (c .before .before .before .before .before .before .pre .0, node-laws.within _ (c .before .k .given .1) (c .before .before .before .find-vr-item .ensures .1))
+    let at-find-vr-item = c .before .before .before in
+    let entry = at-find-vr-item .before .before .before in
+    (entry .pre .0, node-laws.within _ (c .before .k .given .1) (at-find-vr-item .find-vr-item .ensures .1))
 
 are-mask-frames-requires : tie.Need-are-mask-frames-requires
 are-mask-frames-requires c κs = search needs
@@ -34,12 +36,17 @@ returns c =
 returns-2 : tie.Need-returns-2
 unfolding averageFits
 returns-2 c =
-    rw (node-laws.had (c .before .before .before .before .before .k .given .1) (c .before .before .before .before .before .before .before .find-vr-item .ensures .0), ← c .before .before .before .value .ensures) (sym (laws.both (sym (c .before .before .are-mask-frames .ensures) ∙ c .before .if1 .taken) (sym (c .contrast-fits .ensures))))
+    let at-value = c .before .before .before in
+    let at-k = at-value .before .before in
+    let at-find-vr-item = at-k .before .before in
+    rw (node-laws.had (at-k .k .given .1) (at-find-vr-item .find-vr-item .ensures .0), ← at-value .value .ensures) (sym (laws.both (sym (c .before .before .are-mask-frames .ensures) ∙ c .before .if1 .taken) (sym (c .contrast-fits .ensures))))
 
 returns-3 : tie.Need-returns-3
 unfolding averageFits
 returns-3 c =
-    rw (node-laws.had (c .before .before .before .before .k .given .1) (c .before .before .before .before .before .before .find-vr-item .ensures .0), ← c .before .before .value .ensures) (sym (laws.not-first _ (sym (c .before .are-mask-frames .ensures) ∙ c .if1 .left)))
+    let at-k = c .before .before .before .before in
+    let at-find-vr-item = at-k .before .before in
+    rw (node-laws.had (at-k .k .given .1) (at-find-vr-item .find-vr-item .ensures .0), ← c .before .before .value .ensures) (sym (laws.not-first _ (sym (c .before .are-mask-frames .ensures) ∙ c .if1 .left)))
 
 pub average-fits-spec : {M : Type 1} → statement M
 average-fits-spec =

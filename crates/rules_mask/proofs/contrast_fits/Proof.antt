@@ -15,7 +15,9 @@ enum-known-i c = search needs
 
 is-one-requires : tie.Need-is-one-requires
 is-one-requires c κs =
-    (c .before .before .before .before .before .before .pre .0, node-laws.within _ (c .before .i .given .1) (c .before .before .before .find-item .ensures .1))
+    let at-find-item = c .before .before .before in
+    let entry = at-find-item .before .before .before in
+    (entry .pre .0, node-laws.within _ (c .before .i .given .1) (at-find-item .find-item .ensures .1))
 
 returns : tie.Need-returns
 returns c =
@@ -23,7 +25,8 @@ returns c =
 
 returns-2 : tie.Need-returns-2
 returns-2 c =
-    rw (node-laws.had (c .before .before .i .given .1) (c .before .before .before .before .find-item .ensures .0)) (c .is-one .ensures)
+    let at-find-item = c .before .before .before .before in
+    rw (node-laws.had (c .before .before .i .given .1) (at-find-item .find-item .ensures .0)) (c .is-one .ensures)
 
 pub contrast-fits-spec : {M : Type 1} → statement M
 contrast-fits-spec =

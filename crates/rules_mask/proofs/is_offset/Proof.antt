@@ -27,17 +27,26 @@ enum-told-3 c = search needs
 returns : tie.Need-returns
 unfolding isOffset
 returns c =
-    rw (laws.same _ (c .before .before .before .before .before .vr .ensures) (c .before .before .before .before .if1 .taken), ← c .before .before .before .value .ensures, sym (c .before .before .ss-of .ensures .0) ∙ c .enum-told .given .1)
+    let at-value = c .before .before .before in
+    let at-if1 = at-value .before in
+    let at-vr = at-if1 .before in
+    rw (laws.same _ (at-vr .vr .ensures) (at-if1 .if1 .taken), ← at-value .value .ensures, sym (c .before .before .ss-of .ensures .0) ∙ c .enum-told .given .1)
 
 returns-2 : tie.Need-returns-2
 unfolding isOffset
 returns-2 c =
-    rw (laws.same _ (c .before .before .before .before .before .vr .ensures) (c .before .before .before .before .if1 .taken), ← c .before .before .before .value .ensures, sym (c .before .before .ss-of .ensures .0) ∙ c .enum-told2 .given .1)
+    let at-value = c .before .before .before in
+    let at-if1 = at-value .before in
+    let at-vr = at-if1 .before in
+    rw (laws.same _ (at-vr .vr .ensures) (at-if1 .if1 .taken), ← at-value .value .ensures, sym (c .before .before .ss-of .ensures .0) ∙ c .enum-told2 .given .1)
 
 returns-3 : tie.Need-returns-3
 unfolding isOffset
 returns-3 c =
-    rw (laws.same _ (c .before .before .before .before .before .vr .ensures) (c .before .before .before .before .if1 .taken), ← c .before .before .before .value .ensures, sym (c .before .before .ss-of .ensures .0) ∙ c .enum-told3 .given .1)
+    let at-value = c .before .before .before in
+    let at-if1 = at-value .before in
+    let at-vr = at-if1 .before in
+    rw (laws.same _ (at-vr .vr .ensures) (at-if1 .if1 .taken), ← at-value .value .ensures, sym (c .before .before .ss-of .ensures .0) ∙ c .enum-told3 .given .1)
 
 returns-4 : tie.Need-returns-4
 unfolding isOffset

@@ -25,12 +25,19 @@ enum-known-x c = search needs
 returns : tie.Need-returns
 unfolding isOne ofVr
 returns c =
-    rw (laws.same _ (c .before .before .before .before .before .vr .ensures) (c .before .before .before .before .if1 .taken), ← c .before .before .before .value .ensures, node-laws.lacked (c .enum-told .given .1) (c .before .before .us-of .ensures .0))
+    let at-value = c .before .before .before in
+    let at-if1 = at-value .before in
+    let at-vr = at-if1 .before in
+    rw (laws.same _ (at-vr .vr .ensures) (at-if1 .if1 .taken), ← at-value .value .ensures, node-laws.lacked (c .enum-told .given .1) (c .before .before .us-of .ensures .0))
 
 returns-2 : tie.Need-returns-2
 unfolding isOne ofVr
 returns-2 c =
-    rw (laws.same _ (c .before .before .before .before .before .before .vr .ensures) (c .before .before .before .before .before .if1 .taken), ← c .before .before .before .before .value .ensures, node-laws.had (c .before .x .given .1) (c .before .before .before .us-of .ensures .0))
+    let at-us-of = c .before .before .before in
+    let at-value = at-us-of .before in
+    let at-if1 = at-value .before in
+    let at-vr = at-if1 .before in
+    rw (laws.same _ (at-vr .vr .ensures) (at-if1 .if1 .taken), ← at-value .value .ensures, node-laws.had (c .before .x .given .1) (at-us-of .us-of .ensures .0))
 
 returns-3 : tie.Need-returns-3
 unfolding isOne ofVr

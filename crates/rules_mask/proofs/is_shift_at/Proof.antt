@@ -18,7 +18,8 @@ is-shift-requires c κs = search needs
 returns : tie.Need-returns
 unfolding isShiftAt
 returns c =
-    rw (← c .before .value .ensures) (sym (laws.both (laws.same _ (c .before .before .before .vr .ensures) (c .before .before .if1 .taken)) (sym (c .is-shift .ensures))))
+    let at-vr = c .before .before .before in
+    rw (← c .before .value .ensures) (sym (laws.both (laws.same _ (at-vr .vr .ensures) (c .before .before .if1 .taken)) (sym (c .is-shift .ensures))))
 
 returns-2 : tie.Need-returns-2
 unfolding isShiftAt

@@ -29,32 +29,38 @@ rule-36-requires c κs = search needs
 returns : tie.Need-returns
 unfolding ruleAt ruleList
 returns c =
-    c .rule-31 .ensures ∙ sym (ap (λ (r : ℕ). ruleAt (nodesOf (c .before .before .before .before .args .bytes .now)) r 0) (c .before .match .keys1))
+    let entry = c .before .before .before .before in
+    c .rule-31 .ensures ∙ sym (ap (λ (r : ℕ). ruleAt (nodesOf (entry .args .bytes .now)) r 0) (c .before .match .keys1))
 
 returns-2 : tie.Need-returns-2
 unfolding ruleAt ruleList
 returns-2 c =
-    c .rule-32 .ensures ∙ sym (ap (λ (r : ℕ). ruleAt (nodesOf (c .before .before .before .before .args .bytes .now)) r 0) (c .before .match .keys2))
+    let entry = c .before .before .before .before in
+    c .rule-32 .ensures ∙ sym (ap (λ (r : ℕ). ruleAt (nodesOf (entry .args .bytes .now)) r 0) (c .before .match .keys2))
 
 returns-3 : tie.Need-returns-3
 unfolding ruleAt ruleList
 returns-3 c =
-    c .rule-33 .ensures ∙ sym (ap (λ (r : ℕ). ruleAt (nodesOf (c .before .before .before .before .args .bytes .now)) r 0) (c .before .match .keys3))
+    let entry = c .before .before .before .before in
+    c .rule-33 .ensures ∙ sym (ap (λ (r : ℕ). ruleAt (nodesOf (entry .args .bytes .now)) r 0) (c .before .match .keys3))
 
 returns-4 : tie.Need-returns-4
 unfolding ruleAt ruleList
 returns-4 c =
-    c .rule-34 .ensures ∙ sym (ap (λ (r : ℕ). ruleAt (nodesOf (c .before .before .before .before .args .bytes .now)) r 0) (c .before .match .keys4))
+    let entry = c .before .before .before .before in
+    c .rule-34 .ensures ∙ sym (ap (λ (r : ℕ). ruleAt (nodesOf (entry .args .bytes .now)) r 0) (c .before .match .keys4))
 
 returns-5 : tie.Need-returns-5
 unfolding ruleAt ruleList
 returns-5 c =
-    c .rule-35 .ensures ∙ sym (ap (λ (r : ℕ). ruleAt (nodesOf (c .before .before .before .before .args .bytes .now)) r 0) (c .before .match .keys5))
+    let entry = c .before .before .before .before in
+    c .rule-35 .ensures ∙ sym (ap (λ (r : ℕ). ruleAt (nodesOf (entry .args .bytes .now)) r 0) (c .before .match .keys5))
 
 returns-6 : tie.Need-returns-6
 unfolding ruleAt ruleList
 returns-6 c =
-    c .rule-36 .ensures ∙ sym (ap (λ (r : ℕ). ruleAt (nodesOf (c .before .before .before .before .args .bytes .now)) r 0) (laws.last-rule (c .before .before .before .before .args .rule) (c .before .before .before .before .pre .1 .0) (c .before .before .before .before .pre .1 .1) (c .before .match .rest .0 .0 .0 .0 .1) (c .before .match .rest .0 .0 .0 .1) (c .before .match .rest .0 .0 .1) (c .before .match .rest .0 .1) (c .before .match .rest .1)))
+    let entry = c .before .before .before .before in
+    c .rule-36 .ensures ∙ sym (ap (λ (r : ℕ). ruleAt (nodesOf (entry .args .bytes .now)) r 0) (laws.last-rule (entry .args .rule) (entry .pre .1 .0) (entry .pre .1 .1) (c .before .match .rest .0 .0 .0 .0 .1) (c .before .match .rest .0 .0 .0 .1) (c .before .match .rest .0 .0 .1) (c .before .match .rest .0 .1) (c .before .match .rest .1)))
 
 pub mask-rule-spec : {M : Type 1} → statement M
 mask-rule-spec =

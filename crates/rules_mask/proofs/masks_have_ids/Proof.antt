@@ -18,7 +18,8 @@ are-unique-ids-requires c κs = search needs
 returns : tie.Need-returns
 unfolding masksHaveIds
 returns c =
-    rw (← c .before .before .before .mask-items .ensures .ahead) (sym (laws.both (sym (c .before .before .all-fit .ensures) ∙ c .before .if1 .taken) (sym (c .are-unique-ids .ensures))))
+    let at-mask-items = c .before .before .before in
+    rw (← at-mask-items .mask-items .ensures .ahead) (sym (laws.both (sym (c .before .before .all-fit .ensures) ∙ c .before .if1 .taken) (sym (c .are-unique-ids .ensures))))
 
 returns-2 : tie.Need-returns-2
 unfolding masksHaveIds

@@ -25,17 +25,24 @@ enum-known-i c = search needs
 
 is-offset-requires : tie.Need-is-offset-requires
 is-offset-requires c κs =
-    (c .before .before .before .before .before .before .before .before .before .pre .0, node-laws.within _ (c .before .i .given .1) (c .before .before .before .find-item .ensures .1))
+    let at-find-item = c .before .before .before in
+    let entry = at-find-item .before .before .before .before .before .before in
+    (entry .pre .0, node-laws.within _ (c .before .i .given .1) (at-find-item .find-item .ensures .1))
 
 returns : tie.Need-returns
 unfolding offsetFits operationIs
 returns c =
-    sym (laws.then _ (sym (c .before .before .before .before .is-cs-item .ensures) ∙ c .before .before .before .if1 .taken) (sym (rw (node-laws.lacked (c .enum-told .given .1) (c .before .before .find-item .ensures .0)))))
+    let at-if1 = c .before .before .before in
+    let at-is-cs-item = at-if1 .before in
+    sym (laws.then _ (sym (at-is-cs-item .is-cs-item .ensures) ∙ at-if1 .if1 .taken) (sym (rw (node-laws.lacked (c .enum-told .given .1) (c .before .before .find-item .ensures .0)))))
 
 returns-2 : tie.Need-returns-2
 unfolding offsetFits operationIs
 returns-2 c =
-    sym (laws.then _ (sym (c .before .before .before .before .before .before .is-cs-item .ensures) ∙ c .before .before .before .before .before .if1 .taken) (sym (rw (node-laws.had (c .before .before .i .given .1) (c .before .before .before .before .find-item .ensures .0)) (c .is-offset .ensures))))
+    let at-find-item = c .before .before .before .before in
+    let at-if1 = at-find-item .before in
+    let at-is-cs-item = at-if1 .before in
+    sym (laws.then _ (sym (at-is-cs-item .is-cs-item .ensures) ∙ at-if1 .if1 .taken) (sym (rw (node-laws.had (c .before .before .i .given .1) (at-find-item .find-item .ensures .0)) (c .is-offset .ensures))))
 
 returns-3 : tie.Need-returns-3
 unfolding offsetFits operationIs

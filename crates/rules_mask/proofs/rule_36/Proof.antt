@@ -18,7 +18,9 @@ enum-known-shared c = search needs
 
 any-shift-requires : tie.Need-any-shift-requires
 any-shift-requires c κs =
-    (c .before .before .before .before .before .before .pre, node-laws.within _ (c .before .shared .given .1) (c .before .before .before .shared-item .ensures .1))
+    let at-shared-item = c .before .before .before in
+    let entry = at-shared-item .before .before .before in
+    (entry .pre, node-laws.within _ (c .before .shared .given .1) (at-shared-item .shared-item .ensures .1))
 
 masks-have-ids-requires : tie.Need-masks-have-ids-requires
 masks-have-ids-requires c κs = search needs
@@ -31,12 +33,16 @@ returns c =
 returns-2 : tie.Need-returns-2
 unfolding rule36
 returns-2 c =
-    rw (node-laws.had (c .before .before .before .before .shared .given .1) (c .before .before .before .before .before .before .shared-item .ensures .0)) (sym (laws.then _ (sym (c .before .before .any-shift .ensures) ∙ c .before .if1 .taken) (sym (c .masks-have-ids .ensures))))
+    let at-shared = c .before .before .before .before in
+    let at-shared-item = at-shared .before .before in
+    rw (node-laws.had (at-shared .shared .given .1) (at-shared-item .shared-item .ensures .0)) (sym (laws.then _ (sym (c .before .before .any-shift .ensures) ∙ c .before .if1 .taken) (sym (c .masks-have-ids .ensures))))
 
 returns-3 : tie.Need-returns-3
 unfolding rule36
 returns-3 c =
-    rw (node-laws.had (c .before .before .before .shared .given .1) (c .before .before .before .before .before .shared-item .ensures .0)) (sym (laws.otherwise _ (sym (c .before .any-shift .ensures) ∙ c .if1 .left) refl))
+    let at-shared = c .before .before .before in
+    let at-shared-item = at-shared .before .before in
+    rw (node-laws.had (at-shared .shared .given .1) (at-shared-item .shared-item .ensures .0)) (sym (laws.otherwise _ (sym (c .before .any-shift .ensures) ∙ c .if1 .left) refl))
 
 pub rule-36-spec : {M : Type 1} → statement M
 rule-36-spec =

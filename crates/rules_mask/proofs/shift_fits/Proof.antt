@@ -16,7 +16,9 @@ enum-known-i c = search needs
 
 is-shift-at-requires : tie.Need-is-shift-at-requires
 is-shift-at-requires c κs =
-    (c .before .before .before .before .before .before .pre .0, node-laws.within _ (c .before .i .given .1) (c .before .before .before .find-item .ensures .1))
+    let at-find-item = c .before .before .before in
+    let entry = at-find-item .before .before .before in
+    (entry .pre .0, node-laws.within _ (c .before .i .given .1) (at-find-item .find-item .ensures .1))
 
 returns : tie.Need-returns
 unfolding shiftFits
@@ -26,7 +28,8 @@ returns c =
 returns-2 : tie.Need-returns-2
 unfolding shiftFits
 returns-2 c =
-    rw (node-laws.had (c .before .before .i .given .1) (c .before .before .before .before .find-item .ensures .0)) (c .is-shift-at .ensures)
+    let at-find-item = c .before .before .before .before in
+    rw (node-laws.had (c .before .before .i .given .1) (at-find-item .find-item .ensures .0)) (c .is-shift-at .ensures)
 
 pub shift-fits-spec : {M : Type 1} → statement M
 shift-fits-spec =

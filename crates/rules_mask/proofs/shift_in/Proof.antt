@@ -18,11 +18,16 @@ enum-known-g c = search needs
 
 vr-requires : tie.Need-vr-requires
 vr-requires c κs =
-    (c .before .before .before .before .before .before .pre .0, node-laws.within _ (c .before .g .given .1) (c .before .before .before .find-item .ensures .1))
+    let at-find-item = c .before .before .before in
+    let entry = at-find-item .before .before .before in
+    (entry .pre .0, node-laws.within _ (c .before .g .given .1) (at-find-item .find-item .ensures .1))
 
 is-filled-requires : tie.Need-is-filled-requires
 is-filled-requires c κs =
-    (c .before .before .before .before .before .before .before .before .pre .0, node-laws.within _ (c .before .before .before .g .given .1) (c .before .before .before .before .before .find-item .ensures .1))
+    let at-g = c .before .before .before in
+    let at-find-item = at-g .before .before in
+    let entry = at-find-item .before .before .before in
+    (entry .pre .0, node-laws.within _ (at-g .g .given .1) (at-find-item .find-item .ensures .1))
 
 returns : tie.Need-returns
 unfolding shiftIn
@@ -32,12 +37,16 @@ returns c =
 returns-2 : tie.Need-returns-2
 unfolding shiftIn ofVr
 returns-2 c =
-    rw (node-laws.had (c .before .before .before .before .g .given .1) (c .before .before .before .before .before .before .find-item .ensures .0), laws.same _ (c .before .before .vr .ensures) (c .before .if1 .taken)) (c .is-filled .ensures)
+    let at-g = c .before .before .before .before in
+    let at-find-item = at-g .before .before in
+    rw (node-laws.had (at-g .g .given .1) (at-find-item .find-item .ensures .0), laws.same _ (c .before .before .vr .ensures) (c .before .if1 .taken)) (c .is-filled .ensures)
 
 returns-3 : tie.Need-returns-3
 unfolding shiftIn ofVr
 returns-3 c =
-    rw (node-laws.had (c .before .before .before .g .given .1) (c .before .before .before .before .before .find-item .ensures .0), laws.different _ (c .before .vr .ensures) (c .if1 .left))
+    let at-g = c .before .before .before in
+    let at-find-item = at-g .before .before in
+    rw (node-laws.had (at-g .g .given .1) (at-find-item .find-item .ensures .0), laws.different _ (c .before .vr .ensures) (c .if1 .left))
 
 pub shift-in-spec : {M : Type 1} → statement M
 shift-in-spec =

@@ -21,12 +21,15 @@ returns c =
 returns-2 : tie.Need-returns-2
 unfolding hasExposure
 returns-2 c =
-    rw (← c .before .before .before .before .has-root .ensures, c .before .before .before .if1 .left, ← c .before .before .has-root2 .ensures, c .before .if2 .taken) (c .has-root3 .ensures)
+    let at-if1 = c .before .before .before in
+    let at-has-root = at-if1 .before in
+    rw (← at-has-root .has-root .ensures, at-if1 .if1 .left, ← c .before .before .has-root2 .ensures, c .before .if2 .taken) (c .has-root3 .ensures)
 
 returns-3 : tie.Need-returns-3
 unfolding hasExposure
 returns-3 c =
-    rw (← c .before .before .before .has-root .ensures, c .before .before .if1 .left, ← c .before .has-root2 .ensures, c .if2 .left)
+    let at-has-root = c .before .before .before in
+    rw (← at-has-root .has-root .ensures, c .before .before .if1 .left, ← c .before .has-root2 .ensures, c .if2 .left)
 
 pub has-exposure-spec : {M : Type 1} → statement M
 has-exposure-spec =

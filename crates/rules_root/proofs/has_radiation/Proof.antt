@@ -25,17 +25,27 @@ is-cs-root-requires-2 c κs = search needs
 returns : tie.Need-returns
 unfolding hasRadiation
 returns c =
-    rw (← c .before .before .before .before .before .before .has-root .ensures, c .before .before .before .before .before .if1 .taken, ← c .before .before .before .before .has-root2 .ensures, c .before .before .before .if2 .taken, ← c .before .is-cs-root .ensures, c .if3 .taken)
+    let at-if2 = c .before .before .before in
+    let at-has-root2 = at-if2 .before in
+    let at-if1 = at-has-root2 .before in
+    let at-has-root = at-if1 .before in
+    rw (← at-has-root .has-root .ensures, at-if1 .if1 .taken, ← at-has-root2 .has-root2 .ensures, at-if2 .if2 .taken, ← c .before .is-cs-root .ensures, c .if3 .taken)
 
 returns-2 : tie.Need-returns-2
 unfolding hasRadiation
 returns-2 c =
-    rw (← c .before .before .before .before .before .before .before .before .has-root .ensures, c .before .before .before .before .before .before .before .if1 .taken, ← c .before .before .before .before .before .before .has-root2 .ensures, c .before .before .before .before .before .if2 .taken, ← c .before .before .before .is-cs-root .ensures, c .before .before .if3 .left) (c .is-cs-root2 .ensures)
+    let at-is-cs-root = c .before .before .before in
+    let at-if2 = at-is-cs-root .before .before in
+    let at-has-root2 = at-if2 .before in
+    let at-if1 = at-has-root2 .before in
+    let at-has-root = at-if1 .before in
+    rw (← at-has-root .has-root .ensures, at-if1 .if1 .taken, ← at-has-root2 .has-root2 .ensures, at-if2 .if2 .taken, ← at-is-cs-root .is-cs-root .ensures, c .before .before .if3 .left) (c .is-cs-root2 .ensures)
 
 returns-3 : tie.Need-returns-3
 unfolding hasRadiation
 returns-3 c =
-    rw (← c .before .before .before .has-root .ensures, c .before .before .if1 .taken, ← c .before .has-root2 .ensures, c .if2 .left)
+    let at-has-root = c .before .before .before in
+    rw (← at-has-root .has-root .ensures, c .before .before .if1 .taken, ← c .before .has-root2 .ensures, c .if2 .left)
 
 returns-4 : tie.Need-returns-4
 unfolding hasRadiation

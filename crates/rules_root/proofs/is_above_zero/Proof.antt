@@ -19,7 +19,8 @@ returns c =
 
 returns-2 : tie.Need-returns-2
 returns-2 c =
-    rw (node-laws.had (c .before .n .given .1) (c .before .before .before .us-root .ensures .0))
+    let at-us-root = c .before .before .before in
+    rw (node-laws.had (c .before .n .given .1) (at-us-root .us-root .ensures .0))
 
 pub is-above-zero-spec : {M : Type 1} → statement M
 is-above-zero-spec = tie.close (tie.spec us-root-requires enum-told enum-known-n returns returns-2)

@@ -36,22 +36,41 @@ is-word-at-requires-4 c κs = search needs
 returns : tie.Need-returns
 unfolding isImageType
 returns c =
-    rw (← c .before .before .before .before .before .before .before .count-values .ensures .0, le-leb 4 _ (c .before .before .before .before .before .before .if1 .taken), ← c .before .before .before .before .is-word-at .ensures, c .before .before .before .if2 .taken, ← c .before .is-word-at2 .ensures, c .if3 .taken)
+    let at-if2 = c .before .before .before in
+    let at-is-word-at = at-if2 .before in
+    let at-if1 = at-is-word-at .before .before in
+    let at-count-values = at-if1 .before in
+    rw (← at-count-values .count-values .ensures .0, le-leb 4 _ (at-if1 .if1 .taken), ← at-is-word-at .is-word-at .ensures, at-if2 .if2 .taken, ← c .before .is-word-at2 .ensures, c .if3 .taken)
 
 returns-2 : tie.Need-returns-2
 unfolding isImageType
 returns-2 c =
-    rw (← c .before .before .before .before .before .before .before .before .before .before .count-values .ensures .0, le-leb 4 _ (c .before .before .before .before .before .before .before .before .before .if1 .taken), ← c .before .before .before .before .before .before .before .is-word-at .ensures, c .before .before .before .before .before .before .if2 .taken, ← c .before .before .before .before .is-word-at2 .ensures, c .before .before .before .if3 .left, ← c .before .is-word-at3 .ensures, c .if4 .taken)
+    let at-if3 = c .before .before .before in
+    let at-is-word-at2 = at-if3 .before in
+    let at-if2 = at-is-word-at2 .before .before in
+    let at-is-word-at = at-if2 .before in
+    let at-if1 = at-is-word-at .before .before in
+    let at-count-values = at-if1 .before in
+    rw (← at-count-values .count-values .ensures .0, le-leb 4 _ (at-if1 .if1 .taken), ← at-is-word-at .is-word-at .ensures, at-if2 .if2 .taken, ← at-is-word-at2 .is-word-at2 .ensures, at-if3 .if3 .left, ← c .before .is-word-at3 .ensures, c .if4 .taken)
 
 returns-3 : tie.Need-returns-3
 unfolding isImageType
 returns-3 c =
-    rw (← c .before .before .before .before .before .before .before .before .before .before .before .before .count-values .ensures .0, le-leb 4 _ (c .before .before .before .before .before .before .before .before .before .before .before .if1 .taken), ← c .before .before .before .before .before .before .before .before .before .is-word-at .ensures, c .before .before .before .before .before .before .before .before .if2 .taken, ← c .before .before .before .before .before .before .is-word-at2 .ensures, c .before .before .before .before .before .if3 .left, ← c .before .before .before .is-word-at3 .ensures, c .before .before .if4 .left, ← c .is-word-at4 .ensures, and-true)
+    let at-is-word-at3 = c .before .before .before in
+    let at-if3 = at-is-word-at3 .before .before in
+    let at-is-word-at2 = at-if3 .before in
+    let at-if2 = at-is-word-at2 .before .before in
+    let at-is-word-at = at-if2 .before in
+    let at-if1 = at-is-word-at .before .before in
+    let at-count-values = at-if1 .before in
+    rw (← at-count-values .count-values .ensures .0, le-leb 4 _ (at-if1 .if1 .taken), ← at-is-word-at .is-word-at .ensures, at-if2 .if2 .taken, ← at-is-word-at2 .is-word-at2 .ensures, at-if3 .if3 .left, ← at-is-word-at3 .is-word-at3 .ensures, c .before .before .if4 .left, ← c .is-word-at4 .ensures, and-true)
 
 returns-4 : tie.Need-returns-4
 unfolding isImageType
 returns-4 c =
-    rw (← c .before .before .before .before .count-values .ensures .0, le-leb 4 _ (c .before .before .before .if1 .taken), ← c .before .is-word-at .ensures, c .if2 .left, and-false)
+    let at-if1 = c .before .before .before in
+    let at-count-values = at-if1 .before in
+    rw (← at-count-values .count-values .ensures .0, le-leb 4 _ (at-if1 .if1 .taken), ← c .before .is-word-at .ensures, c .if2 .left, and-false)
 
 returns-5 : tie.Need-returns-5
 unfolding isImageType

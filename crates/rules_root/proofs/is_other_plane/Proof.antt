@@ -16,12 +16,16 @@ is-word-requires c κs = search needs
 returns : tie.Need-returns
 unfolding isOtherPlane
 returns c =
-    rw (← c .before .before .before .before .is-single .ensures, c .before .before .before .if1 .taken, ← c .before .is-word .ensures, c .if2 .taken)
+    let at-if1 = c .before .before .before in
+    let at-is-single = at-if1 .before in
+    rw (← at-is-single .is-single .ensures, at-if1 .if1 .taken, ← c .before .is-word .ensures, c .if2 .taken)
 
 returns-2 : tie.Need-returns-2
 unfolding isOtherPlane
 returns-2 c =
-    rw (← c .before .before .before .before .is-single .ensures, c .before .before .before .if1 .taken, ← c .before .is-word .ensures, c .if2 .left)
+    let at-if1 = c .before .before .before in
+    let at-is-single = at-if1 .before in
+    rw (← at-is-single .is-single .ensures, at-if1 .if1 .taken, ← c .before .is-word .ensures, c .if2 .left)
 
 returns-3 : tie.Need-returns-3
 unfolding isOtherPlane

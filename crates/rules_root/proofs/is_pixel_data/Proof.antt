@@ -19,11 +19,13 @@ value-requires c κs = search needs
 
 mul-is-padded : tie.Need-mul-is-padded
 mul-is-padded c =
-    omega (arith, laws.product-fits (c .before .before .before .before .before .before .args .frames) (c .before .before .before .before .before .before .args .height) 100000000000 65536 (omega arith) (omega arith))
+    let entry = c .before .before .before .before .before .before in
+    omega (arith, laws.product-fits (entry .args .frames) (entry .args .height) 100000000000 65536 (omega arith) (omega arith))
 
 mul-is-padded-2 : tie.Need-mul-is-padded-2
 mul-is-padded-2 c =
-    omega (arith, laws.product-fits (c .before .before .before .before .before .before .args .width) (c .before .before .before .before .before .before .args .allocated / 8) 65536 8192 (omega arith) (omega arith))
+    let entry = c .before .before .before .before .before .before in
+    omega (arith, laws.product-fits (entry .args .width) (entry .args .allocated / 8) 65536 8192 (omega arith) (omega arith))
 
 is-padded-requires : tie.Need-is-padded-requires
 is-padded-requires c κs = search needs
@@ -31,7 +33,10 @@ is-padded-requires c κs = search needs
 returns : tie.Need-returns
 unfolding isPixelData
 returns c =
-    rw (← c .before .before .before .before .vr .ensures, ← c .before .before .before .is-pixel-vr .ensures, c .before .before .if1 .taken, ← c .before .value .ensures, mul-assoc (c .before .before .before .before .before .before .before .args .frames * c .before .before .before .before .before .before .before .args .height) (c .before .before .before .before .before .before .before .args .width) (c .before .before .before .before .before .before .before .args .allocated / 8)) (c .is-padded .ensures)
+    let at-is-pixel-vr = c .before .before .before in
+    let at-vr = at-is-pixel-vr .before in
+    let entry = at-vr .before .before .before in
+    rw (← at-vr .vr .ensures, ← at-is-pixel-vr .is-pixel-vr .ensures, c .before .before .if1 .taken, ← c .before .value .ensures, mul-assoc (entry .args .frames * entry .args .height) (entry .args .width) (entry .args .allocated / 8)) (c .is-padded .ensures)
 
 returns-2 : tie.Need-returns-2
 unfolding isPixelData

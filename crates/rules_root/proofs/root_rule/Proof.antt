@@ -214,8 +214,9 @@ returns-25 c =
 returns-26 : tie.Need-returns-26
 unfolding ruleAt ruleList
 returns-26 c =
-    let h : 25 < c .before .before .before .before .args .rule = laws.past-all (c .before .before .before .before .args .rule) 25 (c .before .before .before .before .pre .1 .0) (c .before .match .rest) in
-    let e : c .before .before .before .before .args .rule ≡ 26 = omega arith in
+    let entry = c .before .before .before .before in
+    let h : 25 < entry .args .rule = laws.past-all (entry .args .rule) 25 (entry .pre .1 .0) (c .before .match .rest) in
+    let e : entry .args .rule ≡ 26 = omega arith in
     rw e (c .rule-26 .ensures)
 
 pub root-rule-spec : {M : Type 1} → statement M

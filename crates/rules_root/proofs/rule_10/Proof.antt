@@ -24,7 +24,8 @@ returns c =
 returns-2 : tie.Need-returns-2
 unfolding rule10
 returns-2 c =
-    rw (← c .before .before .before .photometric-is .ensures, c .before .before .if1 .left) (c .photometric-is2 .ensures)
+    let at-photometric-is = c .before .before .before in
+    rw (← at-photometric-is .photometric-is .ensures, c .before .before .if1 .left) (c .photometric-is2 .ensures)
 
 pub rule-10-spec : {M : Type 1} → statement M
 rule-10-spec =

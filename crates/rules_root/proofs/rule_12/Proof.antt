@@ -31,7 +31,9 @@ enum-told-2 c = search needs
 returns-2 : tie.Need-returns-2
 unfolding rule12
 returns-2 c =
-    rw (node-laws.had (c .before .before .before .before .allocated .given .1) (c .before .before .before .before .before .before .us-root .ensures .0), node-laws.lacked (c .enum-told2 .given .1) (c .before .before .us-root2 .ensures .0))
+    let at-allocated = c .before .before .before .before in
+    let at-us-root = at-allocated .before .before in
+    rw (node-laws.had (at-allocated .allocated .given .1) (at-us-root .us-root .ensures .0), node-laws.lacked (c .enum-told2 .given .1) (c .before .before .us-root2 .ensures .0))
 
 bits-fit-requires : tie.Need-bits-fit-requires
 bits-fit-requires c κs = search needs
@@ -39,7 +41,10 @@ bits-fit-requires c κs = search needs
 returns-3 : tie.Need-returns-3
 unfolding rule12
 returns-3 c =
-    rw (node-laws.had (c .before .before .before .before .before .before .allocated .given .1) (c .before .before .before .before .before .before .before .before .us-root .ensures .0), node-laws.had (c .before .before .stored .given .1) (c .before .before .before .before .us-root2 .ensures .0)) (c .bits-fit .ensures)
+    let at-us-root2 = c .before .before .before .before in
+    let at-allocated = at-us-root2 .before .before in
+    let at-us-root = at-allocated .before .before in
+    rw (node-laws.had (at-allocated .allocated .given .1) (at-us-root .us-root .ensures .0), node-laws.had (c .before .before .stored .given .1) (at-us-root2 .us-root2 .ensures .0)) (c .bits-fit .ensures)
 
 pub rule-12-spec : {M : Type 1} → statement M
 rule-12-spec =

@@ -32,16 +32,23 @@ enum-told-2 c = search needs
 returns-2 : tie.Need-returns-2
 unfolding rule13
 returns-2 c =
-    rw (node-laws.had (c .before .before .before .before .high .given .1) (c .before .before .before .before .before .before .us-root .ensures .0), node-laws.lacked (c .enum-told2 .given .1) (c .before .before .us-root2 .ensures .0))
+    let at-high = c .before .before .before .before in
+    let at-us-root = at-high .before .before in
+    rw (node-laws.had (at-high .high .given .1) (at-us-root .us-root .ensures .0), node-laws.lacked (c .enum-told2 .given .1) (c .before .before .us-root2 .ensures .0))
 
 add-result : tie.Need-add-result
 add-result c =
-    omega (arith, node-laws.within 65536 (c .before .before .before .before .before .high .given .1) (c .before .before .before .before .before .before .before .us-root .ensures .1))
+    let at-high = c .before .before .before .before .before in
+    let at-us-root = at-high .before .before in
+    omega (arith, node-laws.within 65536 (at-high .high .given .1) (at-us-root .us-root .ensures .1))
 
 returns-3 : tie.Need-returns-3
 unfolding rule13
 returns-3 c =
-    rw (node-laws.had (c .before .before .before .before .before .high .given .1) (c .before .before .before .before .before .before .before .us-root .ensures .0), node-laws.had (c .before .stored .given .1) (c .before .before .before .us-root2 .ensures .0))
+    let at-us-root2 = c .before .before .before in
+    let at-high = at-us-root2 .before .before in
+    let at-us-root = at-high .before .before in
+    rw (node-laws.had (at-high .high .given .1) (at-us-root .us-root .ensures .0), node-laws.had (c .before .stored .given .1) (at-us-root2 .us-root2 .ensures .0))
 
 pub rule-13-spec : {M : Type 1} → statement M
 rule-13-spec =

@@ -23,12 +23,14 @@ returns c =
 returns-2 : tie.Need-returns-2
 unfolding rule15
 returns-2 c =
-    rw (node-laws.had (c .before .before .n .given .1) (c .before .before .before .before .frame-count .ensures .0), le-leb 1 _ (c .if1 .taken))
+    let at-frame-count = c .before .before .before .before in
+    rw (node-laws.had (c .before .before .n .given .1) (at-frame-count .frame-count .ensures .0), le-leb 1 _ (c .if1 .taken))
 
 returns-3 : tie.Need-returns-3
 unfolding rule15
 returns-3 c =
-    rw (node-laws.had (c .before .before .n .given .1) (c .before .before .before .before .frame-count .ensures .0), lt-leb 1 _ (c .if1 .left))
+    let at-frame-count = c .before .before .before .before in
+    rw (node-laws.had (c .before .before .n .given .1) (at-frame-count .frame-count .ensures .0), lt-leb 1 _ (c .if1 .left))
 
 pub rule-15-spec : {M : Type 1} → statement M
 rule-15-spec =

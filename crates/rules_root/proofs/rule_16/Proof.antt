@@ -30,12 +30,17 @@ returns c =
 returns-2 : tie.Need-returns-2
 unfolding rule16
 returns-2 c =
-    rw (← c .before .before .before .before .is-cs-root .ensures, c .before .before .before .if1 .left, ← c .before .is-cs-root2 .ensures, c .if2 .taken)
+    let at-if1 = c .before .before .before in
+    let at-is-cs-root = at-if1 .before in
+    rw (← at-is-cs-root .is-cs-root .ensures, at-if1 .if1 .left, ← c .before .is-cs-root2 .ensures, c .if2 .taken)
 
 returns-3 : tie.Need-returns-3
 unfolding rule16
 returns-3 c =
-    rw (← c .before .before .before .before .before .before .is-cs-root .ensures, c .before .before .before .before .before .if1 .left, ← c .before .before .before .is-cs-root2 .ensures, c .before .before .if2 .left) (c .is-cs-root3 .ensures)
+    let at-is-cs-root2 = c .before .before .before in
+    let at-if1 = at-is-cs-root2 .before .before in
+    let at-is-cs-root = at-if1 .before in
+    rw (← at-is-cs-root .is-cs-root .ensures, at-if1 .if1 .left, ← at-is-cs-root2 .is-cs-root2 .ensures, c .before .before .if2 .left) (c .is-cs-root3 .ensures)
 
 pub rule-16-spec : {M : Type 1} → statement M
 rule-16-spec =

@@ -24,7 +24,8 @@ returns c =
 returns-2 : tie.Need-returns-2
 unfolding rule18
 returns-2 c =
-    rw (← c .before .before .before .lossy-is .ensures, c .before .before .if1 .left) (c .lossy-is2 .ensures)
+    let at-lossy-is = c .before .before .before in
+    rw (← at-lossy-is .lossy-is .ensures, c .before .before .if1 .left) (c .lossy-is2 .ensures)
 
 pub rule-18-spec : {M : Type 1} → statement M
 rule-18-spec =

@@ -25,22 +25,28 @@ is-absent-root-requires-2 c κs = search needs
 returns : tie.Need-returns
 unfolding rule19
 returns c =
-    rw (← c .before .before .before .before .lossy-is .ensures, c .before .before .before .if1 .taken, ← c .before .before .has-root .ensures, c .before .if2 .taken) (c .has-root2 .ensures)
+    let at-if1 = c .before .before .before in
+    let at-lossy-is = at-if1 .before in
+    rw (← at-lossy-is .lossy-is .ensures, at-if1 .if1 .taken, ← c .before .before .has-root .ensures, c .before .if2 .taken) (c .has-root2 .ensures)
 
 returns-2 : tie.Need-returns-2
 unfolding rule19
 returns-2 c =
-    rw (← c .before .before .before .lossy-is .ensures, c .before .before .if1 .taken, ← c .before .has-root .ensures, c .if2 .left)
+    let at-lossy-is = c .before .before .before in
+    rw (← at-lossy-is .lossy-is .ensures, c .before .before .if1 .taken, ← c .before .has-root .ensures, c .if2 .left)
 
 returns-3 : tie.Need-returns-3
 unfolding rule19
 returns-3 c =
-    rw (← c .before .before .before .before .lossy-is .ensures, c .before .before .before .if1 .left, ← c .before .before .is-absent-root .ensures, c .before .if3 .taken) (c .is-absent-root2 .ensures)
+    let at-if1 = c .before .before .before in
+    let at-lossy-is = at-if1 .before in
+    rw (← at-lossy-is .lossy-is .ensures, at-if1 .if1 .left, ← c .before .before .is-absent-root .ensures, c .before .if3 .taken) (c .is-absent-root2 .ensures)
 
 returns-4 : tie.Need-returns-4
 unfolding rule19
 returns-4 c =
-    rw (← c .before .before .before .lossy-is .ensures, c .before .before .if1 .left, ← c .before .is-absent-root .ensures, c .if3 .left)
+    let at-lossy-is = c .before .before .before in
+    rw (← at-lossy-is .lossy-is .ensures, c .before .before .if1 .left, ← c .before .is-absent-root .ensures, c .if3 .left)
 
 pub rule-19-spec : {M : Type 1} → statement M
 rule-19-spec =

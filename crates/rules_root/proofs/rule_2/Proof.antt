@@ -22,12 +22,14 @@ is-cs-root-requires-2 c κs = search needs
 returns : tie.Need-returns
 unfolding rule2
 returns c =
-    rw (← c .before .before .before .is-xrf .ensures, c .before .before .if1 .taken) (c .is-cs-root .ensures)
+    let at-is-xrf = c .before .before .before in
+    rw (← at-is-xrf .is-xrf .ensures, c .before .before .if1 .taken) (c .is-cs-root .ensures)
 
 returns-2 : tie.Need-returns-2
 unfolding rule2
 returns-2 c =
-    rw (← c .before .before .before .is-xrf .ensures, c .before .before .if1 .left) (c .is-cs-root2 .ensures)
+    let at-is-xrf = c .before .before .before in
+    rw (← at-is-xrf .is-xrf .ensures, c .before .before .if1 .left) (c .is-cs-root2 .ensures)
 
 pub rule-2-spec : {M : Type 1} → statement M
 rule-2-spec =

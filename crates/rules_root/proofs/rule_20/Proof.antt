@@ -22,7 +22,9 @@ enum-known-i c = search needs
 
 is-one-item-requires : tie.Need-is-one-item-requires
 is-one-item-requires c κs =
-    (c .before .before .before .before .before .before .before .before .before .pre, node-laws.within _ (c .before .i .given .1) (c .before .before .before .find-root .ensures .1))
+    let at-find-root = c .before .before .before in
+    let entry = at-find-root .before .before .before .before .before .before in
+    (entry .pre, node-laws.within _ (c .before .i .given .1) (at-find-root .find-root .ensures .1))
 
 is-absent-root-requires : tie.Need-is-absent-root-requires
 is-absent-root-requires c κs = search needs
@@ -30,12 +32,17 @@ is-absent-root-requires c κs = search needs
 returns : tie.Need-returns
 unfolding rule20
 returns c =
-    rw (← c .before .before .before .before .planes-are .ensures, c .before .before .before .if1 .taken, node-laws.lacked (c .enum-told .given .1) (c .before .before .find-root .ensures .0))
+    let at-if1 = c .before .before .before in
+    let at-planes-are = at-if1 .before in
+    rw (← at-planes-are .planes-are .ensures, at-if1 .if1 .taken, node-laws.lacked (c .enum-told .given .1) (c .before .before .find-root .ensures .0))
 
 returns-2 : tie.Need-returns-2
 unfolding rule20
 returns-2 c =
-    rw (← c .before .before .before .before .before .before .planes-are .ensures, c .before .before .before .before .before .if1 .taken, node-laws.had (c .before .before .i .given .1) (c .before .before .before .before .find-root .ensures .0)) (c .is-one-item .ensures)
+    let at-find-root = c .before .before .before .before in
+    let at-if1 = at-find-root .before in
+    let at-planes-are = at-if1 .before in
+    rw (← at-planes-are .planes-are .ensures, at-if1 .if1 .taken, node-laws.had (c .before .before .i .given .1) (at-find-root .find-root .ensures .0)) (c .is-one-item .ensures)
 
 returns-3 : tie.Need-returns-3
 unfolding rule20

@@ -25,12 +25,14 @@ is-cs-root-requires-2 c κs = search needs
 returns : tie.Need-returns
 unfolding rule21
 returns c =
-    rw (← c .before .before .before .photometric-is .ensures, c .before .before .if1 .taken) (c .is-cs-root .ensures)
+    let at-photometric-is = c .before .before .before in
+    rw (← at-photometric-is .photometric-is .ensures, c .before .before .if1 .taken) (c .is-cs-root .ensures)
 
 returns-2 : tie.Need-returns-2
 unfolding rule21
 returns-2 c =
-    rw (← c .before .before .before .photometric-is .ensures, c .before .before .if1 .left) (c .is-cs-root2 .ensures)
+    let at-photometric-is = c .before .before .before in
+    rw (← at-photometric-is .photometric-is .ensures, c .before .before .if1 .left) (c .is-cs-root2 .ensures)
 
 pub rule-21-spec : {M : Type 1} → statement M
 rule-21-spec =

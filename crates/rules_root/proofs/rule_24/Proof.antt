@@ -19,12 +19,16 @@ is-cs-root-requires c κs = search needs
 returns : tie.Need-returns
 unfolding rule24
 returns c =
-    rw (← c .before .before .before .before .before .is-original .ensures, c .before .before .before .before .if1 .taken, ← c .before .before .before .is-xrf .ensures, c .before .before .if2 .taken) (c .is-cs-root .ensures)
+    let at-is-xrf = c .before .before .before in
+    let at-if1 = at-is-xrf .before in
+    let at-is-original = at-if1 .before in
+    rw (← at-is-original .is-original .ensures, at-if1 .if1 .taken, ← at-is-xrf .is-xrf .ensures, c .before .before .if2 .taken) (c .is-cs-root .ensures)
 
 returns-2 : tie.Need-returns-2
 unfolding rule24
 returns-2 c =
-    rw (← c .before .before .before .is-original .ensures, c .before .before .if1 .taken, ← c .before .is-xrf .ensures, c .if2 .left)
+    let at-is-original = c .before .before .before in
+    rw (← at-is-original .is-original .ensures, c .before .before .if1 .taken, ← c .before .is-xrf .ensures, c .if2 .left)
 
 returns-3 : tie.Need-returns-3
 unfolding rule24

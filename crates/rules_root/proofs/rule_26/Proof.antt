@@ -31,16 +31,24 @@ enum-told-2 c = search needs
 returns-2 : tie.Need-returns-2
 unfolding rule26
 returns-2 c =
-    rw (node-laws.had (c .before .before .before .before .groups .given .1) (c .before .before .before .before .before .before .find-vr-root .ensures .0), node-laws.lacked (c .enum-told2 .given .1) (c .before .before .frame-count .ensures .0))
+    let at-groups = c .before .before .before .before in
+    let at-find-vr-root = at-groups .before .before in
+    rw (node-laws.had (at-groups .groups .given .1) (at-find-vr-root .find-vr-root .ensures .0), node-laws.lacked (c .enum-told2 .given .1) (c .before .before .frame-count .ensures .0))
 
 count-items-requires : tie.Need-count-items-requires
 count-items-requires c κs =
-    (c .before .before .before .before .before .before .before .before .before .before .pre, node-laws.within _ (c .before .before .before .before .before .groups .given .1) (c .before .before .before .before .before .before .before .find-vr-root .ensures .1))
+    let at-groups = c .before .before .before .before .before in
+    let at-find-vr-root = at-groups .before .before in
+    let entry = at-find-vr-root .before .before .before in
+    (entry .pre, node-laws.within _ (at-groups .groups .given .1) (at-find-vr-root .find-vr-root .ensures .1))
 
 returns-3 : tie.Need-returns-3
 unfolding rule26
 returns-3 c =
-    rw (node-laws.had (c .before .before .before .before .before .before .groups .given .1) (c .before .before .before .before .before .before .before .before .find-vr-root .ensures .0), node-laws.had (c .before .before .frames .given .1) (c .before .before .before .before .frame-count .ensures .0), c .count-items .ensures)
+    let at-frame-count = c .before .before .before .before in
+    let at-groups = at-frame-count .before .before in
+    let at-find-vr-root = at-groups .before .before in
+    rw (node-laws.had (at-groups .groups .given .1) (at-find-vr-root .find-vr-root .ensures .0), node-laws.had (c .before .before .frames .given .1) (at-frame-count .frame-count .ensures .0), c .count-items .ensures)
 
 pub rule-26-spec : {M : Type 1} → statement M
 rule-26-spec =

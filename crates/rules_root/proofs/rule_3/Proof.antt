@@ -16,7 +16,9 @@ enum-known-i c = search needs
 
 value-requires : tie.Need-value-requires
 value-requires c κs =
-    (c .before .before .before .before .before .before .pre, node-laws.within _ (c .before .i .given .1) (c .before .before .before .find-vr-root .ensures .1))
+    let at-find-vr-root = c .before .before .before in
+    let entry = at-find-vr-root .before .before .before in
+    (entry .pre, node-laws.within _ (c .before .i .given .1) (at-find-vr-root .find-vr-root .ensures .1))
 
 is-image-type-requires : tie.Need-is-image-type-requires
 is-image-type-requires c κs = search needs
@@ -29,7 +31,9 @@ returns c =
 returns-2 : tie.Need-returns-2
 unfolding rule3
 returns-2 c =
-    rw (node-laws.had (c .before .before .before .i .given .1) (c .before .before .before .before .before .find-vr-root .ensures .0), ← c .before .value .ensures) (c .is-image-type .ensures)
+    let at-i = c .before .before .before in
+    let at-find-vr-root = at-i .before .before in
+    rw (node-laws.had (at-i .i .given .1) (at-find-vr-root .find-vr-root .ensures .0), ← c .before .value .ensures) (c .is-image-type .ensures)
 
 pub rule-3-spec : {M : Type 1} → statement M
 rule-3-spec =

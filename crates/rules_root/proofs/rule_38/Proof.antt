@@ -20,7 +20,8 @@ enum-told c = search needs
 returns : tie.Need-returns
 unfolding rule38
 returns c =
-    laws.rule38-holds (nodesOf (now (c .before .before .before .before .before .args .bytes)))
+    let entry = c .before .before .before .before .before in
+    laws.rule38-holds (nodesOf (now (entry .args .bytes)))
     (rw (node-laws.lacked (c .enum-told .given .1) (c .before .before .frame-count .ensures .0)))
 
 us-root-requires : tie.Need-us-root-requires
@@ -35,8 +36,11 @@ enum-told-2 c = search needs
 returns-2 : tie.Need-returns-2
 unfolding rule38
 returns-2 c =
-    laws.rule38-holds (nodesOf (now (c .before .before .before .before .before .before .before .before .before .args .bytes)))
-    (rw (node-laws.had (c .before .before .before .before .frames .given .1) (c .before .before .before .before .before .before .frame-count .ensures .0), node-laws.lacked (c .enum-told2 .given .1) (c .before .before .us-root .ensures .0)))
+    let at-frames = c .before .before .before .before in
+    let at-frame-count = at-frames .before .before in
+    let entry = at-frame-count .before .before .before in
+    laws.rule38-holds (nodesOf (now (entry .args .bytes)))
+    (rw (node-laws.had (at-frames .frames .given .1) (at-frame-count .frame-count .ensures .0), node-laws.lacked (c .enum-told2 .given .1) (c .before .before .us-root .ensures .0)))
 
 us-root-requires-2 : tie.Need-us-root-requires-2
 us-root-requires-2 c κs = search needs
@@ -50,8 +54,13 @@ enum-told-3 c = search needs
 returns-3 : tie.Need-returns-3
 unfolding rule38
 returns-3 c =
-    laws.rule38-holds (nodesOf (now (c .before .before .before .before .before .before .before .before .before .before .before .before .before .args .bytes)))
-    (rw (node-laws.had (c .before .before .before .before .before .before .before .before .frames .given .1) (c .before .before .before .before .before .before .before .before .before .before .frame-count .ensures .0), node-laws.had (c .before .before .before .before .height .given .1) (c .before .before .before .before .before .before .us-root .ensures .0), node-laws.lacked (c .enum-told3 .given .1) (c .before .before .us-root2 .ensures .0)))
+    let at-height = c .before .before .before .before in
+    let at-us-root = at-height .before .before in
+    let at-frames = at-us-root .before .before in
+    let at-frame-count = at-frames .before .before in
+    let entry = at-frame-count .before .before .before in
+    laws.rule38-holds (nodesOf (now (entry .args .bytes)))
+    (rw (node-laws.had (at-frames .frames .given .1) (at-frame-count .frame-count .ensures .0), node-laws.had (at-height .height .given .1) (at-us-root .us-root .ensures .0), node-laws.lacked (c .enum-told3 .given .1) (c .before .before .us-root2 .ensures .0)))
 
 us-root-requires-3 : tie.Need-us-root-requires-3
 us-root-requires-3 c κs = search needs
@@ -65,8 +74,15 @@ enum-told-4 c = search needs
 returns-4 : tie.Need-returns-4
 unfolding rule38
 returns-4 c =
-    laws.rule38-holds (nodesOf (now (c .before .before .before .before .before .before .before .before .before .before .before .before .before .before .before .before .before .args .bytes)))
-    (rw (node-laws.had (c .before .before .before .before .before .before .before .before .before .before .before .before .frames .given .1) (c .before .before .before .before .before .before .before .before .before .before .before .before .before .before .frame-count .ensures .0), node-laws.had (c .before .before .before .before .before .before .before .before .height .given .1) (c .before .before .before .before .before .before .before .before .before .before .us-root .ensures .0), node-laws.had (c .before .before .before .before .width .given .1) (c .before .before .before .before .before .before .us-root2 .ensures .0), node-laws.lacked (c .enum-told4 .given .1) (c .before .before .us-root3 .ensures .0)))
+    let at-width = c .before .before .before .before in
+    let at-us-root2 = at-width .before .before in
+    let at-height = at-us-root2 .before .before in
+    let at-us-root = at-height .before .before in
+    let at-frames = at-us-root .before .before in
+    let at-frame-count = at-frames .before .before in
+    let entry = at-frame-count .before .before .before in
+    laws.rule38-holds (nodesOf (now (entry .args .bytes)))
+    (rw (node-laws.had (at-frames .frames .given .1) (at-frame-count .frame-count .ensures .0), node-laws.had (at-height .height .given .1) (at-us-root .us-root .ensures .0), node-laws.had (at-width .width .given .1) (at-us-root2 .us-root2 .ensures .0), node-laws.lacked (c .enum-told4 .given .1) (c .before .before .us-root3 .ensures .0)))
 
 find-root-requires : tie.Need-find-root-requires
 find-root-requires c κs = search needs
@@ -80,18 +96,47 @@ enum-told-5 c = search needs
 returns-5 : tie.Need-returns-5
 unfolding rule38
 returns-5 c =
-    laws.rule38-holds (nodesOf (now (c .before .before .before .before .before .before .before .before .before .before .before .before .before .before .before .before .before .before .before .before .before .args .bytes)))
-    (rw (node-laws.had (c .before .before .before .before .before .before .before .before .before .before .before .before .before .before .before .before .frames .given .1) (c .before .before .before .before .before .before .before .before .before .before .before .before .before .before .before .before .before .before .frame-count .ensures .0), node-laws.had (c .before .before .before .before .before .before .before .before .before .before .before .before .height .given .1) (c .before .before .before .before .before .before .before .before .before .before .before .before .before .before .us-root .ensures .0), node-laws.had (c .before .before .before .before .before .before .before .before .width .given .1) (c .before .before .before .before .before .before .before .before .before .before .us-root2 .ensures .0), node-laws.had (c .before .before .before .before .allocated .given .1) (c .before .before .before .before .before .before .us-root3 .ensures .0), node-laws.lacked (c .enum-told5 .given .1) (c .before .before .find-root .ensures .0)))
+    let at-allocated = c .before .before .before .before in
+    let at-us-root3 = at-allocated .before .before in
+    let at-width = at-us-root3 .before .before in
+    let at-us-root2 = at-width .before .before in
+    let at-height = at-us-root2 .before .before in
+    let at-us-root = at-height .before .before in
+    let at-frames = at-us-root .before .before in
+    let at-frame-count = at-frames .before .before in
+    let entry = at-frame-count .before .before .before in
+    laws.rule38-holds (nodesOf (now (entry .args .bytes)))
+    (rw (node-laws.had (at-frames .frames .given .1) (at-frame-count .frame-count .ensures .0), node-laws.had (at-height .height .given .1) (at-us-root .us-root .ensures .0), node-laws.had (at-width .width .given .1) (at-us-root2 .us-root2 .ensures .0), node-laws.had (at-allocated .allocated .given .1) (at-us-root3 .us-root3 .ensures .0), node-laws.lacked (c .enum-told5 .given .1) (c .before .before .find-root .ensures .0)))
 
 is-pixel-data-requires : tie.Need-is-pixel-data-requires
 is-pixel-data-requires c κs =
-    (c .before .before .before .before .before .before .before .before .before .before .before .before .before .before .before .before .before .before .before .before .before .before .pre, (node-laws.within _ (c .before .i .given .1) (c .before .before .before .find-root .ensures .1), (node-laws.within 100000000000 (c .before .before .before .before .before .before .before .before .before .before .before .before .before .before .before .before .before .frames .given .1) (c .before .before .before .before .before .before .before .before .before .before .before .before .before .before .before .before .before .before .before .frame-count .ensures .1), (node-laws.within 65536 (c .before .before .before .before .before .before .before .before .before .before .before .before .before .height .given .1) (c .before .before .before .before .before .before .before .before .before .before .before .before .before .before .before .us-root .ensures .1), (node-laws.within 65536 (c .before .before .before .before .before .before .before .before .before .width .given .1) (c .before .before .before .before .before .before .before .before .before .before .before .us-root2 .ensures .1), node-laws.within 65536 (c .before .before .before .before .before .allocated .given .1) (c .before .before .before .before .before .before .before .us-root3 .ensures .1))))))
+    let at-find-root = c .before .before .before in
+    let at-allocated = at-find-root .before .before in
+    let at-us-root3 = at-allocated .before .before in
+    let at-width = at-us-root3 .before .before in
+    let at-us-root2 = at-width .before .before in
+    let at-height = at-us-root2 .before .before in
+    let at-us-root = at-height .before .before in
+    let at-frames = at-us-root .before .before in
+    let at-frame-count = at-frames .before .before in
+    let entry = at-frame-count .before .before .before in
+    (entry .pre, (node-laws.within _ (c .before .i .given .1) (at-find-root .find-root .ensures .1), (node-laws.within 100000000000 (at-frames .frames .given .1) (at-frame-count .frame-count .ensures .1), (node-laws.within 65536 (at-height .height .given .1) (at-us-root .us-root .ensures .1), (node-laws.within 65536 (at-width .width .given .1) (at-us-root2 .us-root2 .ensures .1), node-laws.within 65536 (at-allocated .allocated .given .1) (at-us-root3 .us-root3 .ensures .1))))))
 
 returns-6 : tie.Need-returns-6
 unfolding rule38
 returns-6 c =
-    laws.rule38-holds (nodesOf (now (c .before .before .before .before .before .before .before .before .before .before .before .before .before .before .before .before .before .before .before .before .before .before .before .args .bytes)))
-    (rw (node-laws.had (c .before .before .before .before .before .before .before .before .before .before .before .before .before .before .before .before .before .before .frames .given .1) (c .before .before .before .before .before .before .before .before .before .before .before .before .before .before .before .before .before .before .before .before .frame-count .ensures .0), node-laws.had (c .before .before .before .before .before .before .before .before .before .before .before .before .before .before .height .given .1) (c .before .before .before .before .before .before .before .before .before .before .before .before .before .before .before .before .us-root .ensures .0), node-laws.had (c .before .before .before .before .before .before .before .before .before .before .width .given .1) (c .before .before .before .before .before .before .before .before .before .before .before .before .us-root2 .ensures .0), node-laws.had (c .before .before .before .before .before .before .allocated .given .1) (c .before .before .before .before .before .before .before .before .us-root3 .ensures .0), node-laws.had (c .before .before .i .given .1) (c .before .before .before .before .find-root .ensures .0)) (c .is-pixel-data .ensures))
+    let at-find-root = c .before .before .before .before in
+    let at-allocated = at-find-root .before .before in
+    let at-us-root3 = at-allocated .before .before in
+    let at-width = at-us-root3 .before .before in
+    let at-us-root2 = at-width .before .before in
+    let at-height = at-us-root2 .before .before in
+    let at-us-root = at-height .before .before in
+    let at-frames = at-us-root .before .before in
+    let at-frame-count = at-frames .before .before in
+    let entry = at-frame-count .before .before .before in
+    laws.rule38-holds (nodesOf (now (entry .args .bytes)))
+    (rw (node-laws.had (at-frames .frames .given .1) (at-frame-count .frame-count .ensures .0), node-laws.had (at-height .height .given .1) (at-us-root .us-root .ensures .0), node-laws.had (at-width .width .given .1) (at-us-root2 .us-root2 .ensures .0), node-laws.had (at-allocated .allocated .given .1) (at-us-root3 .us-root3 .ensures .0), node-laws.had (c .before .before .i .given .1) (at-find-root .find-root .ensures .0)) (c .is-pixel-data .ensures))
 
 pub rule-38-spec : {M : Type 1} → statement M
 rule-38-spec =

@@ -30,12 +30,17 @@ returns c =
 returns-2 : tie.Need-returns-2
 unfolding rule4
 returns-2 c =
-    rw (← c .before .before .before .before .planes-are .ensures, c .before .before .before .if1 .left, ← c .before .planes-are2 .ensures, c .if2 .taken)
+    let at-if1 = c .before .before .before in
+    let at-planes-are = at-if1 .before in
+    rw (← at-planes-are .planes-are .ensures, at-if1 .if1 .left, ← c .before .planes-are2 .ensures, c .if2 .taken)
 
 returns-3 : tie.Need-returns-3
 unfolding rule4
 returns-3 c =
-    rw (← c .before .before .before .before .before .before .planes-are .ensures, c .before .before .before .before .before .if1 .left, ← c .before .before .before .planes-are2 .ensures, c .before .before .if2 .left) (c .planes-are3 .ensures)
+    let at-planes-are2 = c .before .before .before in
+    let at-if1 = at-planes-are2 .before .before in
+    let at-planes-are = at-if1 .before in
+    rw (← at-planes-are .planes-are .ensures, at-if1 .if1 .left, ← at-planes-are2 .planes-are2 .ensures, c .before .before .if2 .left) (c .planes-are3 .ensures)
 
 pub rule-4-spec : {M : Type 1} → statement M
 rule-4-spec =

@@ -19,7 +19,8 @@ image-type-is-requires c κs = search needs
 returns : tie.Need-returns
 unfolding rule5
 returns c =
-    rw (← c .before .before .before .planes-are .ensures, c .before .before .if1 .taken) (c .image-type-is .ensures)
+    let at-planes-are = c .before .before .before in
+    rw (← at-planes-are .planes-are .ensures, c .before .before .if1 .taken) (c .image-type-is .ensures)
 
 returns-2 : tie.Need-returns-2
 unfolding rule5

@@ -22,7 +22,9 @@ enum-known-i c = search needs
 
 value-requires : tie.Need-value-requires
 value-requires c κs =
-    (c .before .before .before .before .before .before .before .before .before .pre, node-laws.within _ (c .before .i .given .1) (c .before .before .before .find-vr-root .ensures .1))
+    let at-find-vr-root = c .before .before .before in
+    let entry = at-find-vr-root .before .before .before .before .before .before in
+    (entry .pre, node-laws.within _ (c .before .i .given .1) (at-find-vr-root .find-vr-root .ensures .1))
 
 is-other-plane-requires : tie.Need-is-other-plane-requires
 is-other-plane-requires c κs = search needs
@@ -30,12 +32,18 @@ is-other-plane-requires c κs = search needs
 returns : tie.Need-returns
 unfolding rule7
 returns c =
-    rw (← c .before .before .before .before .planes-are .ensures, c .before .before .before .if1 .taken, node-laws.lacked (c .enum-told .given .1) (c .before .before .find-vr-root .ensures .0))
+    let at-if1 = c .before .before .before in
+    let at-planes-are = at-if1 .before in
+    rw (← at-planes-are .planes-are .ensures, at-if1 .if1 .taken, node-laws.lacked (c .enum-told .given .1) (c .before .before .find-vr-root .ensures .0))
 
 returns-2 : tie.Need-returns-2
 unfolding rule7
 returns-2 c =
-    rw (← c .before .before .before .before .before .before .before .planes-are .ensures, c .before .before .before .before .before .before .if1 .taken, node-laws.had (c .before .before .before .i .given .1) (c .before .before .before .before .before .find-vr-root .ensures .0), ← c .before .value .ensures) (c .is-other-plane .ensures)
+    let at-i = c .before .before .before in
+    let at-find-vr-root = at-i .before .before in
+    let at-if1 = at-find-vr-root .before in
+    let at-planes-are = at-if1 .before in
+    rw (← at-planes-are .planes-are .ensures, at-if1 .if1 .taken, node-laws.had (at-i .i .given .1) (at-find-vr-root .find-vr-root .ensures .0), ← c .before .value .ensures) (c .is-other-plane .ensures)
 
 returns-3 : tie.Need-returns-3
 unfolding rule7

@@ -31,30 +31,39 @@ frame-items-requires c κs =
 
 loop-holds : tie.Need-loop-holds Inv-loop μ-loop
 loop-holds c =
-    let a = c .before .before .before .before .args in
+    let entry = c .before .before .before .before in
+    let a = entry .args in
     let ns = nodesOf (a .bytes .now) in
     let e = ap (λ (l : List ℕ). overBoth ns (a .shared) l) (c .frame-items .ensures .ahead) in
     (c .frame-items .ensures .inner, omega (arith, e))
 
 count-items-requires-2 : tie.Need-count-items-requires-2 Inv-loop μ-loop
 count-items-requires-2 c κs =
-    (c .before .before .before .before .before .before .pre .0, omega (arith, c .loop-test .taken, c .before .loop .inv .0))
+    let entry = c .before .before .before .before .before .before in
+    (entry .pre .0, omega (arith, c .loop-test .taken, c .before .loop .inv .0))
 
 add-sum : tie.Need-add-sum Inv-loop μ-loop
 add-sum c =
-    let a = c .before .before .before .before .before .before .before .args in
+    let at-frame-items = c .before .before .before in
+    let at-count-items = at-frame-items .before in
+    let entry = at-count-items .before .before .before in
+    let a = entry .args in
     let ns = nodesOf (a .bytes .now) in
-    omega (arith, c .before .before .loop .inv .1, both-next ns (c .before .before .loop .at) (c .before .before .before .frame-items .result .end) (a .shared) (c .before .loop-test .taken), c .before .before .before .before .count-items .ensures, c .count-items2 .ensures, both-fits (a .bytes .now) (c .before .before .before .before .before .before .before .pre .0 .few) (a .shared))
+    omega (arith, c .before .before .loop .inv .1, both-next ns (c .before .before .loop .at) (at-frame-items .frame-items .result .end) (a .shared) (c .before .loop-test .taken), at-count-items .count-items .ensures, c .count-items2 .ensures, both-fits (a .bytes .now) (entry .pre .0 .few) (a .shared))
 
 add-sum-2 : tie.Need-add-sum-2 Inv-loop μ-loop
 add-sum-2 c =
-    let a = c .before .before .before .before .before .before .before .args in
+    let at-frame-items = c .before .before .before in
+    let at-count-items = at-frame-items .before in
+    let entry = at-count-items .before .before .before in
+    let a = entry .args in
     let ns = nodesOf (a .bytes .now) in
-    omega (arith, c .before .before .loop .inv .1, both-next ns (c .before .before .loop .at) (c .before .before .before .frame-items .result .end) (a .shared) (c .before .loop-test .taken), c .before .before .before .before .count-items .ensures, c .count-items2 .ensures, both-fits (a .bytes .now) (c .before .before .before .before .before .before .before .pre .0 .few) (a .shared))
+    omega (arith, c .before .before .loop .inv .1, both-next ns (c .before .before .loop .at) (at-frame-items .frame-items .result .end) (a .shared) (c .before .loop-test .taken), at-count-items .count-items .ensures, c .count-items2 .ensures, both-fits (a .bytes .now) (entry .pre .0 .few) (a .shared))
 
 next-requires : tie.Need-next-requires Inv-loop μ-loop
 next-requires c κs =
-    (c .before .before .before .before .before .before .before .pre .0, omega (arith, c .before .loop-test .taken, c .before .before .loop .inv .0))
+    let entry = c .before .before .before .before .before .before .before in
+    (entry .pre .0, omega (arith, c .before .loop-test .taken, c .before .before .loop .inv .0))
 
 loop-less : tie.Need-loop-less Inv-loop μ-loop
 loop-less c =
@@ -62,14 +71,19 @@ loop-less c =
 
 loop-again : tie.Need-loop-again Inv-loop μ-loop
 loop-again c =
-    let a = c .before .before .before .before .before .before .before .before .args in
+    let at-loop = c .before .before .before in
+    let at-frame-items = at-loop .before in
+    let at-count-items = at-frame-items .before in
+    let entry = at-count-items .before .before .before in
+    let a = entry .args in
     let ns = nodesOf (a .bytes .now) in
-    let f = ap (λ (k : ℕ). overBoth ns (a .shared) (members ns k (c .before .before .before .before .frame-items .result .end))) (c .next .ensures .0) in
-    (c .before .before .before .loop .inv .0, omega (arith, c .before .before .before .loop .inv .1, both-next ns (c .before .before .before .loop .at) (c .before .before .before .before .frame-items .result .end) (a .shared) (c .before .before .loop-test .taken), c .before .before .before .before .before .count-items .ensures, c .before .count-items2 .ensures, f))
+    let f = ap (λ (k : ℕ). overBoth ns (a .shared) (members ns k (at-frame-items .frame-items .result .end))) (c .next .ensures .0) in
+    (at-loop .loop .inv .0, omega (arith, at-loop .loop .inv .1, both-next ns (at-loop .loop .at) (at-frame-items .frame-items .result .end) (a .shared) (c .before .before .loop-test .taken), at-count-items .count-items .ensures, c .before .count-items2 .ensures, f))
 
 returns : tie.Need-returns Inv-loop μ-loop
 returns c =
-    let a = c .before .before .before .before .before .before .args in
+    let entry = c .before .before .before .before .before .before in
+    let a = entry .args in
     let ns = nodesOf (a .bytes .now) in
     omega (arith, c .before .loop .inv .1, both-end ns (c .before .loop .at) (c .before .before .frame-items .result .end) (a .shared) (c .loop-test .left))
 

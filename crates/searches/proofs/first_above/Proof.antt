@@ -26,9 +26,11 @@ shared-slice-read-if1 c = search needs
 
 returns : tie.Need-returns Inv-loop μ-loop
 returns c =
-    let a = c .before .before .before .before .args in
-    let inv = c .before .before .before .loop .inv in
-    (inv .0, above-stop (a .wanted .now) (a .here) (c .before .before .before .loop .k) (c .before .before .loop-test .taken) (c .if1 .taken) ∙ inv .1)
+    let at-loop = c .before .before .before in
+    let entry = at-loop .before in
+    let a = entry .args in
+    let inv = at-loop .loop .inv in
+    (inv .0, above-stop (a .wanted .now) (a .here) (at-loop .loop .k) (c .before .before .loop-test .taken) (c .if1 .taken) ∙ inv .1)
 
 add-k : tie.Need-add-k Inv-loop μ-loop
 add-k c = search needs
@@ -38,10 +40,12 @@ loop-less c = search needs
 
 loop-again : tie.Need-loop-again Inv-loop μ-loop
 loop-again c =
-    let a = c .before .before .before .before .args in
-    let inv = c .before .before .before .loop .inv in
+    let at-loop = c .before .before .before in
+    let entry = at-loop .before in
+    let a = entry .args in
+    let inv = at-loop .loop .inv in
     let inside = c .before .before .loop-test .taken in
-    (omega (arith, inside), above-on (a .wanted .now) (a .here) (c .before .before .before .loop .k) inside (omega (arith, c .if1 .left)) ∙ inv .1)
+    (omega (arith, inside), above-on (a .wanted .now) (a .here) (at-loop .loop .k) inside (omega (arith, c .if1 .left)) ∙ inv .1)
 
 returns-2 : tie.Need-returns-2 Inv-loop μ-loop
 returns-2 c =

@@ -20,15 +20,21 @@ enum-known-s c = search needs
 
 both-items-requires : tie.Need-both-items-requires
 both-items-requires c κs =
-    (c .before .before .before .before .before .before .pre, node-laws.within _ (c .before .s .given .1) (c .before .before .before .shared-item .ensures .1))
+    let at-shared-item = c .before .before .before in
+    let entry = at-shared-item .before .before .before in
+    (entry .pre, node-laws.within _ (c .before .s .given .1) (at-shared-item .shared-item .ensures .1))
 
 groups-over-requires : tie.Need-groups-over-requires
 groups-over-requires c κs =
-    (c .before .before .before .before .before .before .before .pre, node-laws.within _ (c .before .before .s .given .1) (c .before .before .before .before .shared-item .ensures .1))
+    let at-shared-item = c .before .before .before .before in
+    let entry = at-shared-item .before .before .before in
+    (entry .pre, node-laws.within _ (c .before .before .s .given .1) (at-shared-item .shared-item .ensures .1))
 
 add-result : tie.Need-add-result
 add-result c =
-    omega (arith, c .before .both-items .ensures, both-fits (c .before .before .before .before .before .before .before .before .args .bytes .now) (c .before .before .before .before .before .before .before .before .pre .few) (c .before .before .before .s .given .0 .0), c .groups-over .ensures .1)
+    let at-s = c .before .before .before in
+    let entry = at-s .before .before .before .before .before in
+    omega (arith, c .before .both-items .ensures, both-fits (entry .args .bytes .now) (entry .pre .few) (at-s .s .given .0 .0), c .groups-over .ensures .1)
 
 returns : tie.Need-returns
 returns c =
@@ -36,9 +42,12 @@ returns c =
 
 returns-2 : tie.Need-returns-2
 returns-2 c =
-    let ns = nodesOf (c .before .before .before .before .before .before .before .before .args .bytes .now) in (
-      rw (node-laws.had (c .before .before .before .s .given .1) (c .before .before .before .before .before .shared-item .ensures .0)) (omega (arith, frames-are ns (c .before .before .before .s .given .0 .0) (frameItems ns), c .before .both-items .ensures, c .groups-over .ensures .0)),
-      omega (arith, c .before .both-items .ensures, both-fits (c .before .before .before .before .before .before .before .before .args .bytes .now) (c .before .before .before .before .before .before .before .before .pre .few) (c .before .before .before .s .given .0 .0), c .groups-over .ensures .1),
+    let at-s = c .before .before .before in
+    let at-shared-item = at-s .before .before in
+    let entry = at-shared-item .before .before .before in
+    let ns = nodesOf (entry .args .bytes .now) in (
+      rw (node-laws.had (at-s .s .given .1) (at-shared-item .shared-item .ensures .0)) (omega (arith, frames-are ns (at-s .s .given .0 .0) (frameItems ns), c .before .both-items .ensures, c .groups-over .ensures .0)),
+      omega (arith, c .before .both-items .ensures, both-fits (entry .args .bytes .now) (entry .pre .few) (at-s .s .given .0 .0), c .groups-over .ensures .1),
     )
 
 pub frames-sum-spec : {M : Type 1} → statement M

@@ -16,74 +16,97 @@ enum-told c = search needs
 
 add-result : tie.Need-add-result
 add-result c =
-    let a = c .before .before .before .before .before .before .before .args in
+    let at-look-item = c .before .before .before in
+    let entry = at-look-item .before .before .before .before in
+    let a = entry .args in
     let ns = nodesOf (a .bytes .now) in
-    let fits = group-fits (a .bytes .now) (c .before .before .before .before .before .before .before .pre .0 .few) (a .group) (a .always) (a .reads .now) (a .shared) (a .item) (c .before .before .before .before .before .before .before .pre .1 .1 .1) in
-    let sum = group-lacks ns (a .group) (a .reads .now) (a .shared) (a .item) (a .always) (node-laws.lacked (c .before .enum-told .given .1) (c .before .before .before .look-item .ensures .finds)) in
-    omega (arith, sum, fits, c .before .before .before .look-item .ensures .counts, c .before .before .before .before .before .before .before .pre .1 .1 .0 .looked, c .before .before .before .before .before .before .before .pre .1 .1 .0 .read)
+    let fits = group-fits (a .bytes .now) (entry .pre .0 .few) (a .group) (a .always) (a .reads .now) (a .shared) (a .item) (entry .pre .1 .1 .1) in
+    let sum = group-lacks ns (a .group) (a .reads .now) (a .shared) (a .item) (a .always) (node-laws.lacked (c .before .enum-told .given .1) (at-look-item .look-item .ensures .finds)) in
+    omega (arith, sum, fits, at-look-item .look-item .ensures .counts, entry .pre .1 .1 .0 .looked, entry .pre .1 .1 .0 .read)
 
 add-result-2 : tie.Need-add-result-2
 add-result-2 c =
-    let a = c .before .before .before .before .before .before .before .before .args in
+    let at-look-item = c .before .before .before .before in
+    let entry = at-look-item .before .before .before .before in
+    let a = entry .args in
     let ns = nodesOf (a .bytes .now) in
-    let fits = group-fits (a .bytes .now) (c .before .before .before .before .before .before .before .before .pre .0 .few) (a .group) (a .always) (a .reads .now) (a .shared) (a .item) (c .before .before .before .before .before .before .before .before .pre .1 .1 .1) in
-    let sum = group-lacks ns (a .group) (a .reads .now) (a .shared) (a .item) (a .always) (node-laws.lacked (c .before .before .enum-told .given .1) (c .before .before .before .before .look-item .ensures .finds)) in
-    omega (arith, sum, fits, c .before .before .before .before .look-item .ensures .counts, c .before .before .before .before .before .before .before .before .pre .1 .1 .0 .looked, c .before .before .before .before .before .before .before .before .pre .1 .1 .0 .read)
+    let fits = group-fits (a .bytes .now) (entry .pre .0 .few) (a .group) (a .always) (a .reads .now) (a .shared) (a .item) (entry .pre .1 .1 .1) in
+    let sum = group-lacks ns (a .group) (a .reads .now) (a .shared) (a .item) (a .always) (node-laws.lacked (c .before .before .enum-told .given .1) (at-look-item .look-item .ensures .finds)) in
+    omega (arith, sum, fits, at-look-item .look-item .ensures .counts, entry .pre .1 .1 .0 .looked, entry .pre .1 .1 .0 .read)
 
 enum-known-found : tie.Need-enum-known-found
 enum-known-found c = search needs
 
 look-group-requires : tie.Need-look-group-requires
 look-group-requires c κs =
-    (c .before .before .before .before .before .before .before .pre .0, (node-laws.within _ (c .before .found .given .1) (c .before .before .before .look-item .ensures .within), omega (arith, c .before .before .before .before .before .before .before .pre .1 .1 .1)))
+    let at-look-item = c .before .before .before in
+    let entry = at-look-item .before .before .before .before in
+    (entry .pre .0, (node-laws.within _ (c .before .found .given .1) (at-look-item .look-item .ensures .within), omega (arith, entry .pre .1 .1 .1)))
 
 add-result-3 : tie.Need-add-result-3
 add-result-3 c =
-    let a = c .before .before .before .before .before .before .before .before .before .before .args in
+    let at-found = c .before .before .before .before in
+    let at-look-item = at-found .before .before in
+    let entry = at-look-item .before .before .before .before in
+    let a = entry .args in
     let ns = nodesOf (a .bytes .now) in
-    let fits = group-fits (a .bytes .now) (c .before .before .before .before .before .before .before .before .before .before .pre .0 .few) (a .group) (a .always) (a .reads .now) (a .shared) (a .item) (c .before .before .before .before .before .before .before .before .before .before .pre .1 .1 .1) in
-    let sum = group-both ns (a .group) (a .reads .now) (a .shared) (a .item) (a .always) (c .before .if1 .taken) (c .before .before .before .before .found .given .0 .0) (node-laws.had (c .before .before .before .before .found .given .1) (c .before .before .before .before .before .before .look-item .ensures .finds)) in
-    omega (arith, sum, fits, c .before .before .before .before .before .before .look-item .ensures .counts, c .before .before .before .before .before .before .before .before .before .before .pre .1 .1 .0 .looked, c .before .before .look-group .ensures)
+    let fits = group-fits (a .bytes .now) (entry .pre .0 .few) (a .group) (a .always) (a .reads .now) (a .shared) (a .item) (entry .pre .1 .1 .1) in
+    let sum = group-both ns (a .group) (a .reads .now) (a .shared) (a .item) (a .always) (c .before .if1 .taken) (at-found .found .given .0 .0) (node-laws.had (at-found .found .given .1) (at-look-item .look-item .ensures .finds)) in
+    omega (arith, sum, fits, at-look-item .look-item .ensures .counts, entry .pre .1 .1 .0 .looked, c .before .before .look-group .ensures)
 
 add-result-4 : tie.Need-add-result-4
 add-result-4 c =
-    let a = c .before .before .before .before .before .before .before .before .before .before .args in
+    let at-found = c .before .before .before .before in
+    let at-look-item = at-found .before .before in
+    let entry = at-look-item .before .before .before .before in
+    let a = entry .args in
     let ns = nodesOf (a .bytes .now) in
-    let fits = group-fits (a .bytes .now) (c .before .before .before .before .before .before .before .before .before .before .pre .0 .few) (a .group) (a .always) (a .reads .now) (a .shared) (a .item) (c .before .before .before .before .before .before .before .before .before .before .pre .1 .1 .1) in
-    let sum = group-both ns (a .group) (a .reads .now) (a .shared) (a .item) (a .always) (c .before .if1 .taken) (c .before .before .before .before .found .given .0 .0) (node-laws.had (c .before .before .before .before .found .given .1) (c .before .before .before .before .before .before .look-item .ensures .finds)) in
-    omega (arith, sum, fits, c .before .before .before .before .before .before .look-item .ensures .counts, c .before .before .before .before .before .before .before .before .before .before .pre .1 .1 .0 .looked, c .before .before .look-group .ensures)
+    let fits = group-fits (a .bytes .now) (entry .pre .0 .few) (a .group) (a .always) (a .reads .now) (a .shared) (a .item) (entry .pre .1 .1 .1) in
+    let sum = group-both ns (a .group) (a .reads .now) (a .shared) (a .item) (a .always) (c .before .if1 .taken) (at-found .found .given .0 .0) (node-laws.had (at-found .found .given .1) (at-look-item .look-item .ensures .finds)) in
+    omega (arith, sum, fits, at-look-item .look-item .ensures .counts, entry .pre .1 .1 .0 .looked, c .before .before .look-group .ensures)
 
 add-result-5 : tie.Need-add-result-5
 add-result-5 c =
-    let a = c .before .before .before .before .before .before .before .before .before .args in
+    let at-found = c .before .before .before in
+    let at-look-item = at-found .before .before in
+    let entry = at-look-item .before .before .before .before in
+    let a = entry .args in
     let ns = nodesOf (a .bytes .now) in
-    let fits = group-fits (a .bytes .now) (c .before .before .before .before .before .before .before .before .before .pre .0 .few) (a .group) (a .always) (a .reads .now) (a .shared) (a .item) (c .before .before .before .before .before .before .before .before .before .pre .1 .1 .1) in
-    let sum = group-own ns (a .group) (a .reads .now) (a .shared) (a .item) (a .always) (c .if1 .left) (c .before .before .before .found .given .0 .0) (node-laws.had (c .before .before .before .found .given .1) (c .before .before .before .before .before .look-item .ensures .finds)) in
-    omega (arith, sum, fits, c .before .before .before .before .before .look-item .ensures .counts, c .before .before .before .before .before .before .before .before .before .pre .1 .1 .0 .looked, c .before .look-group .ensures)
+    let fits = group-fits (a .bytes .now) (entry .pre .0 .few) (a .group) (a .always) (a .reads .now) (a .shared) (a .item) (entry .pre .1 .1 .1) in
+    let sum = group-own ns (a .group) (a .reads .now) (a .shared) (a .item) (a .always) (c .if1 .left) (at-found .found .given .0 .0) (node-laws.had (at-found .found .given .1) (at-look-item .look-item .ensures .finds)) in
+    omega (arith, sum, fits, at-look-item .look-item .ensures .counts, entry .pre .1 .1 .0 .looked, c .before .look-group .ensures)
 
 returns : tie.Need-returns
 returns c =
-    let a = c .before .before .before .before .before .before .before .before .args in
+    let at-look-item = c .before .before .before .before in
+    let entry = at-look-item .before .before .before .before in
+    let a = entry .args in
     let ns = nodesOf (a .bytes .now) in
-    let fits = group-fits (a .bytes .now) (c .before .before .before .before .before .before .before .before .pre .0 .few) (a .group) (a .always) (a .reads .now) (a .shared) (a .item) (c .before .before .before .before .before .before .before .before .pre .1 .1 .1) in
-    let sum = group-lacks ns (a .group) (a .reads .now) (a .shared) (a .item) (a .always) (node-laws.lacked (c .before .before .enum-told .given .1) (c .before .before .before .before .look-item .ensures .finds)) in
-    omega (arith, sum, fits, c .before .before .before .before .look-item .ensures .counts, c .before .before .before .before .before .before .before .before .pre .1 .1 .0 .looked, c .before .before .before .before .before .before .before .before .pre .1 .1 .0 .read)
+    let fits = group-fits (a .bytes .now) (entry .pre .0 .few) (a .group) (a .always) (a .reads .now) (a .shared) (a .item) (entry .pre .1 .1 .1) in
+    let sum = group-lacks ns (a .group) (a .reads .now) (a .shared) (a .item) (a .always) (node-laws.lacked (c .before .before .enum-told .given .1) (at-look-item .look-item .ensures .finds)) in
+    omega (arith, sum, fits, at-look-item .look-item .ensures .counts, entry .pre .1 .1 .0 .looked, entry .pre .1 .1 .0 .read)
 
 returns-2 : tie.Need-returns-2
 returns-2 c =
-    let a = c .before .before .before .before .before .before .before .before .before .before .args in
+    let at-found = c .before .before .before .before in
+    let at-look-item = at-found .before .before in
+    let entry = at-look-item .before .before .before .before in
+    let a = entry .args in
     let ns = nodesOf (a .bytes .now) in
-    let fits = group-fits (a .bytes .now) (c .before .before .before .before .before .before .before .before .before .before .pre .0 .few) (a .group) (a .always) (a .reads .now) (a .shared) (a .item) (c .before .before .before .before .before .before .before .before .before .before .pre .1 .1 .1) in
-    let sum = group-both ns (a .group) (a .reads .now) (a .shared) (a .item) (a .always) (c .before .if1 .taken) (c .before .before .before .before .found .given .0 .0) (node-laws.had (c .before .before .before .before .found .given .1) (c .before .before .before .before .before .before .look-item .ensures .finds)) in
-    omega (arith, sum, fits, c .before .before .before .before .before .before .look-item .ensures .counts, c .before .before .before .before .before .before .before .before .before .before .pre .1 .1 .0 .looked, c .before .before .look-group .ensures)
+    let fits = group-fits (a .bytes .now) (entry .pre .0 .few) (a .group) (a .always) (a .reads .now) (a .shared) (a .item) (entry .pre .1 .1 .1) in
+    let sum = group-both ns (a .group) (a .reads .now) (a .shared) (a .item) (a .always) (c .before .if1 .taken) (at-found .found .given .0 .0) (node-laws.had (at-found .found .given .1) (at-look-item .look-item .ensures .finds)) in
+    omega (arith, sum, fits, at-look-item .look-item .ensures .counts, entry .pre .1 .1 .0 .looked, c .before .before .look-group .ensures)
 
 returns-3 : tie.Need-returns-3
 returns-3 c =
-    let a = c .before .before .before .before .before .before .before .before .before .args in
+    let at-found = c .before .before .before in
+    let at-look-item = at-found .before .before in
+    let entry = at-look-item .before .before .before .before in
+    let a = entry .args in
     let ns = nodesOf (a .bytes .now) in
-    let fits = group-fits (a .bytes .now) (c .before .before .before .before .before .before .before .before .before .pre .0 .few) (a .group) (a .always) (a .reads .now) (a .shared) (a .item) (c .before .before .before .before .before .before .before .before .before .pre .1 .1 .1) in
-    let sum = group-own ns (a .group) (a .reads .now) (a .shared) (a .item) (a .always) (c .if1 .left) (c .before .before .before .found .given .0 .0) (node-laws.had (c .before .before .before .found .given .1) (c .before .before .before .before .before .look-item .ensures .finds)) in
-    omega (arith, sum, fits, c .before .before .before .before .before .look-item .ensures .counts, c .before .before .before .before .before .before .before .before .before .pre .1 .1 .0 .looked, c .before .look-group .ensures)
+    let fits = group-fits (a .bytes .now) (entry .pre .0 .few) (a .group) (a .always) (a .reads .now) (a .shared) (a .item) (entry .pre .1 .1 .1) in
+    let sum = group-own ns (a .group) (a .reads .now) (a .shared) (a .item) (a .always) (c .if1 .left) (at-found .found .given .0 .0) (node-laws.had (at-found .found .given .1) (at-look-item .look-item .ensures .finds)) in
+    omega (arith, sum, fits, at-look-item .look-item .ensures .counts, entry .pre .1 .1 .0 .looked, c .before .look-group .ensures)
 
 pub group-at-spec : {M : Type 1} → statement M
 group-at-spec =

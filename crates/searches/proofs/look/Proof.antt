@@ -29,37 +29,46 @@ loop-holds c =
 
 tag-requires : tie.Need-tag-requires Inv-loop μ-loop
 tag-requires c κs =
-    (c .before .before .before .before .pre .0, omega (arith, c .loop-test .taken, c .before .before .before .before .pre .1 .0))
+    let entry = c .before .before .before .before in
+    (entry .pre .0, omega (arith, c .loop-test .taken, entry .pre .1 .0))
 
 add-count : tie.Need-add-count Inv-loop μ-loop
 add-count c =
-    let a = c .before .before .before .before .before .args in
+    let entry = c .before .before .before .before .before in
+    let a = entry .args in
     let ns = nodesOf (a .bytes .now) in
-    omega (arith, c .before .before .loop .inv .1 .0, looked-few ns (a .wanted) (members ns (a .from) (a .to)), members-few ns (a .from) (a .to), c .before .before .before .before .before .pre .1 .0, c .before .before .before .before .before .pre .0 .few)
+    omega (arith, c .before .before .loop .inv .1 .0, looked-few ns (a .wanted) (members ns (a .from) (a .to)), members-few ns (a .from) (a .to), entry .pre .1 .0, entry .pre .0 .few)
 
 returns : tie.Need-returns Inv-loop μ-loop
 returns c =
-    let inside = c .before .before .before .loop-test .taken in
-    let inv = c .before .before .before .before .loop .inv in
+    let at-loop-test = c .before .before .before in
+    let at-loop = at-loop-test .before in
+    let entry = at-loop .before .before .before in
+    let inside = at-loop-test .loop-test .taken in
+    let inv = at-loop .loop .inv in
     record {
       finds = sym (find-here _ _ _ _ inside (sym (c .before .before .tag .ensures) ∙ c .if2 .taken)) ∙ inv .0;
-      counts = omega (arith, inv .1 .0, looked-here (nodesOf (c .before .before .before .before .before .before .before .args .bytes .now)) (c .before .before .before .before .before .before .before .args .wanted) (c .before .before .before .before .loop .i) (c .before .before .before .before .before .before .before .args .to) (inv .1 .1 .0) (inv .1 .1 .1) inside (omega (arith, c .before .before .tag .ensures, c .before .if1 .taken)));
+      counts = omega (arith, inv .1 .0, looked-here (nodesOf (entry .args .bytes .now)) (entry .args .wanted) (at-loop .loop .i) (entry .args .to) (inv .1 .1 .0) (inv .1 .1 .1) inside (omega (arith, c .before .before .tag .ensures, c .before .if1 .taken)));
       within = inside;
     }
 
 returns-2 : tie.Need-returns-2 Inv-loop μ-loop
 returns-2 c =
-    let inside = c .before .before .before .loop-test .taken in
-    let inv = c .before .before .before .before .loop .inv in
+    let at-loop-test = c .before .before .before in
+    let at-loop = at-loop-test .before in
+    let entry = at-loop .before .before .before in
+    let inside = at-loop-test .loop-test .taken in
+    let inv = at-loop .loop .inv in
     record {
       finds = sym (find-past _ _ _ _ (inv .1 .1 .0) inside (inv .1 .1 .1) (omega (arith, c .before .before .tag .ensures, c .before .if1 .taken, c .if2 .left))) ∙ inv .0;
-      counts = omega (arith, inv .1 .0, looked-here (nodesOf (c .before .before .before .before .before .before .before .args .bytes .now)) (c .before .before .before .before .before .before .before .args .wanted) (c .before .before .before .before .loop .i) (c .before .before .before .before .before .before .before .args .to) (inv .1 .1 .0) (inv .1 .1 .1) inside (omega (arith, c .before .before .tag .ensures, c .before .if1 .taken)));
+      counts = omega (arith, inv .1 .0, looked-here (nodesOf (entry .args .bytes .now)) (entry .args .wanted) (at-loop .loop .i) (entry .args .to) (inv .1 .1 .0) (inv .1 .1 .1) inside (omega (arith, c .before .before .tag .ensures, c .before .if1 .taken)));
       within = tt;
     }
 
 next-requires : tie.Need-next-requires Inv-loop μ-loop
 next-requires c κs =
-    (c .before .before .before .before .before .before .pre .0, omega (arith, c .before .before .loop-test .taken, c .before .before .before .before .before .before .pre .1 .0))
+    let entry = c .before .before .before .before .before .before in
+    (entry .pre .0, omega (arith, c .before .before .loop-test .taken, entry .pre .1 .0))
 
 loop-less : tie.Need-loop-less Inv-loop μ-loop
 loop-less c =
@@ -67,22 +76,26 @@ loop-less c =
 
 loop-again : tie.Need-loop-again Inv-loop μ-loop
 loop-again c =
-    let inside = c .before .before .before .loop-test .taken in
-    let inv = c .before .before .before .before .loop .inv in
+    let at-loop-test = c .before .before .before in
+    let at-loop = at-loop-test .before in
+    let entry = at-loop .before .before .before in
+    let inside = at-loop-test .loop-test .taken in
+    let inv = at-loop .loop .inv in
     rw (c .next .ensures .0) (
       sym (find-later _ _ _ _ inside (λ e. omega (arith, c .before .if1 .left, c .before .before .tag .ensures ∙ e))) ∙ inv .0,
       (
-        omega (arith, inv .1 .0, looked-later (nodesOf (c .before .before .before .before .before .before .before .args .bytes .now)) (c .before .before .before .before .before .before .before .args .wanted) (c .before .before .before .before .loop .i) (c .before .before .before .before .before .before .before .args .to) inside (omega (arith, c .before .before .tag .ensures, c .before .if1 .left))),
-        (nodeAt (nodesOf (c .before .before .before .before .before .before .before .args .bytes .now)) (c .before .before .before .before .loop .i) .tag, ascends-next _ _ _ (inv .1 .1 .0) inside (inv .1 .1 .1)),
+        omega (arith, inv .1 .0, looked-later (nodesOf (entry .args .bytes .now)) (entry .args .wanted) (at-loop .loop .i) (entry .args .to) inside (omega (arith, c .before .before .tag .ensures, c .before .if1 .left))),
+        (nodeAt (nodesOf (entry .args .bytes .now)) (at-loop .loop .i) .tag, ascends-next _ _ _ (inv .1 .1 .0) inside (inv .1 .1 .1)),
       ),
     )
 
 returns-3 : tie.Need-returns-3 Inv-loop μ-loop
 returns-3 c =
+    let entry = c .before .before .before .before in
     let inv = c .before .loop .inv in
     record {
       finds = sym (find-end _ _ _ _ (c .loop-test .left)) ∙ inv .0;
-      counts = omega (arith, inv .1 .0, looked-end (nodesOf (c .before .before .before .before .args .bytes .now)) (c .before .before .before .before .args .wanted) (c .before .loop .i) (c .before .before .before .before .args .to) (c .loop-test .left));
+      counts = omega (arith, inv .1 .0, looked-end (nodesOf (entry .args .bytes .now)) (entry .args .wanted) (c .before .loop .i) (entry .args .to) (c .loop-test .left));
       within = tt;
     }
 

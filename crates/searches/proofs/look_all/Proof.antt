@@ -33,13 +33,17 @@ shared-slice-read-look c =
 
 look-requires : tie.Need-look-requires Inv-loop μ-loop
 look-requires c κs =
-    (c .before .before .before .before .before .before .pre .0, (c .before .before .before .before .before .before .pre .1 .0, c .before .before .before .before .before .before .pre .1 .1 .0))
+    let entry = c .before .before .before .before .before .before in
+    (entry .pre .0, (entry .pre .1 .0, entry .pre .1 .1 .0))
 
 add-sum : tie.Need-add-sum Inv-loop μ-loop
 add-sum c =
-    let a = c .before .before .before .before .before .before .before .before .args in
+    let at-loop-test = c .before .before .before in
+    let at-loop = at-loop-test .before in
+    let entry = at-loop .before .before .before .before in
+    let a = entry .args in
     let ns = nodesOf (a .bytes .now) in
-    omega (arith, c .before .before .before .before .loop .inv .1, all-next ns (a .wanted .now) (members ns (a .from) (a .to)) (c .before .before .before .before .loop .k) (c .before .before .before .loop-test .taken), c .before .look .ensures .counts, all-fits (a .bytes .now) (c .before .before .before .before .before .before .before .before .pre .0 .few) (a .wanted .now) (a .from) (a .to) (c .before .before .before .before .before .before .before .before .pre .1 .1 .1) (c .before .before .before .before .before .before .before .before .pre .1 .0))
+    omega (arith, at-loop .loop .inv .1, all-next ns (a .wanted .now) (members ns (a .from) (a .to)) (at-loop .loop .k) (at-loop-test .loop-test .taken), c .before .look .ensures .counts, all-fits (a .bytes .now) (entry .pre .0 .few) (a .wanted .now) (a .from) (a .to) (entry .pre .1 .1 .1) (entry .pre .1 .0))
 
 add-k : tie.Need-add-k Inv-loop μ-loop
 add-k c =
@@ -51,13 +55,17 @@ loop-less c =
 
 loop-again : tie.Need-loop-again Inv-loop μ-loop
 loop-again c =
-    let a = c .before .before .before .before .before .before .before .before .args in
+    let at-loop-test = c .before .before .before in
+    let at-loop = at-loop-test .before in
+    let entry = at-loop .before .before .before .before in
+    let a = entry .args in
     let ns = nodesOf (a .bytes .now) in
-    (omega (arith, c .before .before .before .loop-test .taken), omega (arith, c .before .before .before .before .loop .inv .1, all-next ns (a .wanted .now) (members ns (a .from) (a .to)) (c .before .before .before .before .loop .k) (c .before .before .before .loop-test .taken), c .before .look .ensures .counts))
+    (omega (arith, at-loop-test .loop-test .taken), omega (arith, at-loop .loop .inv .1, all-next ns (a .wanted .now) (members ns (a .from) (a .to)) (at-loop .loop .k) (at-loop-test .loop-test .taken), c .before .look .ensures .counts))
 
 returns : tie.Need-returns Inv-loop μ-loop
 returns c =
-    let a = c .before .before .before .before .before .args in
+    let entry = c .before .before .before .before .before in
+    let a = entry .args in
     let ns = nodesOf (a .bytes .now) in
     omega (arith, c .before .loop .inv .1, all-end ns (a .wanted .now) (members ns (a .from) (a .to)) (c .before .loop .k) (omega (arith, c .before .loop .inv .0, c .loop-test .left)))
 

@@ -22,11 +22,14 @@ abbrev μ-loop : tie.MeasureT-loop
 μ-loop bytes rows from to wanted sum₀ k₀ i₀ sum k i = to - i
 
 loop-holds : tie.Need-loop-holds Inv-loop μ-loop
-loop-holds c = (omega arith, (omega arith, (0, c .before .before .before .pre .1 .1 .0)))
+loop-holds c =
+    let entry = c .before .before .before in
+    (omega arith, (omega arith, (0, entry .pre .1 .1 .0)))
 
 returns : tie.Need-returns Inv-loop μ-loop
 returns c =
-    let a = c .before .before .before .before .before .before .args in
+    let entry = c .before .before .before .before .before .before in
+    let a = entry .args in
     let ns = nodesOf (a .bytes .now) in
     let l = c .before .before .loop in
     omega (arith, l .inv .1 .0, all-end ns (a .wanted .now) (members ns (l .i) (a .to)) (l .k) (c .if1 .taken))
@@ -36,7 +39,8 @@ sub-sum c = omega (arith, c .before .before .loop .inv .0)
 
 add-sum : tie.Need-add-sum Inv-loop μ-loop
 add-sum c =
-    let start = c .before .before .before .before .before .before in
+    let earlier = c .before .before .before .before .before .before in
+    let start = earlier in
     let a = start .args in
     let p = start .pre in
     let ns = nodesOf (a .bytes .now) in
@@ -46,28 +50,38 @@ add-sum c =
 
 tag-requires : tie.Need-tag-requires Inv-loop μ-loop
 tag-requires c κs =
-    let p = c .before .before .before .before .before .before .pre in
+    let entry = c .before .before .before .before .before .before in
+    let p = entry .pre in
     (p .0, omega (arith, c .before .loop-test .taken, p .1 .0))
 
 first-above-requires : tie.Need-first-above-requires Inv-loop μ-loop
-first-above-requires c κs = c .before .before .before .loop .inv .0
+first-above-requires c κs =
+    let at-loop = c .before .before .before in
+    at-loop .loop .inv .0
 
 next-requires : tie.Need-next-requires Inv-loop μ-loop
 next-requires c κs =
-    let p = c .before .before .before .before .before .before .before .before .pre in
-    (p .0, omega (arith, c .before .before .before .loop-test .taken, p .1 .0))
+    let at-loop-test = c .before .before .before in
+    let entry = at-loop-test .before .before .before .before .before in
+    let p = entry .pre in
+    (p .0, omega (arith, at-loop-test .loop-test .taken, p .1 .0))
 
 loop-less : tie.Need-loop-less Inv-loop μ-loop
-loop-less c = omega (arith, c .before .before .before .before .loop-test .taken, c .next .ensures .0)
+loop-less c =
+    let at-loop-test = c .before .before .before .before in
+    omega (arith, at-loop-test .loop-test .taken, c .next .ensures .0)
 
 loop-again : tie.Need-loop-again Inv-loop μ-loop
 loop-again c =
-    let start = c .before .before .before .before .before .before .before .before .before in
+    let at-loop-test = c .before .before .before .before in
+    let at-loop = at-loop-test .before in
+    let earlier = at-loop .before .before .before .before in
+    let start = earlier in
     let a = start .args in
     let p = start .pre in
     let ns = nodesOf (a .bytes .now) in
-    let l = c .before .before .before .before .before .loop in
-    let inside = c .before .before .before .before .loop-test .taken in
+    let l = at-loop .loop in
+    let inside = at-loop-test .loop-test .taken in
     let on = c .before .first-above in
     let ahead = members ns (nextNode ns (l .i)) (a .to) in
     let step = all-step ns (l .i) (a .to) (l .inv .1 .1 .0) (l .inv .1 .1 .1) inside (drop (l .k) (a .wanted .now)) 0 (rises-drop (l .k) (a .wanted .now) 0 (p .1 .1 .1 .1)) in
@@ -80,7 +94,8 @@ loop-again c =
 
 returns-2 : tie.Need-returns-2 Inv-loop μ-loop
 returns-2 c =
-    let a = c .before .before .before .before .before .args in
+    let entry = c .before .before .before .before .before in
+    let a = entry .args in
     let ns = nodesOf (a .bytes .now) in
     let l = c .before .loop in
     omega (arith, l .inv .1 .0, all-none ns (l .i) (a .to) (drop (l .k) (a .wanted .now)) (c .loop-test .left))

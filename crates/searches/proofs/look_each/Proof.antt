@@ -24,23 +24,28 @@ loop-holds c =
 
 next-requires : tie.Need-next-requires Inv-loop μ-loop
 next-requires c κs =
-    (c .before .before .before .before .before .pre .0, omega (arith, c .loop-test .taken, c .before .before .before .before .before .pre .1 .0))
+    let entry = c .before .before .before .before .before in
+    (entry .pre .0, omega (arith, c .loop-test .taken, entry .pre .1 .0))
 
 add-look-all : tie.Need-add-look-all Inv-loop μ-loop
 add-look-all c =
-    omega (arith, c .before .loop-test .taken, c .before .before .before .before .before .before .pre .1 .0, c .before .before .before .before .before .before .pre .0 .few)
+    let entry = c .before .before .before .before .before .before in
+    omega (arith, c .before .loop-test .taken, entry .pre .1 .0, entry .pre .0 .few)
 
 look-all-requires : tie.Need-look-all-requires Inv-loop μ-loop
 look-all-requires c κs =
+    let entry = c .before .before .before .before .before .before in
     let n = c .next .ensures in
-    (c .before .before .before .before .before .before .pre .0, (n .1, (rw (n .0) (inside-ascends _ _ (c .before .before .before .before .before .before .pre .0) (c .before .before .loop .j) (omega (arith, c .before .loop-test .taken, c .before .before .before .before .before .before .pre .1 .0))), c .before .before .before .before .before .before .pre .1 .1)))
+    (entry .pre .0, (n .1, (rw (n .0) (inside-ascends _ _ (entry .pre .0) (c .before .before .loop .j) (omega (arith, c .before .loop-test .taken, entry .pre .1 .0))), entry .pre .1 .1)))
 
 add-sum : tie.Need-add-sum Inv-loop μ-loop
 add-sum c =
-    let a = c .before .before .before .before .before .before .before .args in
+    let at-loop = c .before .before .before in
+    let entry = at-loop .before .before .before .before in
+    let a = entry .args in
     let ns = nodesOf (a .bytes .now) in
-    let e = ap (λ (k : ℕ). allLooked ns (a .wanted .now) (members ns (c .before .before .before .loop .j + 1) k)) (c .before .next .ensures .0) in
-    omega (arith, c .before .before .before .loop .inv, each-next ns (c .before .before .before .loop .j) (a .to) (a .wanted .now) (c .before .before .loop-test .taken), c .look-all .ensures, e, each-fits (a .bytes .now) (c .before .before .before .before .before .before .before .pre .0 .few) (a .wanted .now) (a .from) (a .to) (c .before .before .before .before .before .before .before .pre .1 .1) (c .before .before .before .before .before .before .before .pre .1 .0))
+    let e = ap (λ (k : ℕ). allLooked ns (a .wanted .now) (members ns (at-loop .loop .j + 1) k)) (c .before .next .ensures .0) in
+    omega (arith, at-loop .loop .inv, each-next ns (at-loop .loop .j) (a .to) (a .wanted .now) (c .before .before .loop-test .taken), c .look-all .ensures, e, each-fits (a .bytes .now) (entry .pre .0 .few) (a .wanted .now) (a .from) (a .to) (entry .pre .1 .1) (entry .pre .1 .0))
 
 loop-less : tie.Need-loop-less Inv-loop μ-loop
 loop-less c =
@@ -48,15 +53,18 @@ loop-less c =
 
 loop-again : tie.Need-loop-again Inv-loop μ-loop
 loop-again c =
-    let a = c .before .before .before .before .before .before .before .args in
+    let at-loop = c .before .before .before in
+    let entry = at-loop .before .before .before .before in
+    let a = entry .args in
     let ns = nodesOf (a .bytes .now) in
-    let e = ap (λ (k : ℕ). allLooked ns (a .wanted .now) (members ns (c .before .before .before .loop .j + 1) k)) (c .before .next .ensures .0) in
+    let e = ap (λ (k : ℕ). allLooked ns (a .wanted .now) (members ns (at-loop .loop .j + 1) k)) (c .before .next .ensures .0) in
     let f = ap (λ (k : ℕ). readInEach ns (a .wanted .now) (members ns k (a .to))) (c .before .next .ensures .0) in
-    omega (arith, c .before .before .before .loop .inv, each-next ns (c .before .before .before .loop .j) (a .to) (a .wanted .now) (c .before .before .loop-test .taken), c .look-all .ensures, e, f)
+    omega (arith, at-loop .loop .inv, each-next ns (at-loop .loop .j) (a .to) (a .wanted .now) (c .before .before .loop-test .taken), c .look-all .ensures, e, f)
 
 returns : tie.Need-returns Inv-loop μ-loop
 returns c =
-    let a = c .before .before .before .before .before .args in
+    let entry = c .before .before .before .before .before in
+    let a = entry .args in
     omega (arith, c .before .loop .inv, each-end (nodesOf (a .bytes .now)) (c .before .loop .j) (a .to) (a .wanted .now) (c .loop-test .left))
 
 pub look-each-spec : {M : Type 1} → statement M

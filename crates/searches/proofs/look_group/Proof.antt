@@ -13,7 +13,8 @@ enum-known-found c = search needs
 
 next-requires : tie.Need-next-requires
 next-requires c κs =
-    (c .before .before .before .before .before .before .pre .0, node-laws.within _ (c .before .found .given .1) (c .before .before .before .before .before .before .pre .1 .0))
+    let entry = c .before .before .before .before .before .before in
+    (entry .pre .0, node-laws.within _ (c .before .found .given .1) (entry .pre .1 .0))
 
 add-look-each : tie.Need-add-look-each
 add-look-each c = search needs
@@ -28,7 +29,8 @@ returns c =
 
 returns-2 : tie.Need-returns-2
 returns-2 c =
-    rw (c .before .before .before .found .given .1, ← c .before .next .ensures .0) (c .look-each .ensures)
+    let at-found = c .before .before .before in
+    rw (at-found .found .given .1, ← c .before .next .ensures .0) (c .look-each .ensures)
 
 pub look-group-spec : {M : Type 1} → statement M
 look-group-spec =

@@ -15,17 +15,19 @@ add-look c = search needs
 
 look-requires : tie.Need-look-requires
 look-requires c κs =
+    let entry = c .before .before .before in
     let n = c .next .ensures in
-    (c .before .before .before .pre .0, (n .1, rw (n .0) (inside-ascends _ _ (c .before .before .before .pre .0) (c .before .before .before .args .item) (c .before .before .before .pre .1))))
+    (entry .pre .0, (n .1, rw (n .0) (inside-ascends _ _ (entry .pre .0) (entry .args .item) (entry .pre .1))))
 
 returns : tie.Need-returns
 returns c =
+    let entry = c .before .before .before .before in
     let n = c .before .next in
     let l = c .look in
     record {
       finds = rw (← n .ensures .0) (l .ensures .finds);
       counts = rw (← n .ensures .0) (l .ensures .counts);
-      within = below-more (n .result) (length (nodesOf (c .before .before .before .before .args .bytes .now))) (l .result .found) (n .ensures .1) (l .ensures .within);
+      within = below-more (n .result) (length (nodesOf (entry .args .bytes .now))) (l .result .found) (n .ensures .1) (l .ensures .within);
     }
 
 pub look-item-spec : {M : Type 1} → statement M

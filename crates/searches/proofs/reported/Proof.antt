@@ -13,16 +13,19 @@ enum-known-answer c = search needs
 
 mul-end : tie.Need-mul-end
 mul-end c =
-    let t = left-accepted (c .before .before .before .before .before .args .bytes .now) (c .before .before .before .before .before .args .rows .now) (c .before .answer .given .1) (c .before .before .before .before .before .pre) in
-    omega (arith, t .0, t .1 .size, t .1 .few, length-take-le (7 * c .before .answer .given .0 .0) (c .before .before .before .before .before .args .rows .now) (t .0))
+    let entry = c .before .before .before .before .before in
+    let t = left-accepted (entry .args .bytes .now) (entry .args .rows .now) (c .before .answer .given .1) (entry .pre) in
+    omega (arith, t .0, t .1 .size, t .1 .few, length-take-le (7 * c .before .answer .given .0 .0) (entry .args .rows .now) (t .0))
 
 slice-aggregate-sum : tie.Need-slice-aggregate-sum
 slice-aggregate-sum c =
-    sym (length-take-le _ _ (left-accepted (c .before .before .before .before .before .before .args .bytes .now) (c .before .before .before .before .before .before .args .rows .now) (c .before .before .answer .given .1) (c .before .before .before .before .before .before .pre) .0))
+    let entry = c .before .before .before .before .before .before in
+    sym (length-take-le _ _ (left-accepted (entry .args .bytes .now) (entry .args .rows .now) (c .before .before .answer .given .1) (entry .pre) .0))
 
 sum-requires : tie.Need-sum-requires
 sum-requires c κs =
-    left-accepted (c .before .before .before .before .before .before .args .bytes .now) (c .before .before .before .before .before .before .args .rows .now) (c .before .before .answer .given .1) (c .before .before .before .before .before .before .pre) .1
+    let entry = c .before .before .before .before .before .before in
+    left-accepted (entry .args .bytes .now) (entry .args .rows .now) (c .before .before .answer .given .1) (entry .pre) .1
 
 enum-told : tie.Need-enum-told
 enum-told c = search needs
@@ -38,7 +41,8 @@ enum-told-4 c = search needs
 
 returns : tie.Need-returns
 returns c =
-    rw (c .before .before .before .answer .given .1) (c .sum .ensures)
+    let at-answer = c .before .before .before in
+    rw (at-answer .answer .given .1) (c .sum .ensures)
 
 returns-2 : tie.Need-returns-2
 returns-2 c = search needs

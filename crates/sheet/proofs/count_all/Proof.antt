@@ -14,7 +14,8 @@ slice-aggregate-apply-all c = search needs
 
 apply-all-requires : tie.Need-apply-all-requires
 apply-all-requires c κs =
-    (c .before .before .before .before .before .before .before .before .pre .0, (record { few = omega (arith, scenes.few-frames (c .before .before .before .before .before .before .before .before .args .bytes .now) (c .before .before .before .before .before .before .before .before .args .n) (c .before .before .before .before .before .before .before .before .pre .1 .0)); marks = omega (arith, c .before .before .before .before .before .before .before .before .pre .1 .1 .1 .1 .1 .1 .1 .above); frames = omega (arith, scenes.few-frames (c .before .before .before .before .before .before .before .before .args .bytes .now) (c .before .before .before .before .before .before .before .before .args .n) (c .before .before .before .before .before .before .before .before .pre .1 .0), length-replicate {A = ℕ} 65536 0) }, counted.answering (c .before .before .before .before .before .before .before .before .args .bytes .now) (c .before .before .before .before .before .before .before .before .args .n) (c .before .before .before .before .before .before .before .before .pre .1 .0)))
+    let entry = c .before .before .before .before .before .before .before .before in
+    (entry .pre .0, (record { few = omega (arith, scenes.few-frames (entry .args .bytes .now) (entry .args .n) (entry .pre .1 .0)); marks = omega (arith, entry .pre .1 .1 .1 .1 .1 .1 .1 .above); frames = omega (arith, scenes.few-frames (entry .args .bytes .now) (entry .args .n) (entry .pre .1 .0), length-replicate {A = ℕ} 65536 0) }, counted.answering (entry .args .bytes .now) (entry .args .n) (entry .pre .1 .0)))
 
 slice-aggregate-tell-all : tie.Need-slice-aggregate-tell-all
 slice-aggregate-tell-all c = search needs
@@ -24,7 +25,8 @@ slice-aggregate-tell-all-2 c = search needs
 
 tell-all-requires : tie.Need-tell-all-requires
 tell-all-requires c κs =
-    (c .before .before .before .before .before .before .before .before .before .before .before .before .before .before .pre .0, (omega (arith, length-replicate {A = ℕ} 16 0), omega (arith, length-replicate {A = ℕ} 16 0)))
+    let entry = c .before .before .before .before .before .before .before .before .before .before .before .before .before .before in
+    (entry .pre .0, (omega (arith, length-replicate {A = ℕ} 16 0), omega (arith, length-replicate {A = ℕ} 16 0)))
 
 slice-aggregate-count-frames : tie.Need-slice-aggregate-count-frames
 slice-aggregate-count-frames c = search needs
@@ -37,14 +39,23 @@ slice-aggregate-count-frames-3 c = search needs
 
 count-frames-requires : tie.Need-count-frames-requires
 count-frames-requires c κs =
-    (c .before .before .before .before .before .before .before .before .before .before .before .before .before .before .before .before .before .before .before .before .before .before .before .before .pre .0, (c .before .before .before .before .before .before .before .before .before .before .before .before .before .before .before .before .before .before .before .before .before .before .before .before .pre .1 .0, (c .before .before .before .before .before .before .before .before .before .before .before .before .before .before .before .before .before .before .before .before .before .before .before .before .pre .1 .1 .0, (c .before .before .before .before .before .before .before .before .before .before .before .before .before .before .before .before .before .before .before .before .before .before .before .before .pre .1 .1 .1 .0, (c .before .before .before .before .before .before .before .before .before .before .before .before .before .before .before .before .before .before .before .before .before .before .before .before .pre .1 .1 .1 .1 .0, (c .before .before .before .before .before .before .before .before .before .before .before .before .before .before .before .before .before .before .before .before .before .before .before .before .pre .1 .1 .1 .1 .1 .0, (c .before .before .before .before .before .before .before .before .before .before .before .before .before .before .before .before .before .before .before .before .before .before .before .before .pre .1 .1 .1 .1 .1 .1 .0, (record { shades = c .before .before .before .before .before .before .before .before .before .before .before .before .before .before .before .before .before .before .before .before .before .before .before .before .pre .1 .1 .1 .1 .1 .1 .1 .shades; above = omega (arith, c .before .before .before .before .before .before .before .before .before .before .before .before .before .before .upper .given, c .before .before .before .before .before .before .before .before .before .before .before .before .before .before .before .before .before .before .before .before .before .before .before .before .pre .1 .1 .1 .1 .1 .1 .1 .above); below = c .before .before .before .before .before .before .before .before .before .before .before .before .before .before .before .before .before .before .before .before .before .before .before .before .pre .1 .1 .1 .1 .1 .1 .1 .below; wide = c .before .before .before .before .before .before .before .before .before .before .before .before .before .before .before .before .before .before .before .before .before .before .before .before .pre .1 .1 .1 .1 .1 .1 .1 .wide }, record { applied = c .before .before .before .before .before .before .before .before .before .before .before .before .before .before .before .apply-all .ensures; size = omega (arith, c .before .before .before .before .before .before .before .before .before .before .before .before .which2 .given, length-replicate {A = ℕ} 65536 0, scenes.few-frames (c .before .before .before .before .before .before .before .before .before .before .before .before .before .before .before .before .before .before .before .before .before .before .before .before .args .bytes .now) (c .before .before .before .before .before .before .before .before .before .before .before .before .before .before .before .before .before .before .before .before .before .before .before .before .args .n) (c .before .before .before .before .before .before .before .before .before .before .before .before .before .before .before .before .before .before .before .before .before .before .before .before .pre .1 .0)); known = c .before .before .before .before .before .before .before .before .before .tell-all .ensures; key-room = omega (arith, c .before .before .before .before .before .before .before .before .keys2 .given, length-replicate {A = ℕ} 16 0); answer-room = omega (arith, c .before .before .before .before .before .before .before .answers2 .given, length-replicate {A = ℕ} 16 0) }))))))))
+    let at-answers2 = c .before .before .before .before .before .before .before in
+    let at-keys2 = at-answers2 .before in
+    let at-tell-all = at-keys2 .before in
+    let at-which2 = at-tell-all .before .before .before in
+    let at-upper = at-which2 .before .before in
+    let at-apply-all = at-upper .before in
+    let entry = at-apply-all .before .before .before .before .before .before .before .before .before in
+    (entry .pre .0, (entry .pre .1 .0, (entry .pre .1 .1 .0, (entry .pre .1 .1 .1 .0, (entry .pre .1 .1 .1 .1 .0, (entry .pre .1 .1 .1 .1 .1 .0, (entry .pre .1 .1 .1 .1 .1 .1 .0, (record { shades = entry .pre .1 .1 .1 .1 .1 .1 .1 .shades; above = omega (arith, at-upper .upper .given, entry .pre .1 .1 .1 .1 .1 .1 .1 .above); below = entry .pre .1 .1 .1 .1 .1 .1 .1 .below; wide = entry .pre .1 .1 .1 .1 .1 .1 .1 .wide }, record { applied = at-apply-all .apply-all .ensures; size = omega (arith, at-which2 .which2 .given, length-replicate {A = ℕ} 65536 0, scenes.few-frames (entry .args .bytes .now) (entry .args .n) (entry .pre .1 .0)); known = at-tell-all .tell-all .ensures; key-room = omega (arith, at-keys2 .keys2 .given, length-replicate {A = ℕ} 16 0); answer-room = omega (arith, at-answers2 .answers2 .given, length-replicate {A = ℕ} 16 0) }))))))))
 
 same-length : tie.Need-same-length
 same-length c = search needs
 
 same-length-2 : tie.Need-same-length-2
 same-length-2 c =
-    c .before .before .before .before .before .upper2 .given ∙ c .before .before .before .before .before .before .before .before .before .before .before .before .before .before .before .before .before .before .before .before .before .before .before .upper .given
+    let at-upper2 = c .before .before .before .before .before in
+    let at-upper = at-upper2 .before .before .before .before .before .before .before .before .before .before .before .before .before .before .before .before .before .before in
+    at-upper2 .upper2 .given ∙ at-upper .upper .given
 
 same-length-3 : tie.Need-same-length-3
 same-length-3 c = search needs
@@ -54,7 +65,8 @@ same-length-4 c = search needs
 
 returns : tie.Need-returns
 returns c =
-    c .before .before .before .before .before .before .before .before .count-frames .ensures
+    let at-count-frames = c .before .before .before .before .before .before .before .before in
+    at-count-frames .count-frames .ensures
 
 pub count-all-spec : {M : Type 1} → statement M
 count-all-spec =

@@ -7,15 +7,21 @@ use Rattle.sheet.proofs.count_blended.Tie as tie
 
 moved-requires : tie.Need-moved-requires
 moved-requires c κs =
-    (c .before .before .before .before .before .before .pre .0 .shape .rows-some, (c .before .before .before .before .before .before .pre .0 .shape .rows-most, omega (arith, c .before .before .before .before .before .before .pre .1 .0 .down-most, div-add-mod' (c .before .before .before .before .before .before .args .down) 4)))
+    let entry = c .before .before .before .before .before .before in
+    (entry .pre .0 .shape .rows-some, (entry .pre .0 .shape .rows-most, omega (arith, entry .pre .1 .0 .down-most, div-add-mod' (entry .args .down) 4)))
 
 average-row-requires : tie.Need-average-row-requires
 average-row-requires c κs =
-    (c .before .before .before .before .before .before .before .before .pre .0 .shape, (c .before .before .before .before .before .before .before .before .pre .1 .0 .taken, (c .before .moved .ensures .1, omega (arith, c .before .before .before .before .before .before .before .before .pre .1 .1 .1 .1 .0, c .before .before .before .before .before .before .before .before .pre .0 .shape .columns-most))))
+    let entry = c .before .before .before .before .before .before .before .before in
+    (entry .pre .0 .shape, (entry .pre .1 .0 .taken, (c .before .moved .ensures .1, omega (arith, entry .pre .1 .1 .1 .1 .0, entry .pre .0 .shape .columns-most))))
 
 count-quarters-requires : tie.Need-count-quarters-requires
 count-quarters-requires c κs =
-    (c .before .before .before .before .before .before .before .before .before .before .before .before .before .before .pre .0, (c .before .before .before .before .before .before .before .before .before .before .before .before .before .before .pre .1 .0, (c .before .before .before .before .before .before .before .before .before .before .before .before .before .before .pre .1 .1 .0, (c .before .before .before .before .before .before .before .before .before .before .before .before .before .before .pre .1 .1 .1 .0, (omega (arith, c .before .before .before .before .lower .given, c .before .before .before .before .before .before .before .before .before .before .before .before .before .before .pre .1 .1 .1 .1 .0), (rw (← c .before .before .before .before .before .before .before .moved .ensures .0) (c .before .before .before .before .before .average-row .ensures), c .before .before .before .before .before .before .before .before .before .before .before .before .before .before .pre .1 .1 .1 .1 .1))))))
+    let at-lower = c .before .before .before .before in
+    let at-average-row = at-lower .before in
+    let at-moved = at-average-row .before .before in
+    let entry = at-moved .before .before .before .before .before .before .before in
+    (entry .pre .0, (entry .pre .1 .0, (entry .pre .1 .1 .0, (entry .pre .1 .1 .1 .0, (omega (arith, at-lower .lower .given, entry .pre .1 .1 .1 .1 .0), (rw (← at-moved .moved .ensures .0) (at-average-row .average-row .ensures), entry .pre .1 .1 .1 .1 .1))))))
 
 same-length : tie.Need-same-length
 same-length c =
@@ -31,7 +37,8 @@ same-length-3 c =
 
 returns : tie.Need-returns
 returns c =
-    c .before .before .before .before .before .before .count-quarters .ensures
+    let at-count-quarters = c .before .before .before .before .before .before in
+    at-count-quarters .count-quarters .ensures
 
 pub count-blended-spec : {M : Type 1} → statement M
 count-blended-spec =

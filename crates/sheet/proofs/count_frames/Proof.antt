@@ -26,44 +26,65 @@ abbrev μ-loop : tie.MeasureT-loop
 
 nothing-requires : tie.Need-nothing-requires Inv-loop μ-loop
 nothing-requires c κs =
-    based (c .before .before .before .before .before .before .before .before .before .before .args .bytes .now) (c .before .before .before .before .before .before .before .before .before .before .args .n) (c .before .before .before .before .before .before .before .before .before .before .args .a) (c .before .before .before .before .before .before .before .before .before .before .pre .1 .0) (c .before .before .before .before .before .before .before .before .before .before .pre .1 .1 .1 .1 .0) (omega (arith, c .before .before .before .before .before .before .before .before .before .before .pre .1 .1 .1 .1 .1 .0, c .before .before .before .before .before .before .before .before .before .before .pre .1 .1 .1 .1 .1 .1 .0)) (c .before .before .before .before .before .before .before .before .before .before .args .c) (c .before .before .before .before .before .before .before .before .before .before .pre .1 .1 .0) .shape .stored-most
+    let entry = c .before .before .before .before .before .before .before .before .before .before in
+    based (entry .args .bytes .now) (entry .args .n) (entry .args .a) (entry .pre .1 .0) (entry .pre .1 .1 .1 .1 .0) (omega (arith, entry .pre .1 .1 .1 .1 .1 .0, entry .pre .1 .1 .1 .1 .1 .1 .0)) (entry .args .c) (entry .pre .1 .1 .0) .shape .stored-most
 
 add-end : tie.Need-add-end Inv-loop μ-loop
 add-end c =
-    record { fits = omega (arith, c .before .before .before .before .before .before .before .before .before .before .before .pre .1 .1 .1 .1 .1 .1 .0, few-frames (c .before .before .before .before .before .before .before .before .before .before .before .args .bytes .now) (c .before .before .before .before .before .before .before .before .before .before .before .args .n) (c .before .before .before .before .before .before .before .before .before .before .before .pre .1 .0)) }
+    let entry = c .before .before .before .before .before .before .before .before .before .before .before in
+    record { fits = omega (arith, entry .pre .1 .1 .1 .1 .1 .1 .0, few-frames (entry .args .bytes .now) (entry .args .n) (entry .pre .1 .0)) }
 
 loop-holds : tie.Need-loop-holds Inv-loop μ-loop
 loop-holds c =
-    (omega arith, (omega (arith, c .before .before .before .before .before .before .before .before .before .before .before .pre .1 .1 .1 .1 .1 .0), (c .before .before .before .before .before .before .before .before .before .before .before .pre .1 .1 .1 .0, (ap (tallied (levelsOf (nodesOf (c .before .before .before .before .before .before .before .before .before .before .before .args .bytes .now)) (c .before .before .before .before .before .before .before .before .before .before .before .args .a) (c .before .before .before .before .before .before .before .before .before .before .before .args .b + 1 - c .before .before .before .before .before .before .before .before .before .before .before .args .a))) (c .nothing .ensures .counts-are) ∙ counts-are (levelsOf (nodesOf (c .before .before .before .before .before .before .before .before .before .before .before .args .bytes .now)) (c .before .before .before .before .before .before .before .before .before .before .before .args .a) (c .before .before .before .before .before .before .before .before .before .before .before .args .b + 1 - c .before .before .before .before .before .before .before .before .before .before .before .args .a)), (omega (arith, c .nothing .ensures .natives-are), (room-start _ _ (c .nothing .ensures .counts-are) (cells-few (c .before .before .before .before .before .before .before .before .before .before .before .args .bytes .now) (c .before .before .before .before .before .before .before .before .before .before .before .args .n) (c .before .before .before .before .before .before .before .before .before .before .before .pre .1 .0) (omega (arith, c .before .before .before .before .before .before .before .before .before .before .before .pre .1 .1 .1 .1 .0, c .before .before .before .before .before .before .before .before .before .before .before .pre .1 .1 .1 .1 .1 .0, c .before .before .before .before .before .before .before .before .before .before .before .pre .1 .1 .1 .1 .1 .1 .0)) (c .before .before .before .before .before .before .before .before .before .before .before .args .c) (c .before .before .before .before .before .before .before .before .before .before .before .pre .1 .1 .0) (c .before .before .before .before .before .before .before .before .before .before .before .args .b + 1 - c .before .before .before .before .before .before .before .before .before .before .before .args .a) (omega (arith, c .before .before .before .before .before .before .before .before .before .before .before .pre .1 .1 .1 .1 .1 .1 .0, c .before .before .before .before .before .before .before .before .before .before .before .pre .1 .1 .1 .1 .0))), (c .nothing .ensures .held-is _, (refl, (refl, (refl, refl))))))))))
+    let entry = c .before .before .before .before .before .before .before .before .before .before .before in
+    (omega arith, (omega (arith, entry .pre .1 .1 .1 .1 .1 .0), (entry .pre .1 .1 .1 .0, (ap (tallied (levelsOf (nodesOf (entry .args .bytes .now)) (entry .args .a) (entry .args .b + 1 - entry .args .a))) (c .nothing .ensures .counts-are) ∙ counts-are (levelsOf (nodesOf (entry .args .bytes .now)) (entry .args .a) (entry .args .b + 1 - entry .args .a)), (omega (arith, c .nothing .ensures .natives-are), (room-start _ _ (c .nothing .ensures .counts-are) (cells-few (entry .args .bytes .now) (entry .args .n) (entry .pre .1 .0) (omega (arith, entry .pre .1 .1 .1 .1 .0, entry .pre .1 .1 .1 .1 .1 .0, entry .pre .1 .1 .1 .1 .1 .1 .0)) (entry .args .c) (entry .pre .1 .1 .0) (entry .args .b + 1 - entry .args .a) (omega (arith, entry .pre .1 .1 .1 .1 .1 .1 .0, entry .pre .1 .1 .1 .1 .0))), (c .nothing .ensures .held-is _, (refl, (refl, (refl, refl))))))))))
 
 item-here-requires : tie.Need-item-here-requires Inv-loop μ-loop
 item-here-requires c κs =
-    (c .before .before .before .before .before .before .before .before .before .before .before .before .before .pre .0, (c .before .loop .inv .1 .1 .0, omega (arith, c .before .loop .inv .0, c .before .before .before .before .before .before .before .before .before .before .before .before .before .pre .1 .1 .1 .1 .0)))
+    let entry = c .before .before .before .before .before .before .before .before .before .before .before .before .before in
+    (entry .pre .0, (c .before .loop .inv .1 .1 .0, omega (arith, c .before .loop .inv .0, entry .pre .1 .1 .1 .1 .0)))
 
 plan-at-requires : tie.Need-plan-at-requires Inv-loop μ-loop
 plan-at-requires c κs =
-    (c .before .before .before .before .before .before .before .before .before .before .before .before .before .before .pre .0, (c .before .before .before .before .before .before .before .before .before .before .before .before .before .before .pre .1 .0, (c .before .before .before .before .before .before .before .before .before .before .before .before .before .before .pre .1 .1 .0, (c .item-here .ensures, (omega (arith, c .before .before .loop .inv .0, c .before .before .before .before .before .before .before .before .before .before .before .before .before .before .pre .1 .1 .1 .1 .0), (omega (arith, c .before .loop-test .taken, c .before .before .before .before .before .before .before .before .before .before .before .before .before .before .pre .1 .1 .1 .1 .1 .1 .0), c .before .before .before .before .before .before .before .before .before .before .before .before .before .before .pre .1 .1 .1 .1 .1 .1 .1 .1))))))
+    let entry = c .before .before .before .before .before .before .before .before .before .before .before .before .before .before in
+    (entry .pre .0, (entry .pre .1 .0, (entry .pre .1 .1 .0, (c .item-here .ensures, (omega (arith, c .before .before .loop .inv .0, entry .pre .1 .1 .1 .1 .0), (omega (arith, c .before .loop-test .taken, entry .pre .1 .1 .1 .1 .1 .1 .0), entry .pre .1 .1 .1 .1 .1 .1 .1 .1))))))
 
 count-picture-requires : tie.Need-count-picture-requires Inv-loop μ-loop
 count-picture-requires c κs =
-    (c .before .before .before .before .before .before .before .before .before .before .before .before .before .before .before .before .before .before .before .pre .0, (c .before .before .before .before .before .before .before .before .before .before .before .before .before .before .before .before .before .before .before .pre .1 .0, (c .before .before .before .before .before .before .before .before .before .before .before .before .before .before .before .before .before .before .before .pre .1 .1 .0, (c .before .before .before .before .plan-at .ensures, (omega (arith, c .before .before .before .before .before .before .before .loop .inv .0, c .before .before .before .before .before .before .before .before .before .before .before .before .before .before .before .before .before .before .before .pre .1 .1 .1 .1 .0), (omega (arith, c .before .before .before .before .before .before .loop-test .taken, c .before .before .before .before .before .before .before .before .before .before .before .before .before .before .before .before .before .before .before .pre .1 .1 .1 .1 .1 .1 .0), (record { shades = c .before .before .before .before .before .before .before .loop .inv .1 .1 .1 .1 .1 .1 .1 .0 ∙ c .before .before .before .before .before .before .before .before .before .before .before .before .before .before .before .before .before .before .before .pre .1 .1 .1 .1 .1 .1 .1 .0 .shades; above = omega (arith, c .before .before .before .before .before .before .before .loop .inv .1 .1 .1 .1 .1 .1 .1 .1 .0, c .before .before .before .before .before .before .before .before .before .before .before .before .before .before .before .before .before .before .before .pre .1 .1 .1 .1 .1 .1 .1 .0 .above); below = omega (arith, c .before .before .before .before .before .before .before .loop .inv .1 .1 .1 .1 .1 .1 .1 .1 .1 .0, c .before .before .before .before .before .before .before .before .before .before .before .before .before .before .before .before .before .before .before .pre .1 .1 .1 .1 .1 .1 .1 .0 .below); wide = omega (arith, c .before .before .before .before .before .before .before .loop .inv .1 .1 .1 .1 .1 .1 .1 .1 .1 .1, c .before .before .before .before .before .before .before .before .before .before .before .before .before .before .before .before .before .before .before .pre .1 .1 .1 .1 .1 .1 .1 .0 .wide) }, (c .before .before .before .before .before .before .before .loop .inv .1 .1 .1 .1 .1 .1 .0, (omega (arith, c .before .before .before .before .before .before .before .loop .inv .1 .1 .1 .1 .0, frames.natives-few (nodesOf (c .before .before .before .before .before .before .before .before .before .before .before .before .before .before .before .before .before .before .before .args .bytes .now)) (c .before .before .before .before .before .before .before .before .before .before .before .before .before .before .before .before .before .before .before .args .a) (c .before .before .before .before .before .before .before .before .before .before .before .before .before .before .before .before .before .before .before .args .b + 1 - c .before .before .before .before .before .before .before .before .before .before .before .before .before .before .before .before .before .before .before .args .a), few-frames (c .before .before .before .before .before .before .before .before .before .before .before .before .before .before .before .before .before .before .before .args .bytes .now) (c .before .before .before .before .before .before .before .before .before .before .before .before .before .before .before .before .before .before .before .args .n) (c .before .before .before .before .before .before .before .before .before .before .before .before .before .before .before .before .before .before .before .pre .1 .0), c .before .before .before .before .before .before .before .before .before .before .before .before .before .before .before .before .before .before .before .pre .1 .1 .1 .1 .1 .1 .0, c .before .before .before .before .before .before .before .before .before .before .before .before .before .before .before .before .before .before .before .pre .1 .1 .1 .1 .0), frames.room-one (c .before .before .before .before .before .before .before .loop .frame) (c .before .before .before .before .before .before .before .before .before .before .before .before .before .before .before .before .before .before .before .args .b + 1) (imageSize (nodesOf (c .before .before .before .before .before .before .before .before .before .before .before .before .before .before .before .before .before .before .before .args .bytes .now))) (c .before .before .before .before .before .before .before .loop .sofar .counts) (c .before .before .before .before .before .before .loop-test .taken) (c .before .before .before .before .before .before .before .loop .inv .1 .1 .1 .1 .1 .0))))))))))
+    let at-plan-at = c .before .before .before .before in
+    let at-loop-test = at-plan-at .before .before in
+    let at-loop = at-loop-test .before in
+    let entry = at-loop .before .before .before .before .before .before .before .before .before .before .before .before in
+    (entry .pre .0, (entry .pre .1 .0, (entry .pre .1 .1 .0, (at-plan-at .plan-at .ensures, (omega (arith, at-loop .loop .inv .0, entry .pre .1 .1 .1 .1 .0), (omega (arith, at-loop-test .loop-test .taken, entry .pre .1 .1 .1 .1 .1 .1 .0), (record { shades = at-loop .loop .inv .1 .1 .1 .1 .1 .1 .1 .0 ∙ entry .pre .1 .1 .1 .1 .1 .1 .1 .0 .shades; above = omega (arith, at-loop .loop .inv .1 .1 .1 .1 .1 .1 .1 .1 .0, entry .pre .1 .1 .1 .1 .1 .1 .1 .0 .above); below = omega (arith, at-loop .loop .inv .1 .1 .1 .1 .1 .1 .1 .1 .1 .0, entry .pre .1 .1 .1 .1 .1 .1 .1 .0 .below); wide = omega (arith, at-loop .loop .inv .1 .1 .1 .1 .1 .1 .1 .1 .1 .1, entry .pre .1 .1 .1 .1 .1 .1 .1 .0 .wide) }, (at-loop .loop .inv .1 .1 .1 .1 .1 .1 .0, (omega (arith, at-loop .loop .inv .1 .1 .1 .1 .0, frames.natives-few (nodesOf (entry .args .bytes .now)) (entry .args .a) (entry .args .b + 1 - entry .args .a), few-frames (entry .args .bytes .now) (entry .args .n) (entry .pre .1 .0), entry .pre .1 .1 .1 .1 .1 .1 .0, entry .pre .1 .1 .1 .1 .0), frames.room-one (at-loop .loop .frame) (entry .args .b + 1) (imageSize (nodesOf (entry .args .bytes .now))) (at-loop .loop .sofar .counts) (at-loop-test .loop-test .taken) (at-loop .loop .inv .1 .1 .1 .1 .1 .0))))))))))
 
 advance-requires : tie.Need-advance-requires Inv-loop μ-loop
 advance-requires c κs =
-    (c .before .before .before .before .before .before .before .before .before .before .before .before .before .before .before .before .before .before .before .before .before .before .before .before .before .before .before .before .pre .0, c .before .before .before .before .before .before .before .before .before .before .before .before .before .before .before .before .loop .inv .1 .1 .0 .inner)
+    let at-loop = c .before .before .before .before .before .before .before .before .before .before .before .before .before .before .before .before in
+    let entry = at-loop .before .before .before .before .before .before .before .before .before .before .before .before in
+    (entry .pre .0, at-loop .loop .inv .1 .1 .0 .inner)
 
 add-frame : tie.Need-add-frame Inv-loop μ-loop
 add-frame c =
-    record { fits = omega (arith, c .before .before .before .before .before .before .before .before .before .before .before .before .before .before .before .before .loop-test .taken, c .before .before .before .before .before .before .before .before .before .before .before .before .before .before .before .before .before .before .before .before .before .before .before .before .before .before .before .before .before .pre .1 .1 .1 .1 .1 .1 .0, few-frames (c .before .before .before .before .before .before .before .before .before .before .before .before .before .before .before .before .before .before .before .before .before .before .before .before .before .before .before .before .before .args .bytes .now) (c .before .before .before .before .before .before .before .before .before .before .before .before .before .before .before .before .before .before .before .before .before .before .before .before .before .before .before .before .before .args .n) (c .before .before .before .before .before .before .before .before .before .before .before .before .before .before .before .before .before .before .before .before .before .before .before .before .before .before .before .before .before .pre .1 .0)) }
+    let at-loop-test = c .before .before .before .before .before .before .before .before .before .before .before .before .before .before .before .before in
+    let entry = at-loop-test .before .before .before .before .before .before .before .before .before .before .before .before .before in
+    record { fits = omega (arith, at-loop-test .loop-test .taken, entry .pre .1 .1 .1 .1 .1 .1 .0, few-frames (entry .args .bytes .now) (entry .args .n) (entry .pre .1 .0)) }
 
 loop-less : tie.Need-loop-less Inv-loop μ-loop
 loop-less c =
-    omega (arith, c .before .before .before .before .before .before .before .before .before .before .before .before .before .before .before .before .loop-test .taken)
+    let at-loop-test = c .before .before .before .before .before .before .before .before .before .before .before .before .before .before .before .before in
+    omega (arith, at-loop-test .loop-test .taken)
 
 loop-again : tie.Need-loop-again Inv-loop μ-loop
 loop-again c =
-    let m = frames.picture-cells (c .before .before .before .before .before .before .before .before .before .before .before .before .before .before .before .before .before .before .before .before .before .before .before .before .before .before .before .before .before .args .bytes .now) (c .before .before .before .before .before .before .before .before .before .before .before .before .before .before .before .before .before .before .before .before .before .before .before .before .before .before .before .before .before .args .n) (c .before .before .before .before .before .before .before .before .before .before .before .before .before .before .before .before .before .loop .frame) (c .before .before .before .before .before .before .before .before .before .before .before .before .before .before .before .before .before .before .before .before .before .before .before .before .before .before .before .before .before .pre .1 .0) (omega (arith, c .before .before .before .before .before .before .before .before .before .before .before .before .before .before .before .before .before .loop .inv .0, c .before .before .before .before .before .before .before .before .before .before .before .before .before .before .before .before .before .before .before .before .before .before .before .before .before .before .before .before .before .pre .1 .1 .1 .1 .0)) (omega (arith, c .before .before .before .before .before .before .before .before .before .before .before .before .before .before .before .before .loop-test .taken, c .before .before .before .before .before .before .before .before .before .before .before .before .before .before .before .before .before .before .before .before .before .before .before .before .before .before .before .before .before .pre .1 .1 .1 .1 .1 .1 .0)) in
-    (omega (arith, c .before .before .before .before .before .before .before .before .before .before .before .before .before .before .before .before .before .loop .inv .0), (omega (arith, c .before .before .before .before .before .before .before .before .before .before .before .before .before .before .before .before .loop-test .taken), (along-more (nodesOf (c .before .before .before .before .before .before .before .before .before .before .before .before .before .before .before .before .before .before .before .before .before .before .before .before .before .before .before .before .before .args .bytes .now)) 1 (c .before .before .before .before .before .before .before .before .before .before .before .before .before .before .before .before .before .loop .frame) (omega (arith, c .before .before .before .before .before .before .before .before .before .before .before .before .before .before .before .before .before .loop .inv .0, c .before .before .before .before .before .before .before .before .before .before .before .before .before .before .before .before .before .before .before .before .before .before .before .before .before .before .before .before .before .pre .1 .1 .1 .1 .0)) (c .before .before .before .before .before .before .before .before .before .before .before .before .before .before .before .before .before .loop .inv .1 .1 .0) (c .advance .ensures), (frames.frames-more (nodesOf (c .before .before .before .before .before .before .before .before .before .before .before .before .before .before .before .before .before .before .before .before .before .before .before .before .before .before .before .before .before .args .bytes .now)) (c .before .before .before .before .before .before .before .before .before .before .before .before .before .before .before .before .before .loop .frame) (c .before .before .before .before .before .before .before .before .before .before .before .before .before .before .before .before .before .before .before .before .before .before .before .before .before .before .before .before .before .args .b + 1) (c .before .before .before .before .before .before .before .before .before .before .before .before .before .before .before .before .before .loop .sofar .counts) _ (c .before .before .before .before .before .before .before .before .before .before .before .before .before .before .before .before .loop-test .taken) (c .before .before .before .before .before .before .before .before .before .count-picture .ensures .0) ∙ c .before .before .before .before .before .before .before .before .before .before .before .before .before .before .before .before .before .loop .inv .1 .1 .1 .0, (frames.natives-more (nodesOf (c .before .before .before .before .before .before .before .before .before .before .before .before .before .before .before .before .before .before .before .before .before .before .before .before .before .before .before .before .before .args .bytes .now)) (c .before .before .before .before .before .before .before .before .before .before .before .before .before .before .before .before .before .loop .frame) (c .before .before .before .before .before .before .before .before .before .before .before .before .before .before .before .before .before .before .before .before .before .before .before .before .before .before .before .before .before .args .b + 1) (c .before .before .before .before .before .before .before .before .before .before .before .before .before .before .before .before .before .loop .sofar .natives) _ (c .before .before .before .before .before .before .before .before .before .before .before .before .before .before .before .before .loop-test .taken) (c .before .before .before .before .before .before .before .before .before .count-picture .ensures .1 .0) ∙ c .before .before .before .before .before .before .before .before .before .before .before .before .before .before .before .before .before .loop .inv .1 .1 .1 .1 .0, (frames.room-rest (c .before .before .before .before .before .before .before .before .before .before .before .before .before .before .before .before .before .loop .frame) (c .before .before .before .before .before .before .before .before .before .before .before .before .before .before .before .before .before .before .before .before .before .before .before .before .before .before .before .before .before .args .b + 1) (imageSize (nodesOf (c .before .before .before .before .before .before .before .before .before .before .before .before .before .before .before .before .before .before .before .before .before .before .before .before .before .before .before .before .before .args .bytes .now))) (pictureOf (nodesOf (c .before .before .before .before .before .before .before .before .before .before .before .before .before .before .before .before .before .before .before .before .before .before .before .before .before .before .before .before .before .args .bytes .now)) (c .before .before .before .before .before .before .before .before .before .before .before .before .before .before .before .before .before .loop .frame) .samples) (c .before .before .before .before .before .before .before .before .before .before .before .before .before .before .before .before .before .loop .sofar .counts) _ (c .before .before .before .before .before .before .before .before .before .before .before .before .before .before .before .before .loop-test .taken) m (c .before .before .before .before .before .before .before .before .before .count-picture .ensures .0) (c .before .before .before .before .before .before .before .before .before .before .before .before .before .before .before .before .before .loop .inv .1 .1 .1 .1 .1 .0), (c .before .before .before .before .before .before .before .before .before .count-picture .ensures .1 .1, (c .before .before .before .before .before .before .before .before .table .given ∙ c .before .before .before .before .before .before .before .before .before .before .before .before .before .before .before .before .before .loop .inv .1 .1 .1 .1 .1 .1 .1 .0, (c .before .before .before .before .before .before .upper .given ∙ c .before .before .before .before .before .before .before .before .before .before .before .before .before .before .before .before .before .loop .inv .1 .1 .1 .1 .1 .1 .1 .1 .0, (c .before .before .before .before .lower .given ∙ c .before .before .before .before .before .before .before .before .before .before .before .before .before .before .before .before .before .loop .inv .1 .1 .1 .1 .1 .1 .1 .1 .1 .0, c .before .before .line .given ∙ c .before .before .before .before .before .before .before .before .before .before .before .before .before .before .before .before .before .loop .inv .1 .1 .1 .1 .1 .1 .1 .1 .1 .1))))))))))
+    let at-lower = c .before .before .before .before in
+    let at-upper = at-lower .before .before in
+    let at-table = at-upper .before .before in
+    let at-count-picture = at-table .before in
+    let at-loop-test = at-count-picture .before .before .before .before .before .before .before in
+    let at-loop = at-loop-test .before in
+    let entry = at-loop .before .before .before .before .before .before .before .before .before .before .before .before in
+    let m = frames.picture-cells (entry .args .bytes .now) (entry .args .n) (at-loop .loop .frame) (entry .pre .1 .0) (omega (arith, at-loop .loop .inv .0, entry .pre .1 .1 .1 .1 .0)) (omega (arith, at-loop-test .loop-test .taken, entry .pre .1 .1 .1 .1 .1 .1 .0)) in
+    (omega (arith, at-loop .loop .inv .0), (omega (arith, at-loop-test .loop-test .taken), (along-more (nodesOf (entry .args .bytes .now)) 1 (at-loop .loop .frame) (omega (arith, at-loop .loop .inv .0, entry .pre .1 .1 .1 .1 .0)) (at-loop .loop .inv .1 .1 .0) (c .advance .ensures), (frames.frames-more (nodesOf (entry .args .bytes .now)) (at-loop .loop .frame) (entry .args .b + 1) (at-loop .loop .sofar .counts) _ (at-loop-test .loop-test .taken) (at-count-picture .count-picture .ensures .0) ∙ at-loop .loop .inv .1 .1 .1 .0, (frames.natives-more (nodesOf (entry .args .bytes .now)) (at-loop .loop .frame) (entry .args .b + 1) (at-loop .loop .sofar .natives) _ (at-loop-test .loop-test .taken) (at-count-picture .count-picture .ensures .1 .0) ∙ at-loop .loop .inv .1 .1 .1 .1 .0, (frames.room-rest (at-loop .loop .frame) (entry .args .b + 1) (imageSize (nodesOf (entry .args .bytes .now))) (pictureOf (nodesOf (entry .args .bytes .now)) (at-loop .loop .frame) .samples) (at-loop .loop .sofar .counts) _ (at-loop-test .loop-test .taken) m (at-count-picture .count-picture .ensures .0) (at-loop .loop .inv .1 .1 .1 .1 .1 .0), (at-count-picture .count-picture .ensures .1 .1, (at-table .table .given ∙ at-loop .loop .inv .1 .1 .1 .1 .1 .1 .1 .0, (at-upper .upper .given ∙ at-loop .loop .inv .1 .1 .1 .1 .1 .1 .1 .1 .0, (at-lower .lower .given ∙ at-loop .loop .inv .1 .1 .1 .1 .1 .1 .1 .1 .1 .0, c .before .before .line .given ∙ at-loop .loop .inv .1 .1 .1 .1 .1 .1 .1 .1 .1 .1))))))))))
 
 same-length : tie.Need-same-length Inv-loop μ-loop
 same-length c =
@@ -83,7 +104,8 @@ same-length-4 c =
 
 returns : tie.Need-returns Inv-loop μ-loop
 returns c =
-    (sym (frames.frames-none (nodesOf (c .before .before .before .before .before .before .before .before .before .before .before .before .before .args .bytes .now)) (c .before .loop .frame) (c .before .before .before .before .before .before .before .before .before .before .before .before .before .args .b + 1) (c .before .loop .sofar .counts) (c .loop-test .left)) ∙ c .before .loop .inv .1 .1 .1 .0, sym (frames.natives-none (nodesOf (c .before .before .before .before .before .before .before .before .before .before .before .before .before .args .bytes .now)) (c .before .loop .frame) (c .before .before .before .before .before .before .before .before .before .before .before .before .before .args .b + 1) (c .before .loop .sofar .natives) (c .loop-test .left)) ∙ c .before .loop .inv .1 .1 .1 .1 .0)
+    let entry = c .before .before .before .before .before .before .before .before .before .before .before .before .before in
+    (sym (frames.frames-none (nodesOf (entry .args .bytes .now)) (c .before .loop .frame) (entry .args .b + 1) (c .before .loop .sofar .counts) (c .loop-test .left)) ∙ c .before .loop .inv .1 .1 .1 .0, sym (frames.natives-none (nodesOf (entry .args .bytes .now)) (c .before .loop .frame) (entry .args .b + 1) (c .before .loop .sofar .natives) (c .loop-test .left)) ∙ c .before .loop .inv .1 .1 .1 .1 .0)
 
 pub count-frames-spec : {M : Type 1} → statement M
 count-frames-spec =

@@ -5,7 +5,10 @@ use Rattle.sheet.proofs.count_masked.Tie as tie
 
 count-whole-requires : tie.Need-count-whole-requires
 count-whole-requires c κs =
-    (c .before .before .before .before .before .before .before .before .before .before .before .pre .0, (c .before .before .before .before .before .before .before .before .before .before .before .pre .1 .0, (c .before .before .before .before .before .before .before .before .before .before .before .pre .1 .1 .0, (c .before .before .before .before .if1 .taken, (c .before .before .before .if2 .taken, (c .before .before .if3 .taken, (c .before .before .before .before .before .before .before .before .before .before .before .pre .1 .1 .1 .0, c .before .before .before .before .before .before .before .before .before .before .before .pre .1 .1 .1 .1 .1)))))))
+    let at-if2 = c .before .before .before in
+    let at-if1 = at-if2 .before in
+    let entry = at-if1 .before .before .before .before .before .before .before in
+    (entry .pre .0, (entry .pre .1 .0, (entry .pre .1 .1 .0, (at-if1 .if1 .taken, (at-if2 .if2 .taken, (c .before .before .if3 .taken, (entry .pre .1 .1 .1 .0, entry .pre .1 .1 .1 .1 .1)))))))
 
 same-length : tie.Need-same-length
 same-length c =
@@ -17,7 +20,8 @@ same-length-2 c =
 
 returns : tie.Need-returns
 returns c =
-    c .before .before .before .before .count-whole .ensures
+    let at-count-whole = c .before .before .before .before in
+    at-count-whole .count-whole .ensures
 
 count-blended-requires : tie.Need-count-blended-requires
 count-blended-requires c κs =
@@ -37,7 +41,8 @@ same-length-5 c =
 
 returns-2 : tie.Need-returns-2
 returns-2 c =
-    c .before .before .before .before .before .before .count-blended .ensures
+    let at-count-blended = c .before .before .before .before .before .before in
+    at-count-blended .count-blended .ensures
 
 pub count-masked-spec : {M : Type 1} → statement M
 count-masked-spec =

@@ -14,15 +14,20 @@ use Rattle.sheet.proofs.count_moved.Tie as tie
 
 offset-of-requires : tie.Need-offset-of-requires
 offset-of-requires c κs =
-    c .before .before .before .before .before .before .pre .1 .1 .0 .vertical
+    let entry = c .before .before .before .before .before .before in
+    entry .pre .1 .1 .0 .vertical
 
 offset-of-requires-2 : tie.Need-offset-of-requires-2
 offset-of-requires-2 c κs =
-    c .before .before .before .before .before .before .before .pre .1 .1 .0 .horizontal
+    let entry = c .before .before .before .before .before .before .before in
+    entry .pre .1 .1 .0 .horizontal
 
 count-masked-requires : tie.Need-count-masked-requires
 count-masked-requires c κs =
-    (c .before .before .before .before .before .before .before .before .before .before .before .pre .0, (record { taken = c .before .before .before .before .before .before .before .before .before .before .before .pre .1 .0; down-most = c .before .before .before .before .offset-of .ensures .most; right-most = c .before .before .before .offset-of2 .ensures .most }, (c .before .before .before .before .before .before .before .before .before .before .before .pre .1 .1 .1 .0, (c .before .before .before .before .before .before .before .before .before .before .before .pre .1 .1 .1 .1 .0, (c .before .before .before .before .before .before .before .before .before .before .before .pre .1 .1 .1 .1 .1 .0, c .before .before .before .before .before .before .before .before .before .before .before .pre .1 .1 .1 .1 .1 .1)))))
+    let at-offset-of2 = c .before .before .before in
+    let at-offset-of = at-offset-of2 .before in
+    let entry = at-offset-of .before .before .before .before .before .before .before in
+    (entry .pre .0, (record { taken = entry .pre .1 .0; down-most = at-offset-of .offset-of .ensures .most; right-most = at-offset-of2 .offset-of2 .ensures .most }, (entry .pre .1 .1 .1 .0, (entry .pre .1 .1 .1 .1 .0, (entry .pre .1 .1 .1 .1 .1 .0, entry .pre .1 .1 .1 .1 .1 .1)))))
 
 same-length : tie.Need-same-length
 same-length c =
@@ -38,7 +43,11 @@ same-length-3 c =
 
 returns : tie.Need-returns
 returns c =
-    c .before .before .before .before .before .before .count-masked .ensures ∙ ap (λ (l : List ℕ). tallied l (c .before .before .before .before .before .before .before .before .before .before .before .before .before .before .before .before .before .before .args .counts)) (upTo-same _ _ (samplesOf (c .before .before .before .before .before .before .before .before .before .before .before .before .before .before .before .before .before .before .args .g)) (λ k h. offset-shade (shadesOf (c .before .before .before .before .before .before .before .before .before .before .before .before .before .before .before .before .before .before .args .shades) (c .before .before .before .before .before .before .before .before .before .before .before .before .before .before .before .before .before .before .args .g .stored)) (c .before .before .before .before .before .before .before .before .before .before .before .before .before .before .before .before .before .before .args .g) (c .before .before .before .before .before .before .before .before .before .before .before .before .before .before .before .before .before .before .args .pixels .now) (c .before .before .before .before .before .before .before .before .before .before .before .before .before .before .before .before .before .before .args .frame) (usValues (c .before .before .before .before .before .before .before .before .before .before .before .before .before .before .before .before .before .before .args .masks .now)) (c .before .before .before .before .before .before .before .before .before .before .before .before .before .before .before .before .before .before .args .moves) (c .before .before .before .before .before .before .before .before .before .before .before .offset-of .result) (c .before .before .before .before .before .before .before .before .before .before .offset-of2 .result) k (c .before .before .before .before .before .before .before .before .before .before .before .offset-of .ensures) (c .before .before .before .before .before .before .before .before .before .before .offset-of2 .ensures)))
+    let at-count-masked = c .before .before .before .before .before .before in
+    let at-offset-of2 = at-count-masked .before .before .before .before in
+    let at-offset-of = at-offset-of2 .before in
+    let entry = at-offset-of .before .before .before .before .before .before .before in
+    at-count-masked .count-masked .ensures ∙ ap (λ (l : List ℕ). tallied l (entry .args .counts)) (upTo-same _ _ (samplesOf (entry .args .g)) (λ k h. offset-shade (shadesOf (entry .args .shades) (entry .args .g .stored)) (entry .args .g) (entry .args .pixels .now) (entry .args .frame) (usValues (entry .args .masks .now)) (entry .args .moves) (at-offset-of .offset-of .result) (at-offset-of2 .offset-of2 .result) k (at-offset-of .offset-of .ensures) (at-offset-of2 .offset-of2 .ensures)))
 
 pub count-moved-spec : {M : Type 1} → statement M
 count-moved-spec =

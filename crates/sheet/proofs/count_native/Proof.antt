@@ -22,35 +22,53 @@ abbrev μ-loop : tie.MeasureT-loop
 
 loop-holds : tie.Need-loop-holds Inv-loop μ-loop
 loop-holds c =
-    (omega arith, (refl, runs.no-line (nativeShade (shadesOf (c .before .before .before .args .shades) (c .before .before .before .args .g .stored)) (c .before .before .before .args .g) (c .before .before .before .args .pixels .now) (c .before .before .before .args .frame)) (c .before .before .before .args .g .columns) (c .before .before .before .args .counts)))
+    let entry = c .before .before .before in
+    (omega arith, (refl, runs.no-line (nativeShade (shadesOf (entry .args .shades) (entry .args .g .stored)) (entry .args .g) (entry .args .pixels .now) (entry .args .frame)) (entry .args .g .columns) (entry .args .counts)))
 
 native-line-requires : tie.Need-native-line-requires Inv-loop μ-loop
 native-line-requires c κs =
-    (record { shape = c .before .before .before .before .before .before .pre .0 .shape; inside = c .before .before .before .before .before .before .pre .0 .inside; lies = c .before .loop-test .taken; room = omega (arith, c .before .before .loop .inv .1 .0, c .before .before .before .before .before .before .pre .0 .wide, c .before .before .before .before .before .before .pre .0 .shape .columns-most) }, c .before .before .before .before .before .before .pre .1 .0)
+    let entry = c .before .before .before .before .before .before in
+    (record { shape = entry .pre .0 .shape; inside = entry .pre .0 .inside; lies = c .before .loop-test .taken; room = omega (arith, c .before .before .loop .inv .1 .0, entry .pre .0 .wide, entry .pre .0 .shape .columns-most) }, entry .pre .1 .0)
 
 slice-reshare-prefix-tally : tie.Need-slice-reshare-prefix-tally Inv-loop μ-loop
 slice-reshare-prefix-tally c =
-    omega (arith, runs.line-length _ _ _ (c .before .before .native-line .ensures), c .before .before .before .before .before .loop .inv .1 .0, c .before .before .before .before .before .before .before .before .before .pre .0 .wide, c .before .before .before .before .before .before .before .before .before .pre .0 .shape .columns-most)
+    let at-loop = c .before .before .before .before .before in
+    let entry = at-loop .before .before .before .before in
+    omega (arith, runs.line-length _ _ _ (c .before .before .native-line .ensures), at-loop .loop .inv .1 .0, entry .pre .0 .wide, entry .pre .0 .shape .columns-most)
 
 slice-aggregate-tally : tie.Need-slice-aggregate-tally Inv-loop μ-loop
 slice-aggregate-tally c =
-    sym (ap length (runs.line-list _ _ _ (c .before .before .before .native-line .ensures) (omega (arith, c .before .before .before .before .before .before .loop .inv .1 .0, c .before .before .before .before .before .before .before .before .before .before .pre .0 .wide, c .before .before .before .before .before .before .before .before .before .before .pre .0 .shape .columns-most))) ∙ upTo-length _ _)
+    let at-native-line = c .before .before .before in
+    let at-loop = at-native-line .before .before .before in
+    let entry = at-loop .before .before .before .before in
+    sym (ap length (runs.line-list _ _ _ (at-native-line .native-line .ensures) (omega (arith, at-loop .loop .inv .1 .0, entry .pre .0 .wide, entry .pre .0 .shape .columns-most))) ∙ upTo-length _ _)
 
 tally-requires : tie.Need-tally-requires Inv-loop μ-loop
 tally-requires c κs =
-    runs.line-room (nativeShade (shadesOf (c .before .before .before .before .before .before .before .before .before .before .args .shades) (c .before .before .before .before .before .before .before .before .before .before .args .g .stored)) (c .before .before .before .before .before .before .before .before .before .before .args .g) (c .before .before .before .before .before .before .before .before .before .before .args .pixels .now) (c .before .before .before .before .before .before .before .before .before .before .args .frame)) (c .before .before .before .before .before .before .loop .row) (c .before .before .before .before .before .before .before .before .before .before .args .g .rows) (c .before .before .before .before .before .before .before .before .before .before .args .g .columns) _ (c .before .before .before .before .before .before .before .before .before .before .args .counts) (c .before .before .before .before .before .before .loop .now) (c .before .before .before .before .before .before .loop .inv .1 .1) (c .before .before .before .before .before .before .before .before .before .before .pre .1 .1) (c .before .before .before .before .before .loop-test .taken) (ap length (runs.line-list _ _ _ (c .before .before .before .native-line .ensures) (omega (arith, c .before .before .before .before .before .before .loop .inv .1 .0, c .before .before .before .before .before .before .before .before .before .before .pre .0 .wide, c .before .before .before .before .before .before .before .before .before .before .pre .0 .shape .columns-most))) ∙ upTo-length _ _)
+    let at-native-line = c .before .before .before in
+    let at-loop-test = at-native-line .before .before in
+    let at-loop = at-loop-test .before in
+    let entry = at-loop .before .before .before .before in
+    runs.line-room (nativeShade (shadesOf (entry .args .shades) (entry .args .g .stored)) (entry .args .g) (entry .args .pixels .now) (entry .args .frame)) (at-loop .loop .row) (entry .args .g .rows) (entry .args .g .columns) _ (entry .args .counts) (at-loop .loop .now) (at-loop .loop .inv .1 .1) (entry .pre .1 .1) (at-loop-test .loop-test .taken) (ap length (runs.line-list _ _ _ (at-native-line .native-line .ensures) (omega (arith, at-loop .loop .inv .1 .0, entry .pre .0 .wide, entry .pre .0 .shape .columns-most))) ∙ upTo-length _ _)
 
 add-row : tie.Need-add-row Inv-loop μ-loop
 add-row c =
-    omega (arith, c .before .before .before .before .before .before .loop-test .taken, c .before .before .before .before .before .before .before .before .before .before .before .pre .0 .shape .rows-most)
+    let at-loop-test = c .before .before .before .before .before .before in
+    let entry = at-loop-test .before .before .before .before .before in
+    omega (arith, at-loop-test .loop-test .taken, entry .pre .0 .shape .rows-most)
 
 loop-less : tie.Need-loop-less Inv-loop μ-loop
 loop-less c =
-    omega (arith, c .before .before .before .before .before .before .loop-test .taken)
+    let at-loop-test = c .before .before .before .before .before .before in
+    omega (arith, at-loop-test .loop-test .taken)
 
 loop-again : tie.Need-loop-again Inv-loop μ-loop
 loop-again c =
-    (omega (arith, c .before .before .before .before .before .before .loop-test .taken), (runs.line-length _ _ _ (c .before .before .before .before .native-line .ensures) ∙ c .before .before .before .before .before .before .before .loop .inv .1 .0, runs.line-more (nativeShade (shadesOf (c .before .before .before .before .before .before .before .before .before .before .before .args .shades) (c .before .before .before .before .before .before .before .before .before .before .before .args .g .stored)) (c .before .before .before .before .before .before .before .before .before .before .before .args .g) (c .before .before .before .before .before .before .before .before .before .before .before .args .pixels .now) (c .before .before .before .before .before .before .before .before .before .before .before .args .frame)) (c .before .before .before .before .before .before .before .loop .row) (c .before .before .before .before .before .before .before .before .before .before .before .args .g .columns) (c .before .before .before .before .before .before .before .before .before .before .before .args .counts) (c .before .before .before .before .before .before .before .loop .now) _ _ (c .before .before .before .before .before .before .before .loop .inv .1 .1) (runs.line-list _ _ _ (c .before .before .before .before .native-line .ensures) (omega (arith, c .before .before .before .before .before .before .before .loop .inv .1 .0, c .before .before .before .before .before .before .before .before .before .before .before .pre .0 .wide, c .before .before .before .before .before .before .before .before .before .before .before .pre .0 .shape .columns-most))) (c .tally .ensures)))
+    let at-native-line = c .before .before .before .before in
+    let at-loop-test = at-native-line .before .before in
+    let at-loop = at-loop-test .before in
+    let entry = at-loop .before .before .before .before in
+    (omega (arith, at-loop-test .loop-test .taken), (runs.line-length _ _ _ (at-native-line .native-line .ensures) ∙ at-loop .loop .inv .1 .0, runs.line-more (nativeShade (shadesOf (entry .args .shades) (entry .args .g .stored)) (entry .args .g) (entry .args .pixels .now) (entry .args .frame)) (at-loop .loop .row) (entry .args .g .columns) (entry .args .counts) (at-loop .loop .now) _ _ (at-loop .loop .inv .1 .1) (runs.line-list _ _ _ (at-native-line .native-line .ensures) (omega (arith, at-loop .loop .inv .1 .0, entry .pre .0 .wide, entry .pre .0 .shape .columns-most))) (c .tally .ensures)))
 
 same-length : tie.Need-same-length Inv-loop μ-loop
 same-length c =

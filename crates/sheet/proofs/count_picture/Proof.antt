@@ -16,18 +16,22 @@ use Rattle.sheet.proofs.count_picture.Tie as tie
 
 mul-cells : tie.Need-mul-cells
 mul-cells c =
-    let b = scenes.based (c .before .before .before .before .before .before .before .before .args .bytes .now) (c .before .before .before .before .before .before .before .before .args .n) (c .before .before .before .before .before .before .before .before .args .frame) (c .before .before .before .before .before .before .before .before .pre .1 .0) (c .before .before .before .before .before .before .before .before .pre .1 .1 .1 .1 .0) (c .before .before .before .before .before .before .before .before .pre .1 .1 .1 .1 .1 .0) (c .before .before .before .before .before .before .before .before .args .c) (c .before .before .before .before .before .before .before .before .pre .1 .1 .0) in
-    omega (arith, cells-fit 0 (c .before .before .before .before .before .before .before .before .args .c .g .rows) (c .before .before .before .before .before .before .before .before .args .c .g .columns) 0 (omega arith) (b .shape .rows-most) (b .shape .columns-most) (omega arith))
+    let entry = c .before .before .before .before .before .before .before .before in
+    let b = scenes.based (entry .args .bytes .now) (entry .args .n) (entry .args .frame) (entry .pre .1 .0) (entry .pre .1 .1 .1 .1 .0) (entry .pre .1 .1 .1 .1 .1 .0) (entry .args .c) (entry .pre .1 .1 .0) in
+    omega (arith, cells-fit 0 (entry .args .c .g .rows) (entry .args .c .g .columns) 0 (omega arith) (b .shape .rows-most) (b .shape .columns-most) (omega arith))
 
 shades-for-requires : tie.Need-shades-for-requires
 shades-for-requires c κs =
-    let b = scenes.based (c .before .before .before .before .before .before .before .before .before .before .before .before .args .bytes .now) (c .before .before .before .before .before .before .before .before .before .before .before .before .args .n) (c .before .before .before .before .before .before .before .before .before .before .before .before .args .frame) (c .before .before .before .before .before .before .before .before .before .before .before .before .pre .1 .0) (c .before .before .before .before .before .before .before .before .before .before .before .before .pre .1 .1 .1 .1 .0) (c .before .before .before .before .before .before .before .before .before .before .before .before .pre .1 .1 .1 .1 .1 .0) (c .before .before .before .before .before .before .before .before .before .before .before .before .args .c) (c .before .before .before .before .before .before .before .before .before .before .before .before .pre .1 .1 .0) in
-    (c .before .before .before .before .before .before .before .before .before .before .before .before .pre .1 .1 .1 .0 .drawable, (b .shape .stored-some, (b .shape .stored-most, (c .before .before .before .before .before .before .before .before .before .before .before .before .pre .1 .1 .1 .1 .1 .1 .0 .shades, (omega (arith, cells-fit 0 (c .before .before .before .before .before .before .before .before .before .before .before .before .args .c .g .rows) (c .before .before .before .before .before .before .before .before .before .before .before .before .args .c .g .columns) 0 (omega arith) (b .shape .rows-most) (b .shape .columns-most) (omega arith)), c .before .before .before .before .before .before .before .before .before .before .before .before .pre .1 .1 .1 .1 .1 .1 .1 .0)))))
+    let entry = c .before .before .before .before .before .before .before .before .before .before .before .before in
+    let b = scenes.based (entry .args .bytes .now) (entry .args .n) (entry .args .frame) (entry .pre .1 .0) (entry .pre .1 .1 .1 .1 .0) (entry .pre .1 .1 .1 .1 .1 .0) (entry .args .c) (entry .pre .1 .1 .0) in
+    (entry .pre .1 .1 .1 .0 .drawable, (b .shape .stored-some, (b .shape .stored-most, (entry .pre .1 .1 .1 .1 .1 .1 .0 .shades, (omega (arith, cells-fit 0 (entry .args .c .g .rows) (entry .args .c .g .columns) 0 (omega arith) (b .shape .rows-most) (b .shape .columns-most) (omega arith)), entry .pre .1 .1 .1 .1 .1 .1 .1 .0)))))
 
 count-frame-requires : tie.Need-count-frame-requires
 count-frame-requires c κs =
-    let b = scenes.based (c .before .before .before .before .before .before .before .before .before .before .before .before .before .before .before .before .before .before .before .before .args .bytes .now) (c .before .before .before .before .before .before .before .before .before .before .before .before .before .before .before .before .before .before .before .before .args .n) (c .before .before .before .before .before .before .before .before .before .before .before .before .before .before .before .before .before .before .before .before .args .frame) (c .before .before .before .before .before .before .before .before .before .before .before .before .before .before .before .before .before .before .before .before .pre .1 .0) (c .before .before .before .before .before .before .before .before .before .before .before .before .before .before .before .before .before .before .before .before .pre .1 .1 .1 .1 .0) (c .before .before .before .before .before .before .before .before .before .before .before .before .before .before .before .before .before .before .before .before .pre .1 .1 .1 .1 .1 .0) (c .before .before .before .before .before .before .before .before .before .before .before .before .before .before .before .before .before .before .before .before .args .c) (c .before .before .before .before .before .before .before .before .before .before .before .before .before .before .before .before .before .before .before .before .pre .1 .1 .0) in
-    (c .before .before .before .before .before .before .before .before .before .before .before .before .before .before .before .before .before .before .before .before .pre .0, (scenes.is-pixels (c .before .before .before .before .before .before .before .before .before .before .before .before .before .before .before .before .before .before .before .before .args .bytes .now) (c .before .before .before .before .before .before .before .before .before .before .before .before .before .before .before .before .before .before .before .before .args .n) (c .before .before .before .before .before .before .before .before .before .before .before .before .before .before .before .before .before .before .before .before .args .frame) (c .before .before .before .before .before .before .before .before .before .before .before .before .before .before .before .before .before .before .before .before .pre .1 .0) (c .before .before .before .before .before .before .before .before .before .before .before .before .before .before .before .before .before .before .before .before .pre .1 .1 .1 .1 .0) (c .before .before .before .before .before .before .before .before .before .before .before .before .before .before .before .before .before .before .before .before .pre .1 .1 .1 .1 .1 .0) (c .before .before .before .before .before .before .before .before .before .before .before .before .before .before .before .before .before .before .before .before .args .c) (c .before .before .before .before .before .before .before .before .before .before .before .before .before .before .before .before .before .before .before .before .pre .1 .1 .0), (record { shape = b .shape; inside = b .inside; wide = c .before .before .before .before .before .before .before .before .before .before .before .before .before .before .before .before .before .before .before .before .pre .1 .1 .1 .1 .1 .1 .0 .wide }, (scenes.ready (c .before .before .before .before .before .before .before .before .before .before .before .before .before .before .before .before .before .before .before .before .args .bytes .now) (c .before .before .before .before .before .before .before .before .before .before .before .before .before .before .before .before .before .before .before .before .args .n) (c .before .before .before .before .before .before .before .before .before .before .before .before .before .before .before .before .before .before .before .before .args .frame) (c .before .before .before .before .before .before .before .before .before .before .before .before .before .before .before .before .before .before .before .before .pre .1 .0) (c .before .before .before .before .before .before .before .before .before .before .before .before .before .before .before .before .before .before .before .before .pre .1 .1 .1 .1 .0) (c .before .before .before .before .before .before .before .before .before .before .before .before .before .before .before .before .before .before .before .before .pre .1 .1 .1 .1 .1 .0) (c .before .before .before .before .before .before .before .before .before .before .before .before .before .before .before .before .before .before .before .before .args .c) (c .before .before .before .before .before .before .before .before .before .before .before .before .before .before .before .before .before .before .before .before .pre .1 .1 .0) (c .before .before .before .before .before .before .before .before .before .before .before .before .before .before .before .before .before .before .before .before .args .own) (c .before .before .before .before .before .before .before .before .before .before .before .before .before .before .before .before .before .before .before .before .pre .1 .1 .1 .0), (c .before .before .before .before .before .before .before .shades-for .ensures .1 .shaded, (c .before .before .before .before .before .before .before .before .before .before .before .before .before .before .before .before .before .before .before .before .pre .1 .1 .1 .1 .1 .1 .0 .above, (c .before .before .before .before .before .before .before .before .before .before .before .before .before .before .before .before .before .before .before .before .pre .1 .1 .1 .1 .1 .1 .0 .below, counted.room-for (c .before .before .before .before .before .before .before .before .before .before .before .before .before .before .before .before .before .before .before .before .args .bytes .now) (c .before .before .before .before .before .before .before .before .before .before .before .before .before .before .before .before .before .before .before .before .args .n) (c .before .before .before .before .before .before .before .before .before .before .before .before .before .before .before .before .before .before .before .before .args .frame) (c .before .before .before .before .before .before .before .before .before .before .before .before .before .before .before .before .before .before .before .before .pre .1 .0) (c .before .before .before .before .before .before .before .before .before .before .before .before .before .before .before .before .before .before .before .before .pre .1 .1 .1 .1 .0) (c .before .before .before .before .before .before .before .before .before .before .before .before .before .before .before .before .before .before .before .before .pre .1 .1 .1 .1 .1 .0) (c .before .before .before .before .before .before .before .before .before .before .before .before .before .before .before .before .before .before .before .before .args .c) (c .before .before .before .before .before .before .before .before .before .before .before .before .before .before .before .before .before .before .before .before .pre .1 .1 .0) (c .before .before .before .before .before .before .before .before .before .before .before .before .before .before .before .before .before .before .before .before .args .sofar .counts) (c .before .before .before .before .before .before .before .before .before .before .before .before .before .before .before .before .before .before .before .before .pre .1 .1 .1 .1 .1 .1 .1 .1 .1))))))))
+    let at-shades-for = c .before .before .before .before .before .before .before in
+    let entry = at-shades-for .before .before .before .before .before .before .before .before .before .before .before .before .before in
+    let b = scenes.based (entry .args .bytes .now) (entry .args .n) (entry .args .frame) (entry .pre .1 .0) (entry .pre .1 .1 .1 .1 .0) (entry .pre .1 .1 .1 .1 .1 .0) (entry .args .c) (entry .pre .1 .1 .0) in
+    (entry .pre .0, (scenes.is-pixels (entry .args .bytes .now) (entry .args .n) (entry .args .frame) (entry .pre .1 .0) (entry .pre .1 .1 .1 .1 .0) (entry .pre .1 .1 .1 .1 .1 .0) (entry .args .c) (entry .pre .1 .1 .0), (record { shape = b .shape; inside = b .inside; wide = entry .pre .1 .1 .1 .1 .1 .1 .0 .wide }, (scenes.ready (entry .args .bytes .now) (entry .args .n) (entry .args .frame) (entry .pre .1 .0) (entry .pre .1 .1 .1 .1 .0) (entry .pre .1 .1 .1 .1 .1 .0) (entry .args .c) (entry .pre .1 .1 .0) (entry .args .own) (entry .pre .1 .1 .1 .0), (at-shades-for .shades-for .ensures .1 .shaded, (entry .pre .1 .1 .1 .1 .1 .1 .0 .above, (entry .pre .1 .1 .1 .1 .1 .1 .0 .below, counted.room-for (entry .args .bytes .now) (entry .args .n) (entry .args .frame) (entry .pre .1 .0) (entry .pre .1 .1 .1 .1 .0) (entry .pre .1 .1 .1 .1 .1 .0) (entry .args .c) (entry .pre .1 .1 .0) (entry .args .sofar .counts) (entry .pre .1 .1 .1 .1 .1 .1 .1 .1 .1))))))))
 
 native-number-requires : tie.Need-native-number-requires
 native-number-requires c κs =
@@ -35,7 +39,8 @@ native-number-requires c κs =
 
 add-natives : tie.Need-add-natives
 add-natives c =
-    omega (arith, c .native-number .ensures, one-most (isMasked (c .before .before .before .before .before .before .before .before .before .before .before .before .before .before .before .before .before .before .before .before .before .before .before .before .before .before .before .before .args .own .masking)), c .before .before .before .before .before .before .before .before .before .before .before .before .before .before .before .before .before .before .before .before .before .before .before .before .before .before .before .before .pre .1 .1 .1 .1 .1 .1 .1 .1 .0)
+    let entry = c .before .before .before .before .before .before .before .before .before .before .before .before .before .before .before .before .before .before .before .before .before .before .before .before .before .before .before .before in
+    omega (arith, c .native-number .ensures, one-most (isMasked (entry .args .own .masking)), entry .pre .1 .1 .1 .1 .1 .1 .1 .1 .0)
 
 same-length : tie.Need-same-length
 same-length c =
@@ -55,8 +60,11 @@ same-length-4 c =
 
 returns : tie.Need-returns
 returns c =
-    let d = counted.picture (c .before .before .before .before .before .before .before .before .before .before .before .before .before .before .before .before .before .before .before .before .before .before .before .before .before .before .before .before .args .bytes .now) (c .before .before .before .before .before .before .before .before .before .before .before .before .before .before .before .before .before .before .before .before .before .before .before .before .before .before .before .before .args .n) (c .before .before .before .before .before .before .before .before .before .before .before .before .before .before .before .before .before .before .before .before .before .before .before .before .before .before .before .before .args .frame) (c .before .before .before .before .before .before .before .before .before .before .before .before .before .before .before .before .before .before .before .before .before .before .before .before .before .before .before .before .pre .1 .0) (c .before .before .before .before .before .before .before .before .before .before .before .before .before .before .before .before .before .before .before .before .before .before .before .before .before .before .before .before .pre .1 .1 .1 .1 .0) (c .before .before .before .before .before .before .before .before .before .before .before .before .before .before .before .before .before .before .before .before .before .before .before .before .before .before .before .before .pre .1 .1 .1 .1 .1 .0) (c .before .before .before .before .before .before .before .before .before .before .before .before .before .before .before .before .before .before .before .before .before .before .before .before .before .before .before .before .args .c) (c .before .before .before .before .before .before .before .before .before .before .before .before .before .before .before .before .before .before .before .before .before .before .before .before .before .before .before .before .pre .1 .1 .0) (c .before .before .before .before .before .before .before .before .before .before .before .before .before .before .before .before .before .before .before .before .before .before .before .before .before .before .before .before .args .own) (c .before .before .before .before .before .before .before .before .before .before .before .before .before .before .before .before .before .before .before .before .before .before .before .before .before .before .before .before .pre .1 .1 .1 .0) (c .before .before .before .before .before .before .before .before .before .before .before .before .before .before .before .shades-for .result .shades) (c .before .before .before .before .before .before .before .before .before .before .before .before .before .before .before .shades-for .ensures .0) (c .before .before .before .before .before .before .before .before .before .before .before .before .before .before .before .shades-for .ensures .1 .inverse-is) in
-    (c .before .before .before .before .before .before .before .count-frame .ensures ∙ ap (λ (l : List ℕ). tallied l (c .before .before .before .before .before .before .before .before .before .before .before .before .before .before .before .before .before .before .before .before .before .before .before .before .before .before .before .before .args .sofar .counts)) (sym (d .cells)), (ap (λ (x : ℕ). x + c .before .before .before .before .before .before .before .before .before .before .before .before .before .before .before .before .before .before .before .before .before .before .before .before .before .before .before .before .args .sofar .natives) (c .native-number .ensures ∙ ap (λ (m : Bool). cond m 0 1) (d .masked-is)), c .before .before .before .before .before .before .before .before .before .before .before .before .before .before .before .shades-for .ensures .1))
+    let at-count-frame = c .before .before .before .before .before .before .before in
+    let at-shades-for = at-count-frame .before .before .before .before .before .before .before .before in
+    let entry = at-shades-for .before .before .before .before .before .before .before .before .before .before .before .before .before in
+    let d = counted.picture (entry .args .bytes .now) (entry .args .n) (entry .args .frame) (entry .pre .1 .0) (entry .pre .1 .1 .1 .1 .0) (entry .pre .1 .1 .1 .1 .1 .0) (entry .args .c) (entry .pre .1 .1 .0) (entry .args .own) (entry .pre .1 .1 .1 .0) (at-shades-for .shades-for .result .shades) (at-shades-for .shades-for .ensures .0) (at-shades-for .shades-for .ensures .1 .inverse-is) in
+    (at-count-frame .count-frame .ensures ∙ ap (λ (l : List ℕ). tallied l (entry .args .sofar .counts)) (sym (d .cells)), (ap (λ (x : ℕ). x + entry .args .sofar .natives) (c .native-number .ensures ∙ ap (λ (m : Bool). cond m 0 1) (d .masked-is)), at-shades-for .shades-for .ensures .1))
 
 pub count-picture-spec : {M : Type 1} → statement M
 count-picture-spec =

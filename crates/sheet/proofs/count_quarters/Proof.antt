@@ -23,35 +23,58 @@ abbrev μ-loop : tie.MeasureT-loop
 
 loop-holds : tie.Need-loop-holds Inv-loop μ-loop
 loop-holds c =
-    (omega arith, (refl, (refl, (c .before .before .before .before .before .before .pre .1 .1 .1 .1 .1 .0, ((refl, runs.no-line (quarterShade (shadesOf (c .before .before .before .before .before .before .args .shades) (c .before .before .before .before .before .before .args .g .stored)) (c .before .before .before .before .before .before .args .g) (c .before .before .before .before .before .before .args .pixels .now) (c .before .before .before .before .before .before .args .frame) (usValues (c .before .before .before .before .before .before .args .masks .now)) (c .before .before .before .before .before .before .args .down) (c .before .before .before .before .before .before .args .right)) (c .before .before .before .before .before .before .args .g .columns) (c .before .before .before .before .before .before .args .counts)))))))
+    let entry = c .before .before .before .before .before .before in
+    (omega arith, (refl, (refl, (entry .pre .1 .1 .1 .1 .1 .0, ((refl, runs.no-line (quarterShade (shadesOf (entry .args .shades) (entry .args .g .stored)) (entry .args .g) (entry .args .pixels .now) (entry .args .frame) (usValues (entry .args .masks .now)) (entry .args .down) (entry .args .right)) (entry .args .g .columns) (entry .args .counts)))))))
 
 quarter-line-requires : tie.Need-quarter-line-requires Inv-loop μ-loop
 quarter-line-requires c κs =
-    (record { shape = c .before .before .before .before .before .before .before .before .before .before .before .pre .0 .shape; inside = c .before .before .before .before .before .before .before .before .before .before .before .pre .0 .inside; lies = c .before .before .before .loop-test .taken; room = omega (arith, c .before .before .before .before .loop .inv .1 .1 .1 .1 .0, c .before .before .before .before .before .before .before .before .before .before .before .pre .0 .wide, c .before .before .before .before .before .before .before .before .before .before .before .pre .0 .shape .columns-most) }, (c .before .before .before .before .before .before .before .before .before .before .before .pre .1 .0, (c .before .before .before .before .before .before .before .before .before .before .before .pre .1 .1 .0, (omega (arith, c .before .before .before .before .loop .inv .1 .0, c .before .before .before .before .before .before .before .before .before .before .before .pre .1 .1 .1 .0), (omega (arith, c .before .before .before .before .loop .inv .1 .1 .0, c .before .before .before .before .before .before .before .before .before .before .before .pre .1 .1 .1 .1 .0), c .before .before .before .before .loop .inv .1 .1 .1 .0)))))
+    let at-loop-test = c .before .before .before in
+    let at-loop = at-loop-test .before in
+    let entry = at-loop .before .before .before .before .before .before .before in
+    (record { shape = entry .pre .0 .shape; inside = entry .pre .0 .inside; lies = at-loop-test .loop-test .taken; room = omega (arith, at-loop .loop .inv .1 .1 .1 .1 .0, entry .pre .0 .wide, entry .pre .0 .shape .columns-most) }, (entry .pre .1 .0, (entry .pre .1 .1 .0, (omega (arith, at-loop .loop .inv .1 .0, entry .pre .1 .1 .1 .0), (omega (arith, at-loop .loop .inv .1 .1 .0, entry .pre .1 .1 .1 .1 .0), at-loop .loop .inv .1 .1 .1 .0)))))
 
 slice-reshare-prefix-tally : tie.Need-slice-reshare-prefix-tally Inv-loop μ-loop
 slice-reshare-prefix-tally c =
-    omega (arith, runs.line-length _ _ _ (c .before .before .before .before .before .before .quarter-line .ensures .0), c .before .before .before .before .before .before .before .before .before .before .before .loop .inv .1 .1 .1 .1 .0, c .before .before .before .before .before .before .before .before .before .before .before .before .before .before .before .before .before .before .pre .0 .wide, c .before .before .before .before .before .before .before .before .before .before .before .before .before .before .before .before .before .before .pre .0 .shape .columns-most)
+    let at-quarter-line = c .before .before .before .before .before .before in
+    let at-loop = at-quarter-line .before .before .before .before .before in
+    let entry = at-loop .before .before .before .before .before .before .before in
+    omega (arith, runs.line-length _ _ _ (at-quarter-line .quarter-line .ensures .0), at-loop .loop .inv .1 .1 .1 .1 .0, entry .pre .0 .wide, entry .pre .0 .shape .columns-most)
 
 slice-aggregate-tally : tie.Need-slice-aggregate-tally Inv-loop μ-loop
 slice-aggregate-tally c =
-    sym (ap length (runs.line-list _ _ _ (c .before .before .before .before .before .before .before .quarter-line .ensures .0) (omega (arith, c .before .before .before .before .before .before .before .before .before .before .before .before .loop .inv .1 .1 .1 .1 .0, c .before .before .before .before .before .before .before .before .before .before .before .before .before .before .before .before .before .before .before .pre .0 .wide, c .before .before .before .before .before .before .before .before .before .before .before .before .before .before .before .before .before .before .before .pre .0 .shape .columns-most))) ∙ upTo-length _ _)
+    let at-quarter-line = c .before .before .before .before .before .before .before in
+    let at-loop = at-quarter-line .before .before .before .before .before in
+    let entry = at-loop .before .before .before .before .before .before .before in
+    sym (ap length (runs.line-list _ _ _ (at-quarter-line .quarter-line .ensures .0) (omega (arith, at-loop .loop .inv .1 .1 .1 .1 .0, entry .pre .0 .wide, entry .pre .0 .shape .columns-most))) ∙ upTo-length _ _)
 
 tally-requires : tie.Need-tally-requires Inv-loop μ-loop
 tally-requires c κs =
-    runs.line-room (quarterShade (shadesOf (c .before .before .before .before .before .before .before .before .before .before .before .before .before .before .before .before .before .before .before .args .shades) (c .before .before .before .before .before .before .before .before .before .before .before .before .before .before .before .before .before .before .before .args .g .stored)) (c .before .before .before .before .before .before .before .before .before .before .before .before .before .before .before .before .before .before .before .args .g) (c .before .before .before .before .before .before .before .before .before .before .before .before .before .before .before .before .before .before .before .args .pixels .now) (c .before .before .before .before .before .before .before .before .before .before .before .before .before .before .before .before .before .before .before .args .frame) (usValues (c .before .before .before .before .before .before .before .before .before .before .before .before .before .before .before .before .before .before .before .args .masks .now)) (c .before .before .before .before .before .before .before .before .before .before .before .before .before .before .before .before .before .before .before .args .down) (c .before .before .before .before .before .before .before .before .before .before .before .before .before .before .before .before .before .before .before .args .right)) (c .before .before .before .before .before .before .before .before .before .before .before .before .loop .row) (c .before .before .before .before .before .before .before .before .before .before .before .before .before .before .before .before .before .before .before .args .g .rows) (c .before .before .before .before .before .before .before .before .before .before .before .before .before .before .before .before .before .before .before .args .g .columns) _ (c .before .before .before .before .before .before .before .before .before .before .before .before .before .before .before .before .before .before .before .args .counts) (c .before .before .before .before .before .before .before .before .before .before .before .before .loop .now) (c .before .before .before .before .before .before .before .before .before .before .before .before .loop .inv .1 .1 .1 .1 .1) (c .before .before .before .before .before .before .before .before .before .before .before .before .before .before .before .before .before .before .before .pre .1 .1 .1 .1 .1 .1) (c .before .before .before .before .before .before .before .before .before .before .before .loop-test .taken) (ap length (runs.line-list _ _ _ (c .before .before .before .before .before .before .before .quarter-line .ensures .0) (omega (arith, c .before .before .before .before .before .before .before .before .before .before .before .before .loop .inv .1 .1 .1 .1 .0, c .before .before .before .before .before .before .before .before .before .before .before .before .before .before .before .before .before .before .before .pre .0 .wide, c .before .before .before .before .before .before .before .before .before .before .before .before .before .before .before .before .before .before .before .pre .0 .shape .columns-most))) ∙ upTo-length _ _)
+    let at-quarter-line = c .before .before .before .before .before .before .before in
+    let at-loop-test = at-quarter-line .before .before .before .before in
+    let at-loop = at-loop-test .before in
+    let entry = at-loop .before .before .before .before .before .before .before in
+    runs.line-room (quarterShade (shadesOf (entry .args .shades) (entry .args .g .stored)) (entry .args .g) (entry .args .pixels .now) (entry .args .frame) (usValues (entry .args .masks .now)) (entry .args .down) (entry .args .right)) (at-loop .loop .row) (entry .args .g .rows) (entry .args .g .columns) _ (entry .args .counts) (at-loop .loop .now) (at-loop .loop .inv .1 .1 .1 .1 .1) (entry .pre .1 .1 .1 .1 .1 .1) (at-loop-test .loop-test .taken) (ap length (runs.line-list _ _ _ (at-quarter-line .quarter-line .ensures .0) (omega (arith, at-loop .loop .inv .1 .1 .1 .1 .0, entry .pre .0 .wide, entry .pre .0 .shape .columns-most))) ∙ upTo-length _ _)
 
 add-row : tie.Need-add-row Inv-loop μ-loop
 add-row c =
-    omega (arith, c .before .before .before .before .before .before .before .before .before .before .before .before .loop-test .taken, c .before .before .before .before .before .before .before .before .before .before .before .before .before .before .before .before .before .before .before .before .pre .0 .shape .rows-most)
+    let at-loop-test = c .before .before .before .before .before .before .before .before .before .before .before .before in
+    let entry = at-loop-test .before .before .before .before .before .before .before .before in
+    omega (arith, at-loop-test .loop-test .taken, entry .pre .0 .shape .rows-most)
 
 loop-less : tie.Need-loop-less Inv-loop μ-loop
 loop-less c =
-    omega (arith, c .before .before .before .before .before .before .before .before .before .before .before .before .loop-test .taken)
+    let at-loop-test = c .before .before .before .before .before .before .before .before .before .before .before .before in
+    omega (arith, at-loop-test .loop-test .taken)
 
 loop-again : tie.Need-loop-again Inv-loop μ-loop
 loop-again c =
-    (omega (arith, c .before .before .before .before .before .before .before .before .before .before .before .before .loop-test .taken), (c .before .before .before .before .before .before .before .upper .given ∙ c .before .before .before .before .before .before .before .before .before .before .before .before .before .loop .inv .1 .0, (c .before .before .before .before .before .lower .given ∙ c .before .before .before .before .before .before .before .before .before .before .before .before .before .loop .inv .1 .1 .0, (c .before .before .before .before .before .before .before .before .quarter-line .ensures .1, ((runs.line-length _ _ _ (c .before .before .before .before .before .before .before .before .quarter-line .ensures .0) ∙ c .before .before .before .before .before .before .before .before .before .before .before .before .before .loop .inv .1 .1 .1 .1 .0, runs.line-more (quarterShade (shadesOf (c .before .before .before .before .before .before .before .before .before .before .before .before .before .before .before .before .before .before .before .before .args .shades) (c .before .before .before .before .before .before .before .before .before .before .before .before .before .before .before .before .before .before .before .before .args .g .stored)) (c .before .before .before .before .before .before .before .before .before .before .before .before .before .before .before .before .before .before .before .before .args .g) (c .before .before .before .before .before .before .before .before .before .before .before .before .before .before .before .before .before .before .before .before .args .pixels .now) (c .before .before .before .before .before .before .before .before .before .before .before .before .before .before .before .before .before .before .before .before .args .frame) (usValues (c .before .before .before .before .before .before .before .before .before .before .before .before .before .before .before .before .before .before .before .before .args .masks .now)) (c .before .before .before .before .before .before .before .before .before .before .before .before .before .before .before .before .before .before .before .before .args .down) (c .before .before .before .before .before .before .before .before .before .before .before .before .before .before .before .before .before .before .before .before .args .right)) (c .before .before .before .before .before .before .before .before .before .before .before .before .before .loop .row) (c .before .before .before .before .before .before .before .before .before .before .before .before .before .before .before .before .before .before .before .before .args .g .columns) (c .before .before .before .before .before .before .before .before .before .before .before .before .before .before .before .before .before .before .before .before .args .counts) (c .before .before .before .before .before .before .before .before .before .before .before .before .before .loop .now) _ _ (c .before .before .before .before .before .before .before .before .before .before .before .before .before .loop .inv .1 .1 .1 .1 .1) (runs.line-list _ _ _ (c .before .before .before .before .before .before .before .before .quarter-line .ensures .0) (omega (arith, c .before .before .before .before .before .before .before .before .before .before .before .before .before .loop .inv .1 .1 .1 .1 .0, c .before .before .before .before .before .before .before .before .before .before .before .before .before .before .before .before .before .before .before .before .pre .0 .wide, c .before .before .before .before .before .before .before .before .before .before .before .before .before .before .before .before .before .before .before .before .pre .0 .shape .columns-most))) (c .tally .ensures)))))))
+    let at-lower = c .before .before .before .before .before in
+    let at-upper = at-lower .before .before in
+    let at-quarter-line = at-upper .before in
+    let at-loop-test = at-quarter-line .before .before .before .before in
+    let at-loop = at-loop-test .before in
+    let entry = at-loop .before .before .before .before .before .before .before in
+    (omega (arith, at-loop-test .loop-test .taken), (at-upper .upper .given ∙ at-loop .loop .inv .1 .0, (at-lower .lower .given ∙ at-loop .loop .inv .1 .1 .0, (at-quarter-line .quarter-line .ensures .1, ((runs.line-length _ _ _ (at-quarter-line .quarter-line .ensures .0) ∙ at-loop .loop .inv .1 .1 .1 .1 .0, runs.line-more (quarterShade (shadesOf (entry .args .shades) (entry .args .g .stored)) (entry .args .g) (entry .args .pixels .now) (entry .args .frame) (usValues (entry .args .masks .now)) (entry .args .down) (entry .args .right)) (at-loop .loop .row) (entry .args .g .columns) (entry .args .counts) (at-loop .loop .now) _ _ (at-loop .loop .inv .1 .1 .1 .1 .1) (runs.line-list _ _ _ (at-quarter-line .quarter-line .ensures .0) (omega (arith, at-loop .loop .inv .1 .1 .1 .1 .0, entry .pre .0 .wide, entry .pre .0 .shape .columns-most))) (c .tally .ensures)))))))
 
 same-length : tie.Need-same-length Inv-loop μ-loop
 same-length c =

@@ -25,11 +25,13 @@ frame-items-requires c κs =
 
 loop-holds : tie.Need-loop-holds Inv-loop μ-loop
 loop-holds c =
-    (omega arith, (c .before .before .before .pre .1, c .frame-items .ensures))
+    let entry = c .before .before .before in
+    (omega arith, (entry .pre .1, c .frame-items .ensures))
 
 advance-requires : tie.Need-advance-requires Inv-loop μ-loop
 advance-requires c κs =
-    (c .before .before .before .before .before .pre .0, c .before .loop .inv .1 .1 .inner)
+    let entry = c .before .before .before .before .before in
+    (entry .pre .0, c .before .loop .inv .1 .1 .inner)
 
 add-frame : tie.Need-add-frame Inv-loop μ-loop
 add-frame c =
@@ -41,7 +43,8 @@ loop-less c =
 
 loop-again : tie.Need-loop-again Inv-loop μ-loop
 loop-again c =
-    (omega (arith, c .before .before .loop .inv .0), (omega (arith, c .before .loop-test .taken), along-more (nodesOf (c .before .before .before .before .before .before .args .bytes .now)) 1 (c .before .before .loop .frame) (c .before .before .loop .inv .0) (c .before .before .loop .inv .1 .1) (c .advance .ensures)))
+    let entry = c .before .before .before .before .before .before in
+    (omega (arith, c .before .before .loop .inv .0), (omega (arith, c .before .loop-test .taken), along-more (nodesOf (entry .args .bytes .now)) 1 (c .before .before .loop .frame) (c .before .before .loop .inv .0) (c .before .before .loop .inv .1 .1) (c .advance .ensures)))
 
 returns : tie.Need-returns Inv-loop μ-loop
 returns c =

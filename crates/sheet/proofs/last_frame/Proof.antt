@@ -19,7 +19,8 @@ enum-told c =
 
 returns : tie.Need-returns
 returns c =
-    ap numberOf (sym (c .before .n .given .1) ∙ c .before .before .before .frame-count .ensures .0)
+    let at-frame-count = c .before .before .before in
+    ap numberOf (sym (c .before .n .given .1) ∙ at-frame-count .frame-count .ensures .0)
 
 returns-2 : tie.Need-returns-2
 returns-2 c =

@@ -1,5 +1,5 @@
 -- Nothing is counted, and shades without a filled table are right whatever the table holds.
-use Rattle.verdict.proofs.Tests.{false-is-true}
+use Rattle.basics.proofs.Tests.{false-is-true}
 use mathlib.Core.Path.{refl}
 use native.Mathlib.Omega.{arith}
 use Rattle.sheet.proofs.nothing.Statement.{statement}

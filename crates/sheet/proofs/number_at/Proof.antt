@@ -19,19 +19,24 @@ returns c =
 
 returns-2 : tie.Need-returns-2
 returns-2 c =
-    answers.behind (c .before .before .before .args .t .counts) (c .before .before .before .args .t .natives ∷ c .before .before .before .args .t .lowest ∷ c .before .before .before .args .t .highest ∷ c .before .before .before .args .t .sum ∷ []) 0 (c .before .before .before .args .k) (c .before .before .before .pre .0) (omega (arith, c .if2 .taken))
+    let entry = c .before .before .before in
+    answers.behind (entry .args .t .counts) (entry .args .t .natives ∷ entry .args .t .lowest ∷ entry .args .t .highest ∷ entry .args .t .sum ∷ []) 0 (entry .args .k) (entry .pre .0) (omega (arith, c .if2 .taken))
 
 returns-3 : tie.Need-returns-3
 returns-3 c =
-    answers.behind (c .before .before .before .before .args .t .counts) (c .before .before .before .before .args .t .natives ∷ c .before .before .before .before .args .t .lowest ∷ c .before .before .before .before .args .t .highest ∷ c .before .before .before .before .args .t .sum ∷ []) 1 (c .before .before .before .before .args .k) (c .before .before .before .before .pre .0) (omega (arith, c .if3 .taken))
+    let entry = c .before .before .before .before in
+    answers.behind (entry .args .t .counts) (entry .args .t .natives ∷ entry .args .t .lowest ∷ entry .args .t .highest ∷ entry .args .t .sum ∷ []) 1 (entry .args .k) (entry .pre .0) (omega (arith, c .if3 .taken))
 
 returns-4 : tie.Need-returns-4
 returns-4 c =
-    answers.behind (c .before .before .before .before .before .args .t .counts) (c .before .before .before .before .before .args .t .natives ∷ c .before .before .before .before .before .args .t .lowest ∷ c .before .before .before .before .before .args .t .highest ∷ c .before .before .before .before .before .args .t .sum ∷ []) 2 (c .before .before .before .before .before .args .k) (c .before .before .before .before .before .pre .0) (omega (arith, c .if4 .taken))
+    let entry = c .before .before .before .before .before in
+    answers.behind (entry .args .t .counts) (entry .args .t .natives ∷ entry .args .t .lowest ∷ entry .args .t .highest ∷ entry .args .t .sum ∷ []) 2 (entry .args .k) (entry .pre .0) (omega (arith, c .if4 .taken))
 
 returns-5 : tie.Need-returns-5
 returns-5 c =
-    answers.behind (c .before .before .before .before .before .args .t .counts) (c .before .before .before .before .before .args .t .natives ∷ c .before .before .before .before .before .args .t .lowest ∷ c .before .before .before .before .before .args .t .highest ∷ c .before .before .before .before .before .args .t .sum ∷ []) 3 (c .before .before .before .before .before .args .k) (c .before .before .before .before .before .pre .0) (omega (arith, c .before .before .before .before .before .pre .1, c .before .before .before .if1 .left, c .before .before .if2 .left, c .before .if3 .left, c .if4 .left))
+    let at-if1 = c .before .before .before in
+    let entry = at-if1 .before .before in
+    answers.behind (entry .args .t .counts) (entry .args .t .natives ∷ entry .args .t .lowest ∷ entry .args .t .highest ∷ entry .args .t .sum ∷ []) 3 (entry .args .k) (entry .pre .0) (omega (arith, entry .pre .1, at-if1 .if1 .left, c .before .before .if2 .left, c .before .if3 .left, c .if4 .left))
 
 pub number-at-spec : {M : Type 1} → statement M
 number-at-spec =

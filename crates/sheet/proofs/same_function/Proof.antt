@@ -1,5 +1,5 @@
 -- The answer is true only where both are LINEAR or both are LINEAR_EXACT.
-use Rattle.verdict.proofs.Tests.{false-is-true}
+use Rattle.basics.proofs.Tests.{false-is-true}
 use mathlib.Core.Path.{sym, _∙_}
 use borrow.Author.Needs.{needs}
 use Rattle.sheet.proofs.same_function.Statement.{statement}

@@ -1,7 +1,7 @@
 -- The answer is true only where both have the same sign and the same number.
 use borrow.Author.Tests.{eqb-true}
 use Rattle.value.specs.declared.Signed.the-variants as signed
-use Rattle.verdict.proofs.Tests.{false-is-true}
+use Rattle.basics.proofs.Tests.{false-is-true}
 use mathlib.Core.Path.{sym, ap, _∙_}
 use borrow.Author.Needs.{needs}
 use Rattle.sheet.proofs.same_signed.Statement.{statement}
@@ -45,7 +45,8 @@ enum-told-5 c =
 
 returns : tie.Need-returns
 returns c =
-    λ h. c .before .before .before .before .a .given .1 ∙ (ap signed.Plus (eqb-true _ _ h) ∙ sym (c .before .b .given .1))
+    let at-a = c .before .before .before .before in
+    λ h. at-a .a .given .1 ∙ (ap signed.Plus (eqb-true _ _ h) ∙ sym (c .before .b .given .1))
 
 returns-2 : tie.Need-returns-2
 returns-2 c =
@@ -61,7 +62,8 @@ returns-4 c =
 
 returns-5 : tie.Need-returns-5
 returns-5 c =
-    λ h. c .before .before .before .before .a2 .given .1 ∙ (ap signed.Minus (eqb-true _ _ h) ∙ sym (c .before .b2 .given .1))
+    let at-a2 = c .before .before .before .before in
+    λ h. at-a2 .a2 .given .1 ∙ (ap signed.Minus (eqb-true _ _ h) ∙ sym (c .before .b2 .given .1))
 
 returns-6 : tie.Need-returns-6
 returns-6 c =

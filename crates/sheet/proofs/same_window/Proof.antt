@@ -1,5 +1,5 @@
 -- A window is its centre, its width and its function, and the answer is true only where all three are the same.
-use Rattle.verdict.proofs.Tests.{false-is-true}
+use Rattle.basics.proofs.Tests.{false-is-true}
 use Rattle.sheet.proofs.Scenes.{windows-same}
 use borrow.Author.Needs.{needs}
 use Rattle.sheet.proofs.same_window.Statement.{statement}
@@ -19,7 +19,10 @@ same-function-requires c κs =
 
 returns : tie.Need-returns
 returns c =
-    λ h. windows-same (c .before .before .before .before .before .args .a) (c .before .before .before .before .before .args .b) (c .before .before .before .before .same-signed .ensures (c .before .before .before .if1 .taken)) (c .before .before .same-signed2 .ensures (c .before .if2 .taken)) (c .same-function .ensures h)
+    let at-if1 = c .before .before .before in
+    let at-same-signed = at-if1 .before in
+    let entry = at-same-signed .before in
+    λ h. windows-same (entry .args .a) (entry .args .b) (at-same-signed .same-signed .ensures (at-if1 .if1 .taken)) (c .before .before .same-signed2 .ensures (c .before .if2 .taken)) (c .same-function .ensures h)
 
 returns-2 : tie.Need-returns-2
 returns-2 c =

@@ -13,7 +13,8 @@ scene-of-requires c κs =
 
 items-from-requires : tie.Need-items-from-requires
 items-from-requires c κs =
-    (c .before .before .before .pre .0, c .before .before .before .pre .1 .1 .0)
+    let entry = c .before .before .before in
+    (entry .pre .0, entry .pre .1 .1 .0)
 
 slice-aggregate-count-all : tie.Need-slice-aggregate-count-all
 slice-aggregate-count-all c =
@@ -33,7 +34,10 @@ slice-aggregate-count-all-4 c =
 
 count-all-requires : tie.Need-count-all-requires
 count-all-requires c κs =
-    (c .before .before .before .before .before .before .before .before .pre .0, (c .before .before .before .before .before .before .before .before .pre .1 .0, (c .before .before .before .before .before .scene-of .ensures, (c .before .before .before .before .items-from .ensures, (c .before .before .before .before .before .before .before .before .pre .1 .1 .0, (c .before .before .before .before .before .before .before .before .pre .1 .1 .1 .0, (c .before .before .before .before .before .before .before .before .pre .1 .1 .1 .1, record { shades = length-replicate {A = ℕ} 131072 0; above = omega (arith, length-replicate {A = ℕ} 65664 0); below = omega (arith, length-replicate {A = ℕ} 65664 0); wide = omega (arith, length-replicate {A = ℕ} 65535 0) })))))))
+    let at-items-from = c .before .before .before .before in
+    let at-scene-of = at-items-from .before in
+    let entry = at-scene-of .before .before .before in
+    (entry .pre .0, (entry .pre .1 .0, (at-scene-of .scene-of .ensures, (at-items-from .items-from .ensures, (entry .pre .1 .1 .0, (entry .pre .1 .1 .1 .0, (entry .pre .1 .1 .1 .1, record { shades = length-replicate {A = ℕ} 131072 0; above = omega (arith, length-replicate {A = ℕ} 65664 0); below = omega (arith, length-replicate {A = ℕ} 65664 0); wide = omega (arith, length-replicate {A = ℕ} 65535 0) })))))))
 
 first-drawn-requires : tie.Need-first-drawn-requires
 first-drawn-requires c κs =
@@ -45,11 +49,16 @@ last-drawn-requires c κs =
 
 weighted-requires : tie.Need-weighted-requires
 weighted-requires c κs =
-    sampling.few-counts (c .before .before .before .before .before .before .before .before .before .before .before .before .before .before .before .before .args .bytes .now) (c .before .before .before .before .before .before .before .before .before .before .before .before .before .before .before .before .args .n) (c .before .before .before .before .before .before .before .before .before .before .before .before .before .before .before .before .args .a) (c .before .before .before .before .before .before .before .before .before .before .before .before .before .before .before .before .args .b) (c .before .before .before .before .before .before .before .before .before .before .before .before .before .before .before .before .pre .1 .0) (c .before .before .before .before .before .before .before .before .before .before .before .before .before .before .before .before .pre .1 .1 .0) (c .before .before .before .before .before .before .before .before .before .before .before .before .before .before .before .before .pre .1 .1 .1 .0) (c .before .before .before .before .before .before .before .before .before .before .before .before .before .before .before .before .pre .1 .1 .1 .1) _ (c .before .before .before .before .before .before .before .before .before .before .before .before .before .scene-of .ensures) _ (c .before .before .before .before .before .before .before .count-all .ensures .0)
+    let at-count-all = c .before .before .before .before .before .before .before in
+    let at-scene-of = at-count-all .before .before .before .before .before .before in
+    let entry = at-scene-of .before .before .before in
+    sampling.few-counts (entry .args .bytes .now) (entry .args .n) (entry .args .a) (entry .args .b) (entry .pre .1 .0) (entry .pre .1 .1 .0) (entry .pre .1 .1 .1 .0) (entry .pre .1 .1 .1 .1) _ (at-scene-of .scene-of .ensures) _ (at-count-all .count-all .ensures .0)
 
 returns : tie.Need-returns
 returns c =
-    sampling.made (c .before .before .before .before .before .before .before .before .before .before .before .before .before .before .before .before .before .args .bytes .now) (c .before .before .before .before .before .before .before .before .before .before .before .before .before .before .before .before .before .args .n) (c .before .before .before .before .before .before .before .before .before .before .before .before .before .before .before .before .before .args .a) (c .before .before .before .before .before .before .before .before .before .before .before .before .before .before .before .before .before .args .b) (c .before .before .before .before .before .before .before .before .before .before .before .before .before .before .before .before .before .pre .1 .0) (c .before .before .before .before .before .before .before .before .before .before .before .before .before .before .before .before .before .pre .1 .1 .0) (c .before .before .before .before .before .before .before .before .before .before .before .before .before .before .before .before .before .pre .1 .1 .1 .0) (c .before .before .before .before .before .before .before .before .before .before .before .before .before .before .before .before .before .pre .1 .1 .1 .1) _ _ _ _ _ (c .before .before .before .before .before .before .before .before .count-all .ensures .0) (c .before .before .before .before .before .before .before .before .count-all .ensures .1) (c .before .before .first-drawn .ensures) (c .before .last-drawn .ensures) (c .weighted .ensures)
+    let at-count-all = c .before .before .before .before .before .before .before .before in
+    let entry = at-count-all .before .before .before .before .before .before .before .before .before in
+    sampling.made (entry .args .bytes .now) (entry .args .n) (entry .args .a) (entry .args .b) (entry .pre .1 .0) (entry .pre .1 .1 .0) (entry .pre .1 .1 .1 .0) (entry .pre .1 .1 .1 .1) _ _ _ _ _ (at-count-all .count-all .ensures .0) (at-count-all .count-all .ensures .1) (c .before .before .first-drawn .ensures) (c .before .last-drawn .ensures) (c .weighted .ensures)
 
 pub sample-frames-spec : {M : Type 1} → statement M
 sample-frames-spec =

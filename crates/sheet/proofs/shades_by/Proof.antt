@@ -1,5 +1,5 @@
 -- A table is filled from this very window or is not used; without one, fewer cells were spent than it has places.
-use Rattle.verdict.proofs.Tests.{false-is-true}
+use Rattle.basics.proofs.Tests.{false-is-true}
 use mathlib.Core.Path.{refl}
 use native.Mathlib.Omega.{arith}
 use borrow.Author.Needs.{needs}
@@ -16,7 +16,8 @@ power-requires c κs =
 
 fill-requires : tie.Need-fill-requires
 fill-requires c κs =
-    c .before .before .before .before .pre
+    let entry = c .before .before .before .before in
+    entry .pre
 
 same-length : tie.Need-same-length
 same-length c =
@@ -24,11 +25,13 @@ same-length c =
 
 returns : tie.Need-returns
 returns c =
-    (refl, record { shaded = record { drawable = c .before .before .before .before .before .before .before .pre .0; shades = λ h. c .before .before .fill .ensures }; inverse-is = refl; spent-few = omega arith })
+    let entry = c .before .before .before .before .before .before .before in
+    (refl, record { shaded = record { drawable = entry .pre .0; shades = λ h. c .before .before .fill .ensures }; inverse-is = refl; spent-few = omega arith })
 
 returns-2 : tie.Need-returns-2
 returns-2 c =
-    (refl, record { shaded = record { drawable = c .before .before .before .pre .0; shades = λ h. absurd (false-is-true h) }; inverse-is = refl; spent-few = omega (arith, c .if1 .left, c .before .power .ensures .1 .1) })
+    let entry = c .before .before .before in
+    (refl, record { shaded = record { drawable = entry .pre .0; shades = λ h. absurd (false-is-true h) }; inverse-is = refl; spent-few = omega (arith, c .if1 .left, c .before .power .ensures .1 .1) })
 
 pub shades-by-spec : {M : Type 1} → statement M
 shades-by-spec =

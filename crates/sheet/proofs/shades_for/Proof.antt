@@ -11,19 +11,23 @@ same-window-requires c κs =
 
 add-shades-by : tie.Need-add-shades-by
 add-shades-by c =
-    omega (arith, c .before .before .before .before .before .before .pre .1 .1 .1 .1 .0, c .before .before .before .before .before .before .pre .1 .1 .1 .1 .1 .spent-few)
+    let entry = c .before .before .before .before .before .before in
+    omega (arith, entry .pre .1 .1 .1 .1 .0, entry .pre .1 .1 .1 .1 .1 .spent-few)
 
 shades-by-requires : tie.Need-shades-by-requires
 shades-by-requires c κs =
-    (c .before .before .before .before .before .before .before .pre .0, (c .before .before .before .before .before .before .before .pre .1 .0, (c .before .before .before .before .before .before .before .pre .1 .1 .0, c .before .before .before .before .before .before .before .pre .1 .1 .1 .0)))
+    let entry = c .before .before .before .before .before .before .before in
+    (entry .pre .0, (entry .pre .1 .0, (entry .pre .1 .1 .0, entry .pre .1 .1 .1 .0)))
 
 shades-by-requires-2 : tie.Need-shades-by-requires-2
 shades-by-requires-2 c κs =
-    (c .before .before .before .before .before .before .pre .0, (c .before .before .before .before .before .before .pre .1 .0, (c .before .before .before .before .before .before .pre .1 .1 .0, c .before .before .before .before .before .before .pre .1 .1 .1 .0)))
+    let entry = c .before .before .before .before .before .before in
+    (entry .pre .0, (entry .pre .1 .0, (entry .pre .1 .1 .0, entry .pre .1 .1 .1 .0)))
 
 returns : tie.Need-returns
 returns c =
-    (sym (c .before .before .same-window .ensures (c .before .if1 .taken)), c .before .before .before .before .before .before .pre .1 .1 .1 .1 .1)
+    let entry = c .before .before .before .before .before .before in
+    (sym (c .before .before .same-window .ensures (c .before .if1 .taken)), entry .pre .1 .1 .1 .1 .1)
 
 same-length : tie.Need-same-length
 same-length c =

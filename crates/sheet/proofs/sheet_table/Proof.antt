@@ -14,7 +14,8 @@ refused-requires c κs =
 
 returns : tie.Need-returns
 returns c =
-    c .refused .ensures ∙ answers.wrong-order (nodesOf (c .before .before .before .before .args .bytes .now)) (c .before .before .before .before .args .first) (c .before .before .before .before .args .last) (c .before .before .before .before .args .count) (c .before .if1 .taken)
+    let entry = c .before .before .before .before in
+    c .refused .ensures ∙ answers.wrong-order (nodesOf (entry .args .bytes .now)) (entry .args .first) (entry .args .last) (entry .args .count) (c .before .if1 .taken)
 
 frame-count-requires : tie.Need-frame-count-requires
 frame-count-requires c κs =
@@ -34,7 +35,10 @@ refused-requires-2 c κs =
 
 returns-2 : tie.Need-returns-2
 returns-2 c =
-    c .refused2 .ensures ∙ answers.no-frames (nodesOf (c .before .before .before .before .before .before .before .args .bytes .now)) (c .before .before .before .before .before .before .before .args .first) (c .before .before .before .before .before .before .before .args .last) (c .before .before .before .before .before .before .before .args .count) (omega (arith, c .before .before .before .before .if1 .left)) (node-laws.lacked (c .before .enum-told .given .1) (c .before .before .before .frame-count .ensures .0))
+    let at-frame-count = c .before .before .before in
+    let at-if1 = at-frame-count .before in
+    let entry = at-if1 .before .before .before in
+    c .refused2 .ensures ∙ answers.no-frames (nodesOf (entry .args .bytes .now)) (entry .args .first) (entry .args .last) (entry .args .count) (omega (arith, at-if1 .if1 .left)) (node-laws.lacked (c .before .enum-told .given .1) (at-frame-count .frame-count .ensures .0))
 
 refused-requires-3 : tie.Need-refused-requires-3
 refused-requires-3 c κs =
@@ -42,7 +46,11 @@ refused-requires-3 c κs =
 
 returns-3 : tie.Need-returns-3
 returns-3 c =
-    c .refused3 .ensures ∙ answers.below-frames (nodesOf (c .before .before .before .before .before .before .before .before .before .args .bytes .now)) (c .before .before .before .before .before .before .before .before .before .args .first) (c .before .before .before .before .before .before .before .before .before .args .last) (c .before .before .before .before .before .before .before .before .before .args .count) (omega (arith, c .before .before .before .before .before .before .if1 .left)) _ (node-laws.had (c .before .before .before .n .given .1) (c .before .before .before .before .before .frame-count .ensures .0)) (c .before .if2 .taken)
+    let at-n = c .before .before .before in
+    let at-frame-count = at-n .before .before in
+    let at-if1 = at-frame-count .before in
+    let entry = at-if1 .before .before .before in
+    c .refused3 .ensures ∙ answers.below-frames (nodesOf (entry .args .bytes .now)) (entry .args .first) (entry .args .last) (entry .args .count) (omega (arith, at-if1 .if1 .left)) _ (node-laws.had (at-n .n .given .1) (at-frame-count .frame-count .ensures .0)) (c .before .if2 .taken)
 
 refused-requires-4 : tie.Need-refused-requires-4
 refused-requires-4 c κs =
@@ -50,15 +58,27 @@ refused-requires-4 c κs =
 
 returns-4 : tie.Need-returns-4
 returns-4 c =
-    c .refused4 .ensures ∙ answers.above-frames (nodesOf (c .before .before .before .before .before .before .before .before .before .before .args .bytes .now)) (c .before .before .before .before .before .before .before .before .before .before .args .first) (c .before .before .before .before .before .before .before .before .before .before .args .last) (c .before .before .before .before .before .before .before .before .before .before .args .count) (omega (arith, c .before .before .before .before .before .before .before .if1 .left)) _ (node-laws.had (c .before .before .before .before .n .given .1) (c .before .before .before .before .before .before .frame-count .ensures .0)) (c .before .if3 .taken)
+    let at-n = c .before .before .before .before in
+    let at-frame-count = at-n .before .before in
+    let at-if1 = at-frame-count .before in
+    let entry = at-if1 .before .before .before in
+    c .refused4 .ensures ∙ answers.above-frames (nodesOf (entry .args .bytes .now)) (entry .args .first) (entry .args .last) (entry .args .count) (omega (arith, at-if1 .if1 .left)) _ (node-laws.had (at-n .n .given .1) (at-frame-count .frame-count .ensures .0)) (c .before .if3 .taken)
 
 sample-frames-requires : tie.Need-sample-frames-requires
 sample-frames-requires c κs =
-    (c .before .before .before .before .before .before .before .before .before .pre .0, (record { bytes = c .before .before .before .before .before .before .before .before .before .pre .1 .0; sound = c .before .before .before .before .before .before .before .before .before .pre .1 .1; frames = node-laws.had (c .before .before .before .n .given .1) (c .before .before .before .before .before .frame-count .ensures .0); some-frame = omega (arith, c .before .before .before .before .before .before .if1 .left, c .before .if2 .left, c .if3 .left) }, (omega (arith, c .before .if2 .left), (omega (arith, c .before .before .before .before .before .before .if1 .left), omega (arith, c .if3 .left)))))
+    let at-n = c .before .before .before in
+    let at-frame-count = at-n .before .before in
+    let at-if1 = at-frame-count .before in
+    let entry = at-if1 .before .before .before in
+    (entry .pre .0, (record { bytes = entry .pre .1 .0; sound = entry .pre .1 .1; frames = node-laws.had (at-n .n .given .1) (at-frame-count .frame-count .ensures .0); some-frame = omega (arith, at-if1 .if1 .left, c .before .if2 .left, c .if3 .left) }, (omega (arith, c .before .if2 .left), (omega (arith, at-if1 .if1 .left), omega (arith, c .if3 .left)))))
 
 returns-5 : tie.Need-returns-5
 returns-5 c =
-    answers.is-done (nodesOf (c .before .before .before .before .before .before .before .before .before .before .args .bytes .now)) (c .before .before .before .before .before .before .before .before .before .before .args .first) (c .before .before .before .before .before .before .before .before .before .before .args .last) (c .before .before .before .before .before .before .before .before .before .before .args .count) (omega (arith, c .before .before .before .before .before .before .before .if1 .left)) _ (node-laws.had (c .before .before .before .before .n .given .1) (c .before .before .before .before .before .before .frame-count .ensures .0)) (omega (arith, c .before .before .if2 .left)) (omega (arith, c .before .if3 .left)) _ (c .sample-frames .ensures)
+    let at-n = c .before .before .before .before in
+    let at-frame-count = at-n .before .before in
+    let at-if1 = at-frame-count .before in
+    let entry = at-if1 .before .before .before in
+    answers.is-done (nodesOf (entry .args .bytes .now)) (entry .args .first) (entry .args .last) (entry .args .count) (omega (arith, at-if1 .if1 .left)) _ (node-laws.had (at-n .n .given .1) (at-frame-count .frame-count .ensures .0)) (omega (arith, c .before .before .if2 .left)) (omega (arith, c .before .if3 .left)) _ (c .sample-frames .ensures)
 
 pub sheet-table-spec : {M : Type 1} → statement M
 sheet-table-spec =

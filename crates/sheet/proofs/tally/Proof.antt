@@ -39,7 +39,8 @@ array-read-now c =
 
 add-now : tie.Need-add-now Inv-loop μ-loop
 add-now c =
-    record { fits = omega (arith, c .before .before .before .loop .inv .1 .1 .1 (c .wide .result)) }
+    let at-loop = c .before .before .before in
+    record { fits = omega (arith, at-loop .loop .inv .1 .1 .1 (c .wide .result)) }
 
 array-write-now : tie.Need-array-write-now Inv-loop μ-loop
 array-write-now c =
@@ -55,12 +56,15 @@ loop-less c =
 
 loop-again : tie.Need-loop-again Inv-loop μ-loop
 loop-again c =
-    let h : c .before .before .before .loop .i < length (c .before .before .before .before .before .args .line .now) = omega arith in
-    (omega arith, (refl, (rw (c .wide .ensures .0) (sym (tallied-next (c .before .before .before .before .before .args .line .now) (c .before .before .before .loop .now) (c .before .before .before .loop .i) h) ∙ c .before .before .before .loop .inv .1 .1 .0), room-next (c .before .before .before .loop .now) (c .wide .result) (length (c .before .before .before .before .before .args .line .now)) (c .before .before .before .loop .i) h (c .before .before .before .loop .inv .1 .1 .1))))
+    let at-loop = c .before .before .before in
+    let entry = at-loop .before .before in
+    let h : at-loop .loop .i < length (entry .args .line .now) = omega arith in
+    (omega arith, (refl, (rw (c .wide .ensures .0) (sym (tallied-next (entry .args .line .now) (at-loop .loop .now) (at-loop .loop .i) h) ∙ at-loop .loop .inv .1 .1 .0), room-next (at-loop .loop .now) (c .wide .result) (length (entry .args .line .now)) (at-loop .loop .i) h (at-loop .loop .inv .1 .1 .1))))
 
 returns : tie.Need-returns Inv-loop μ-loop
 returns c =
-    sym (tallied-all (c .before .before .before .args .line .now) (c .before .loop .now) (c .before .loop .i) (omega arith)) ∙ c .before .loop .inv .1 .1 .0
+    let entry = c .before .before .before in
+    sym (tallied-all (entry .args .line .now) (c .before .loop .now) (c .before .loop .i) (omega arith)) ∙ c .before .loop .inv .1 .1 .0
 
 pub tally-spec : {M : Type 1} → statement M
 tally-spec =

@@ -12,7 +12,8 @@ enum-told c =
 
 print-numbers-requires : tie.Need-print-numbers-requires
 print-numbers-requires c κs =
-    c .before .before .before .pre .1
+    let entry = c .before .before .before in
+    entry .pre .1
 
 enum-told-2 : tie.Need-enum-told-2
 enum-told-2 c =
@@ -44,7 +45,8 @@ enum-told-4 c =
 
 expect-requires : tie.Need-expect-requires
 expect-requires c κs =
-    absurd (c .before .before .before .pre .0 (ap (λ (x : SheetAnswer). fieldsOf x .code) (c .enum-told4 .given .1)))
+    let entry = c .before .before .before in
+    absurd (entry .pre .0 (ap (λ (x : SheetAnswer). fieldsOf x .code) (c .enum-told4 .given .1)))
 
 enum-told-5 : tie.Need-enum-told-5
 enum-told-5 c =

@@ -13,7 +13,8 @@ mul-size c = search needs
 
 slice-aggregate-write-all : tie.Need-slice-aggregate-write-all
 slice-aggregate-write-all c =
-    sym (length-take-le _ _ (c .before .before .before .pre))
+    let entry = c .before .before .before in
+    sym (length-take-le _ _ (entry .pre))
 
 write-all-requires : tie.Need-write-all-requires
 write-all-requires c κs = search needs

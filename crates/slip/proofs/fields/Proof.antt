@@ -26,9 +26,11 @@ u32-at-requires c κs = search needs
 
 returns : tie.Need-returns
 returns c =
-    let s = c .before .before .before .before .before .before .before .args .s .now in
+    let at-wide = c .before .before .before .before in
+    let entry = at-wide .before .before .before in
+    let s = entry .args .s .now in
     simp (
-      c .before .before .before .before .wide .ensures .0 ∙ sym (number-one s codePlace),
+      at-wide .wide .ensures .0 ∙ sym (number-one s codePlace),
       c .before .before .wide2 .ensures .0 ∙ sym (number-one s rulePlace),
       c .before .u16-at .ensures .0 ∙ number-two s framePlace,
       c .u32-at .ensures .0 ∙ number-four s offsetPlace,

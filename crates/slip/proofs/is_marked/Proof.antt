@@ -16,11 +16,14 @@ shared-slice-read-result c = search needs
 
 returns : tie.Need-returns
 returns c =
-    rw (marked (c .before .before .before .before .before .args .s .now) (c .before .before .before .before .before .pre)) (simp (eq-eqb _ _ (c .before .before .before .if1 .taken), eq-eqb _ _ (c .before .if2 .taken)))
+    let at-if1 = c .before .before .before in
+    let entry = at-if1 .before .before in
+    rw (marked (entry .args .s .now) (entry .pre)) (simp (eq-eqb _ _ (at-if1 .if1 .taken), eq-eqb _ _ (c .before .if2 .taken)))
 
 returns-2 : tie.Need-returns-2
 returns-2 c =
-    rw (marked (c .before .before .before .before .args .s .now) (c .before .before .before .before .pre)) (simp (eq-eqb _ _ (c .before .before .if1 .taken), ne-eqb _ _ (c .if2 .left)))
+    let entry = c .before .before .before .before in
+    rw (marked (entry .args .s .now) (entry .pre)) (simp (eq-eqb _ _ (c .before .before .if1 .taken), ne-eqb _ _ (c .if2 .left)))
 
 returns-3 : tie.Need-returns-3
 returns-3 c =

@@ -1,6 +1,7 @@
 -- `put_slip` leaves the slip and, beyond it, the buffer as it was: seventeen stores in a row are the list of what they store.
 use Rattle.slip.proofs.Laws.{written}
-use Rattle.slip.specs.Slip.{fieldBytes, slipWith, le}
+use Rattle.slip.specs.Slip.{fieldBytes, slipWith}
+use Rattle.basics.specs.Bytes.{le}
 use lib.ListN.{length-set}
 use native.Mathlib.Omega.{arith}
 use borrow.Author.Needs.{needs}

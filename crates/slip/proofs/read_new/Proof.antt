@@ -20,8 +20,10 @@ if-possible-requires c κs = search needs
 returns : tie.Need-returns
 unfolding readSized
 returns c =
-    let rows = c .before .before .u32-at .ensures .0 ∙ number-four (c .before .before .before .before .before .args .slip .now) rowsPlace in
-    simp (eq-eqb _ _ (c .before .before .before .if1 .taken), sym rows) (c .if-possible .ensures ∙ ap ifPossible (c .before .fields .ensures))
+    let at-if1 = c .before .before .before in
+    let entry = at-if1 .before .before in
+    let rows = c .before .before .u32-at .ensures .0 ∙ number-four (entry .args .slip .now) rowsPlace in
+    simp (eq-eqb _ _ (at-if1 .if1 .taken), sym rows) (c .if-possible .ensures ∙ ap ifPossible (c .before .fields .ensures))
 
 returns-2 : tie.Need-returns-2
 unfolding readSized

@@ -2,7 +2,7 @@
 use mathlib.Core.Path.{sym, _∙_}
 use borrow.Author.Tests.{le-leb, lt-leb}
 use Rattle.slip.specs.Slip.{readOf}
-use Rattle.dataset.proofs.Promised.{promised}
+use Rattle.basics.proofs.Promised.{promised}
 use borrow.Author.Needs.{needs}
 use Rattle.slip.proofs.read_slip.Statement.{statement}
 use Rattle.slip.proofs.read_slip.Tie as tie
@@ -16,7 +16,8 @@ read-version-requires c κs = search needs
 returns : tie.Need-returns
 unfolding readOf
 returns c =
-    promised (simp (le-leb _ _ (c .before .before .before .if1 .taken), sym (c .before .before .is-marked .ensures) ∙ c .before .if2 .taken) (c .read-version .ensures))
+    let at-if1 = c .before .before .before in
+    promised (simp (le-leb _ _ (at-if1 .if1 .taken), sym (c .before .before .is-marked .ensures) ∙ c .before .if2 .taken) (c .read-version .ensures))
 
 returns-2 : tie.Need-returns-2
 unfolding readOf

@@ -16,7 +16,8 @@ read-old-requires c κs = search needs
 returns : tie.Need-returns
 unfolding readVersion
 returns c =
-    let v = sym (number-two (c .before .before .before .before .args .slip .now) versionPlace) ∙ sym (c .before .before .u16-at .ensures .0) in
+    let entry = c .before .before .before .before in
+    let v = sym (number-two (entry .args .slip .now) versionPlace) ∙ sym (c .before .before .u16-at .ensures .0) in
     simp (eq-eqb _ _ (v ∙ c .before .if1 .taken)) (c .read-old .ensures)
 
 read-new-requires : tie.Need-read-new-requires
@@ -25,13 +26,16 @@ read-new-requires c κs = search needs
 returns-2 : tie.Need-returns-2
 unfolding readVersion
 returns-2 c =
-    let v = c .before .before .before .u16-at .ensures .0 ∙ number-two (c .before .before .before .before .before .args .slip .now) versionPlace in
+    let at-u16-at = c .before .before .before in
+    let entry = at-u16-at .before .before in
+    let v = at-u16-at .u16-at .ensures .0 ∙ number-two (entry .args .slip .now) versionPlace in
     simp (ne-eqb _ _ (λ e. c .before .before .if1 .left (v ∙ e)), eq-eqb _ _ (sym v ∙ c .before .if2 .taken)) (c .read-new .ensures)
 
 returns-3 : tie.Need-returns-3
 unfolding readVersion
 returns-3 c =
-    let v = c .before .before .u16-at .ensures .0 ∙ number-two (c .before .before .before .before .args .slip .now) versionPlace in
+    let entry = c .before .before .before .before in
+    let v = c .before .before .u16-at .ensures .0 ∙ number-two (entry .args .slip .now) versionPlace in
     simp (ne-eqb _ _ (λ e. c .before .if1 .left (v ∙ e)), ne-eqb _ _ (λ e. c .if2 .left (v ∙ e)))
 
 pub read-version-spec : {M : Type 1} → statement M

@@ -14,7 +14,9 @@ write-slip-requires c κs = search needs
 
 returns : tie.Need-returns
 unfolding slipBuffer
-returns c = c .before .write-slip .ensures .1 ∙ rw (c .before .before .before .pre, append-nil)
+returns c =
+    let entry = c .before .before .before in
+    c .before .write-slip .ensures .1 ∙ rw (entry .pre, append-nil)
 
 pub slip-of-spec : {M : Type 1} → statement M
 slip-of-spec = tie.close (tie.spec slice-aggregate-write-slip write-slip-requires returns)

@@ -16,11 +16,13 @@ returns c =
 
 returns-2 : tie.Need-returns-2
 returns-2 c =
-    rw (c .before .before .before .frames .given .1, le-leb _ _ (c .before .if1 .taken), le-leb _ _ (c .if2 .taken))
+    let at-frames = c .before .before .before in
+    rw (at-frames .frames .given .1, le-leb _ _ (c .before .if1 .taken), le-leb _ _ (c .if2 .taken))
 
 returns-3 : tie.Need-returns-3
 returns-3 c =
-    rw (c .before .before .before .frames .given .1, le-leb _ _ (c .before .if1 .taken), lt-leb _ _ (c .if2 .left))
+    let at-frames = c .before .before .before in
+    rw (at-frames .frames .given .1, le-leb _ _ (c .before .if1 .taken), lt-leb _ _ (c .if2 .left))
 
 returns-4 : tie.Need-returns-4
 returns-4 c =

@@ -24,35 +24,47 @@ loop-holds c =
 
 range-holds-requires : tie.Need-range-holds-requires Inv-loop μ-loop
 range-holds-requires c κs =
-    (c .before .before .before .before .pre .0, omega (arith, c .loop-test .taken, c .before .before .before .before .pre .1))
+    let entry = c .before .before .before .before in
+    (entry .pre .0, omega (arith, c .loop-test .taken, entry .pre .1))
 
 enum-told : tie.Need-enum-told Inv-loop μ-loop
 enum-told c = search needs
 
 returns : tie.Need-returns Inv-loop μ-loop
 returns c =
-    (laws.found-here _ _ _ _ (c .before .before .before .loop-test .taken) (laws.said holdsOf (c .enum-told .given .1) (c .before .before .range-holds .ensures)) ∙ c .before .before .before .before .loop .inv, omega (arith, c .before .before .before .loop-test .taken, c .before .before .before .before .before .before .before .pre .1))
+    let at-loop-test = c .before .before .before in
+    let at-loop = at-loop-test .before in
+    let entry = at-loop .before .before .before in
+    (laws.found-here _ _ _ _ (at-loop-test .loop-test .taken) (laws.said holdsOf (c .enum-told .given .1) (c .before .before .range-holds .ensures)) ∙ at-loop .loop .inv, omega (arith, at-loop-test .loop-test .taken, entry .pre .1))
 
 enum-told-2 : tie.Need-enum-told-2 Inv-loop μ-loop
 enum-told-2 c = search needs
 
 next-requires : tie.Need-next-requires Inv-loop μ-loop
 next-requires c κs =
-    (c .before .before .before .before .before .before .before .pre .0, omega (arith, c .before .before .before .loop-test .taken, c .before .before .before .before .before .before .before .pre .1))
+    let at-loop-test = c .before .before .before in
+    let entry = at-loop-test .before .before .before .before in
+    (entry .pre .0, omega (arith, at-loop-test .loop-test .taken, entry .pre .1))
 
 loop-less : tie.Need-loop-less Inv-loop μ-loop
 loop-less c = search needs
 
 loop-again : tie.Need-loop-again Inv-loop μ-loop
 loop-again c =
-    sym (laws.holding-next _ _ _ _ _ (c .next .ensures .0) (c .before .before .before .before .loop-test .taken) (laws.said holdsOf (c .before .enum-told2 .given .1) (c .before .before .before .range-holds .ensures))) ∙ c .before .before .before .before .before .loop .inv
+    let at-range-holds = c .before .before .before in
+    let at-loop-test = at-range-holds .before in
+    let at-loop = at-loop-test .before in
+    sym (laws.holding-next _ _ _ _ _ (c .next .ensures .0) (at-loop-test .loop-test .taken) (laws.said holdsOf (c .before .enum-told2 .given .1) (at-range-holds .range-holds .ensures))) ∙ at-loop .loop .inv
 
 enum-told-3 : tie.Need-enum-told-3 Inv-loop μ-loop
 enum-told-3 c = search needs
 
 returns-2 : tie.Need-returns-2 Inv-loop μ-loop
 returns-2 c =
-    (laws.found-lacks _ _ _ _ (c .before .before .before .loop-test .taken) (laws.said holdsOf (c .enum-told3 .given .1) (c .before .before .range-holds .ensures)) ∙ c .before .before .before .before .loop .inv, omega (arith, c .before .before .before .loop-test .taken, c .before .before .before .before .before .before .before .pre .1))
+    let at-loop-test = c .before .before .before in
+    let at-loop = at-loop-test .before in
+    let entry = at-loop .before .before .before in
+    (laws.found-lacks _ _ _ _ (at-loop-test .loop-test .taken) (laws.said holdsOf (c .enum-told3 .given .1) (c .before .before .range-holds .ensures)) ∙ at-loop .loop .inv, omega (arith, at-loop-test .loop-test .taken, entry .pre .1))
 
 returns-3 : tie.Need-returns-3 Inv-loop μ-loop
 returns-3 c =

@@ -12,11 +12,13 @@ value-requires c κs = search needs
 
 returns : tie.Need-returns
 returns c =
-    rw (← c .before .before .before .vr .ensures, eq-eqb _ _ (c .before .before .if1 .taken), ← c .before .value .ensures, le-leb _ _ (c .if2 .taken))
+    let at-vr = c .before .before .before in
+    rw (← at-vr .vr .ensures, eq-eqb _ _ (c .before .before .if1 .taken), ← c .before .value .ensures, le-leb _ _ (c .if2 .taken))
 
 returns-2 : tie.Need-returns-2
 returns-2 c =
-    rw (← c .before .before .before .vr .ensures, eq-eqb _ _ (c .before .before .if1 .taken), ← c .before .value .ensures, lt-leb _ _ (c .if2 .left))
+    let at-vr = c .before .before .before in
+    rw (← at-vr .vr .ensures, eq-eqb _ _ (c .before .before .if1 .taken), ← c .before .value .ensures, lt-leb _ _ (c .if2 .left))
 
 returns-3 : tie.Need-returns-3
 returns-3 c =

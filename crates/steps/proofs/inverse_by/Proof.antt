@@ -16,11 +16,17 @@ is-word-requires c κs = search needs
 
 returns : tie.Need-returns
 returns c =
-    rw (le-leb _ _ (c .before .before .before .before .before .if1 .taken), sym (c .before .before .before .before .is-single .ensures) ∙ c .before .before .before .if2 .taken, sym (c .before .is-word .ensures) ∙ c .if3 .taken)
+    let at-if2 = c .before .before .before in
+    let at-is-single = at-if2 .before in
+    let at-if1 = at-is-single .before in
+    rw (le-leb _ _ (at-if1 .if1 .taken), sym (at-is-single .is-single .ensures) ∙ at-if2 .if2 .taken, sym (c .before .is-word .ensures) ∙ c .if3 .taken)
 
 returns-2 : tie.Need-returns-2
 returns-2 c =
-    rw (le-leb _ _ (c .before .before .before .before .before .if1 .taken), sym (c .before .before .before .before .is-single .ensures) ∙ c .before .before .before .if2 .taken, sym (c .before .is-word .ensures) ∙ c .if3 .left)
+    let at-if2 = c .before .before .before in
+    let at-is-single = at-if2 .before in
+    let at-if1 = at-is-single .before in
+    rw (le-leb _ _ (at-if1 .if1 .taken), sym (at-is-single .is-single .ensures) ∙ at-if2 .if2 .taken, sym (c .before .is-word .ensures) ∙ c .if3 .left)
 
 returns-3 : tie.Need-returns-3
 returns-3 c =

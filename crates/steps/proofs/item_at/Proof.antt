@@ -33,7 +33,8 @@ loop-holds c =
 
 next-requires : tie.Need-next-requires Inv-loop μ-loop
 next-requires c κs =
-    (c .before .before .before .before .before .before .before .pre, omega (arith, c .if2 .taken, c .before .before .loop .inv .1 .0))
+    let entry = c .before .before .before .before .before .before .before in
+    (entry .pre, omega (arith, c .if2 .taken, c .before .before .loop .inv .1 .0))
 
 add-k : tie.Need-add-k Inv-loop μ-loop
 add-k c = search needs
@@ -43,11 +44,13 @@ loop-less c = search needs
 
 loop-again : tie.Need-loop-again Inv-loop μ-loop
 loop-again c =
-    (sym (laws.first-later _ _ _ _ _ _ (c .next .ensures .0) (c .before .before .loop-test .taken) (c .before .if2 .taken)) ∙ c .before .before .before .loop .inv .0, (c .before .before .before .loop .inv .1 .0, omega arith))
+    let at-loop = c .before .before .before in
+    (sym (laws.first-later _ _ _ _ _ _ (c .next .ensures .0) (c .before .before .loop-test .taken) (c .before .if2 .taken)) ∙ at-loop .loop .inv .0, (at-loop .loop .inv .1 .0, omega arith))
 
 returns-2 : tie.Need-returns-2 Inv-loop μ-loop
 returns-2 c =
-    (sym (laws.first-none (nodesOf (c .before .before .before .before .before .before .before .args .bytes .now)) _ _ (c .before .before .before .before .before .before .before .args .frame - c .before .before .loop .k) (c .if2 .left)) ∙ c .before .before .loop .inv .0, tt)
+    let entry = c .before .before .before .before .before .before .before in
+    (sym (laws.first-none (nodesOf (entry .args .bytes .now)) _ _ (entry .args .frame - c .before .before .loop .k) (c .if2 .left)) ∙ c .before .before .loop .inv .0, tt)
 
 returns-3 : tie.Need-returns-3 Inv-loop μ-loop
 returns-3 c =
@@ -55,7 +58,8 @@ returns-3 c =
 
 returns-4 : tie.Need-returns-4 Inv-loop μ-loop
 returns-4 c =
-    (sym (laws.first-none (nodesOf (c .before .before .before .before .before .before .before .args .bytes .now)) _ _ (c .before .before .before .before .before .before .before .args .frame - c .before .before .loop .k) (c .if3 .left)) ∙ c .before .before .loop .inv .0, tt)
+    let entry = c .before .before .before .before .before .before .before in
+    (sym (laws.first-none (nodesOf (entry .args .bytes .now)) _ _ (entry .args .frame - c .before .before .loop .k) (c .if3 .left)) ∙ c .before .before .loop .inv .0, tt)
 
 pub item-at-spec : {M : Type 1} → statement M
 item-at-spec = tie.close (tie.spec Inv-loop μ-loop returns frame-items-requires loop-holds next-requires add-k loop-less loop-again returns-2 returns-3 returns-4)

@@ -15,11 +15,14 @@ item-shift-requires c κs = search needs
 
 returns : tie.Need-returns
 returns c =
-    rw (← c .before .before .before .before .vr .ensures, eq-eqb _ _ (c .before .before .before .if1 .taken), ← c .before .before .value .ensures, eq-eqb _ _ (c .before .if2 .taken), ← c .item-shift .ensures)
+    let at-if1 = c .before .before .before in
+    let at-vr = at-if1 .before in
+    rw (← at-vr .vr .ensures, eq-eqb _ _ (at-if1 .if1 .taken), ← c .before .before .value .ensures, eq-eqb _ _ (c .before .if2 .taken), ← c .item-shift .ensures)
 
 returns-2 : tie.Need-returns-2
 returns-2 c =
-    rw (← c .before .before .before .vr .ensures, eq-eqb _ _ (c .before .before .if1 .taken), ← c .before .value .ensures, ne-eqb _ _ (c .if2 .left))
+    let at-vr = c .before .before .before in
+    rw (← at-vr .vr .ensures, eq-eqb _ _ (c .before .before .if1 .taken), ← c .before .value .ensures, ne-eqb _ _ (c .if2 .left))
 
 returns-3 : tie.Need-returns-3
 returns-3 c =

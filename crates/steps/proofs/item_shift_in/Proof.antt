@@ -15,7 +15,9 @@ enum-known-k c = search needs
 
 item-shift-at-requires : tie.Need-item-shift-at-requires
 item-shift-at-requires c κs =
-    (c .before .before .before .before .before .before .pre .0, node-laws.within _ (c .before .k .given .1) (c .before .before .before .find-item .ensures .1))
+    let at-find-item = c .before .before .before in
+    let entry = at-find-item .before .before .before in
+    (entry .pre .0, node-laws.within _ (c .before .k .given .1) (at-find-item .find-item .ensures .1))
 
 returns : tie.Need-returns
 returns c =
@@ -23,7 +25,8 @@ returns c =
 
 returns-2 : tie.Need-returns-2
 returns-2 c =
-    rw (node-laws.had (c .before .before .k .given .1) (c .before .before .before .before .find-item .ensures .0)) (c .item-shift-at .ensures)
+    let at-find-item = c .before .before .before .before in
+    rw (node-laws.had (c .before .before .k .given .1) (at-find-item .find-item .ensures .0)) (c .item-shift-at .ensures)
 
 pub item-shift-in-spec : {M : Type 1} → statement M
 item-shift-in-spec = tie.close (tie.spec find-item-requires enum-told enum-known-k item-shift-at-requires returns returns-2)

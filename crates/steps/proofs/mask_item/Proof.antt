@@ -14,13 +14,15 @@ mask-items-requires c κs = search needs
 
 first-holding-requires : tie.Need-first-holding-requires
 first-holding-requires c κs =
-    (c .before .before .before .pre .0, c .mask-items .ensures .inner)
+    let entry = c .before .before .before in
+    (entry .pre .0, c .mask-items .ensures .inner)
 
 returns : tie.Need-returns
 returns c =
-    let a = c .before .before .before .before .args in
+    let entry = c .before .before .before .before in
+    let a = entry .args in
     let ns = nodesOf (a .bytes .now) in
-    (laws.found-given ns (a .frame) (c .before .before .before .before .pre .1) (c .first-holding .result) (c .first-holding .ensures .0 ∙ ap (λ (l : List ℕ). firstHolding ns (a .frame) l) (c .before .mask-items .ensures .ahead)), c .first-holding .ensures .1)
+    (laws.found-given ns (a .frame) (entry .pre .1) (c .first-holding .result) (c .first-holding .ensures .0 ∙ ap (λ (l : List ℕ). firstHolding ns (a .frame) l) (c .before .mask-items .ensures .ahead)), c .first-holding .ensures .1)
 
 pub mask-item-spec : {M : Type 1} → statement M
 mask-item-spec = tie.close (tie.spec mask-items-requires first-holding-requires returns)

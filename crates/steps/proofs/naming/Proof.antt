@@ -24,32 +24,45 @@ loop-holds c =
 
 us-item-requires : tie.Need-us-item-requires Inv-loop μ-loop
 us-item-requires c κs =
-    (c .before .before .before .before .pre .0, omega (arith, c .loop-test .taken, c .before .before .before .before .pre .1))
+    let entry = c .before .before .before .before in
+    (entry .pre .0, omega (arith, c .loop-test .taken, entry .pre .1))
 
 enum-told : tie.Need-enum-told Inv-loop μ-loop
 enum-told c = search needs
 
 returns : tie.Need-returns Inv-loop μ-loop
 returns c =
-    (sym (laws.naming-lacks _ _ _ _ (c .before .before .before .loop-test .taken) (node-laws.lacked (c .enum-told .given .1) (c .before .before .us-item .ensures .0))) ∙ c .before .before .before .before .loop .inv, tt)
+    let at-loop-test = c .before .before .before in
+    let at-loop = at-loop-test .before in
+    (sym (laws.naming-lacks _ _ _ _ (at-loop-test .loop-test .taken) (node-laws.lacked (c .enum-told .given .1) (c .before .before .us-item .ensures .0))) ∙ at-loop .loop .inv, tt)
 
 enum-known-x : tie.Need-enum-known-x Inv-loop μ-loop
 enum-known-x c = search needs
 
 returns-2 : tie.Need-returns-2 Inv-loop μ-loop
 returns-2 c =
-    (sym (laws.naming-here _ _ _ _ _ (c .before .before .before .before .before .loop-test .taken) (node-laws.had (c .before .before .x .given .1) (c .before .before .before .before .us-item .ensures .0)) (c .if1 .taken)) ∙ c .before .before .before .before .before .before .loop .inv, omega (arith, c .before .before .before .before .before .loop-test .taken, c .before .before .before .before .before .before .before .before .before .pre .1))
+    let at-us-item = c .before .before .before .before in
+    let at-loop-test = at-us-item .before in
+    let at-loop = at-loop-test .before in
+    let entry = at-loop .before .before .before in
+    (sym (laws.naming-here _ _ _ _ _ (at-loop-test .loop-test .taken) (node-laws.had (c .before .before .x .given .1) (at-us-item .us-item .ensures .0)) (c .if1 .taken)) ∙ at-loop .loop .inv, omega (arith, at-loop-test .loop-test .taken, entry .pre .1))
 
 next-requires : tie.Need-next-requires Inv-loop μ-loop
 next-requires c κs =
-    (c .before .before .before .before .before .before .before .before .before .pre .0, omega (arith, c .before .before .before .before .before .loop-test .taken, c .before .before .before .before .before .before .before .before .before .pre .1))
+    let at-loop-test = c .before .before .before .before .before in
+    let entry = at-loop-test .before .before .before .before in
+    (entry .pre .0, omega (arith, at-loop-test .loop-test .taken, entry .pre .1))
 
 loop-less : tie.Need-loop-less Inv-loop μ-loop
 loop-less c = search needs
 
 loop-again : tie.Need-loop-again Inv-loop μ-loop
 loop-again c =
-    sym (laws.naming-next _ _ _ _ _ (c .before .before .before .before .before .before .loop-test .taken) (node-laws.had (c .before .before .before .x .given .1) (c .before .before .before .before .before .us-item .ensures .0)) _ (c .next .ensures .0) (c .before .if1 .left)) ∙ c .before .before .before .before .before .before .before .loop .inv
+    let at-x = c .before .before .before in
+    let at-us-item = at-x .before .before in
+    let at-loop-test = at-us-item .before in
+    let at-loop = at-loop-test .before in
+    sym (laws.naming-next _ _ _ _ _ (at-loop-test .loop-test .taken) (node-laws.had (at-x .x .given .1) (at-us-item .us-item .ensures .0)) _ (c .next .ensures .0) (c .before .if1 .left)) ∙ at-loop .loop .inv
 
 returns-3 : tie.Need-returns-3 Inv-loop μ-loop
 returns-3 c =

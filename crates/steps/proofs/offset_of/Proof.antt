@@ -17,7 +17,9 @@ enum-known-k c = search needs
 
 offset-at-requires : tie.Need-offset-at-requires
 offset-at-requires c κs =
-    (c .before .before .before .before .before .before .pre .0, node-laws.within _ (c .before .k .given .1) (c .before .before .before .find-item .ensures .1))
+    let at-find-item = c .before .before .before in
+    let entry = at-find-item .before .before .before in
+    (entry .pre .0, node-laws.within _ (c .before .k .given .1) (at-find-item .find-item .ensures .1))
 
 returns : tie.Need-returns
 unfolding offsetOf
@@ -27,7 +29,8 @@ returns c =
 returns-2 : tie.Need-returns-2
 unfolding offsetOf
 returns-2 c =
-    (rw (node-laws.had (c .before .before .k .given .1) (c .before .before .before .before .find-item .ensures .0)) (c .offset-at .ensures .0), c .offset-at .ensures .1)
+    let at-find-item = c .before .before .before .before in
+    (rw (node-laws.had (c .before .before .k .given .1) (at-find-item .find-item .ensures .0)) (c .offset-at .ensures .0), c .offset-at .ensures .1)
 
 pub offset-of-spec : {M : Type 1} → statement M
 offset-of-spec = tie.close (tie.spec find-item-requires enum-told enum-known-k offset-at-requires returns returns-2)

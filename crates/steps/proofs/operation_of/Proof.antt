@@ -31,17 +31,27 @@ returns c =
 returns-2 : tie.Need-returns-2
 unfolding operationOf operationIs
 returns-2 c =
-    rw (← c .before .before .before .before .is-cs-item .ensures, c .before .before .before .if1 .left, ← c .before .is-cs-item2 .ensures, c .if2 .taken)
+    let at-if1 = c .before .before .before in
+    let at-is-cs-item = at-if1 .before in
+    rw (← at-is-cs-item .is-cs-item .ensures, at-if1 .if1 .left, ← c .before .is-cs-item2 .ensures, c .if2 .taken)
 
 returns-3 : tie.Need-returns-3
 unfolding operationOf operationIs
 returns-3 c =
-    rw (← c .before .before .before .before .before .before .before .is-cs-item .ensures, c .before .before .before .before .before .before .if1 .left, ← c .before .before .before .before .is-cs-item2 .ensures, c .before .before .before .if2 .left, ← c .before .is-cs-item3 .ensures, c .if3 .taken)
+    let at-if2 = c .before .before .before in
+    let at-is-cs-item2 = at-if2 .before in
+    let at-if1 = at-is-cs-item2 .before .before in
+    let at-is-cs-item = at-if1 .before in
+    rw (← at-is-cs-item .is-cs-item .ensures, at-if1 .if1 .left, ← at-is-cs-item2 .is-cs-item2 .ensures, at-if2 .if2 .left, ← c .before .is-cs-item3 .ensures, c .if3 .taken)
 
 returns-4 : tie.Need-returns-4
 unfolding operationOf operationIs
 returns-4 c =
-    rw (← c .before .before .before .before .before .before .before .is-cs-item .ensures, c .before .before .before .before .before .before .if1 .left, ← c .before .before .before .before .is-cs-item2 .ensures, c .before .before .before .if2 .left, ← c .before .is-cs-item3 .ensures, c .if3 .left)
+    let at-if2 = c .before .before .before in
+    let at-is-cs-item2 = at-if2 .before in
+    let at-if1 = at-is-cs-item2 .before .before in
+    let at-is-cs-item = at-if1 .before in
+    rw (← at-is-cs-item .is-cs-item .ensures, at-if1 .if1 .left, ← at-is-cs-item2 .is-cs-item2 .ensures, at-if2 .if2 .left, ← c .before .is-cs-item3 .ensures, c .if3 .left)
 
 pub operation-of-spec : {M : Type 1} → statement M
 operation-of-spec =

@@ -9,7 +9,8 @@ enum-known-group c = search needs
 
 own-in-requires : tie.Need-own-in-requires
 own-in-requires c κs =
-    (c .before .before .before .before .before .pre .0, (c .before .before .before .before .before .pre .1 .0, laws.found-within _ (c .before .group .given .1) (c .before .before .before .before .before .pre .1 .1)))
+    let entry = c .before .before .before .before .before in
+    (entry .pre .0, (entry .pre .1 .0, laws.found-within _ (c .before .group .given .1) (entry .pre .1 .1)))
 
 enum-told : tie.Need-enum-told
 enum-told c = search needs

@@ -26,19 +26,31 @@ enum-known-id c = search needs
 
 naming-requires : tie.Need-naming-requires
 naming-requires c κs =
-    (c .before .before .before .before .before .before .before .before .before .before .pre .0, c .before .before .before .before .before .next .ensures .1)
+    let at-next = c .before .before .before .before .before in
+    let entry = at-next .before .before .before .before .before in
+    (entry .pre .0, at-next .next .ensures .1)
 
 returns : tie.Need-returns
 returns c =
-    (rw (← c .before .before .before .before .before .before .vr .ensures, eq-eqb _ _ (c .before .before .before .before .before .if1 .taken), ← c .before .before .before .before .next .ensures .0, members-some _ _ _ (c .before .before .before .if2 .taken), node-laws.lacked (c .enum-told .given .1) (c .before .before .us-item .ensures .0)), tt)
+    let at-if2 = c .before .before .before in
+    let at-next = at-if2 .before in
+    let at-if1 = at-next .before in
+    let at-vr = at-if1 .before in
+    (rw (← at-vr .vr .ensures, eq-eqb _ _ (at-if1 .if1 .taken), ← at-next .next .ensures .0, members-some _ _ _ (at-if2 .if2 .taken), node-laws.lacked (c .enum-told .given .1) (c .before .before .us-item .ensures .0)), tt)
 
 returns-2 : tie.Need-returns-2
 returns-2 c =
-    (rw (← c .before .before .before .before .before .before .before .before .vr .ensures, eq-eqb _ _ (c .before .before .before .before .before .before .before .if1 .taken), ← c .before .before .before .before .before .before .next .ensures .0, members-some _ _ _ (c .before .before .before .before .before .if2 .taken), node-laws.had (c .before .before .id .given .1) (c .before .before .before .before .us-item .ensures .0)) (c .naming .ensures .0), c .naming .ensures .1)
+    let at-us-item = c .before .before .before .before in
+    let at-if2 = at-us-item .before in
+    let at-next = at-if2 .before in
+    let at-if1 = at-next .before in
+    let at-vr = at-if1 .before in
+    (rw (← at-vr .vr .ensures, eq-eqb _ _ (at-if1 .if1 .taken), ← at-next .next .ensures .0, members-some _ _ _ (at-if2 .if2 .taken), node-laws.had (c .before .before .id .given .1) (at-us-item .us-item .ensures .0)) (c .naming .ensures .0), c .naming .ensures .1)
 
 returns-3 : tie.Need-returns-3
 returns-3 c =
-    (rw (← c .before .before .before .vr .ensures, eq-eqb _ _ (c .before .before .if1 .taken), ← c .before .next .ensures .0, members-none _ _ _ (c .if2 .left)), tt)
+    let at-vr = c .before .before .before in
+    (rw (← at-vr .vr .ensures, eq-eqb _ _ (c .before .before .if1 .taken), ← c .before .next .ensures .0, members-none _ _ _ (c .if2 .left)), tt)
 
 returns-4 : tie.Need-returns-4
 returns-4 c =

@@ -16,7 +16,9 @@ enum-known-i c = search needs
 
 range-at-requires : tie.Need-range-at-requires
 range-at-requires c κs =
-    (c .before .before .before .before .before .before .pre .0, node-laws.within _ (c .before .i .given .1) (c .before .before .before .find-item .ensures .1))
+    let at-find-item = c .before .before .before in
+    let entry = at-find-item .before .before .before in
+    (entry .pre .0, node-laws.within _ (c .before .i .given .1) (at-find-item .find-item .ensures .1))
 
 returns : tie.Need-returns
 unfolding rangeHolds
@@ -26,7 +28,8 @@ returns c =
 returns-2 : tie.Need-returns-2
 unfolding rangeHolds
 returns-2 c =
-    rw (node-laws.had (c .before .before .i .given .1) (c .before .before .before .before .find-item .ensures .0)) (c .range-at .ensures)
+    let at-find-item = c .before .before .before .before in
+    rw (node-laws.had (c .before .before .i .given .1) (at-find-item .find-item .ensures .0)) (c .range-at .ensures)
 
 pub range-holds-spec : {M : Type 1} → statement M
 range-holds-spec = tie.close (tie.spec find-item-requires enum-told enum-known-i range-at-requires returns returns-2)

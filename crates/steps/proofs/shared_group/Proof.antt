@@ -15,7 +15,9 @@ enum-known-s c = search needs
 
 find-item-requires : tie.Need-find-item-requires
 find-item-requires c κs =
-    (c .before .before .before .before .before .before .pre, node-laws.within _ (c .before .s .given .1) (c .before .before .before .shared-item .ensures .1))
+    let at-shared-item = c .before .before .before in
+    let entry = at-shared-item .before .before .before in
+    (entry .pre, node-laws.within _ (c .before .s .given .1) (at-shared-item .shared-item .ensures .1))
 
 enum-told-2 : tie.Need-enum-told-2
 enum-told-2 c = search needs
@@ -29,11 +31,16 @@ returns c =
 
 returns-2 : tie.Need-returns-2
 returns-2 c =
-    (rw (node-laws.had (c .before .before .before .before .s .given .1) (c .before .before .before .before .before .before .shared-item .ensures .0), node-laws.lacked (c .enum-told2 .given .1) (c .before .before .find-item .ensures .0)), tt)
+    let at-s = c .before .before .before .before in
+    let at-shared-item = at-s .before .before in
+    (rw (node-laws.had (at-s .s .given .1) (at-shared-item .shared-item .ensures .0), node-laws.lacked (c .enum-told2 .given .1) (c .before .before .find-item .ensures .0)), tt)
 
 returns-3 : tie.Need-returns-3
 returns-3 c =
-    (rw (node-laws.had (c .before .before .before .before .before .s .given .1) (c .before .before .before .before .before .before .before .shared-item .ensures .0), node-laws.had (c .before .g .given .1) (c .before .before .before .find-item .ensures .0)), node-laws.within _ (c .before .g .given .1) (c .before .before .before .find-item .ensures .1))
+    let at-find-item = c .before .before .before in
+    let at-s = at-find-item .before .before in
+    let at-shared-item = at-s .before .before in
+    (rw (node-laws.had (at-s .s .given .1) (at-shared-item .shared-item .ensures .0), node-laws.had (c .before .g .given .1) (at-find-item .find-item .ensures .0)), node-laws.within _ (c .before .g .given .1) (at-find-item .find-item .ensures .1))
 
 pub shared-group-spec : {M : Type 1} → statement M
 shared-group-spec = tie.close (tie.spec shared-item-requires enum-told enum-known-s find-item-requires enum-told-2 enum-known-g returns returns-2 returns-3)

@@ -13,25 +13,30 @@ enum-known-g c = search needs
 
 window-at-requires : tie.Need-window-at-requires
 window-at-requires c κs =
-    (c .before .before .before .before .before .before .pre .0, laws.found-within _ (c .before .g .given .1) (c .before .before .before .shared-group .ensures .1))
+    let at-shared-group = c .before .before .before in
+    let entry = at-shared-group .before .before .before in
+    (entry .pre .0, laws.found-within _ (c .before .g .given .1) (at-shared-group .shared-group .ensures .1))
 
 enum-told : tie.Need-enum-told
 enum-told c = search needs
 
 full-window-requires : tie.Need-full-window-requires
 full-window-requires c κs =
-    c .before .before .before .before .before .pre .1
+    let entry = c .before .before .before .before .before in
+    entry .pre .1
 
 enum-told-2 : tie.Need-enum-told-2
 enum-told-2 c = search needs
 
 returns : tie.Need-returns
 returns c =
-    rw (laws.said foundOf (c .before .before .g .given .1) (c .before .before .before .before .shared-group .ensures .0)) (c .window-at .ensures)
+    let at-shared-group = c .before .before .before .before in
+    rw (laws.said foundOf (c .before .before .g .given .1) (at-shared-group .shared-group .ensures .0)) (c .window-at .ensures)
 
 returns-2 : tie.Need-returns-2
 returns-2 c =
-    rw (laws.said foundOf (c .before .enum-told .given .1) (c .before .before .before .shared-group .ensures .0), ← c .full-window .ensures .0)
+    let at-shared-group = c .before .before .before in
+    rw (laws.said foundOf (c .before .enum-told .given .1) (at-shared-group .shared-group .ensures .0), ← c .full-window .ensures .0)
 
 returns-3 : tie.Need-returns-3
 returns-3 c =

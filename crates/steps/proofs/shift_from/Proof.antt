@@ -9,7 +9,8 @@ enum-known-named c = search needs
 
 frame-shift-in-requires : tie.Need-frame-shift-in-requires
 frame-shift-in-requires c κs =
-    (c .before .before .before .before .before .pre .0, laws.found-within _ (c .before .named .given .1) (c .before .before .before .before .before .pre .1 .1))
+    let entry = c .before .before .before .before .before in
+    (entry .pre .0, laws.found-within _ (c .before .named .given .1) (entry .pre .1 .1))
 
 enum-told : tie.Need-enum-told
 enum-told c = search needs

@@ -24,7 +24,9 @@ enum-known-d-2 c = search needs
 
 add-among-frames : tie.Need-add-among-frames
 add-among-frames c =
-    omega (arith, laws.minus-within 32769 (c .before .d2 .given .1) (c .before .before .before .offset-of .ensures .1), c .before .before .before .before .before .before .pre .1 .1 .0)
+    let at-offset-of = c .before .before .before in
+    let entry = at-offset-of .before .before .before in
+    omega (arith, laws.minus-within 32769 (c .before .d2 .given .1) (at-offset-of .offset-of .ensures .1), entry .pre .1 .1 .0)
 
 among-frames-requires-2 : tie.Need-among-frames-requires-2
 among-frames-requires-2 c κs = search needs
@@ -35,12 +37,17 @@ enum-told c = search needs
 returns : tie.Need-returns
 unfolding tidFrame
 returns c =
-    rw (laws.said signedOf (c .before .before .before .d .given .1) (c .before .before .before .before .before .offset-of .ensures .0), ← c .before .less .ensures, ← c .before .before .before .before .before .before .before .before .pre .1 .1 .1) (c .among-frames .ensures)
+    let at-d = c .before .before .before in
+    let at-offset-of = at-d .before .before in
+    let entry = at-offset-of .before .before .before in
+    rw (laws.said signedOf (at-d .d .given .1) (at-offset-of .offset-of .ensures .0), ← c .before .less .ensures, ← entry .pre .1 .1 .1) (c .among-frames .ensures)
 
 returns-2 : tie.Need-returns-2
 unfolding tidFrame
 returns-2 c =
-    rw (laws.said signedOf (c .before .before .d2 .given .1) (c .before .before .before .before .offset-of .ensures .0), ← c .before .before .before .before .before .before .before .pre .1 .1 .1) (c .among-frames2 .ensures)
+    let at-offset-of = c .before .before .before .before in
+    let entry = at-offset-of .before .before .before in
+    rw (laws.said signedOf (c .before .before .d2 .given .1) (at-offset-of .offset-of .ensures .0), ← entry .pre .1 .1 .1) (c .among-frames2 .ensures)
 
 returns-3 : tie.Need-returns-3
 unfolding tidFrame

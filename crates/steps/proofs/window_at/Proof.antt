@@ -15,7 +15,9 @@ enum-known-j c = search needs
 
 window-in-requires : tie.Need-window-in-requires
 window-in-requires c κs =
-    (c .before .before .before .before .before .before .pre .0, node-laws.within _ (c .before .j .given .1) (c .before .before .before .the-item .ensures .1))
+    let at-the-item = c .before .before .before in
+    let entry = at-the-item .before .before .before in
+    (entry .pre .0, node-laws.within _ (c .before .j .given .1) (at-the-item .the-item .ensures .1))
 
 returns : tie.Need-returns
 returns c =
@@ -23,7 +25,8 @@ returns c =
 
 returns-2 : tie.Need-returns-2
 returns-2 c =
-    rw (node-laws.had (c .before .before .j .given .1) (c .before .before .before .before .the-item .ensures .0)) (c .window-in .ensures)
+    let at-the-item = c .before .before .before .before in
+    rw (node-laws.had (c .before .before .j .given .1) (at-the-item .the-item .ensures .0)) (c .window-in .ensures)
 
 pub window-at-spec : {M : Type 1} → statement M
 window-at-spec = tie.close (tie.spec the-item-requires enum-told enum-known-j window-in-requires returns returns-2)

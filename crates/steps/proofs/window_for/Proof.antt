@@ -8,7 +8,8 @@ shared-window-requires c κs = search needs
 
 window-by-requires : tie.Need-window-by-requires
 window-by-requires c κs =
-    (c .before .before .before .pre .0, (c .before .before .before .pre .1 .0, (c .before .before .before .pre .1 .1 .0, c .shared-window .ensures)))
+    let entry = c .before .before .before in
+    (entry .pre .0, (entry .pre .1 .0, (entry .pre .1 .1 .0, c .shared-window .ensures)))
 
 returns : tie.Need-returns
 returns c =

@@ -31,18 +31,26 @@ enum-told-2 c = search needs
 returns-2 : tie.Need-returns-2
 unfolding windowIn
 returns-2 c =
-    rw (node-laws.had (c .before .before .before .before .c .given .1) (c .before .before .before .before .before .before .find-vr-item .ensures .0), node-laws.lacked (c .enum-told2 .given .1) (c .before .before .find-vr-item2 .ensures .0))
+    let at-c = c .before .before .before .before in
+    let at-find-vr-item = at-c .before .before in
+    rw (node-laws.had (at-c .c .given .1) (at-find-vr-item .find-vr-item .ensures .0), node-laws.lacked (c .enum-told2 .given .1) (c .before .before .find-vr-item2 .ensures .0))
 
 value-requires : tie.Need-value-requires
 value-requires c κs =
-    (c .before .before .before .before .before .before .before .before .before .before .pre .0, node-laws.within _ (c .before .before .before .before .before .c .given .1) (c .before .before .before .before .before .before .before .find-vr-item .ensures .1))
+    let at-c = c .before .before .before .before .before in
+    let at-find-vr-item = at-c .before .before in
+    let entry = at-find-vr-item .before .before .before in
+    (entry .pre .0, node-laws.within _ (at-c .c .given .1) (at-find-vr-item .find-vr-item .ensures .1))
 
 first-decimal-requires : tie.Need-first-decimal-requires
 first-decimal-requires c κs = search needs
 
 value-requires-2 : tie.Need-value-requires-2
 value-requires-2 c κs =
-    (c .before .before .before .before .before .before .before .before .before .before .before .before .pre .0, node-laws.within _ (c .before .before .before .w .given .1) (c .before .before .before .before .before .find-vr-item2 .ensures .1))
+    let at-w = c .before .before .before in
+    let at-find-vr-item2 = at-w .before .before in
+    let entry = at-find-vr-item2 .before .before .before .before .before .before .before in
+    (entry .pre .0, node-laws.within _ (at-w .w .given .1) (at-find-vr-item2 .find-vr-item2 .ensures .1))
 
 first-decimal-requires-2 : tie.Need-first-decimal-requires-2
 first-decimal-requires-2 c κs = search needs
@@ -56,7 +64,14 @@ window-of-requires c κs = search needs
 returns-3 : tie.Need-returns-3
 unfolding windowIn
 returns-3 c =
-    rw (node-laws.had (c .before .before .before .before .before .before .before .before .before .before .before .c .given .1) (c .before .before .before .before .before .before .before .before .before .before .before .before .before .find-vr-item .ensures .0), node-laws.had (c .before .before .before .before .before .before .before .w .given .1) (c .before .before .before .before .before .before .before .before .before .find-vr-item2 .ensures .0), ← c .before .before .before .before .before .value .ensures, ← c .before .before .before .value2 .ensures, ← c .before .before .before .before .first-decimal .ensures, ← c .before .before .first-decimal2 .ensures, ← c .before .function-in .ensures) (c .window-of .ensures)
+    let at-value2 = c .before .before .before in
+    let at-first-decimal = at-value2 .before in
+    let at-value = at-first-decimal .before in
+    let at-w = at-value .before .before in
+    let at-find-vr-item2 = at-w .before .before in
+    let at-c = at-find-vr-item2 .before .before in
+    let at-find-vr-item = at-c .before .before in
+    rw (node-laws.had (at-c .c .given .1) (at-find-vr-item .find-vr-item .ensures .0), node-laws.had (at-w .w .given .1) (at-find-vr-item2 .find-vr-item2 .ensures .0), ← at-value .value .ensures, ← at-value2 .value2 .ensures, ← at-first-decimal .first-decimal .ensures, ← c .before .before .first-decimal2 .ensures, ← c .before .function-in .ensures) (c .window-of .ensures)
 
 pub window-in-spec : {M : Type 1} → statement M
 window-in-spec =

@@ -22,20 +22,24 @@ enum-known-n c = search needs
 
 mul-end : tie.Need-mul-end
 mul-end c =
-    let t = after-reading _ _ _ _ (sym (c .before .n .given .1) ∙ c .before .before .before .before .read .ensures .0 .same) (c .before .before .before .before .read .ensures .1) in
-    omega (arith, t .1 .size, t .1 .few, length-take-le (7 * c .before .n .given .0 .0) (c .before .before .before .before .read .last .1 .0) (t .0))
+    let at-read = c .before .before .before .before in
+    let t = after-reading _ _ _ _ (sym (c .before .n .given .1) ∙ at-read .read .ensures .0 .same) (at-read .read .ensures .1) in
+    omega (arith, t .1 .size, t .1 .few, length-take-le (7 * c .before .n .given .0 .0) (at-read .read .last .1 .0) (t .0))
 
 array-share-prefix-rows : tie.Need-array-share-prefix-rows
 array-share-prefix-rows c =
-    after-reading _ _ _ _ (sym (c .before .n .given .1) ∙ c .before .before .before .before .read .ensures .0 .same) (c .before .before .before .before .read .ensures .1) .0
+    let at-read = c .before .before .before .before in
+    after-reading _ _ _ _ (sym (c .before .n .given .1) ∙ at-read .read .ensures .0 .same) (at-read .read .ensures .1) .0
 
 slice-aggregate-print-steps : tie.Need-slice-aggregate-print-steps
 slice-aggregate-print-steps c =
-    sym (length-take-le _ _ (after-reading _ _ _ _ (sym (c .before .before .n .given .1) ∙ c .before .before .before .before .before .read .ensures .0 .same) (c .before .before .before .before .before .read .ensures .1) .0))
+    let at-read = c .before .before .before .before .before in
+    sym (length-take-le _ _ (after-reading _ _ _ _ (sym (c .before .before .n .given .1) ∙ at-read .read .ensures .0 .same) (at-read .read .ensures .1) .0))
 
 print-steps-requires : tie.Need-print-steps-requires
 print-steps-requires c κs =
-    after-reading _ _ _ _ (sym (c .before .before .n .given .1) ∙ c .before .before .before .before .before .read .ensures .0 .same) (c .before .before .before .before .before .read .ensures .1) .1
+    let at-read = c .before .before .before .before .before in
+    after-reading _ _ _ _ (sym (c .before .before .n .given .1) ∙ at-read .read .ensures .0 .same) (at-read .read .ensures .1) .1
 
 enum-told : tie.Need-enum-told
 enum-told c = search needs

@@ -27,14 +27,19 @@ print-inverse-requires c κs = search needs
 
 print-pixels-requires : tie.Need-print-pixels-requires Inv-loop μ-loop
 print-pixels-requires c κs =
-    (c .before .before .before .before .before .before .before .pre, c .before .before .before .pixel-element .ensures .1)
+    let at-pixel-element = c .before .before .before in
+    let entry = at-pixel-element .before .before .before .before in
+    (entry .pre, at-pixel-element .pixel-element .ensures .1)
 
 loop-holds : tie.Need-loop-holds Inv-loop μ-loop
 loop-holds c = search needs
 
 print-frame-requires : tie.Need-print-frame-requires Inv-loop μ-loop
 print-frame-requires c κs =
-    (c .before .before .before .before .before .before .before .before .before .before .pre, (c .before .before .before .before .before .before .pixel-element .ensures .1, (c .before .before .before .before .before .before .before .geometry-of .ensures .1, search needs)))
+    let at-pixel-element = c .before .before .before .before .before .before in
+    let at-geometry-of = at-pixel-element .before in
+    let entry = at-geometry-of .before .before .before in
+    (entry .pre, (at-pixel-element .pixel-element .ensures .1, (at-geometry-of .geometry-of .ensures .1, search needs)))
 
 add-frame : tie.Need-add-frame Inv-loop μ-loop
 add-frame c = search needs

@@ -45,12 +45,15 @@ loop-less c =
 
 loop-again : tie.Need-loop-again Inv-loop μ-loop
 loop-again c =
-    let e = parts.count-next (c .before .before .before .before .before .args .v .now) (c .before .before .before .loop .i) (c .before .before .loop-test .taken) in
+    let at-loop = c .before .before .before in
+    let entry = at-loop .before .before in
+    let e = parts.count-next (entry .args .v .now) (at-loop .loop .i) (c .before .before .loop-test .taken) in
     (omega (arith, e, c .parts-at .ensures .0), (omega arith, omega (arith, c .parts-at .ensures .1)))
 
 returns : tie.Need-returns Inv-loop μ-loop
 returns c =
-    (omega (arith, parts.count-end (c .before .before .before .args .v .now) (c .before .loop .i) (c .loop-test .left)), omega arith)
+    let entry = c .before .before .before in
+    (omega (arith, parts.count-end (entry .args .v .now) (c .before .loop .i) (c .loop-test .left)), omega arith)
 
 pub count-values-spec : {M : Type 1} → statement M
 count-values-spec =

@@ -19,14 +19,16 @@ signed-size-requires c κs = search needs
 returns : tie.Need-returns
 unfolding decimalOf
 returns c =
-    let v = c .before .before .before .before .args .v .now in
+    let entry = c .before .before .before .before in
+    let v = entry .args .v .now in
     let e : c .signed-size .result ≡ decimalOf v = c .signed-size .ensures ∙ rw (c .before .before .trimmed .ensures, le-leb (length (trimmed v)) 16 (rw (c .before .before .trimmed .ensures) at (c .before .if1 .taken))) in
     (e, subst (SizeBelow sizeLimit) (sym e) (laws.decimalOf-below v))
 
 returns-2 : tie.Need-returns-2
 unfolding decimalOf
 returns-2 c =
-    let v = c .before .before .before .args .v .now in
+    let entry = c .before .before .before in
+    let v = entry .args .v .now in
     (rw (lt-leb (length (trimmed v)) 16 (rw (c .before .trimmed .ensures) at (c .if1 .left))), tt)
 
 pub decimal-of-spec : {M : Type 1} → statement M

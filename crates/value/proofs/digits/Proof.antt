@@ -26,9 +26,10 @@ loop-holds c =
 
 returns : tie.Need-returns Inv-loop μ-loop
 returns c =
+    let entry = c .before .before .before .before in
     let l = c .before .before .loop in
-    runs.read-at (c .before .before .before .before .args .limit) (c .before .before .before .before .args .start) (c .before .before .before .before .args .s .now) (l .left) (l .number) (l .i) (l .inv .0)
-    (runs.enough (c .before .before .before .before .args .s .now) (l .i) (l .left) (l .number) (l .i) (c .if1 .taken)) (omega arith) (omega arith)
+    runs.read-at (entry .args .limit) (entry .args .start) (entry .args .s .now) (l .left) (l .number) (l .i) (l .inv .0)
+    (runs.enough (entry .args .s .now) (l .i) (l .left) (l .number) (l .i) (c .if1 .taken)) (omega arith) (omega arith)
 
 shared-slice-read-wide : tie.Need-shared-slice-read-wide Inv-loop μ-loop
 shared-slice-read-wide c =
@@ -40,31 +41,40 @@ wide-requires c κs =
 
 returns-2 : tie.Need-returns-2 Inv-loop μ-loop
 returns-2 c =
-    let l = c .before .before .before .before .before .loop in
+    let at-loop-test = c .before .before .before .before in
+    let at-loop = at-loop-test .before in
+    let entry = at-loop .before .before in
+    let l = at-loop .loop in
     let w = c .before .wide .ensures .0 in
-    runs.read-at (c .before .before .before .before .before .before .before .args .limit) (c .before .before .before .before .before .before .before .args .start) (c .before .before .before .before .before .before .before .args .s .now) (l .left) (l .number) (l .i) (l .inv .0)
-    (runs.below-digits (c .before .before .before .before .before .before .before .args .s .now) (l .i) (l .left) (l .number) (l .i) (c .before .before .before .before .loop-test .taken) (omega (arith, w, c .if2 .taken))) (omega arith) (omega arith)
+    runs.read-at (entry .args .limit) (entry .args .start) (entry .args .s .now) (l .left) (l .number) (l .i) (l .inv .0)
+    (runs.below-digits (entry .args .s .now) (l .i) (l .left) (l .number) (l .i) (at-loop-test .loop-test .taken) (omega (arith, w, c .if2 .taken))) (omega arith) (omega arith)
 
 returns-3 : tie.Need-returns-3 Inv-loop μ-loop
 returns-3 c =
-    let l = c .before .before .before .before .before .before .loop in
+    let at-loop-test = c .before .before .before .before .before in
+    let at-loop = at-loop-test .before in
+    let entry = at-loop .before .before in
+    let l = at-loop .loop in
     let w = c .before .before .wide .ensures .0 in
-    runs.read-at (c .before .before .before .before .before .before .before .before .args .limit) (c .before .before .before .before .before .before .before .before .args .start) (c .before .before .before .before .before .before .before .before .args .s .now) (l .left) (l .number) (l .i) (l .inv .0)
-    (runs.above-digits (c .before .before .before .before .before .before .before .before .args .s .now) (l .i) (l .left) (l .number) (l .i) (c .before .before .before .before .before .loop-test .taken) (omega (arith, w, c .before .if2 .left)) (omega (arith, w, c .if3 .taken))) (omega arith) (omega arith)
+    runs.read-at (entry .args .limit) (entry .args .start) (entry .args .s .now) (l .left) (l .number) (l .i) (l .inv .0)
+    (runs.above-digits (entry .args .s .now) (l .i) (l .left) (l .number) (l .i) (at-loop-test .loop-test .taken) (omega (arith, w, c .before .if2 .left)) (omega (arith, w, c .if3 .taken))) (omega arith) (omega arith)
 
 mul-number : tie.Need-mul-number Inv-loop μ-loop
 mul-number c =
-    let l = c .before .before .before .before .before .before .loop in
+    let at-loop = c .before .before .before .before .before .before in
+    let l = at-loop .loop in
     omega (arith, runs.bounded (l .number) (l .left) 10000000000000000 (l .inv .1 .0))
 
 add-number : tie.Need-add-number Inv-loop μ-loop
 add-number c =
-    let l = c .before .before .before .before .before .before .loop in
+    let at-loop = c .before .before .before .before .before .before in
+    let l = at-loop .loop in
     omega (arith, runs.bounded (l .number) (l .left) 10000000000000000 (l .inv .1 .0), c .before .before .wide .ensures .1)
 
 sub-left : tie.Need-sub-left Inv-loop μ-loop
 sub-left c =
-    omega (arith, c .before .before .before .before .if1 .left)
+    let at-if1 = c .before .before .before .before in
+    omega (arith, at-if1 .if1 .left)
 
 add-i : tie.Need-add-i Inv-loop μ-loop
 add-i c =
@@ -76,20 +86,25 @@ loop-less c =
 
 loop-again : tie.Need-loop-again Inv-loop μ-loop
 loop-again c =
-    let l = c .before .before .before .before .before .before .loop in
+    let at-if1 = c .before .before .before .before in
+    let at-loop-test = at-if1 .before in
+    let at-loop = at-loop-test .before in
+    let entry = at-loop .before .before in
+    let l = at-loop .loop in
     let w = c .before .before .wide .ensures .0 in (
-      rw w (sym (runs.next-digit (c .before .before .before .before .before .before .before .before .args .s .now) (l .i) (l .left) (l .number) (l .i) (c .before .before .before .before .before .loop-test .taken) (c .before .before .before .before .if1 .left) (omega (arith, w, c .before .if2 .left)) (omega (arith, w, c .if3 .left))) ∙ l .inv .0),
+      rw w (sym (runs.next-digit (entry .args .s .now) (l .i) (l .left) (l .number) (l .i) (at-loop-test .loop-test .taken) (at-if1 .if1 .left) (omega (arith, w, c .before .if2 .left)) (omega (arith, w, c .if3 .left))) ∙ l .inv .0),
       (
-        runs.next-size (l .number) (c .before .before .wide .result - 0x30) (l .left) 10000000000000000 (c .before .before .before .before .if1 .left) (omega (arith, c .if3 .left)) (l .inv .1 .0),
-        (omega (arith, c .before .before .before .before .if1 .left), omega arith),
+        runs.next-size (l .number) (c .before .before .wide .result - 0x30) (l .left) 10000000000000000 (at-if1 .if1 .left) (omega (arith, c .if3 .left)) (l .inv .1 .0),
+        (omega (arith, at-if1 .if1 .left), omega arith),
       ),
     )
 
 returns-4 : tie.Need-returns-4 Inv-loop μ-loop
 returns-4 c =
+    let entry = c .before .before .before in
     let l = c .before .loop in
-    runs.read-at (c .before .before .before .args .limit) (c .before .before .before .args .start) (c .before .before .before .args .s .now) (l .left) (l .number) (l .i) (l .inv .0)
-    (runs.all-digits (c .before .before .before .args .s .now) (l .i) (l .left) (l .number) (l .i) (c .loop-test .left)) (omega arith) (omega arith)
+    runs.read-at (entry .args .limit) (entry .args .start) (entry .args .s .now) (l .left) (l .number) (l .i) (l .inv .0)
+    (runs.all-digits (entry .args .s .now) (l .i) (l .left) (l .number) (l .i) (c .loop-test .left)) (omega arith) (omega arith)
 
 pub digits-spec : {M : Type 1} → statement M
 digits-spec =

@@ -32,11 +32,15 @@ shared-slice-read-if2 c =
 
 shared-slice-read-if2-2 : tie.Need-shared-slice-read-if2-2 Inv-loop μ-loop
 shared-slice-read-if2-2 c =
-    omega (arith, c .before .before .before .before .if1 .left)
+    let at-if1 = c .before .before .before .before in
+    omega (arith, at-if1 .if1 .left)
 
 returns-2 : tie.Need-returns-2 Inv-loop μ-loop
 returns-2 c =
-    sym (lists.equal-no _ _ _ (c .before .before .before .loop-test .taken) (omega (arith, c .before .before .before .before .before .if1 .left)) (c .if2 .taken)) ∙ c .before .before .before .before .loop .inv .0
+    let at-loop-test = c .before .before .before in
+    let at-loop = at-loop-test .before in
+    let at-if1 = at-loop .before in
+    sym (lists.equal-no _ _ _ (at-loop-test .loop-test .taken) (omega (arith, at-if1 .if1 .left)) (c .if2 .taken)) ∙ at-loop .loop .inv .0
 
 add-i : tie.Need-add-i Inv-loop μ-loop
 add-i c =
@@ -48,7 +52,10 @@ loop-less c =
 
 loop-again : tie.Need-loop-again Inv-loop μ-loop
 loop-again c =
-    (sym (lists.equal-next _ _ _ (c .before .before .before .loop-test .taken) (omega (arith, c .before .before .before .before .before .if1 .left)) (c .if2 .left)) ∙ c .before .before .before .before .loop .inv .0, omega arith)
+    let at-loop-test = c .before .before .before in
+    let at-loop = at-loop-test .before in
+    let at-if1 = at-loop .before in
+    (sym (lists.equal-next _ _ _ (at-loop-test .loop-test .taken) (omega (arith, at-if1 .if1 .left)) (c .if2 .left)) ∙ at-loop .loop .inv .0, omega arith)
 
 returns-3 : tie.Need-returns-3 Inv-loop μ-loop
 returns-3 c =

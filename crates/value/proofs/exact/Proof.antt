@@ -20,11 +20,13 @@ returns c =
 
 returns-2 : tie.Need-returns-2
 returns-2 c =
-    c .multiplied .ensures ∙ sym (powers.exact-up (c .before .before .before .args .m) (c .before .before .before .args .up) (c .before .before .before .args .down) (c .before .if2 .taken))
+    let entry = c .before .before .before in
+    c .multiplied .ensures ∙ sym (powers.exact-up (entry .args .m) (entry .args .up) (entry .args .down) (c .before .if2 .taken))
 
 returns-3 : tie.Need-returns-3
 returns-3 c =
-    c .divided .ensures ∙ sym (powers.exact-down (c .before .before .before .args .m) (c .before .before .before .args .up) (c .before .before .before .args .down) (c .before .if2 .left))
+    let entry = c .before .before .before in
+    c .divided .ensures ∙ sym (powers.exact-down (entry .args .m) (entry .args .up) (entry .args .down) (c .before .if2 .left))
 
 pub exact-spec : {M : Type 1} → statement M
 exact-spec =

@@ -25,12 +25,16 @@ returns c =
 returns-2 : tie.Need-returns-2
 unfolding functionOf
 returns-2 c =
-    rw (sym (c .before .before .before .before .is-word .ensures) ∙ c .before .before .before .if1 .left, sym (c .before .is-word2 .ensures) ∙ c .if2 .taken)
+    let at-if1 = c .before .before .before in
+    let at-is-word = at-if1 .before in
+    rw (sym (at-is-word .is-word .ensures) ∙ at-if1 .if1 .left, sym (c .before .is-word2 .ensures) ∙ c .if2 .taken)
 
 returns-3 : tie.Need-returns-3
 unfolding functionOf
 returns-3 c =
-    rw (sym (c .before .before .before .before .is-word .ensures) ∙ c .before .before .before .if1 .left, sym (c .before .is-word2 .ensures) ∙ c .if2 .left)
+    let at-if1 = c .before .before .before in
+    let at-is-word = at-if1 .before in
+    rw (sym (at-is-word .is-word .ensures) ∙ at-if1 .if1 .left, sym (c .before .is-word2 .ensures) ∙ c .if2 .left)
 
 pub function-of-spec : {M : Type 1} → statement M
 function-of-spec =

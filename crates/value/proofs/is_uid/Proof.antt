@@ -19,7 +19,9 @@ equal-requires c κs = search needs
 returns : tie.Need-returns
 unfolding isUid
 returns c =
-    rw (c .equal .ensures, c .before .trim-end .ensures, c .before .before .value-of .ensures, ← c .before .before .before .before .is-single .ensures, c .before .before .before .if1 .taken)
+    let at-if1 = c .before .before .before in
+    let at-is-single = at-if1 .before in
+    rw (c .equal .ensures, c .before .trim-end .ensures, c .before .before .value-of .ensures, ← at-is-single .is-single .ensures, at-if1 .if1 .taken)
 
 returns-2 : tie.Need-returns-2
 unfolding isUid

@@ -17,7 +17,8 @@ enum-told-2 c = search needs
 
 returns : tie.Need-returns
 returns c =
-    rw (← c .before .before .before .decimal-of .ensures .0, c .before .n .given .1)
+    let at-decimal-of = c .before .before .before in
+    rw (← at-decimal-of .decimal-of .ensures .0, c .before .n .given .1)
 
 returns-2 : tie.Need-returns-2
 returns-2 c =

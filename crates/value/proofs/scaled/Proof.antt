@@ -12,7 +12,8 @@ enum-known-exponent c = search needs
 
 add-exact : tie.Need-add-exact
 add-exact c =
-    omega (arith, laws.below-plus 10000000000000000 _ (c .before .before .before .args .exponent) (c .before .exponent .given .1) (c .before .before .before .pre .1 .1))
+    let entry = c .before .before .before in
+    omega (arith, laws.below-plus 10000000000000000 _ (entry .args .exponent) (c .before .exponent .given .1) (entry .pre .1 .1))
 
 exact-requires : tie.Need-exact-requires
 exact-requires c κs = search needs
@@ -22,7 +23,8 @@ enum-known-exponent-2 c = search needs
 
 add-exact-2 : tie.Need-add-exact-2
 add-exact-2 c =
-    omega (arith, laws.below-minus 10000000000000000 _ (c .before .before .before .args .exponent) (c .before .exponent2 .given .1) (c .before .before .before .pre .1 .1))
+    let entry = c .before .before .before in
+    omega (arith, laws.below-minus 10000000000000000 _ (entry .args .exponent) (c .before .exponent2 .given .1) (entry .pre .1 .1))
 
 exact-requires-2 : tie.Need-exact-requires-2
 exact-requires-2 c κs = search needs
@@ -32,11 +34,13 @@ enum-told c = search needs
 
 returns : tie.Need-returns
 returns c =
-    c .exact .ensures ∙ sym (ap (scaledBy (c .before .before .before .before .args .m) (c .before .before .before .before .args .after)) (c .before .before .exponent .given .1))
+    let entry = c .before .before .before .before in
+    c .exact .ensures ∙ sym (ap (scaledBy (entry .args .m) (entry .args .after)) (c .before .before .exponent .given .1))
 
 returns-2 : tie.Need-returns-2
 returns-2 c =
-    c .exact2 .ensures ∙ sym (ap (scaledBy (c .before .before .before .before .args .m) (c .before .before .before .before .args .after)) (c .before .before .exponent2 .given .1))
+    let entry = c .before .before .before .before in
+    c .exact2 .ensures ∙ sym (ap (scaledBy (entry .args .m) (entry .args .after)) (c .before .before .exponent2 .given .1))
 
 returns-3 : tie.Need-returns-3
 returns-3 c = search needs

@@ -33,11 +33,14 @@ shared-slice-read-if1 c =
 
 slice-aggregate-result : tie.Need-slice-aggregate-result Inv-loop μ-loop
 slice-aggregate-result c =
-    sym (length-take-le _ _ (c .before .before .before .before .loop .inv .1))
+    let at-loop = c .before .before .before .before in
+    sym (length-take-le _ _ (at-loop .loop .inv .1))
 
 returns : tie.Need-returns Inv-loop μ-loop
 returns c =
-    sym (lists.end-no _ _ _ (c .before .before .before .loop-test .taken) (c .before .before .before .before .loop .inv .1) (c .before .if1 .taken)) ∙ c .before .before .before .before .loop .inv .0
+    let at-loop-test = c .before .before .before in
+    let at-loop = at-loop-test .before in
+    sym (lists.end-no _ _ _ (at-loop-test .loop-test .taken) (at-loop .loop .inv .1) (c .before .if1 .taken)) ∙ at-loop .loop .inv .0
 
 sub-n : tie.Need-sub-n Inv-loop μ-loop
 sub-n c =
@@ -49,7 +52,8 @@ loop-less c =
 
 loop-again : tie.Need-loop-again Inv-loop μ-loop
 loop-again c =
-    (sym (lists.end-next _ _ _ (c .before .before .loop-test .taken) (c .before .before .before .loop .inv .1) (c .if1 .left)) ∙ c .before .before .before .loop .inv .0, omega arith)
+    let at-loop = c .before .before .before in
+    (sym (lists.end-next _ _ _ (c .before .before .loop-test .taken) (at-loop .loop .inv .1) (c .if1 .left)) ∙ at-loop .loop .inv .0, omega arith)
 
 slice-aggregate-result-2 : tie.Need-slice-aggregate-result-2 Inv-loop μ-loop
 slice-aggregate-result-2 c =

@@ -39,7 +39,10 @@ part-result-end c =
 
 returns : tie.Need-returns Inv-loop μ-loop
 returns c =
-    lists.to-end (c .before .before .before .before .before .args .v .now) (c .before .before .before .before .loop .i) ∙ sym (lists.start-no _ _ _ (c .before .before .before .loop-test .taken) (c .before .if1 .taken)) ∙ c .before .before .before .before .loop .inv
+    let at-loop-test = c .before .before .before in
+    let at-loop = at-loop-test .before in
+    let entry = at-loop .before in
+    lists.to-end (entry .args .v .now) (at-loop .loop .i) ∙ sym (lists.start-no _ _ _ (at-loop-test .loop-test .taken) (c .before .if1 .taken)) ∙ at-loop .loop .inv
 
 add-i : tie.Need-add-i Inv-loop μ-loop
 add-i c =
@@ -51,7 +54,8 @@ loop-less c =
 
 loop-again : tie.Need-loop-again Inv-loop μ-loop
 loop-again c =
-    sym (lists.start-next _ _ _ (c .before .before .loop-test .taken) (c .if1 .left)) ∙ c .before .before .before .loop .inv
+    let at-loop = c .before .before .before in
+    sym (lists.start-next _ _ _ (c .before .before .loop-test .taken) (c .if1 .left)) ∙ at-loop .loop .inv
 
 slice-aggregate-result : tie.Need-slice-aggregate-result Inv-loop μ-loop
 slice-aggregate-result c =

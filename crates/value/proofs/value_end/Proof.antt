@@ -28,7 +28,9 @@ shared-slice-read-if1 c =
 
 returns : tie.Need-returns Inv-loop μ-loop
 returns c =
-    omega (arith, parts.place-stop (c .before .before .before .before .args .v .now) (c .before .before .before .loop .i) (c .before .before .loop-test .taken) (c .if1 .taken))
+    let at-loop = c .before .before .before in
+    let entry = at-loop .before in
+    omega (arith, parts.place-stop (entry .args .v .now) (at-loop .loop .i) (c .before .before .loop-test .taken) (c .if1 .taken))
 
 add-i : tie.Need-add-i Inv-loop μ-loop
 add-i c =
@@ -40,7 +42,9 @@ loop-less c =
 
 loop-again : tie.Need-loop-again Inv-loop μ-loop
 loop-again c =
-    omega (arith, parts.place-next (c .before .before .before .before .args .v .now) (c .before .before .before .loop .i) (c .before .before .loop-test .taken) (c .if1 .left))
+    let at-loop = c .before .before .before in
+    let entry = at-loop .before in
+    omega (arith, parts.place-next (entry .args .v .now) (at-loop .loop .i) (c .before .before .loop-test .taken) (c .if1 .left))
 
 returns-2 : tie.Need-returns-2 Inv-loop μ-loop
 returns-2 c =

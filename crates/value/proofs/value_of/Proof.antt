@@ -41,8 +41,10 @@ loop-less c =
 
 loop-again : tie.Need-loop-again Inv-loop μ-loop
 loop-again c =
+    let at-loop = c .before .before .before in
+    let entry = at-loop .before .before in
     let e = c .before .value-end .ensures in
-    (sym (parts.later-value (c .before .before .before .before .before .args .v .now) (c .before .before .before .loop .from) (c .before .value-end .result) e (c .before .before .before .loop .left) (c .before .before .loop-test .taken) (c .if1 .taken)) ∙ c .before .before .before .loop .inv .0, omega arith)
+    (sym (parts.later-value (entry .args .v .now) (at-loop .loop .from) (c .before .value-end .result) e (at-loop .loop .left) (c .before .before .loop-test .taken) (c .if1 .taken)) ∙ at-loop .loop .inv .0, omega arith)
 
 slice-aggregate-result : tie.Need-slice-aggregate-result Inv-loop μ-loop
 slice-aggregate-result c =
@@ -50,8 +52,11 @@ slice-aggregate-result c =
 
 returns : tie.Need-returns Inv-loop μ-loop
 returns c =
+    let at-loop-test = c .before .before .before in
+    let at-loop = at-loop-test .before in
+    let entry = at-loop .before .before in
     let e = c .before .before .value-end .ensures in
-    sym (parts.no-later (c .before .before .before .before .before .before .args .v .now) (c .before .before .before .before .loop .from) (c .before .before .value-end .result) e (c .before .before .before .before .loop .left) (c .before .before .before .loop-test .taken) (c .before .if1 .left)) ∙ c .before .before .before .before .loop .inv .0
+    sym (parts.no-later (entry .args .v .now) (at-loop .loop .from) (c .before .before .value-end .result) e (at-loop .loop .left) (at-loop-test .loop-test .taken) (c .before .if1 .left)) ∙ at-loop .loop .inv .0
 
 value-end-requires-2 : tie.Need-value-end-requires-2 Inv-loop μ-loop
 value-end-requires-2 c κs =
@@ -59,22 +64,27 @@ value-end-requires-2 c κs =
 
 sub-result : tie.Need-sub-result Inv-loop μ-loop
 sub-result c =
-    parts.part-start (c .before .before .before .before .args .v .now) (c .before .before .loop .from) (c .value-end2 .result) (c .value-end2 .ensures)
+    let entry = c .before .before .before .before in
+    parts.part-start (entry .args .v .now) (c .before .before .loop .from) (c .value-end2 .result) (c .value-end2 .ensures)
 
 part-result-start : tie.Need-part-result-start Inv-loop μ-loop
 part-result-start c =
-    parts.part-start (c .before .before .before .before .args .v .now) (c .before .before .loop .from) (c .value-end2 .result) (c .value-end2 .ensures)
+    let entry = c .before .before .before .before in
+    parts.part-start (entry .args .v .now) (c .before .before .loop .from) (c .value-end2 .result) (c .value-end2 .ensures)
 
 part-result-end : tie.Need-part-result-end Inv-loop μ-loop
 part-result-end c =
-    parts.part-within (c .before .before .before .before .args .v .now) (c .before .before .loop .from) (c .value-end2 .result) (c .value-end2 .ensures) (c .before .before .loop .inv .1)
+    let entry = c .before .before .before .before in
+    parts.part-within (entry .args .v .now) (c .before .before .loop .from) (c .value-end2 .result) (c .value-end2 .ensures) (c .before .before .loop .inv .1)
 
 returns-2 : tie.Need-returns-2 Inv-loop μ-loop
 returns-2 c =
-    let z : 0 ≡ c .before .before .before .loop .left = omega (arith, c .before .before .loop-test .left) in
-    parts.part-is (c .before .before .before .before .before .args .v .now) (c .before .before .before .loop .from) (c .before .value-end2 .result) (c .before .value-end2 .ensures)
-    ∙ ap (λ (n : ℕ). getD (valuesOf (drop (c .before .before .before .loop .from) (c .before .before .before .before .before .args .v .now))) n []) z
-    ∙ c .before .before .before .loop .inv .0
+    let at-loop = c .before .before .before in
+    let entry = at-loop .before .before in
+    let z : 0 ≡ at-loop .loop .left = omega (arith, c .before .before .loop-test .left) in
+    parts.part-is (entry .args .v .now) (at-loop .loop .from) (c .before .value-end2 .result) (c .before .value-end2 .ensures)
+    ∙ ap (λ (n : ℕ). getD (valuesOf (drop (at-loop .loop .from) (entry .args .v .now))) n []) z
+    ∙ at-loop .loop .inv .0
 
 pub value-of-spec : {M : Type 1} → statement M
 value-of-spec =

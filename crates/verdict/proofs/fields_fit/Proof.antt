@@ -19,7 +19,8 @@ is-refusal-requires c κs = search needs
 returns-2 : tie.Need-returns-2
 unfolding fieldsFit
 returns-2 c =
-    simp (sym (c .before .before .before .is-plain .ensures) ∙ c .before .before .if1 .left, sym (c .before .is-refusal .ensures) ∙ c .if2 .taken)
+    let at-is-plain = c .before .before .before in
+    simp (sym (at-is-plain .is-plain .ensures) ∙ c .before .before .if1 .left, sym (c .before .is-refusal .ensures) ∙ c .if2 .taken)
 
 is-breach-requires : tie.Need-is-breach-requires
 is-breach-requires c κs = search needs
@@ -27,7 +28,9 @@ is-breach-requires c κs = search needs
 returns-3 : tie.Need-returns-3
 unfolding fieldsFit
 returns-3 c =
-    simp (sym (c .before .before .before .before .is-plain .ensures) ∙ c .before .before .before .if1 .left, sym (c .before .before .is-refusal .ensures) ∙ c .before .if2 .left) (c .is-breach .ensures)
+    let at-if1 = c .before .before .before in
+    let at-is-plain = at-if1 .before in
+    simp (sym (at-is-plain .is-plain .ensures) ∙ at-if1 .if1 .left, sym (c .before .before .is-refusal .ensures) ∙ c .before .if2 .left) (c .is-breach .ensures)
 
 pub fields-fit-spec : {M : Type 1} → statement M
 fields-fit-spec =

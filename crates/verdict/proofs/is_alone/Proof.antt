@@ -5,7 +5,8 @@ use Rattle.verdict.proofs.is_alone.Tie as tie
 
 returns : tie.Need-returns
 returns c =
-    simp (eq-eqb _ _ (c .before .before .before .if1 .taken), eq-eqb _ _ (c .before .if2 .taken))
+    let at-if1 = c .before .before .before in
+    simp (eq-eqb _ _ (at-if1 .if1 .taken), eq-eqb _ _ (c .before .if2 .taken))
 
 returns-2 : tie.Need-returns-2
 returns-2 c =

@@ -16,18 +16,22 @@ is-alone-requires-2 c κs = search needs
 
 returns-2 : tie.Need-returns-2
 returns-2 c =
-    simp (ne-eqb _ _ (c .before .before .before .if1 .left), eq-eqb _ _ (c .before .if2 .taken)) (c .is-alone2 .ensures)
+    let at-if1 = c .before .before .before in
+    simp (ne-eqb _ _ (at-if1 .if1 .left), eq-eqb _ _ (c .before .if2 .taken)) (c .is-alone2 .ensures)
 
 is-alone-requires-3 : tie.Need-is-alone-requires-3
 is-alone-requires-3 c κs = search needs
 
 returns-3 : tie.Need-returns-3
 returns-3 c =
-    simp (ne-eqb _ _ (c .before .before .before .before .before .if1 .left), ne-eqb _ _ (c .before .before .before .if2 .left), eq-eqb _ _ (c .before .if3 .taken)) (c .is-alone3 .ensures)
+    let at-if2 = c .before .before .before in
+    let at-if1 = at-if2 .before .before in
+    simp (ne-eqb _ _ (at-if1 .if1 .left), ne-eqb _ _ (at-if2 .if2 .left), eq-eqb _ _ (c .before .if3 .taken)) (c .is-alone3 .ensures)
 
 returns-4 : tie.Need-returns-4
 returns-4 c =
-    simp (ne-eqb _ _ (c .before .before .before .before .if1 .left), ne-eqb _ _ (c .before .before .if2 .left), ne-eqb _ _ (c .if3 .left))
+    let at-if1 = c .before .before .before .before in
+    simp (ne-eqb _ _ (at-if1 .if1 .left), ne-eqb _ _ (c .before .before .if2 .left), ne-eqb _ _ (c .if3 .left))
 
 pub is-plain-spec : {M : Type 1} → statement M
 is-plain-spec =

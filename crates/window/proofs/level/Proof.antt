@@ -29,15 +29,18 @@ below-requires c κs = search needs
 
 mul-up-3 : tie.Need-mul-up-3
 mul-up-3 c =
-    omega (arith, sizes (c .before .before .before .args .window) (c .before .before .before .pre .0) .low)
+    let entry = c .before .before .before in
+    omega (arith, sizes (entry .args .window) (entry .pre .0) .low)
 
 add-up : tie.Need-add-up
 add-up c =
-    omega (arith, sizes (c .before .before .before .args .window) (c .before .before .before .pre .0) .low)
+    let entry = c .before .before .before in
+    omega (arith, sizes (entry .args .window) (entry .pre .0) .low)
 
 add-up-2 : tie.Need-add-up-2
 add-up-2 c =
-    omega (arith, sizes (c .before .before .before .args .window) (c .before .before .before .pre .0) .low, sizes (c .before .before .before .args .window) (c .before .before .before .pre .0) .narrow)
+    let entry = c .before .before .before in
+    omega (arith, sizes (entry .args .window) (entry .pre .0) .low, sizes (entry .args .window) (entry .pre .0) .narrow)
 
 mul-down : tie.Need-mul-down
 mul-down c = search needs
@@ -50,32 +53,42 @@ above-requires-2 c κs = search needs
 
 mul-down-3 : tie.Need-mul-down-3
 mul-down-3 c =
-    omega (arith, sizes (c .before .before .before .before .args .window) (c .before .before .before .before .pre .0) .high)
+    let entry = c .before .before .before .before in
+    omega (arith, sizes (entry .args .window) (entry .pre .0) .high)
 
 add-down : tie.Need-add-down
 add-down c =
-    omega (arith, sizes (c .before .before .before .before .args .window) (c .before .before .before .before .pre .0) .high)
+    let entry = c .before .before .before .before in
+    omega (arith, sizes (entry .args .window) (entry .pre .0) .high)
 
 ramp-requires : tie.Need-ramp-requires
 ramp-requires c κs =
-    let s = sizes (c .before .before .before .before .before .args .window) (c .before .before .before .before .before .pre .0) in
-    omega (arith, s .widths .wide, s .narrow, s .high, s .low, c .before .before .before .taken-off .ensures .0, c .before .before .before .taken-off .ensures .1)
+    let at-taken-off = c .before .before .before in
+    let entry = at-taken-off .before .before in
+    let s = sizes (entry .args .window) (entry .pre .0) in
+    omega (arith, s .widths .wide, s .narrow, s .high, s .low, at-taken-off .taken-off .ensures .0, at-taken-off .taken-off .ensures .1)
 
 returns : tie.Need-returns
 returns c =
-    let a = c .before .before .before .before .before .args in
-    let s = sizes (a .window) (c .before .before .before .before .before .pre .0) in
-    let u = 2 * unit * a .plus + 2 * c .before .before .below .result + c .before .before .before .before .above .result in
+    let at-above = c .before .before .before .before in
+    let entry = at-above .before in
+    let a = entry .args in
+    let s = sizes (a .window) (entry .pre .0) in
+    let u = 2 * unit * a .plus + 2 * c .before .before .below .result + at-above .above .result in
     let n = 2 * unit * a .minus + 2 * c .before .above2 .result in
     (sym (window-none (a .window) (s .widths) (gap (a .plus) (a .minus)) u n (omega arith) (omega arith) (c .if1 .taken)), omega arith)
 
 returns-2 : tie.Need-returns-2
 returns-2 c =
-    let a = c .before .before .before .before .before .before .args in
-    let s = sizes (a .window) (c .before .before .before .before .before .before .pre .0) in
-    let u = 2 * unit * a .plus + 2 * c .before .before .before .below .result + c .before .before .before .before .before .above .result in
+    let at-below = c .before .before .before in
+    let at-taken-off = at-below .before in
+    let at-above = at-taken-off .before in
+    let entry = at-above .before in
+    let a = entry .args in
+    let s = sizes (a .window) (entry .pre .0) in
+    let u = 2 * unit * a .plus + 2 * at-below .below .result + at-above .above .result in
     let n = 2 * unit * a .minus + 2 * c .before .before .above2 .result in
-    let e = c .ramp .ensures .0 ∙ ap (λ (w : ℕ). rampOf (c .before .before .before .before .taken-off .result) (u - n) w) (c .before .before .before .before .before .above .ensures) ∙ ap (λ (o : ℕ). rampOf o (u - n) (above (a .window .width))) (c .before .before .before .before .taken-off .ensures .0) in
+    let e = c .ramp .ensures .0 ∙ ap (λ (w : ℕ). rampOf (at-taken-off .taken-off .result) (u - n) w) (at-above .above .ensures) ∙ ap (λ (o : ℕ). rampOf o (u - n) (above (a .window .width))) (at-taken-off .taken-off .ensures .0) in
     (ap (λ (y : ℕ). some (pos y)) e ∙ sym (window-ramp (a .window) (s .widths) (gap (a .plus) (a .minus)) u n (omega arith) (omega arith) (c .before .if1 .left)), c .ramp .ensures .1)
 
 pub level-spec : {M : Type 1} → statement M

@@ -12,7 +12,8 @@ enum-known-answer c = search needs
 
 judge-numbers-requires : tie.Need-judge-numbers-requires
 judge-numbers-requires c κs =
-    subst (λ (a : JudgeFileAnswer). Fits32 (judgeFields a)) (c .before .answer .given .1) (c .before .before .before .pre)
+    let entry = c .before .before .before in
+    subst (λ (a : JudgeFileAnswer). Fits32 (judgeFields a)) (c .before .answer .given .1) (entry .pre)
 
 enum-told : tie.Need-enum-told
 enum-told c = search needs

@@ -24,7 +24,8 @@ enum-told-3 c = search needs
 
 returns : tie.Need-returns
 returns c =
-    ap (λ (a : Start). partOf (startFields a)) (sym (c .before .from .given .1) ∙ c .before .before .before .start-of .ensures .same)
+    let at-start-of = c .before .before .before in
+    ap (λ (a : Start). partOf (startFields a)) (sym (c .before .from .given .1) ∙ at-start-of .start-of .ensures .same)
 
 returns-2 : tie.Need-returns-2
 returns-2 c =

@@ -15,7 +15,8 @@ judge-file-counted-requires c κs = search needs
 
 judge-file-numbers-requires : tie.Need-judge-file-numbers-requires
 judge-file-numbers-requires c κs =
-    subst (λ (a : CountedFile). Fits32 (judgeFields (a .answer))) (sym (c .before .before .judge-file-counted .ensures .0 .same)) (judge-inside (c .before .before .before .before .before .before .args .file .now) (c .before .before .before .before .before .before .args .rows .now))
+    let entry = c .before .before .before .before .before .before in
+    subst (λ (a : CountedFile). Fits32 (judgeFields (a .answer))) (sym (c .before .before .judge-file-counted .ensures .0 .same)) (judge-inside (entry .args .file .now) (entry .args .rows .now))
 
 with-searches-requires : tie.Need-with-searches-requires
 with-searches-requires c κs = search needs
@@ -25,7 +26,8 @@ same-length c = search needs
 
 returns : tie.Need-returns
 returns c =
-    let counts = c .before .before .before .before .judge-file-counted in (
+    let at-judge-file-counted = c .before .before .before .before in
+    let counts = at-judge-file-counted .judge-file-counted in (
       c .with-searches .ensures
           ∙ ap (λ (a : Answer). withSearches (counts .result .searches) a) (c .before .judge-file-numbers .ensures)
           ∙ ap (λ (k : CountedFile). reported (countedFields k)) (counts .ensures .0 .same),

@@ -16,7 +16,9 @@ enum-known-answer c = search needs
 
 read-numbers-requires : tie.Need-read-numbers-requires
 read-numbers-requires c κs =
-    read-inside (c .before .before .before .before .before .before .before .before .before .args .file .now) (c .before .before .before .before .before .before .before .before .before .args .rows .now) (c .before .before .before .before .before .read-file .ensures .0 .same) (c .before .answer .given .1)
+    let at-read-file = c .before .before .before .before .before in
+    let entry = at-read-file .before .before .before .before in
+    read-inside (entry .args .file .now) (entry .args .rows .now) (at-read-file .read-file .ensures .0 .same) (c .before .answer .given .1)
 
 enum-told : tie.Need-enum-told
 enum-told c = search needs
@@ -47,35 +49,40 @@ same-length c = search needs
 
 returns : tie.Need-returns
 returns c =
-    (c .read-numbers .ensures ∙ ap (λ (a : ReadFileAnswer). hosted (readFields a)) (sym (c .before .before .answer .given .1) ∙ c .before .before .before .before .before .before .read-file .ensures .0 .same), c .before .before .before .before .before .before .read-file .ensures .1)
+    let at-read-file = c .before .before .before .before .before .before in
+    (c .read-numbers .ensures ∙ ap (λ (a : ReadFileAnswer). hosted (readFields a)) (sym (c .before .before .answer .given .1) ∙ at-read-file .read-file .ensures .0 .same), at-read-file .read-file .ensures .1)
 
 same-length-2 : tie.Need-same-length-2
 same-length-2 c = search needs
 
 returns-2 : tie.Need-returns-2
 returns-2 c =
-    (rw (c .code-alone .ensures) (ap (λ (a : ReadFileAnswer). hosted (readFields a)) (sym (c .before .enum-told .given .1) ∙ c .before .before .before .before .before .read-file .ensures .0 .same)), c .before .before .before .before .before .read-file .ensures .1)
+    let at-read-file = c .before .before .before .before .before in
+    (rw (c .code-alone .ensures) (ap (λ (a : ReadFileAnswer). hosted (readFields a)) (sym (c .before .enum-told .given .1) ∙ at-read-file .read-file .ensures .0 .same)), at-read-file .read-file .ensures .1)
 
 same-length-3 : tie.Need-same-length-3
 same-length-3 c = search needs
 
 returns-3 : tie.Need-returns-3
 returns-3 c =
-    (rw (c .code-alone2 .ensures) (ap (λ (a : ReadFileAnswer). hosted (readFields a)) (sym (c .before .enum-told2 .given .1) ∙ c .before .before .before .before .before .read-file .ensures .0 .same)), c .before .before .before .before .before .read-file .ensures .1)
+    let at-read-file = c .before .before .before .before .before in
+    (rw (c .code-alone2 .ensures) (ap (λ (a : ReadFileAnswer). hosted (readFields a)) (sym (c .before .enum-told2 .given .1) ∙ at-read-file .read-file .ensures .0 .same)), at-read-file .read-file .ensures .1)
 
 same-length-4 : tie.Need-same-length-4
 same-length-4 c = search needs
 
 returns-4 : tie.Need-returns-4
 returns-4 c =
-    (rw (c .code-alone3 .ensures) (ap (λ (a : ReadFileAnswer). hosted (readFields a)) (sym (c .before .enum-told3 .given .1) ∙ c .before .before .before .before .before .read-file .ensures .0 .same)), c .before .before .before .before .before .read-file .ensures .1)
+    let at-read-file = c .before .before .before .before .before in
+    (rw (c .code-alone3 .ensures) (ap (λ (a : ReadFileAnswer). hosted (readFields a)) (sym (c .before .enum-told3 .given .1) ∙ at-read-file .read-file .ensures .0 .same)), at-read-file .read-file .ensures .1)
 
 same-length-5 : tie.Need-same-length-5
 same-length-5 c = search needs
 
 returns-5 : tie.Need-returns-5
 returns-5 c =
-    (rw (c .code-alone4 .ensures) (ap (λ (a : ReadFileAnswer). hosted (readFields a)) (sym (c .before .enum-told4 .given .1) ∙ c .before .before .before .before .before .read-file .ensures .0 .same)), c .before .before .before .before .before .read-file .ensures .1)
+    let at-read-file = c .before .before .before .before .before in
+    (rw (c .code-alone4 .ensures) (ap (λ (a : ReadFileAnswer). hosted (readFields a)) (sym (c .before .enum-told4 .given .1) ∙ at-read-file .read-file .ensures .0 .same)), at-read-file .read-file .ensures .1)
 
 pub xa-read-file-spec : {M : Type 1} → statement M
 xa-read-file-spec =

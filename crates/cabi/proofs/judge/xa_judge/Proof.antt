@@ -15,7 +15,8 @@ judge-counted-requires c κs = search needs
 
 judge-numbers-requires : tie.Need-judge-numbers-requires
 judge-numbers-requires c κs =
-    subst (λ (a : Counted). Fits32 (fieldsOf (a .answer))) (sym (c .before .before .judge-counted .ensures .0 .same)) (judge-fits (c .before .before .before .before .before .before .args .bytes .now) (c .before .before .before .before .before .before .args .rows .now))
+    let entry = c .before .before .before .before .before .before in
+    subst (λ (a : Counted). Fits32 (fieldsOf (a .answer))) (sym (c .before .before .judge-counted .ensures .0 .same)) (judge-fits (entry .args .bytes .now) (entry .args .rows .now))
 
 with-searches-requires : tie.Need-with-searches-requires
 with-searches-requires c κs = search needs
@@ -25,7 +26,8 @@ same-length c = search needs
 
 returns : tie.Need-returns
 returns c =
-    let counts = c .before .before .before .before .judge-counted in (
+    let at-judge-counted = c .before .before .before .before in
+    let counts = at-judge-counted .judge-counted in (
       c .with-searches .ensures
           ∙ ap (λ (a : Answer). withSearches (counts .result .searches) a) (c .before .judge-numbers .ensures)
           ∙ ap (λ (k : Counted). reported (counted.fieldsOf k)) (counts .ensures .0 .same),

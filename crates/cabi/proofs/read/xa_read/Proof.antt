@@ -13,14 +13,16 @@ read-requires c κs = search needs
 
 read-numbers-requires : tie.Need-read-numbers-requires
 read-numbers-requires c κs =
-    subst (λ (a : ReadAnswer). Fits32 (fieldsOf a)) (sym (c .before .before .read .ensures .0 .same)) (read-fits (c .before .before .before .before .before .before .args .bytes .now) (c .before .before .before .before .before .before .args .rows .now))
+    let entry = c .before .before .before .before .before .before in
+    subst (λ (a : ReadAnswer). Fits32 (fieldsOf a)) (sym (c .before .before .read .ensures .0 .same)) (read-fits (entry .args .bytes .now) (entry .args .rows .now))
 
 same-length : tie.Need-same-length
 same-length c = search needs
 
 returns : tie.Need-returns
 returns c =
-    (c .read-numbers .ensures ∙ ap (λ (a : ReadAnswer). hosted (fieldsOf a)) (c .before .before .before .read .ensures .0 .same), c .before .before .before .read .ensures .1)
+    let at-read = c .before .before .before in
+    (c .read-numbers .ensures ∙ ap (λ (a : ReadAnswer). hosted (fieldsOf a)) (at-read .read .ensures .0 .same), at-read .read .ensures .1)
 
 pub xa-read-spec : {M : Type 1} → statement M
 xa-read-spec = tie.close (tie.spec read-requires read-numbers-requires same-length returns)

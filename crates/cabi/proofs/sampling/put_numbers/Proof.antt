@@ -24,7 +24,8 @@ loop-holds c =
 
 number-at-requires : tie.Need-number-at-requires Inv-loop μ-loop
 number-at-requires c κs =
-    (c .before .before .before .pre .0, c .loop-test .taken)
+    let entry = c .before .before .before in
+    (entry .pre .0, c .loop-test .taken)
 
 mul-buffer : tie.Need-mul-buffer Inv-loop μ-loop
 mul-buffer c =
@@ -32,7 +33,8 @@ mul-buffer c =
 
 slice-write-buffer : tie.Need-slice-write-buffer Inv-loop μ-loop
 slice-write-buffer c =
-    omega (arith, ap length (c .before .before .loop .inv .1) ∙ painted-length _ _ _, c .before .before .before .before .pre .1, c .before .loop-test .taken)
+    let entry = c .before .before .before .before in
+    omega (arith, ap length (c .before .before .loop .inv .1) ∙ painted-length _ _ _, entry .pre .1, c .before .loop-test .taken)
 
 add-k : tie.Need-add-k Inv-loop μ-loop
 add-k c =
@@ -44,7 +46,8 @@ loop-less c =
 
 loop-again : tie.Need-loop-again Inv-loop μ-loop
 loop-again c =
-    (omega (arith, c .before .loop-test .taken), rw (c .before .before .loop .inv .1, c .number-at .ensures) (painted-more (λ i. getD (numbersIn (c .before .before .before .before .args .t)) i 0) _ _))
+    let entry = c .before .before .before .before in
+    (omega (arith, c .before .loop-test .taken), rw (c .before .before .loop .inv .1, c .number-at .ensures) (painted-more (λ i. getD (numbersIn (entry .args .t)) i 0) _ _))
 
 same-length : tie.Need-same-length Inv-loop μ-loop
 same-length c =

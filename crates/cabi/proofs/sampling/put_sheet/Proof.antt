@@ -10,7 +10,8 @@ use Rattle.cabi.proofs.sampling.put_sheet.Tie as tie
 
 put-numbers-requires : tie.Need-put-numbers-requires
 put-numbers-requires c κs =
-    (c .before .before .before .pre, c .before .if1 .taken)
+    let entry = c .before .before .before in
+    (entry .pre, c .before .if1 .taken)
 
 same-length : tie.Need-same-length
 same-length c =
@@ -18,7 +19,9 @@ same-length c =
 
 returns : tie.Need-returns
 returns c =
-    (sym (le-leb 260 (length (c .before .before .before .before .before .before .args .buffer .now)) (c .before .before .before .before .if1 .taken)), c .before .before .put-numbers .ensures ∙ sheet-put (c .before .before .before .before .before .before .args .t) (c .before .before .before .before .before .before .args .buffer .now) (c .before .before .before .before .before .before .pre) (c .before .before .before .before .if1 .taken))
+    let at-if1 = c .before .before .before .before in
+    let entry = at-if1 .before .before in
+    (sym (le-leb 260 (length (entry .args .buffer .now)) (at-if1 .if1 .taken)), c .before .before .put-numbers .ensures ∙ sheet-put (entry .args .t) (entry .args .buffer .now) (entry .pre) (at-if1 .if1 .taken))
 
 returns-2 : tie.Need-returns-2
 returns-2 c =

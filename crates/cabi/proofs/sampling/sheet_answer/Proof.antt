@@ -13,7 +13,8 @@ enum-known-answer c =
 
 done-with-requires : tie.Need-done-with-requires
 done-with-requires c κs =
-    subst (λ (a : SheetAnswer). Fits32 (fieldsOf a)) (c .before .before .answer .given .1) (c .before .before .before .before .pre)
+    let entry = c .before .before .before .before in
+    subst (λ (a : SheetAnswer). Fits32 (fieldsOf a)) (c .before .before .answer .given .1) (entry .pre)
 
 code-alone-requires : tie.Need-code-alone-requires
 code-alone-requires c κs =
@@ -25,7 +26,8 @@ enum-known-answer-2 c =
 
 broken-at-requires : tie.Need-broken-at-requires
 broken-at-requires c κs =
-    subst (λ (a : SheetAnswer). Fits32 (fieldsOf a)) (c .before .answer2 .given .1) (c .before .before .before .pre)
+    let entry = c .before .before .before in
+    subst (λ (a : SheetAnswer). Fits32 (fieldsOf a)) (c .before .answer2 .given .1) (entry .pre)
 
 enum-known-answer-3 : tie.Need-enum-known-answer-3
 enum-known-answer-3 c =
@@ -33,7 +35,8 @@ enum-known-answer-3 c =
 
 refused-at-requires : tie.Need-refused-at-requires
 refused-at-requires c κs =
-    subst (λ (a : SheetAnswer). Fits32 (fieldsOf a)) (c .before .answer3 .given .1) (c .before .before .before .pre)
+    let entry = c .before .before .before in
+    subst (λ (a : SheetAnswer). Fits32 (fieldsOf a)) (c .before .answer3 .given .1) (entry .pre)
 
 enum-told : tie.Need-enum-told
 enum-told c =
@@ -69,11 +72,13 @@ code-alone-requires-5 c κs =
 
 returns : tie.Need-returns
 returns c =
-    rw (c .before .before .before .answer .given .1, c .before .if1 .taken) (c .done-with .ensures)
+    let at-answer = c .before .before .before in
+    rw (at-answer .answer .given .1, c .before .if1 .taken) (c .done-with .ensures)
 
 returns-2 : tie.Need-returns-2
 returns-2 c =
-    rw (c .before .before .before .answer .given .1, c .before .if1 .left) (c .code-alone .ensures)
+    let at-answer = c .before .before .before in
+    rw (at-answer .answer .given .1, c .before .if1 .left) (c .code-alone .ensures)
 
 returns-3 : tie.Need-returns-3
 returns-3 c =

@@ -17,11 +17,13 @@ sheet-requires c κs =
 
 put-sheet-requires : tie.Need-put-sheet-requires
 put-sheet-requires c κs =
-    ap (λ (r : Sampled). length (r .sheet .counts)) (c .before .before .before .before .sheet .ensures .0 .same) ∙ counts-many _ _ _ _
+    let at-sheet = c .before .before .before .before in
+    ap (λ (r : Sampled). length (r .sheet .counts)) (at-sheet .sheet .ensures .0 .same) ∙ counts-many _ _ _ _
 
 sheet-answer-requires : tie.Need-sheet-answer-requires
 sheet-answer-requires c κs =
-    subst (λ (r : Sampled). Fits32 (fieldsOf (r .answer))) (sym (c .before .before .before .before .before .before .before .sheet .ensures .0 .same)) (sheet-narrow _ _ _ _)
+    let at-sheet = c .before .before .before .before .before .before .before in
+    subst (λ (r : Sampled). Fits32 (fieldsOf (r .answer))) (sym (at-sheet .sheet .ensures .0 .same)) (sheet-narrow _ _ _ _)
 
 same-length : tie.Need-same-length
 same-length c =
@@ -33,7 +35,10 @@ same-length-2 c =
 
 returns : tie.Need-returns
 returns c =
-    (c .sheet-answer .ensures ∙ (ap (λ (x : Bool). hosted (sheetFields x (c .before .before .before .before .before .before .before .before .sheet .result .answer))) (c .before .before .before .put-sheet .ensures .0) ∙ ap (λ (r : Sampled). hosted (sheetFields (holdsSheet (c .before .before .before .before .before .before .before .before .before .before .before .before .before .args .buffer .now)) (r .answer))) (c .before .before .before .before .before .before .before .before .sheet .ensures .0 .same)), (c .before .before .before .before .before .before .before .before .sheet .ensures .1, c .before .before .before .put-sheet .ensures .1 ∙ ap (λ (r : Sampled). sheetAfter (r .sheet) (c .before .before .before .before .before .before .before .before .before .before .before .before .before .args .buffer .now)) (c .before .before .before .before .before .before .before .before .sheet .ensures .0 .same)))
+    let at-put-sheet = c .before .before .before in
+    let at-sheet = at-put-sheet .before .before .before .before .before in
+    let entry = at-sheet .before .before .before .before .before in
+    (c .sheet-answer .ensures ∙ (ap (λ (x : Bool). hosted (sheetFields x (at-sheet .sheet .result .answer))) (at-put-sheet .put-sheet .ensures .0) ∙ ap (λ (r : Sampled). hosted (sheetFields (holdsSheet (entry .args .buffer .now)) (r .answer))) (at-sheet .sheet .ensures .0 .same)), (at-sheet .sheet .ensures .1, at-put-sheet .put-sheet .ensures .1 ∙ ap (λ (r : Sampled). sheetAfter (r .sheet) (entry .args .buffer .now)) (at-sheet .sheet .ensures .0 .same)))
 
 pub xa-sheet-spec : {M : Type 1} → statement M
 xa-sheet-spec =

@@ -13,7 +13,8 @@ enum-known-answer c = search needs
 
 cast-t10 : tie.Need-cast-t10
 cast-t10 c =
-    let m = subst (λ (a : ShowAnswer). Fits32 (fieldsOf a)) (c .before .answer .given .1) (c .before .before .before .pre) in
+    let entry = c .before .before .before in
+    let m = subst (λ (a : ShowAnswer). Fits32 (fieldsOf a)) (c .before .answer .given .1) (entry .pre) in
     record { fits = omega (arith, m .rows) }
 
 masked-number-requires : tie.Need-masked-number-requires
@@ -24,14 +25,16 @@ enum-known-answer-2 c = search needs
 
 broken-at-requires : tie.Need-broken-at-requires
 broken-at-requires c κs =
-    subst (λ (a : ShowAnswer). Fits32 (fieldsOf a)) (c .before .answer2 .given .1) (c .before .before .before .pre)
+    let entry = c .before .before .before in
+    subst (λ (a : ShowAnswer). Fits32 (fieldsOf a)) (c .before .answer2 .given .1) (entry .pre)
 
 enum-known-answer-3 : tie.Need-enum-known-answer-3
 enum-known-answer-3 c = search needs
 
 refused-at-requires : tie.Need-refused-at-requires
 refused-at-requires c κs =
-    subst (λ (a : ShowAnswer). Fits32 (fieldsOf a)) (c .before .answer3 .given .1) (c .before .before .before .pre)
+    let entry = c .before .before .before in
+    subst (λ (a : ShowAnswer). Fits32 (fieldsOf a)) (c .before .answer3 .given .1) (entry .pre)
 
 enum-told : tie.Need-enum-told
 enum-told c = search needs

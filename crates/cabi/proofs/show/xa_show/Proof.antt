@@ -13,7 +13,9 @@ show-requires c κs = search needs
 
 show-numbers-requires : tie.Need-show-numbers-requires
 show-numbers-requires c κs =
-    subst (λ (a : ShowAnswer). Fits32 (fieldsOf a)) (sym (c .before .before .before .before .show .ensures .0 .same)) (show-narrow (c .before .before .before .before .before .before .before .before .before .before .args .bytes .now) (c .before .before .before .before .before .before .before .before .before .before .args .frame) (c .before .before .before .before .before .before .before .before .before .before .args .rows .now) (c .before .before .before .before .before .before .before .before .before .before .args .image .now))
+    let at-show = c .before .before .before .before in
+    let entry = at-show .before .before .before .before .before .before in
+    subst (λ (a : ShowAnswer). Fits32 (fieldsOf a)) (sym (at-show .show .ensures .0 .same)) (show-narrow (entry .args .bytes .now) (entry .args .frame) (entry .args .rows .now) (entry .args .image .now))
 
 same-length : tie.Need-same-length
 same-length c = search needs
@@ -23,7 +25,8 @@ same-length-2 c = search needs
 
 returns : tie.Need-returns
 returns c =
-    (c .show-numbers .ensures ∙ ap (λ (a : ShowAnswer). hosted (fieldsOf a)) (c .before .before .before .before .before .show .ensures .0 .same), c .before .before .before .before .before .show .ensures .1)
+    let at-show = c .before .before .before .before .before in
+    (c .show-numbers .ensures ∙ ap (λ (a : ShowAnswer). hosted (fieldsOf a)) (at-show .show .ensures .0 .same), at-show .show .ensures .1)
 
 pub xa-show-spec : {M : Type 1} → statement M
 xa-show-spec =

@@ -12,7 +12,8 @@ enum-known-rows c = search needs
 
 cast-result : tie.Need-cast-result
 cast-result c =
-    record { fits = subst (λ (r : RowCount). rowsNumber r < 4294967296) (c .before .rows .given .1) (c .before .before .before .pre) }
+    let entry = c .before .before .before in
+    record { fits = subst (λ (r : RowCount). rowsNumber r < 4294967296) (c .before .rows .given .1) (entry .pre) }
 
 enum-told : tie.Need-enum-told
 enum-told c = search needs

@@ -21,7 +21,9 @@ cast-t7 c = search needs
 
 returns : tie.Need-returns
 unfolding verdictIn
-returns c = rw (c .before .before .before .before .count-in .ensures)
+returns c =
+    let at-count-in = c .before .before .before .before in
+    rw (at-count-in .count-in .ensures)
 
 pub verdict-in-spec : {M : Type 1} → statement M
 verdict-in-spec = tie.close (tie.spec count-in-requires cast-t4 cast-t5 cast-t6 cast-t7 returns)

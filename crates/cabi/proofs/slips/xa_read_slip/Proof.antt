@@ -17,22 +17,26 @@ enum-known-v c = search needs
 
 slip-of-requires : tie.Need-slip-of-requires
 slip-of-requires c κs =
-    slip-narrow _ (c .before .before .before .read-slip .ensures .same) (c .before .v .given .1)
+    let at-read-slip = c .before .before .before in
+    slip-narrow _ (at-read-slip .read-slip .ensures .same) (c .before .v .given .1)
 
 enum-known-code : tie.Need-enum-known-code
 enum-known-code c = search needs
 
 cast-t6 : tie.Need-cast-t6
 cast-t6 c =
-    record { fits = omega (arith, slip-code _ (c .before .before .before .read-slip .ensures .same) (c .before .code .given .1)) }
+    let at-read-slip = c .before .before .before in
+    record { fits = omega (arith, slip-code _ (at-read-slip .read-slip .ensures .same) (c .before .code .given .1)) }
 
 returns : tie.Need-returns
 returns c =
-    c .slip-of .ensures ∙ ap (λ (a : SlipAnswer). slipOf (readFields a)) (sym (c .before .before .v .given .1) ∙ c .before .before .before .before .read-slip .ensures .same)
+    let at-read-slip = c .before .before .before .before in
+    c .slip-of .ensures ∙ ap (λ (a : SlipAnswer). slipOf (readFields a)) (sym (c .before .before .v .given .1) ∙ at-read-slip .read-slip .ensures .same)
 
 returns-2 : tie.Need-returns-2
 returns-2 c =
-    ap (λ (a : SlipAnswer). slipOf (readFields a)) (sym (c .before .code .given .1) ∙ c .before .before .before .read-slip .ensures .same)
+    let at-read-slip = c .before .before .before in
+    ap (λ (a : SlipAnswer). slipOf (readFields a)) (sym (c .before .code .given .1) ∙ at-read-slip .read-slip .ensures .same)
 
 pub xa-read-slip-spec : {M : Type 1} → statement M
 xa-read-slip-spec =

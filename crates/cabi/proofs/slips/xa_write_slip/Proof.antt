@@ -22,21 +22,26 @@ enum-known-code c = search needs
 
 cast-result : tie.Need-cast-result
 cast-result c =
-    record { fits = omega (arith, written-code _ _ (c .before .before .before .before .before .write-slip .ensures .0 .same) (c .before .code .given .1)) }
+    let at-write-slip = c .before .before .before .before .before in
+    record { fits = omega (arith, written-code _ _ (at-write-slip .write-slip .ensures .0 .same) (c .before .code .given .1)) }
 
 same-length : tie.Need-same-length
 same-length c = search needs
 
 returns : tie.Need-returns
 returns c =
-    rw (← c .before .before .before .before .before .before .verdict-in .ensures) (ap (λ (a : WriteAnswer). writeFields a .code) (sym (c .enum-told .given .1) ∙ c .before .before .before .before .write-slip .ensures .0 .same), c .before .before .before .before .write-slip .ensures .1)
+    let at-write-slip = c .before .before .before .before in
+    let at-verdict-in = at-write-slip .before .before in
+    rw (← at-verdict-in .verdict-in .ensures) (ap (λ (a : WriteAnswer). writeFields a .code) (sym (c .enum-told .given .1) ∙ at-write-slip .write-slip .ensures .0 .same), at-write-slip .write-slip .ensures .1)
 
 same-length-2 : tie.Need-same-length-2
 same-length-2 c = search needs
 
 returns-2 : tie.Need-returns-2
 returns-2 c =
-    rw (← c .before .before .before .before .before .before .before .verdict-in .ensures) (ap (λ (a : WriteAnswer). writeFields a .code) (sym (c .before .code .given .1) ∙ c .before .before .before .before .before .write-slip .ensures .0 .same), c .before .before .before .before .before .write-slip .ensures .1)
+    let at-write-slip = c .before .before .before .before .before in
+    let at-verdict-in = at-write-slip .before .before in
+    rw (← at-verdict-in .verdict-in .ensures) (ap (λ (a : WriteAnswer). writeFields a .code) (sym (c .before .code .given .1) ∙ at-write-slip .write-slip .ensures .0 .same), at-write-slip .write-slip .ensures .1)
 
 pub xa-write-slip-spec : {M : Type 1} → statement M
 xa-write-slip-spec =

@@ -21,23 +21,33 @@ enum-known-m c = search needs
 
 vr-requires : tie.Need-vr-requires
 vr-requires c κs =
-    (c .before .before .before .before .before .before .pre, node-laws.within _ (c .before .m .given .1) (c .before .before .before .find-root .ensures .1))
+    let at-find-root = c .before .before .before in
+    let entry = at-find-root .before .before .before in
+    (entry .pre, node-laws.within _ (c .before .m .given .1) (at-find-root .find-root .ensures .1))
 
 add-first-holding : tie.Need-add-first-holding
 add-first-holding c =
-    omega (arith, node-laws.within (length (nodesOf (c .before .before .before .before .before .before .before .before .args .bytes .now))) (c .before .before .before .m .given .1) (c .before .before .before .before .before .find-root .ensures .1), c .before .before .before .before .before .before .before .before .pre .few)
+    let at-m = c .before .before .before in
+    let at-find-root = at-m .before .before in
+    let entry = at-find-root .before .before .before in
+    omega (arith, node-laws.within (length (nodesOf (entry .args .bytes .now))) (at-m .m .given .1) (at-find-root .find-root .ensures .1), entry .pre .few)
 
 next-requires : tie.Need-next-requires
 next-requires c κs =
-    (c .before .before .before .before .before .before .before .before .pre, node-laws.within _ (c .before .before .before .m .given .1) (c .before .before .before .before .before .find-root .ensures .1))
+    let at-m = c .before .before .before in
+    let at-find-root = at-m .before .before in
+    let entry = at-find-root .before .before .before in
+    (entry .pre, node-laws.within _ (at-m .m .given .1) (at-find-root .find-root .ensures .1))
 
 first-holding-requires : tie.Need-first-holding-requires
 first-holding-requires c κs =
-    (c .before .before .before .before .before .before .before .before .before .pre, c .next .ensures .1)
+    let entry = c .before .before .before .before .before .before .before .before .before in
+    (entry .pre, c .next .ensures .1)
 
 if-read-requires : tie.Need-if-read-requires
 if-read-requires c κs =
-    (c .before .before .before .before .before .before .before .before .before .before .pre, c .first-holding .ensures .1)
+    let entry = c .before .before .before .before .before .before .before .before .before .before in
+    (entry .pre, c .first-holding .ensures .1)
 
 returns : tie.Need-returns
 unfolding applyingTo
@@ -47,12 +57,18 @@ returns c =
 returns-2 : tie.Need-returns-2
 unfolding applyingTo
 returns-2 c =
-    (rw (node-laws.had (c .before .before .before .before .before .before .m .given .1) (c .before .before .before .before .before .before .before .before .find-root .ensures .0), ← c .before .before .before .before .vr .ensures, eq-eqb _ _ (c .before .before .before .if1 .taken), ← c .before .before .next .ensures .0) (c .if-read .ensures .0 ∙ c .before .first-holding .ensures .0), c .if-read .ensures .1)
+    let at-if1 = c .before .before .before in
+    let at-vr = at-if1 .before in
+    let at-m = at-vr .before .before in
+    let at-find-root = at-m .before .before in
+    (rw (node-laws.had (at-m .m .given .1) (at-find-root .find-root .ensures .0), ← at-vr .vr .ensures, eq-eqb _ _ (at-if1 .if1 .taken), ← c .before .before .next .ensures .0) (c .if-read .ensures .0 ∙ c .before .first-holding .ensures .0), c .if-read .ensures .1)
 
 returns-3 : tie.Need-returns-3
 unfolding applyingTo
 returns-3 c =
-    (rw (node-laws.had (c .before .before .before .m .given .1) (c .before .before .before .before .before .find-root .ensures .0), ← c .before .vr .ensures, ne-eqb _ _ (c .if1 .left)), tt)
+    let at-m = c .before .before .before in
+    let at-find-root = at-m .before .before in
+    (rw (node-laws.had (at-m .m .given .1) (at-find-root .find-root .ensures .0), ← c .before .vr .ensures, ne-eqb _ _ (c .if1 .left)), tt)
 
 pub applying-to-spec : {M : Type 1} → statement M
 applying-to-spec = tie.close (tie.spec find-root-requires enum-told enum-known-m vr-requires add-first-holding next-requires first-holding-requires if-read-requires returns returns-2 returns-3)

@@ -31,7 +31,8 @@ loop-less c = search needs
 
 loop-again : tie.Need-loop-again Inv-loop μ-loop
 loop-again c =
-    let a = c .before .before .before .before .before .args in
+    let entry = c .before .before .before .before .before in
+    let a = entry .args in
     let ns = nodesOf (a .bytes .now) in
     let e = ap (λ (l : List ℕ). length l) (members-next ns (c .before .before .loop .at) (a .to) (c .before .loop-test .taken)) in
     let f = ap (λ (k : ℕ). length (members ns k (a .to))) (c .next .ensures .0) in
@@ -39,7 +40,8 @@ loop-again c =
 
 returns : tie.Need-returns Inv-loop μ-loop
 returns c =
-    let a = c .before .before .before .before .args in
+    let entry = c .before .before .before .before in
+    let a = entry .args in
     (omega (arith, c .before .loop .inv .0, ap (λ (l : List ℕ). length l) (members-end (nodesOf (a .bytes .now)) (c .before .loop .at) (a .to) (c .loop-test .left))), c .before .loop .inv .1 .1)
 
 pub count-members-spec : {M : Type 1} → statement M

@@ -19,7 +19,8 @@ returns c = (rw (c .enum-told .given .1), tt)
 
 range-holds-requires : tie.Need-range-holds-requires
 range-holds-requires c κs =
-    (c .before .before .before .before .before .pre .0, subst (ApplyingBelow (length (nodesOf (c .before .before .before .before .before .args .bytes .now)))) (c .before .found .given .1) (c .before .before .before .before .before .pre .1))
+    let entry = c .before .before .before .before .before in
+    (entry .pre .0, subst (ApplyingBelow (length (nodesOf (entry .args .bytes .now)))) (c .before .found .given .1) (entry .pre .1))
 
 enum-told-2 : tie.Need-enum-told-2
 enum-told-2 c = search needs
@@ -32,15 +33,20 @@ enum-told-4 c = search needs
 
 returns-2 : tie.Need-returns-2
 returns-2 c =
-    (rw (c .before .before .before .before .found .given .1, laws.said holdsOf (c .enum-told2 .given .1) (c .before .before .range-holds .ensures)), subst (ApplyingBelow (length (nodesOf (c .before .before .before .before .before .before .before .before .args .bytes .now)))) (c .before .before .before .before .found .given .1) (c .before .before .before .before .before .before .before .before .pre .1))
+    let at-found = c .before .before .before .before in
+    let entry = at-found .before .before .before .before in
+    (rw (at-found .found .given .1, laws.said holdsOf (c .enum-told2 .given .1) (c .before .before .range-holds .ensures)), subst (ApplyingBelow (length (nodesOf (entry .args .bytes .now)))) (at-found .found .given .1) (entry .pre .1))
 
 returns-3 : tie.Need-returns-3
 returns-3 c =
-    (rw (c .before .before .before .before .found .given .1, laws.said holdsOf (c .enum-told3 .given .1) (c .before .before .range-holds .ensures)), subst (ApplyingBelow (length (nodesOf (c .before .before .before .before .before .before .before .before .args .bytes .now)))) (c .before .before .before .before .found .given .1) (c .before .before .before .before .before .before .before .before .pre .1))
+    let at-found = c .before .before .before .before in
+    let entry = at-found .before .before .before .before in
+    (rw (at-found .found .given .1, laws.said holdsOf (c .enum-told3 .given .1) (c .before .before .range-holds .ensures)), subst (ApplyingBelow (length (nodesOf (entry .args .bytes .now)))) (at-found .found .given .1) (entry .pre .1))
 
 returns-4 : tie.Need-returns-4
 returns-4 c =
-    (rw (c .before .before .before .before .found .given .1, laws.said holdsOf (c .enum-told4 .given .1) (c .before .before .range-holds .ensures)), tt)
+    let at-found = c .before .before .before .before in
+    (rw (at-found .found .given .1, laws.said holdsOf (c .enum-told4 .given .1) (c .before .before .range-holds .ensures)), tt)
 
 pub if-read-spec : {M : Type 1} → statement M
 if-read-spec =

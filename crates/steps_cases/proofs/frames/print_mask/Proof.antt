@@ -16,9 +16,11 @@ enum-known-j c = search needs
 
 print-item-requires : tie.Need-print-item-requires
 print-item-requires c κs =
-    let p = c .before .before .before .before .before .before .pre in
-    let n = length (nodesOf (c .before .before .before .before .before .before .args .bytes .now)) in
-    (p .0, (subst (λ (a : Applies). AppliesBelow n a) (c .before .j .given .1) (c .before .before .before .applying-to .ensures .1), p .1))
+    let at-applying-to = c .before .before .before in
+    let entry = at-applying-to .before .before .before in
+    let p = entry .pre in
+    let n = length (nodesOf (entry .args .bytes .now)) in
+    (p .0, (subst (λ (a : Applies). AppliesBelow n a) (c .before .j .given .1) (at-applying-to .applying-to .ensures .1), p .1))
 
 enum-told : tie.Need-enum-told
 enum-told c = search needs

@@ -15,7 +15,9 @@ write-all-requires c κs = search needs
 
 value-requires : tie.Need-value-requires
 value-requires c κs =
-    (c .before .before .before .before .before .before .before .pre .0, within _ (c .before .before .before .masks .given .1) (c .before .before .before .before .before .before .before .pre .1))
+    let at-masks = c .before .before .before in
+    let entry = at-masks .before .before .before .before in
+    (entry .pre .0, within _ (at-masks .masks .given .1) (entry .pre .1))
 
 print-numbers-requires : tie.Need-print-numbers-requires
 print-numbers-requires c κs = search needs

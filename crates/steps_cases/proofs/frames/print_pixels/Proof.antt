@@ -15,7 +15,9 @@ write-all-requires c κs = search needs
 
 value-requires : tie.Need-value-requires
 value-requires c κs =
-    (c .before .before .before .before .before .before .before .pre .0, within _ (c .before .before .before .pixels .given .1) (c .before .before .before .before .before .before .before .pre .1))
+    let at-pixels = c .before .before .before in
+    let entry = at-pixels .before .before .before .before in
+    (entry .pre .0, within _ (at-pixels .pixels .given .1) (entry .pre .1))
 
 print-number-requires : tie.Need-print-number-requires
 print-number-requires c κs = search needs

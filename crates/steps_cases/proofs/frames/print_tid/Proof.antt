@@ -9,7 +9,8 @@ frame-count-requires c κs = search needs
 
 tid-frame-requires : tie.Need-tid-frame-requires
 tid-frame-requires c κs =
-    let p = c .before .before .before .pre in
+    let entry = c .before .before .before in
+    let p = entry .pre in
     (p .0, (p .1 .0, (omega (arith, p .1 .1), c .frame-count .ensures .0)))
 
 print-tid-requires : tie.Need-print-tid-requires

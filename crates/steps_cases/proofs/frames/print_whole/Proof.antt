@@ -39,12 +39,15 @@ returns-2 c = search needs
 
 value-requires : tie.Need-value-requires
 value-requires c κs =
-    (c .before .before .before .before .before .before .before .before .pre .0, within _ (c .before .pixels .given .1) (c .before .before .before .before .before .before .before .before .pre .1 .0))
+    let entry = c .before .before .before .before .before .before .before .before in
+    (entry .pre .0, within _ (c .before .pixels .given .1) (entry .pre .1 .0))
 
 is-frame-requires : tie.Need-is-frame-requires
 is-frame-requires c κs =
-    let s = subst SizedSmall (c .before .before .before .before .before .size .given .1) (c .before .before .before .before .before .before .before .before .before .pre .1 .1 .0) in
-    record { rows = omega (arith, s .rows); columns = omega (arith, s .columns); width = s .width; number = omega (arith, c .before .before .before .before .before .before .before .before .before .pre .1 .1 .1) }
+    let at-size = c .before .before .before .before .before in
+    let entry = at-size .before .before .before .before in
+    let s = subst SizedSmall (at-size .size .given .1) (entry .pre .1 .1 .0) in
+    record { rows = omega (arith, s .rows); columns = omega (arith, s .columns); width = s .width; number = omega (arith, entry .pre .1 .1 .1) }
 
 slice-aggregate-write-all-3 : tie.Need-slice-aggregate-write-all-3
 slice-aggregate-write-all-3 c = search needs

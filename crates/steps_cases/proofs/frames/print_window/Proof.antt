@@ -39,7 +39,8 @@ returns-3 c = search needs
 
 window-for-requires : tie.Need-window-for-requires
 window-for-requires c κs =
-    let p = c .before .before .before .before .before .before .before .pre in
+    let entry = c .before .before .before .before .before .before .before in
+    let p = entry .pre in
     (p .0, (p .1 .1 .0, (p .1 .1 .1, omega (arith, c .if2 .left))))
 
 print-window-requires : tie.Need-print-window-requires

@@ -5,10 +5,10 @@ use native.Mathlib.Omega.{arith}
 use lib.Dec.{eqb}
 use borrow.Author.Needs.{needs}
 use borrow.Author.Tests.{ne-eqb}
-use Rattle.dataset.specs.Vr.{formOf, listed}
-use Rattle.dataset.proofs.Forms.{no-form}
-use Rattle.dataset.proofs.vr_form.Statement.{statement}
-use Rattle.dataset.proofs.vr_form.Tie as tie
+use Rattle.basics.specs.Vr.{formOf, listed}
+use Rattle.basics.proofs.Forms.{no-form}
+use Rattle.basics.proofs.vr_form.Statement.{statement}
+use Rattle.basics.proofs.vr_form.Tie as tie
 
 returns : tie.Need-returns
 unfolding formOf listed
@@ -25,7 +25,8 @@ shr-result c = search needs
 
 returns-2 : tie.Need-returns-2
 returns-2 c =
-    let x : ℕ = c .before .before .before .args .vr in
+    let entry = c .before .before .before in
+    let x : ℕ = entry .args .vr in
     let e : x / 256 * 256 + 64 + x % 256 % 32 ≡ x = omega (arith, c .before .if2 .taken) in
     c .forms-after .ensures (x % 256 % 32) (omega arith) ∙ ap formOf e
 

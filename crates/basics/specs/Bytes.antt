@@ -1,7 +1,7 @@
 -- Numbers in a data set's bytes, by their offset. Byte forms follow PS3.5.
 -- A byte past the end counts as 0; no definition above reads one.
-use Prim.Native.Nat.{ℕ, _+_, _*_}
-use mathlib.Core.List.{List}
+use Prim.Native.Nat.{ℕ, zero, suc, _+_, _*_, _/_, _%_}
+use mathlib.Core.List.{List, [], _∷_}
 use lib.ListN.{getD}
 
 -- A little-endian number of 16 bits.
@@ -19,3 +19,8 @@ tagAt s p = 65536 * le16 s p + le16 s (p + 2)
 -- A VR as one number: first letter × 256 + second.
 abbrev pub vrAt : List ℕ → ℕ → ℕ
 vrAt s p = 256 * getD s p 0 + getD s (p + 1) 0
+
+-- The lowest n bytes of a number, little-endian.
+unfoldable pub le : ℕ → ℕ → List ℕ
+le zero x = []
+le (suc n) x = x % 256 ∷ le n (x / 256)

@@ -1,10 +1,10 @@
 -- Each first letter has the forms of its VRs, and a letter of no arm begins no listed VR.
 use mathlib.Core.List.{List, [], _∷_}
 use Prim.Native.Nat.{ℕ}
-use Rattle.dataset.specs.Vr.{formOf, listed}
-use Rattle.dataset.proofs.Forms.{Outside, forms-of, no-forms}
-use Rattle.dataset.proofs.forms_after.Statement.{statement}
-use Rattle.dataset.proofs.forms_after.Tie as tie
+use Rattle.basics.specs.Vr.{formOf, listed}
+use Rattle.basics.proofs.Forms.{Outside, forms-of, no-forms}
+use Rattle.basics.proofs.forms_after.Statement.{statement}
+use Rattle.basics.proofs.forms_after.Tie as tie
 
 abbrev letters : List ℕ
 letters = 0x41 ∷ 0x43 ∷ 0x44 ∷ 0x46 ∷ 0x49 ∷ 0x4C ∷ 0x4F ∷ 0x50 ∷ 0x53 ∷ 0x54 ∷ 0x55 ∷ []

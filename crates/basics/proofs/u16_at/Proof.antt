@@ -1,9 +1,9 @@
 -- Both bytes are below 256, so the sum is below 65,536.
 use native.Mathlib.Omega.{arith}
-use Rattle.dataset.specs.Bytes.{le16}
+use Rattle.basics.specs.Bytes.{le16}
 use borrow.Author.Needs.{needs}
-use Rattle.dataset.proofs.u16_at.Statement.{statement}
-use Rattle.dataset.proofs.u16_at.Tie as tie
+use Rattle.basics.proofs.u16_at.Statement.{statement}
+use Rattle.basics.proofs.u16_at.Tie as tie
 
 shared-slice-read-wide : tie.Need-shared-slice-read-wide
 shared-slice-read-wide c = search needs

@@ -1,0 +1,5 @@
+pub mod Bytes
+pub mod Vr
+pub mod Limits
+pub mod Fields
+pub mod Contracts

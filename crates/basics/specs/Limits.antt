@@ -1,0 +1,10 @@
+-- How large a data set may be (document 01, "Reading").
+use Prim.Native.Nat.{ℕ}
+
+-- The most bytes that a data set may have: 1,073,741,824.
+abbrev pub largest : ℕ
+largest = 1073741824
+
+-- The most rows that it has: a row takes 8 bytes or more.
+abbrev pub mostRows : ℕ
+mostRows = 134217728

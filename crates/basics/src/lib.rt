@@ -1,0 +1,93 @@
+// What every crate above stands on: numbers in bytes, VRs, and how large a data set may be. specs/ says what each is, and what an
+// answer is. No call of this crate is public: each is given bytes that are there.
+ghost use mathlib.Core.Path.{_≡_};
+ghost use Prim.Native.Nat.{_+_, _≤_, _<_};
+ghost use lib.ListN.{length};
+ghost use Rattle.basics.specs.Bytes.{le16, le32, tagAt, vrAt};
+ghost use Rattle.basics.specs.Vr.{formOf};
+ghost use Rattle.basics.specs.Contracts.{FormsAfter};
+
+pub mod vrs;
+
+// The most bytes that a data set may have.
+pub const LARGEST: usize = 1_073_741_824;
+
+// The most rows that it has.
+pub const MOST_ROWS: usize = 134_217_728;
+
+pub fn wide(x: u8) -> usize
+    ensures { λ r. ⌜ (r ≡ x) × (r < 256) ⌝ }
+{
+    x as usize
+}
+
+pub fn wider(x: u32) -> usize
+    ensures { λ r. ⌜ r ≡ x ⌝ }
+{
+    x as usize
+}
+
+pub fn u16_at(s: &[u8], p: usize) -> usize
+    requires { ⌜ p + 2 ≤ length (now s) ⌝ }
+    ensures { λ r. ⌜ (r ≡ le16 (now (s .entry)) p) × (r < 65536) ⌝ }
+{
+    wide(s[p]) + 256 * wide(s[p + 1])
+}
+
+pub fn u32_at(s: &[u8], p: usize) -> usize
+    requires { ⌜ p + 4 ≤ length (now s) ⌝ }
+    ensures { λ r. ⌜ (r ≡ le32 (now (s .entry)) p) × (r < 4294967296) ⌝ }
+{
+    u16_at(s, p) + 65536 * u16_at(s, p + 2)
+}
+
+pub fn tag_at(s: &[u8], p: usize) -> usize
+    requires { ⌜ p + 4 ≤ length (now s) ⌝ }
+    ensures { λ r. ⌜ (r ≡ tagAt (now (s .entry)) p) × (r < 4294967296) ⌝ }
+{
+    65536 * u16_at(s, p) + u16_at(s, p + 2)
+}
+
+pub fn vr_at(s: &[u8], p: usize) -> usize
+    requires { ⌜ p + 2 ≤ length (now s) ⌝ }
+    ensures { λ r. ⌜ (r ≡ vrAt (now (s .entry)) p) × (r < 65536) ⌝ }
+{
+    256 * wide(s[p]) + wide(s[p + 1])
+}
+
+// The forms of the VRs with a first letter: two bits for each second letter, from 64 on, lowest first. This compiles to a
+// table, where a `match` over the VRs would be a tree of tests.
+fn forms_after(first: usize) -> u64
+    ensures { λ r. ⌜ FormsAfter first r ⌝ }
+{
+    match first {
+        0x41 => 0x0000_0140_0000_0400,
+        0x43 => 0x0000_0040_0000_0000,
+        0x44 => 0x0000_0140_0000_0004,
+        0x46 => 0x0000_0000_0100_0100,
+        0x49 => 0x0000_0040_0000_0000,
+        0x4C => 0x0000_0100_4000_0000,
+        0x4F => 0x0000_A000_0200_2220,
+        0x50 => 0x0000_0000_1000_0000,
+        0x53 => 0x0000_2148_0101_0000,
+        0x54 => 0x0000_0000_0400_0000,
+        0x55 => 0x0000_2260_2104_0080,
+        _ => 0,
+    }
+}
+
+// The form of a VR: 2 with a 32-bit length, 1 with a 16-bit length, 0 where it is not listed. SQ is told first, since the
+// readers ask for it again.
+pub fn vr_form(vr: usize) -> usize
+    ensures { λ r. ⌜ r ≡ formOf vr ⌝ }
+{
+    if vr == vrs::SQ {
+        return 2;
+    }
+    let second = vr % 256;
+    if second / 32 == 2 {
+        ((forms_after(vr / 256) >> (2 * (second % 32))) % 4) as usize
+    } else {
+        0
+    }
+}
