@@ -38,7 +38,8 @@ module _ (d : Decimal) (n : ℕ) (e : d ≡ Number n) (c : ℕ) where
 
 -- ---- All bytes
 
-pub next : (s : List ℕ) (i : ℕ) (d e : Decimal) → i < length s → e ≡ withByte d (getD s i 0) → withBytes e (drop (i + 1) s) ≡ withBytes d (drop i s)
+pub next : (s : List ℕ) (i : ℕ) (d e : Decimal) → i < length s → e ≡ withByte d (getD s i 0)
+    → withBytes e (drop (i + 1) s) ≡ withBytes d (drop i s)
 unfolding withBytes
 next s i d e h q = rw (from-next s i h, q)
 

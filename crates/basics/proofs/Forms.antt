@@ -70,7 +70,8 @@ outside (k ∷ ks) x o = rw (ne-eqb x k (o .0)) (outside ks x (o .1))
 abbrev pub begins : List ℕ → ℕ → Bool
 begins letters vr = listed letters (vr / 256)
 
-pub no-forms : (letters : List ℕ) (x : ℕ) → Outside letters x → T (allPass (begins letters) longVrs) → T (allPass (begins letters) shortVrs) → FormsAfter x 0
+pub no-forms : (letters : List ℕ) (x : ℕ) → Outside letters x → T (allPass (begins letters) longVrs) → T (allPass (begins letters) shortVrs)
+    → FormsAfter x 0
 no-forms letters x o l s k h =
     let y : ℕ = x * 256 + 64 + k in
     let e : y / 256 ≡ x = omega arith in

@@ -1,5 +1,6 @@
--- The fields of an answer (document 01, "What is handed back"): the numbers that the paper gives for each code, whatever the call. Each answer enum
--- has one definition `fieldsOf`, from its cases to these numbers, and what a public call promises of its answer is `Answers` with that definition.
+-- The fields of an answer (document 01, "What is handed back"): the numbers that the paper gives for each code, whatever the call. Each
+-- answer enum has one definition `fieldsOf`, from its cases to these numbers, and what a public call promises of its answer is `Answers`
+-- with that definition.
 use mathlib.Core.Path.{_≡_}
 use Prim.Native.Nat.{ℕ}
 

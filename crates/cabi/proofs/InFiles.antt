@@ -22,7 +22,8 @@ use Rattle.display.specs.declared.ShowAnswer.the-variants as shown
 use Rattle.meta.specs.Meta.{metaOf, part}
 use Rattle.meta.specs.declared.Meta.{Meta}
 use Rattle.meta.specs.declared.Meta.the-variants as head
-use Rattle.file.specs.File.{sameClass, readIn, readPart, readBy, readFileOf, readFields, judgeIn, judgePart, judgeBy, judgeFileOf, judgeFields, showIn, showPart, showBy, showFileOf, showFields}
+use Rattle.file.specs.File.{sameClass, readIn, readPart, readBy, readFileOf, readFields, judgeIn, judgePart, judgeBy, judgeFileOf}
+use Rattle.file.specs.File.{judgeFields, showIn, showPart, showBy, showFileOf, showFields}
 use Rattle.file.specs.declared.ReadFileAnswer.{ReadFileAnswer}
 use Rattle.file.specs.declared.ReadFileAnswer.the-variants as readFile
 use Rattle.file.specs.declared.ShowFileAnswer.{ShowFileAnswer}
@@ -47,7 +48,8 @@ read-by s head.NoMark buffer = alone-fits 15 (omega arith)
 read-by s head.BadHead buffer = alone-fits 16 (omega arith)
 read-by s head.OtherSyntax buffer = alone-fits 17 (omega arith)
 
-pub read-inside : {r : ReadFileAnswer} {a : ReadAnswer} (s buffer : List ℕ) → r ≡ readFileOf s buffer → r ≡ readFile.Read a → Fits32 (reading.fieldsOf a)
+pub read-inside : {r : ReadFileAnswer} {a : ReadAnswer} (s buffer : List ℕ) → r ≡ readFileOf s buffer → r ≡ readFile.Read a
+    → Fits32 (reading.fieldsOf a)
 unfolding readFileOf
 read-inside s buffer e f = subst (λ (x : ReadFileAnswer). Fits32 (readFields x)) (sym e ∙ f) (read-by s (metaOf s) buffer)
 
@@ -92,11 +94,13 @@ show-in same shown.NoRoom f = f
 show-by : (s : List ℕ) (m : Meta) (f : ℕ) (buffer image : List ℕ) → Fits32 (showFields (showBy s m f buffer image))
 unfolding showPart
 show-by s (head.Good from a b) f buffer image =
-    show-in (sameClass (part s a b) (nodesOf (drop from s))) (showOf (drop from s) f buffer image) (show-narrow (drop from s) f buffer image)
+    show-in (sameClass (part s a b) (nodesOf (drop from s))) (showOf (drop from s) f buffer image)
+    (show-narrow (drop from s) f buffer image)
 show-by s head.NoMark f buffer image = alone-fits 15 (omega arith)
 show-by s head.BadHead f buffer image = alone-fits 16 (omega arith)
 show-by s head.OtherSyntax f buffer image = alone-fits 17 (omega arith)
 
-pub show-inside : {r : ShowFileAnswer} {a : ShowAnswer} (s : List ℕ) (f : ℕ) (buffer image : List ℕ) → r ≡ showFileOf s f buffer image → r ≡ showFile.Shown a → Fits32 (showing.fieldsOf a)
+pub show-inside : {r : ShowFileAnswer} {a : ShowAnswer} (s : List ℕ) (f : ℕ) (buffer image : List ℕ) → r ≡ showFileOf s f buffer image
+    → r ≡ showFile.Shown a → Fits32 (showing.fieldsOf a)
 unfolding showFileOf
 show-inside s f buffer image e g = subst (λ (x : ShowFileAnswer). Fits32 (showFields x)) (sym e ∙ g) (show-by s (metaOf s) f buffer image)

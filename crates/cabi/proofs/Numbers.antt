@@ -1,6 +1,6 @@
--- The numbers of every answer fit 32 bits: a reader's, since they are small; a judge's, since its answer is a possible
--- verdict and has few rows; those of `show`, since they are the judge's; those of `write_canonical`, since it writes no more than was read; those of a slip that reads well, since it is a
--- possible verdict; a refusal's code, since it is 11 to 14.
+-- The numbers of every answer fit 32 bits: a reader's, since they are small; a judge's, since its answer is a possible verdict and has few
+-- rows; those of `show`, since they are the judge's; those of `write_canonical`, since it writes no more than was read; those of a slip
+-- that reads well, since it is a possible verdict; a refusal's code, since it is 11 to 14.
 use mathlib.Core.Path.{_≡_, refl, sym, ap, _∙_, subst}
 use mathlib.Core.Bool.{Bool, true, false, cond, not, _&&_}
 use mathlib.Core.List.{List, [], _∷_, _++_}
@@ -53,7 +53,8 @@ use Rattle.slip.specs.declared.SlipAnswer.{SlipAnswer}
 use Rattle.slip.specs.declared.SlipAnswer.the-variants as read
 use Rattle.slip.specs.declared.WriteAnswer.{WriteAnswer}
 use Rattle.slip.specs.declared.WriteAnswer.the-variants as write
-use Rattle.slip.specs.Slip.{mark, version, oldVersion, versionPlace, rowsPlace, headSize, oldSize, slipSize, number, sameBytes, recorded, ifPossible, readSized, readVersion, readOf, readFields, writeOf, writeFields}
+use Rattle.slip.specs.Slip.{mark, version, oldVersion, versionPlace, rowsPlace, headSize, oldSize, slipSize, number, sameBytes, recorded}
+use Rattle.slip.specs.Slip.{ifPossible, readSized, readVersion, readOf, readFields, writeOf, writeFields}
 use Rattle.slip.proofs.Slips.{slips}
 use Rattle.cabi.specs.Host.{rowsNumber, sheetAfter, Narrow, Fits32}
 
@@ -89,14 +90,21 @@ rows-fit s = small-fits (countOf (readingOf s)) (count-small s (readingOf s) (re
 
 judged-fits : (a : JudgeAnswer) → Small (verdictOf a) → judging.fieldsOf a .rows ≤ 134217728 → Fits32 (judging.fieldsOf a)
 judged-fits a m h =
-    record { code = omega (arith, m .code); offset = omega (arith, m .offset); rows = omega arith; rule = omega (arith, m .rule); frame = omega (arith, m .frame) }
+    record {
+      code = omega (arith, m .code);
+      offset = omega (arith, m .offset);
+      rows = omega arith;
+      rule = omega (arith, m .rule);
+      frame = omega (arith, m .frame);
+    }
 
 pub judge-fits : (s buffer : List ℕ) → Fits32 (judging.fieldsOf (judgeOf s buffer))
 judge-fits s buffer = judged-fits (judgeOf s buffer) (judge-small s buffer) (judge-rows s buffer)
 
 -- ---- The other calls keep the judge's fields, but where the object is accepted; then they have its row count, or a code alone
 
-accepted-narrow : (ns : List Node) (f : ℕ) (image : List ℕ) (n : ℕ) → Fits32 (counted n) → Fits32 (showing.fieldsOf (acceptedAnswer ns f image n))
+accepted-narrow : (ns : List Node) (f : ℕ) (image : List ℕ) (n : ℕ) → Fits32 (counted n)
+    → Fits32 (showing.fieldsOf (acceptedAnswer ns f image n))
 unfolding acceptedAnswer
 accepted-narrow ns f image n h = go (isFrameOf ns f) (leb (imageSize ns) (length image))
   where
@@ -105,7 +113,8 @@ accepted-narrow ns f image n h = go (isFrameOf ns f) (leb (imageSize ns) (length
     go true false = alone-fits 11 (omega arith)
     go false u = alone-fits 10 (omega arith)
 
-answer-narrow : (ns : List Node) (f : ℕ) (image : List ℕ) (j : JudgeAnswer) → Fits32 (judging.fieldsOf j) → Fits32 (showing.fieldsOf (answerFor ns f image j))
+answer-narrow : (ns : List Node) (f : ℕ) (image : List ℕ) (j : JudgeAnswer) → Fits32 (judging.fieldsOf j)
+    → Fits32 (showing.fieldsOf (answerFor ns f image j))
 answer-narrow ns f image (judged.Accepted n) h = accepted-narrow ns f image n h
 answer-narrow ns f image (judged.Broken n rule frame) h = h
 answer-narrow ns f image (judged.Refused code offset) h = h
@@ -117,17 +126,20 @@ unfolding showOf
 show-narrow s f buffer image = answer-narrow (nodesOf s) f image (judgeOf s buffer) (judge-fits s buffer)
 
 -- What a match found an answer of `linear` to be.
-linear-accepted : (ns : List Node) (f : ℕ) (values : List ℕ) (n : ℕ) → Fits32 (counted n) → Fits32 (mapping.fieldsOf (acceptedLinear ns f values n))
+linear-accepted : (ns : List Node) (f : ℕ) (values : List ℕ) (n : ℕ) → Fits32 (counted n)
+    → Fits32 (mapping.fieldsOf (acceptedLinear ns f values n))
 unfolding acceptedLinear
 linear-accepted ns f values n h = go (isFrameOf ns f) (isMapped ns f) (leb (imageSize ns) (length values))
   where
-    go : (t m u : Bool) → Fits32 (mapping.fieldsOf (cond t (cond m (cond u (linear.Mapped n) linear.NoValuesRoom) linear.NoItem) linear.NoFrame))
+    go : (t m u : Bool)
+        → Fits32 (mapping.fieldsOf (cond t (cond m (cond u (linear.Mapped n) linear.NoValuesRoom) linear.NoItem) linear.NoFrame))
     go true true true = h
     go true true false = alone-fits 11 (omega arith)
     go true false u = alone-fits 20 (omega arith)
     go false m u = alone-fits 10 (omega arith)
 
-linear-answer : (ns : List Node) (f : ℕ) (values : List ℕ) (j : JudgeAnswer) → Fits32 (judging.fieldsOf j) → Fits32 (mapping.fieldsOf (linearFor ns f values j))
+linear-answer : (ns : List Node) (f : ℕ) (values : List ℕ) (j : JudgeAnswer) → Fits32 (judging.fieldsOf j)
+    → Fits32 (mapping.fieldsOf (linearFor ns f values j))
 linear-answer ns f values (judged.Accepted n) h = linear-accepted ns f values n h
 linear-answer ns f values (judged.Broken n rule frame) h = h
 linear-answer ns f values (judged.Refused code offset) h = h
@@ -138,7 +150,8 @@ linear-all : (s : List ℕ) (f : ℕ) (buffer values : List ℕ) → Fits32 (map
 unfolding linearOf
 linear-all s f buffer values = linear-answer (nodesOf s) f values (judgeOf s buffer) (judge-fits s buffer)
 
-pub linear-narrow : {a b : LinearAnswer} (s : List ℕ) (f : ℕ) (buffer values : List ℕ) → a ≡ linearOf s f buffer values → a ≡ b → Fits32 (mapping.fieldsOf b)
+pub linear-narrow : {a b : LinearAnswer} (s : List ℕ) (f : ℕ) (buffer values : List ℕ) → a ≡ linearOf s f buffer values → a ≡ b
+    → Fits32 (mapping.fieldsOf b)
 linear-narrow s f buffer values e g = subst (λ (x : LinearAnswer). Fits32 (mapping.fieldsOf x)) (sym e ∙ g) (linear-all s f buffer values)
 
 sheet-accepted : (ns : List Node) (a b n : ℕ) → Fits32 (counted n) → Fits32 (sampling.fieldsOf (acceptedSheet ns a b n))
@@ -170,13 +183,15 @@ canonical-narrow s rows target bytes e f = subst CanonicalSmall (sym e ∙ f) (c
 
 -- A list is its own places, one after the other.
 own-places : (l : List ℕ) → upTo (λ k. getD l k 0) (length l) ≡ l
-own-places l = ext-getD 0 (upTo (λ k. getD l k 0) (length l)) l (upTo-length _ _) (λ k h. upTo-at (λ j. getD l j 0) (length l) k (omega (arith, h, upTo-length (λ j. getD l j 0) (length l))))
+own-places l = ext-getD 0 (upTo (λ k. getD l k 0) (length l)) l (upTo-length _ _)
+    (λ k h. upTo-at (λ j. getD l j 0) (length l) k (omega (arith, h, upTo-length (λ j. getD l j 0) (length l))))
 
 -- What is put into a buffer that holds a sheet, and what a smaller one keeps.
 module _ (t : Numbers) (buffer : List ℕ) where
   pub sheet-put : length (t .counts) ≡ 256 → 260 ≤ length buffer → painted (λ k. getD (numbersIn t) k 0) 260 buffer ≡ sheetAfter t buffer
   sheet-put e h =
-      let n : length (numbersIn t) ≡ 260 = length-append (t .counts) (t .natives ∷ t .lowest ∷ t .highest ∷ t .sum ∷ []) ∙ omega (arith, e) in
+      let n : length (numbersIn t)
+      ≡ 260 = length-append (t .counts) (t .natives ∷ t .lowest ∷ t .highest ∷ t .sum ∷ []) ∙ omega (arith, e) in
       rw (le-leb 260 (length buffer) h)
       (painted-list (λ k. getD (numbersIn t) k 0) 260 buffer h
       ∙ ap (λ (l : List ℕ). l ++ drop 260 buffer) (ap (upTo (λ k. getD (numbersIn t) k 0)) (sym n) ∙ own-places (numbersIn t)))
@@ -202,7 +217,8 @@ sized-code : (size : ℕ) (rows : RowCount) (s : List ℕ) → readFields (readS
 unfolding readSized ifPossible
 sized-code size rows s = go (eqb (length s) size) (possible (recorded s rows))
   where
-    go : (a d : Bool) → readFields (cond (not a) (read.Refused 12) (cond (not d) (read.Refused 14) (read.Read (recorded s rows)))) .code ≤ 14
+    go : (a d : Bool)
+        → readFields (cond (not a) (read.Refused 12) (cond (not d) (read.Refused 14) (read.Read (recorded s rows)))) .code ≤ 14
     go false d = omega arith
     go true false = omega arith
     go true true = omega arith
@@ -210,10 +226,13 @@ sized-code size rows s = go (eqb (length s) size) (possible (recorded s rows))
 read-code : (s : List ℕ) → readFields (readOf s) .code ≤ 14
 unfolding readOf readVersion
 read-code s =
-    go (leb headSize (length s) && sameBytes (take 3 s) mark) (eqb (number 2 s versionPlace) oldVersion) (eqb (number 2 s versionPlace) version)
+    go (leb headSize (length s) && sameBytes (take 3 s) mark) (eqb (number 2 s versionPlace) oldVersion)
+    (eqb (number 2 s versionPlace) version)
   where
     go : (a b d : Bool)
-        → readFields (cond (not a) (read.Refused 12) (cond b (readSized oldSize NotKnown s) (cond d (readSized slipSize (Known (number 4 s rowsPlace)) s) (read.Refused 13)))) .code ≤ 14
+        → readFields (cond (not a) (read.Refused 12)
+        (cond b (readSized oldSize NotKnown s) (cond d (readSized slipSize (Known (number 4 s rowsPlace)) s) (read.Refused 13)))) .code
+        ≤ 14
     go false b d = omega arith
     go true true d = sized-code oldSize NotKnown s
     go true false true = sized-code slipSize (Known (number 4 s rowsPlace)) s

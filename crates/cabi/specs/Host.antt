@@ -1,4 +1,5 @@
--- What a host is handed for each answer: the fields of the answer in 32 bits each, and of judging the sum of its searches in 64, which every `fieldsOf` gives in the papers' numbers.
+-- What a host is handed for each answer: the fields of the answer in 32 bits each, and of judging the sum of its searches in 64, which
+-- every `fieldsOf` gives in the papers' numbers.
 use Prim.Native.Nat.{ℕ, _<_}
 use mathlib.Core.Bool.{Bool, cond}
 use mathlib.Core.List.{List, _++_}

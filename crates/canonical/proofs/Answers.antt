@@ -38,7 +38,8 @@ nodes-few s bytes = go (readingOf s) (reading-shape s bytes)
     go : (o : Reading) → Readable s bytes o → Few s (writtenSize (map (nodeOf s) (rowsIn o)))
     go tooLarge r = record { fits = omega arith; small = omega arith }
     go (refusedAt code offset) r = record { fits = omega arith; small = omega arith }
-    go (read rows) r = record { fits = omega (arith, shape-size (r .shape), r .fits); small = omega (arith, shape-size (r .shape), r .fits, r .small) }
+    go (read rows)
+        r = record { fits = omega (arith, shape-size (r .shape), r .fits); small = omega (arith, shape-size (r .shape), r .fits, r .small) }
 
 -- The canonical form is no longer than the data set.
 pub form-fits : (s : List ℕ) → Bytes s → length (writtenOf (nodesOf s)) ≤ length s
@@ -53,14 +54,20 @@ pub record Ready (s buffer : List ℕ) (n : ℕ) : Type 0 where
   pub sized : Sized s (take (7 * n) buffer)
   pub count : n ≡ length (nodesOf s)
 
-pub ready : (s before buffer : List ℕ) (n : ℕ) → Bytes s → answer.Done n ≡ answerOf (readingOf s) before → buffer ≡ bufferOf (readingOf s) before → Ready s buffer n
+pub ready : (s before buffer : List ℕ) (n : ℕ) → Bytes s → answer.Done n ≡ answerOf (readingOf s) before
+    → buffer ≡ bufferOf (readingOf s) before → Ready s buffer n
 ready s before buffer n bytes e f =
     let t = after-reading s before buffer n e f in
-    record { room = t .0; sized = record { table = t .1; fits = nodes-few s bytes .fits; small = nodes-few s bytes .small }; count = nodes-read s before buffer n e f }
+    record {
+      room = t .0;
+      sized = record { table = t .1; fits = nodes-few s bytes .fits; small = nodes-few s bytes .small };
+      count = nodes-read s before buffer n e f;
+    }
 
 -- ---- The answer and the target
 
-pub fitting-all : (s target : List ℕ) {buffer : List ℕ} {n : ℕ} → Ready s buffer n → ltb (length target) (writtenSize (nodesOf s)) ≡ false → Fitting (nodesOf s) target 0 n 0
+pub fitting-all : (s target : List ℕ) {buffer : List ℕ} {n : ℕ} → Ready s buffer n → ltb (length target) (writtenSize (nodesOf s)) ≡ false
+    → Fitting (nodesOf s) target 0 n 0
 fitting-all s target {buffer} {n} r h =
     record {
       low = omega arith;
@@ -75,16 +82,20 @@ module _ (s before target : List ℕ) (n : ℕ) (e : answer.Done n ≡ answerOf 
   unfolding canonicalOf targetOf
   short-answer size k h =
       let q : size ≡ length (writtenOf (nodesOf s)) = k ∙ ap writtenSize (slice-all (nodesOf s) n c) ∙ sym (length-written (nodesOf s)) in
-      let f = lt-leb (length (writtenOf (nodesOf s))) (length target) (omega (arith, length-written (nodesOf s), ltb-true (length target) (writtenSize (nodesOf s)) h)) in
+      let f = lt-leb (length (writtenOf (nodesOf s))) (length target)
+      (omega (arith, length-written (nodesOf s), ltb-true (length target) (writtenSize (nodesOf s)) h)) in
       (rw (← e, f, q), rw (← e, f))
 
-  pub done-answer : (size : ℕ) (after : List ℕ) → Wrote (nodesOf s) target after 0 0 n size → ltb (length target) (writtenSize (nodesOf s)) ≡ false
+  pub done-answer : (size : ℕ) (after : List ℕ) → Wrote (nodesOf s) target after 0 0 n size
+      → ltb (length target) (writtenSize (nodesOf s)) ≡ false
       → (canonical.Done n size ≡ canonicalOf s before target) × (after ≡ targetOf s before target)
   unfolding canonicalOf targetOf
   done-answer size after w h =
       let o = wrote-all w c in
       let q : size ≡ length (writtenOf (nodesOf s)) = o .0 ∙ sym (length-written (nodesOf s)) in
-      let l : length (writtenOf (nodesOf s)) ≤ length target = omega (arith, length-written (nodesOf s), ltb-false (length target) (writtenSize (nodesOf s)) h) in
+      let l : length (writtenOf (nodesOf s))
+      ≤ length target = omega (arith, length-written (nodesOf s), ltb-false (length target) (writtenSize (nodesOf s)) h) in
       let f = le-leb (length (writtenOf (nodesOf s))) (length target) l in
-      let z = sets-eq (writtenOf (nodesOf s)) target 0 (omega arith) ∙ ap (λ (j : ℕ). writtenOf (nodesOf s) ++ drop j target) (zero-add (length (writtenOf (nodesOf s)))) in
+      let z = sets-eq (writtenOf (nodesOf s)) target 0 (omega arith)
+      ∙ ap (λ (j : ℕ). writtenOf (nodesOf s) ++ drop j target) (zero-add (length (writtenOf (nodesOf s)))) in
       (rw (← e, f, q), rw (← e, f) (o .1 .is ∙ z))

@@ -13,14 +13,16 @@ use Rattle.dataset.specs.declared.Head.{Head}
 use Rattle.dataset.specs.declared.Head.the-variants as head
 use Rattle.basics.specs.Bytes.{le16, le32, tagAt, vrAt, le}
 use Rattle.basics.specs.Vr.{formOf, SQ}
-use Rattle.dataset.specs.Header.{when, undefined, itemTag, cursor, headerBy, levelBy, definedBy, longBy, typedAt, taggedAt, sizedBy, memberAt, elementAt, itemAt}
-use Rattle.dataset.specs.Tree.{Kind, elements, items, rowsOf}
+use Rattle.dataset.specs.Header.{when, undefined, itemTag, cursor, headerBy, levelBy, definedBy, longBy, typedAt, taggedAt, sizedBy}
+use Rattle.dataset.specs.Header.{memberAt, elementAt, itemAt}
+use Rattle.dataset.specs.Tree.{Kind, elements, items}
 use Rattle.dataset.specs.Reading.{Row, row, Run, done, level, valueRun, elementsAt, itemsAt, read, whole, readingOf}
 use Rattle.basics.specs.Limits.{largest}
 use Rattle.dataset.proofs.Level.{level-on, level-end, value-plain}
-use Rattle.node.specs.Nodes.{Node, nodeOf, nodesOf}
+use Rattle.node.specs.Nodes.{Node, nodeOf}
 use Rattle.canonical.specs.Written.{letters, lengthOf, header, headSize}
-use Rattle.canonical.proofs.Shape.{Tag, Shape, none, leaf, sequence, item, Form, no, short, long, form, vr-not-0, length-header, shape-even, head-short, head-long, sq-long, item-short, node}
+use Rattle.canonical.proofs.Shape.{Tag, Shape, none, leaf, sequence, item, Form, no, short, long, form, vr-not-0, length-header}
+use Rattle.canonical.proofs.Shape.{shape-even, head-short, head-long, sq-long, item-short, node}
 
 -- ---- Numbers that were written
 
@@ -103,7 +105,8 @@ tag-back t at tag xs here h =
     let b : le16 t (at + 2) ≡ tag % 65536 % 256 + 256 * (tag % 65536 / 256 % 256) = two t at _ here (at + 2) 2 (omega arith) in
     omega (arith, le-two (tag / 65536) (omega arith), le-two (tag % 65536) (omega arith))
 
-vr-back : (t : List ℕ) (at vr : ℕ) (xs : List ℕ) → drop at t ≡ xs → vr < 65536 → getD xs 4 0 ≡ vr / 256 % 256 → getD xs 5 0 ≡ vr % 256 → vrAt t (at + 4) ≡ vr
+vr-back : (t : List ℕ) (at vr : ℕ) (xs : List ℕ) → drop at t ≡ xs → vr < 65536 → getD xs 4 0 ≡ vr / 256 % 256 → getD xs 5 0 ≡ vr % 256
+    → vrAt t (at + 4) ≡ vr
 vr-back t at vr xs here h p q =
     omega (arith, byte t at xs here (at + 4) 4 (omega arith), byte t at xs here (at + 4 + 1) 5 (omega arith))
 
@@ -122,7 +125,8 @@ module _ (t : List ℕ) (at end least levels tag vr size : ℕ) (more : List ℕ
       → elementAt t (cursor at end false) least levels ≡ h
   unfolding headerBy taggedAt when
   on-tag k e f =
-      rw (ne-eqb at end (omega arith), le-ltb (end - at) 8 (omega arith), e, ne-eqb (tag / 65536) 65534 (good .group), le-ltb tag least up) f
+      rw (ne-eqb at end (omega arith), le-ltb (end - at) 8 (omega arith), e, ne-eqb (tag / 65536) 65534 (good .group), le-ltb tag least up)
+      f
 
   element-short : formOf vr ≡ 1 → size < 65536 → at + 8 + size ≤ end
       → elementAt t (cursor at end false) least levels ≡ head.Header tag vr (cursor (at + 8) (at + 8 + size) false)
@@ -130,7 +134,8 @@ module _ (t : List ℕ) (at end least levels tag vr size : ℕ) (more : List ℕ
       let e = here ∙ header-short tag vr size more f in
       let v : vrAt t (at + 4) ≡ vr = vr-back t at vr _ e word refl refl in
       let n : le16 t (at + 6) ≡ size = two t at _ e (at + 6) 6 (omega arith) ∙ le-two size small in
-      on-tag (omega arith) (tag-back t at tag _ e (good .small)) (rw (v, n) (short-head at end tag vr levels deep size even t (formOf vr) f fits))
+      on-tag (omega arith) (tag-back t at tag _ e (good .small))
+      (rw (v, n) (short-head at end tag vr levels deep size even t (formOf vr) f fits))
 
   element-long : formOf vr ≡ 2 → size < 4294967295 → at + 12 + size ≤ end
       → elementAt t (cursor at end false) least levels ≡ head.Header tag vr (cursor (at + 12) (at + 12 + size) false)
@@ -139,24 +144,28 @@ module _ (t : List ℕ) (at end least levels tag vr size : ℕ) (more : List ℕ
       let v : vrAt t (at + 4) ≡ vr = vr-back t at vr _ e word refl refl in
       let n : le16 t (at + 6) ≡ 0 = two t at _ e (at + 6) 6 (omega arith) in
       let m : le32 t (at + 8) ≡ size = four-back t at (at + 8) size _ 8 e refl (omega arith) refl refl refl refl in
-      on-tag (omega arith) (tag-back t at tag _ e (good .small)) (rw (v, n) (long-head at end tag vr levels deep size even t (formOf vr) f fits small m))
+      on-tag (omega arith) (tag-back t at tag _ e (good .small))
+      (rw (v, n) (long-head at end tag vr levels deep size even t (formOf vr) f fits small m))
 
   element-back : (formOf vr ≡ 0 → ⊥) → (formOf vr ≡ 1 → size < 65536) → size < 4294967295 → at + headSize vr + size ≤ end
       → elementAt t (cursor at end false) least levels ≡ head.Header tag vr (cursor (at + headSize vr) (at + headSize vr + size) false)
   element-back known few small fits = go (form vr)
     where
-      go : Form vr → elementAt t (cursor at end false) least levels ≡ head.Header tag vr (cursor (at + headSize vr) (at + headSize vr + size) false)
+      go : Form vr
+          → elementAt t (cursor at end false) least levels ≡ head.Header tag vr (cursor (at + headSize vr) (at + headSize vr + size) false)
       go (no f) = absurd (known f)
       go (short f) = rw (head-short vr f) (element-short f (few f) (omega (arith, head-short vr f)))
       go (long f) = rw (head-long vr f) (element-long f small (omega (arith, head-long vr f)))
 
-item-back : (t : List ℕ) (at end size : ℕ) (more : List ℕ) → drop at t ≡ header itemTag 0 size ++ more → size % 2 ≡ 0 → size < 4294967295 → at + 8 + size ≤ end
+item-back : (t : List ℕ) (at end size : ℕ) (more : List ℕ) → drop at t ≡ header itemTag 0 size ++ more → size % 2 ≡ 0 → size < 4294967295
+    → at + 8 + size ≤ end
     → itemAt t (cursor at end false) ≡ head.Header itemTag 0 (cursor (at + 8) (at + 8 + size) false)
 unfolding headerBy memberAt when
 item-back t at end size more here even small fits =
     let e = here ∙ header-item size more in
     let m : le32 t (at + 4) ≡ size = four-back t at (at + 4) size _ 4 e refl (omega arith) refl refl refl refl in
-    rw (ne-eqb at end (omega arith), le-ltb (end - at) 8 (omega arith), tag-back t at itemTag _ e (omega arith), m) (item-head at end size even fits small)
+    rw (ne-eqb at end (omega arith), le-ltb (end - at) 8 (omega arith), tag-back t at itemTag _ e (omega arith), m)
+    (item-head at end size even fits small)
 
 -- ---- Level by level
 
@@ -207,7 +216,8 @@ joined : (t : List ℕ) (x n : Node) (a b : List Row) (below rest : List Node) �
     → x ∷ map (nodeOf t) (a ++ b) ≡ n ∷ (below ++ rest)
 joined t x n a b below rest p q r = rw (p, map-append (nodeOf t) a b, q, r)
 
-leaf-node : (t : List ℕ) (tag vr depth at size first : ℕ) (value rest : List ℕ) → (vr ≡ SQ → ⊥) → (vr ≡ 0 → ⊥) → drop at t ≡ value ++ rest → size ≡ length value
+leaf-node : (t : List ℕ) (tag vr depth at size first : ℕ) (value rest : List ℕ) → (vr ≡ SQ → ⊥) → (vr ≡ 0 → ⊥) → drop at t ≡ value ++ rest
+    → size ≡ length value
     → nodeOf t (row tag vr depth at size 0 first) ≡ node tag vr depth 0 value
 leaf-node t tag vr depth at size first value rest n m here e = rw (ne-eqb vr SQ n, ne-eqb vr 0 m, here, take-at value rest size (sym e))
 
@@ -217,7 +227,8 @@ module _ (t : List ℕ) (at-head : ℕ → ℕ → Head) (inside : ℕ → ℕ �
       → at-head at least ≡ head.Header tag vr v → inside (first + length before + 1) vr v ≡ done stop stop low
       → map (nodeOf t) low ≡ below → nodeOf t (row tag vr depth (v .at) (stop - v .at) (length low) first) ≡ n
       → at < stop → stop ≤ end → end < at + turns
-      → ((turns : ℕ) (before : List Row) → end < stop + turns → Comes t (level at-head inside depth first turns stop (tag + 1) before) end before rest)
+      → ((turns : ℕ) (before : List Row) → end < stop + turns
+      → Comes t (level at-head inside depth first turns stop (tag + 1) before) end before rest)
       → Comes t (level at-head inside depth first turns at least before) end before (n ∷ (below ++ rest))
   step zero at least before tag vr v stop low n below rest h i m e p q f go = absurd (omega arith)
   step (suc turns) at least before tag vr v stop low n below rest h i m e p q f go =
@@ -225,7 +236,8 @@ module _ (t : List ℕ) (at-head : ℕ → ℕ → Head) (inside : ℕ → ℕ �
       let c = go turns (before ++ (r ∷ low)) (omega arith) in
       record {
         rows = r ∷ (low ++ c .rows);
-        is = level-on at-head inside depth first turns at least before tag vr stop stop v low h i ∙ c .is ∙ ap (done end end) (append-assoc before (r ∷ low) (c .rows));
+        is = level-on at-head inside depth first turns at least before tag vr stop stop v low h i ∙ c .is
+            ∙ ap (done end end) (append-assoc before (r ∷ low) (c .rows));
         nodes = joined t _ n low (c .rows) below rest e m (c .nodes);
       }
 
@@ -249,16 +261,19 @@ module _ (t : List ℕ) (small : length t ≤ largest) where
   ended kind levels first end least before (suc turns) h =
       record {
         rows = [];
-        is = level-end (headOf kind levels t end) (inOf kind levels t) (8 - levels) first turns end least before 0 0 (cursor end end false) (ends t kind levels end least)
+        is = level-end (headOf kind levels t end) (inOf kind levels t) (8 - levels) first turns end least before 0 0 (cursor end end false)
+            (ends t kind levels end least)
             ∙ ap (done end end) (sym (append-nil before));
         nodes = refl;
       }
 
   shape-comes : {kind : Kind} {levels least : ℕ} {ns : List Node} {bs : List ℕ} → Shape kind levels least ns bs
-      → (first at end turns : ℕ) (post : List ℕ) (before : List Row) → drop at t ≡ bs ++ post → at + length bs ≡ end → end ≤ length t → end < at + turns
+      → (first at end turns : ℕ) (post : List ℕ) (before : List Row) → drop at t ≡ bs ++ post → at + length bs ≡ end → end ≤ length t
+      → end < at + turns
       → Comes t (level (headOf kind levels t end) (inOf kind levels t) (8 - levels) first turns at least before) end before ns
   shape-comes (none {kind} {levels} {least}) first at end turns post before here e q f =
-      subst (λ (p : ℕ). Comes t (level (headOf kind levels t end) (inOf kind levels t) (8 - levels) first turns p least before) end before [])
+      subst
+      (λ (p : ℕ). Comes t (level (headOf kind levels t end) (inOf kind levels t) (8 - levels) first turns p least before) end before [])
       (sym at-end) (ended kind levels first end least before turns (omega arith))
     where
       at-end : at ≡ end
@@ -268,12 +283,15 @@ module _ (t : List ℕ) (small : length t ≤ largest) where
       let stop : ℕ = at + k + length value in
       let d = parts t at k end (header tag vr (length value)) value after post here (length-header tag vr (length value)) e in
       let z = d .sum in
-      step t (headOf elements levels t end) (inOf elements levels t) (8 - levels) first end turns at least before tag vr (cursor (at + k) stop false) stop []
+      step t (headOf elements levels t end) (inOf elements levels t) (8 - levels) first end turns at least before tag vr
+      (cursor (at + k) stop false) stop []
       (node tag vr (8 - levels) 0 value) [] rest
-      (element-back t at end least levels tag vr (length value) (value ++ (after ++ post)) (d .whole) (l .ascends) (l .tagged) (l .letters) (λ s _. absurd (l .plain s)) (l .even) (l .known) (l .short)
+      (element-back t at end least levels tag vr (length value) (value ++ (after ++ post)) (d .whole) (l .ascends) (l .tagged) (l .letters)
+      (λ s _. absurd (l .plain s)) (l .even) (l .known) (l .short)
       (omega arith) (omega arith))
       (value-plain levels t (first + length before + 1) vr (cursor (at + k) stop false) (l .plain)) refl
-      (leaf-node t tag vr (8 - levels) (at + k) (stop - (at + k)) first value (after ++ post) (l .plain) (vr-not-0 vr (l .known)) (d .at-inner) (omega arith))
+      (leaf-node t tag vr (8 - levels) (at + k) (stop - (at + k)) first value (after ++ post) (l .plain) (vr-not-0 vr (l .known))
+      (d .at-inner) (omega arith))
       (omega (arith, head-eight vr)) (omega arith) f
       (λ turns before w. shape-comes r first stop end turns post before (d .at-after) z q w)
   shape-comes (sequence {levels} {least} {tag} {below} {rest} {inner} {after} h g b r) first at end turns post before here e q f =
@@ -281,10 +299,13 @@ module _ (t : List ℕ) (small : length t ≤ largest) where
       let stop : ℕ = at + k + length inner in
       let d = parts t at k end (header tag SQ (length inner)) inner after post here (length-header tag SQ (length inner)) e in
       let z = d .sum in
-      let c = shape-comes b (first + length before + 1) (at + k) stop (length t + 1) (after ++ post) [] (d .at-inner) refl (omega arith) (omega arith) in
-      step t (headOf elements (suc levels) t end) (inOf elements (suc levels) t) (8 - suc levels) first end turns at least before tag SQ (cursor (at + k) stop false) stop (c .rows)
+      let c = shape-comes b (first + length before + 1) (at + k) stop (length t + 1) (after ++ post) [] (d .at-inner) refl (omega arith)
+      (omega arith) in
+      step t (headOf elements (suc levels) t end) (inOf elements (suc levels) t) (8 - suc levels) first end turns at least before tag SQ
+      (cursor (at + k) stop false) stop (c .rows)
       (node tag SQ (8 - suc levels) (length below) []) below rest
-      (element-back t at end least (suc levels) tag SQ (length inner) (inner ++ (after ++ post)) (d .whole) h g (omega arith) (λ _ y. absurd (omega arith)) (shape-even b)
+      (element-back t at end least (suc levels) tag SQ (length inner) (inner ++ (after ++ post)) (d .whole) h g (omega arith)
+      (λ _ y. absurd (omega arith)) (shape-even b)
       (λ y. absurd (omega (arith, sq-long))) (λ y. absurd (omega (arith, sq-long))) (omega arith) (omega arith))
       (value-sq levels t (first + length before + 1) (cursor (at + k) stop false) ∙ c .is) (c .nodes)
       (ap (λ (n : ℕ). node tag SQ (8 - suc levels) n []) (count t (c .rows) below (c .nodes)))
@@ -292,10 +313,13 @@ module _ (t : List ℕ) (small : length t ≤ largest) where
       (λ turns before w. shape-comes r first stop end turns post before (d .at-after) z q w)
   shape-comes (item {levels} {least} {below} {rest} {inner} {after} b r) first at end turns post before here e q f =
       let stop : ℕ = at + 8 + length inner in
-      let d = parts t at 8 end (header itemTag 0 (length inner)) inner after post here (length-header itemTag 0 (length inner) ∙ item-short) e in
+      let d = parts t at 8 end (header itemTag 0 (length inner)) inner after post here (length-header itemTag 0 (length inner) ∙ item-short)
+      e in
       let z = d .sum in
-      let c = shape-comes b (first + length before + 1) (at + 8) stop (length t + 1) (after ++ post) [] (d .at-inner) refl (omega arith) (omega arith) in
-      step t (headOf items levels t end) (inOf items levels t) (8 - levels) first end turns at least before itemTag 0 (cursor (at + 8) stop false) stop (c .rows)
+      let c = shape-comes b (first + length before + 1) (at + 8) stop (length t + 1) (after ++ post) [] (d .at-inner) refl (omega arith)
+      (omega arith) in
+      step t (headOf items levels t end) (inOf items levels t) (8 - levels) first end turns at least before itemTag 0
+      (cursor (at + 8) stop false) stop (c .rows)
       (node itemTag 0 (8 - levels) (length below) []) below rest
       (item-back t at end (length inner) (inner ++ (after ++ post)) (d .whole) (shape-even b) (omega arith) (omega arith))
       (c .is) (c .nodes)
@@ -319,7 +343,3 @@ shape-back {ns} {bs} h small =
       is = rw (le-ltb largest (length bs) small) (ap whole (c .is));
       nodes = c .nodes;
     }
-
-pub nodes-back : {ns : List Node} {bs : List ℕ} → Shape elements 8 0 ns bs → length bs ≤ largest → nodesOf bs ≡ ns
-unfolding nodesOf rowsOf
-nodes-back h small = let b = shape-back h small in rw (b .is) (b .nodes)

@@ -19,7 +19,8 @@ use Rattle.canonical.proofs.Sizes.{size-next, size-split, own-is}
 pub wrote-none : (ns : List Node) (target : List ℕ) (i at : ℕ) → Wrote ns target target i at i at
 wrote-none ns target i at = record { place = refl; kept = refl; rest = refl }
 
-pub wrote-then : {ns : List Node} {t t₁ t₂ : List ℕ} {i at j p k q : ℕ} → Wrote ns t t₁ i at j p → Wrote ns t₁ t₂ j p k q → Wrote ns t t₂ i at k q
+pub wrote-then : {ns : List Node} {t t₁ t₂ : List ℕ} {i at j p k q : ℕ} → Wrote ns t t₁ i at j p → Wrote ns t₁ t₂ j p k q
+    → Wrote ns t t₂ i at k q
 wrote-then a b = record { place = b .place ∙ a .place; kept = b .kept ∙ a .kept; rest = b .rest ∙ a .rest }
 
 module _ (ns : List Node) (i : ℕ) (h : i < length ns) where
@@ -36,19 +37,23 @@ module _ (ns : List Node) (i : ℕ) (h : i < length ns) where
 
   -- The length that the header is given.
   inner-size : (next inside p end size : ℕ) (value : List ℕ) → next ≡ i + 1 + node .descendants → p ≡ inside + length value
-      → end + writtenSize (drop next ns) ≡ p + writtenSize after → size ≡ end - inside → size ≡ length value + writtenSize (take (node .descendants) after)
+      → end + writtenSize (drop next ns) ≡ p + writtenSize after → size ≡ end - inside
+      → size ≡ length value + writtenSize (take (node .descendants) after)
   inner-size next inside p end size value e q w z =
-      let d : drop next ns ≡ drop (node .descendants) after = ap (λ (k : ℕ). drop k ns) e ∙ sym (drop-drop (node .descendants) (i + 1) ns) in
+      let d : drop next ns
+      ≡ drop (node .descendants) after = ap (λ (k : ℕ). drop k ns) e ∙ sym (drop-drop (node .descendants) (i + 1) ns) in
       let s : writtenSize (drop next ns) ≡ writtenSize (drop (node .descendants) after) = ap writtenSize d in
       omega (arith, size-split (node .descendants) after)
 
   pub wrote-node : {t t₁ t₂ t₃ : List ℕ} {at inside p end next tag vr size : ℕ} {value : List ℕ}
       → tag ≡ node .tag → vr ≡ node .vr → value ≡ node .value → next ≡ i + 1 + node .descendants → inside ≡ at + headSize vr
-      → Put t t₁ inside value → p ≡ inside + length value → Wrote ns t₁ t₂ (i + 1) p next end → size ≡ end - inside → Put t₂ t₃ at (header tag vr size)
+      → Put t t₁ inside value → p ≡ inside + length value → Wrote ns t₁ t₂ (i + 1) p next end → size ≡ end - inside
+      → Put t₂ t₃ at (header tag vr size)
       → inside ≤ end → Wrote ns t t₃ i at next end
   unfolding nodeBytes writtenOf
   wrote-node {t} {t₁} {t₂} {t₃} {at} {inside} {p} {end} {next} {tag} {vr} {size} {value} a b c e f x q w z y g =
-      let k : size ≡ length value + writtenSize (take (node .descendants) after) = inner-size next inside p end size value e q (w .place) z in
+      let k : size
+      ≡ length value + writtenSize (take (node .descendants) after) = inner-size next inside p end size value e q (w .place) z in
       let head : List ℕ = header tag vr size in
       let l : length head ≡ headSize vr = length-header tag vr size in
       let m : List ℕ = writtenOf after in
@@ -59,7 +64,8 @@ module _ (ns : List Node) (i : ℕ) (h : i < length ns) where
         kept = y .kept ∙ w .kept ∙ x .kept;
         rest = ap (λ (u : List ℕ). sets u end (writtenOf (drop next ns))) (y .is)
             ∙ sets-swap head t₂ at end (writtenOf (drop next ns)) (omega arith)
-            ∙ ap (λ (u : List ℕ). sets u at head) (w .rest ∙ ap (λ (u : List ℕ). sets u p m) (x .is) ∙ ap (λ (j : ℕ). sets (sets t inside value) j m) q ∙ sym (sets-append value t inside m))
+            ∙ ap (λ (u : List ℕ). sets u at head) (w .rest ∙ ap (λ (u : List ℕ). sets u p m) (x .is)
+            ∙ ap (λ (j : ℕ). sets (sets t inside value) j m) q ∙ sym (sets-append value t inside m))
             ∙ sym (sets-swap head t at inside (value ++ m) (omega arith))
             ∙ ap (λ (j : ℕ). sets (sets t at head) j (value ++ m)) (f ∙ ap (λ (j : ℕ). at + j) (sym l))
             ∙ sym (sets-append head t at (value ++ m))
@@ -73,10 +79,12 @@ module _ (ns : List Node) (i : ℕ) (h : i < length ns) where
       → Put t t₁ inside value → Put t₁ t₂ at (header tag vr (length value)) → Wrote ns t t₂ i at next (inside + length value)
   wrote-leaf {t} {t₁} {t₂} {at} {inside} {next} {tag} {vr} {value} a b c e n f x y =
       wrote-node a b c e f x refl
-      (subst (λ (k : ℕ). Wrote ns t₁ t₁ (i + 1) (inside + length value) k (inside + length value)) (sym n) (wrote-none ns t₁ (i + 1) (inside + length value)))
+      (subst (λ (k : ℕ). Wrote ns t₁ t₁ (i + 1) (inside + length value) k (inside + length value)) (sym n)
+      (wrote-none ns t₁ (i + 1) (inside + length value)))
       (omega arith) y (omega arith)
 
-pub wrote-all : {ns : List Node} {t t₁ : List ℕ} {n at : ℕ} → Wrote ns t t₁ 0 0 n at → n ≡ length ns → (at ≡ writtenSize ns) × Put t t₁ 0 (writtenOf ns)
+pub wrote-all : {ns : List Node} {t t₁ : List ℕ} {n at : ℕ} → Wrote ns t t₁ 0 0 n at → n ≡ length ns
+    → (at ≡ writtenSize ns) × Put t t₁ 0 (writtenOf ns)
 unfolding writtenSize writtenOf
 wrote-all {ns} {t} {t₁} {n} {at} w e =
     let d : drop n ns ≡ drop (length ns) ns = ap (λ (k : ℕ). drop k ns) e in
@@ -92,14 +100,16 @@ pub record Going (ns : List Node) (target₀ target : List ℕ) (from start to i
   pub high : i ≤ to
   pub wrote : Wrote ns target₀ target from start i at
 
-pub going-first : {ns : List Node} {target : List ℕ} {from to start : ℕ} → Fitting ns target from to start → Going ns target target from start to from start
+pub going-first : {ns : List Node} {target : List ℕ} {from to start : ℕ} → Fitting ns target from to start
+    → Going ns target target from start to from start
 going-first {ns} {target} {from} {to} {start} f = record { low = omega arith; high = f .low; wrote = wrote-none ns target from start }
 
 next-row : (s : List ℕ) (k : ℕ) → k < length (nodesOf s) → nextNode (nodesOf s) k ≡ nextRow (rowsOf s) k
 next-row s k h = ap (λ (n : Node). k + 1 + n .descendants) (node-is s (flat (rowsOf s)) (table s (flat (rowsOf s)) refl) k h)
 
 -- What is below a node ends within what is below the node that it is in.
-nested : (s : List ℕ) (i k : ℕ) → i < length (nodesOf s) → i < k → k < nextNode (nodesOf s) i → nextNode (nodesOf s) k ≤ nextNode (nodesOf s) i
+nested : (s : List ℕ) (i k : ℕ) → i < length (nodesOf s) → i < k → k < nextNode (nodesOf s) i
+    → nextNode (nodesOf s) k ≤ nextNode (nodesOf s) i
 nested s i k h l m =
     let w : nextNode (nodesOf s) i ≤ length (nodesOf s) = next-within s (flat (rowsOf s)) (table s (flat (rowsOf s)) refl) i h in
     let a = next-row s i h in
@@ -116,7 +126,8 @@ module _ (s : List ℕ) {target₀ target : List ℕ} {from start to i at : ℕ}
   turn-room {vr} {value} a b =
       omega (arith, f .room, g .wrote .place, g .wrote .kept, size-next (nodesOf s) i turn-known, own-is (nodesOf s) i a b)
 
-  pub turn-fits : {target₁ : List ℕ} {vr inside p next : ℕ} {value : List ℕ} → vr ≡ nodeAt (nodesOf s) i .vr → value ≡ nodeAt (nodesOf s) i .value
+  pub turn-fits : {target₁ : List ℕ} {vr inside p next : ℕ} {value : List ℕ} → vr ≡ nodeAt (nodesOf s) i .vr
+      → value ≡ nodeAt (nodesOf s) i .value
       → inside ≡ at + headSize vr → p ≡ inside + length value → next ≡ nextNode (nodesOf s) i → length target₁ ≡ length target
       → Fitting (nodesOf s) target₁ (i + 1) next p
   turn-fits {target₁} {vr} {inside} {p} {next} {value} a b d q e k =
@@ -130,11 +141,13 @@ module _ (s : List ℕ) {target₀ target : List ℕ} {from start to i at : ℕ}
   pub turn-next : {next : ℕ} → next ≡ nextNode (nodesOf s) i → (i + 1 ≤ next) × (next ≤ to)
   turn-next e = (omega arith, omega (arith, f .whole i (g .low) h))
 
-  pub turn-end : {target₁ target₂ : List ℕ} {p next end : ℕ} → next ≡ nextNode (nodesOf s) i → Wrote (nodesOf s) target₁ target₂ (i + 1) p next end → p ≤ end
+  pub turn-end : {target₁ target₂ : List ℕ} {p next end : ℕ} → next ≡ nextNode (nodesOf s) i
+      → Wrote (nodesOf s) target₁ target₂ (i + 1) p next end → p ≤ end
   turn-end {target₁} {target₂} {p} {next} {end} e w =
       let d : drop next (nodesOf s) ≡ drop (nodeAt (nodesOf s) i .descendants) (drop (i + 1) (nodesOf s)) =
       ap (λ (k : ℕ). drop k (nodesOf s)) e ∙ sym (drop-drop (nodeAt (nodesOf s) i .descendants) (i + 1) (nodesOf s)) in
-      let z : writtenSize (drop next (nodesOf s)) ≡ writtenSize (drop (nodeAt (nodesOf s) i .descendants) (drop (i + 1) (nodesOf s))) = ap writtenSize d in
+      let z : writtenSize (drop next (nodesOf s))
+      ≡ writtenSize (drop (nodeAt (nodesOf s) i .descendants) (drop (i + 1) (nodesOf s))) = ap writtenSize d in
       omega (arith, w .place, size-split (nodeAt (nodesOf s) i .descendants) (drop (i + 1) (nodesOf s)))
 
   pub going-next : {target₁ : List ℕ} {next end : ℕ} → next ≡ nextNode (nodesOf s) i → Wrote (nodesOf s) target target₁ i at next end

@@ -36,7 +36,8 @@ value-next {target₀} {target} {value} {at} {i} l h =
       rest = rw (a, b) (ap (λ (x : List ℕ). sets target (at + i) x) (sym (drop-cons value i 0 h)) ∙ l .rest);
     }
 
-pub value-last : {target₀ target value : List ℕ} {at i : ℕ} → Left target₀ at value target i → length value ≤ i → Put target₀ target at value
+pub value-last : {target₀ target value : List ℕ} {at i : ℕ} → Left target₀ at value target i → length value ≤ i
+    → Put target₀ target at value
 value-last {target₀} {target} {value} {at} {i} l h =
     record { is = ap (λ (x : List ℕ). sets target (at + i) x) (sym (drop-of-length-le value h)) ∙ l .rest; kept = l .kept }
 
@@ -66,7 +67,8 @@ head-least vr = go (eqb (formOf vr) 2)
     go true = omega arith
     go false = omega arith
 
-pub put-then : {t t₁ t₂ : List ℕ} {at p : ℕ} {xs ys : List ℕ} → Put t t₁ at xs → Put t₁ t₂ p ys → p ≡ at + length xs → Put t t₂ at (xs ++ ys)
+pub put-then : {t t₁ t₂ : List ℕ} {at p : ℕ} {xs ys : List ℕ} → Put t t₁ at xs → Put t₁ t₂ p ys → p ≡ at + length xs
+    → Put t t₂ at (xs ++ ys)
 put-then {t} {t₁} {t₂} {at} {p} {xs} {ys} a b e =
     record {
       is = b .is ∙ ap (λ (l : List ℕ). sets l p ys) (a .is) ∙ ap (λ (k : ℕ). sets (sets t at xs) k ys) e ∙ sym (sets-append xs t at ys);
@@ -83,11 +85,13 @@ module _ (vr size : ℕ) {t t₁ : List ℕ} {at : ℕ} where
     unfolding lengthOf letters
     short-puts f b = rw (ne-eqb vr 0 n, ne-eqb (formOf vr) 2 f) (put-then a b refl)
 
-    pub long-puts : formOf vr ≡ 2 → Put t₁ t₂ (at + 2) (le 2 0) → {t₃ : List ℕ} → Put t₂ t₃ (at + 4) (le 4 size) → Put t t₃ at (lengthOf vr size)
+    pub long-puts : formOf vr ≡ 2 → Put t₁ t₂ (at + 2) (le 2 0) → {t₃ : List ℕ} → Put t₂ t₃ (at + 4) (le 4 size)
+        → Put t t₃ at (lengthOf vr size)
     unfolding lengthOf letters le
     long-puts f b e = rw (ne-eqb vr 0 n, f) (put-then a (put-then b e (omega arith)) refl)
 
-pub header-puts : (tag vr size : ℕ) {t t₁ t₂ t₃ : List ℕ} {at : ℕ} → Put t t₁ at (le 2 (tag / 65536)) → Put t₁ t₂ (at + 2) (le 2 (tag % 65536))
+pub header-puts : (tag vr size : ℕ) {t t₁ t₂ t₃ : List ℕ} {at : ℕ} → Put t t₁ at (le 2 (tag / 65536))
+    → Put t₁ t₂ (at + 2) (le 2 (tag % 65536))
     → Put t₂ t₃ (at + 4) (lengthOf vr size) → Put t t₃ at (header tag vr size)
 unfolding header le
 header-puts tag vr size a b e = put-then a (put-then b e (omega arith)) refl

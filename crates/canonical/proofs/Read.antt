@@ -13,15 +13,18 @@ use Rattle.dataset.specs.declared.Head.{Head}
 use Rattle.dataset.specs.declared.Head.the-variants as head
 use Rattle.basics.specs.Bytes.{le16, le32, tagAt, vrAt}
 use Rattle.basics.specs.Vr.{formOf, SQ}
-use Rattle.dataset.specs.Header.{when, itemTag, cursor, moved, headerBy, delimiterBy, levelBy, definedBy, longBy, typedAt, taggedAt, sizedBy, memberAt, elementAt, itemAt}
-use Rattle.dataset.specs.Reading.{Row, row, Run, done, refused, onHead, onRun, level, valueRun, elementsAt, itemsAt, Reading, tooLarge, refusedAt, read, whole, readingOf}
+use Rattle.dataset.specs.Header.{when, itemTag, cursor, moved, headerBy, delimiterBy, levelBy, definedBy, longBy, typedAt, taggedAt}
+use Rattle.dataset.specs.Header.{sizedBy, memberAt, elementAt, itemAt}
+use Rattle.dataset.specs.Reading.{Row, row, Run, done, refused, onHead, onRun, level, valueRun, elementsAt, itemsAt, Reading, tooLarge}
+use Rattle.dataset.specs.Reading.{refusedAt, read, whole, readingOf}
 use Rattle.basics.specs.Limits.{largest}
 use Rattle.dataset.specs.Tree.{Kind, elements, items}
 use Rattle.dataset.proofs.Level.{value-plain}
 use Rattle.node.specs.Nodes.{nodeOf, holdsNodes}
 use Rattle.canonical.specs.Written.{Bytes, header, headSize}
 use Rattle.canonical.proofs.Back.{value-sq}
-use Rattle.canonical.proofs.Shape.{Tag, Leaf, Shape, none, leaf, sequence, item, node, Form, no, short, long, form, vr-not-0, length-header, head-short, head-long, item-short}
+use Rattle.canonical.proofs.Shape.{Tag, Leaf, Shape, none, leaf, sequence, item, node, Form, no, short, long, form, vr-not-0}
+use Rattle.canonical.proofs.Shape.{length-header, head-short, head-long, item-short}
 
 -- ---- What a header says
 
@@ -51,7 +54,8 @@ Says kind least levels c (head.End tag vr next) = (c .at ≤ next .at) × (next 
 Says kind least levels c (head.Refused code) = Unit {0}
 
 module _ (kind : Kind) (least levels : ℕ) (c : Cursor) where
-  by-test : (t : Bool) (a b : Head) → (t ≡ true → Says kind least levels c a) → (t ≡ false → Says kind least levels c b) → Says kind least levels c (when t a b)
+  by-test : (t : Bool) (a b : Head) → (t ≡ true → Says kind least levels c a) → (t ≡ false → Says kind least levels c b)
+      → Says kind least levels c (when t a b)
   unfolding when
   by-test true a b p q = p refl
   by-test false a b p q = q refl
@@ -84,7 +88,8 @@ module _ (kind : Kind) (least levels : ℕ) (c : Cursor) where
       (λ _. by-test _ _ _ (λ _. refuses 1) (λ k. q (omega (arith, ltb-false (c .end - c .at) 8 k))))
 
 module _ (c : Cursor) (least levels tag vr : ℕ) (up : least ≤ tag) (good : Tag tag) (known : formOf vr ≡ 0 → ⊥) (word : vr < 65536) where
-  level-says : (v : Cursor) → ((vr ≡ SQ → levels ≡ 0 → ⊥) → Element c least levels tag vr v) → Says elements least levels c (levelBy tag vr levels v)
+  level-says : (v : Cursor) → ((vr ≡ SQ → levels ≡ 0 → ⊥) → Element c least levels tag vr v)
+      → Says elements least levels c (levelBy tag vr levels v)
   unfolding levelBy
   level-says v g =
       by-test elements least levels c _ _ _
@@ -147,18 +152,21 @@ module _ (s : List ℕ) (bytes : Bytes s) where
   vr-small p = omega (arith, bytes p, bytes (p + 1))
 
   module _ (c : Cursor) (k : c .at + 8 ≤ c .end) (least levels : ℕ) where
-    typed-says : (tag vr size : ℕ) → least ≤ tag → Tag tag → vr < 65536 → size < 65536 → Says elements least levels c (typedAt s c tag vr (formOf vr) size levels)
+    typed-says : (tag vr size : ℕ) → least ≤ tag → Tag tag → vr < 65536 → size < 65536
+        → Says elements least levels c (typedAt s c tag vr (formOf vr) size levels)
     unfolding typedAt
     typed-says tag vr size up good word small =
         by-test elements least levels c _ _ _ (λ _. tt)
         (λ a. let known : formOf vr ≡ 0 → ⊥ = eqb-false (formOf vr) 0 a in
         by-test elements least levels c _ _ _
-        (λ b. defined-says c least levels tag vr up good known word (c .at + 8) (omega (arith, head-short vr (eqb-true (formOf vr) 1 b))) k size (λ _. small))
+        (λ b. defined-says c least levels tag vr up good known word (c .at + 8) (omega (arith, head-short vr (eqb-true (formOf vr) 1 b))) k
+        size (λ _. small))
         (λ b. by-test elements least levels c _ _ _ (λ _. tt)
         (λ m. let f : formOf vr ≡ 2 = is-long (form vr) known (eqb-false (formOf vr) 1 b) in
         let room : 12 ≤ c .end - c .at = ltb-false (c .end - c .at) 12 m in
         by-test elements least levels c _ _ _
-        (λ _. long-says c least levels tag vr up good known word (c .at + 12) (omega (arith, head-long vr f)) (omega arith) (le32 s (c .at + 8)) f)
+        (λ _. long-says c least levels tag vr up good known word (c .at + 12) (omega (arith, head-long vr f)) (omega arith)
+        (le32 s (c .at + 8)) f)
         (λ _. tt))))
       where
         is-long : Form vr → (formOf vr ≡ 0 → ⊥) → (formOf vr ≡ 1 → ⊥) → formOf vr ≡ 2
@@ -171,7 +179,8 @@ module _ (s : List ℕ) (bytes : Bytes s) where
     tagged-says tag small =
         by-test elements least levels c _ _ _ (λ _. delimiter-says elements least levels c tag _ _ k)
         (λ g. by-test elements least levels c _ _ _ (λ _. tt)
-        (λ u. typed-says tag _ _ (ltb-false tag least u) (record { small = small; group = eqb-false (tag / 65536) 65534 g }) (vr-small _) (le16-small _)))
+        (λ u. typed-says tag _ _ (ltb-false tag least u) (record { small = small; group = eqb-false (tag / 65536) 65534 g }) (vr-small _)
+        (le16-small _)))
 
     sized-says : (len : ℕ) → Says items least levels c (sizedBy c len)
     unfolding sizedBy definedBy levelBy
@@ -215,21 +224,24 @@ record Grown (s : List ℕ) (kind : Kind) (levels least at end tag : ℕ) (new :
       → (bytes : List ℕ) × (Shape kind levels least (map (nodeOf s) (new ++ rest)) bytes × (at + length bytes ≤ next + length after))
 
 abbrev Grows : List ℕ → Kind → ℕ → ℕ → ℕ → ℕ → Head → (ℕ → ℕ → Cursor → Run) → Type 0
-Grows s kind levels least at end (head.Header tag vr v) inside = (first n stop next : ℕ) (below : List Row) → inside n vr v ≡ done stop next below
+Grows s kind levels least at end (head.Header tag vr v) inside = (first n stop next : ℕ) (below : List Row)
+    → inside n vr v ≡ done stop next below
     → Grown s kind levels least at end tag (row tag vr (8 - levels) (v .at) (stop - v .at) (length below) first ∷ below) next
 Grows s kind levels least at end (head.End tag vr next) inside = (at ≤ next .at) × (next .at ≤ end)
 Grows s kind levels least at end (head.Refused code) inside = Unit {0}
 
 module _ (s : List ℕ) (kind : Kind) (levels end first : ℕ) (at-head : ℕ → ℕ → Head) (inside : ℕ → ℕ → Cursor → Run)
     (grows : (at least : ℕ) → Grows s kind levels least at end (at-head at least) inside) where
-  level-makes : (turns at least : ℕ) (before : List Row) → Makes s kind levels least at end before (level at-head inside (8 - levels) first turns at least before)
+  level-makes : (turns at least : ℕ) (before : List Row)
+      → Makes s kind levels least at end before (level at-head inside (8 - levels) first turns at least before)
   unfolding level
   level-makes zero at least before = tt
   level-makes (suc turns) at least before =
       on-head (λ next tag new. level-makes turns next (tag + 1) (before ++ new)) (at-head at least) (grows at least)
     where
       Next : Type 0
-      Next = (next tag : ℕ) (new : List Row) → Makes s kind levels (tag + 1) next end (before ++ new) (level at-head inside (8 - levels) first turns next (tag + 1) (before ++ new))
+      Next = (next tag : ℕ) (new : List Row) → Makes s kind levels (tag + 1) next end (before ++ new)
+          (level at-head inside (8 - levels) first turns next (tag + 1) (before ++ new))
 
       joins : (tag next : ℕ) (new : List Row) → Grown s kind levels least at end tag new next
           → (o : Run) → Makes s kind levels (tag + 1) next end (before ++ new) o → Makes s kind levels least at end before o
@@ -250,17 +262,20 @@ module _ (s : List ℕ) (kind : Kind) (levels end first : ℕ) (at-head : ℕ �
           → ((stop next : ℕ) (below : List Row) → o ≡ done stop next below
           → Grown s kind levels least at end tag (row tag vr (8 - levels) (v .at) (stop - v .at) (length below) first ∷ below) next)
           → Makes s kind levels least at end before (onRun o (λ stop next below.
-          level at-head inside (8 - levels) first turns next (tag + 1) (before ++ (row tag vr (8 - levels) (v .at) (stop - v .at) (length below) first ∷ below))))
+          level at-head inside (8 - levels) first turns next (tag + 1)
+          (before ++ (row tag vr (8 - levels) (v .at) (stop - v .at) (length below) first ∷ below))))
       on-run k tag vr v (refused code offset) g = tt
       on-run k tag vr v (done stop next below) g =
           let new : List Row = row tag vr (8 - levels) (v .at) (stop - v .at) (length below) first ∷ below in
-          joins tag next new (g stop next below refl) (level at-head inside (8 - levels) first turns next (tag + 1) (before ++ new)) (k next tag new)
+          joins tag next new (g stop next below refl) (level at-head inside (8 - levels) first turns next (tag + 1) (before ++ new))
+          (k next tag new)
 
       on-head : Next → (h : Head) → Grows s kind levels least at end h inside → Makes s kind levels least at end before (onHead h
           (λ code. refused code at)
           (λ next. done at next before)
           (λ tag vr v. onRun (inside (first + length before + 1) vr v) (λ stop next below.
-          level at-head inside (8 - levels) first turns next (tag + 1) (before ++ (row tag vr (8 - levels) (v .at) (stop - v .at) (length below) first ∷ below)))))
+          level at-head inside (8 - levels) first turns next (tag + 1)
+          (before ++ (row tag vr (8 - levels) (v .at) (stop - v .at) (length below) first ∷ below)))))
       on-head k (head.Refused code) g = tt
       on-head k (head.End tag vr next) g =
           record { rest = []; bytes = []; is = sym (append-nil before); shape = none; fits = omega arith; close = g .0; high = g .1 }
@@ -288,7 +303,8 @@ module _ (s : List ℕ) where
     leaf-of : (c : Cursor) (least levels tag vr : ℕ) (v : Cursor) → Element c least levels tag vr v → c .end ≤ length s → (vr ≡ SQ → ⊥)
         → (length (take (v .end - v .at) (drop (v .at) s)) ≡ v .end - v .at) × Leaf least tag vr (take (v .end - v .at) (drop (v .at) s))
     leaf-of c least levels tag vr v g room n =
-        let e : length (take (v .end - v .at) (drop (v .at) s)) ≡ v .end - v .at = simp (length-take, length-drop) (omega (arith, g .high, g .ordered)) in (
+        let e : length (take (v .end - v .at) (drop (v .at) s))
+        ≡ v .end - v .at = simp (length-take, length-drop) (omega (arith, g .high, g .ordered)) in (
           e,
           record {
             ascends = g .ascends;
@@ -302,7 +318,8 @@ module _ (s : List ℕ) where
           },
         )
 
-    leaf-grows : (c : Cursor) (least levels tag vr first : ℕ) (v : Cursor) → Element c least levels tag vr v → c .end ≤ length s → (vr ≡ SQ → ⊥)
+    leaf-grows : (c : Cursor) (least levels tag vr first : ℕ) (v : Cursor) → Element c least levels tag vr v → c .end ≤ length s
+        → (vr ≡ SQ → ⊥)
         → Grown s elements levels least (c .at) (c .end) tag (row tag vr (8 - levels) (v .at) (v .end - v .at) 0 first ∷ []) (v .end)
     leaf-grows c least levels tag vr first v g room n =
         let l = leaf-of c least levels tag vr v g room n in
@@ -320,7 +337,8 @@ module _ (s : List ℕ) where
 
     sequence-grows : (c : Cursor) (least levels tag first : ℕ) (v : Cursor) → Element c least (suc levels) tag SQ v
         → (stop next : ℕ) (below : List Row) → Made s items levels 0 (v .at) (v .end) [] stop next below
-        → Grown s elements (suc levels) least (c .at) (c .end) tag (row tag SQ (8 - suc levels) (v .at) (stop - v .at) (length below) first ∷ below) next
+        → Grown s elements (suc levels) least (c .at) (c .end) tag
+        (row tag SQ (8 - suc levels) (v .at) (stop - v .at) (length below) first ∷ below) next
     sequence-grows c least levels tag first v g stop next below m =
         let b : Shape items levels 0 (map (nodeOf s) below) (m .bytes) = rw (m .is) (m .shape) in
         record {
@@ -337,7 +355,8 @@ module _ (s : List ℕ) where
 
     item-grows : (c : Cursor) (least levels first : ℕ) (v : Cursor) → Item c itemTag 0 v
         → (stop next : ℕ) (below : List Row) → Made s elements levels 0 (v .at) (v .end) [] stop next below
-        → Grown s items levels least (c .at) (c .end) itemTag (row itemTag 0 (8 - levels) (v .at) (stop - v .at) (length below) first ∷ below) next
+        → Grown s items levels least (c .at) (c .end) itemTag
+        (row itemTag 0 (8 - levels) (v .at) (stop - v .at) (length below) first ∷ below) next
     item-grows c least levels first v g stop next below m =
         let b : Shape elements levels 0 (map (nodeOf s) below) (m .bytes) = rw (m .is) (m .shape) in
         record {
@@ -364,14 +383,17 @@ module _ (s : List ℕ) where
     value-grows : (levels : ℕ) → Deeper levels → (c : Cursor) (least : ℕ) → c .end ≤ length s
         → (tag vr : ℕ) (v : Cursor) → Element c least levels tag vr v → (t : Bool) → eqb vr SQ ≡ t
         → (first n stop next : ℕ) (below : List Row) → valueRun levels s n vr v ≡ done stop next below
-        → Grown s elements levels least (c .at) (c .end) tag (row tag vr (8 - levels) (v .at) (stop - v .at) (length below) first ∷ below) next
+        → Grown s elements levels least (c .at) (c .end) tag (row tag vr (8 - levels) (v .at) (stop - v .at) (length below) first ∷ below)
+        next
     value-grows zero deeper c least room tag vr v g true q first n stop next below e = absurd (g .deep (eqb-true vr SQ q) refl)
     value-grows (suc levels) deeper c least room tag vr v g true q first n stop next below e =
         let z : vr ≡ SQ = eqb-true vr SQ q in
         subst (λ (x : ℕ). Element c least (suc levels) tag x v → valueRun (suc levels) s n x v ≡ done stop next below
-        → Grown s elements (suc levels) least (c .at) (c .end) tag (row tag x (8 - suc levels) (v .at) (stop - v .at) (length below) first ∷ below) next) (sym z)
+        → Grown s elements (suc levels) least (c .at) (c .end) tag
+        (row tag x (8 - suc levels) (v .at) (stop - v .at) (length below) first ∷ below) next) (sym z)
         (λ g e. sequence-grows c least levels tag first v g stop next below
-        (done-of items levels 0 (v .at) (v .end) [] (itemsAt levels s n v) (deeper n v (omega (arith, g .high))) stop next below (sym (value-sq levels s n v) ∙ e))) g e
+        (done-of items levels 0 (v .at) (v .end) [] (itemsAt levels s n v) (deeper n v (omega (arith, g .high))) stop next below
+        (sym (value-sq levels s n v) ∙ e))) g e
     value-grows levels deeper c least room tag vr v g false q first n stop next below e =
         let plain : vr ≡ SQ → ⊥ = eqb-false vr SQ q in
         let d : done (v .end) (v .end) [] ≡ done stop next below = sym (value-plain levels s n vr v plain) ∙ e in
@@ -380,36 +402,44 @@ module _ (s : List ℕ) where
         let l : below ≡ [] = cc in
         rw (a, b, l) (leaf-grows c least levels tag vr first v g room plain)
 
-    element-grows : (levels : ℕ) → Deeper levels → (c : Cursor) (least : ℕ) → c .end ≤ length s → (h : Head) → Says elements least levels c h
+    element-grows : (levels : ℕ) → Deeper levels → (c : Cursor) (least : ℕ) → c .end ≤ length s → (h : Head)
+        → Says elements least levels c h
         → Grows s elements levels least (c .at) (c .end) h (valueRun levels s)
     element-grows levels deeper c least room (head.Refused code) g = tt
     element-grows levels deeper c least room (head.End tag vr next) g = g
     element-grows levels deeper c least room (head.Header tag vr v) g = value-grows levels deeper c least room tag vr v g (eqb vr SQ) refl
 
-    member-grows : (levels : ℕ) → ((n : ℕ) (v : Cursor) → v .end ≤ length s → Makes s elements levels 0 (v .at) (v .end) [] (elementsAt levels s n v))
+    member-grows : (levels : ℕ)
+        → ((n : ℕ) (v : Cursor) → v .end ≤ length s → Makes s elements levels 0 (v .at) (v .end) [] (elementsAt levels s n v))
         → (c : Cursor) (least : ℕ) → c .end ≤ length s → (h : Head) → Says items least levels c h
         → Grows s items levels least (c .at) (c .end) h (λ n vr v. elementsAt levels s n v)
     member-grows levels inner c least room (head.Refused code) g = tt
     member-grows levels inner c least room (head.End tag vr next) g = g
     member-grows levels inner c least room (head.Header tag vr v) g = λ first n stop next below e.
-        let m = done-of elements levels 0 (v .at) (v .end) [] (elementsAt levels s n v) (inner n v (omega (arith, g .high))) stop next below e in
+        let m = done-of elements levels 0 (v .at) (v .end) [] (elementsAt levels s n v) (inner n v (omega (arith, g .high))) stop next below
+        e in
         let i : Item c itemTag 0 v = record { tagged = refl; plain = refl; start = g .start; high = g .high } in
         rw (g .tagged, g .plain) (item-grows c least levels first v i stop next below m)
 
-    items-make : (levels : ℕ) → ((n : ℕ) (v : Cursor) → v .end ≤ length s → Makes s elements levels 0 (v .at) (v .end) [] (elementsAt levels s n v))
+    items-make : (levels : ℕ)
+        → ((n : ℕ) (v : Cursor) → v .end ≤ length s → Makes s elements levels 0 (v .at) (v .end) [] (elementsAt levels s n v))
         → (first : ℕ) (c : Cursor) → c .end ≤ length s → Makes s items levels 0 (c .at) (c .end) [] (itemsAt levels s first c)
     items-make levels inner first c room =
         level-makes s items levels (c .end) first (λ at least. itemAt s (moved c at)) (λ n vr v. elementsAt levels s n v)
-        (λ at least. member-grows levels inner (moved c at) least room (itemAt s (moved c at)) (item-says s bytes (moved c at) least levels))
+        (λ at least.
+        member-grows levels inner (moved c at) least room (itemAt s (moved c at)) (item-says s bytes (moved c at) least levels))
         (length s + 1) (c .at) 0 []
 
-    elements-make-by : (levels : ℕ) → Deeper levels → (first : ℕ) (c : Cursor) → c .end ≤ length s → Makes s elements levels 0 (c .at) (c .end) [] (elementsAt levels s first c)
+    elements-make-by : (levels : ℕ) → Deeper levels → (first : ℕ) (c : Cursor) → c .end ≤ length s
+        → Makes s elements levels 0 (c .at) (c .end) [] (elementsAt levels s first c)
     elements-make-by levels deeper first c room =
         level-makes s elements levels (c .end) first (λ at least. elementAt s (moved c at) least levels) (valueRun levels s)
-        (λ at least. element-grows levels deeper (moved c at) least room (elementAt s (moved c at) least levels) (element-says s bytes (moved c at) least levels))
+        (λ at least. element-grows levels deeper (moved c at) least room (elementAt s (moved c at) least levels)
+        (element-says s bytes (moved c at) least levels))
         (length s + 1) (c .at) 0 []
 
-    elements-make : (levels first : ℕ) (c : Cursor) → c .end ≤ length s → Makes s elements levels 0 (c .at) (c .end) [] (elementsAt levels s first c)
+    elements-make : (levels first : ℕ) (c : Cursor) → c .end ≤ length s
+        → Makes s elements levels 0 (c .at) (c .end) [] (elementsAt levels s first c)
     elements-make zero = elements-make-by zero tt
     elements-make (suc levels) = elements-make-by (suc levels) (items-make levels (elements-make levels))
 

@@ -47,11 +47,13 @@ pub data Shape : Kind → ℕ → ℕ → List Node → List ℕ → Type 0 wher
       → least ≤ tag → Tag tag
       → Shape items levels 0 below inner
       → Shape elements (suc levels) (tag + 1) rest after
-      → Shape elements (suc levels) least (node tag SQ (8 - suc levels) (length below) [] ∷ (below ++ rest)) (header tag SQ (length inner) ++ (inner ++ after))
+      → Shape elements (suc levels) least (node tag SQ (8 - suc levels) (length below) [] ∷ (below ++ rest))
+      (header tag SQ (length inner) ++ (inner ++ after))
   item : {levels least : ℕ} {below rest : List Node} {inner after : List ℕ}
       → Shape elements levels 0 below inner
       → Shape items levels (itemTag + 1) rest after
-      → Shape items levels least (node itemTag 0 (8 - levels) (length below) [] ∷ (below ++ rest)) (header itemTag 0 (length inner) ++ (inner ++ after))
+      → Shape items levels least (node itemTag 0 (8 - levels) (length below) [] ∷ (below ++ rest))
+      (header itemTag 0 (length inner) ++ (inner ++ after))
 
 -- ---- A header's length
 
@@ -97,7 +99,8 @@ unfolding header lengthOf letters headSize le
 length-header tag vr size = go (eqb vr 0) refl (eqb (formOf vr) 2) refl
   where
     go : (a : Bool) → eqb vr 0 ≡ a → (b : Bool) → eqb (formOf vr) 2 ≡ b
-        → length (le 2 (tag / 65536) ++ (le 2 (tag % 65536) ++ cond a (le 4 size) (letters vr ++ cond b (le 2 0 ++ le 4 size) (le 2 size)))) ≡ cond b 12 8
+        → length (le 2 (tag / 65536) ++ (le 2 (tag % 65536) ++ cond a (le 4 size) (letters vr ++ cond b (le 2 0 ++ le 4 size) (le 2 size))))
+        ≡ cond b 12 8
     go true e true f = absurd (omega (arith, formless vr (eqb-true vr 0 e), eqb-true (formOf vr) 2 f))
     go true e false f = refl
     go false e true f = refl
@@ -110,7 +113,8 @@ unfolding writtenSize ownSize
 size-append [] ms = omega arith
 size-append (n ∷ ns) ms = omega (arith, size-append ns ms)
 
-pub shape-size : {kind : Kind} {levels least : ℕ} {ns : List Node} {bs : List ℕ} → Shape kind levels least ns bs → writtenSize ns ≡ length bs
+pub shape-size : {kind : Kind} {levels least : ℕ} {ns : List Node} {bs : List ℕ} → Shape kind levels least ns bs
+    → writtenSize ns ≡ length bs
 unfolding writtenSize ownSize
 shape-size none = refl
 shape-size (leaf {tag = tag} {vr = vr} {value = value} {rest = rest} {after = after} l r) =
@@ -190,14 +194,18 @@ bytes-header tag vr size =
   where
     go : (a b : Bool) → Bytes (cond a (le 4 size) (letters vr ++ cond b (le 2 0 ++ le 4 size) (le 2 size)))
     go true b = bytes-le 4 size
-    go false true = bytes-append (letters vr) (le 2 0 ++ le 4 size) (bytes-letters vr) (bytes-append (le 2 0) (le 4 size) (bytes-le 2 0) (bytes-le 4 size))
+    go false true = bytes-append (letters vr) (le 2 0 ++ le 4 size) (bytes-letters vr)
+        (bytes-append (le 2 0) (le 4 size) (bytes-le 2 0) (bytes-le 4 size))
     go false false = bytes-append (letters vr) (le 2 size) (bytes-letters vr) (bytes-le 2 size)
 
 pub shape-bytes : {kind : Kind} {levels least : ℕ} {ns : List Node} {bs : List ℕ} → Shape kind levels least ns bs → Bytes bs
 shape-bytes none = λ k. omega arith
 shape-bytes (leaf {tag = tag} {vr = vr} {value = value} {after = after} l r) =
-    bytes-append (header tag vr (length value)) (value ++ after) (bytes-header tag vr (length value)) (bytes-append value after (l .bytes) (shape-bytes r))
+    bytes-append (header tag vr (length value)) (value ++ after) (bytes-header tag vr (length value))
+    (bytes-append value after (l .bytes) (shape-bytes r))
 shape-bytes (sequence {tag = tag} {inner = inner} {after = after} h t b r) =
-    bytes-append (header tag SQ (length inner)) (inner ++ after) (bytes-header tag SQ (length inner)) (bytes-append inner after (shape-bytes b) (shape-bytes r))
+    bytes-append (header tag SQ (length inner)) (inner ++ after) (bytes-header tag SQ (length inner))
+    (bytes-append inner after (shape-bytes b) (shape-bytes r))
 shape-bytes (item {inner = inner} {after = after} b r) =
-    bytes-append (header itemTag 0 (length inner)) (inner ++ after) (bytes-header itemTag 0 (length inner)) (bytes-append inner after (shape-bytes b) (shape-bytes r))
+    bytes-append (header itemTag 0 (length inner)) (inner ++ after) (bytes-header itemTag 0 (length inner))
+    (bytes-append inner after (shape-bytes b) (shape-bytes r))

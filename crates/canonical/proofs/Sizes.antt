@@ -45,7 +45,8 @@ pub summed-next : {ns : List Node} {from to sum i : ℕ} → Summed ns from to s
 unfolding writtenSize
 summed-next {ns} {from} {to} {sum} {i} s h l =
     let e : i + 1 ≡ suc i = omega arith in
-    let c : writtenSize (slice i to ns) ≡ ownSize (nodeAt ns i) + writtenSize (slice (suc i) to ns) = ap writtenSize (slice-cons i to ns noNode h l) in
+    let c : writtenSize (slice i to ns)
+    ≡ ownSize (nodeAt ns i) + writtenSize (slice (suc i) to ns) = ap writtenSize (slice-cons i to ns noNode h l) in
     record { low = omega (arith, s .low); high = omega arith; rest = rw e (omega (arith, s .rest)) }
 
 pub summed-last : {ns : List Node} {from to sum i : ℕ} → Summed ns from to sum i → to ≤ i → sum ≡ writtenSize (slice from to ns)

@@ -1,5 +1,5 @@
--- The canonical form reads back as the nodes that were written: reading gives a shape, a shape is what is written of its nodes, and the bytes
--- of a shape read as its nodes (Read.antt, Shape.antt, Back.antt).
+-- The canonical form reads back as the nodes that were written: reading gives a shape, a shape is what is written of its nodes, and the
+-- bytes of a shape read as its nodes (Read.antt, Shape.antt, Back.antt).
 use mathlib.Core.Path.{_≡_, sym, ap, _∙_, subst}
 use Prim.Native.Nat.{ℕ, _≤_}
 use native.Mathlib.Omega.{arith}
@@ -41,7 +41,13 @@ written-returns s bytes rows e =
     let n : nodesOf s ≡ map (nodeOf s) rows = nodes-are s rows e in
     let w : writtenOf (nodesOf s) ≡ r .bytesOf = ap writtenOf n ∙ shape-is (r .shape) in
     let b = shape-back (r .shape) (omega (arith, r .fits, r .small)) in
-    rw w (record { rows = b .rows; reads = b .is; nodes = nodes-are (r .bytesOf) (b .rows) (b .is) ∙ b .nodes ∙ sym n; fits = r .fits; bytes = shape-bytes (r .shape) })
+    rw w (record {
+      rows = b .rows;
+      reads = b .is;
+      nodes = nodes-are (r .bytesOf) (b .rows) (b .is) ∙ b .nodes ∙ sym n;
+      fits = r .fits;
+      bytes = shape-bytes (r .shape);
+    })
 
 -- ---- The numbers of every answer are small
 
@@ -56,7 +62,8 @@ unfolding canonicalOf
 canonical-small s rows target bytes =
     go (answerOf (readingOf s) rows) (answer-small s rows) (form-small s bytes)
   where
-    by-room : (n size : ℕ) → n ≤ 134217728 → size ≤ 1073741824 → (t : Bool) → SmallAnswer (cond t (canonical.Done n size) (canonical.NoTargetRoom size))
+    by-room : (n size : ℕ) → n ≤ 134217728 → size ≤ 1073741824 → (t : Bool)
+        → SmallAnswer (cond t (canonical.Done n size) (canonical.NoTargetRoom size))
     by-room n size h k true = record { code = omega arith; offset = omega arith; rows = h; size = k }
     by-room n size h k false = record { code = omega arith; offset = omega arith; rows = omega arith; size = k }
 

@@ -20,14 +20,16 @@ pub record Put (before after : List ℕ) (at : ℕ) (bytes : List ℕ) : Type 0 
   pub is : after ≡ sets before at bytes
   pub kept : length after ≡ length before
 
--- The nodes from `from` up to `to` are whole, with all that is below them; and from `start` on the target has room for them and all that follow.
+-- The nodes from `from` up to `to` are whole, with all that is below them; and from `start` on the target has room for them and all that
+-- follow.
 pub record Fitting (ns : List Node) (target : List ℕ) (from to start : ℕ) : Type 0 where
   pub low : from ≤ to
   pub high : to ≤ length ns
   pub whole : (k : ℕ) → from ≤ k → k < to → nextNode ns k ≤ to
   pub room : start + writtenSize (drop from ns) ≤ length target
 
--- The nodes from `from` up to `to` stand from `start` on, and the next one goes to `at`: once the rest is put there, all from `from` on stands.
+-- The nodes from `from` up to `to` stand from `start` on, and the next one goes to `at`: once the rest is put there, all from `from` on
+-- stands.
 pub record Wrote (ns : List Node) (before after : List ℕ) (from start to at : ℕ) : Type 0 where
   pub place : at + writtenSize (drop to ns) ≡ start + writtenSize (drop from ns)
   pub kept : length after ≡ length before

@@ -1,6 +1,6 @@
 -- The canonical form of a data set: written with defined lengths throughout and no end marks (document 02, Q-10). It is a function of the
 -- data set's nodes alone, that is of tags, VRs, depths, rows below and, for what is no sequence and no item, values.
-use Prim.Native.Nat.{ℕ, zero, suc, _+_, _/_, _%_, _<_}
+use Prim.Native.Nat.{ℕ, _+_, _/_, _%_, _<_}
 use mathlib.Core.Bool.{cond}
 use mathlib.Core.List.{List, [], _∷_, _++_}
 use lib.ListN.{length, take, getD}

@@ -1,5 +1,5 @@
-// The canonical form of a data set: defined lengths throughout and no end marks. specs/Written.antt says what is written; `write_canonical`,
-// at the end, is the public call.
+// The canonical form of a data set: defined lengths throughout and no end marks. specs/Written.antt says what is written;
+// `write_canonical`, at the end, is the public call.
 ghost use mathlib.Core.Path.{_≡_};
 ghost use Prim.Native.Nat.{_+_, _-_, _≤_, _<_};
 ghost use lib.ListN.{length};
@@ -129,8 +129,8 @@ fn lacks_room(bytes: &[u8], rows: &[u32], room: usize) -> bool
 
 // ---- Nodes into the target
 
-// Writes the nodes from `from` up to `to`, and answers where the next one goes. What is below a node is written before its header, since its
-// length is then known, and each node is written once. The calls are at most 17 deep: the first, and one for each of the 16 levels of
+// Writes the nodes from `from` up to `to`, and answers where the next one goes. What is below a node is written before its header, since
+// its length is then known, and each node is written once. The calls are at most 17 deep: the first, and one for each of the 16 levels of
 // sequences and items.
 fn put_members(
     bytes: &[u8],

@@ -1,5 +1,5 @@
--- The rows fit a buffer of seven numbers for each 8 bytes, since a row has at least 8 bytes; the canonical form fits a target as long as the data
--- set, since it is no longer; and done is answered only where it fits.
+-- The rows fit a buffer of seven numbers for each 8 bytes, since a row has at least 8 bytes; the canonical form fits a target as long as
+-- the data set, since it is no longer; and done is answered only where it fits.
 use mathlib.Core.Path.{_≡_, refl}
 use mathlib.Core.Bool.{Bool, true, false, cond}
 use Prim.Native.Nat.{ℕ, _*_, _≤_}
@@ -25,7 +25,8 @@ pub held : (s rows target after : List ℕ) → length after ≡ length target �
 unfolding canonicalOf
 held s rows target after e = go (answerOf (readingOf s) rows)
   where
-    by-room : (n size : ℕ) (t : Bool) → leb size (length target) ≡ t → Held (cond t (canonical.Done n size) (canonical.NoTargetRoom size)) after
+    by-room : (n size : ℕ) (t : Bool) → leb size (length target) ≡ t
+        → Held (cond t (canonical.Done n size) (canonical.NoTargetRoom size)) after
     by-room n size true f = omega (arith, leb-true size (length target) f)
     by-room n size false f = tt
 
@@ -35,11 +36,13 @@ held s rows target after e = go (answerOf (readingOf s) rows)
     go answer.TooLarge = tt
     go answer.NoRoom = tt
 
-pub roomy : (s rows target : List ℕ) → Bytes s → 7 * length s ≤ 8 * length rows → length s ≤ length target → Roomy (canonicalOf s rows target)
+pub roomy : (s rows target : List ℕ) → Bytes s → 7 * length s ≤ 8 * length rows → length s ≤ length target
+    → Roomy (canonicalOf s rows target)
 unfolding canonicalOf rowsOf
 roomy s rows target bytes h k = by-reading (readingOf s) (row-count s)
   where
-    by-target : (n size : ℕ) → size ≤ length s → (t : Bool) → leb size (length target) ≡ t → Roomy (cond t (canonical.Done n size) (canonical.NoTargetRoom size))
+    by-target : (n size : ℕ) → size ≤ length s → (t : Bool) → leb size (length target) ≡ t
+        → Roomy (cond t (canonical.Done n size) (canonical.NoTargetRoom size))
     by-target n size l true f = tt
     by-target n size l false f = omega (arith, leb-false size (length target) f)
 

@@ -1,5 +1,5 @@
--- The canonical form has the nodes of its data set, and rules and drawing steps see nodes alone. A row's parent is the innermost row that counts it
--- among its rows below, so it follows from the rows below.
+-- The canonical form has the nodes of its data set, and rules and drawing steps see nodes alone. A row's parent is the innermost row that
+-- counts it among its rows below, so it follows from the rows below.
 use mathlib.Core.Path.{_≡_, refl, sym, ap, _∙_}
 use mathlib.Core.Bool.{Bool, true, false, cond, _||_}
 use mathlib.Core.Logic.{inl, inr}
@@ -62,12 +62,20 @@ module _ (s t : List ℕ) (a : ReadsWell s) (b : ReadsWell t) (n : nodesOf s ≡
   unfolding sheetOf
   sheet-same first last rows = rw (n, judge-same rows)
 
-  compare-same : (frame : ℕ) (cells : List ℕ) (tolerance : ℕ) (rows : List ℕ) → compareOf s frame cells tolerance rows ≡ compareOf t frame cells tolerance rows
+  compare-same : (frame : ℕ) (cells : List ℕ) (tolerance : ℕ) (rows : List ℕ)
+      → compareOf s frame cells tolerance rows ≡ compareOf t frame cells tolerance rows
   unfolding compareOf
   compare-same frame cells tolerance rows = rw (n, judge-same rows)
 
   alike : Alike s t
-  alike = record { judged = judge-same; searches = searches-same; shown = show-same; picture = image-same; sampled = sheet-same; compared = compare-same }
+  alike = record {
+    judged = judge-same;
+    searches = searches-same;
+    shown = show-same;
+    picture = image-same;
+    sampled = sheet-same;
+    compared = compare-same;
+  }
 
 -- ---- The same nodes: the rows agree, and the other way round
 
@@ -85,7 +93,12 @@ module _ (s t : List ℕ) (n : nodesOf s ≡ nodesOf t) where
   value-same i h a b =
       let v : rowOf s i .vr ≡ rowOf t i .vr = ap (λ (x : Node). x .vr) (node-same i h) in
       let e = ap (λ (x : Node). x .value) (node-same i h) in
-      rw (ne-eqb (rowOf s i .vr) SQ a, ne-eqb (rowOf s i .vr) 0 b, ne-eqb (rowOf t i .vr) SQ (λ z. a (v ∙ z)), ne-eqb (rowOf t i .vr) 0 (λ z. b (v ∙ z))) at e
+      rw (
+        ne-eqb (rowOf s i .vr) SQ a,
+        ne-eqb (rowOf s i .vr) 0 b,
+        ne-eqb (rowOf t i .vr) SQ (λ z. a (v ∙ z)),
+        ne-eqb (rowOf t i .vr) 0 (λ z. b (v ∙ z)),
+      ) at e
 
   agree : Agree s t
   agree =
@@ -100,7 +113,8 @@ module _ (s t : List ℕ) (n : nodesOf s ≡ nodesOf t) where
         };
       }
 
-value-held : (vr : ℕ) (x y : List ℕ) → ((vr ≡ SQ → ⊥) → (vr ≡ 0 → ⊥) → x ≡ y) → cond (eqb vr SQ || eqb vr 0) [] x ≡ cond (eqb vr SQ || eqb vr 0) [] y
+value-held : (vr : ℕ) (x y : List ℕ) → ((vr ≡ SQ → ⊥) → (vr ≡ 0 → ⊥) → x ≡ y)
+    → cond (eqb vr SQ || eqb vr 0) [] x ≡ cond (eqb vr SQ || eqb vr 0) [] y
 value-held vr x y e = go (eqb vr SQ) refl (eqb vr 0) refl
   where
     go : (b : Bool) → eqb vr SQ ≡ b → (d : Bool) → eqb vr 0 ≡ d → cond (b || d) [] x ≡ cond (b || d) [] y
@@ -108,13 +122,15 @@ value-held vr x y e = go (eqb vr SQ) refl (eqb vr 0) refl
     go false f true g = refl
     go false f false g = e (eqb-false vr SQ f) (eqb-false vr 0 g)
 
-node-of : (n m : Node) → n .tag ≡ m .tag → n .vr ≡ m .vr → n .depth ≡ m .depth → n .descendants ≡ m .descendants → n .value ≡ m .value → n ≡ m
+node-of : (n m : Node) → n .tag ≡ m .tag → n .vr ≡ m .vr → n .depth ≡ m .depth → n .descendants ≡ m .descendants → n .value ≡ m .value
+    → n ≡ m
 node-of n m a b c d e = λ i. record { tag = a i; vr = b i; depth = c i; descendants = d i; value = e i }
 
 agree-node : (s t : List ℕ) (i : ℕ) → AgreeAt s t i → nodeOf s (rowOf s i) ≡ nodeOf t (rowOf t i)
 agree-node s t i a =
     node-of (nodeOf s (rowOf s i)) (nodeOf t (rowOf t i)) (a .tag) (a .vr) (a .depth) (a .below)
-    (value-held (rowOf s i .vr) (valueOf s i) (valueOf t i) (a .value) ∙ ap (λ (vr : ℕ). cond (eqb vr SQ || eqb vr 0) [] (valueOf t i)) (a .vr))
+    (value-held (rowOf s i .vr) (valueOf s i) (valueOf t i) (a .value)
+    ∙ ap (λ (vr : ℕ). cond (eqb vr SQ || eqb vr 0) [] (valueOf t i)) (a .vr))
 
 agree-nodes : (s t : List ℕ) → Agree s t → nodesOf s ≡ nodesOf t
 agree-nodes s t a =
@@ -141,7 +157,8 @@ module _ (rows more : List Row) (i : ℕ) (e : (j : ℕ) → j < i → nextRow r
 
 parents-same : (s t : List ℕ) → Agree s t → (i : ℕ) → i < length (rowsOf s) → rowOf s i .parent ≡ rowOf t i .parent
 parents-same s t a i h =
-    parent-same (rowsOf s) (rowsOf t) i (λ j l. ap (λ (k : ℕ). j + 1 + k) (a .each j (omega arith) .below)) (placed (rows-members s) i (omega arith) h)
+    parent-same (rowsOf s) (rowsOf t) i (λ j l. ap (λ (k : ℕ). j + 1 + k) (a .each j (omega arith) .below))
+    (placed (rows-members s) i (omega arith) h)
     (placed (rows-members t) i (omega arith) (omega (arith, a .count)))
 
 -- ---- The answers
@@ -160,7 +177,9 @@ module _ (s rows target : List ℕ) where
   only-short : (a : ReadAnswer) → Small a → fieldsOf (answerFor w target a) .answer .code ≡ 21 → length target < length w
   only-short (read-answer.Done n) m e = go (leb (length w) (length target)) refl e
     where
-      go : (t : Bool) → leb (length w) (length target) ≡ t → fieldsOf (cond t (canonical.Done n (length w)) (canonical.NoTargetRoom (length w))) .answer .code ≡ 21 → length target < length w
+      go : (t : Bool) → leb (length w) (length target) ≡ t
+          → fieldsOf (cond t (canonical.Done n (length w)) (canonical.NoTargetRoom (length w))) .answer .code ≡ 21
+          → length target < length w
       go true f e = absurd (omega arith)
       go false f e = leb-false (length w) (length target) f
   only-short (read-answer.Refused code offset) m e = absurd (omega (arith, m .1 .0))
@@ -197,7 +216,8 @@ canonical-form =
       same = λ s t g. ap writtenOf (agree-nodes s t g);
       duplicates = λ s t a b e.
           let n : nodesOf s ≡ nodesOf t =
-          sym (written-returns s (a .bytes) (a .rows) (a .reads) .nodes) ∙ ap nodesOf e ∙ written-returns t (b .bytes) (b .rows) (b .reads) .nodes in
+          sym (written-returns s (a .bytes) (a .rows) (a .reads) .nodes) ∙ ap nodesOf e
+          ∙ written-returns t (b .bytes) (b .rows) (b .reads) .nodes in
           (agree s t n, alike s t a b n);
       answered = answered;
     }

@@ -2,15 +2,17 @@
 --
 -- Take a data set that reads well, and its canonical form: written with defined lengths throughout and no end marks, as
 -- crates/canonical/specs/Written.antt has it. Reading the canonical form gives as many rows, with the same tags, VRs, depths, rows below
--- and, SQ aside, element values in the same order, and the same seventh numbers. It is never longer than the data set, and its own canonical
--- form is itself. With the same buffers and frame number, the judge answers the same for both, code 8 included, and reports the same sum of its searches, `show` gives the
--- same answer and picture, `sheet` the same answer and numbers, and `compare` the same answer.
+-- and, SQ aside, element values in the same order, and the same seventh numbers. It is never longer than the data set, and its own
+-- canonical form is itself. With the same buffers and frame number, the judge answers the same for both, code 8 included, and reports the
+-- same sum of its searches, `show` gives the same answer and picture, `sheet` the same answer and numbers, and `compare` the same answer.
 --
--- Two data sets that agree in tags, VRs, depths, rows below and element values have the same canonical form. The other way round, two that read well and have
--- the same canonical form agree in them, and are judged and drawn alike: so duplicates are found by their canonical bytes.
+-- Two data sets that agree in tags, VRs, depths, rows below and element values have the same canonical form. The other way round, two that
+-- read well and have the same canonical form agree in them, and are judged and drawn alike: so duplicates are found by their canonical
+-- bytes.
 --
 -- The call refuses with 7, 1 to 6 and 8 as reading does. Once the rows are read it answers 21 exactly where the target is shorter than the
--- canonical form, and else 0; both name that length. A refusal leaves the target as it was; done writes the canonical form and nothing beyond it.
+-- canonical form, and else 0; both name that length. A refusal leaves the target as it was; done writes the canonical form and nothing
+-- beyond it.
 --
 -- Canonical.antt in proofs/ proves it. That the code computes these answers is in the contracts of `write_canonical` and `xa_canonical`.
 use mathlib.Core.Path.{_≡_}
@@ -69,7 +71,8 @@ pub record Alike (s t : List ℕ) : Type 0 where
   pub shown : (frame : ℕ) (rows image : List ℕ) → showOf s frame rows image ≡ showOf t frame rows image
   pub picture : (frame : ℕ) (rows image : List ℕ) → imageOf s frame rows image ≡ imageOf t frame rows image
   pub sampled : (first last : ℕ) (rows : List ℕ) → sheetOf s first last rows ≡ sheetOf t first last rows
-  pub compared : (frame : ℕ) (cells : List ℕ) (tolerance : ℕ) (rows : List ℕ) → compareOf s frame cells tolerance rows ≡ compareOf t frame cells tolerance rows
+  pub compared : (frame : ℕ) (cells : List ℕ) (tolerance : ℕ) (rows : List ℕ)
+      → compareOf s frame cells tolerance rows ≡ compareOf t frame cells tolerance rows
 
 -- A data set s, and its canonical form w.
 pub record Written (s w : List ℕ) : Type 0 where
@@ -83,7 +86,8 @@ pub record Written (s w : List ℕ) : Type 0 where
 -- What the call answers for a data set whose canonical form is w, and the target afterwards.
 pub record Answered (s w rows target : List ℕ) : Type 0 where
   pub refused : (reading.fieldsOf (reading.answerOf (readingOf s) rows) .code ≡ 0 → ⊥)
-      → (fieldsOf (canonicalOf s rows target) .answer ≡ reading.fieldsOf (reading.answerOf (readingOf s) rows)) × (targetOf s rows target ≡ target)
+      → (fieldsOf (canonicalOf s rows target) .answer ≡ reading.fieldsOf (reading.answerOf (readingOf s) rows))
+      × (targetOf s rows target ≡ target)
   pub short : (n : ℕ) → reading.answerOf (readingOf s) rows ≡ read-answer.Done n → length target < length w
       → (canonicalOf s rows target ≡ canonical.NoTargetRoom (length w)) × (targetOf s rows target ≡ target)
   pub done : (n : ℕ) → reading.answerOf (readingOf s) rows ≡ read-answer.Done n → length w ≤ length target

@@ -5,7 +5,7 @@ use mathlib.Core.List.{List}
 use Prim.Native.Nat.{ℕ, _≤_, _<_}
 use lib.ListN.{length}
 use borrow.Author.Tests.{le-leb, lt-leb, eq-eqb, ne-eqb}
-use Rattle.value.specs.declared.Num.the-variants.{Is, Lacks}
+use Rattle.value.specs.declared.Num.the-variants.{Is, None}
 use Rattle.node.specs.Nodes.{Node, nodesOf}
 use Rattle.element.specs.Frames.{framesOf}
 use Rattle.conformance.specs.Judging.{judgeOf}
@@ -45,7 +45,7 @@ module _ (n : ℕ) (off : ℕ → Bool) (size : ℕ) (d : Differing) (e : d ≡ 
 -- ---- Which code
 
 module _ (ns : List Node) (f : ℕ) (cells : List ℕ) (t count : ℕ) where
-  pub no-frames : framesOf ns ≡ Lacks → answer.NoFrame ≡ acceptedAnswer ns f cells t count
+  pub no-frames : framesOf ns ≡ None → answer.NoFrame ≡ acceptedAnswer ns f cells t count
   unfolding acceptedAnswer
   no-frames e = rw (e, none-frame f)
 
@@ -68,7 +68,8 @@ module _ (ns : List Node) (f : ℕ) (cells : List ℕ) (t count : ℕ) where
         unfolding acceptedAnswer
         wrong-tolerance h = rw (e, le-leb 1 f low, le-leb f n high, eq-eqb (length cells) (imageSize ns) size, lt-leb t 255 h)
 
-        is-compared : t ≤ 255 → comparedBy count (isOff t (pictureOf ns f .samples) cells) (imageSize ns) ≡ acceptedAnswer ns f cells t count
+        is-compared : t ≤ 255
+            → comparedBy count (isOff t (pictureOf ns f .samples) cells) (imageSize ns) ≡ acceptedAnswer ns f cells t count
         unfolding acceptedAnswer
         is-compared h = rw (e, le-leb 1 f low, le-leb f n high, eq-eqb (length cells) (imageSize ns) size, le-leb t 255 h)
 

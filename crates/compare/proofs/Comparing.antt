@@ -41,7 +41,8 @@ unfolding howMany
 none-off off zero z i h = absurd (omega arith)
 none-off off (suc n) z i h = go (off n) refl (leb n i) refl z (none-off off n)
   where
-    go : (b : Bool) → off n ≡ b → (c : Bool) → leb n i ≡ c → cond b 1 0 + howMany off n ≡ 0 → (howMany off n ≡ 0 → (j : ℕ) → j < n → off j ≡ false) → off i ≡ false
+    go : (b : Bool) → off n ≡ b → (c : Bool) → leb n i ≡ c → cond b 1 0 + howMany off n ≡ 0
+        → (howMany off n ≡ 0 → (j : ℕ) → j < n → off j ≡ false) → off i ≡ false
     go true e c l z before = absurd (omega (arith, z))
     go false e true l z before = let q : i ≡ n = omega (arith, h, leb-true n i l) in ap off q ∙ e
     go false e false l z before = before (omega (arith, z)) i (leb-false n i l)
@@ -67,7 +68,8 @@ unfolding howMany firstOff
 first-off off zero h = absurd (omega arith)
 first-off off (suc n) h = go (off n) refl (eqb (howMany off n) 0) refl h (first-off off n)
   where
-    go : (b : Bool) → off n ≡ b → (c : Bool) → eqb (howMany off n) 0 ≡ c → 1 ≤ cond b 1 0 + howMany off n → (1 ≤ howMany off n → First off n (firstOff off n)) → First off (suc n) (cond (b && c) n (firstOff off n))
+    go : (b : Bool) → off n ≡ b → (c : Bool) → eqb (howMany off n) 0 ≡ c → 1 ≤ cond b 1 0 + howMany off n
+        → (1 ≤ howMany off n → First off n (firstOff off n)) → First off (suc n) (cond (b && c) n (firstOff off n))
     go true e true z h before = record { place = omega arith; is = e; none-before = none-off off n (eqb-true (howMany off n) 0 z) }
     go true e false z h before = later off n (firstOff off n) (before (some-place (howMany off n) (eqb-false (howMany off n) 0 z)))
     go false e c z h before = later off n (firstOff off n) (before (omega (arith, h)))
@@ -88,7 +90,8 @@ module _ (s : List ℕ) (f : ℕ) (cells : List ℕ) (t : ℕ) where
   on-near : (i : ℕ) → isOff t (pictureOf (nodesOf s) f .samples) cells i ≡ false → Near s f cells t i
   unfolding isOff
   on-near i e =
-      let b = both (leb (getD ours i 0) (getD cells i 0 + t)) (leb (getD cells i 0) (getD ours i 0 + t)) (not-false (within t (getD ours i 0) (getD cells i 0)) e) in
+      let b = both (leb (getD ours i 0) (getD cells i 0 + t)) (leb (getD cells i 0) (getD ours i 0 + t))
+      (not-false (within t (getD ours i 0) (getD cells i 0)) e) in
       record { below = leb-true (getD ours i 0) (getD cells i 0 + t) (b .0); above = leb-true (getD cells i 0) (getD ours i 0 + t) (b .1) }
 
   -- ---- Yes or no
@@ -101,23 +104,29 @@ module _ (s : List ℕ) (f : ℕ) (cells : List ℕ) (t : ℕ) where
   unfolding comparedBy
   was-yes n size e = go (eqb (howMany off size) 0) refl e
     where
-      go : (b : Bool) → eqb (howMany off size) 0 ≡ b → fieldsOf (cond b (answer.Same n) (answer.Differs n (firstOff off size) (howMany off size))) .same ≡ 1 → (i : ℕ) → i < size → Near s f cells t i
+      go : (b : Bool) → eqb (howMany off size) 0 ≡ b
+          → fieldsOf (cond b (answer.Same n) (answer.Differs n (firstOff off size) (howMany off size))) .same ≡ 1 → (i : ℕ) → i < size
+          → Near s f cells t i
       go true z e i h = on-near i (none-off off size (eqb-true (howMany off size) 0 z) i h)
       go false z e i h = absurd (omega (arith, e))
 
-  was-no : (n size : ℕ) → length cells ≡ size → fieldsOf (comparedBy n off size) .same ≡ 0 → Names s f cells t (fieldsOf (comparedBy n off size) .first) (fieldsOf (comparedBy n off size) .count)
+  was-no : (n size : ℕ) → length cells ≡ size → fieldsOf (comparedBy n off size) .same ≡ 0
+      → Names s f cells t (fieldsOf (comparedBy n off size) .first) (fieldsOf (comparedBy n off size) .count)
   unfolding comparedBy
   was-no n size l e = go (eqb (howMany off size) 0) refl e
     where
-      go : (b : Bool) → eqb (howMany off size) 0 ≡ b → fieldsOf (cond b (answer.Same n) (answer.Differs n (firstOff off size) (howMany off size))) .same ≡ 0
-          → Names s f cells t (fieldsOf (cond b (answer.Same n) (answer.Differs n (firstOff off size) (howMany off size))) .first) (fieldsOf (cond b (answer.Same n) (answer.Differs n (firstOff off size) (howMany off size))) .count)
+      go : (b : Bool) → eqb (howMany off size) 0 ≡ b
+          → fieldsOf (cond b (answer.Same n) (answer.Differs n (firstOff off size) (howMany off size))) .same ≡ 0
+          → Names s f cells t (fieldsOf (cond b (answer.Same n) (answer.Differs n (firstOff off size) (howMany off size))) .first)
+          (fieldsOf (cond b (answer.Same n) (answer.Differs n (firstOff off size) (howMany off size))) .count)
       go true z e = absurd (omega (arith, e))
       go false z e =
           let k : 1 ≤ howMany off size = some-place (howMany off size) (eqb-false (howMany off size) 0 z) in
           let d : First off size (firstOff off size) = first-off off size k in
           record {
             place = omega (arith, d .place, l);
-            off = λ n. absurd (let q : true ≡ false = sym (d .is) ∙ near-on (firstOff off size) n in let w : _≡_ {A = ℕ} 0 1 = cc in omega arith);
+            off = λ n.
+                absurd (let q : true ≡ false = sym (d .is) ∙ near-on (firstOff off size) n in let w : _≡_ {A = ℕ} 0 1 = cc in omega arith);
             none-before = λ i h. on-near i (d .none-before i h);
             all = ap (howMany off) (sym l);
             some = k;
@@ -141,10 +150,16 @@ module _ (s : List ℕ) (f : ℕ) (cells : List ℕ) (t : ℕ) where
 
   -- ---- From the code back to what was asked
 
-  accepted-answer : (n : ℕ) → IsFrame s f → length cells ≡ imageSize (nodesOf s) → t ≤ 255 → acceptedAnswer (nodesOf s) f cells t n ≡ comparedBy n off (imageSize (nodesOf s))
+  accepted-answer : (n : ℕ) → IsFrame s f → length cells ≡ imageSize (nodesOf s) → t ≤ 255
+      → acceptedAnswer (nodesOf s) f cells t n ≡ comparedBy n off (imageSize (nodesOf s))
   unfolding acceptedAnswer
   accepted-answer n i size most =
-      rw (le-leb 1 f (i .low), le-leb f (numberOf (framesOf (nodesOf s))) (i .high), eq-eqb (length cells) (imageSize (nodesOf s)) size, le-leb t 255 most)
+      rw (
+        le-leb 1 f (i .low),
+        le-leb f (numberOf (framesOf (nodesOf s))) (i .high),
+        eq-eqb (length cells) (imageSize (nodesOf s)) size,
+        le-leb t 255 most,
+      )
 
   record Asked : Type 0 where
     pub frame : IsFrame s f
@@ -156,8 +171,10 @@ module _ (s : List ℕ) (f : ℕ) (cells : List ℕ) (t : ℕ) where
   was-asked n e = go (isFrameOf (nodesOf s) f) (eqb (length cells) (imageSize (nodesOf s))) (leb t 255) refl refl refl e
     where
       go : (p q r : Bool) → isFrameOf (nodesOf s) f ≡ p → eqb (length cells) (imageSize (nodesOf s)) ≡ q → leb t 255 ≡ r
-          → fieldsOf (cond p (cond q (cond r (comparedBy n off (imageSize (nodesOf s))) answer.WrongTolerance) answer.WrongSize) answer.NoFrame) .answer .code ≡ 0 → Asked
-      go true true true a b c e = record { frame = was-frame s f a; size = eqb-true (length cells) (imageSize (nodesOf s)) b; tolerance = leb-true t 255 c }
+          → fieldsOf (cond p (cond q (cond r (comparedBy n off (imageSize (nodesOf s))) answer.WrongTolerance) answer.WrongSize)
+          answer.NoFrame) .answer .code ≡ 0 → Asked
+      go true true true a b c
+          e = record { frame = was-frame s f a; size = eqb-true (length cells) (imageSize (nodesOf s)) b; tolerance = leb-true t 255 c }
       go true true false a b c e = absurd (omega (arith, e))
       go true false r a b c e = absurd (omega (arith, e))
       go false q r a b c e = absurd (omega (arith, e))
@@ -165,7 +182,8 @@ module _ (s : List ℕ) (f : ℕ) (cells : List ℕ) (t : ℕ) where
   module _ (buffer : List ℕ) where
     answered : Comparable s f cells t buffer → compareOf s f cells t buffer ≡ comparedBy (length (rowsOf s)) off (imageSize (nodesOf s))
     unfolding compareOf
-    answered c = rw (judged-accepted s buffer (c .accepted) (c .room)) (accepted-answer (length (rowsOf s)) (c .frame) (c .size) (c .tolerance))
+    answered c = rw (judged-accepted s buffer (c .accepted) (c .room))
+        (accepted-answer (length (rowsOf s)) (c .frame) (c .size) (c .tolerance))
 
     was-done : fieldsOf (compareOf s f cells t buffer) .answer .code ≡ 0 → Comparable s f cells t buffer
     unfolding compareOf
@@ -178,13 +196,19 @@ module _ (s : List ℕ) (f : ℕ) (cells : List ℕ) (t : ℕ) where
     done : Comparable s f cells t buffer → fieldsOf (compareOf s f cells t buffer) .answer .code ≡ 0
     done c = ap (λ (x : CompareAnswer). fieldsOf x .answer .code) (answered c) ∙ code-done (length (rowsOf s)) (imageSize (nodesOf s))
 
-    yes : Comparable s f cells t buffer → ((i : ℕ) → i < length cells → Near s f cells t i) → fieldsOf (compareOf s f cells t buffer) .same ≡ 1
-    yes c h = ap (λ (x : CompareAnswer). fieldsOf x .same) (answered c ∙ yes-by (length (rowsOf s)) (imageSize (nodesOf s)) (λ i l. h i (omega (arith, l, c .size))))
+    yes : Comparable s f cells t buffer → ((i : ℕ) → i < length cells → Near s f cells t i)
+        → fieldsOf (compareOf s f cells t buffer) .same ≡ 1
+    yes c h = ap (λ (x : CompareAnswer). fieldsOf x .same)
+        (answered c ∙ yes-by (length (rowsOf s)) (imageSize (nodesOf s)) (λ i l. h i (omega (arith, l, c .size))))
 
-    only-then : fieldsOf (compareOf s f cells t buffer) .same ≡ 1 → Comparable s f cells t buffer × ((i : ℕ) → i < length cells → Near s f cells t i)
+    only-then : fieldsOf (compareOf s f cells t buffer) .same ≡ 1
+        → Comparable s f cells t buffer × ((i : ℕ) → i < length cells → Near s f cells t i)
     only-then e =
-        let c = was-done (same-code (compareOf s f cells t buffer) e) in
-        (c, λ i l. was-yes (length (rowsOf s)) (imageSize (nodesOf s)) (sym (ap (λ (x : CompareAnswer). fieldsOf x .same) (answered c)) ∙ e) i (omega (arith, l, c .size)))
+        let c = was-done (same-code (compareOf s f cells t buffer) e) in (
+          c,
+          λ i l. was-yes (length (rowsOf s)) (imageSize (nodesOf s)) (sym (ap (λ (x : CompareAnswer). fieldsOf x .same) (answered c)) ∙ e)
+              i (omega (arith, l, c .size)),
+        )
       where
         same-code : (r : CompareAnswer) → fieldsOf r .same ≡ 1 → fieldsOf r .answer .code ≡ 0
         same-code (answer.Same n) e = refl
@@ -204,23 +228,29 @@ module _ (s : List ℕ) (f : ℕ) (cells : List ℕ) (t : ℕ) where
         subst (λ (r : CompareAnswer). Names s f cells t (fieldsOf r .first) (fieldsOf r .count)) (sym (answered c))
         (was-no (length (rowsOf s)) (imageSize (nodesOf s)) (c .size) (sym (ap (λ (x : CompareAnswer). fieldsOf x .same) (answered c)) ∙ z))
 
-    row-count : fieldsOf (compareOf s f cells t buffer) .answer .code ≡ 0 → fieldsOf (compareOf s f cells t buffer) .answer .rows ≡ length (rowsOf s)
-    row-count e = ap (λ (x : CompareAnswer). fieldsOf x .answer .rows) (answered (was-done e)) ∙ rows-done (length (rowsOf s)) (imageSize (nodesOf s))
+    row-count : fieldsOf (compareOf s f cells t buffer) .answer .code ≡ 0
+        → fieldsOf (compareOf s f cells t buffer) .answer .rows ≡ length (rowsOf s)
+    row-count e = ap (λ (x : CompareAnswer). fieldsOf x .answer .rows) (answered (was-done e))
+        ∙ rows-done (length (rowsOf s)) (imageSize (nodesOf s))
 
 -- ---- Larger tolerances
 
 wider : (s : List ℕ) (f : ℕ) (cells : List ℕ) (t u i : ℕ) → t ≤ u → Near s f cells t i → Near s f cells u i
 wider s f cells t u i h n = record { below = omega (arith, n .below, h); above = omega (arith, n .above, h) }
 
-larger : (s : List ℕ) (f : ℕ) (cells : List ℕ) (t : ℕ) (buffer : List ℕ) (u : ℕ) → t ≤ u → u ≤ 255 → fieldsOf (compareOf s f cells t buffer) .same ≡ 1 → fieldsOf (compareOf s f cells u buffer) .same ≡ 1
+larger : (s : List ℕ) (f : ℕ) (cells : List ℕ) (t : ℕ) (buffer : List ℕ) (u : ℕ) → t ≤ u → u ≤ 255
+    → fieldsOf (compareOf s f cells t buffer) .same ≡ 1 → fieldsOf (compareOf s f cells u buffer) .same ≡ 1
 larger s f cells t buffer u h most e =
     let w = only-then s f cells t buffer e in
-    yes s f cells u buffer (record { accepted = w .0 .accepted; frame = w .0 .frame; size = w .0 .size; tolerance = most; room = w .0 .room }) (λ i l. wider s f cells t u i h (w .1 i l))
+    yes s f cells u buffer
+    (record { accepted = w .0 .accepted; frame = w .0 .frame; size = w .0 .size; tolerance = most; room = w .0 .room })
+    (λ i l. wider s f cells t u i h (w .1 i l))
 
 -- ---- Our own picture
 
 own-cells : (s : List ℕ) → Bytes s → (f : ℕ) (buffer image : List ℕ) → show.fieldsOf (showOf s f buffer image) .code ≡ 0
-    → (take (imageSize (nodesOf s)) (imageOf s f buffer image) ≡ pictureOf (nodesOf s) f .samples) × (length (pictureOf (nodesOf s) f .samples) ≡ imageSize (nodesOf s))
+    → (take (imageSize (nodesOf s)) (imageOf s f buffer image) ≡ pictureOf (nodesOf s) f .samples)
+    × (length (pictureOf (nodesOf s) f .samples) ≡ imageSize (nodesOf s))
 unfolding pictureOf
 own-cells s b f buffer image e =
     let d = drawing s b f in
@@ -229,10 +259,12 @@ own-cells s b f buffer image e =
     let h = d .as-stepped buffer image e in
     let same : some (h .p) ≡ some (p .p) = sym (h .is) ∙ p .is in
     let v : h .p ≡ p .p = cc in
-    let cells : imageOf s f buffer image ≡ p .p .samples ++ drop (imageSize (nodesOf s)) image = h .cells ∙ ap (λ (x : Picture). x .samples ++ drop (imageSize (nodesOf s)) image) v in
+    let cells : imageOf s f buffer image ≡ p .p .samples ++ drop (imageSize (nodesOf s)) image = h .cells
+    ∙ ap (λ (x : Picture). x .samples ++ drop (imageSize (nodesOf s)) image) v in
     let q : pictureOf (nodesOf s) f .samples ≡ p .p .samples = ap (λ (o : Option Picture). pictureIn o .samples) (p .is) in (
       ap (take (imageSize (nodesOf s))) cells
-          ∙ (subst (λ (k : ℕ). take k (p .p .samples ++ drop (imageSize (nodesOf s)) image) ≡ p .p .samples) (p .size) (take-append-seam (p .p .samples) (drop (imageSize (nodesOf s)) image)) ∙ sym q),
+          ∙ (subst (λ (k : ℕ). take k (p .p .samples ++ drop (imageSize (nodesOf s)) image) ≡ p .p .samples) (p .size)
+          (take-append-seam (p .p .samples) (drop (imageSize (nodesOf s)) image)) ∙ sym q),
       ap length q ∙ p .size,
     )
 
@@ -247,9 +279,11 @@ own s b f buffer image =
           (λ i l. near i (o .0));
     }
   where
-    near : (i : ℕ) → take (imageSize (nodesOf s)) (imageOf s f buffer image) ≡ pictureOf (nodesOf s) f .samples → Near s f (take (imageSize (nodesOf s)) (imageOf s f buffer image)) 0 i
+    near : (i : ℕ) → take (imageSize (nodesOf s)) (imageOf s f buffer image) ≡ pictureOf (nodesOf s) f .samples
+        → Near s f (take (imageSize (nodesOf s)) (imageOf s f buffer image)) 0 i
     near i e =
-        let q : getD (take (imageSize (nodesOf s)) (imageOf s f buffer image)) i 0 ≡ getD (pictureOf (nodesOf s) f .samples) i 0 = ap (λ (l : List ℕ). getD l i 0) e in
+        let q : getD (take (imageSize (nodesOf s)) (imageOf s f buffer image)) i 0
+        ≡ getD (pictureOf (nodesOf s) f .samples) i 0 = ap (λ (l : List ℕ). getD l i 0) e in
         record { below = omega (arith, q); above = omega (arith, q) }
 
 -- ---- The claim

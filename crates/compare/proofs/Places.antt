@@ -57,7 +57,8 @@ unfolding along
 along-most off at zero d = omega arith
 along-most off at (suc n) d = omega (arith, along-most off at n d, seen-most (off n) (at + n) (along off at n d))
 
-pub along-next : (off : ℕ → Bool) (at k : ℕ) (d now after : Differing) (b : Bool) → now ≡ along off at k d → b ≡ off k → after ≡ seen b (at + k) now → after ≡ along off at (k + 1) d
+pub along-next : (off : ℕ → Bool) (at k : ℕ) (d now after : Differing) (b : Bool) → now ≡ along off at k d → b ≡ off k
+    → after ≡ seen b (at + k) now → after ≡ along off at (k + 1) d
 unfolding along
 along-next off at k d now after b a e r =
     let n : k + 1 ≡ suc k = omega arith in
@@ -67,14 +68,16 @@ along-same : (p q : ℕ → Bool) (at n : ℕ) (d : Differing) → ((k : ℕ) �
 unfolding along
 along-same p q at zero d e = refl
 along-same p q at (suc n) d e =
-    ap (λ (x : Bool). seen x (at + n) (along p at n d)) (e n (omega arith)) ∙ ap (seen (q n) (at + n)) (along-same p q at n d (λ k h. e k (omega arith)))
+    ap (λ (x : Bool). seen x (at + n) (along p at n d)) (e n (omega arith))
+    ∙ ap (seen (q n) (at + n)) (along-same p q at n d (λ k h. e k (omega arith)))
 
 along-plus : (off : ℕ → Bool) (m n : ℕ) (d : Differing) → along off 0 (m + n) d ≡ along (λ k. off (m + k)) m n (along off 0 m d)
 unfolding along
 along-plus off m zero d = ap (λ (i : ℕ). along off 0 i d) (add-zero m)
 along-plus off m (suc n) d =
     let z : 0 + (m + n) ≡ m + n = omega arith in
-    ap (λ (i : ℕ). along off 0 i d) (add-suc m n) ∙ (ap (λ (i : ℕ). seen (off (m + n)) i (along off 0 (m + n) d)) z ∙ ap (seen (off (m + n)) (m + n)) (along-plus off m n d))
+    ap (λ (i : ℕ). along off 0 i d) (add-suc m n)
+    ∙ (ap (λ (i : ℕ). seen (off (m + n)) i (along off 0 (m + n) d)) z ∙ ap (seen (off (m + n)) (m + n)) (along-plus off m n d))
 
 -- ---- Lines of a frame
 
@@ -85,7 +88,8 @@ no-line t f cells columns =
     rw z
 
 -- One line more.
-pub line-more : (t : ℕ) (f : ℕ → ℕ) (cells : List ℕ) (row columns : ℕ) (now after : Differing) (line : List ℕ) → now ≡ met t f cells (row * columns)
+pub line-more : (t : ℕ) (f : ℕ → ℕ) (cells : List ℕ) (row columns : ℕ) (now after : Differing) (line : List ℕ)
+    → now ≡ met t f cells (row * columns)
     → line ≡ upTo (λ k. f (row * columns + k)) columns
     → after ≡ along (λ k. not (within t (getD line k 0) (getD cells (row * columns + k) 0))) (row * columns) (length line) now
     → after ≡ met t f cells ((row + 1) * columns)
@@ -95,18 +99,22 @@ line-more t f cells row columns now after line a b e =
     let l : length line ≡ columns = ap length b ∙ upTo-length (λ k. f (row * columns + k)) columns in
     let off : ℕ → Bool = offBy t f cells in
     e ∙ (ap (λ (i : ℕ). along (λ k. not (within t (getD line k 0) (getD cells (row * columns + k) 0))) (row * columns) i now) l
-    ∙ (along-same (λ k. not (within t (getD line k 0) (getD cells (row * columns + k) 0))) (λ k. off (row * columns + k)) (row * columns) columns now
-    (λ k h. ap (λ (x : ℕ). not (within t x (getD cells (row * columns + k) 0))) (ap (λ (l : List ℕ). getD l k 0) b ∙ upTo-at (λ k. f (row * columns + k)) columns k h))
+    ∙ (along-same (λ k. not (within t (getD line k 0) (getD cells (row * columns + k) 0))) (λ k. off (row * columns + k)) (row * columns)
+    columns now
+    (λ k h. ap (λ (x : ℕ). not (within t x (getD cells (row * columns + k) 0)))
+    (ap (λ (l : List ℕ). getD l k 0) b ∙ upTo-at (λ k. f (row * columns + k)) columns k h))
     ∙ (ap (along (λ k. off (row * columns + k)) (row * columns) columns) a
     ∙ (sym (along-plus off (row * columns) columns nothing) ∙ ap (λ (i : ℕ). along off 0 i nothing) (sym n)))))
 
-pub line-of : (t : ℕ) (f : ℕ → ℕ) (cells : List ℕ) (row rows columns : ℕ) (now : Differing) (line : List ℕ) → now ≡ met t f cells (row * columns)
+pub line-of : (t : ℕ) (f : ℕ → ℕ) (cells : List ℕ) (row rows columns : ℕ) (now : Differing) (line : List ℕ)
+    → now ≡ met t f cells (row * columns)
     → Against cells t (rows * columns) → row < rows → length line ≡ columns → LineOf line cells (row * columns) t now
 unfolding met
 line-of t f cells row rows columns now line a g h l =
     let m : (row + 1) * columns ≤ rows * columns = mul-le-mul-right columns (omega arith) in
     let n : (row + 1) * columns ≡ row * columns + columns = omega arith in
-    let c : along (offBy t f cells) 0 (row * columns) nothing .count ≤ row * columns = omega (arith, along-most (offBy t f cells) 0 (row * columns) nothing) in
+    let c : along (offBy t f cells) 0 (row * columns) nothing .count
+    ≤ row * columns = omega (arith, along-most (offBy t f cells) 0 (row * columns) nothing) in
     record {
       inside = omega (arith, g .size, l, m, n);
       most = g .most;
@@ -120,7 +128,8 @@ place-fits row rows columns h r c =
 
 -- ---- The levels of a picture
 
-pub met-list : (t : ℕ) (f : ℕ → ℕ) (cells ours : List ℕ) (n : ℕ) → ours ≡ upTo f n → met t f cells n ≡ along (isOff t ours cells) 0 n nothing
+pub met-list : (t : ℕ) (f : ℕ → ℕ) (cells ours : List ℕ) (n : ℕ) → ours ≡ upTo f n
+    → met t f cells n ≡ along (isOff t ours cells) 0 n nothing
 unfolding met offBy isOff
 met-list t f cells ours n e =
     along-same (offBy t f cells) (isOff t ours cells) 0 n nothing
@@ -133,7 +142,8 @@ met-same t f h cells n e =
 
 -- ---- The first that is off, and how many are
 
-counted : (off : Bool) (i first count : ℕ) → seen off i (record { first = first; count = count }) ≡ record { first = cond (off && eqb count 0) i first; count = cond off 1 0 + count }
+counted : (off : Bool) (i first count : ℕ) → seen off i (record { first = first; count = count })
+    ≡ record { first = cond (off && eqb count 0) i first; count = cond off 1 0 + count }
 unfolding seen
 counted true i first count =
     let e : count + 1 ≡ 1 + count = omega arith in
@@ -147,4 +157,5 @@ unfolding along howMany firstOff
 seen-all off zero = refl
 seen-all off (suc n) =
     let z : 0 + n ≡ n = omega arith in
-    ap (λ (i : ℕ). seen (off n) i (along off 0 n nothing)) z ∙ (ap (seen (off n) n) (seen-all off n) ∙ counted (off n) n (firstOff off n) (howMany off n))
+    ap (λ (i : ℕ). seen (off n) i (along off 0 n nothing)) z
+    ∙ (ap (seen (off n) n) (seen-all off n) ∙ counted (off n) n (firstOff off n) (howMany off n))

@@ -43,19 +43,24 @@ pub record Promise (s : List ℕ) (f : ℕ) (cells : List ℕ) (t : ℕ) (buffer
   pub done : Comparable s f cells t buffer → fieldsOf (compareOf s f cells t buffer) .answer .code ≡ 0
   -- and nothing else is.
   pub nothing-else : fieldsOf (compareOf s f cells t buffer) .answer .code ≡ 0 → Comparable s f cells t buffer
-  pub rows : fieldsOf (compareOf s f cells t buffer) .answer .code ≡ 0 → fieldsOf (compareOf s f cells t buffer) .answer .rows ≡ length (rowsOf s)
+  pub rows : fieldsOf (compareOf s f cells t buffer) .answer .code ≡ 0
+      → fieldsOf (compareOf s f cells t buffer) .answer .rows ≡ length (rowsOf s)
   -- Yes exactly when every cell is within t of ours.
-  pub yes : Comparable s f cells t buffer → ((i : ℕ) → i < length cells → Near s f cells t i) → fieldsOf (compareOf s f cells t buffer) .same ≡ 1
-  pub only-then : fieldsOf (compareOf s f cells t buffer) .same ≡ 1 → Comparable s f cells t buffer × ((i : ℕ) → i < length cells → Near s f cells t i)
+  pub yes : Comparable s f cells t buffer → ((i : ℕ) → i < length cells → Near s f cells t i)
+      → fieldsOf (compareOf s f cells t buffer) .same ≡ 1
+  pub only-then : fieldsOf (compareOf s f cells t buffer) .same ≡ 1
+      → Comparable s f cells t buffer × ((i : ℕ) → i < length cells → Near s f cells t i)
   -- No names the first that isn't, and how many aren't.
   pub no : fieldsOf (compareOf s f cells t buffer) .answer .code ≡ 0 → fieldsOf (compareOf s f cells t buffer) .same ≡ 0
       → Names s f cells t (fieldsOf (compareOf s f cells t buffer) .first) (fieldsOf (compareOf s f cells t buffer) .count)
   -- What passes at t passes at every larger u up to 255.
-  pub larger : (u : ℕ) → t ≤ u → u ≤ 255 → fieldsOf (compareOf s f cells t buffer) .same ≡ 1 → fieldsOf (compareOf s f cells u buffer) .same ≡ 1
+  pub larger : (u : ℕ) → t ≤ u → u ≤ 255 → fieldsOf (compareOf s f cells t buffer) .same ≡ 1
+      → fieldsOf (compareOf s f cells u buffer) .same ≡ 1
 
 -- Our own picture passes at 0.
 pub record Own (s : List ℕ) (f : ℕ) (buffer image : List ℕ) : Type 0 where
-  pub passes : show.fieldsOf (showOf s f buffer image) .code ≡ 0 → fieldsOf (compareOf s f (take (imageSize (nodesOf s)) (imageOf s f buffer image)) 0 buffer) .same ≡ 1
+  pub passes : show.fieldsOf (showOf s f buffer image) .code ≡ 0
+      → fieldsOf (compareOf s f (take (imageSize (nodesOf s)) (imageOf s f buffer image)) 0 buffer) .same ≡ 1
 
 -- For every data set, given as bytes, every number, and any cells, tolerance and buffers.
 pub record Comparing : Type 0 where

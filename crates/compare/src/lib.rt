@@ -127,7 +127,8 @@ fn compare_native(
     cells: &[u8],
     tolerance: usize,
 ) -> Differing
-    requires { ⌜ FrameReady (now pixels) g frame (now line) × (Shaded shades (g .stored) (now table) × Against (now cells) tolerance (samplesOf g)) ⌝ }
+    requires { ⌜ FrameReady (now pixels) g frame (now line)
+        × (Shaded shades (g .stored) (now table) × Against (now cells) tolerance (samplesOf g)) ⌝ }
     ensures { λ r. ⌜ r ≡ met tolerance (nativeShade (shadesOf shades (g .stored)) g (now (pixels .entry)) frame) (now (cells .entry)) (samplesOf g) ⌝ }
 {
     let height = g.rows;
@@ -156,7 +157,11 @@ fn compare_whole(
     cells: &[u8],
     tolerance: usize,
 ) -> Differing
-    requires { ⌜ FrameReady (now pixels) g frame (now line) × (MaskedBy (now pixels) g (now masks) down right × (Shaded shades (g .stored) (now table) × ((shades .filled ≡ true) × ((down % 4 ≡ 0) × ((right % 4 ≡ 0) × ((longestRow ≤ length (now sums)) × Against (now cells) tolerance (samplesOf g))))))) ⌝ }
+    requires { ⌜ FrameReady (now pixels) g frame (now line)
+        × (MaskedBy (now pixels) g (now masks) down right
+        × (Shaded shades (g .stored) (now table)
+        × ((shades .filled ≡ true)
+        × ((down % 4 ≡ 0) × ((right % 4 ≡ 0) × ((longestRow ≤ length (now sums)) × Against (now cells) tolerance (samplesOf g))))))) ⌝ }
     ensures { λ r. ⌜ r ≡ met tolerance (quarterShade (shadesOf shades (g .stored)) g (now (pixels .entry)) frame (usValues (now (masks .entry))) down right) (now (cells .entry)) (samplesOf g) ⌝ }
 {
     let height = g.rows;
@@ -198,7 +203,13 @@ fn compare_quarters(
     cells: &[u8],
     tolerance: usize,
 ) -> Differing
-    requires { ⌜ FrameReady (now pixels) g frame (now line) × (MaskedBy (now pixels) g (now masks) down right × (Shaded shades (g .stored) (now table) × ((longestRow ≤ length (now upper)) × ((longestRow ≤ length (now lower)) × (Averaged (now pixels) g (usValues (now masks)) (shifted (down / 4) (g .rows) 0) (now lower) × Against (now cells) tolerance (samplesOf g)))))) ⌝ }
+    requires { ⌜ FrameReady (now pixels) g frame (now line)
+        × (MaskedBy (now pixels) g (now masks) down right
+        × (Shaded shades (g .stored) (now table)
+        × ((longestRow ≤ length (now upper))
+        × ((longestRow ≤ length (now lower))
+        × (Averaged (now pixels) g (usValues (now masks)) (shifted (down / 4) (g .rows) 0) (now lower)
+        × Against (now cells) tolerance (samplesOf g)))))) ⌝ }
     ensures { λ r. ⌜ r ≡ met tolerance (quarterShade (shadesOf shades (g .stored)) g (now (pixels .entry)) frame (usValues (now (masks .entry))) down right) (now (cells .entry)) (samplesOf g) ⌝ }
 {
     let height = g.rows;
@@ -241,7 +252,10 @@ fn compare_blended(
     cells: &[u8],
     tolerance: usize,
 ) -> Differing
-    requires { ⌜ FrameReady (now pixels) g frame (now line) × (MaskedBy (now pixels) g (now masks) down right × (Shaded shades (g .stored) (now table) × ((longestRow ≤ length (now upper)) × ((longestRow ≤ length (now lower)) × Against (now cells) tolerance (samplesOf g))))) ⌝ }
+    requires { ⌜ FrameReady (now pixels) g frame (now line)
+        × (MaskedBy (now pixels) g (now masks) down right
+        × (Shaded shades (g .stored) (now table)
+        × ((longestRow ≤ length (now upper)) × ((longestRow ≤ length (now lower)) × Against (now cells) tolerance (samplesOf g))))) ⌝ }
     ensures { λ r. ⌜ r ≡ met tolerance (quarterShade (shadesOf shades (g .stored)) g (now (pixels .entry)) frame (usValues (now (masks .entry))) down right) (now (cells .entry)) (samplesOf g) ⌝ }
 {
     pixel::average_row(
@@ -284,7 +298,10 @@ fn compare_masked(
     cells: &[u8],
     tolerance: usize,
 ) -> Differing
-    requires { ⌜ FrameReady (now pixels) g frame (now line) × (MaskedBy (now pixels) g (now masks) down right × (Shaded shades (g .stored) (now table) × ((longestRow ≤ length (now upper)) × ((longestRow ≤ length (now lower)) × Against (now cells) tolerance (samplesOf g))))) ⌝ }
+    requires { ⌜ FrameReady (now pixels) g frame (now line)
+        × (MaskedBy (now pixels) g (now masks) down right
+        × (Shaded shades (g .stored) (now table)
+        × ((longestRow ≤ length (now upper)) × ((longestRow ≤ length (now lower)) × Against (now cells) tolerance (samplesOf g))))) ⌝ }
     ensures { λ r. ⌜ r ≡ met tolerance (quarterShade (shadesOf shades (g .stored)) g (now (pixels .entry)) frame (usValues (now (masks .entry))) down right) (now (cells .entry)) (samplesOf g) ⌝ }
 {
     if shades.filled {
@@ -339,7 +356,10 @@ fn compare_moved(
     cells: &[u8],
     tolerance: usize,
 ) -> Differing
-    requires { ⌜ FrameReady (now pixels) g frame (now line) × (Masks (now pixels) g (now masks) × (ShortMoves moves × (Shaded shades (g .stored) (now table) × ((longestRow ≤ length (now upper)) × ((longestRow ≤ length (now lower)) × Against (now cells) tolerance (samplesOf g)))))) ⌝ }
+    requires { ⌜ FrameReady (now pixels) g frame (now line)
+        × (Masks (now pixels) g (now masks)
+        × (ShortMoves moves × (Shaded shades (g .stored) (now table)
+        × ((longestRow ≤ length (now upper)) × ((longestRow ≤ length (now lower)) × Against (now cells) tolerance (samplesOf g)))))) ⌝ }
     ensures { λ r. ⌜ r ≡ met tolerance (maskedShade (shadesOf shades (g .stored)) g (now (pixels .entry)) frame (usValues (now (masks .entry))) moves) (now (cells .entry)) (samplesOf g) ⌝ }
 {
     let vertical = moves.vertical;
@@ -378,7 +398,13 @@ fn compare_frame(
     cells: &[u8],
     tolerance: usize,
 ) -> Differing
-    requires { ⌜ Table (now bytes) (now rows) × (IsPixels (nodesOf (now bytes)) (c .p) × (FrameReady (valueAt (nodesOf (now bytes)) (c .p)) (c .g) frame (now line) × (MasksReady (nodesOf (now bytes)) (valueAt (nodesOf (now bytes)) (c .p)) (c .g) masking × (Shaded shades (c .g .stored) (now table) × ((longestRow ≤ length (now upper)) × ((longestRow ≤ length (now lower)) × Against (now cells) tolerance (samplesOf (c .g)))))))) ⌝ }
+    requires { ⌜ Table (now bytes) (now rows)
+        × (IsPixels (nodesOf (now bytes)) (c .p)
+        × (FrameReady (valueAt (nodesOf (now bytes)) (c .p)) (c .g) frame (now line)
+        × (MasksReady (nodesOf (now bytes)) (valueAt (nodesOf (now bytes)) (c .p)) (c .g) masking
+        × (Shaded shades (c .g .stored) (now table)
+        × ((longestRow ≤ length (now upper))
+        × ((longestRow ≤ length (now lower)) × Against (now cells) tolerance (samplesOf (c .g)))))))) ⌝ }
     ensures { λ r. ⌜ r ≡ met tolerance (shadeBy (nodesOf (now (bytes .entry))) (shadesOf shades (c .g .stored)) (c .g) (valueAt (nodesOf (now (bytes .entry))) (c .p)) frame masking) (now (cells .entry)) (samplesOf (c .g)) ⌝ }
 {
     let g = c.g;
@@ -436,7 +462,11 @@ fn compare_planned(
     cells: &[u8],
     tolerance: usize,
 ) -> Differing
-    requires { ⌜ Table (now bytes) (now rows) × (IsObject (now bytes) n × (IsScene (nodesOf (now bytes)) c × (IsPlan (nodesOf (now bytes)) frame (c .g .stored) own × ((1 ≤ frame) × ((frame ≤ n) × Against (now cells) tolerance (imageSize (nodesOf (now bytes)))))))) ⌝ }
+    requires { ⌜ Table (now bytes) (now rows)
+        × (IsObject (now bytes) n
+        × (IsScene (nodesOf (now bytes)) c
+        × (IsPlan (nodesOf (now bytes)) frame (c .g .stored) own
+        × ((1 ≤ frame) × ((frame ≤ n) × Against (now cells) tolerance (imageSize (nodesOf (now bytes)))))))) ⌝ }
     ensures { λ r. ⌜ r ≡ along (isOff tolerance (pictureOf (nodesOf (now (bytes .entry))) frame .samples) (now (cells .entry))) 0 (imageSize (nodesOf (now (bytes .entry)))) nothing ⌝ }
 {
     let mut table: [u8; 131072] = [0; 131072];
@@ -478,7 +508,8 @@ fn compare_picture(
     cells: &[u8],
     tolerance: usize,
 ) -> Differing
-    requires { ⌜ Table (now bytes) (now rows) × (IsObject (now bytes) n × ((1 ≤ frame) × ((frame ≤ n) × Against (now cells) tolerance (imageSize (nodesOf (now bytes)))))) ⌝ }
+    requires { ⌜ Table (now bytes) (now rows)
+        × (IsObject (now bytes) n × ((1 ≤ frame) × ((frame ≤ n) × Against (now cells) tolerance (imageSize (nodesOf (now bytes)))))) ⌝ }
     ensures { λ r. ⌜ r ≡ along (isOff tolerance (pictureOf (nodesOf (now (bytes .entry))) frame .samples) (now (cells .entry))) 0 (imageSize (nodesOf (now (bytes .entry)))) nothing ⌝ }
 {
     let scene = display::scene_of(bytes, rows, n);
@@ -497,7 +528,8 @@ fn compare_table(
     tolerance: usize,
     count: usize,
 ) -> CompareAnswer
-    requires { ⌜ Table (now bytes) (now rows) × (((i : ℕ) → getD (now bytes) i 0 < 256) × (findingOf (nodesOf (now bytes)) ≡ finding.Accepted)) ⌝ }
+    requires { ⌜ Table (now bytes) (now rows)
+        × (((i : ℕ) → getD (now bytes) i 0 < 256) × (findingOf (nodesOf (now bytes)) ≡ finding.Accepted)) ⌝ }
     ensures { λ r. ⌜ r ≡ acceptedAnswer (nodesOf (now (bytes .entry))) frame (now (cells .entry)) tolerance count ⌝ }
 {
     let Num::Is(n) = element::frame_count(bytes, rows) else {

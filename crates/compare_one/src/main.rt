@@ -1,5 +1,5 @@
-// Compares another workstation's picture with one frame of a data set. Its arguments are the frame's number, the tolerance and the
-// length of the data set; standard input has the data set and, after so many bytes, the cells, one byte each. It prints yes, or no with the first
+// Compares another workstation's picture with one frame of a data set. Its arguments are the frame's number, the tolerance and the length
+// of the data set; standard input has the data set and, after so many bytes, the cells, one byte each. It prints yes, or no with the first
 // cell that is off and how many are; or the refusal, in a line.
 use argument::Decimal;
 use compare::CompareAnswer;

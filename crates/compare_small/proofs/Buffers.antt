@@ -9,6 +9,7 @@ use Rattle.node.specs.Nodes.{nodesOf}
 use Rattle.judge_small.proofs.Room.{roomy}
 use Rattle.compare.specs.Answer.{answerFor, compareOf}
 
-pub roomy-compare : (s : List ℕ) (f : ℕ) (cells : List ℕ) (t : ℕ) (buffer : List ℕ) → 7 * length s ≤ 8 * length buffer → compareOf s f cells t buffer ≡ compareOf s f cells t (flat (rowsOf s))
+pub roomy-compare : (s : List ℕ) (f : ℕ) (cells : List ℕ) (t : ℕ) (buffer : List ℕ) → 7 * length s ≤ 8 * length buffer
+    → compareOf s f cells t buffer ≡ compareOf s f cells t (flat (rowsOf s))
 unfolding compareOf
 roomy-compare s f cells t buffer h = ap (answerFor (nodesOf s) f cells t) (roomy s buffer h)

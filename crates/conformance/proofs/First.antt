@@ -49,7 +49,8 @@ module _ (ns : List Node) where
 -- A finding over the rules from q up to e.
 pub data Found (ns : List Node) (found : Finding) (q e : ℕ) : Type 0 where
   broken : (rule frame : ℕ) → q ≤ rule → rule < e → firstFrame rule ≤ frame → frame < firstFrame rule + frameCount ns rule
-      → ruleAt ns rule frame ≡ false → HoldsAt ns rule (firstFrame rule) frame → AllHold ns q rule → found ≡ Broken rule frame → Found ns found q e
+      → ruleAt ns rule frame ≡ false → HoldsAt ns rule (firstFrame rule) frame → AllHold ns q rule → found ≡ Broken rule frame
+      → Found ns found q e
   sound : AllHold ns q e → found ≡ Accepted → Found ns found q e
 
 judged-from : (ns : List Node) (k q : ℕ) → Found ns (firstBroken ns k q) q (q + k)
@@ -57,7 +58,8 @@ unfolding firstBroken
 judged-from ns zero q = sound (λ p a b. absurd (omega arith)) refl
 judged-from ns (suc k) q = go (frames ns (firstBroken ns k (q + 1)) q (frameCount ns q) (firstFrame q)) (judged-from ns k (q + 1))
   where
-    go : {v : Finding} → Frames ns (firstBroken ns k (q + 1)) v q (firstFrame q) (firstFrame q + frameCount ns q) → Found ns (firstBroken ns k (q + 1)) (q + 1) (q + 1 + k) → Found ns v q (q + suc k)
+    go : {v : Finding} → Frames ns (firstBroken ns k (q + 1)) v q (firstFrame q) (firstFrame q + frameCount ns q)
+        → Found ns (firstBroken ns k (q + 1)) (q + 1) (q + 1 + k) → Found ns v q (q + suc k)
     go (hit g a b h w e) r = broken q g (omega arith) (omega arith) a b h w (λ p u v. absurd (omega arith)) e
     go (miss w e) (broken r g a b c d h u z s) = broken r g (omega arith) (omega arith) c d h u (next-rule ns q r w z) (e ∙ s)
     go (miss w e) (sound z s) =

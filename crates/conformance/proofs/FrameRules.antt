@@ -9,7 +9,7 @@ use lib.ListN.{drop}
 use lib.Dec.{eqb, leb}
 use borrow.Author.Tests.{le-leb, eqb-true, eqb-false, leb-true}
 use Rattle.value.specs.declared.Num.{Num}
-use Rattle.value.specs.declared.Num.the-variants.{Is, Lacks}
+use Rattle.value.specs.declared.Num.the-variants.{Is, None}
 use Rattle.verdict.specs.Verdict.{perFrame}
 use Rattle.node.specs.Nodes.{Node, inside}
 use Rattle.node.specs.Find.{holds, ifPresent, orElse, find, holdsOr}
@@ -33,14 +33,14 @@ at-same : (ns : List Node) (f : ℕ) (p q : ℕ → ℕ → Bool) → ((s i : �
 at-same ns f p q e = go (sharedItem ns) (frameItem ns f)
   where
     go : (a b : Num) → holds a (λ s. holds b (λ i. p s i)) ≡ holds a (λ s. holds b (λ i. q s i))
-    go Lacks b = refl
-    go (Is s) Lacks = refl
+    go None b = refl
+    go (Is s) None = refl
     go (Is s) (Is i) = e s i
 
 -- The group in the item, else the shared one.
 group-join : (a b : Num) (p : ℕ → Bool) → holdsOr a p (holdsOr b p true) ≡ ifPresent (orElse a b) p
-group-join Lacks Lacks p = refl
-group-join Lacks (Is s) p = refl
+group-join None None p = refl
+group-join None (Is s) p = refl
 group-join (Is g) b p = refl
 
 -- Rule 39 is what the grades of its two groups say.
@@ -56,18 +56,19 @@ grades-by true true true true = refl
 grades-group : (a b : Num) (one log luts linear : ℕ → Bool)
     → (ifPresent a one && (ifPresent b luts && (not (holds a log) || holds b linear)))
     ≡ agree (gradeOn a (λ p. grade (one p) (log p)) 1) (gradeOn b (λ g. grade (luts g) (linear g)) 1)
-grades-group Lacks Lacks one log luts linear = refl
-grades-group Lacks (Is g) one log luts linear = grades-by true false (luts g) (linear g)
-grades-group (Is p) Lacks one log luts linear = grades-by (one p) (log p) true false
+grades-group None None one log luts linear = refl
+grades-group None (Is g) one log luts linear = grades-by true false (luts g) (linear g)
+grades-group (Is p) None one log luts linear = grades-by (one p) (log p) true false
 grades-group (Is p) (Is g) one log luts linear = grades-by (one p) (log p) (luts g) (linear g)
 
 grade-join : (a b : Num) (of : ℕ → ℕ) → gradeOn a of (gradeOn b of 1) ≡ gradeOn (orElse a b) of 1
-grade-join Lacks b of = refl
+grade-join None b of = refl
 grade-join (Is g) b of = refl
 
 grades-join : (a b c d : Num) (one log luts linear : ℕ → Bool)
     → (ifPresent (orElse a b) one && (ifPresent (orElse c d) luts && (not (holds (orElse a b) log) || holds (orElse c d) linear)))
-    ≡ agree (gradeOn a (λ p. grade (one p) (log p)) (gradeOn b (λ p. grade (one p) (log p)) 1)) (gradeOn c (λ g. grade (luts g) (linear g)) (gradeOn d (λ g. grade (luts g) (linear g)) 1))
+    ≡ agree (gradeOn a (λ p. grade (one p) (log p)) (gradeOn b (λ p. grade (one p) (log p)) 1))
+    (gradeOn c (λ g. grade (luts g) (linear g)) (gradeOn d (λ g. grade (luts g) (linear g)) 1))
 grades-join a b c d one log luts linear =
     rw (grade-join a b (λ p. grade (one p) (log p)), grade-join c d (λ g. grade (luts g) (linear g)))
     (grades-group (orElse a b) (orElse c d) one log luts linear)
@@ -136,14 +137,16 @@ module _ (ns : List Node) (f : ℕ) where
       from : (k : ℕ) → eqb rule k ≡ true → Goal k → Goal rule
       from k e g = subst Goal (sym (eqb-true rule k e)) g
 
-      range : (a b c d : Bool) → leb 27 rule ≡ a → leb rule 30 ≡ b → c ≡ false → d ≡ false → (a && b) || (c || d) ≡ true → (27 ≤ rule) × (rule ≤ 30)
+      range : (a b c d : Bool) → leb 27 rule ≡ a → leb rule 30 ≡ b → c ≡ false → d ≡ false → (a && b) || (c || d) ≡ true
+          → (27 ≤ rule) × (rule ≤ 30)
       range true true c d x y z u t = (leb-true 27 rule x, leb-true rule 30 y)
       range true false true d x y z u t = absurd (true-not-false z)
       range true false false d x y z u t = absurd (true-not-false (sym t ∙ u))
       range false b true d x y z u t = absurd (true-not-false z)
       range false b false d x y z u t = absurd (true-not-false (sym t ∙ u))
 
-      go : (a : Bool) → eqb rule 37 ≡ a → (z : Bool) → eqb rule 39 ≡ z → (b : Bool) → eqb rule 27 ≡ b → (c : Bool) → eqb rule 28 ≡ c → (d : Bool) → eqb rule 29 ≡ d → (e : Bool) → eqb rule 30 ≡ e → Goal rule
+      go : (a : Bool) → eqb rule 37 ≡ a → (z : Bool) → eqb rule 39 ≡ z → (b : Bool) → eqb rule 27 ≡ b → (c : Bool) → eqb rule 28 ≡ c
+          → (d : Bool) → eqb rule 29 ≡ d → (e : Bool) → eqb rule 30 ≡ e → Goal rule
       go true p z y b q c r d s e t = from 37 p asked37
       go false p true y b q c r d s e t = from 39 y asked39
       go false p false y true q c r d s e t = from 27 q asked27
@@ -160,5 +163,5 @@ module _ (ns : List Node) (f : ℕ) (c : Items) (some : 1 ≤ f) (w : Along ns (
   pub item-here : c .at < c .end → frameItem ns f ≡ Is (c .at)
   item-here h = rw (le-leb 1 f some) (ap first (sym (w .ahead) ∙ members-next ns (c .at) (c .end) h))
 
-  pub item-none : c .end ≤ c .at → frameItem ns f ≡ Lacks
+  pub item-none : c .end ≤ c .at → frameItem ns f ≡ None
   item-none h = rw (le-leb 1 f some) (ap first (sym (w .ahead) ∙ members-end ns (c .at) (c .end) h))

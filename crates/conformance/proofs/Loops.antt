@@ -88,7 +88,8 @@ rule-left : (r : ℕ) → r < endRule → endRule - r ≡ suc (endRule - (r + 1)
 rule-left r h = omega arith
 
 pub rules-start : (ns : List Node) (r : ℕ) → r < endRule
-    → firstBroken ns (endRule - r) r ≡ lowest ns r (endFrame (numberOf (framesOf ns)) r - firstFrame r) (firstFrame r) (firstBroken ns (endRule - (r + 1)) (r + 1))
+    → firstBroken ns (endRule - r) r
+    ≡ lowest ns r (endFrame (numberOf (framesOf ns)) r - firstFrame r) (firstFrame r) (firstBroken ns (endRule - (r + 1)) (r + 1))
 unfolding firstBroken
 rules-start ns r h = rw (rule-left r h, ← frame-span ns r)
 

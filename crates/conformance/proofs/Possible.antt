@@ -15,7 +15,7 @@ use Rattle.dataset.specs.Reading.{readingOf}
 use Rattle.dataset.specs.Answer.{answerOf}
 use Rattle.dataset.proofs.Laws.{answer-small, Small as SmallAnswer}
 use Rattle.value.specs.declared.Num.{Num}
-use Rattle.value.specs.declared.Num.the-variants.{Is, Lacks}
+use Rattle.value.specs.declared.Num.the-variants.{Is, None}
 use Rattle.basics.specs.Limits.{mostRows}
 use Rattle.verdict.specs.Verdict.{lastRule, lastFrame, perFrame, frameFits, fieldsFit, countFits, possible, writable}
 use Rattle.basics.proofs.Tests.{false-is-true, and-both, or-either}
@@ -36,7 +36,7 @@ use Rattle.conformance.proofs.First.{broken-first}
 
 -- Where rule 15 holds, there are at most 65,535 frames.
 few-frames : (o : Num) → holds o (λ n. leb 1 n && leb n lastFrame) ≡ true → numberOf o ≤ lastFrame
-few-frames Lacks e = absurd (false-is-true e)
+few-frames None e = absurd (false-is-true e)
 few-frames (Is n) e = leb-true n lastFrame (and-both (leb 1 n) (leb n lastFrame) e .1)
 
 rule15-few : (ns : List Node) → Holds ns 15 → numberOf (framesOf ns) ≤ lastFrame
@@ -47,7 +47,8 @@ rule15-few ns h = few-frames (framesOf ns) (h 0 (omega arith) (omega arith))
 is-per-frame-late : (rule : ℕ) → perFrame rule ≡ true → 27 ≤ rule
 unfolding perFrame
 is-per-frame-late rule e =
-    ⊎-elim (λ a. leb-true 27 rule (and-both (leb 27 rule) (leb rule 30) a .0)) (λ b. ⊎-elim (λ d. omega (arith, eqb-true rule 37 d)) (λ d. omega (arith, eqb-true rule 39 d)) (or-either (eqb rule 37) (eqb rule 39) b))
+    ⊎-elim (λ a. leb-true 27 rule (and-both (leb 27 rule) (leb rule 30) a .0)) (λ b.
+    ⊎-elim (λ d. omega (arith, eqb-true rule 37 d)) (λ d. omega (arith, eqb-true rule 39 d)) (or-either (eqb rule 37) (eqb rule 39) b))
     (or-either (leb 27 rule && leb rule 30) (eqb rule 37 || eqb rule 39) e)
 
 frame-fits : (ns : List Node) (rule frame : ℕ) → Broke ns rule frame → frameFits rule frame ≡ true
@@ -96,7 +97,8 @@ answer-possible f read.NoRoom w h = refl
 possible-answer : (s buffer : List ℕ) → possible (verdictOf (judgeOf s buffer)) ≡ true
 unfolding judgeOf
 possible-answer s buffer =
-    answer-possible (findingOf (nodesOf s)) (answerOf (readingOf s) buffer) (finding-fits (nodesOf s) (findingOf (nodesOf s)) refl) (answer-small s buffer)
+    answer-possible (findingOf (nodesOf s)) (answerOf (readingOf s) buffer) (finding-fits (nodesOf s) (findingOf (nodesOf s)) refl)
+    (answer-small s buffer)
 
 -- The claim.
 pub judge-possible : JudgePossible

@@ -5,7 +5,7 @@ use mathlib.Core.List.{List}
 use mathlib.Core.Bool.{true, false, cond}
 use lib.ListN.{drop}
 use Rattle.value.specs.declared.Num.{Num}
-use Rattle.value.specs.declared.Num.the-variants.{Is, Lacks}
+use Rattle.value.specs.declared.Num.the-variants.{Is, None}
 use Rattle.verdict.specs.Verdict.{perFrame, lastRule}
 use Rattle.node.specs.Nodes.{Node}
 use Rattle.element.specs.declared.Items.{Items}
@@ -20,7 +20,7 @@ noPart = record { ok = true; relation = 1; table = 1 }
 
 -- What a rule that is asked at each frame comes to in the shared item; of any other rule nothing is asked there.
 abbrev pub okFor : List Node → ℕ → Num → SharedPart
-okFor ns rule Lacks = noPart
+okFor ns rule None = noPart
 okFor ns rule (Is s) = cond (perFrame rule) (sharedPart ns rule s) noPart
 
 -- The number after the last rule's.

@@ -54,7 +54,8 @@ pub record Judged (s buffer : List ℕ) (rows : List Row) : Type 0 where
   pub sound : Sound (nodesOf s) → fieldsOf (judgeOf s buffer) .code ≡ 0
   -- otherwise code 9, with the first broken rule and at that rule the lowest frame.
   pub otherwise : (fieldsOf (judgeOf s buffer) .code ≡ 0)
-      ⊎ ((fieldsOf (judgeOf s buffer) .code ≡ 9) × Broke (nodesOf s) (fieldsOf (judgeOf s buffer) .rule) (fieldsOf (judgeOf s buffer) .frame))
+      ⊎ ((fieldsOf (judgeOf s buffer) .code ≡ 9)
+      × Broke (nodesOf s) (fieldsOf (judgeOf s buffer) .rule) (fieldsOf (judgeOf s buffer) .frame))
   pub count : fieldsOf (judgeOf s buffer) .rows ≡ length rows
   pub after : bufferOf (readingOf s) buffer ≡ flat rows ++ drop (width * length rows) buffer
 

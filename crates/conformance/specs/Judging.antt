@@ -9,7 +9,7 @@ use Rattle.dataset.specs.Answer.{answerOf}
 use Rattle.dataset.specs.declared.ReadAnswer.{ReadAnswer}
 use Rattle.dataset.specs.declared.ReadAnswer.the-variants as read
 use Rattle.value.specs.declared.Num.{Num}
-use Rattle.value.specs.declared.Num.the-variants.{Is, Lacks}
+use Rattle.value.specs.declared.Num.the-variants.{Is, None}
 use Rattle.verdict.specs.Verdict.{lastRule, perFrame}
 use Rattle.verdict.specs.declared.RowCount.the-variants.{Known}
 use Rattle.verdict.specs.declared.Verdict.{Verdict}
@@ -26,7 +26,7 @@ use Rattle.conformance.specs.declared.JudgeAnswer.the-variants as judged
 -- A rule that is asked at each frame is asked at frames 1 to N, any other once, at frame 0.
 abbrev pub numberOf : Num → ℕ
 numberOf (Is n) = n
-numberOf Lacks = 0
+numberOf None = 0
 
 unfoldable pub firstFrame : ℕ → ℕ
 firstFrame rule = cond (perFrame rule) 1 0

@@ -59,7 +59,7 @@ fn shared_ok(bytes: &[u8], rows: &[u32], rule: usize, shared: Num) -> SharedPart
     ensures { λ r. ⌜ r ≡ okFor (nodesOf (now (bytes .entry))) rule shared ⌝ }
 {
     match shared {
-        Num::Lacks => no_part(),
+        Num::None => no_part(),
         Num::Is(s) => {
             if verdict::is_per_frame(rule) {
                 rules_frame::shared_part(bytes, rows, rule, s)
@@ -80,11 +80,16 @@ fn frame_holds(
     items: Items,
     frame: usize,
 ) -> bool
-    requires { ⌜ Table (now bytes) (now rows) × (Below (length (nodesOf (now bytes))) shared × ((shared ≡ sharedItem (nodesOf (now bytes))) × ((part ≡ okFor (nodesOf (now bytes)) rule shared) × ((perFrame rule ≡ true) × ((1 ≤ frame) × Along (nodesOf (now bytes)) (drop (frame - 1) (frameItems (nodesOf (now bytes)))) items))))) ⌝ }
+    requires { ⌜ Table (now bytes) (now rows)
+        × (Below (length (nodesOf (now bytes))) shared
+        × ((shared ≡ sharedItem (nodesOf (now bytes)))
+        × ((part ≡ okFor (nodesOf (now bytes)) rule shared)
+        × ((perFrame rule ≡ true)
+        × ((1 ≤ frame) × Along (nodesOf (now bytes)) (drop (frame - 1) (frameItems (nodesOf (now bytes)))) items))))) ⌝ }
     ensures { λ r. ⌜ r ≡ ruleAt (nodesOf (now (bytes .entry))) rule frame ⌝ }
 {
     match shared {
-        Num::Lacks => false,
+        Num::None => false,
         Num::Is(s) => {
             let at = items.at;
             let end = items.end;
@@ -123,7 +128,10 @@ fn rule_holds(
     items: Items,
     frame: usize,
 ) -> bool
-    requires { ⌜ Table (now bytes) (now rows) × (Below (length (nodesOf (now bytes))) shared × ((shared ≡ sharedItem (nodesOf (now bytes))) × ((part ≡ okFor (nodesOf (now bytes)) rule shared) × Asked (nodesOf (now bytes)) rule frame items))) ⌝ }
+    requires { ⌜ Table (now bytes) (now rows)
+        × (Below (length (nodesOf (now bytes))) shared
+        × ((shared ≡ sharedItem (nodesOf (now bytes)))
+        × ((part ≡ okFor (nodesOf (now bytes)) rule shared) × Asked (nodesOf (now bytes)) rule frame items))) ⌝ }
     ensures { λ r. ⌜ r ≡ ruleAt (nodesOf (now (bytes .entry))) rule frame ⌝ }
 {
     if verdict::is_per_frame(rule) {
@@ -140,7 +148,7 @@ fn frame_total(bytes: &[u8], rows: &[u32]) -> usize
 {
     match element::frame_count(bytes, rows) {
         Num::Is(n) => n,
-        Num::Lacks => 0,
+        Num::None => 0,
     }
 }
 

@@ -33,10 +33,12 @@ level-deep head inside depth first (suc turns) at least rows d k inner h =
     by-head (head at least) (λ next tag more q. level-deep head inside depth first turns next (tag + 1) (rows ++ more) d k inner q)
   where
     Go : Type 0
-    Go = (next tag : ℕ) (more : List Row) → Deep d (rows ++ more) → RunDeep d (level head inside depth first turns next (tag + 1) (rows ++ more))
+    Go = (next tag : ℕ) (more : List Row) → Deep d (rows ++ more)
+        → RunDeep d (level head inside depth first turns next (tag + 1) (rows ++ more))
 
     by-run : (r : Run) (tag vr : ℕ) (v : Cursor) → RunDeep d r → Go
-        → RunDeep d (onRun r (λ stop next below. level head inside depth first turns next (tag + 1) (rows ++ (row tag vr depth (v .at) (stop - v .at) (length below) first ∷ below))))
+        → RunDeep d (onRun r (λ stop next below. level head inside depth first turns next (tag + 1)
+        (rows ++ (row tag vr depth (v .at) (stop - v .at) (length below) first ∷ below))))
     by-run (refused code offset) tag vr v q go = tt
     by-run (done stop next below) tag vr v q go =
         go next tag (row tag vr depth (v .at) (stop - v .at) (length below) first ∷ below)
@@ -44,7 +46,8 @@ level-deep head inside depth first (suc turns) at least rows d k inner h =
 
     by-head : (x : Head) → Go
         → RunDeep d (onHead x (λ code. refused code at) (λ next. done at next rows)
-        (λ tag vr value. onRun (inside (first + length rows + 1) vr value) (λ stop next below. level head inside depth first turns next (tag + 1) (rows ++ (row tag vr depth (value .at) (stop - value .at) (length below) first ∷ below)))))
+        (λ tag vr value. onRun (inside (first + length rows + 1) vr value) (λ stop next below. level head inside depth first turns next
+        (tag + 1) (rows ++ (row tag vr depth (value .at) (stop - value .at) (length below) first ∷ below)))))
     by-head (heads.Refused code) go = tt
     by-head (heads.End tag vr next) go = h
     by-head (heads.Header tag vr v) go = by-run (inside (first + length rows + 1) vr v) tag vr v (inner (first + length rows + 1) vr v) go
@@ -54,8 +57,10 @@ unfolding valueRun
 value-deep zero d k s first vr v = tt
 value-deep (suc levels) d k s first vr v =
     by-vr (eqb vr SQ) (itemsBy (λ n c. elementsBy (valueRun levels s) levels s n c) levels s first v)
-    (level-deep (λ at least. itemAt s (moved v at)) (λ n _ c. elementsBy (valueRun levels s) levels s n c) (depths - levels) first (length s + 1) (v .at) 0 [] d (omega arith)
-    (λ n _ c. level-deep (λ at least. elementAt s (moved c at) least levels) (valueRun levels s) (depths - levels) n (length s + 1) (c .at) 0 [] d (omega arith)
+    (level-deep (λ at least. itemAt s (moved v at)) (λ n _ c. elementsBy (valueRun levels s) levels s n c) (depths - levels) first
+    (length s + 1) (v .at) 0 [] d (omega arith)
+    (λ n _ c. level-deep (λ at least. elementAt s (moved c at) least levels) (valueRun levels s) (depths - levels) n (length s + 1) (c .at)
+    0 [] d (omega arith)
     (λ m vr₁ w. value-deep levels d (omega arith) s m vr₁ w) tt)
     tt)
   where

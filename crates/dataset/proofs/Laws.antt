@@ -49,10 +49,6 @@ number-at (r ∷ rs) rest (suc i) k h l =
 
 -- ---- The members of one container, step by step
 
-pub members-low : {rows : List Row} {size : ℕ} {kind : Kind} {depth holder least i to : ℕ} → Members rows size kind depth holder least i to → i ≤ to
-members-low (Members.end e) = omega arith
-members-low (Members.member h m b r) = omega arith
-
 -- The first member, and what is after it.
 pub record First (rows : List Row) (size : ℕ) (kind : Kind) (depth holder least i to : ℕ) : Type 0 where
   pub here : Member size kind depth holder least (rowAt rows i)
@@ -60,12 +56,14 @@ pub record First (rows : List Row) (size : ℕ) (kind : Kind) (depth holder leas
   pub below : Members rows size (kindInside kind) (depthInside kind depth) (i + 1) 0 (i + 1) (nextRow rows i)
   pub after : Members rows size kind depth holder (rowAt rows i .tag + 1) (nextRow rows i) to
 
-pub members-first : {rows : List Row} {size : ℕ} {kind : Kind} {depth holder least i to : ℕ} → Members rows size kind depth holder least i to → i < to
+pub members-first : {rows : List Row} {size : ℕ} {kind : Kind} {depth holder least i to : ℕ}
+    → Members rows size kind depth holder least i to → i < to
     → First rows size kind depth holder least i to
 members-first (Members.end e) h = absurd (omega arith)
 members-first (Members.member f m b r) h = record { here = m; fit = f; below = b; after = r }
 
-pub members-ascend : {rows : List Row} {size depth holder least i to : ℕ} → Members rows size elements depth holder least i to → i < to → nextRow rows i < to
+pub members-ascend : {rows : List Row} {size depth holder least i to : ℕ} → Members rows size elements depth holder least i to → i < to
+    → nextRow rows i < to
     → rowAt rows i .tag < rowAt rows (nextRow rows i) .tag
 members-ascend m h k = omega (arith, members-first (members-first m h .after) k .here .is .0)
 
@@ -86,7 +84,8 @@ inside-deeper : (kind : Kind) (depth : ℕ) → depth ≤ depthInside kind depth
 inside-deeper elements depth = omega arith
 inside-deeper items depth = omega arith
 
-pub row-found : {rows : List Row} {size : ℕ} {kind : Kind} {depth holder least from to : ℕ} → Members rows size kind depth holder least from to
+pub row-found : {rows : List Row} {size : ℕ} {kind : Kind} {depth holder least from to : ℕ}
+    → Members rows size kind depth holder least from to
     → (i : ℕ) → from ≤ i → i < to → Found rows size depth i to
 row-found (Members.end e) i p q = absurd (omega arith)
 row-found {rows} {size} (Members.member {kind} {depth} {holder} {least} {i = from} {to} f m b r) i p q =
@@ -133,16 +132,19 @@ abbrev pub IsElement : Row → Type 0
 IsElement r = formOf (r .vr) ≡ 0 → ⊥
 
 -- Of two members of one container in a row, the second has the higher tag, where the first is an element.
-member-ascends : (size : ℕ) (kind : Kind) (depth holder least : ℕ) (r q : Row) → Member size kind depth holder least r → Member size kind depth holder (r .tag + 1) q → IsElement r → r .tag < q .tag
+member-ascends : (size : ℕ) (kind : Kind) (depth holder least : ℕ) (r q : Row) → Member size kind depth holder least r
+    → Member size kind depth holder (r .tag + 1) q → IsElement r → r .tag < q .tag
 member-ascends size elements depth holder least r q m n x = omega (arith, n .is .0)
 member-ascends size items depth holder least r q m n x = absurd (x (item-formless (r .vr) (m .is .1)))
 
 -- What follows the last row below a member is an item, or less deep.
-member-less-deep : (size : ℕ) (kind : Kind) (depth holder least : ℕ) (q : Row) → Member size kind depth holder least q → IsElement q → q .depth < depthInside kind depth
+member-less-deep : (size : ℕ) (kind : Kind) (depth holder least : ℕ) (q : Row) → Member size kind depth holder least q → IsElement q
+    → q .depth < depthInside kind depth
 member-less-deep size elements depth holder least q m y = omega (arith, m .level)
 member-less-deep size items depth holder least q m y = absurd (y (item-formless (q .vr) (m .is .1)))
 
-next-ascends : {rows : List Row} {size : ℕ} {kind : Kind} {depth holder least from to : ℕ} → Members rows size kind depth holder least from to
+next-ascends : {rows : List Row} {size : ℕ} {kind : Kind} {depth holder least from to : ℕ}
+    → Members rows size kind depth holder least from to
     → (i : ℕ) → from ≤ i → i < to → nextRow rows i < to → IsElement (rowAt rows i) → IsElement (rowAt rows (nextRow rows i))
     → rowAt rows i .depth ≡ rowAt rows (nextRow rows i) .depth → rowAt rows i .tag < rowAt rows (nextRow rows i) .tag
 next-ascends (Members.end e) i p q l x y d = absurd (omega arith)
@@ -164,7 +166,8 @@ next-ascends {rows} {size} (Members.member {kind} {depth} {holder} {least} {i = 
     last u v w true e = w (ltb-true (nextRow rows i) (nextRow rows from) e)
     last u v w false e =
         let g = row-found b i (omega arith) v in
-        let z : nextRow rows i ≡ nextRow rows from = omega (arith, ltb-false (nextRow rows i) (nextRow rows from) e, g .first .fit, g .within) in
+        let z : nextRow rows i
+        ≡ nextRow rows from = omega (arith, ltb-false (nextRow rows i) (nextRow rows from) e, g .first .fit, g .within) in
         let a = members-first r (omega arith) in
         let y′ : IsElement (rowAt rows (nextRow rows from)) = subst (λ (j : ℕ). IsElement (rowAt rows j)) z y in
         let d′ : rowAt rows i .depth ≡ rowAt rows (nextRow rows from) .depth = d ∙ ap (λ (j : ℕ). rowAt rows j .depth) z in
@@ -205,7 +208,8 @@ module _ (s : List ℕ) (i : ℕ) (h : i < length (rowsOf s)) where
   row-nested j p q = let g = row-found (found .first .below) j (omega arith) q in omega (arith, g .first .fit, g .within)
 
   -- Below an item are its elements, of its own depth; below any other row are items, one deeper.
-  pub item-members : rowAt (rowsOf s) i .vr ≡ 0 → Members (rowsOf s) (length s) elements (rowAt (rowsOf s) i .depth) (i + 1) 0 (i + 1) (nextRow (rowsOf s) i)
+  pub item-members : rowAt (rowsOf s) i .vr ≡ 0
+      → Members (rowsOf s) (length s) elements (rowAt (rowsOf s) i .depth) (i + 1) 0 (i + 1) (nextRow (rowsOf s) i)
   item-members e = by-kind (found .kind) (found .first)
     where
       by-kind : (kind : Kind) {depth holder least last : ℕ} → First (rowsOf s) (length s) kind depth holder least i last
@@ -213,7 +217,8 @@ module _ (s : List ℕ) (i : ℕ) (h : i < length (rowsOf s)) where
       by-kind elements f = absurd (f .here .is .1 .0 (item-formless _ e))
       by-kind items f = rw (f .here .level) (f .below)
 
-  pub element-members : (rowAt (rowsOf s) i .vr ≡ 0 → ⊥) → Members (rowsOf s) (length s) items (rowAt (rowsOf s) i .depth + 1) (i + 1) 0 (i + 1) (nextRow (rowsOf s) i)
+  pub element-members : (rowAt (rowsOf s) i .vr ≡ 0 → ⊥)
+      → Members (rowsOf s) (length s) items (rowAt (rowsOf s) i .depth + 1) (i + 1) 0 (i + 1) (nextRow (rowsOf s) i)
   element-members n = by-kind (found .kind) (found .first)
     where
       by-kind : (kind : Kind) {depth holder least last : ℕ} → First (rowsOf s) (length s) kind depth holder least i last
@@ -224,7 +229,8 @@ module _ (s : List ℕ) (i : ℕ) (h : i < length (rowsOf s)) where
   pub row-childless : (rowAt (rowsOf s) i .vr ≡ 0 → ⊥) → (rowAt (rowsOf s) i .vr ≡ SQ → ⊥) → rowAt (rowsOf s) i .descendants ≡ 0
   row-childless n q = by-kind (found .kind) (found .first)
     where
-      by-kind : (kind : Kind) {depth holder least last : ℕ} → First (rowsOf s) (length s) kind depth holder least i last → rowAt (rowsOf s) i .descendants ≡ 0
+      by-kind : (kind : Kind) {depth holder least last : ℕ} → First (rowsOf s) (length s) kind depth holder least i last
+          → rowAt (rowsOf s) i .descendants ≡ 0
       by-kind elements f = f .here .is .1 .1 q
       by-kind items f = absurd (n (f .here .is .1))
 
@@ -235,12 +241,14 @@ module _ (s : List ℕ) (i : ℕ) (h : i < length (rowsOf s)) where
   pub sequence-bare : rowAt (rowsOf s) i .vr ≡ SQ → rowAt (rowsOf s) i .descendants ≡ 0 → rowAt (rowsOf s) i .size ≡ 0
   sequence-bare q z = by-kind (found .kind) (found .first)
     where
-      by-kind : (kind : Kind) {depth holder least last : ℕ} → First (rowsOf s) (length s) kind depth holder least i last → rowAt (rowsOf s) i .size ≡ 0
+      by-kind : (kind : Kind) {depth holder least last : ℕ} → First (rowsOf s) (length s) kind depth holder least i last
+          → rowAt (rowsOf s) i .size ≡ 0
       by-kind elements f = f .here .bare q z
       by-kind items f = absurd (omega (arith, q, f .here .is .1))
 
   -- An element's tag is below the next one's of its depth, where that follows it and its descendants.
-  pub row-ascends : nextRow (rowsOf s) i < length (rowsOf s) → IsElement (rowAt (rowsOf s) i) → IsElement (rowAt (rowsOf s) (nextRow (rowsOf s) i))
+  pub row-ascends : nextRow (rowsOf s) i < length (rowsOf s) → IsElement (rowAt (rowsOf s) i)
+      → IsElement (rowAt (rowsOf s) (nextRow (rowsOf s) i))
       → rowAt (rowsOf s) i .depth ≡ rowAt (rowsOf s) (nextRow (rowsOf s) i) .depth
       → rowAt (rowsOf s) i .tag < rowAt (rowsOf s) (nextRow (rowsOf s) i) .tag
   row-ascends l x y e = next-ascends (rows-members s) i (omega arith) h l x y e

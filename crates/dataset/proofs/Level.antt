@@ -26,17 +26,21 @@ use Rattle.dataset.proofs.Buffer.{length-flat, flat-append, sets-append
 pub within : (c : Cursor) {h g : Head} → h ≡ g → Within c h → Within c g
 within c e w = subst (λ (x : Head). Within c x) e w
 
-pub walked : {o : Run} {c : Cursor} {first : ℕ} {buffer after : List ℕ} {r q : Walk} → r ≡ q → Walked o c first buffer after r → Walked o c first buffer after q
+pub walked : {o : Run} {c : Cursor} {first : ℕ} {buffer after : List ℕ} {r q : Walk} → r ≡ q → Walked o c first buffer after r
+    → Walked o c first buffer after q
 walked {o} {c} {first} {buffer} {after} e w = subst (λ (x : Walk). Walked o c first buffer after x) e w
 
-pub of-run : {o p : Run} {c : Cursor} {first : ℕ} {buffer after : List ℕ} {r : Walk} → o ≡ p → Walked o c first buffer after r → Walked p c first buffer after r
+pub of-run : {o p : Run} {c : Cursor} {first : ℕ} {buffer after : List ℕ} {r : Walk} → o ≡ p → Walked o c first buffer after r
+    → Walked p c first buffer after r
 of-run {o} {p} {c} {first} {buffer} {after} {r} e w = subst (λ (x : Run). Walked x c first buffer after r) e w
 
-pub leaf-walked : (o : Run) (c : Cursor) (first : ℕ) (buffer after : List ℕ) {r q : Leaf} → r ≡ q → LeafWalked o c first buffer after r → LeafWalked o c first buffer after q
+pub leaf-walked : (o : Run) (c : Cursor) (first : ℕ) (buffer after : List ℕ) {r q : Leaf} → r ≡ q → LeafWalked o c first buffer after r
+    → LeafWalked o c first buffer after q
 leaf-walked o c first buffer after e w = subst (λ (x : Leaf). LeafWalked o c first buffer after x) e w
 
 -- A walk over what a given up walk left behind.
-pub over : (o : Run) {c : Cursor} {first : ℕ} {buffer after last : List ℕ} {r : Walk} → length after ≡ length buffer → Replaced first o buffer after
+pub over : (o : Run) {c : Cursor} {first : ℕ} {buffer after last : List ℕ} {r : Walk} → length after ≡ length buffer
+    → Replaced first o buffer after
     → Walked o c first after last r → Walked o c first buffer last r
 over (done stop next rows) l p w = record { is = w .is; within = w .within; wrote = λ h. w .wrote (omega arith) ∙ p h }
 over (refused code offset) l p w = record { is = w .is; within = w .within; wrote = tt }
@@ -59,7 +63,8 @@ pub record Below (o : Run) (v : Cursor) (first : ℕ) (buffer after : List ℕ) 
   pub within : RunWithin v (done stop next rows)
   pub wrote : 7 * m ≤ length buffer → after ≡ sets buffer (7 * first) (flat rows)
 
-pub below : (o : Run) {v : Cursor} {first : ℕ} {buffer after : List ℕ} {stop next m : ℕ} → Walked o v first buffer after (walk.Done stop next m)
+pub below : (o : Run) {v : Cursor} {first : ℕ} {buffer after : List ℕ} {stop next m : ℕ}
+    → Walked o v first buffer after (walk.Done stop next m)
     → Below o v first buffer after stop next m
 below (done stop′ next′ rows) {v} {first} {buffer} {after} {stop} {next} {m} w =
     let t : walk.Done stop next m ≡ walk.Done stop′ next′ (first + length rows) = w .is in
@@ -79,7 +84,8 @@ below (refused code offset) {v} {first} {buffer} {after} {stop} {next} {m} w =
     absurd (omega arith)
 
 -- What a walk that was refused says of its run.
-pub stopped : (o : Run) {v : Cursor} {first : ℕ} {buffer after : List ℕ} {code offset : ℕ} → Walked o v first buffer after (walk.Refused code offset)
+pub stopped : (o : Run) {v : Cursor} {first : ℕ} {buffer after : List ℕ} {code offset : ℕ}
+    → Walked o v first buffer after (walk.Refused code offset)
     → (o ≡ refused code offset) × RunWithin v (refused code offset)
 stopped (done stop next rows) {v} {first} {buffer} {after} {code} {offset} w =
     let t : walk.Refused code offset ≡ walk.Done stop next (first + length rows) = w .is in
@@ -94,27 +100,32 @@ stopped (refused code′ offset′) {v} {first} {buffer} {after} {code} {offset}
 -- ---- One turn
 
 module _ (head : ℕ → ℕ → Head) (inside : ℕ → ℕ → Cursor → Run) (depth first turns at least : ℕ) (rows : List Row) where
-  pub level-refused : (code : ℕ) → head at least ≡ heads.Refused code → level head inside depth first (suc turns) at least rows ≡ refused code at
+  pub level-refused : (code : ℕ) → head at least ≡ heads.Refused code
+      → level head inside depth first (suc turns) at least rows ≡ refused code at
   unfolding level
   level-refused code e = rw e
 
-  pub level-end : (tag vr : ℕ) (next : Cursor) → head at least ≡ heads.End tag vr next → level head inside depth first (suc turns) at least rows ≡ done at (next .at) rows
+  pub level-end : (tag vr : ℕ) (next : Cursor) → head at least ≡ heads.End tag vr next
+      → level head inside depth first (suc turns) at least rows ≡ done at (next .at) rows
   unfolding level
   level-end tag vr next e = rw e
 
-  pub level-stop : (tag vr code offset : ℕ) (v : Cursor) → head at least ≡ heads.Header tag vr v → inside (first + length rows + 1) vr v ≡ refused code offset
+  pub level-stop : (tag vr code offset : ℕ) (v : Cursor) → head at least ≡ heads.Header tag vr v
+      → inside (first + length rows + 1) vr v ≡ refused code offset
       → level head inside depth first (suc turns) at least rows ≡ refused code offset
   unfolding level
   level-stop tag vr code offset v e f = rw (e, f)
 
-  pub level-on : (tag vr stop next : ℕ) (v : Cursor) (below : List Row) → head at least ≡ heads.Header tag vr v → inside (first + length rows + 1) vr v ≡ done stop next below
+  pub level-on : (tag vr stop next : ℕ) (v : Cursor) (below : List Row) → head at least ≡ heads.Header tag vr v
+      → inside (first + length rows + 1) vr v ≡ done stop next below
       → level head inside depth first (suc turns) at least rows
       ≡ level head inside depth first turns next (tag + 1) (rows ++ (row tag vr depth (v .at) (stop - v .at) (length below) first ∷ below))
   unfolding level
   level-on tag vr stop next v below e f = rw (e, f)
 
 -- A level that is done has the rows so far among its rows.
-pub level-grows : (head : ℕ → ℕ → Head) (inside : ℕ → ℕ → Cursor → Run) (depth first turns at least : ℕ) (rows : List Row) (stop next : ℕ) (all : List Row)
+pub level-grows : (head : ℕ → ℕ → Head) (inside : ℕ → ℕ → Cursor → Run) (depth first turns at least : ℕ) (rows : List Row) (stop next : ℕ)
+    (all : List Row)
     → level head inside depth first turns at least rows ≡ done stop next all → length rows ≤ length all
 unfolding level
 level-grows head inside depth first zero at least rows stop next all e =
@@ -128,7 +139,8 @@ level-grows head inside depth first (suc turns) at least rows stop next all e =
         → level head inside depth first turns next′ (tag + 1) (rows ++ below) ≡ done stop next all → length (rows ++ below) ≤ length all
 
     by-run : (r : Run) (tag vr : ℕ) (v : Cursor) → Go
-        → onRun r (λ stop next below. level head inside depth first turns next (tag + 1) (rows ++ (row tag vr depth (v .at) (stop - v .at) (length below) first ∷ below))) ≡ done stop next all
+        → onRun r (λ stop next below. level head inside depth first turns next (tag + 1)
+        (rows ++ (row tag vr depth (v .at) (stop - v .at) (length below) first ∷ below))) ≡ done stop next all
         → length rows ≤ length all
     by-run (refused code offset) tag vr v go q =
         let z : _≡_ {A = ℕ} 0 1 = cc in
@@ -139,7 +151,8 @@ level-grows head inside depth first (suc turns) at least rows stop next all e =
 
     by-head : (h : Head) → Go
         → onHead h (λ code. refused code at) (λ next. done at next rows)
-        (λ tag vr value. onRun (inside (first + length rows + 1) vr value) (λ stop next below. level head inside depth first turns next (tag + 1) (rows ++ (row tag vr depth (value .at) (stop - value .at) (length below) first ∷ below))))
+        (λ tag vr value. onRun (inside (first + length rows + 1) vr value) (λ stop next below. level head inside depth first turns next
+        (tag + 1) (rows ++ (row tag vr depth (value .at) (stop - value .at) (length below) first ∷ below))))
         ≡ done stop next all
         → length rows ≤ length all
     by-head (heads.Refused code) go q =
@@ -152,7 +165,8 @@ level-grows head inside depth first (suc turns) at least rows stop next all e =
 
 -- ---- The loop: at `at`, with the rows so far, what is left to read comes to what the whole level does
 
-pub record Inv (head : ℕ → ℕ → Head) (inside : ℕ → ℕ → Cursor → Run) (depth : ℕ) (o : Run) (start end first : ℕ) (buffer₀ buffer : List ℕ) (at n least : ℕ) : Type 0 where
+pub record Inv (head : ℕ → ℕ → Head) (inside : ℕ → ℕ → Cursor → Run) (depth : ℕ) (o : Run) (start end first : ℕ) (buffer₀ buffer : List ℕ)
+    (at n least : ℕ) : Type 0 where
   pub rows : List Row
   pub turns : ℕ
   pub rest : level head inside depth first turns at least rows ≡ o
@@ -172,13 +186,15 @@ module _ (head : ℕ → ℕ → Head) (inside : ℕ → ℕ → Cursor → Run)
   abbrev pub Along : List ℕ → Cursor → ℕ → ℕ → Type 0
   Along buffer here n least = (here ≡ moved c (here .at)) × Here buffer (here .at) n least
 
-  pub along : {buffer : List ℕ} (here r : Cursor) {next n least : ℕ} → here ≡ moved c (here .at) → r ≡ moved here next → Here buffer next n least → Along buffer r n least
+  pub along : {buffer : List ℕ} (here r : Cursor) {next n least : ℕ} → here ≡ moved c (here .at) → r ≡ moved here next
+      → Here buffer next n least → Along buffer r n least
   along {buffer} here r {next} {n} {least} e p i =
       let m = moved-along c here r e p in
       (m .0, subst (λ (x : ℕ). Here buffer x n least) (sym (m .1)) i)
 
   -- There is a turn left.
-  turn : (at least : ℕ) (rows : List Row) (turns : ℕ) → at ≤ c .end → level head inside depth first turns at least rows ≡ o → c .end < at + turns
+  turn : (at least : ℕ) (rows : List Row) (turns : ℕ) → at ≤ c .end → level head inside depth first turns at least rows ≡ o
+      → c .end < at + turns
       → (t : ℕ) × ((level head inside depth first (suc t) at least rows ≡ o) × (c .end < at + suc t))
   turn at least rows zero h e lt = absurd (omega arith)
   turn at least rows (suc t) h e lt = (t, (e, lt))
@@ -205,17 +221,24 @@ module _ (head : ℕ → ℕ → Head) (inside : ℕ → ℕ → Cursor → Run)
         let m = turn at least (i .rows) (i .turns) (i .high) (i .rest) (i .enough) in
         sym (level-end head inside depth first (m .0) at least (i .rows) tag vr next e) ∙ m .1 .0
 
-    pub ended : {tag vr : ℕ} {next : Cursor} → head at least ≡ heads.End tag vr next → at ≤ next .at → next .at ≤ c .end → Walked o c first buffer₀ buffer (walk.Done at (next .at) n)
+    pub ended : {tag vr : ℕ} {next : Cursor} → head at least ≡ heads.End tag vr next → at ≤ next .at → next .at ≤ c .end
+        → Walked o c first buffer₀ buffer (walk.Done at (next .at) n)
     ended {tag} {vr} {next} e p q =
         let d : done at (next .at) (i .rows) ≡ o = ended-run e in
         subst (λ (x : Run). Walked x c first buffer₀ buffer (walk.Done at (next .at) n)) d
-        (record { is = ap (λ (k : ℕ). walk.Done at (next .at) k) (i .count); within = omega (arith, i .low, i .few); wrote = λ h. i .wrote (omega (arith, i .count)) })
+        (record {
+          is = ap (λ (k : ℕ). walk.Done at (next .at) k) (i .count);
+          within = omega (arith, i .low, i .few);
+          wrote = λ h. i .wrote (omega (arith, i .count));
+        })
 
-    pub refuses : {code : ℕ} → head at least ≡ heads.Refused code → (1 ≤ code) × (code ≤ 6) → Walked o c first buffer₀ buffer (walk.Refused code at)
+    pub refuses : {code : ℕ} → head at least ≡ heads.Refused code → (1 ≤ code) × (code ≤ 6)
+        → Walked o c first buffer₀ buffer (walk.Refused code at)
     refuses {code} e p =
         let m = turn at least (i .rows) (i .turns) (i .high) (i .rest) (i .enough) in
         let d : refused code at ≡ o = sym (level-refused head inside depth first (m .0) at least (i .rows) code e) ∙ m .1 .0 in
-        subst (λ (x : Run). Walked x c first buffer₀ buffer (walk.Refused code at)) d (record { is = refl; within = (p .0, (p .1, (i .low, i .high))); wrote = tt })
+        subst (λ (x : Run). Walked x c first buffer₀ buffer (walk.Refused code at)) d
+        (record { is = refl; within = (p .0, (p .1, (i .low, i .high))); wrote = tt })
 
     -- The walk is given up here.
     pub given-up : Replaced first o buffer₀ buffer
@@ -235,18 +258,22 @@ module _ (head : ℕ → ℕ → Head) (inside : ℕ → ℕ → Cursor → Run)
       pub here : Here after next m (tag + 1)
       pub more : here .rows ≡ i .rows ++ (row tag vr depth (v .at) (stop - v .at) (length inner) first ∷ inner)
 
-    module _ {tag vr : ℕ} {v : Cursor} (e : head at least ≡ heads.Header tag vr v) (w : Within (record { at = at; end = c .end; delimited = c .delimited }) (heads.Header tag vr v)) {buffer₁ : List ℕ} where
+    module _ {tag vr : ℕ} {v : Cursor} (e : head at least ≡ heads.Header tag vr v)
+        (w : Within (record { at = at; end = c .end; delimited = c .delimited }) (heads.Header tag vr v)) {buffer₁ : List ℕ} where
       pub fails : {code offset : ℕ} → Walked (inside (n + 1) vr v) v (n + 1) buffer buffer₁ (walk.Refused code offset)
           → Walked o c first buffer₀ buffer₁ (walk.Refused code offset)
       fails {code} {offset} u =
           let k = stopped (inside (n + 1) vr v) u in
           let m = turn at least (i .rows) (i .turns) (i .high) (i .rest) (i .enough) in
-          let d : refused code offset ≡ o = sym (level-stop head inside depth first (m .0) at least (i .rows) tag vr code offset v e (ap (λ (x : ℕ). inside x vr v) (omega (arith, i .count)) ∙ k .0)) ∙ m .1 .0 in
-          subst (λ (x : Run). Walked x c first buffer₀ buffer₁ (walk.Refused code offset)) d (record { is = refl; within = omega (arith, k .1, i .low, w); wrote = tt })
+          let d : refused code offset ≡ o = sym (level-stop head inside depth first (m .0) at least (i .rows) tag vr code offset v e
+          (ap (λ (x : ℕ). inside x vr v) (omega (arith, i .count)) ∙ k .0)) ∙ m .1 .0 in
+          subst (λ (x : Run). Walked x c first buffer₀ buffer₁ (walk.Refused code offset)) d
+          (record { is = refl; within = omega (arith, k .1, i .low, w); wrote = tt })
 
       pub onward : {stop next m : ℕ} {buffer₂ : List ℕ} → length buffer₁ ≡ length buffer → length buffer₂ ≡ length buffer₁
           → Walked (inside (n + 1) vr v) v (n + 1) buffer buffer₁ (walk.Done stop next m)
-          → (7 * n + 7 ≤ length buffer₁ → buffer₂ ≡ sets buffer₁ (7 * n) (flat (row tag vr depth (v .at) (stop - v .at) (m - n - 1) first ∷ [])))
+          → (7 * n + 7 ≤ length buffer₁
+          → buffer₂ ≡ sets buffer₁ (7 * n) (flat (row tag vr depth (v .at) (stop - v .at) (m - n - 1) first ∷ [])))
           → Next tag vr v buffer₂ stop next m
       onward {stop} {next} {m} {buffer₂} l₁ l₂ u put =
           let b = below (inside (n + 1) vr v) u in
@@ -260,7 +287,8 @@ module _ (head : ℕ → ℕ → Head) (inside : ℕ → ℕ → Cursor → Run)
                 record {
                   rows = i .rows ++ (r ∷ b .rows);
                   turns = k .0;
-                  rest = sym (level-on head inside depth first (k .0) at least (i .rows) tag vr stop next v (b .rows) e (ap (λ (x : ℕ). inside x vr v) (omega (arith, i .count)) ∙ b .is)) ∙ k .1 .0;
+                  rest = sym (level-on head inside depth first (k .0) at least (i .rows) tag vr stop next v (b .rows) e
+                      (ap (λ (x : ℕ). inside x vr v) (omega (arith, i .count)) ∙ b .is)) ∙ k .1 .0;
                   enough = omega (arith, k .1 .1, b .within, w);
                   low = omega (arith, i .low, b .within, w);
                   high = omega (arith, b .within, w);
@@ -270,7 +298,8 @@ module _ (head : ℕ → ℕ → Head) (inside : ℕ → ℕ → Cursor → Run)
                   wrote = λ h.
                       let e₀ : buffer ≡ sets buffer₀ (7 * first) (flat (i .rows)) = i .wrote (omega (arith, b .count)) in
                       let e₁ : buffer₁ ≡ sets buffer (7 * (n + 1)) (flat (b .rows)) = b .wrote (omega (arith, i .kept)) in
-                      let e₂ : buffer₂ ≡ sets buffer₁ (7 * n) (flat (row tag vr depth (v .at) (stop - v .at) (m - n - 1) first ∷ [])) = put (omega (arith, i .kept, b .count)) in
+                      let e₂ : buffer₂ ≡ sets buffer₁ (7 * n) (flat (row tag vr depth (v .at) (stop - v .at) (m - n - 1) first ∷ [])) = put
+                      (omega (arith, i .kept, b .count)) in
                       let f : 7 * n ≡ 7 * first + length (flat (i .rows)) = omega (arith, length-flat (i .rows), i .count) in
                       e₂
                       ∙ ap (λ (x : ℕ). sets buffer₁ (7 * n) (flat (row tag vr depth (v .at) (stop - v .at) x first ∷ []))) (sym size)
@@ -286,22 +315,21 @@ module _ (head : ℕ → ℕ → Head) (inside : ℕ → ℕ → Cursor → Run)
 
       pub again : {stop next m : ℕ} {buffer₂ : List ℕ} → length buffer₁ ≡ length buffer → length buffer₂ ≡ length buffer₁
           → Walked (inside (n + 1) vr v) v (n + 1) buffer buffer₁ (walk.Done stop next m)
-          → (7 * n + 7 ≤ length buffer₁ → buffer₂ ≡ sets buffer₁ (7 * n) (flat (row tag vr depth (v .at) (stop - v .at) (m - n - 1) first ∷ [])))
+          → (7 * n + 7 ≤ length buffer₁
+          → buffer₂ ≡ sets buffer₁ (7 * n) (flat (row tag vr depth (v .at) (stop - v .at) (m - n - 1) first ∷ [])))
           → Here buffer₂ next m (tag + 1)
       again l₁ l₂ u put = onward l₁ l₂ u put .here
 
 -- ---- The value of an element
 
-pub value-no-level : (levels : ℕ) (s : List ℕ) (first vr : ℕ) (v : Cursor) → levels ≡ 0 → valueRun levels s first vr v ≡ done (v .end) (v .end) []
-unfolding valueRun
-value-no-level levels s first vr v e = rw e
-
-pub value-plain : (levels : ℕ) (s : List ℕ) (first vr : ℕ) (v : Cursor) → (vr ≡ 0x5351 → ⊥) → valueRun levels s first vr v ≡ done (v .end) (v .end) []
+pub value-plain : (levels : ℕ) (s : List ℕ) (first vr : ℕ) (v : Cursor) → (vr ≡ 0x5351 → ⊥)
+    → valueRun levels s first vr v ≡ done (v .end) (v .end) []
 unfolding valueRun
 value-plain zero s first vr v e = refl
 value-plain (suc levels) s first vr v e = rw (ne-eqb vr 0x5351 e)
 
-pub value-items : (levels : ℕ) (s : List ℕ) (first vr : ℕ) (v : Cursor) → (levels ≡ 0 → ⊥) → vr ≡ 0x5351 → valueRun levels s first vr v ≡ itemsAt (levels - 1) s first v
+pub value-items : (levels : ℕ) (s : List ℕ) (first vr : ℕ) (v : Cursor) → (levels ≡ 0 → ⊥) → vr ≡ 0x5351
+    → valueRun levels s first vr v ≡ itemsAt (levels - 1) s first v
 unfolding valueRun
 value-items zero s first vr v n e = absurd (n refl)
 value-items (suc levels) s first vr v n e = rw (eq-eqb vr 0x5351 e, sub-one (suc levels))

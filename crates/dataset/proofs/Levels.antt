@@ -59,5 +59,6 @@ module _ (levels : ℕ) where
   element-leveled s c least =
       by-test _ _ _ (λ _. by-test _ _ _ (λ _. tt) (λ _. tt)) (λ _. by-test _ _ _ (λ _. tt) (λ _. tagged-leveled s c _ least))
 
-  pub sequence-level : (s : List ℕ) (c : Cursor) (least : ℕ) {tag vr : ℕ} {v : Cursor} → elementAt s c least levels ≡ head.Header tag vr v → vr ≡ SQ → 1 ≤ levels
+  pub sequence-level : (s : List ℕ) (c : Cursor) (least : ℕ) {tag vr : ℕ} {v : Cursor} → elementAt s c least levels ≡ head.Header tag vr v
+      → vr ≡ SQ → 1 ≤ levels
   sequence-level s c least {tag} {vr} {v} e = subst (λ (h : Head). Leveled levels h) e (element-leveled s c least)

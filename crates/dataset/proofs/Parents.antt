@@ -75,7 +75,8 @@ placed {rows} {size} (Members.member {kind} {depth} {holder} {least} {i = from} 
             let z : j ≡ from = omega (arith, ltb-false from j e) in
             omega (arith, ap (nextRow rows) z)
 
-    inner : from < i → i < nextRow rows from → Placed rows (kindInside kind) (depthInside kind depth) (from + 1) (from + 1) i → Placed rows kind depth holder from i
+    inner : from < i → i < nextRow rows from → Placed rows (kindInside kind) (depthInside kind depth) (from + 1) (from + 1) i
+        → Placed rows kind depth holder from i
     inner u v (inl o) =
         inr (
           from,
@@ -106,7 +107,11 @@ placed {rows} {size} (Members.member {kind} {depth} {holder} {least} {i = from} 
     go x y false d u e =
         let l : from ≡ i = omega (arith, ltb-false from i d) in
         subst (λ (j : ℕ). Placed rows kind depth holder from j) l
-        (inl (record { is = m .held; stands = stands size kind depth holder least (rowAt rows from) m; least = λ j v w. absurd (omega arith) }))
+        (inl (record {
+          is = m .held;
+          stands = stands size kind depth holder least (rowAt rows from) m;
+          least = λ j v w. absurd (omega arith);
+        }))
     go x y true d true e =
         let v : i < nextRow rows from = ltb-true i (nextRow rows from) e in
         let u : from < i = ltb-true from i d in
@@ -163,7 +168,8 @@ module _ (s : List ℕ) where
           → Placed (rowsOf s) elements 0 0 0 i → climb (rowsOf s) (suc steps) (suc i) ≡ 0
       by-place k (inl o) = climb-on (rowsOf s) steps i 0 (o .is) ∙ climb-root (rowsOf s) steps
       by-place k (inr (p, (l, x))) =
-          climb-on (rowsOf s) steps i (suc p) (x .is) ∙ k p (omega (arith, x .low)) (nearer steps (rowAt (rowsOf s) i) (rowAt (rowsOf s) p) (x .under) n)
+          climb-on (rowsOf s) steps i (suc p) (x .is)
+          ∙ k p (omega (arith, x .low)) (nearer steps (rowAt (rowsOf s) i) (rowAt (rowsOf s) p) (x .under) n)
 
   near : (i : ℕ) → i < length (rowsOf s) → Near 17 (rowAt (rowsOf s) i)
   near i h = by-vr (eqb (rowAt (rowsOf s) i .vr) 0) refl
@@ -232,7 +238,8 @@ module _ (s : List ℕ) where
 
   next-before : (steps i j : ℕ) → i < length (rowsOf s) → climb (rowsOf s) steps (suc i) ≡ suc j → climb (rowsOf s) (suc steps) (suc i) ≤ j
   next-before steps i j h e =
-      let q : climb (rowsOf s) (suc steps) (suc i) ≡ rowAt (rowsOf s) j .parent = climb-last (rowsOf s) steps (suc i) ∙ ap (parentOf (rowsOf s)) e in
+      let q : climb (rowsOf s) (suc steps) (suc i)
+      ≡ rowAt (rowsOf s) j .parent = climb-last (rowsOf s) steps (suc i) ∙ ap (parentOf (rowsOf s)) e in
       omega (arith, q, parent-before j (met-within steps i j h e))
 
 -- ---- The theorem
@@ -255,18 +262,22 @@ parents s i h =
     item : (j : ℕ) → rowAt (rowsOf s) i .parent ≡ suc j → rowAt (rowsOf s) i .vr ≡ 0 → Here
         → (rowAt (rowsOf s) j .vr ≡ SQ) × (rowAt (rowsOf s) i .depth ≡ rowAt (rowsOf s) j .depth + 1)
     item j e v (inl o) = absurd (omega (arith, o .is, e))
-    item j e v (inr (p, (l, x))) = by-under (subst (λ (k : ℕ). Under (rowAt (rowsOf s) i) (rowAt (rowsOf s) k)) (omega (arith, x .is, e)) (x .under))
+    item j e v (inr (p, (l, x))) = by-under
+        (subst (λ (k : ℕ). Under (rowAt (rowsOf s) i) (rowAt (rowsOf s) k)) (omega (arith, x .is, e)) (x .under))
       where
-        by-under : Under (rowAt (rowsOf s) i) (rowAt (rowsOf s) j) → (rowAt (rowsOf s) j .vr ≡ SQ) × (rowAt (rowsOf s) i .depth ≡ rowAt (rowsOf s) j .depth + 1)
+        by-under : Under (rowAt (rowsOf s) i) (rowAt (rowsOf s) j)
+            → (rowAt (rowsOf s) j .vr ≡ SQ) × (rowAt (rowsOf s) i .depth ≡ rowAt (rowsOf s) j .depth + 1)
         by-under (inl (w, y)) = y
         by-under (inr (w, y)) = absurd (w v)
 
     element : (j : ℕ) → rowAt (rowsOf s) i .parent ≡ suc j → (rowAt (rowsOf s) i .vr ≡ 0 → ⊥) → Here
         → (rowAt (rowsOf s) j .vr ≡ 0) × (rowAt (rowsOf s) i .depth ≡ rowAt (rowsOf s) j .depth)
     element j e n (inl o) = absurd (omega (arith, o .is, e))
-    element j e n (inr (p, (l, x))) = by-under (subst (λ (k : ℕ). Under (rowAt (rowsOf s) i) (rowAt (rowsOf s) k)) (omega (arith, x .is, e)) (x .under))
+    element j e n (inr (p, (l, x))) = by-under
+        (subst (λ (k : ℕ). Under (rowAt (rowsOf s) i) (rowAt (rowsOf s) k)) (omega (arith, x .is, e)) (x .under))
       where
-        by-under : Under (rowAt (rowsOf s) i) (rowAt (rowsOf s) j) → (rowAt (rowsOf s) j .vr ≡ 0) × (rowAt (rowsOf s) i .depth ≡ rowAt (rowsOf s) j .depth)
+        by-under : Under (rowAt (rowsOf s) i) (rowAt (rowsOf s) j)
+            → (rowAt (rowsOf s) j .vr ≡ 0) × (rowAt (rowsOf s) i .depth ≡ rowAt (rowsOf s) j .depth)
         by-under (inl (w, y)) = absurd (n w)
         by-under (inr (w, y)) = y
 

@@ -15,8 +15,10 @@ use Rattle.dataset.specs.declared.Head.{Head}
 use Rattle.dataset.specs.declared.Head.the-variants as head
 use Rattle.basics.specs.Vr.{formOf, SQ}
 use Rattle.basics.specs.Bytes.{le32}
-use Rattle.dataset.specs.Header.{when, itemTag, cursor, moved, headerBy, delimiterBy, levelBy, definedBy, longBy, typedAt, taggedAt, sizedBy, memberAt, elementAt, itemAt}
-use Rattle.dataset.specs.Reading.{Row, row, Run, done, refused, onHead, onRun, level, valueRun, elementsAt, itemsAt, Reading, tooLarge, refusedAt, read, whole, readingOf}
+use Rattle.dataset.specs.Header.{when, itemTag, cursor, moved, headerBy, delimiterBy, levelBy, definedBy, longBy, typedAt, taggedAt}
+use Rattle.dataset.specs.Header.{sizedBy, memberAt, elementAt, itemAt}
+use Rattle.dataset.specs.Reading.{Row, row, Run, done, refused, onHead, onRun, level, valueRun, elementsAt, itemsAt, Reading}
+use Rattle.dataset.specs.Reading.{tooLarge, refusedAt, read, whole, readingOf}
 use Rattle.basics.specs.Limits.{largest}
 use Rattle.dataset.proofs.Levels.{sequence-level}
 use Rattle.dataset.specs.Tree.{rowsIn, rowsOf, noRow, rowAt, nextRow, Kind, elements, items, Member, kindInside, depthInside, Members}
@@ -43,7 +45,8 @@ Moves kind least c (head.End tag vr next) = (c .at ≤ next .at) × (next .at �
 Moves kind least c (head.Refused code) = (1 ≤ code) × (code ≤ 6)
 
 module _ (kind : Kind) (least : ℕ) (c : Cursor) where
-  by-test : (t : Bool) (a b : Head) → (t ≡ true → Moves kind least c a) → (t ≡ false → Moves kind least c b) → Moves kind least c (when t a b)
+  by-test : (t : Bool) (a b : Head) → (t ≡ true → Moves kind least c a) → (t ≡ false → Moves kind least c b)
+      → Moves kind least c (when t a b)
   unfolding when
   by-test true a b p q = p refl
   by-test false a b p q = q refl
@@ -62,7 +65,8 @@ module _ (kind : Kind) (least : ℕ) (c : Cursor) where
       (λ _. by-test _ _ _ (λ _. omega arith) (λ k. let l : 8 ≤ c .end - c .at = ltb-false (c .end - c .at) 8 k in q (omega arith)))
 
   module _ (tag vr : ℕ) (named : Named kind least tag vr) (start : ℕ) (p : c .at + 8 ≤ start) where
-    level-moves : (levels stop : ℕ) (delimited : Bool) → start ≤ stop → stop ≤ c .end → Moves kind least c (levelBy tag vr levels (cursor start stop delimited))
+    level-moves : (levels stop : ℕ) (delimited : Bool) → start ≤ stop → stop ≤ c .end
+        → Moves kind least c (levelBy tag vr levels (cursor start stop delimited))
     unfolding levelBy
     level-moves levels stop delimited q r =
         by-test _ _ _ (λ _. by-test _ _ _ (λ _. omega arith) (λ _. (p, (q, (r, named))))) (λ _. (p, (q, (r, named))))
@@ -115,7 +119,8 @@ module _ (s : List ℕ) (c : Cursor) (k : c .at + 8 ≤ c .end) where
 
 -- ---- A run that is done has added a forest; one that is refused has a code and an offset within the known end
 
-record Added (size : ℕ) (kind : Kind) (depth holder from least at end : ℕ) (before : List Row) (stop next : ℕ) (rows : List Row) : Type 0 where
+record Added (size : ℕ) (kind : Kind) (depth holder from least at end : ℕ) (before : List Row) (stop next : ℕ) (rows : List Row) : Type
+    0 where
   rest : List Row
   is : rows ≡ before ++ rest
   start : at ≤ stop
@@ -125,7 +130,8 @@ record Added (size : ℕ) (kind : Kind) (depth holder from least at end : ℕ) (
   forest : Forest size kind depth holder from least rest
 
 abbrev Adds : ℕ → Kind → ℕ → ℕ → ℕ → ℕ → ℕ → ℕ → List Row → Run → Type 0
-Adds size kind depth holder from least at end before (done stop next rows) = Added size kind depth holder from least at end before stop next rows
+Adds size kind depth holder from least at end before (done stop next rows) = Added size kind depth holder from least at end before stop next
+    rows
 Adds size kind depth holder from least at end before (refused code offset) = (1 ≤ code) × ((code ≤ 6) × ((at ≤ offset) × (offset ≤ end)))
 
 -- A run that is done without rows stops where it started.
@@ -135,7 +141,8 @@ Bare at (refused code offset) = Unit {0}
 
 -- Only a sequence and an item have rows below them; without any they are of length 0. A sequence is read where a level is left.
 abbrev Childless : Kind → ℕ → ℕ → ℕ → Run → Type 0
-Childless elements depth vr at (done stop next below) = ((vr ≡ SQ → ⊥) → length below ≡ 0) × (vr ≡ SQ → depth < 8 → length below ≡ 0 → stop ≡ at)
+Childless elements depth vr at (done stop next below) = ((vr ≡ SQ → ⊥) → length below ≡ 0)
+    × (vr ≡ SQ → depth < 8 → length below ≡ 0 → stop ≡ at)
 Childless elements depth vr at (refused code offset) = Unit {0}
 Childless items depth vr at o = Bare at o
 
@@ -145,7 +152,8 @@ Leveled items depth vr = Unit {0}
 
 -- A value whose rows start at row `first`.
 abbrev Inside : ℕ → Kind → ℕ → ℕ → ℕ → Cursor → Run → Type 0
-Inside size kind depth first vr v o = Adds size (kindInside kind) (depthInside kind depth) first first 0 (v .at) (v .end) [] o × Childless kind depth vr (v .at) o
+Inside size kind depth first vr v o = Adds size (kindInside kind) (depthInside kind depth) first first 0 (v .at) (v .end) [] o
+    × Childless kind depth vr (v .at) o
 
 named-member : (size : ℕ) (kind : Kind) (depth holder least tag vr at stop next : ℕ) (below : List Row) → Named kind least tag vr
     → Childless kind depth vr at (done stop next below) → Leveled kind depth vr → depth ≤ 8 → at + 8 * length below ≤ stop → stop ≤ size
@@ -190,7 +198,8 @@ member-first size kind depth holder from least at next end before r below m d f 
       forest = grow m d f (a .forest);
     }
 
-module _ (size : ℕ) (kind : Kind) (depth first : ℕ) (header : ℕ → ℕ → Head) (inside : ℕ → ℕ → Cursor → Run) (c : Cursor) (high : c .end ≤ size) (deep : depth ≤ 8)
+module _ (size : ℕ) (kind : Kind) (depth first : ℕ) (header : ℕ → ℕ → Head) (inside : ℕ → ℕ → Cursor → Run) (c : Cursor)
+    (high : c .end ≤ size) (deep : depth ≤ 8)
     (moves : (at least : ℕ) → at ≤ c .end → Moves kind least (moved c at) (header at least))
     (leveled : (at least tag vr : ℕ) (v : Cursor) → header at least ≡ head.Header tag vr v → Leveled kind depth vr)
     (value : (n vr : ℕ) (v : Cursor) → v .at ≤ v .end → v .end ≤ size → Inside size kind depth n vr v (inside n vr v)) where
@@ -200,7 +209,8 @@ module _ (size : ℕ) (kind : Kind) (depth first : ℕ) (header : ℕ → ℕ �
   level-adds zero from at least before g h t = absurd (omega arith)
   level-adds (suc turns) from at least before g h t =
       on-head (λ next tag r below p q.
-      level-adds turns (from + 1 + length below) next (tag + 1) (before ++ (r ∷ below)) (omega (arith, length-append before (r ∷ below))) p q)
+      level-adds turns (from + 1 + length below) next (tag + 1) (before ++ (r ∷ below)) (omega (arith, length-append before (r ∷ below))) p
+      q)
       (header at least) refl (moves at least h)
     where
       Next : Type 0
@@ -208,29 +218,43 @@ module _ (size : ℕ) (kind : Kind) (depth first : ℕ) (header : ℕ → ℕ �
           → Adds size kind depth first (from + 1 + length below) (tag + 1) next (c .end) (before ++ (r ∷ below))
           (level header inside depth first turns next (tag + 1) (before ++ (r ∷ below)))
 
-      on-run : Next → (tag vr : ℕ) (v : Cursor) → at + 8 ≤ v .at → v .end ≤ c .end → Named kind least tag vr → Leveled kind depth vr → (o : Run) → Inside size kind depth (from + 1) vr v o
+      on-run : Next → (tag vr : ℕ) (v : Cursor) → at + 8 ≤ v .at → v .end ≤ c .end → Named kind least tag vr → Leveled kind depth vr
+          → (o : Run) → Inside size kind depth (from + 1) vr v o
           → Adds size kind depth first from least at (c .end) before (onRun o (λ stop next below.
-          level header inside depth first turns next (tag + 1) (before ++ (row tag vr depth (v .at) (stop - v .at) (length below) first ∷ below))))
+          level header inside depth first turns next (tag + 1)
+          (before ++ (row tag vr depth (v .at) (stop - v .at) (length below) first ∷ below))))
       on-run k tag vr v m n w u (refused code offset) g = omega (arith, g .0)
       on-run k tag vr v m n w u (done stop next below) g =
           let r : Row = row tag vr depth (v .at) (stop - v .at) (length below) first in
           let e : below ≡ g .0 .rest = g .0 .is in
           let f : Forest size (kindInside kind) (depthInside kind depth) (from + 1) (from + 1) 0 below =
-          subst (λ (l : List Row). Forest size (kindInside kind) (depthInside kind depth) (from + 1) (from + 1) 0 l) (sym e) (g .0 .forest) in
+          subst (λ (l : List Row). Forest size (kindInside kind) (depthInside kind depth) (from + 1) (from + 1) 0 l) (sym e)
+          (g .0 .forest) in
           let l : length below ≡ length (g .0 .rest) = ap length e in
           member-first size kind depth first from least at next (c .end) before r below
-          (named-member size kind depth first least tag vr (v .at) stop next below w (g .1) u deep (omega (arith, l, g .0 .few)) (omega (arith, g .0 .close, g .0 .high)))
+          (named-member size kind depth first least tag vr (v .at) stop next below w (g .1) u deep (omega (arith, l, g .0 .few))
+          (omega (arith, g .0 .close, g .0 .high)))
           refl f (omega (arith, l, g .0 .few, g .0 .close)) (level header inside depth first turns next (tag + 1) (before ++ (r ∷ below)))
           (k next tag r below (omega (arith, g .0 .high)) (omega (arith, g .0 .start, g .0 .close)))
 
-      on-head : Next → (h : Head) → header at least ≡ h → Moves kind least (moved c at) h → Adds size kind depth first from least at (c .end) before (onHead h
+      on-head : Next → (h : Head) → header at least ≡ h → Moves kind least (moved c at) h
+          → Adds size kind depth first from least at (c .end) before (onHead h
           (λ code. refused code at)
           (λ next. done at next before)
           (λ tag vr v. onRun (inside (first + length before + 1) vr v) (λ stop next below.
-          level header inside depth first turns next (tag + 1) (before ++ (row tag vr depth (v .at) (stop - v .at) (length below) first ∷ below)))))
+          level header inside depth first turns next (tag + 1)
+          (before ++ (row tag vr depth (v .at) (stop - v .at) (length below) first ∷ below)))))
       on-head k (head.Refused code) e m = (m .0, (m .1, (omega arith, h)))
       on-head k (head.End tag vr next) e m =
-          record { rest = []; is = sym (append-nil before); start = omega arith; close = m .0; high = m .1; few = omega (arith, m .0); forest = empty }
+          record {
+            rest = [];
+            is = sym (append-nil before);
+            start = omega arith;
+            close = m .0;
+            high = m .1;
+            few = omega (arith, m .0);
+            forest = empty;
+          }
       on-head k (head.Header tag vr v) e m =
           on-run k tag vr v (m .0) (m .1 .1 .0) (m .1 .1 .1) (leveled at least tag vr v e) (inside (first + length before + 1) vr v)
           (subst (λ (n : ℕ). Inside size kind depth n vr v (inside (first + length before + 1) vr v)) (omega arith)
@@ -243,7 +267,8 @@ abbrev Long : ℕ → Run → Type 0
 Long n (done stop next rows) = n ≤ length rows
 Long n (refused code offset) = Unit {0}
 
-level-long : (header : ℕ → ℕ → Head) (inside : ℕ → ℕ → Cursor → Run) (depth first turns at least : ℕ) (rows : List Row) (n : ℕ) → n ≤ length rows
+level-long : (header : ℕ → ℕ → Head) (inside : ℕ → ℕ → Cursor → Run) (depth first turns at least : ℕ) (rows : List Row) (n : ℕ)
+    → n ≤ length rows
     → Long n (level header inside depth first turns at least rows)
 unfolding level
 level-long header inside depth first zero at least rows n h = tt
@@ -254,14 +279,17 @@ level-long header inside depth first (suc turns) at least rows n h =
     Next = (next tag : ℕ) (more : List Row) → n ≤ length more → Long n (level header inside depth first turns next (tag + 1) more)
 
     on-run : Next → (tag vr : ℕ) (v : Cursor) (o : Run) → Long n (onRun o (λ stop next below.
-        level header inside depth first turns next (tag + 1) (rows ++ (row tag vr depth (v .at) (stop - v .at) (length below) first ∷ below))))
+        level header inside depth first turns next (tag + 1)
+        (rows ++ (row tag vr depth (v .at) (stop - v .at) (length below) first ∷ below))))
     on-run k tag vr v (refused code offset) = tt
     on-run k tag vr v (done stop next below) =
         k next tag (rows ++ (row tag vr depth (v .at) (stop - v .at) (length below) first ∷ below))
         (omega (arith, h, length-append rows (row tag vr depth (v .at) (stop - v .at) (length below) first ∷ below)))
 
-    on-head : Next → (x : Head) → Long n (onHead x (λ code. refused code at) (λ next. done at next rows) (λ tag vr v. onRun (inside (first + length rows + 1) vr v) (λ stop next below.
-        level header inside depth first turns next (tag + 1) (rows ++ (row tag vr depth (v .at) (stop - v .at) (length below) first ∷ below)))))
+    on-head : Next → (x : Head) → Long n (onHead x (λ code. refused code at) (λ next. done at next rows)
+        (λ tag vr v. onRun (inside (first + length rows + 1) vr v) (λ stop next below.
+        level header inside depth first turns next (tag + 1)
+        (rows ++ (row tag vr depth (v .at) (stop - v .at) (length below) first ∷ below)))))
     on-head k (head.Refused code) = tt
     on-head k (head.End tag vr next) = h
     on-head k (head.Header tag vr v) = on-run k tag vr v (inside (first + length rows + 1) vr v)
@@ -270,7 +298,8 @@ long-bare : (at : ℕ) (o : Run) → Long 1 o → Bare at o
 long-bare at (refused code offset) h = tt
 long-bare at (done stop next rows) h = λ e. absurd (omega (arith, h, e))
 
-level-bare : (header : ℕ → ℕ → Head) (inside : ℕ → ℕ → Cursor → Run) (depth first turns at least : ℕ) → Bare at (level header inside depth first turns at least [])
+level-bare : (header : ℕ → ℕ → Head) (inside : ℕ → ℕ → Cursor → Run) (depth first turns at least : ℕ)
+    → Bare at (level header inside depth first turns at least [])
 unfolding level
 level-bare header inside depth first zero at least = tt
 level-bare header inside depth first (suc turns) at least = on-head (header at least)
@@ -279,10 +308,13 @@ level-bare header inside depth first (suc turns) at least = on-head (header at l
         level header inside depth first turns next (tag + 1) (row tag vr depth (v .at) (stop - v .at) (length below) first ∷ below)))
     on-run tag vr v (refused code offset) = tt
     on-run tag vr v (done stop next below) =
-        long-bare at (level header inside depth first turns next (tag + 1) (row tag vr depth (v .at) (stop - v .at) (length below) first ∷ below))
-        (level-long header inside depth first turns next (tag + 1) (row tag vr depth (v .at) (stop - v .at) (length below) first ∷ below) 1 (omega arith))
+        long-bare at
+        (level header inside depth first turns next (tag + 1) (row tag vr depth (v .at) (stop - v .at) (length below) first ∷ below))
+        (level-long header inside depth first turns next (tag + 1) (row tag vr depth (v .at) (stop - v .at) (length below) first ∷ below) 1
+        (omega arith))
 
-    on-head : (x : Head) → Bare at (onHead x (λ code. refused code at) (λ next. done at next []) (λ tag vr v. onRun (inside (first + 0 + 1) vr v) (λ stop next below.
+    on-head : (x : Head) → Bare at
+        (onHead x (λ code. refused code at) (λ next. done at next []) (λ tag vr v. onRun (inside (first + 0 + 1) vr v) (λ stop next below.
         level header inside depth first turns next (tag + 1) (row tag vr depth (v .at) (stop - v .at) (length below) first ∷ below))))
     on-head (head.Refused code) = tt
     on-head (head.End tag vr next) = λ _. refl
@@ -290,27 +322,34 @@ level-bare header inside depth first (suc turns) at least = on-head (header at l
 
 -- ---- The whole
 
-by-cond : (t : Bool) (size : ℕ) (depth first vr : ℕ) (v : Cursor) (a b : Run) → (t ≡ true → Inside size elements depth first vr v a) → (t ≡ false → Inside size elements depth first vr v b)
+by-cond : (t : Bool) (size : ℕ) (depth first vr : ℕ) (v : Cursor) (a b : Run) → (t ≡ true → Inside size elements depth first vr v a)
+    → (t ≡ false → Inside size elements depth first vr v b)
     → Inside size elements depth first vr v (cond t a b)
 by-cond true size depth first vr v a b p q = p refl
 by-cond false size depth first vr v a b p q = q refl
 
-leaf-inside : (size depth first vr : ℕ) (v : Cursor) → v .at ≤ v .end → (vr ≡ SQ → depth < 8 → ⊥) → Inside size elements depth first vr v (done (v .end) (v .end) [])
-leaf-inside size depth first vr v p n =
-    (record { rest = []; is = refl; start = p; close = omega arith; high = omega arith; few = omega (arith, p); forest = empty }, (λ _. refl, λ e d. absurd (n e d)))
+leaf-inside : (size depth first vr : ℕ) (v : Cursor) → v .at ≤ v .end → (vr ≡ SQ → depth < 8 → ⊥)
+    → Inside size elements depth first vr v (done (v .end) (v .end) [])
+leaf-inside size depth first vr v p n = (
+  record { rest = []; is = refl; start = p; close = omega arith; high = omega arith; few = omega (arith, p); forest = empty },
+  (λ _. refl, λ e d. absurd (n e d)),
+)
 
 -- A run over items is no leaf's.
-items-inside : (size depth first vr : ℕ) (v : Cursor) (o : Run) → vr ≡ SQ → Adds size items (depth + 1) first first 0 (v .at) (v .end) [] o → Bare (v .at) o
+items-inside : (size depth first vr : ℕ) (v : Cursor) (o : Run) → vr ≡ SQ → Adds size items (depth + 1) first first 0 (v .at) (v .end) [] o
+    → Bare (v .at) o
     → Inside size elements depth first vr v o
 items-inside size depth first vr v (refused code offset) e a b = (a, tt)
 items-inside size depth first vr v (done stop next below) e a b = (a, (λ n. absurd (n e), λ _ _. b))
 
 elements-adds : (levels : ℕ) (s : List ℕ) → levels ≤ 8
-    → ((n vr : ℕ) (v : Cursor) → v .at ≤ v .end → v .end ≤ length s → Inside (length s) elements (8 - levels) n vr v (valueRun levels s n vr v))
+    → ((n vr : ℕ) (v : Cursor) → v .at ≤ v .end → v .end ≤ length s
+    → Inside (length s) elements (8 - levels) n vr v (valueRun levels s n vr v))
     → (first : ℕ) (c : Cursor) → c .at ≤ c .end → c .end ≤ length s
     → Adds (length s) elements (8 - levels) first first 0 (c .at) (c .end) [] (elementsAt levels s first c)
 elements-adds levels s d inside first c p q =
-    level-adds (length s) elements (8 - levels) first (λ at least. elementAt s (moved c at) least levels) (valueRun levels s) c q (omega arith)
+    level-adds (length s) elements (8 - levels) first (λ at least. elementAt s (moved c at) least levels) (valueRun levels s) c q
+    (omega arith)
     (λ at least r. header-moves elements least (moved c at) _ r (λ k. tagged-moves s (moved c at) k _ least levels))
     (λ at least tag vr v e q. let k : 1 ≤ levels = sequence-level levels s (moved c at) least e q in omega (arith, d, k)) inside
     (length s + 1) first (c .at) 0 [] (sym (add-zero first)) p (omega arith)
@@ -357,7 +396,8 @@ reading-reads s = by-size (ltb largest (length s)) refl
     by-run h (refused code offset) a = omega (arith, a)
     by-run h (done stop next rows) a =
         let e : rows ≡ a .rest = a .is in
-        let f : Forest (length s) elements 0 0 0 0 rows = subst (λ (l : List Row). Forest (length s) elements 0 0 0 0 l) (sym e) (a .forest) in
+        let f : Forest (length s) elements 0 0 0 0 rows = subst (λ (l : List Row). Forest (length s) elements 0 0 0 0 l) (sym e)
+        (a .forest) in
         let l : length rows ≡ length (a .rest) = ap length e in
         record { forest = f; sparse = omega (arith, l, a .few, a .close, a .high); small = omega (arith, l, a .few, a .close, a .high) }
 
@@ -386,7 +426,8 @@ module _ (all : List Row) (size : ℕ) where
   abbrev Stand : List Row → ℕ → Type 0
   Stand rows i = (k : ℕ) → k < length rows → rowAt all (i + k) ≡ rowAt rows k
 
-  forest-members : {kind : Kind} {depth holder i least : ℕ} {rows : List Row} → Forest size kind depth holder i least rows → (to : ℕ) → Stand rows i → i + length rows ≡ to
+  forest-members : {kind : Kind} {depth holder i least : ℕ} {rows : List Row} → Forest size kind depth holder i least rows → (to : ℕ)
+      → Stand rows i → i + length rows ≡ to
       → Members all size kind depth holder least i to
   forest-members (empty {from = i}) to s e = let z : i ≡ to = omega arith in Members.end z
   forest-members (grow {kind} {depth} {holder} {from = i} {least} {r} {below} {rest} m d f g) to s e =
@@ -400,11 +441,13 @@ module _ (all : List Row) (size : ℕ) where
       (subst (λ (x : Row). Members all size kind depth holder (x .tag + 1) (nextRow all i) to) (sym a)
       (subst (λ (k : ℕ). Members all size kind depth holder (r .tag + 1) k to) (sym n)
       (forest-members g to
-      (λ k h. at (i + 1 + length below + k) (suc (length below + k)) (omega arith) (omega arith) ∙ getD-append-add below rest k noRow) (omega arith))))
+      (λ k h. at (i + 1 + length below + k) (suc (length below + k)) (omega arith) (omega arith) ∙ getD-append-add below rest k noRow)
+      (omega arith))))
     where
       at : (j k : ℕ) → j ≡ i + k → k < length (r ∷ (below ++ rest)) → rowAt all j ≡ rowAt (r ∷ (below ++ rest)) k
       at j k p h = ap (rowAt all) p ∙ s k h
 
 pub rows-members : (s : List ℕ) → Members (rowsOf s) (length s) elements 0 0 0 0 (length (rowsOf s))
 rows-members s =
-    forest-members (rowsOf s) (length s) (rows-read s .forest) (length (rowsOf s)) (λ k _. ap (rowAt (rowsOf s)) (zero-add k)) (zero-add (length (rowsOf s)))
+    forest-members (rowsOf s) (length s) (rows-read s .forest) (length (rowsOf s)) (λ k _. ap (rowAt (rowsOf s)) (zero-add k))
+    (zero-add (length (rowsOf s)))

@@ -42,16 +42,19 @@ unfolding readingOf
 too-large s buffer h = rw (lt-ltb largest (length s) h) (promised refl, refl)
 
 module _ (s buffer : List ℕ) (h : length s ≤ largest) {part after : List ℕ} where
-  pub refusal : {code offset : ℕ} → Walked (elementsAt 8 s 0 (all s)) (all s) 0 part after (walk.Refused code offset) → Read s buffer (answer.Refused code offset) buffer
+  pub refusal : {code offset : ℕ} → Walked (elementsAt 8 s 0 (all s)) (all s) 0 part after (walk.Refused code offset)
+      → Read s buffer (answer.Refused code offset) buffer
   refusal w = rw (reading-small s h ∙ ap whole (stopped (elementsAt 8 s 0 (all s)) w .0)) (promised refl, refl)
 
   module _ {stop next n : ℕ} (w : Walked (elementsAt 8 s 0 (all s)) (all s) 0 part after (walk.Done stop next n)) where
     pub no-room : length buffer / 7 < n → Read s buffer answer.NoRoom buffer
     no-room k =
         let b = below (elementsAt 8 s 0 (all s)) w in
-        rw (reading-small s h ∙ ap whole (b .is), lt-leb (7 * length (b .rows)) (length buffer) (omega (arith, b .count))) (promised refl, refl)
+        rw (reading-small s h ∙ ap whole (b .is), lt-leb (7 * length (b .rows)) (length buffer) (omega (arith, b .count)))
+        (promised refl, refl)
 
-    pub filled : {last : List ℕ} {r : Walk} → n ≤ length buffer / 7 → Walked (elementsAt 8 s 0 (all s)) (all s) 0 buffer last r → Read s buffer (answer.Done n) last
+    pub filled : {last : List ℕ} {r : Walk} → n ≤ length buffer / 7 → Walked (elementsAt 8 s 0 (all s)) (all s) 0 buffer last r
+        → Read s buffer (answer.Done n) last
     filled {last} k v =
         let b = below (elementsAt 8 s 0 (all s)) w in
         let room : 7 * length (b .rows) ≤ length buffer = omega (arith, b .count) in
@@ -66,10 +69,12 @@ unfolding readingOf
 uncounted s h = rw (lt-ltb largest (length s) h) refl
 
 module _ (s : List ℕ) (h : length s ≤ largest) {part after : List ℕ} where
-  pub refused-count : {code offset : ℕ} → Walked (elementsAt 8 s 0 (all s)) (all s) 0 part after (walk.Refused code offset) → answer.Refused code offset ≡ countOf (readingOf s)
+  pub refused-count : {code offset : ℕ} → Walked (elementsAt 8 s 0 (all s)) (all s) 0 part after (walk.Refused code offset)
+      → answer.Refused code offset ≡ countOf (readingOf s)
   refused-count w = rw (reading-small s h ∙ ap whole (stopped (elementsAt 8 s 0 (all s)) w .0)) refl
 
-  pub counted : {stop next n : ℕ} → Walked (elementsAt 8 s 0 (all s)) (all s) 0 part after (walk.Done stop next n) → answer.Done n ≡ countOf (readingOf s)
+  pub counted : {stop next n : ℕ} → Walked (elementsAt 8 s 0 (all s)) (all s) 0 part after (walk.Done stop next n)
+      → answer.Done n ≡ countOf (readingOf s)
   counted w =
       let b = below (elementsAt 8 s 0 (all s)) w in
       rw (reading-small s h ∙ ap whole (b .is)) (ap (λ (m : ℕ). answer.Done m) (omega (arith, b .count)))

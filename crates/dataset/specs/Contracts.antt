@@ -18,7 +18,8 @@ use Rattle.dataset.specs.Answer.{flat, width}
 
 -- A header moves on by 8 bytes at least and stays within the known end; a refusal has one of the codes 1 to 6.
 abbrev pub Within : Cursor → Head → Type 0
-Within c (head.Header tag vr value) = (c .at + 8 ≤ value .at) × ((value .at ≤ value .end) × ((value .end ≤ c .end) × ((tag < 4294967296) × (vr < 65536))))
+Within c (head.Header tag vr value) = (c .at + 8 ≤ value .at)
+    × ((value .at ≤ value .end) × ((value .end ≤ c .end) × ((tag < 4294967296) × (vr < 65536))))
 Within c (head.End tag vr next) = (c .at ≤ next .at) × (next .at ≤ c .end)
 Within c (head.Refused code) = (1 ≤ code) × (code ≤ 6)
 
@@ -32,7 +33,8 @@ RunWithin c (refused code offset) = (1 ≤ code) × ((code ≤ 6) × ((c .at ≤
 
 -- A buffer with room for the rows, numbered from `first`, holds them afterwards.
 abbrev pub Wrote : ℕ → Run → List ℕ → List ℕ → Type 0
-Wrote first (done stop next rows) buffer after = width * (first + length rows) ≤ length buffer → after ≡ sets buffer (width * first) (flat rows)
+Wrote first (done stop next rows) buffer after = width * (first + length rows) ≤ length buffer
+    → after ≡ sets buffer (width * first) (flat rows)
 Wrote first (refused code offset) buffer after = Unit {0}
 
 pub record Walked (run : Run) (c : Cursor) (first : ℕ) (buffer after : List ℕ) (answer : Walk) : Type 0 where
@@ -42,7 +44,8 @@ pub record Walked (run : Run) (c : Cursor) (first : ℕ) (buffer after : List �
 
 -- Rows written into what a given up walk left behind are as if written into what it began with.
 abbrev pub Replaced : ℕ → Run → List ℕ → List ℕ → Type 0
-Replaced first (done stop next rows) buffer after = width * (first + length rows) ≤ length buffer → sets after (width * first) (flat rows) ≡ sets buffer (width * first) (flat rows)
+Replaced first (done stop next rows) buffer after = width * (first + length rows) ≤ length buffer
+    → sets after (width * first) (flat rows) ≡ sets buffer (width * first) (flat rows)
 Replaced first (refused code offset) buffer after = Unit {0}
 
 -- What a walk that may be given up says.

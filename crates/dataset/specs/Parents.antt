@@ -33,15 +33,17 @@ abbrev pub Meets : List Row → ℕ → ℕ → Type 0
 Meets rows i j = (more : ℕ) × (climb rows (suc more) (suc i) ≡ suc j)
 
 -- What holds of row i. `counts` and `meets`: following the number meets a row exactly if that row counts row i among its rows below.
--- `descends`: from row j it leads to a row before row j, or to the root; so each row that is met stands inside the next. `ends`: 0 within 17
--- steps. `item`, `element`, `root`: what a row stands in, and at which depth.
+-- `descends`: from row j it leads to a row before row j, or to the root; so each row that is met stands inside the next. `ends`: 0 within
+-- 17 steps. `item`, `element`, `root`: what a row stands in, and at which depth.
 pub record Parented (rows : List Row) (i : ℕ) : Type 0 where
   pub counts : (j : ℕ) → Meets rows i j → Counts rows j i
   pub meets : (j : ℕ) → Counts rows j i → Meets rows i j
   pub descends : (steps j : ℕ) → climb rows steps (suc i) ≡ suc j → climb rows (suc steps) (suc i) ≤ j
   pub ends : (steps : ℕ) × ((steps ≤ 17) × (climb rows steps (suc i) ≡ 0))
-  pub item : (j : ℕ) → rowAt rows i .parent ≡ suc j → rowAt rows i .vr ≡ 0 → (rowAt rows j .vr ≡ SQ) × (rowAt rows i .depth ≡ rowAt rows j .depth + 1)
-  pub element : (j : ℕ) → rowAt rows i .parent ≡ suc j → (rowAt rows i .vr ≡ 0 → ⊥) → (rowAt rows j .vr ≡ 0) × (rowAt rows i .depth ≡ rowAt rows j .depth)
+  pub item : (j : ℕ) → rowAt rows i .parent ≡ suc j → rowAt rows i .vr ≡ 0
+      → (rowAt rows j .vr ≡ SQ) × (rowAt rows i .depth ≡ rowAt rows j .depth + 1)
+  pub element : (j : ℕ) → rowAt rows i .parent ≡ suc j → (rowAt rows i .vr ≡ 0 → ⊥)
+      → (rowAt rows j .vr ≡ 0) × (rowAt rows i .depth ≡ rowAt rows j .depth)
   pub root : rowAt rows i .parent ≡ 0 → (rowAt rows i .vr ≡ 0 → ⊥) × (rowAt rows i .depth ≡ 0)
 
 -- Of every row of every data set that reads well; a data set that does not has no row.

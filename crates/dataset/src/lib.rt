@@ -5,9 +5,8 @@ ghost use Prim.Native.Nat.{_+_, _-_, _*_, _≤_, _<_};
 ghost use mathlib.Core.List.{[], _∷_};
 ghost use lib.ListN.{length};
 ghost use lib.Seq.{sets};
-ghost use Rattle.basics.specs.Bytes.{le16, le32, tagAt, vrAt};
-ghost use Rattle.basics.specs.Vr.{formOf};
-ghost use Rattle.dataset.specs.Header.{moved, delimiterBy, levelBy, definedBy, longBy, typedAt, taggedAt, sizedBy, memberAt, elementAt, itemAt};
+ghost use Rattle.dataset.specs.Header.{moved, delimiterBy, levelBy, definedBy, longBy, typedAt, taggedAt, sizedBy, memberAt};
+ghost use Rattle.dataset.specs.Header.{elementAt, itemAt};
 ghost use Rattle.dataset.specs.Reading.{elementsAt, itemsAt, readingOf, row};
 ghost use Rattle.basics.specs.Limits.{largest};
 ghost use Rattle.basics.specs.Fields.{Answers};
@@ -120,7 +119,8 @@ impl Cursor {
 
     // A value within the cursor's end; a sequence needs a level below it.
     fn level(self, tag: usize, vr: usize, levels: usize, value: Cursor) -> Head
-        requires { ⌜ (self .at + 8 ≤ value .at) × ((value .at ≤ value .end) × ((value .end ≤ self .end) × ((tag < 4294967296) × (vr < 65536)))) ⌝ }
+        requires { ⌜ (self .at + 8 ≤ value .at)
+            × ((value .at ≤ value .end) × ((value .end ≤ self .end) × ((tag < 4294967296) × (vr < 65536)))) ⌝ }
         ensures { λ r. ⌜ r ≡ levelBy tag vr levels value ⌝ }
         ensures { λ r. ⌜ Within self r ⌝ }
     {
@@ -303,9 +303,11 @@ fn put_row(
     m: usize,
     first: usize,
 )
-    requires { ⌜ (levels ≤ 8) × ((8 * n + 8 ≤ start) × ((start ≤ stop) × ((n < m) × ((first ≤ n) × ((tag < 4294967296) × (vr < 65536)))))) ⌝ }
+    requires { ⌜ (levels ≤ 8)
+        × ((8 * n + 8 ≤ start) × ((start ≤ stop) × ((n < m) × ((first ≤ n) × ((tag < 4294967296) × (vr < 65536)))))) ⌝ }
     requires { ⌜ (width * n + width ≤ length (now rows) → (stop ≤ largest) × (m ≤ largest)) ⌝ }
-    ensures { λ _. ⌜ (width * n + width ≤ length (now (rows .entry)) → now (rows .exit) ≡ sets (now (rows .entry)) (width * n) (flat (row tag vr (8 - levels) start (stop - start) (m - n - 1) first ∷ []))) ⌝ }
+    ensures { λ _. ⌜ (width * n + width ≤ length (now (rows .entry))
+        → now (rows .exit) ≡ sets (now (rows .entry)) (width * n) (flat (row tag vr (8 - levels) start (stop - start) (m - n - 1) first ∷ []))) ⌝ }
 {
     let i = WIDTH * n;
     if i + WIDTH <= rows.len() {

@@ -6,7 +6,7 @@ use mathlib.Core.Option.{Option, none, some}
 use Prim.Native.Nat.{ℕ}
 use native.Mathlib.Omega.{arith}
 use borrow.Author.Tests.{le-leb}
-use Rattle.value.specs.declared.Num.the-variants.{Lacks}
+use Rattle.value.specs.declared.Num.the-variants.{None}
 use Rattle.value.specs.declared.Signed.{Signed}
 use Rattle.value.specs.declared.Signed.the-variants as signed
 use Rattle.value.specs.Number.{isNumber}
@@ -30,20 +30,22 @@ use Rattle.display.proofs.Given.{never}
 short-is : (x : Signed) → isNumber x ≡ true → SizeBelow 257 x → isShort x ≡ true
 short-is (signed.Plus n) e h = le-leb n 256 (omega arith)
 short-is (signed.Minus n) e h = le-leb n 256 (omega arith)
-short-is signed.Lacks e h = e
+short-is signed.None e h = e
 
 is-shift : (s : Shift) → Short (movesOf s) → isShiftOf s ≡ true
 unfolding isShiftOf
 is-shift s h = rw (short-is (movesOf s .vertical) (h .0) (h .1 .1 .0), short-is (movesOf s .horizontal) (h .1 .0) (h .1 .1 .1))
 
 -- The short moves of the shift that a step gave are the step's moves.
-checked-moves : (t : Bool) (s : Shift) (m : Moves) → check t (some (movesOf s)) ≡ some m → Short m → check t (some (movesOf s)) ≡ some (shortMovesOf s)
+checked-moves : (t : Bool) (s : Shift) (m : Moves) → check t (some (movesOf s)) ≡ some m → Short m
+    → check t (some (movesOf s)) ≡ some (shortMovesOf s)
 checked-moves true s m e h =
     let q : m ≡ movesOf s = cc in
     ap some (moves-short s (is-shift s (subst Short q h)))
 checked-moves false s m e h = absurd (never e)
 
-pub moves-are : (ns : List Node) (f j : ℕ) (s : Shift) → shiftFor ns f j ≡ some s → GivesMoves (movesFor ns f j) → movesFor ns f j ≡ some (shortMovesOf s)
+pub moves-are : (ns : List Node) (f j : ℕ) (s : Shift) → shiftFor ns f j ≡ some s → GivesMoves (movesFor ns f j)
+    → movesFor ns f j ≡ some (shortMovesOf s)
 unfolding movesFor
 moves-are ns f j s e g =
     let u : movesFor ns f j ≡ check (isNumber (movesOf s .vertical) && isNumber (movesOf s .horizontal)) (some (movesOf s)) = rw e in
@@ -64,10 +66,6 @@ gives-moves n ks (some mv) g =
 
 pub gives-same : (n : ℕ) (o p : Option Mask) → o ≡ p → Gives n o → Gives n p
 gives-same n o p e g = subst (Gives n) e g
-
--- A step that lacks something gives no mask.
-pub gives-none : (n : ℕ) (o : Option Mask) → o ≡ none → Gives n o → ⊥
-gives-none n o e g = never (sym e ∙ g .mask)
 
 -- A mask item's steps 3 and 4 go by its operation.
 pub by-operation : (ns : List Node) (f j : ℕ) → maskBy ns f j ≡ operated ns f j (operationOf ns j)

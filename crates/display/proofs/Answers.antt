@@ -8,7 +8,7 @@ use native.Mathlib.Omega.{arith}
 use lib.ListN.{length}
 use lib.Dec.{leb}
 use borrow.Author.Tests.{le-leb, lt-leb}
-use Rattle.value.specs.declared.Num.the-variants.{Is, Lacks}
+use Rattle.value.specs.declared.Num.the-variants.{Is, None}
 use Rattle.node.specs.Nodes.{Node}
 use Rattle.element.specs.Frames.{framesOf}
 use Rattle.display.specs.declared.ShowAnswer.the-variants as shown
@@ -26,7 +26,7 @@ pub low-frame : (f n : ℕ) → f < 1 → leb 1 f && leb f n ≡ false
 low-frame f n h = rw (lt-leb 1 f h)
 
 module _ (ns : List Node) (f : ℕ) (image : List ℕ) (count : ℕ) where
-  pub no-frames : framesOf ns ≡ Lacks → shown.NoFrame ≡ acceptedAnswer ns f image count
+  pub no-frames : framesOf ns ≡ None → shown.NoFrame ≡ acceptedAnswer ns f image count
   unfolding acceptedAnswer
   no-frames e = rw (e, none-frame f)
 

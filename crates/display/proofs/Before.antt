@@ -11,7 +11,7 @@ use lib.Dec.{eqb, leb}
 use borrow.Author.Tests.{eqb-true, eq-eqb, lt-ltb}
 use Rattle.basics.specs.Vr.{SQ, FL}
 use Rattle.value.specs.declared.Num.{Num}
-use Rattle.value.specs.declared.Num.the-variants.{Is, Lacks}
+use Rattle.value.specs.declared.Num.the-variants.{Is, None}
 use Rattle.value.specs.Text.{ascii}
 use Rattle.value.specs.Number.{isNumber}
 use Rattle.shift.specs.declared.Shift.{Shift}
@@ -43,23 +43,28 @@ use Rattle.window.specs.declared.Window.{Window}
 use Rattle.steps.specs.declared.Applying.{Applying}
 use Rattle.steps.specs.declared.Applying.the-variants.{Item, Nothing}
 use Rattle.steps.specs.Given.{need, check, then, collect}
-use Rattle.steps.specs.Steps.{Mask, native, masked, geometryOf, pixelsOf, applyingTo, averageFrames, tidFrame, naming, ownIn, itemShiftAt, shiftFrom, shiftFor, movesFor, onTid, maskBy, maskOn, maskFor, windowFor, inverseOf, maskedCell, pictureBy, stepsOf}
-use Rattle.display.specs.Before.{wasShiftAt, shiftFitted, rule35Before, wasShiftItem, wasShiftGroup, item37Before, rule37Before, ruleBefore, AcceptedBefore, movesBefore, onTidBefore, maskByBefore, maskOnBefore, maskForBefore, maskedCellBefore, pictureBefore, stepsBefore, KeepsPictures, SamePictures}
+use Rattle.steps.specs.Steps.{Mask, native, masked, geometryOf, pixelsOf, applyingTo, averageFrames, tidFrame, naming, ownIn, itemShiftAt}
+use Rattle.steps.specs.Steps.{shiftFrom, shiftFor, movesFor, onTid, maskBy, maskOn, maskFor, windowFor, inverseOf, maskedCell, pictureBy}
+use Rattle.steps.specs.Steps.{stepsOf}
+use Rattle.display.specs.Before.{wasShiftAt, shiftFitted, rule35Before, wasShiftItem, wasShiftGroup, item37Before, rule37Before}
+use Rattle.display.specs.Before.{ruleBefore, AcceptedBefore, movesBefore, onTidBefore, maskByBefore, maskOnBefore, maskForBefore}
+use Rattle.display.specs.Before.{maskedCellBefore, pictureBefore, stepsBefore, KeepsPictures, SamePictures}
 use Rattle.display.proofs.Given.{never, check-some, then-some}
 use Rattle.display.proofs.Small.{us-in-small}
 use Rattle.display.proofs.Objects.{object, windowed}
 use Rattle.display.proofs.Masks as applying
-use Rattle.display.proofs.Masks.{had, both-true, checked, Among, every-at, Applies, nothing, applies, Named, unnamed, named, names, id-had, shift-ids, group-for, r31, r36, ranges, masking}
+use Rattle.display.proofs.Masks.{had, both-true, checked, Among, every-at, Applies, nothing, applies, Named, unnamed, named, names}
+use Rattle.display.proofs.Masks.{id-had, shift-ids, group-for, r31, r36, ranges, masking}
 use Rattle.display.proofs.Lacking.{nothing-lacks}
 
 -- ---- Rules
 
 present-more : (o : Num) (p q : ℕ → Bool) → ((k : ℕ) → p k ≡ true → q k ≡ true) → ifPresent o p ≡ true → ifPresent o q ≡ true
-present-more Lacks p q f e = e
+present-more None p q f e = e
 present-more (Is k) p q f e = f k e
 
 holds-more : (o : Num) (p q : ℕ → Bool) → ((k : ℕ) → p k ≡ true → q k ≡ true) → holds o p ≡ true → holds o q ≡ true
-holds-more Lacks p q f e = e
+holds-more None p q f e = e
 holds-more (Is k) p q f e = f k e
 
 every-more : (l : List ℕ) (p q : ℕ → Bool) → ((k : ℕ) → p k ≡ true → q k ≡ true) → every p l ≡ true → every q l ≡ true
@@ -87,7 +92,8 @@ module _ (ns : List Node) where
   unfolding wasShiftItem isShiftItem
   item j e =
       let a = and-both (hasId ns j) _ e in
-      rw (a .0) (holds-more (findVr ns Tags.MaskSubPixelShift FL (inside ns j)) _ _ (λ k w. as-item (valueAt ns k) ∙ whole-shift (valueAt ns k) w) (a .1))
+      rw (a .0) (holds-more (findVr ns Tags.MaskSubPixelShift FL (inside ns j)) _ _
+      (λ k w. as-item (valueAt ns k) ∙ whole-shift (valueAt ns k) w) (a .1))
 
   group : (g : ℕ) → wasShiftGroup ns g ≡ true → isShiftGroup ns g ≡ true
   unfolding wasShiftGroup isShiftGroup
@@ -108,7 +114,8 @@ module _ (ns : List Node) where
   unfolding ruleBefore ruleAt ruleList
   kept-rule rule f = go (eqb rule 35) refl (eqb rule 37) refl
     where
-      go : (a : Bool) → eqb rule 35 ≡ a → (b : Bool) → eqb rule 37 ≡ b → cond a (rule35Before ns) (cond b (rule37Before ns f) (ruleAt ns rule f)) ≡ true → ruleAt ns rule f ≡ true
+      go : (a : Bool) → eqb rule 35 ≡ a → (b : Bool) → eqb rule 37 ≡ b
+          → cond a (rule35Before ns) (cond b (rule37Before ns f) (ruleAt ns rule f)) ≡ true → ruleAt ns rule f ≡ true
       go true p b q e = rw (eqb-true rule 35 p) (kept-35 e)
       go false p true q e = rw (eqb-true rule 37 q) (kept-37 f e)
       go false p false q e = e
@@ -134,7 +141,8 @@ module _ (ns : List Node) (f j : ℕ) where
       let d : wholeMovesOf (a .0) ≡ m = cc (b .1) in
       rw (a .1 .0, whole-moves (a .0) (c .0) (c .1), whole-numbers (wholeMovesOf (a .0)) (c .0) (c .1), d)
 
-  masked-now : (ks : List ℕ) (m : Mask) → then (movesBefore ns f j) (λ x. some (masked ks x)) ≡ some m → then (movesFor ns f j) (λ x. some (masked ks x)) ≡ some (inQuarters m)
+  masked-now : (ks : List ℕ) (m : Mask) → then (movesBefore ns f j) (λ x. some (masked ks x)) ≡ some m
+      → then (movesFor ns f j) (λ x. some (masked ks x)) ≡ some (inQuarters m)
   masked-now ks m e =
       let a = then-some (movesBefore ns f j) _ e in
       let d : masked ks (a .0) ≡ m = cc (a .1 .1) in
@@ -145,12 +153,14 @@ module _ (ns : List Node) (f j : ℕ) where
   mask-now m = go (operationIs ns (ascii "NONE") j) (operationIs ns (ascii "AVG_SUB") j) (operationIs ns (ascii "TID") j)
     where
       tid : (o : Num) → onTidBefore ns f j o ≡ some m → onTid ns f j o ≡ some (inQuarters m)
-      tid Lacks e = let d : native ≡ m = cc in ap some (ap inQuarters d)
+      tid None e = let d : native ≡ m = cc in ap some (ap inQuarters d)
       tid (Is k) e = masked-now (k ∷ []) m e
 
       go : (a b c : Bool)
-          → cond a (some native) (cond b (then (averageFrames ns j) (λ ks. then (movesBefore ns f j) (λ x. some (masked ks x)))) (cond c (then (tidFrame ns f j) (onTidBefore ns f j)) none)) ≡ some m
-          → cond a (some native) (cond b (then (averageFrames ns j) (λ ks. then (movesFor ns f j) (λ x. some (masked ks x)))) (cond c (then (tidFrame ns f j) (onTid ns f j)) none)) ≡ some (inQuarters m)
+          → cond a (some native) (cond b (then (averageFrames ns j) (λ ks. then (movesBefore ns f j) (λ x. some (masked ks x))))
+          (cond c (then (tidFrame ns f j) (onTidBefore ns f j)) none)) ≡ some m
+          → cond a (some native) (cond b (then (averageFrames ns j) (λ ks. then (movesFor ns f j) (λ x. some (masked ks x))))
+          (cond c (then (tidFrame ns f j) (onTid ns f j)) none)) ≡ some (inQuarters m)
       go true b c e = let d : native ≡ m = cc in ap some (ap inQuarters d)
       go false true c e =
           let a = then-some (averageFrames ns j) _ e in
@@ -176,18 +186,26 @@ collect-same f h zero e = refl
 collect-same f h (suc n) e = rw (collect-same f h n (λ i l. e i (omega arith)), e n (omega arith))
 
 -- Cell for cell.
-cell-same : (g : Geometry) (v : List ℕ) (f : ℕ) (ks : List ℕ) (m : Moves) (w : Window) (inverse : Bool) (i : ℕ) → i < samplesOf g → maskedCellBefore g v f ks m w inverse i ≡ maskedCell g v f ks (movesInQuarters m) w inverse i
+cell-same : (g : Geometry) (v : List ℕ) (f : ℕ) (ks : List ℕ) (m : Moves) (w : Window) (inverse : Bool) (i : ℕ) → i < samplesOf g
+    → maskedCellBefore g v f ks m w inverse i ≡ maskedCell g v f ks (movesInQuarters m) w inverse i
 unfolding maskedCellBefore maskedCell
-cell-same g v f ks m w inverse i inside = rw (lt-ltb (sourceOf g m i) (samplesOf g) (source-below g m i inside), are-inside g (movesInQuarters m) i inside, agree g v ks m i inside)
+cell-same g v f ks m w inverse i inside = rw (
+  lt-ltb (sourceOf g m i) (samplesOf g) (source-below g m i inside),
+  are-inside g (movesInQuarters m) i inside,
+  agree g v ks m i inside,
+)
 
-picture-same : (g : Geometry) (v : List ℕ) (f : ℕ) (w : Window) (inverse : Bool) (m : Mask) → pictureBefore g v f w inverse m ≡ pictureBy g v f w inverse (inQuarters m)
+picture-same : (g : Geometry) (v : List ℕ) (f : ℕ) (w : Window) (inverse : Bool) (m : Mask)
+    → pictureBefore g v f w inverse m ≡ pictureBy g v f w inverse (inQuarters m)
 unfolding pictureBefore pictureBy
 picture-same g v f w inverse native = refl
-picture-same g v f w inverse (masked ks m) = rw (collect-same (maskedCellBefore g v f ks m w inverse) (maskedCell g v f ks (movesInQuarters m) w inverse) (samplesOf g) (cell-same g v f ks m w inverse))
+picture-same g v f w inverse (masked ks m) = rw (collect-same (maskedCellBefore g v f ks m w inverse)
+    (maskedCell g v f ks (movesInQuarters m) w inverse) (samplesOf g) (cell-same g v f ks m w inverse))
 
 -- The picture, once each step gave its part.
 module _ (ns : List Node) (f : ℕ) (g : Geometry) (v : List ℕ) (w : Window) (inverse : Bool)
-    (isG : geometryOf ns ≡ some g) (isV : pixelsOf ns ≡ some v) (frame : isFrame g v f ≡ true) (isW : windowFor ns f (g .stored) ≡ some w) (isI : inverseOf ns ≡ some inverse) where
+    (isG : geometryOf ns ≡ some g) (isV : pixelsOf ns ≡ some v) (frame : isFrame g v f ≡ true) (isW : windowFor ns f (g .stored) ≡ some w)
+    (isI : inverseOf ns ≡ some inverse) where
   to-picture : (m : Mask) → maskFor ns f ≡ some m → stepsOf ns f ≡ pictureBy g v f w inverse m
   unfolding stepsOf
   to-picture m e = rw (isG, isV, frame, e, isW, isI)
@@ -211,7 +229,7 @@ same-pictures ns f p e =
     let i = then-some (inverseOf ns) _ (w .1 .1) in
     sym (same-steps ns f (g .0) (v .0) (w .0) (i .0) (g .1 .0) (v .1 .0) (t .0) (w .1 .0) (i .1 .0) (m .0) (m .1 .0)) ∙ e
 
--- ---- Of an accepted object the steps of whole pixels lacked nothing
+-- ---- Of an accepted object the steps of whole pixels had-none nothing
 
 abbrev Wholly : Option Shift → Type 0
 Wholly o = (s : Shift) × ((o ≡ some s) × (isWholeShiftOf s ≡ true))
@@ -219,23 +237,35 @@ Wholly o = (s : Shift) × ((o ≡ some s) × (isWholeShiftOf s ≡ true))
 module _ (ns : List Node) where
   item-whole : (o : Num) → ifPresent o (wasShiftAt ns) ≡ true → Wholly (itemShiftAt ns o)
   unfolding wasShiftAt isWholeShiftOf wholeMovesOf
-  item-whole Lacks e = (shift.None, (refl, refl))
+  item-whole None e = (shift.None, (refl, refl))
   item-whole (Is k) e =
-      let a = and-both (eqb (nodeAt ns k .vr) FL) _ e in
-      (itemShift (valueAt ns k), (checked _ _ (both-true _ _ (a .0) (eq-eqb _ _ (shift-length (valueAt ns k) (whole-shift (valueAt ns k) (a .1))))), whole-item (valueAt ns k) (a .1)))
+      let a = and-both (eqb (nodeAt ns k .vr) FL) _ e in (
+        itemShift (valueAt ns k),
+        (
+          checked _ _ (both-true _ _ (a .0) (eq-eqb _ _ (shift-length (valueAt ns k) (whole-shift (valueAt ns k) (a .1))))),
+          whole-item (valueAt ns k) (a .1),
+        ),
+      )
 
-  frame-whole : (o : Num) → holds o (λ x. isWholeShift (valueAt ns x)) ≡ true → Wholly (need o (λ x. check (eqb (length (valueAt ns x)) 8) (some (frameShift (valueAt ns x)))))
-  frame-whole Lacks e = absurd (false-is-true e)
-  frame-whole (Is x) e = (frameShift (valueAt ns x), (checked _ _ (eq-eqb _ _ (shift-length (valueAt ns x) (whole-shift (valueAt ns x) e))), whole-frame (valueAt ns x) e))
+  frame-whole : (o : Num) → holds o (λ x. isWholeShift (valueAt ns x)) ≡ true
+      → Wholly (need o (λ x. check (eqb (length (valueAt ns x)) 8) (some (frameShift (valueAt ns x)))))
+  frame-whole None e = absurd (false-is-true e)
+  frame-whole (Is x) e = (
+    frameShift (valueAt ns x),
+    (checked _ _ (eq-eqb _ _ (shift-length (valueAt ns x) (whole-shift (valueAt ns x) e))), whole-frame (valueAt ns x) e),
+  )
 
-  named-whole : (j : ℕ) (l : List ℕ) (o : Option Num) → every (wasShiftItem ns) l ≡ true → shiftFitted ns j ≡ true → Named l o → Wholly (then o (shiftFrom ns j))
+  named-whole : (j : ℕ) (l : List ℕ) (o : Option Num) → every (wasShiftItem ns) l ≡ true → shiftFitted ns j ≡ true → Named l o
+      → Wholly (then o (shiftFrom ns j))
   unfolding shiftFitted wasShiftItem
   named-whole j l o e w (unnamed q) = rw q (item-whole (find ns Tags.MaskSubPixelShift (inside ns j)) w)
-  named-whole j l o e w (named k m q) = rw q (frame-whole (findVr ns Tags.MaskSubPixelShift FL (inside ns k)) (and-both (hasId ns k) _ (every-at (wasShiftItem ns) m e) .1))
+  named-whole j l o e w (named k m q) = rw q
+      (frame-whole (findVr ns Tags.MaskSubPixelShift FL (inside ns k)) (and-both (hasId ns k) _ (every-at (wasShiftItem ns) m e) .1))
 
-  own-whole : (j : ℕ) (o : Num) → shiftFitted ns j ≡ true → ifPresent o (wasShiftGroup ns) ≡ true → ((g : ℕ) → o ≡ Is g → hasId ns j ≡ true) → Wholly (then (ownIn ns j o) (shiftFrom ns j))
+  own-whole : (j : ℕ) (o : Num) → shiftFitted ns j ≡ true → ifPresent o (wasShiftGroup ns) ≡ true → ((g : ℕ) → o ≡ Is g → hasId ns j ≡ true)
+      → Wholly (then (ownIn ns j o) (shiftFrom ns j))
   unfolding shiftFitted wasShiftGroup
-  own-whole j Lacks w e i = item-whole (find ns Tags.MaskSubPixelShift (inside ns j)) w
+  own-whole j None w e i = item-whole (find ns Tags.MaskSubPixelShift (inside ns j)) w
   own-whole j (Is g) w e i =
       let a = and-both (eqb (nodeAt ns g .vr) SQ) _ e in
       let b = and-both (leb 1 (length (inside ns g))) _ (a .1) in
@@ -243,9 +273,11 @@ module _ (ns : List Node) where
       let x = id-had ns j (i g refl) in
       let y : need (idIn ns j) (λ id. naming ns id (inside ns g)) ≡ naming ns (x .0) (inside ns g) = rw (x .1) in
       let q : ownIn ns j (Is g) ≡ naming ns (x .0) (inside ns g) = checked _ _ (both-true _ _ (a .0) (b .0)) ∙ y in
-      named-whole j (inside ns g) (ownIn ns j (Is g)) (c .0) w (rw q (names ns (x .0) (inside ns g) (every-more (inside ns g) (wasShiftItem ns) (isShiftItem ns) (item ns) (c .0))))
+      named-whole j (inside ns g) (ownIn ns j (Is g)) (c .0) w
+      (rw q (names ns (x .0) (inside ns g) (every-more (inside ns g) (wasShiftItem ns) (isShiftItem ns) (item ns) (c .0))))
 
-  shift-whole : (f j : ℕ) → rule36 ns ≡ true → rule37Before ns f ≡ true → Among j (maskItems ns) → shiftFitted ns j ≡ true → Wholly (shiftFor ns f j)
+  shift-whole : (f j : ℕ) → rule36 ns ≡ true → rule37Before ns f ≡ true → Among j (maskItems ns) → shiftFitted ns j ≡ true
+      → Wholly (shiftFor ns f j)
   unfolding shiftFor rule37Before item37Before
   shift-whole f j r e m w =
       let s = had (sharedItem ns) _ e in
@@ -253,30 +285,36 @@ module _ (ns : List Node) where
       let fits : ifPresent (groupOf ns Tags.FramePixelShiftSequence (s .0) (i .0)) (wasShiftGroup ns) ≡ true = i .1 .1 in
       rw (group-for ns f Tags.FramePixelShiftSequence (s .0) (i .0) (s .1 .0) (i .1 .0))
       (own-whole j (groupOf ns Tags.FramePixelShiftSequence (s .0) (i .0)) w fits (λ g q.
-      every-at (hasId ns) m (shift-ids ns r f (s .0) (i .0) g (s .1 .0) (i .1 .0) q (group ns g (subst (λ (x : Num). ifPresent x (wasShiftGroup ns) ≡ true) q fits)))))
+      every-at (hasId ns) m (shift-ids ns r f (s .0) (i .0) g (s .1 .0) (i .1 .0) q
+      (group ns g (subst (λ (x : Num). ifPresent x (wasShiftGroup ns) ≡ true) q fits)))))
 
   moves-before : (f j : ℕ) → Wholly (shiftFor ns f j) → (m : Moves) × (movesBefore ns f j ≡ some m)
   unfolding movesBefore
   moves-before f j (s, (q, e)) = (wholeMovesOf s, rw q (checked _ _ (whole-both s e)))
 
-  -- The mask of an item whose steps lack nothing now lacked nothing then.
-  mask-before : (f j : ℕ) (x : Moves) → movesBefore ns f j ≡ some x → (m : Mask) → maskBy ns f j ≡ some m → (k : Mask) × (maskByBefore ns f j ≡ some k)
+  -- The mask of an item whose steps lack nothing now had-none nothing then.
+  mask-before : (f j : ℕ) (x : Moves) → movesBefore ns f j ≡ some x → (m : Mask) → maskBy ns f j ≡ some m
+      → (k : Mask) × (maskByBefore ns f j ≡ some k)
   unfolding maskByBefore maskBy
   mask-before f j x moved m = go (operationIs ns (ascii "NONE") j) (operationIs ns (ascii "AVG_SUB") j) (operationIs ns (ascii "TID") j)
     where
       tid : (o : Num) → (k : Mask) × (onTidBefore ns f j o ≡ some k)
-      tid Lacks = (native, refl)
+      tid None = (native, refl)
       tid (Is k) = (masked (k ∷ []) x, rw moved)
 
-      by-average : (o : Option (List ℕ)) (ks : List ℕ) → o ≡ some ks → (k : Mask) × (then o (λ ks. then (movesBefore ns f j) (λ y. some (masked ks y))) ≡ some k)
+      by-average : (o : Option (List ℕ)) (ks : List ℕ) → o ≡ some ks
+          → (k : Mask) × (then o (λ ks. then (movesBefore ns f j) (λ y. some (masked ks y))) ≡ some k)
       by-average o ks e = (masked ks x, rw (e, moved))
 
       by-tid : (o : Option Num) (x : Num) → o ≡ some x → (k : Mask) × (then o (onTidBefore ns f j) ≡ some k)
       by-tid o x e = (tid x .0, rw e (tid x .1))
 
       go : (a b c : Bool)
-          → cond a (some native) (cond b (then (averageFrames ns j) (λ ks. then (movesFor ns f j) (λ y. some (masked ks y)))) (cond c (then (tidFrame ns f j) (onTid ns f j)) none)) ≡ some m
-          → (k : Mask) × (cond a (some native) (cond b (then (averageFrames ns j) (λ ks. then (movesBefore ns f j) (λ y. some (masked ks y)))) (cond c (then (tidFrame ns f j) (onTidBefore ns f j)) none)) ≡ some k)
+          → cond a (some native) (cond b (then (averageFrames ns j) (λ ks. then (movesFor ns f j) (λ y. some (masked ks y))))
+          (cond c (then (tidFrame ns f j) (onTid ns f j)) none)) ≡ some m
+          → (k : Mask)
+          × (cond a (some native) (cond b (then (averageFrames ns j) (λ ks. then (movesBefore ns f j) (λ y. some (masked ks y))))
+          (cond c (then (tidFrame ns f j) (onTidBefore ns f j)) none)) ≡ some k)
       go true b c e = (native, refl)
       go false true c e =
           let a = then-some (averageFrames ns j) _ e in
@@ -301,7 +339,8 @@ module _ (ns : List Node) (ok : AcceptedBefore ns) (n : ℕ) (count : framesOf n
       let x = moves-before ns f j (shift-whole ns f j (r36 ns (still-accepted ns ok)) r37 a (every-at (shiftFitted ns) a r35)) in
       mask-before ns f j (x .0) (x .1)
 
-  on : (o : Option Applying) → Applies (maskItems ns) o → (m : Mask) → then o (maskOn ns f) ≡ some m → (k : Mask) × (then o (maskOnBefore ns f) ≡ some k)
+  on : (o : Option Applying) → Applies (maskItems ns) o → (m : Mask) → then o (maskOn ns f) ≡ some m
+      → (k : Mask) × (then o (maskOnBefore ns f) ≡ some k)
   on o (nothing q) m e = (native, rw q)
   on o (applying.item j a q) m e =
       let k = by-item j a m (rw q at e) in
@@ -327,7 +366,8 @@ keeps-pictures s b ok =
           let k = mask-had ns ok (o .n) (o .frames) f low h (m .m) (m .mask) in
           record {
             p = d .p;
-            before = same-steps ns f (o .g) (o .v) (w .w) (o .inverse) (o .geometry) (o .pixels) (o .whole f low h) (w .window) (o .photometric) (k .0) (k .1) ∙ d .is;
+            before = same-steps ns f (o .g) (o .v) (w .w) (o .inverse) (o .geometry) (o .pixels) (o .whole f low h) (w .window)
+                (o .photometric) (k .0) (k .1) ∙ d .is;
             after = d .is;
           };
     }

@@ -27,7 +27,8 @@ both : (p q : Bool) → p && q ≡ true → (p ≡ true) × (q ≡ true)
 both true q h = (refl, h)
 both false q h = let z : _≡_ {A = ℕ} 0 1 = cc in absurd (omega arith)
 
-room-answer : (rows : List Row) (buffer : List ℕ) → width * length rows ≤ length buffer → answerOf (read rows) buffer ≡ answer.Done (length rows)
+room-answer : (rows : List Row) (buffer : List ℕ) → width * length rows ≤ length buffer
+    → answerOf (read rows) buffer ≡ answer.Done (length rows)
 room-answer rows buffer h = rw (le-leb (width * length rows) (length buffer) h)
 
 -- The number that passes the test of code 10 is that of a frame.
@@ -48,7 +49,8 @@ module _ (s buffer : List ℕ) where
   unfolding rowsOf
   rows-are a = ap rowsIn (a .reads)
 
-  pub judged-accepted : (a : IsAccepted s) → width * length (rowsOf s) ≤ length buffer → judgeOf s buffer ≡ judged.Accepted (length (rowsOf s))
+  pub judged-accepted : (a : IsAccepted s) → width * length (rowsOf s) ≤ length buffer
+      → judgeOf s buffer ≡ judged.Accepted (length (rowsOf s))
   unfolding judgeOf
   judged-accepted a r =
       let h : width * length (a .rows) ≤ length buffer = subst (λ (l : List Row). width * length l ≤ length buffer) (rows-are a) r in
@@ -61,14 +63,16 @@ module _ (s buffer : List ℕ) where
     pub room : width * length (rowsIn r) ≤ length buffer
     pub code : of (judged.Accepted (length rows)) ≡ 0
 
-  back : (of : JudgeAnswer → ℕ) → Keeps of → (r : Reading) (found : Finding) → Small (answerOf r buffer) → of (answerFor found (answerOf r buffer)) ≡ 0 → Back of r found
+  back : (of : JudgeAnswer → ℕ) → Keeps of → (r : Reading) (found : Finding) → Small (answerOf r buffer)
+      → of (answerFor found (answerOf r buffer)) ≡ 0 → Back of r found
   back of k tooLarge found w e = absurd (omega (arith, e, k .too-large))
   back of k (refusedAt code offset) found w e = absurd (omega (arith, e, k .refused code offset, w .0))
   back of k (read rows) found w e = go found (leb (width * length rows) (length buffer)) refl e
     where
       go : (x : Finding) (t : Bool) → leb (width * length rows) (length buffer) ≡ t
           → of (answerFor x (cond t (answer.Done (length rows)) answer.NoRoom)) ≡ 0 → Back of (read rows) x
-      go finding.Accepted true p e = record { rows = rows; reads = refl; sound = refl; room = leb-true (width * length rows) (length buffer) p; code = e }
+      go finding.Accepted true p
+          e = record { rows = rows; reads = refl; sound = refl; room = leb-true (width * length rows) (length buffer) p; code = e }
       go (finding.Broken rule frame) true p e = absurd (omega (arith, e, k .broken (length rows) rule frame))
       go x false p e = absurd (omega (arith, e, k .no-room))
 

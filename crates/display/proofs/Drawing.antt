@@ -25,12 +25,18 @@ use Rattle.display.proofs.Lacking.{nothing-lacks}
 -- ---- Where there is room, the answer is a picture
 
 module _ (s : List ℕ) (f : ℕ) (buffer image : List ℕ) where
-  answer-drawn : (n : ℕ) → IsFrame s f → HasRoom s buffer image → acceptedAnswer (nodesOf s) f image n ≡ shown.Drawn n (pictureOf (nodesOf s) f .masked)
+  answer-drawn : (n : ℕ) → IsFrame s f → HasRoom s buffer image
+      → acceptedAnswer (nodesOf s) f image n ≡ shown.Drawn n (pictureOf (nodesOf s) f .masked)
   unfolding acceptedAnswer
   answer-drawn n i r =
-      rw (le-leb 1 f (i .low), le-leb f (numberOf (framesOf (nodesOf s))) (i .high), le-leb (imageSize (nodesOf s)) (length image) (r .cells))
+      rw (
+        le-leb 1 f (i .low),
+        le-leb f (numberOf (framesOf (nodesOf s))) (i .high),
+        le-leb (imageSize (nodesOf s)) (length image) (r .cells),
+      )
 
-  shows : (a : IsAccepted s) → IsFrame s f → HasRoom s buffer image → showOf s f buffer image ≡ shown.Drawn (length (rowsOf s)) (pictureOf (nodesOf s) f .masked)
+  shows : (a : IsAccepted s) → IsFrame s f → HasRoom s buffer image
+      → showOf s f buffer image ≡ shown.Drawn (length (rowsOf s)) (pictureOf (nodesOf s) f .masked)
   unfolding showOf
   shows a i r = rw (judged-accepted s buffer a (r .rows), answer-drawn (length (rowsOf s)) i r)
 
@@ -66,7 +72,8 @@ module _ (s : List ℕ) (f : ℕ) (buffer image : List ℕ) where
   unfolding pictureOf
   picture-is p e = rw e
 
-  image-is : (a : IsAccepted s) → IsFrame s f → HasRoom s buffer image → imageOf s f buffer image ≡ pictureOf (nodesOf s) f .samples ++ drop (length (pictureOf (nodesOf s) f .samples)) image
+  image-is : (a : IsAccepted s) → IsFrame s f → HasRoom s buffer image
+      → imageOf s f buffer image ≡ pictureOf (nodesOf s) f .samples ++ drop (length (pictureOf (nodesOf s) f .samples)) image
   unfolding imageOf
   image-is a i r = rw (shows a i r)
 

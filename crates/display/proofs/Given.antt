@@ -5,7 +5,7 @@ use mathlib.Core.Option.{Option, none, some}
 use Prim.Native.Nat.{ℕ}
 use native.Mathlib.Omega.{arith}
 use Rattle.value.specs.declared.Num.{Num}
-use Rattle.value.specs.declared.Num.the-variants.{Is, Lacks}
+use Rattle.value.specs.declared.Num.the-variants.{Is, None}
 use Rattle.steps.specs.Given.{need, check, then}
 
 module _ {A : Type 0} where
@@ -18,7 +18,7 @@ module _ {A : Type 0} where
 
   pub need-some : (o : Num) (go : ℕ → Option A) {a : A} → need o go ≡ some a → (n : ℕ) × ((o ≡ Is n) × (go n ≡ some a))
   need-some (Is n) go e = (n, (refl, e))
-  need-some Lacks go e = absurd (never e)
+  need-some None go e = absurd (never e)
 
   module _ {B : Type 0} where
     pub then-some : (o : Option B) (go : B → Option A) {a : A} → then o go ≡ some a → (b : B) × ((o ≡ some b) × (go b ≡ some a))

@@ -11,7 +11,7 @@ use lib.IntN.{ℤ, pos, _+ℤ_, _-ℤ_}
 use lib.Dec.{eqb, leb}
 use borrow.Author.Tests.{ne-eqb, le-leb}
 use Rattle.value.specs.declared.Num.{Num}
-use Rattle.value.specs.declared.Num.the-variants.{Is, Lacks}
+use Rattle.value.specs.declared.Num.the-variants.{Is, None}
 use Rattle.shift.specs.declared.Moves.{Moves}
 use Rattle.node.specs.Nodes.{Node, nodesOf, root}
 use Rattle.pixel.specs.declared.Geometry.{Geometry}
@@ -22,7 +22,8 @@ use Rattle.window.specs.Window.{levelOf, shaded}
 use Rattle.window.specs.Contracts.{Drawable}
 use Rattle.window.proofs.Laws.{leveled, shadeNumber, shaded-is}
 use Rattle.steps.specs.Given.{need, check, collect}
-use Rattle.steps.specs.Steps.{Picture, Mask, nativeCell, maskedCell, areFrames, pictureBy, geometryOf, stepsOf, native as noMask, masked as maskBy}
+use Rattle.steps.specs.Steps.{Picture, Mask, nativeCell, maskedCell, areFrames, pictureBy, geometryOf, stepsOf, native as noMask}
+use Rattle.steps.specs.Steps.{masked as maskBy}
 use Rattle.element.specs.Tags
 use Rattle.element.specs.Elements.{usIn}
 use Rattle.element.specs.Frames.{framesOf}
@@ -77,9 +78,14 @@ shade-small false y h = h
 level-cell : (w : Window) → Drawable w → (inverse : Bool) (x : ℤ) → Cell (shaded inverse (levelOf w x))
 level-cell w d inverse x =
     let l = leveled w x in
-    record { y = shadeNumber inverse (l .y); is = ap (shaded inverse) (l .is) ∙ shaded-is inverse (l .y) (l .small); small = shade-small inverse (l .y) (l .small) }
+    record {
+      y = shadeNumber inverse (l .y);
+      is = ap (shaded inverse) (l .is) ∙ shaded-is inverse (l .y) (l .small);
+      small = shade-small inverse (l .y) (l .small);
+    }
 
-pub native-cell : (g : Geometry) (v : List ℕ) (f : ℕ) (w : Window) → Drawable w → (inverse : Bool) (i : ℕ) → Cell (nativeCell g v f w inverse i)
+pub native-cell : (g : Geometry) (v : List ℕ) (f : ℕ) (w : Window) → Drawable w → (inverse : Bool) (i : ℕ)
+    → Cell (nativeCell g v f w inverse i)
 unfolding nativeCell
 native-cell g v f w d inverse i = level-cell w d inverse (pos (sampleAt g v f i))
 
@@ -87,7 +93,8 @@ native-cell g v f w d inverse i = level-cell w d inverse (pos (sampleAt g v f i)
 pub some-bits : (b : ℕ) → 1 ≤ b → eqb b 0 ≡ false
 some-bits b h = ne-eqb b 0 (λ e. omega arith)
 
-pub masked-cell : (g : Geometry) → 1 ≤ g .stored → (v : List ℕ) (f : ℕ) (ks : List ℕ) (m : Moves) (w : Window) → Drawable w → (inverse : Bool) (i : ℕ)
+pub masked-cell : (g : Geometry) → 1 ≤ g .stored → (v : List ℕ) (f : ℕ) (ks : List ℕ) (m : Moves) (w : Window) → Drawable w
+    → (inverse : Bool) (i : ℕ)
     → 1 ≤ length ks → areInside g m i ≡ true → Cell (maskedCell g v f ks m w inverse i)
 unfolding maskedCell
 masked-cell g l v f ks m w d inverse i one h =
@@ -96,7 +103,8 @@ masked-cell g l v f ks m w d inverse i one h =
 
 -- ---- The mask frames are frames
 
-pub are-frames : (g : Geometry) (v : List ℕ) (n : ℕ) → ((k : ℕ) → 1 ≤ k → k ≤ n → isFrame g v k ≡ true) → (ks : List ℕ) → AllWithin n ks → areFrames g v ks ≡ true
+pub are-frames : (g : Geometry) (v : List ℕ) (n : ℕ) → ((k : ℕ) → 1 ≤ k → k ≤ n → isFrame g v k ≡ true) → (ks : List ℕ) → AllWithin n ks
+    → areFrames g v ks ≡ true
 unfolding areFrames
 are-frames g v n h [] a = refl
 are-frames g v n h (k ∷ ks) a = rw (h k (a .0 .0) (a .0 .1), are-frames g v n h ks (a .1))
@@ -110,7 +118,8 @@ pub record Drawn (ns : List Node) (f : ℕ) (g : Geometry) : Type 0 where
   pub size : length (p .samples) ≡ samplesOf g
   pub levels : AllLevels (p .samples)
 
-module _ (ns : List Node) (f : ℕ) (o : Object ns) (low : 1 ≤ f) (high : f ≤ o .n) (w : Windowed ns f (o .g .stored)) (k : Masking ns f (o .n)) where
+module _ (ns : List Node) (f : ℕ) (o : Object ns) (low : 1 ≤ f) (high : f ≤ o .n) (w : Windowed ns f (o .g .stored))
+    (k : Masking ns f (o .n)) where
   to-picture : stepsOf ns f ≡ pictureBy (o .g) (o .v) f (w .w) (o .inverse) (k .m)
   unfolding stepsOf
   to-picture = rw (o .geometry, o .pixels, o .whole f low high, k .mask, w .window, o .photometric)
@@ -121,11 +130,18 @@ module _ (ns : List Node) (f : ℕ) (o : Object ns) (low : 1 ≤ f) (high : f �
     where
       go : (m : Mask) → Sound (o .n) m → stepsOf ns f ≡ pictureBy (o .g) (o .v) f (w .w) (o .inverse) m → Drawn ns f (o .g)
       go noMask s e =
-          let c = collect-all (nativeCell (o .g) (o .v) f (w .w) (o .inverse)) (samplesOf (o .g)) (λ i h. native-cell (o .g) (o .v) f (w .w) (w .drawable) (o .inverse) i) in
+          let c = collect-all (nativeCell (o .g) (o .v) f (w .w) (o .inverse)) (samplesOf (o .g))
+          (λ i h. native-cell (o .g) (o .v) f (w .w) (w .drawable) (o .inverse) i) in
           record { p = record { masked = false; samples = c .l }; is = e ∙ rw (c .is); size = c .size; levels = c .levels }
       go (maskBy ks mv) s e =
-          let c = collect-all (maskedCell (o .g) (o .v) f ks mv (w .w) (o .inverse)) (samplesOf (o .g)) (λ i h. masked-cell (o .g) (o .stored-low) (o .v) f ks mv (w .w) (w .drawable) (o .inverse) i (s .0) (are-inside (o .g) mv i h)) in
-          record { p = record { masked = true; samples = c .l }; is = e ∙ rw (are-frames (o .g) (o .v) (o .n) (o .whole) ks (s .1 .1 .0), c .is); size = c .size; levels = c .levels }
+          let c = collect-all (maskedCell (o .g) (o .v) f ks mv (w .w) (o .inverse)) (samplesOf (o .g)) (λ i h.
+          masked-cell (o .g) (o .stored-low) (o .v) f ks mv (w .w) (w .drawable) (o .inverse) i (s .0) (are-inside (o .g) mv i h)) in
+          record {
+            p = record { masked = true; samples = c .l };
+            is = e ∙ rw (are-frames (o .g) (o .v) (o .n) (o .whole) ks (s .1 .1 .0), c .is);
+            size = c .size;
+            levels = c .levels;
+          }
 
 -- ---- The size of the picture
 
@@ -137,19 +153,24 @@ size-checked true x g e =
 size-checked false x g e = absurd (never e)
 
 size-given : (r c a b : Num) (g : Geometry)
-    → need r (λ r. need c (λ c. need a (λ a. need b (λ b. check (leb 8 a && eqb (a % 8) 0) (some (record { rows = r; columns = c; width = a / 8; stored = b })))))) ≡ some g
+    → need r (λ r. need c (λ c.
+    need a (λ a. need b (λ b. check (leb 8 a && eqb (a % 8) 0) (some (record { rows = r; columns = c; width = a / 8; stored = b }))))))
+    ≡ some g
     → samplesOf g ≡ numberOf r * numberOf c
-size-given (Is r) (Is c) (Is a) (Is b) g e = size-checked (leb 8 a && eqb (a % 8) 0) (record { rows = r; columns = c; width = a / 8; stored = b }) g e
-size-given (Is r) (Is c) (Is a) Lacks g e = absurd (never e)
-size-given (Is r) (Is c) Lacks b g e = absurd (never e)
-size-given (Is r) Lacks a b g e = absurd (never e)
-size-given Lacks c a b g e = absurd (never e)
+size-given (Is r) (Is c) (Is a) (Is b) g e = size-checked (leb 8 a && eqb (a % 8) 0)
+    (record { rows = r; columns = c; width = a / 8; stored = b }) g e
+size-given (Is r) (Is c) (Is a) None g e = absurd (never e)
+size-given (Is r) (Is c) None b g e = absurd (never e)
+size-given (Is r) None a b g e = absurd (never e)
+size-given None c a b g e = absurd (never e)
 
 pub geometry-size : (ns : List Node) (g : Geometry) → geometryOf ns ≡ some g → samplesOf g ≡ imageSize ns
 unfolding geometryOf
-geometry-size ns g e = size-given (usIn ns Tags.Rows (root ns)) (usIn ns Tags.Columns (root ns)) (usIn ns Tags.BitsAllocated (root ns)) (usIn ns Tags.BitsStored (root ns)) g e
+geometry-size ns g e = size-given (usIn ns Tags.Rows (root ns)) (usIn ns Tags.Columns (root ns)) (usIn ns Tags.BitsAllocated (root ns))
+    (usIn ns Tags.BitsStored (root ns)) g e
 
-pub nothing-lacks : (s : List ℕ) → Bytes s → findingOf (nodesOf s) ≡ Accepted → (f : ℕ) → 1 ≤ f → f ≤ numberOf (framesOf (nodesOf s)) → Whole (nodesOf s) f
+pub nothing-lacks : (s : List ℕ) → Bytes s → findingOf (nodesOf s) ≡ Accepted → (f : ℕ) → 1 ≤ f → f ≤ numberOf (framesOf (nodesOf s))
+    → Whole (nodesOf s) f
 nothing-lacks s b ok f low high =
     let ns = nodesOf s in
     let o = object ns (λ tag k e. us-in-small s b tag k (root ns) e) ok in

@@ -11,7 +11,7 @@ use lib.Dec.{eqb, leb}
 use borrow.Author.Tests.{eq-eqb, eqb-true, leb-true}
 use Rattle.basics.specs.Vr.{SQ, US, FL}
 use Rattle.value.specs.declared.Num.{Num}
-use Rattle.value.specs.declared.Num.the-variants.{Is, Lacks}
+use Rattle.value.specs.declared.Num.the-variants.{Is, None}
 use Rattle.value.specs.declared.Signed.{Signed}
 use Rattle.value.specs.declared.Signed.the-variants as signed
 use Rattle.value.specs.Text.{ascii}
@@ -32,7 +32,9 @@ use Rattle.element.specs.Elements as elements
 use Rattle.element.specs.Elements.{valueAt, first, insideOf, itemsIn, every}
 use Rattle.element.specs.Frames.{framesOf, frameItems, frameItem, sharedItem, groupOf, maskItems, idIn, operationIs}
 use Rattle.rules.specs.Frame.{hasId, uniqueIds, isShiftItem, isShiftGroup, item37, rule37}
-use Rattle.rules.specs.Mask.{isOperation, isMask, rule31, isRange, rangeFits, rule32, allFrames, areMaskFrames, averageFits, averagesFit, rule33, isOffset, offsetFits, rule34, isShiftAt, shiftFits, rule35, hasShiftGroup, anyShift, masksHaveIds, rule36}
+use Rattle.rules.specs.Mask.{isOperation, isMask, rule31, isRange, rangeFits, rule32, allFrames, areMaskFrames, averageFits, averagesFit}
+use Rattle.rules.specs.Mask.{rule33, isOffset, offsetFits, rule34, isShiftAt, shiftFits, rule35, hasShiftGroup, anyShift, masksHaveIds}
+use Rattle.rules.specs.Mask.{rule36}
 use Rattle.rules.specs.All.{ruleList, ruleAt}
 use Rattle.conformance.specs.declared.Finding.the-variants.{Accepted}
 use Rattle.conformance.specs.Judging.{firstFrame, frameCount, findingOf}
@@ -40,13 +42,15 @@ use Rattle.conformance.proofs.First.{accepted-holds}
 use Rattle.steps.specs.declared.Applying.{Applying}
 use Rattle.steps.specs.declared.Applying.the-variants.{Item, Nothing}
 use Rattle.steps.specs.Given.{need, check, then}
-use Rattle.steps.specs.Steps.{orShared, groupFor, inPairs, rangeHas, rangeHolds, firstHolding, onMask, applyingTo, averageFrames, offsetAt, offsetOf, less, tidFrame, naming, ownIn, itemShiftAt, shiftFrom, shiftFor, movesFor, Mask, native, masked, onTid, maskBy, maskOn, maskFor}
+use Rattle.steps.specs.Steps.{orShared, groupFor, inPairs, rangeHas, rangeHolds, firstHolding, onMask, applyingTo, averageFrames, offsetAt}
+use Rattle.steps.specs.Steps.{offsetOf, less, tidFrame, naming, ownIn, itemShiftAt, shiftFrom, shiftFor, movesFor, Mask, native, masked}
+use Rattle.steps.specs.Steps.{onTid, maskBy, maskOn, maskFor}
 use Rattle.display.proofs.Accepted.{AllWithin, Sound, Masking}
 
 -- ---- What a test that holds says
 
 pub had : (o : Num) (p : ℕ → Bool) → holds o p ≡ true → (n : ℕ) × ((o ≡ Is n) × (p n ≡ true))
-had Lacks p e = absurd (false-is-true e)
+had None p e = absurd (false-is-true e)
 had (Is n) p e = (n, (refl, e))
 
 pub held : (o : Num) (p : ℕ → Bool) (n : ℕ) → o ≡ Is n → holds o p ≡ true → p n ≡ true
@@ -110,7 +114,7 @@ pub data Applies (l : List ℕ) (a : Option Applying) : Type 0 where
 module _ (ns : List Node) (f n : ℕ) where
   range-has : (o : Num) → ifPresent o (isRange ns n) ≡ true → (h : Bool) × (rangeHas ns f o ≡ some h)
   unfolding isRange
-  range-has Lacks e = (true, refl)
+  range-has None e = (true, refl)
   range-has (Is r) e =
       let a = and-both (eqb (nodeAt ns r .vr) US) _ e in
       let b = and-both (leb 4 (length (valueAt ns r)) && eqb (length (valueAt ns r) % 4) 0) _ (a .1) in
@@ -120,7 +124,8 @@ module _ (ns : List Node) (f n : ℕ) where
   unfolding rangeFits rangeHolds
   range-holds j e = range-has (find ns Tags.ApplicableFrameRange (inside ns j)) e
 
-  first-next : (j : ℕ) (l : List ℕ) (h : Bool) → rangeHolds ns f j ≡ some h → Applies l (firstHolding ns f l) → Applies (j ∷ l) (firstHolding ns f (j ∷ l))
+  first-next : (j : ℕ) (l : List ℕ) (h : Bool) → rangeHolds ns f j ≡ some h → Applies l (firstHolding ns f l)
+      → Applies (j ∷ l) (firstHolding ns f (j ∷ l))
   unfolding firstHolding
   first-next j l true q r = item j here (rw q)
   first-next j l false q (nothing e) = nothing (rw q e)
@@ -137,7 +142,7 @@ module _ (ns : List Node) (f n : ℕ) where
   on-mask : (o : Num) → ifPresent o (isMask ns) ≡ true → every (rangeFits ns n) (insideOf ns (andThen o (ofVr ns SQ))) ≡ true
       → Applies (insideOf ns (andThen o (ofVr ns SQ))) (onMask ns f o)
   unfolding isMask
-  on-mask Lacks e w = nothing refl
+  on-mask None e w = nothing refl
   on-mask (Is m) e w =
       let v : eqb (nodeAt ns m .vr) SQ ≡ true = and-both (eqb (nodeAt ns m .vr) SQ) _ e .0 in
       let q : ofVr ns SQ m ≡ Is m = of-vr ns SQ m v in
@@ -148,9 +153,10 @@ module _ (ns : List Node) (f n : ℕ) where
   unfolding rule31 maskItems itemsIn applyingTo
   applies e w = on-mask (find ns Tags.MaskSubtractionSequence (root ns)) e w
 
-operations-in : (ns : List Node) (o : Num) → ifPresent o (isMask ns) ≡ true → every (isOperation ns) (insideOf ns (andThen o (ofVr ns SQ))) ≡ true
+operations-in : (ns : List Node) (o : Num) → ifPresent o (isMask ns) ≡ true
+    → every (isOperation ns) (insideOf ns (andThen o (ofVr ns SQ))) ≡ true
 unfolding isMask every
-operations-in ns Lacks e = refl
+operations-in ns None e = refl
 operations-in ns (Is m) e =
     let a = and-both (eqb (nodeAt ns m .vr) SQ) _ e in
     let b = and-both (leb 1 (length (inside ns m)) && leb (length (inside ns m)) 16) _ (a .1) in
@@ -173,29 +179,34 @@ SoundMoves m =
 short-number : (w : Signed) → isShort w ≡ true → isNumber w ≡ true
 short-number (signed.Plus k) e = refl
 short-number (signed.Minus k) e = refl
-short-number signed.Lacks e = e
+short-number signed.None e = e
 
 short-size : (w : Signed) → isShort w ≡ true → SizeBelow 257 w
 short-size (signed.Plus k) e = omega (arith, leb-true k largestMove e)
 short-size (signed.Minus k) e = omega (arith, leb-true k largestMove e)
-short-size signed.Lacks e = tt
+short-size signed.None e = tt
 
 moves : (ns : List Node) (f j : ℕ) → Shifted (shiftFor ns f j) → (m : Moves) × ((movesFor ns f j ≡ some m) × SoundMoves m)
 unfolding movesFor
 moves ns f j (s, (q, e)) =
     let b = moves-both s e in
     let v : isNumber (movesOf s .vertical) ≡ true = short-number (movesOf s .vertical) (b .0) in
-    let h : isNumber (movesOf s .horizontal) ≡ true = short-number (movesOf s .horizontal) (b .1) in
-    (movesOf s, (rw q (checked _ _ (both-true _ _ v h)), (v, (h, (short-size (movesOf s .vertical) (b .0), short-size (movesOf s .horizontal) (b .1))))))
+    let h : isNumber (movesOf s .horizontal) ≡ true = short-number (movesOf s .horizontal) (b .1) in (
+      movesOf s,
+      (
+        rw q (checked _ _ (both-true _ _ v h)),
+        (v, (h, (short-size (movesOf s .vertical) (b .0), short-size (movesOf s .horizontal) (b .1)))),
+      ),
+    )
 
 pub data Named (l : List ℕ) (o : Option Num) : Type 0 where
-  unnamed : o ≡ some Lacks → Named l o
+  unnamed : o ≡ some None → Named l o
   named : (k : ℕ) → Among k l → o ≡ some (Is k) → Named l o
 
 module _ (ns : List Node) where
   item-shift : (o : Num) → ifPresent o (isShiftAt ns) ≡ true → Shifted (itemShiftAt ns o)
   unfolding isShiftAt isShiftOf movesOf
-  item-shift Lacks e = (shift.None, (refl, refl))
+  item-shift None e = (shift.None, (refl, refl))
   item-shift (Is k) e =
       let a = and-both (eqb (nodeAt ns k .vr) FL) _ e in (
         itemShift (valueAt ns k),
@@ -204,7 +215,7 @@ module _ (ns : List Node) where
 
   frame-at : (o : Num) → holds o (λ x. isFrameShift (valueAt ns x)) ≡ true
       → Shifted (need o (λ x. check (eqb (length (valueAt ns x)) 8) (some (frameShift (valueAt ns x)))))
-  frame-at Lacks e = absurd (false-is-true e)
+  frame-at None e = absurd (false-is-true e)
   frame-at (Is x) e =
       let v = valueAt ns x in
       let a = sym (as-item v) ∙ e in
@@ -220,7 +231,8 @@ module _ (ns : List Node) where
       let x = had (idIn ns j) _ e in
       (x .0, x .1 .0)
 
-  name-next : (id k : ℕ) (l : List ℕ) (x : ℕ) → idIn ns k ≡ Is x → Named l (naming ns id l) → (t : Bool) → eqb x id ≡ t → Named (k ∷ l) (naming ns id (k ∷ l))
+  name-next : (id k : ℕ) (l : List ℕ) (x : ℕ) → idIn ns k ≡ Is x → Named l (naming ns id l) → (t : Bool) → eqb x id ≡ t
+      → Named (k ∷ l) (naming ns id (k ∷ l))
   unfolding naming
   name-next id k l x q r true t = named k here (rw (q, t))
   name-next id k l x q (unnamed e) false t = unnamed (rw (q, t) e)
@@ -235,7 +247,8 @@ module _ (ns : List Node) where
       let x = id-had k (b .0) in
       name-next id k l (x .0) (x .1) (names id l (a .1)) (eqb (x .0) id) refl
 
-  by-name : (j : ℕ) (l : List ℕ) (o : Option Num) → every (isShiftItem ns) l ≡ true → shiftFits ns j ≡ true → Named l o → Shifted (then o (shiftFrom ns j))
+  by-name : (j : ℕ) (l : List ℕ) (o : Option Num) → every (isShiftItem ns) l ≡ true → shiftFits ns j ≡ true → Named l o
+      → Shifted (then o (shiftFrom ns j))
   unfolding shiftFits
   by-name j l o e w (unnamed q) = rw q (item-shift (find ns Tags.MaskSubPixelShift (inside ns j)) w)
   by-name j l o e w (named k m q) = rw q (frame-shift k (every-at (isShiftItem ns) m e) j)
@@ -243,7 +256,7 @@ module _ (ns : List Node) where
   own-shift : (j : ℕ) (o : Num) → shiftFits ns j ≡ true → ifPresent o (isShiftGroup ns) ≡ true → ((g : ℕ) → o ≡ Is g → hasId ns j ≡ true)
       → Shifted (then (ownIn ns j o) (shiftFrom ns j))
   unfolding shiftFits isShiftGroup
-  own-shift j Lacks w e i = item-shift (find ns Tags.MaskSubPixelShift (inside ns j)) w
+  own-shift j None w e i = item-shift (find ns Tags.MaskSubPixelShift (inside ns j)) w
   own-shift j (Is g) w e i =
       let a = and-both (eqb (nodeAt ns g .vr) SQ) _ e in
       let b = and-both (leb 1 (length (inside ns g))) _ (a .1) in
@@ -258,7 +271,8 @@ module _ (ns : List Node) where
   unfolding isShiftGroup filled
   group-filled g e = (a .0, rw (a .0) (go (eqb (nodeAt ns g .descendants) 0) refl))
     where
-      a : (eqb (nodeAt ns g .vr) SQ ≡ true) × ((leb 1 (length (inside ns g)) && (every (isShiftItem ns) (inside ns g) && uniqueIds ns (inside ns g))) ≡ true)
+      a : (eqb (nodeAt ns g .vr) SQ ≡ true)
+          × ((leb 1 (length (inside ns g)) && (every (isShiftItem ns) (inside ns g) && uniqueIds ns (inside ns g))) ≡ true)
       a = and-both (eqb (nodeAt ns g .vr) SQ) _ e
 
       go : (t : Bool) → eqb (nodeAt ns g .descendants) 0 ≡ t → not t ≡ true
@@ -278,15 +292,17 @@ module _ (ns : List Node) where
   item-first : (f i : ℕ) → frameItem ns f ≡ Is i → first (drop (f - 1) (frameItems ns)) ≡ Is i
   item-first f i = go (leb 1 f)
     where
-      go : (t : Bool) → cond t (first (drop (f - 1) (frameItems ns))) Lacks ≡ Is i → first (drop (f - 1) (frameItems ns)) ≡ Is i
+      go : (t : Bool) → cond t (first (drop (f - 1) (frameItems ns))) None ≡ Is i → first (drop (f - 1) (frameItems ns)) ≡ Is i
       go true e = e
       go false e = let z : _≡_ {A = ℕ} 0 1 = cc in absurd (omega arith)
 
-  pub shift-ids : rule36 ns ≡ true → (f s i g : ℕ) → sharedItem ns ≡ Is s → frameItem ns f ≡ Is i → groupOf ns Tags.FramePixelShiftSequence s i ≡ Is g
+  pub shift-ids : rule36 ns ≡ true → (f s i g : ℕ) → sharedItem ns ≡ Is s → frameItem ns f ≡ Is i
+      → groupOf ns Tags.FramePixelShiftSequence s i ≡ Is g
       → isShiftGroup ns g ≡ true → every (hasId ns) (maskItems ns) ≡ true
   unfolding rule36 anyShift masksHaveIds
   shift-ids r f s i g p q h e =
-      let t : anyShift ns s ≡ true = some-at (hasShiftGroup ns s) (first-among (f - 1) i (frameItems ns) (item-first f i q)) (has-group s i g h e) in
+      let t : anyShift ns s
+      ≡ true = some-at (hasShiftGroup ns s) (first-among (f - 1) i (frameItems ns) (item-first f i q)) (has-group s i g h e) in
       let u : cond (anyShift ns s) (masksHaveIds ns) true ≡ true = held (sharedItem ns) _ s p r in
       and-both (every (hasId ns) (maskItems ns)) _ (where-true _ _ t u) .0
 
@@ -295,7 +311,7 @@ module _ (ns : List Node) where
   group-for f tag s i p q = rw q (go (find ns tag (inside ns i)))
     where
       go : (o : Num) → orShared ns tag o ≡ some (orElse o (find ns tag (inside ns s)))
-      go Lacks = rw p
+      go None = rw p
       go (Is g) = refl
 
   shift-for : (f j : ℕ) → rule36 ns ≡ true → rule37 ns f ≡ true → Among j (maskItems ns) → shiftFits ns j ≡ true → Shifted (shiftFor ns f j)
@@ -306,7 +322,8 @@ module _ (ns : List Node) where
       let fits : ifPresent (groupOf ns Tags.FramePixelShiftSequence (s .0) (i .0)) (isShiftGroup ns) ≡ true = i .1 .1 in
       rw (group-for f Tags.FramePixelShiftSequence (s .0) (i .0) (s .1 .0) (i .1 .0))
       (own-shift j (groupOf ns Tags.FramePixelShiftSequence (s .0) (i .0)) w fits (λ g q.
-      every-at (hasId ns) m (shift-ids r f (s .0) (i .0) g (s .1 .0) (i .1 .0) q (subst (λ (x : Num). ifPresent x (isShiftGroup ns) ≡ true) q fits))))
+      every-at (hasId ns) m
+      (shift-ids r f (s .0) (i .0) g (s .1 .0) (i .1 .0) q (subst (λ (x : Num). ifPresent x (isShiftGroup ns) ≡ true) q fits))))
 
 -- ---- Step 3: the mask frames
 
@@ -320,9 +337,11 @@ within n (k ∷ l) e =
 
 module _ (ns : List Node) (n j : ℕ) where
   average-at : (o : Num) → holds o (λ k. areMaskFrames n (valueAt ns k)) ≡ true
-      → (ks : List ℕ) × ((need o (λ k. check (eqb (length (valueAt ns k) % 2) 0 && leb 1 (length (usValues (valueAt ns k)))) (some (usValues (valueAt ns k)))) ≡ some ks) × ((1 ≤ length ks) × ((length ks ≤ 64) × AllWithin n ks)))
+      → (ks : List ℕ) × ((need o
+      (λ k. check (eqb (length (valueAt ns k) % 2) 0 && leb 1 (length (usValues (valueAt ns k)))) (some (usValues (valueAt ns k))))
+      ≡ some ks) × ((1 ≤ length ks) × ((length ks ≤ 64) × AllWithin n ks)))
   unfolding areMaskFrames
-  average-at Lacks e = absurd (false-is-true e)
+  average-at None e = absurd (false-is-true e)
   average-at (Is k) e =
       let a = and-both (eqb (length (valueAt ns k) % 2) 0) _ e in
       let b = and-both (leb 1 (length (usValues (valueAt ns k))) && leb (length (usValues (valueAt ns k))) 64) _ (a .1) in
@@ -341,7 +360,7 @@ module _ (ns : List Node) (n j : ℕ) where
 
   offset-at : (o : Num) → ifPresent o (isOffset ns) ≡ true → (d : Signed) × (offsetAt ns o ≡ some d)
   unfolding isOffset
-  offset-at Lacks e = (signed.Plus 1, refl)
+  offset-at None e = (signed.Plus 1, refl)
   offset-at (Is k) e = (ssOf (valueAt ns k), checked _ _ e)
 
   offset : operationIs ns (ascii "TID") j ≡ true → offsetFits ns j ≡ true → (d : Signed) × (offsetOf ns j ≡ some d)
@@ -358,7 +377,7 @@ module _ (ns : List Node) (f n j : ℕ) (m : Moves) (moved : movesFor ns f j ≡
       → Masks n (then o (λ l. then (movesFor ns f j) (λ x. some (masked l x))))
   by-average o ks q a b c = (masked ks m, (rw (q, moved), (a, (b, (c, sound)))))
 
-  by-tid : (k : ℕ) (t : Bool) → (leb 1 k && leb k n) ≡ t → Masks n (onTid ns f j (cond t (Is k) Lacks))
+  by-tid : (k : ℕ) (t : Bool) → (leb 1 k && leb k n) ≡ t → Masks n (onTid ns f j (cond t (Is k) None))
   by-tid k false e = (native, (refl, tt))
   by-tid k true e =
       let a = and-both (leb 1 k) _ e in
@@ -373,8 +392,10 @@ module _ (ns : List Node) (f n j : ℕ) (m : Moves) (moved : movesFor ns f j ≡
   mask-by count op av off =
       go (operationIs ns (ascii "NONE") j) refl (operationIs ns (ascii "AVG_SUB") j) refl (operationIs ns (ascii "TID") j) refl
     where
-      go : (a : Bool) → operationIs ns (ascii "NONE") j ≡ a → (b : Bool) → operationIs ns (ascii "AVG_SUB") j ≡ b → (c : Bool) → operationIs ns (ascii "TID") j ≡ c
-          → Masks n (cond a (some native) (cond b (then (averageFrames ns j) (λ ks. then (movesFor ns f j) (λ x. some (masked ks x)))) (cond c (then (tidFrame ns f j) (onTid ns f j)) none)))
+      go : (a : Bool) → operationIs ns (ascii "NONE") j ≡ a → (b : Bool) → operationIs ns (ascii "AVG_SUB") j ≡ b → (c : Bool)
+          → operationIs ns (ascii "TID") j ≡ c
+          → Masks n (cond a (some native) (cond b (then (averageFrames ns j) (λ ks. then (movesFor ns f j) (λ x. some (masked ks x))))
+          (cond c (then (tidFrame ns f j) (onTid ns f j)) none)))
       go true p b q c r = (native, (refl, tt))
       go false p true q c r =
           let w = averages ns n j q av in
@@ -450,7 +471,8 @@ module _ (ns : List Node) (ok : findingOf ns ≡ Accepted) where
       mask-for = mask-on (applyingTo ns f) (applies ns f n r31 ranges)
 
 -- What demand 3 asks of steps 2 to 4.
-pub masking : (ns : List Node) → findingOf ns ≡ Accepted → (n : ℕ) → framesOf ns ≡ Is n → 1 ≤ n → n ≤ 65535 → (f : ℕ) → 1 ≤ f → f ≤ n → Masking ns f n
+pub masking : (ns : List Node) → findingOf ns ≡ Accepted → (n : ℕ) → framesOf ns ≡ Is n → 1 ≤ n → n ≤ 65535 → (f : ℕ) → 1 ≤ f → f ≤ n
+    → Masking ns f n
 masking ns ok n count some-frame few f low high =
     let w = mask-for ns ok n count f low high in
     record { m = w .0; mask = w .1 .0; sound = w .1 .1 }

@@ -12,7 +12,7 @@ use lib.Dec.{eqb, leb}
 use lib.ListN.{length, getD}
 use borrow.Author.Tests.{le-leb, leb-true, eqb-true}
 use Rattle.value.specs.declared.Num.{Num}
-use Rattle.value.specs.declared.Num.the-variants.{Is, Lacks}
+use Rattle.value.specs.declared.Num.the-variants.{Is, None}
 use Rattle.value.specs.declared.Signed.{Signed}
 use Rattle.value.specs.declared.Signed.the-variants as signed
 use Rattle.value.specs.Text.{ascii, equal, valuesOf, valueOf, isSingle, trimStart, trimEnd}
@@ -28,8 +28,8 @@ use Rattle.element.specs.Tags
 use Rattle.basics.specs.Vr.{CS, DS, OB, OW}
 use Rattle.element.specs.Elements.{valueAt, usIn, theItem, functionIn}
 use Rattle.element.specs.Frames.{framesOf, sharedItem, frameItem, groupOf}
-use Rattle.rules.specs.Root.{photometricIs, bitsFit, rule9, rule10, rule11, rule12, rule13, rule14, rule15, rule25, rule26}
-use Rattle.rules.specs.Frame.{atFrame, item27, item30, isVoi, hasWindow, isWindow, rule27, rule28, rule29, rule30, rule37}
+use Rattle.rules.specs.Root.{photometricIs, bitsFit, rule10, rule11, rule12, rule15}
+use Rattle.rules.specs.Frame.{atFrame, item27, item30, isVoi, hasWindow, isWindow, rule27, rule30, rule37}
 use Rattle.rules.specs.Mask.{rule31, rule32, rule33, rule34, rule35, rule36}
 use Rattle.rules.specs.Pixels.{padded, isPixelVr, isPixelData, rule38}
 use Rattle.rules.specs.Intensity.{rule39}
@@ -50,7 +50,7 @@ use Rattle.display.proofs.Accepted.{SmallRoot, Object, Windowed}
 
 -- What a test that holds found.
 pub had : (o : Num) (p : ℕ → Bool) → holds o p ≡ true → (n : ℕ) × ((o ≡ Is n) × (p n ≡ true))
-had Lacks p e = absurd (false-is-true e)
+had None p e = absurd (false-is-true e)
 had (Is n) p e = (n, (refl, e))
 
 -- A read has one answer.
@@ -72,12 +72,13 @@ at-items ns f asked e =
     record { s = a .0; i = b .0; shared = a .1 .0; item = b .1 .0; holds = b .1 .1 }
 
 -- A frame's group, where both items are there.
-pub group-is : (ns : List Node) (f tag s i : ℕ) → sharedItem ns ≡ Is s → frameItem ns f ≡ Is i → groupFor ns f tag ≡ some (groupOf ns tag s i)
+pub group-is : (ns : List Node) (f tag s i : ℕ) → sharedItem ns ≡ Is s → frameItem ns f ≡ Is i
+    → groupFor ns f tag ≡ some (groupOf ns tag s i)
 unfolding groupFor
 group-is ns f tag s i a b = rw b (go (find ns tag (inside ns i)))
   where
     go : (o : Num) → orShared ns tag o ≡ some (orElse o (find ns tag (inside ns s)))
-    go Lacks = rw a
+    go None = rw a
     go (Is g) = refl
 
 -- ---- The rules of an accepted object
@@ -87,13 +88,10 @@ module _ (ns : List Node) (ok : findingOf ns ≡ Accepted) where
   unfolding firstFrame frameCount
   at-once rule a b e = accepted-holds ns ok rule a (omega arith) 0 (rw e (omega arith)) (rw e (omega arith))
 
-  pub at-frame : (rule n f : ℕ) → 1 ≤ rule → rule ≤ lastRule → perFrame rule ≡ true → framesOf ns ≡ Is n → 1 ≤ f → f ≤ n → ruleAt ns rule f ≡ true
+  pub at-frame : (rule n f : ℕ) → 1 ≤ rule → rule ≤ lastRule → perFrame rule ≡ true → framesOf ns ≡ Is n → 1 ≤ f → f ≤ n
+      → ruleAt ns rule f ≡ true
   unfolding firstFrame frameCount
   at-frame rule n f a b e c l h = accepted-holds ns ok rule a (omega arith) f (rw e (omega arith)) (rw (e, c) (omega arith))
-
-  pub r9 : rule9 ns ≡ true
-  unfolding ruleAt ruleList perFrame
-  r9 = at-once 9 (omega arith) (omega arith) refl
 
   pub r10 : rule10 ns ≡ true
   unfolding ruleAt ruleList perFrame
@@ -107,25 +105,9 @@ module _ (ns : List Node) (ok : findingOf ns ≡ Accepted) where
   unfolding ruleAt ruleList perFrame
   r12 = at-once 12 (omega arith) (omega arith) refl
 
-  pub r13 : rule13 ns ≡ true
-  unfolding ruleAt ruleList perFrame
-  r13 = at-once 13 (omega arith) (omega arith) refl
-
-  pub r14 : rule14 ns ≡ true
-  unfolding ruleAt ruleList perFrame
-  r14 = at-once 14 (omega arith) (omega arith) refl
-
   pub r15 : rule15 ns ≡ true
   unfolding ruleAt ruleList perFrame
   r15 = at-once 15 (omega arith) (omega arith) refl
-
-  pub r25 : rule25 ns ≡ true
-  unfolding ruleAt ruleList perFrame
-  r25 = at-once 25 (omega arith) (omega arith) refl
-
-  pub r26 : rule26 ns ≡ true
-  unfolding ruleAt ruleList perFrame
-  r26 = at-once 26 (omega arith) (omega arith) refl
 
   pub r31 : rule31 ns ≡ true
   unfolding ruleAt ruleList perFrame
@@ -160,14 +142,6 @@ module _ (ns : List Node) (ok : findingOf ns ≡ Accepted) where
     unfolding ruleAt ruleList perFrame
     r27 = at-frame 27 n f (omega arith) (omega arith) refl count low high
 
-    pub r28 : rule28 ns f ≡ true
-    unfolding ruleAt ruleList perFrame
-    r28 = at-frame 28 n f (omega arith) (omega arith) refl count low high
-
-    pub r29 : rule29 ns f ≡ true
-    unfolding ruleAt ruleList perFrame
-    r29 = at-frame 29 n f (omega arith) (omega arith) refl count low high
-
     pub r30 : rule30 ns f ≡ true
     unfolding ruleAt ruleList perFrame
     r30 = at-frame 30 n f (omega arith) (omega arith) refl count low high
@@ -184,11 +158,6 @@ module _ (ns : List Node) (ok : findingOf ns ≡ Accepted) where
     pub item-of : (i : ℕ) × (frameItem ns f ≡ Is i)
     unfolding rule27
     item-of = let a = at-items ns f (item27 ns) r27 in (a .i, a .item)
-
-  -- The shared item.
-  pub shared-of : (s : ℕ) × (sharedItem ns ≡ Is s)
-  unfolding rule25
-  shared-of = let a = had (sharedItem ns) (λ s. true) r25 in (a .0, a .1 .0)
 
 -- ---- Rules 10 to 12, 15 and 38: the object
 
@@ -259,13 +228,17 @@ photometric-of : (ns : List Node) → rule10 ns ≡ true → (t : Bool) × (inve
 unfolding rule10 photometricIs
 photometric-of ns e = go (or-either (photometricIs ns (ascii "MONOCHROME1")) (photometricIs ns (ascii "MONOCHROME2")) e)
   where
-    word : (w : List ℕ) → isWord [] w ≡ false → holds (findVr ns Tags.PhotometricInterpretation CS (root ns)) (λ i. isWord (valueAt ns i) w) ≡ true
+    word : (w : List ℕ) → isWord [] w ≡ false
+        → holds (findVr ns Tags.PhotometricInterpretation CS (root ns)) (λ i. isWord (valueAt ns i) w) ≡ true
         → (t : Bool) × (inverseOf ns ≡ some t)
     word w n h =
-        let a = had (findVr ns Tags.PhotometricInterpretation CS (root ns)) (λ i. isWord (valueAt ns i) w) h in
-        (isWord (valueAt ns (a .0)) (ascii "MONOCHROME1"), inverse-is ns (a .0) (a .1 .0) (lettered (valueAt ns (a .0)) w n (a .1 .1)) (single (valueAt ns (a .0)) w (a .1 .1)))
+        let a = had (findVr ns Tags.PhotometricInterpretation CS (root ns)) (λ i. isWord (valueAt ns i) w) h in (
+          isWord (valueAt ns (a .0)) (ascii "MONOCHROME1"),
+          inverse-is ns (a .0) (a .1 .0) (lettered (valueAt ns (a .0)) w n (a .1 .1)) (single (valueAt ns (a .0)) w (a .1 .1)),
+        )
 
-    go : (photometricIs ns (ascii "MONOCHROME1") ≡ true) ⊎ (photometricIs ns (ascii "MONOCHROME2") ≡ true) → (t : Bool) × (inverseOf ns ≡ some t)
+    go : (photometricIs ns (ascii "MONOCHROME1") ≡ true) ⊎ (photometricIs ns (ascii "MONOCHROME2") ≡ true)
+        → (t : Bool) × (inverseOf ns ≡ some t)
     go (inl h) = word (ascii "MONOCHROME1") (no-letter 0x4D (ascii "ONOCHROME1")) h
     go (inr h) = word (ascii "MONOCHROME2") (no-letter 0x4D (ascii "ONOCHROME2")) h
 
@@ -351,7 +324,11 @@ module _ (ns : List Node) where
     inside-pixels : (f : ℕ) → 1 ≤ f → f ≤ k .n → isFrame shape (valueAt ns (k .p)) f ≡ true
     unfolding isFrame
     inside-pixels f l h =
-        rw (le-leb 1 f l, le-leb (f * (k .r * k .c) * (k .a / 8)) (length (valueAt ns (k .p))) (frames-inside f (k .n) (k .r) (k .c) (k .a / 8) _ h (k .size)))
+        rw (
+          le-leb 1 f l,
+          le-leb (f * (k .r * k .c) * (k .a / 8)) (length (valueAt ns (k .p)))
+              (frames-inside f (k .n) (k .r) (k .c) (k .a / 8) _ h (k .size)),
+        )
 
 fewer : {n : ℕ} → n < 65536 → n ≤ 65535
 fewer h = omega arith
@@ -397,15 +374,17 @@ all-first p v e = go (valuesOf v) (values-some v) e
 width-number : (least : ℕ) (s : Signed) → isWidth least s ≡ true → isNumber s ≡ true
 width-number least (signed.Plus n) e = refl
 width-number least (signed.Minus n) e = absurd (false-is-true e)
-width-number least signed.Lacks e = absurd (false-is-true e)
+width-number least signed.None e = absurd (false-is-true e)
 
 -- A window in a VOI item: the first centre and the first width.
 abbrev firstOf : List Node → ℕ → Signed
 firstOf ns i = decimalOf (valueOf (valueAt ns i) 0)
 
 module _ (ns : List Node) (is : List ℕ) where
-  window-is : (c w : ℕ) → findVr ns Tags.WindowCenter DS is ≡ Is c → findVr ns Tags.WindowWidth DS is ≡ Is w → isNumber (firstOf ns c) ≡ true
-      → isNumber (firstOf ns w) ≡ true → isFunction (functionIn ns is) ≡ true → windowIn ns is ≡ some (record { center = firstOf ns c; width = firstOf ns w; function = functionIn ns is })
+  window-is : (c w : ℕ) → findVr ns Tags.WindowCenter DS is ≡ Is c → findVr ns Tags.WindowWidth DS is ≡ Is w
+      → isNumber (firstOf ns c) ≡ true
+      → isNumber (firstOf ns w) ≡ true → isFunction (functionIn ns is) ≡ true
+      → windowIn ns is ≡ some (record { center = firstOf ns c; width = firstOf ns w; function = functionIn ns is })
   unfolding windowIn
   window-is c w p q x y z = rw (p, q, x, y, z)
 
@@ -418,11 +397,16 @@ module _ (ns : List Node) (is : List ℕ) where
       let t = and-both (eqb (length (valuesOf (valueAt ns (c .0)))) (length (valuesOf (valueAt ns (w .0))))) _ (f .1) in
       let u = and-both (allDecimals (valueAt ns (c .0))) (allWidths (leastWidth (functionIn ns is)) (valueAt ns (w .0))) (t .1) in
       let number : isNumber (firstOf ns (c .0)) ≡ true = all-first (λ d. isNumber (decimalOf d)) (valueAt ns (c .0)) (u .0) in
-      let wide : isWidth (leastWidth (functionIn ns is)) (firstOf ns (w .0)) ≡ true = all-first (λ d. isWidth (leastWidth (functionIn ns is)) (decimalOf d)) (valueAt ns (w .0)) (u .1) in (
+      let wide : isWidth (leastWidth (functionIn ns is)) (firstOf ns (w .0))
+      ≡ true = all-first (λ d. isWidth (leastWidth (functionIn ns is)) (decimalOf d)) (valueAt ns (w .0)) (u .1) in (
         record { center = firstOf ns (c .0); width = firstOf ns (w .0); function = functionIn ns is },
         (
           window-is (c .0) (w .0) (c .1 .0) (w .1 .0) number (width-number (leastWidth (functionIn ns is)) (firstOf ns (w .0)) wide) (f .0),
-          record { ruled = record { number = number; function = f .0; wide = wide }; near = decimalOf-below (valueOf (valueAt ns (c .0)) 0); narrow = decimalOf-below (valueOf (valueAt ns (w .0)) 0) },
+          record {
+            ruled = record { number = number; function = f .0; wide = wide };
+            near = decimalOf-below (valueOf (valueAt ns (c .0)) 0);
+            narrow = decimalOf-below (valueOf (valueAt ns (w .0)) 0);
+          },
         ),
       )
 
@@ -432,21 +416,27 @@ unfolding fullWindow
 full-drawable stored h =
     let b : 2 ^ stored ≤ 65536 = power-small stored 16 h in
     let c : 1 ≤ 2 ^ stored = one-le-pow stored 2 (omega arith) in
-    record { ruled = record { number = refl; function = refl; wide = le-leb unit (unit * 2 ^ stored) (omega arith) }; near = omega arith; narrow = omega arith }
+    record {
+      ruled = record { number = refl; function = refl; wide = le-leb unit (unit * 2 ^ stored) (omega arith) };
+      near = omega arith;
+      narrow = omega arith;
+    }
 
-item-window : (ns : List Node) (stored g j : ℕ) (w : Window) → theItem ns g ≡ Is j → windowIn ns (inside ns j) ≡ some w → windowOn ns stored (Is g) ≡ some w
+item-window : (ns : List Node) (stored g j : ℕ) (w : Window) → theItem ns g ≡ Is j → windowIn ns (inside ns j) ≡ some w
+    → windowOn ns stored (Is g) ≡ some w
 item-window ns stored g j w e h = rw e h
 
 window-on : (ns : List Node) (stored : ℕ) → stored ≤ 16 → (o : Num) → ifPresent o (isVoi ns) ≡ true
     → (w : Window) × ((windowOn ns stored o ≡ some w) × Drawable w)
 unfolding isVoi
-window-on ns stored h Lacks e = (fullWindow stored, (refl, full-drawable stored h))
+window-on ns stored h None e = (fullWindow stored, (refl, full-drawable stored h))
 window-on ns stored h (Is g) e =
     let j = had (theItem ns g) (λ i. hasWindow ns (inside ns i)) e in
     let w = window-in ns (inside ns (j .0)) (j .1 .1) in
     (w .0, (item-window ns stored g (j .0) (w .0) (j .1 .0) (w .1 .0), w .1 .1))
 
-group-window : (ns : List Node) (f stored : ℕ) (o : Num) (w : Window) → groupFor ns f Tags.FrameVOILUTSequence ≡ some o → windowOn ns stored o ≡ some w → windowFor ns f stored ≡ some w
+group-window : (ns : List Node) (f stored : ℕ) (o : Num) (w : Window) → groupFor ns f Tags.FrameVOILUTSequence ≡ some o
+    → windowOn ns stored o ≡ some w → windowFor ns f stored ≡ some w
 unfolding windowFor
 group-window ns f stored o w e h = rw e h
 
@@ -459,6 +449,7 @@ windowed ns ok o f l h =
     let w = window-on ns (o .g .stored) (o .stored-high) g (a .holds) in
     record {
       w = w .0;
-      window = group-window ns f (o .g .stored) g (w .0) (group-is ns f Tags.FrameVOILUTSequence (a .s) (a .i) (a .shared) (a .item)) (w .1 .0);
+      window = group-window ns f (o .g .stored) g (w .0) (group-is ns f Tags.FrameVOILUTSequence (a .s) (a .i) (a .shared) (a .item))
+          (w .1 .0);
       drawable = w .1 .1;
     }

@@ -1,4 +1,5 @@
--- What painting is asked: the pixel bytes and the mask frames are those of the nodes, and one frame number as two bytes is a list of that frame.
+-- What painting is asked: the pixel bytes and the mask frames are those of the nodes, and one frame number as two bytes is a list of that
+-- frame.
 use mathlib.Core.Path.{_≡_, ap, subst}
 use mathlib.Core.Bool.{true}
 use mathlib.Core.List.{List, [], _∷_}

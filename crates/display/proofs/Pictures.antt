@@ -38,7 +38,8 @@ pub record Collected (F : ℕ → Num) (f : ℕ → ℕ) (n : ℕ) (image : List
   pub size : length l ≡ n
   pub image-is : painted f n image ≡ l ++ drop n image
 
-pub collected : (F : ℕ → Num) (f : ℕ → ℕ) (n : ℕ) (image : List ℕ) → n ≤ length image → ((i : ℕ) → i < n → F i ≡ Is (f i)) → Collected F f n image
+pub collected : (F : ℕ → Num) (f : ℕ → ℕ) (n : ℕ) (image : List ℕ) → n ≤ length image → ((i : ℕ) → i < n → F i ≡ Is (f i))
+    → Collected F f n image
 unfolding collect painted
 collected F f zero image h e = record { l = []; is = refl; size = refl; image-is = refl }
 collected F f (suc n) image h e =
@@ -67,11 +68,13 @@ twice s =
     rw (e, pow-suc 2 s) (omega arith)
 
 -- The shade at a place whose x is the cell's.
-shade-cell : (w : Window) → Drawable w → (stored : ℕ) (inverse : Bool) (i : ℕ) (x : ℤ) → pos (i + 2 ^ (stored - 1)) -ℤ pos (2 ^ stored - 1) ≡ x
+shade-cell : (w : Window) → Drawable w → (stored : ℕ) (inverse : Bool) (i : ℕ) (x : ℤ)
+    → pos (i + 2 ^ (stored - 1)) -ℤ pos (2 ^ stored - 1) ≡ x
     → shaded inverse (levelOf w x) ≡ Is (shadeAt w stored inverse i)
 shade-cell w d stored inverse i x e =
     let l = leveled w x in
-    ap (shaded inverse) (l .is) ∙ shaded-is inverse (l .y) (l .small) ∙ ap Is (sym (shade-is w stored inverse i (l .y) (l .small) (rw e (l .is))))
+    ap (shaded inverse) (l .is) ∙ shaded-is inverse (l .y) (l .small)
+    ∙ ap Is (sym (shade-is w stored inverse i (l .y) (l .small) (rw e (l .is))))
 
 module _ (g : Geometry) (v : List ℕ) (f : ℕ) (low : 1 ≤ g .stored) (w : Window) (d : Drawable w) (inverse : Bool)
     (table : List ℕ) (t : Filled (shadeAt w (g .stored) inverse) (2 ^ (g .stored + 1) - 1) table) where
@@ -84,7 +87,8 @@ module _ (g : Geometry) (v : List ℕ) (f : ℕ) (low : 1 ≤ g .stored) (w : Wi
       let h : p ≤ q = half-low (g .stored) low in
       let m : s ≤ q = sample-most g v f i in
       let k : s + (q - p) < 2 ^ (g .stored + 1) - 1 = omega (arith, twice (g .stored), pow-pos (g .stored)) in
-      let x : pos (s + (q - p) + p) -ℤ pos q ≡ pos s = same (pos (s + (q - p) + p) -ℤ pos q) (pos s) (s + (q - p) + p) q (gap (s + (q - p) + p) q) (shift (whole s) (s + (q - p) + p) q (omega arith)) in
+      let x : pos (s + (q - p) + p) -ℤ pos q ≡ pos s = same (pos (s + (q - p) + p) -ℤ pos q) (pos s) (s + (q - p) + p) q
+      (gap (s + (q - p) + p) q) (shift (whole s) (s + (q - p) + p) q (omega arith)) in
       shade-cell w d (g .stored) inverse (s + (q - p)) (pos s) x ∙ ap Is (sym (t .value (s + (q - p)) k))
 
   pub masked-is : (ks : List ℕ) (mv : Moves) → 1 ≤ length ks → length ks ≤ 64 → (i : ℕ) → i < samplesOf g
@@ -100,6 +104,7 @@ module _ (g : Geometry) (v : List ℕ) (f : ℕ) (low : 1 ≤ g .stored) (w : Wi
       let n : a ≤ q = blended-most g mv i v ks one few in
       let k : s + q - a < 2 ^ (g .stored + 1) - 1 = omega (arith, twice (g .stored), pow-pos (g .stored)) in
       let x : pos (s + q - a + p) -ℤ pos q ≡ pos s -ℤ pos a +ℤ pos p =
-      same (pos (s + q - a + p) -ℤ pos q) (pos s -ℤ pos a +ℤ pos p) (s + q - a + p) q (gap (s + q - a + p) q) (shift (plus (gap s a) (whole p)) (s + q - a + p) q (omega arith)) in
+      same (pos (s + q - a + p) -ℤ pos q) (pos s -ℤ pos a +ℤ pos p) (s + q - a + p) q (gap (s + q - a + p) q)
+      (shift (plus (gap s a) (whole p)) (s + q - a + p) q (omega arith)) in
       rw (le-leb 1 (length ks) one, are-inside g mv i inside, some-bits (g .stored) low)
       (shade-cell w d (g .stored) inverse (s + q - a) (pos s -ℤ pos a +ℤ pos p) x ∙ ap Is (sym (t .value (s + q - a) k)))

@@ -20,7 +20,7 @@ use Rattle.element.specs.Tags
 use Rattle.basics.specs.Vr.{OB, OW}
 use Rattle.pixel.specs.declared.Geometry.{Geometry}
 use Rattle.value.specs.declared.Num.{Num}
-use Rattle.value.specs.declared.Num.the-variants.{Is, Lacks}
+use Rattle.value.specs.declared.Num.the-variants.{Is, None}
 use Rattle.element.specs.Elements.{valueAt}
 use Rattle.conformance.specs.Judging.{numberOf}
 use Rattle.pixel.specs.Pixel.{samplesOf}
@@ -54,7 +54,7 @@ pixels-of ns p v e h =
     kind (inl e) = inl (eqb-true (nodeAt ns p .vr) OW e)
     kind (inr e) = inr (eqb-true (nodeAt ns p .vr) OB e)
 
-pub no-pixels : (ns : List Node) (v : List ℕ) → find ns Tags.PixelData (root ns) ≡ Lacks → pixelsOf ns ≡ some v → ⊥
+pub no-pixels : (ns : List Node) (v : List ℕ) → find ns Tags.PixelData (root ns) ≡ None → pixelsOf ns ≡ some v → ⊥
 unfolding pixelsOf
 no-pixels ns v e h =
     let u : pixelsOf ns ≡ none = rw e in
@@ -109,12 +109,14 @@ module _ (s : List ℕ) (n f : ℕ) (h : IsObject s n) (low : 1 ≤ f) (high : f
   pub picture-size : length (pictureOf (nodesOf s) f .samples) ≡ samplesOf (c .g)
   unfolding pictureOf
   picture-size =
-      let w : Whole (nodesOf s) f = nothing-lacks s (h .bytes) (h .sound) f low (subst (λ (x : Num). f ≤ numberOf x) (sym (h .frames)) high) in
+      let w : Whole (nodesOf s) f = nothing-lacks s (h .bytes) (h .sound) f low
+      (subst (λ (x : Num). f ≤ numberOf x) (sym (h .frames)) high) in
       ap (λ (p : Option Picture). length (pictureIn p .samples)) (w .is) ∙ (w .size ∙ sym (based .size))
 
   module _ (p : Plan) (r : IsPlan (nodesOf s) f (c .g .stored) p) where
     pub ready : MasksReady (nodesOf s) (valueAt (nodesOf s) (c .p)) (c .g) (p .masking)
-    ready = whole.masks-ready (nodesOf s) (valueAt (nodesOf s) (c .p)) (c .g) n (based .each) (based .few) (p .masking) (maskFor (nodesOf s) f) (r .masking-is) (r .below) (all .mask)
+    ready = whole.masks-ready (nodesOf s) (valueAt (nodesOf s) (c .p)) (c .g) n (based .each) (based .few) (p .masking)
+        (maskFor (nodesOf s) f) (r .masking-is) (r .below) (all .mask)
 
 pub few-frames : (s : List ℕ) (n : ℕ) → IsObject s n → n ≤ 65535
 few-frames s n h =
@@ -122,7 +124,9 @@ few-frames s n h =
     omega (arith, a .o .few-frames, a .n-is)
 
 -- No more cells than this in any number of its frames.
-pub cells-few : (s : List ℕ) (n : ℕ) (h : IsObject s n) → 1 ≤ n → (c : Scene) → IsScene (nodesOf s) c → (k : ℕ) → k ≤ n → k * imageSize (nodesOf s) ≤ 281462092005375
+pub cells-few : (s : List ℕ) (n : ℕ) (h : IsObject s n) → 1 ≤ n → (c : Scene) → IsScene (nodesOf s) c → (k : ℕ) → k ≤ n
+    → k * imageSize (nodesOf s) ≤ 281462092005375
 cells-few s n h one c q k l =
     let b = based s n 1 h (omega arith) one c q in
-    subst (λ (x : ℕ). k * x ≤ 281462092005375) (b .size) (frames-fit k (c .g .rows) (c .g .columns) 0 (omega (arith, b .few)) (b .shape .rows-most) (b .shape .columns-most) (omega arith))
+    subst (λ (x : ℕ). k * x ≤ 281462092005375) (b .size)
+    (frames-fit k (c .g .rows) (c .g .columns) 0 (omega (arith, b .few)) (b .shape .rows-most) (b .shape .columns-most) (omega arith))

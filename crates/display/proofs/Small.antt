@@ -10,7 +10,7 @@ use Rattle.basics.specs.Bytes.{le16}
 use Rattle.dataset.specs.Reading.{Row}
 use Rattle.dataset.specs.Tree.{rowsOf}
 use Rattle.value.specs.declared.Num.{Num}
-use Rattle.value.specs.declared.Num.the-variants.{Is, Lacks}
+use Rattle.value.specs.declared.Num.the-variants.{Is, None}
 use Rattle.value.specs.Number.{usOf}
 use Rattle.node.specs.Nodes.{holdsNodes, nodeOf, nodesOf, noNode, nodeAt}
 use Rattle.node.specs.Find.{andThen, findVr}
@@ -53,7 +53,7 @@ us-small : (v : List ℕ) → Bytes v → (k : ℕ) → usOf v ≡ Is k → k < 
 unfolding usOf le16
 us-small v b k e = go (eqb (length v) 2) e
   where
-    go : (t : Bool) → cond t (Is (getD v 0 0 + 256 * getD v (0 + 1) 0)) Lacks ≡ Is k → k < 65536
+    go : (t : Bool) → cond t (Is (getD v 0 0 + 256 * getD v (0 + 1) 0)) None ≡ Is k → k < 65536
     go true e =
         let q : getD v 0 0 + 256 * getD v (0 + 1) 0 ≡ k = cc in
         omega (arith, b 0, b (0 + 1))
@@ -65,4 +65,4 @@ us-in-small s b tag k is e = go (findVr (nodesOf s) tag 0x5553 is) e
   where
     go : (o : Num) → andThen o (λ i. usOf (nodeAt (nodesOf s) i .value)) ≡ Is k → k < 65536
     go (Is i) e = us-small (nodeAt (nodesOf s) i .value) (node-bytes s b (rowsOf s) i) k e
-    go Lacks e = let z : _≡_ {A = ℕ} 0 1 = cc in absurd (omega arith)
+    go None e = let z : _≡_ {A = ℕ} 0 1 = cc in absurd (omega arith)

@@ -36,7 +36,8 @@ pub record All (ns : List Node) (f n : ℕ) : Type 0 where
   pub win : Windowed ns f (o .g .stored)
   pub mask : Gives n (maskFor ns f)
 
-pub all : (s : List ℕ) → Bytes s → findingOf (nodesOf s) ≡ Accepted → (f n : ℕ) → framesOf (nodesOf s) ≡ Is n → 1 ≤ f → f ≤ n → All (nodesOf s) f n
+pub all : (s : List ℕ) → Bytes s → findingOf (nodesOf s) ≡ Accepted → (f n : ℕ) → framesOf (nodesOf s) ≡ Is n → 1 ≤ f → f ≤ n
+    → All (nodesOf s) f n
 all s b ok f n frames low high =
     let ns = nodesOf s in
     let o = object ns (λ tag k e. us-in-small s b tag k (root ns) e) ok in
@@ -56,7 +57,8 @@ all-at n [] a k h = absurd (omega arith)
 all-at n (x ∷ ks) a zero h = a .0
 all-at n (x ∷ ks) a (suc k) h = all-at n ks (a .1) k (omega arith)
 
-module _ (ns : List Node) (v : List ℕ) (g : Geometry) (n : ℕ) (whole : (k : ℕ) → 1 ≤ k → k ≤ n → isFrame g v k ≡ true) (few : n ≤ 65535) where
+module _ (ns : List Node) (v : List ℕ) (g : Geometry) (n : ℕ) (whole : (k : ℕ) → 1 ≤ k → k ≤ n → isFrame g v k ≡ true)
+    (few : n ≤ 65535) where
   sound-of : (m : Mask) (o : Option Mask) → some m ≡ o → Gives n o → Sound n m
   sound-of m o e q =
       let u : q .m ≡ m = cc (q .mask) in
@@ -68,13 +70,20 @@ module _ (ns : List Node) (v : List ℕ) (g : Geometry) (n : ℕ) (whole : (k : 
       let s = sound-of (maskOf (usValues (valueAt ns k)) m) o e q in (
         b,
         (
-          record { some = s .0; few = s .1 .0; frames = λ i h. whole _ (all-at n (usValues (valueAt ns k)) (s .1 .1 .0) i h .0) (all-at n (usValues (valueAt ns k)) (s .1 .1 .0) i h .1) },
+          record {
+            some = s .0;
+            few = s .1 .0;
+            frames = λ i h.
+                whole _ (all-at n (usValues (valueAt ns k)) (s .1 .1 .0) i h .0) (all-at n (usValues (valueAt ns k)) (s .1 .1 .0) i h .1);
+          },
           record { vertical = s .1 .1 .1 .1 .1 .0; horizontal = s .1 .1 .1 .1 .1 .1 },
         ),
       )
   masks-ready (masking.One t m) o e b q =
-      let s = sound-of (maskOf (t ∷ []) m) o e q in
-      (omega (arith, s .1 .1 .0 .0 .1), (whole t (s .1 .1 .0 .0 .0) (s .1 .1 .0 .0 .1), record { vertical = s .1 .1 .1 .1 .1 .0; horizontal = s .1 .1 .1 .1 .1 .1 }))
+      let s = sound-of (maskOf (t ∷ []) m) o e q in (
+        omega (arith, s .1 .1 .0 .0 .1),
+        (whole t (s .1 .1 .0 .0 .0) (s .1 .1 .0 .0 .1), record { vertical = s .1 .1 .1 .1 .1 .0; horizontal = s .1 .1 .1 .1 .1 .1 }),
+      )
   masks-ready masking.Lacks o e b q = absurd (never (e ∙ q .mask))
 
 -- ---- The same over the answers that the code has
@@ -87,14 +96,24 @@ pub record Based (ns : List Node) (f n : ℕ) (g : Geometry) (v : List ℕ) : Ty
   pub few : n ≤ 65535
   pub win : Windowed ns f (g .stored)
 
-pub based : (ns : List Node) (f n : ℕ) (g : Geometry) (v : List ℕ) → All ns f n → 1 ≤ f → geometryOf ns ≡ some g → pixelsOf ns ≡ some v → Based ns f n g v
+pub based : (ns : List Node) (f n : ℕ) (g : Geometry) (v : List ℕ) → All ns f n → 1 ≤ f → geometryOf ns ≡ some g → pixelsOf ns ≡ some v
+    → Based ns f n g v
 based ns f n g v a low eg ev =
     let o = a .o in
     let p : o .g ≡ g = same-some (o .geometry) eg in
     let q : o .v ≡ v = same-some (o .pixels) ev in
-    let shape : Shaped (o .g) = record { width = o .width; stored-some = o .stored-low; stored-most = o .stored-high; rows-some = o .rows-low; rows-most = o .rows-high; columns-some = o .columns-low; columns-most = o .columns-high } in
+    let shape : Shaped (o .g) = record {
+      width = o .width;
+      stored-some = o .stored-low;
+      stored-most = o .stored-high;
+      rows-some = o .rows-low;
+      rows-most = o .rows-high;
+      columns-some = o .columns-low;
+      columns-most = o .columns-high;
+    } in
     let each : (k : ℕ) → 1 ≤ k → k ≤ n → isFrame g v k ≡ true =
-    λ k l h. subst (λ (x : Geometry). isFrame x v k ≡ true) p (subst (λ (y : List ℕ). isFrame (o .g) y k ≡ true) q (o .whole k l (omega (arith, a .n-is)))) in
+    λ k l h. subst (λ (x : Geometry). isFrame x v k ≡ true) p
+    (subst (λ (y : List ℕ). isFrame (o .g) y k ≡ true) q (o .whole k l (omega (arith, a .n-is)))) in
     record {
       shape = subst Shaped p shape;
       inside = each f low (omega (arith, a .n-is, a .high));

@@ -15,7 +15,7 @@ use lib.Dec.{eqb, leb, ltb}
 use lib.IntN.{pos, _+ℤ_, _-ℤ_}
 use Rattle.basics.specs.Vr.{SQ, FL}
 use Rattle.value.specs.declared.Num.{Num}
-use Rattle.value.specs.declared.Num.the-variants.{Is, Lacks}
+use Rattle.value.specs.declared.Num.the-variants.{Is, None}
 use Rattle.value.specs.Text.{ascii}
 use Rattle.value.specs.Number.{isNumber}
 use Rattle.shift.specs.declared.Moves.{Moves}
@@ -38,7 +38,8 @@ use Rattle.window.specs.Window.{levelOf, levelHalf, shaded}
 use Rattle.steps.specs.declared.Applying.{Applying}
 use Rattle.steps.specs.declared.Applying.the-variants.{Item, Nothing}
 use Rattle.steps.specs.Given.{check, then, collect}
-use Rattle.steps.specs.Steps.{Picture, Mask, native, masked, geometryOf, pixelsOf, applyingTo, averageFrames, tidFrame, shiftFor, windowFor, inverseOf, nativeCell, areFrames, stepsOf}
+use Rattle.steps.specs.Steps.{Picture, Mask, native, masked, geometryOf, pixelsOf, applyingTo, averageFrames, tidFrame, shiftFor, windowFor}
+use Rattle.steps.specs.Steps.{inverseOf, nativeCell, areFrames, stepsOf}
 use Rattle.display.specs.Drawing.{Bytes}
 
 -- ---- Rule 35: two whole numbers in -64..64
@@ -72,7 +73,8 @@ ruleBefore ns rule f = cond (eqb rule 35) (rule35Before ns) (cond (eqb rule 37) 
 
 -- Every rule held at every frame at which it is asked.
 abbrev pub AcceptedBefore : List Node → Type 0
-AcceptedBefore ns = (rule : ℕ) → 1 ≤ rule → rule ≤ lastRule → (f : ℕ) → firstFrame rule ≤ f → f < firstFrame rule + frameCount ns rule → ruleBefore ns rule f ≡ true
+AcceptedBefore ns = (rule : ℕ) → 1 ≤ rule → rule ≤ lastRule → (f : ℕ) → firstFrame rule ≤ f → f < firstFrame rule + frameCount ns rule
+    → ruleBefore ns rule f ≡ true
 
 -- ---- Step 4: cell (r, c) takes mask cell (r - v, c - h)
 
@@ -82,7 +84,7 @@ movesBefore ns f j =
     check (isNumber (wholeMovesOf s .vertical) && isNumber (wholeMovesOf s .horizontal)) (some (wholeMovesOf s)))
 
 abbrev pub onTidBefore : List Node → ℕ → ℕ → Num → Option Mask
-onTidBefore ns f j Lacks = some native
+onTidBefore ns f j None = some native
 onTidBefore ns f j (Is k) = then (movesBefore ns f j) (λ m. some (masked (k ∷ []) m))
 
 unfoldable pub maskByBefore : List Node → ℕ → ℕ → Option Mask
@@ -106,7 +108,7 @@ maskedCellBefore g v f ks m w inverse i =
     (cond (eqb (g .stored) 0)
     (levelHalf w (pos (sampleAt g v f i) -ℤ pos (maskAt g v ks (sourceOf g m i))))
     (levelOf w (pos (sampleAt g v f i) -ℤ pos (maskAt g v ks (sourceOf g m i)) +ℤ pos (2 ^ (g .stored - 1))))))
-    Lacks
+    None
 
 unfoldable pub pictureBefore : Geometry → List ℕ → ℕ → Window → Bool → Mask → Option Picture
 pictureBefore g v f w inverse native =

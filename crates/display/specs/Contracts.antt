@@ -15,7 +15,8 @@ use Rattle.pixel.specs.declared.Geometry.{Geometry}
 use Rattle.pixel.specs.Pixel.{isFrame}
 use Rattle.pixel.specs.Contracts.{Masks, nativeShade, maskedShade}
 use Rattle.steps.specs.Given.{then}
-use Rattle.steps.specs.Steps.{Mask, native as noMask, masked as maskOf, averageFrames, tidFrame, onTid, movesFor, maskFor, geometryOf, applyingTo, windowFor, inverseOf}
+use Rattle.steps.specs.Steps.{Mask, native as noMask, masked as maskOf, averageFrames, tidFrame, onTid, movesFor, maskFor, geometryOf}
+use Rattle.steps.specs.Steps.{applyingTo, windowFor, inverseOf}
 use Rattle.steps.specs.declared.Applying.{Applying}
 use Rattle.steps.specs.declared.Applying.the-variants as applying
 use Rattle.steps.specs.declared.Operation.{Operation}
@@ -49,7 +50,8 @@ AllWithin n (k ∷ ks) = ((1 ≤ k) × (k ≤ n)) × AllWithin n ks
 
 -- Nothing, or 1 to 64 of the n frames, moved by whole quarters, at most 64.
 abbrev pub Short : Moves → Type 0
-Short m = (isNumber (m .vertical) ≡ true) × ((isNumber (m .horizontal) ≡ true) × (SizeBelow tooFar (m .vertical) × SizeBelow tooFar (m .horizontal)))
+Short m = (isNumber (m .vertical) ≡ true)
+    × ((isNumber (m .horizontal) ≡ true) × (SizeBelow tooFar (m .vertical) × SizeBelow tooFar (m .horizontal)))
 
 abbrev pub Sound : ℕ → Mask → Type 0
 Sound n noMask = Unit {0}

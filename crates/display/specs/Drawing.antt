@@ -70,6 +70,7 @@ pub record Drawing (s : List ℕ) (f : ℕ) : Type 0 where
   -- Every frame of an accepted object is drawn where there is room,
   pub drawn : (buffer image : List ℕ) → IsAccepted s → IsFrame s f → HasRoom s buffer image → fieldsOf (showOf s f buffer image) .code ≡ 0
   -- and nothing else is.
-  pub nothing-else : (buffer image : List ℕ) → fieldsOf (showOf s f buffer image) .code ≡ 0 → IsAccepted s × (IsFrame s f × HasRoom s buffer image)
+  pub nothing-else : (buffer image : List ℕ) → fieldsOf (showOf s f buffer image) .code ≡ 0
+      → IsAccepted s × (IsFrame s f × HasRoom s buffer image)
   -- What is drawn is what the steps give.
   pub as-stepped : (buffer image : List ℕ) → fieldsOf (showOf s f buffer image) .code ≡ 0 → HandsBack s f buffer image

@@ -12,7 +12,8 @@ ghost use Rattle.basics.specs.Fields.{Answers};
 ghost use Rattle.dataset.specs.Answer.{bufferOf};
 ghost use Rattle.conformance.specs.Judging.{numberOf, findingOf};
 ghost use Rattle.display.specs.Show.{imageSize, imageBy, pictureOf, acceptedAnswer, showOf, imageOf, fieldsOf};
-ghost use Rattle.display.specs.Contracts.{IsObject, IsScene, IsItem, IsApplying, IsPlan, Gives, GivesMoves, GivesInverse, averageBy, tidBy, maskingOf, MaskingBelow, ToldBy, isMasked, shadeBy, MasksReady};
+ghost use Rattle.display.specs.Contracts.{IsObject, IsScene, IsItem, IsApplying, IsPlan, Gives, GivesMoves, GivesInverse, averageBy};
+ghost use Rattle.display.specs.Contracts.{tidBy, maskingOf, MaskingBelow, ToldBy, isMasked, shadeBy, MasksReady};
 ghost use Rattle.value.specs.Contracts.{Below};
 ghost use Rattle.node.specs.Nodes.{nodesOf};
 ghost use Rattle.node.specs.Contracts.{Table};
@@ -72,7 +73,11 @@ fn no_moves() -> Moves {
 
 // Step 4: how far mask item j is moved at the frame.
 fn moves_for(bytes: &[u8], rows: &[u32], frame: usize, item: Num, j: usize, shared: Found) -> Moves
-    requires { ⌜ Table (now bytes) (now rows) × ((item ≡ frameItem (nodesOf (now bytes)) frame) × (Below (length (nodesOf (now bytes))) item × ((j < length (nodesOf (now bytes))) × (GivesMoves (movesFor (nodesOf (now bytes)) frame j) × IsShared (nodesOf (now bytes)) j shared)))) ⌝ }
+    requires { ⌜ Table (now bytes) (now rows)
+        × ((item ≡ frameItem (nodesOf (now bytes)) frame)
+        × (Below (length (nodesOf (now bytes))) item
+        × ((j < length (nodesOf (now bytes)))
+        × (GivesMoves (movesFor (nodesOf (now bytes)) frame j) × IsShared (nodesOf (now bytes)) j shared)))) ⌝ }
     ensures { λ r. ⌜ movesFor (nodesOf (now (bytes .entry))) frame j ≡ some r ⌝ }
 {
     match steps::shift_by(bytes, rows, frame, item, j, shared) {
@@ -91,12 +96,16 @@ fn average_by(
     shared: Found,
     n: usize,
 ) -> Masking
-    requires { ⌜ Table (now bytes) (now rows) × ((item ≡ frameItem (nodesOf (now bytes)) frame) × (Below (length (nodesOf (now bytes))) item × ((j < length (nodesOf (now bytes))) × (Gives n (averageBy (nodesOf (now bytes)) frame j) × IsShared (nodesOf (now bytes)) j shared)))) ⌝ }
+    requires { ⌜ Table (now bytes) (now rows)
+        × ((item ≡ frameItem (nodesOf (now bytes)) frame)
+        × (Below (length (nodesOf (now bytes))) item
+        × ((j < length (nodesOf (now bytes)))
+        × (Gives n (averageBy (nodesOf (now bytes)) frame j) × IsShared (nodesOf (now bytes)) j shared)))) ⌝ }
     ensures { λ r. ⌜ maskingOf (nodesOf (now (bytes .entry))) r ≡ averageBy (nodesOf (now (bytes .entry))) frame j ⌝ }
     ensures { λ r. ⌜ MaskingBelow (length (nodesOf (now (bytes .entry)))) r ⌝ }
 {
     match steps::average_element(bytes, rows, j) {
-        Num::Lacks => Masking::Lacks,
+        Num::None => Masking::Lacks,
         Num::Is(k) => Masking::Average(k, moves_for(bytes, rows, frame, item, j, shared)),
     }
 }
@@ -111,7 +120,13 @@ fn tid_by(
     shared: Found,
     n: usize,
 ) -> Masking
-    requires { ⌜ Table (now bytes) (now rows) × ((item ≡ frameItem (nodesOf (now bytes)) frame) × (Below (length (nodesOf (now bytes))) item × ((j < length (nodesOf (now bytes))) × ((frame < 4294967296) × (Gives n (tidBy (nodesOf (now bytes)) frame j) × (IsShared (nodesOf (now bytes)) j shared × (framesOf (nodesOf (now bytes)) ≡ num.Is n))))))) ⌝ }
+    requires { ⌜ Table (now bytes) (now rows)
+        × ((item ≡ frameItem (nodesOf (now bytes)) frame)
+        × (Below (length (nodesOf (now bytes))) item
+        × ((j < length (nodesOf (now bytes)))
+        × ((frame < 4294967296)
+        × (Gives n (tidBy (nodesOf (now bytes)) frame j)
+        × (IsShared (nodesOf (now bytes)) j shared × (framesOf (nodesOf (now bytes)) ≡ num.Is n))))))) ⌝ }
     ensures { λ r. ⌜ maskingOf (nodesOf (now (bytes .entry))) r ≡ tidBy (nodesOf (now (bytes .entry))) frame j ⌝ }
     ensures { λ r. ⌜ MaskingBelow (length (nodesOf (now (bytes .entry)))) r ⌝ }
 {
@@ -132,7 +147,13 @@ fn mask_by(
     told: Told,
     n: usize,
 ) -> Masking
-    requires { ⌜ Table (now bytes) (now rows) × ((item ≡ frameItem (nodesOf (now bytes)) frame) × (Below (length (nodesOf (now bytes))) item × ((j < length (nodesOf (now bytes))) × ((frame < 4294967296) × (Gives n (maskBy (nodesOf (now bytes)) frame j) × (IsTold (nodesOf (now bytes)) j told × (framesOf (nodesOf (now bytes)) ≡ num.Is n))))))) ⌝ }
+    requires { ⌜ Table (now bytes) (now rows)
+        × ((item ≡ frameItem (nodesOf (now bytes)) frame)
+        × (Below (length (nodesOf (now bytes))) item
+        × ((j < length (nodesOf (now bytes)))
+        × ((frame < 4294967296)
+        × (Gives n (maskBy (nodesOf (now bytes)) frame j)
+        × (IsTold (nodesOf (now bytes)) j told × (framesOf (nodesOf (now bytes)) ≡ num.Is n))))))) ⌝ }
     ensures { λ r. ⌜ maskingOf (nodesOf (now (bytes .entry))) r ≡ maskBy (nodesOf (now (bytes .entry))) frame j ⌝ }
     ensures { λ r. ⌜ MaskingBelow (length (nodesOf (now (bytes .entry)))) r ⌝ }
 {
@@ -168,7 +189,14 @@ pub fn mask_on(
     told: Told,
     n: usize,
 ) -> Masking
-    requires { ⌜ Table (now bytes) (now rows) × ((item ≡ frameItem (nodesOf (now bytes)) frame) × (Below (length (nodesOf (now bytes))) item × ((frame < 4294967296) × (Gives n (maskFor (nodesOf (now bytes)) frame) × ((applyingTo (nodesOf (now bytes)) frame ≡ some applies) × (ApplyingBelow (length (nodesOf (now bytes))) applies × (ToldBy (nodesOf (now bytes)) applies told × (framesOf (nodesOf (now bytes)) ≡ num.Is n)))))))) ⌝ }
+    requires { ⌜ Table (now bytes) (now rows)
+        × ((item ≡ frameItem (nodesOf (now bytes)) frame)
+        × (Below (length (nodesOf (now bytes))) item
+        × ((frame < 4294967296)
+        × (Gives n (maskFor (nodesOf (now bytes)) frame)
+        × ((applyingTo (nodesOf (now bytes)) frame ≡ some applies)
+        × (ApplyingBelow (length (nodesOf (now bytes))) applies
+        × (ToldBy (nodesOf (now bytes)) applies told × (framesOf (nodesOf (now bytes)) ≡ num.Is n)))))))) ⌝ }
     ensures { λ r. ⌜ maskingOf (nodesOf (now (bytes .entry))) r ≡ maskFor (nodesOf (now (bytes .entry))) frame ⌝ }
     ensures { λ r. ⌜ MaskingBelow (length (nodesOf (now (bytes .entry)))) r ⌝ }
 {
@@ -190,7 +218,11 @@ fn paint(
     table: &[u8],
     image: &mut [u8],
 ) -> bool
-    requires { ⌜ Table (now bytes) (now rows) × ((p < length (nodesOf (now bytes))) × (Ready (valueAt (nodesOf (now bytes)) p) g frame (now image) × (MasksReady (nodesOf (now bytes)) (valueAt (nodesOf (now bytes)) p) g masking × (Shaded shades (g .stored) (now table) × (shades .filled ≡ true))))) ⌝ }
+    requires { ⌜ Table (now bytes) (now rows)
+        × ((p < length (nodesOf (now bytes)))
+        × (Ready (valueAt (nodesOf (now bytes)) p) g frame (now image)
+        × (MasksReady (nodesOf (now bytes)) (valueAt (nodesOf (now bytes)) p) g masking
+        × (Shaded shades (g .stored) (now table) × (shades .filled ≡ true))))) ⌝ }
     ensures { λ r. ⌜ r ≡ isMasked masking ⌝ }
     ensures { λ _. ⌜ now (image .exit) ≡ painted (shadeBy (nodesOf (now (bytes .entry))) (shadesOf shades (g .stored)) g (valueAt (nodesOf (now (bytes .entry))) p) frame masking) (samplesOf g) (now (image .entry)) ⌝ }
 {
@@ -304,7 +336,11 @@ pub fn plan_of(
     applies: Applying,
     told: Told,
 ) -> Plan
-    requires { ⌜ Table (now bytes) (now rows) × (IsObject (now bytes) n × (IsScene (nodesOf (now bytes)) c × (IsItem (nodesOf (now bytes)) frame item × ((1 ≤ frame) × ((frame ≤ n) × IsApplying (nodesOf (now bytes)) frame applies told))))) ⌝ }
+    requires { ⌜ Table (now bytes) (now rows)
+        × (IsObject (now bytes) n
+        × (IsScene (nodesOf (now bytes)) c
+        × (IsItem (nodesOf (now bytes)) frame item
+        × ((1 ≤ frame) × ((frame ≤ n) × IsApplying (nodesOf (now bytes)) frame applies told))))) ⌝ }
     ensures { λ r. ⌜ IsPlan (nodesOf (now (bytes .entry))) frame (c .g .stored) r ⌝ }
 {
     let g = c.g;
@@ -322,7 +358,8 @@ pub fn plan_of(
 
 // The plan of one frame, with all that it needs worked out here.
 pub fn plan_for(bytes: &[u8], rows: &[u32], c: Scene, frame: usize, n: usize) -> Plan
-    requires { ⌜ Table (now bytes) (now rows) × (IsObject (now bytes) n × (IsScene (nodesOf (now bytes)) c × ((1 ≤ frame) × (frame ≤ n)))) ⌝ }
+    requires { ⌜ Table (now bytes) (now rows)
+        × (IsObject (now bytes) n × (IsScene (nodesOf (now bytes)) c × ((1 ≤ frame) × (frame ≤ n)))) ⌝ }
     ensures { λ r. ⌜ IsPlan (nodesOf (now (bytes .entry))) frame (c .g .stored) r ⌝ }
 {
     let item = steps::item_at(bytes, rows, frame);
@@ -333,7 +370,11 @@ pub fn plan_for(bytes: &[u8], rows: &[u32], c: Scene, frame: usize, n: usize) ->
 
 // Draws a frame of an accepted object of n frames; answers whether it is masked.
 fn draw(bytes: &[u8], rows: &[u32], frame: usize, n: usize, image: &mut [u8]) -> bool
-    requires { ⌜ Table (now bytes) (now rows) × (((i : ℕ) → getD (now bytes) i 0 < 256) × ((findingOf (nodesOf (now bytes)) ≡ finding.Accepted) × ((framesOf (nodesOf (now bytes)) ≡ num.Is n) × ((1 ≤ frame) × ((frame ≤ n) × (imageSize (nodesOf (now bytes)) ≤ length (now image))))))) ⌝ }
+    requires { ⌜ Table (now bytes) (now rows)
+        × (((i : ℕ) → getD (now bytes) i 0 < 256)
+        × ((findingOf (nodesOf (now bytes)) ≡ finding.Accepted)
+        × ((framesOf (nodesOf (now bytes)) ≡ num.Is n)
+        × ((1 ≤ frame) × ((frame ≤ n) × (imageSize (nodesOf (now bytes)) ≤ length (now image))))))) ⌝ }
     ensures { λ r. ⌜ r ≡ pictureOf (nodesOf (now (bytes .entry))) frame .masked ⌝ }
     ensures { λ _. ⌜ now (image .exit) ≡ pictureOf (nodesOf (now (bytes .entry))) frame .samples ++ drop (length (pictureOf (nodesOf (now (bytes .entry))) frame .samples)) (now (image .entry)) ⌝ }
 {
@@ -360,7 +401,7 @@ fn number_of(n: Num) -> usize
 {
     match n {
         Num::Is(k) => k,
-        Num::Lacks => 0,
+        Num::None => 0,
     }
 }
 
@@ -382,7 +423,8 @@ pub fn show_table(
     count: usize,
     image: &mut [u8],
 ) -> ShowAnswer
-    requires { ⌜ Table (now bytes) (now rows) × (((i : ℕ) → getD (now bytes) i 0 < 256) × (findingOf (nodesOf (now bytes)) ≡ finding.Accepted)) ⌝ }
+    requires { ⌜ Table (now bytes) (now rows)
+        × (((i : ℕ) → getD (now bytes) i 0 < 256) × (findingOf (nodesOf (now bytes)) ≡ finding.Accepted)) ⌝ }
     ensures { λ r. ⌜ r ≡ acceptedAnswer (nodesOf (now (bytes .entry))) frame (now (image .entry)) count ⌝ }
     ensures { λ r. ⌜ now (image .exit) ≡ imageBy (pictureOf (nodesOf (now (bytes .entry))) frame) (now (image .entry)) r ⌝ }
 {

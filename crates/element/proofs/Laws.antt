@@ -9,10 +9,9 @@ use lib.Dec.{eqb}
 use borrow.Author.Tests.{eq-eqb, ne-eqb}
 use Rattle.basics.specs.Vr.{SQ}
 use Rattle.value.specs.declared.Num.{Num}
-use Rattle.value.specs.declared.Num.the-variants.{Is, Lacks}
+use Rattle.value.specs.declared.Num.the-variants.{Is, None}
 use Rattle.node.specs.Nodes.{Node, nodeAt, nextNode, members, inside}
 use Rattle.node.proofs.Walks.{members-end, members-next}
-use Rattle.element.specs.declared.Items.{Items}
 use Rattle.element.specs.Elements.{oneItem, theItem, first}
 use Rattle.element.specs.Contracts.{Along}
 
@@ -22,39 +21,48 @@ two-not-one : (n : ℕ) → eqb (suc (suc n)) 1 ≡ false
 two-not-one n = ne-eqb (suc (suc n)) 1 (λ e. omega arith)
 
 module _ (ns : List Node) (i : ℕ) where
-  pub one-item-other : (nodeAt ns i .vr ≡ SQ → ⊥) → theItem ns i ≡ Lacks
+  pub one-item-other : (nodeAt ns i .vr ≡ SQ → ⊥) → theItem ns i ≡ None
   unfolding theItem oneItem
   one-item-other h = rw (ne-eqb (nodeAt ns i .vr) SQ h)
 
   module _ (q : nodeAt ns i .vr ≡ SQ) where
-    pub one-item-none : nextNode ns i ≤ i + 1 → theItem ns i ≡ Lacks
+    pub one-item-none : nextNode ns i ≤ i + 1 → theItem ns i ≡ None
     unfolding theItem oneItem
     one-item-none h = rw (eq-eqb (nodeAt ns i .vr) SQ q, members-end ns (i + 1) (nextNode ns i) h)
 
-    pub one-item-many : i + 1 < nextNode ns i → nextNode ns (i + 1) < nextNode ns i → theItem ns i ≡ Lacks
+    pub one-item-many : i + 1 < nextNode ns i → nextNode ns (i + 1) < nextNode ns i → theItem ns i ≡ None
     unfolding theItem oneItem
     one-item-many h k =
-        rw (eq-eqb (nodeAt ns i .vr) SQ q, members-next ns (i + 1) (nextNode ns i) h, members-next ns (nextNode ns (i + 1)) (nextNode ns i) k, two-not-one)
+        rw (
+          eq-eqb (nodeAt ns i .vr) SQ q,
+          members-next ns (i + 1) (nextNode ns i) h,
+          members-next ns (nextNode ns (i + 1)) (nextNode ns i) k,
+          two-not-one,
+        )
 
     pub one-item-one : i + 1 < nextNode ns i → nextNode ns i ≤ nextNode ns (i + 1) → theItem ns i ≡ Is (i + 1)
     unfolding theItem oneItem
     one-item-one h k =
-        rw (eq-eqb (nodeAt ns i .vr) SQ q, members-next ns (i + 1) (nextNode ns i) h, members-end ns (nextNode ns (i + 1)) (nextNode ns i) k)
+        rw (
+          eq-eqb (nodeAt ns i .vr) SQ q,
+          members-next ns (i + 1) (nextNode ns i) h,
+          members-end ns (nextNode ns (i + 1)) (nextNode ns i) k,
+        )
 
 -- A sequence of one item has that item, and what has no one item is no such sequence.
 pub one-item-is : (ns : List Node) (i k : ℕ) → theItem ns i ≡ Is k → true ≡ oneItem ns i
 unfolding theItem
 one-item-is ns i k e = go (oneItem ns i) (first (inside ns i)) e
   where
-    go : (b : Bool) (f : Num) → cond b f Lacks ≡ Is k → true ≡ b
+    go : (b : Bool) (f : Num) → cond b f None ≡ Is k → true ≡ b
     go true f e = refl
     go false f e = let z : _≡_ {A = ℕ} 0 1 = cc in absurd (omega arith)
 
-pub one-item-not : (ns : List Node) (i : ℕ) → theItem ns i ≡ Lacks → false ≡ oneItem ns i
+pub one-item-not : (ns : List Node) (i : ℕ) → theItem ns i ≡ None → false ≡ oneItem ns i
 unfolding theItem oneItem
 one-item-not ns i e = go (eqb (nodeAt ns i .vr) SQ) (inside ns i) e
   where
-    go : (b : Bool) (l : List ℕ) → cond (b && eqb (length l) 1) (first l) Lacks ≡ Lacks → false ≡ (b && eqb (length l) 1)
+    go : (b : Bool) (l : List ℕ) → cond (b && eqb (length l) 1) (first l) None ≡ None → false ≡ (b && eqb (length l) 1)
     go false l e = refl
     go true [] e = refl
     go true (x ∷ []) e = let z : _≡_ {A = ℕ} 0 1 = cc in absurd (omega arith)
@@ -64,9 +72,6 @@ one-item-not ns i e = go (eqb (nodeAt ns i .vr) SQ) (inside ns i) e
 
 pub along-none : (ns : List Node) → Along ns [] (record { at = 0; end = 0 })
 along-none ns = record { ahead = members-end ns 0 0 (omega arith); inner = omega arith }
-
-pub along-from : (ns : List Node) (c : Items) (l : List ℕ) → c .end ≤ length ns → members ns (c .at) (c .end) ≡ l → Along ns l c
-along-from ns c l h e = record { ahead = e; inner = h }
 
 module _ (ns : List Node) (at end : ℕ) where
   pub rest-end : end ≤ at → members ns at end ≡ drop 1 (members ns at end)

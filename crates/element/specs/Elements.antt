@@ -1,5 +1,5 @@
 -- Reads of one element among members, by its tag: the words in which rules and drawing steps are written. Each asks for
--- the element's VR; a read without an answer says `Lacks`, and a test of it is false.
+-- the element's VR; a read without an answer says `None`, and a test of it is false.
 use Prim.Native.Nat.{ℕ}
 use mathlib.Core.List.{List, [], _∷_}
 use mathlib.Core.Bool.{Bool, true, false, cond, _&&_, _||_}
@@ -7,7 +7,7 @@ use lib.ListN.{length}
 use lib.Dec.{eqb}
 use Rattle.basics.specs.Vr.{SQ, CS, UI, US}
 use Rattle.value.specs.declared.Num.{Num}
-use Rattle.value.specs.declared.Num.the-variants.{Is, Lacks}
+use Rattle.value.specs.declared.Num.the-variants.{Is, None}
 use Rattle.value.specs.Number.{usOf}
 use Rattle.value.specs.declared.Function.{Function}
 use Rattle.value.specs.declared.Function.the-variants as function
@@ -34,7 +34,7 @@ uiIs ns tag uid is = holds (findVr ns tag UI is) (λ i. isUid (valueAt ns i) uid
 -- ---- Sequences and items
 
 abbrev pub first : List ℕ → Num
-first [] = Lacks
+first [] = None
 first (i ∷ is) = Is i
 
 -- A node is a sequence of one item, and that item.
@@ -42,11 +42,11 @@ unfoldable pub oneItem : List Node → ℕ → Bool
 oneItem ns i = eqb (nodeAt ns i .vr) SQ && eqb (length (inside ns i)) 1
 
 unfoldable pub theItem : List Node → ℕ → Num
-theItem ns i = cond (oneItem ns i) (first (inside ns i)) Lacks
+theItem ns i = cond (oneItem ns i) (first (inside ns i)) None
 
 -- The items of the sequence of the tag; none where there is no such sequence.
 abbrev pub insideOf : List Node → Num → List ℕ
-insideOf ns Lacks = []
+insideOf ns None = []
 insideOf ns (Is i) = inside ns i
 
 unfoldable pub itemsIn : List Node → ℕ → List ℕ → List ℕ
@@ -66,8 +66,8 @@ some p (i ∷ is) = p i || some p is
 
 -- VOI LUT Function (0028,1056) CS among the members of a VOI item: absent it is LINEAR; of another VR it is none.
 abbrev pub functionOn : List Node → Num → Function
-functionOn ns Lacks = function.Linear
-functionOn ns (Is k) = cond (eqb (nodeAt ns k .vr) CS) (functionOf (valueAt ns k)) function.Lacks
+functionOn ns None = function.Linear
+functionOn ns (Is k) = cond (eqb (nodeAt ns k .vr) CS) (functionOf (valueAt ns k)) function.Other
 
 unfoldable pub functionIn : List Node → List ℕ → Function
 functionIn ns is = functionOn ns (find ns VOILUTFunction is)

@@ -5,13 +5,14 @@ use mathlib.Core.Bool.{Bool, cond}
 use lib.ListN.{drop}
 use lib.Dec.{leb}
 use Rattle.value.specs.declared.Num.{Num}
-use Rattle.value.specs.declared.Num.the-variants.{Is, Lacks}
+use Rattle.value.specs.declared.Num.the-variants.{Is, None}
 use Rattle.value.specs.declared.Signed.{Signed}
 use Rattle.value.specs.declared.Signed.the-variants as signed
 use Rattle.value.specs.Number.{isOf}
 use Rattle.node.specs.Nodes.{Node, root, inside}
 use Rattle.node.specs.Find.{andThen, orElse, find, findVr}
-use Rattle.element.specs.Tags.{NumberOfFrames, SharedFunctionalGroupsSequence, PerFrameFunctionalGroupsSequence, MaskSubtractionSequence, MaskOperation, SubtractionItemID}
+use Rattle.element.specs.Tags.{NumberOfFrames, SharedFunctionalGroupsSequence, PerFrameFunctionalGroupsSequence}
+use Rattle.element.specs.Tags.{MaskSubtractionSequence, MaskOperation, SubtractionItemID}
 use Rattle.basics.specs.Vr.{IS}
 use Rattle.element.specs.Elements.{valueAt, usIn, csIs, theItem, itemsIn, first}
 
@@ -19,7 +20,7 @@ use Rattle.element.specs.Elements.{valueAt, usIn, csIs, theItem, itemsIn
 abbrev pub asCount : Signed → Num
 asCount (signed.Plus n) = Is n
 asCount (signed.Minus n) = Is 0
-asCount signed.Lacks = Lacks
+asCount signed.None = None
 
 -- Number of Frames, the paper's N.
 unfoldable pub framesOf : List Node → Num
@@ -29,12 +30,12 @@ framesOf ns = andThen (findVr ns NumberOfFrames IS (root ns)) (λ i. asCount (is
 unfoldable pub sharedItem : List Node → Num
 sharedItem ns = andThen (find ns SharedFunctionalGroupsSequence (root ns)) (theItem ns)
 
--- The items of the is-per-frame functional groups, and item f, asCount from 1: there is no item 0.
+-- The items of the per-frame functional groups, and item f, counted from 1: there is no item 0.
 unfoldable pub frameItems : List Node → List ℕ
 frameItems ns = itemsIn ns PerFrameFunctionalGroupsSequence (root ns)
 
 abbrev pub frameItem : List Node → ℕ → Num
-frameItem ns f = cond (leb 1 f) (first (drop (f - 1) (frameItems ns))) Lacks
+frameItem ns f = cond (leb 1 f) (first (drop (f - 1) (frameItems ns))) None
 
 -- "A frame's group is that in item f, of any VR, else the shared one": of the tag, for item i and the shared item s.
 abbrev pub groupOf : List Node → ℕ → ℕ → ℕ → Num

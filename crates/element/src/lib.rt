@@ -35,12 +35,12 @@ fn vr_at(bytes: &[u8], rows: &[u32], found: Num, vr: usize) -> Num
     ensures { λ r. ⌜ Below (length (nodesOf (now (bytes .entry)))) r ⌝ }
 {
     match found {
-        Num::Lacks => Num::Lacks,
+        Num::None => Num::None,
         Num::Is(i) => {
             if node::vr(bytes, rows, i) == vr {
                 Num::Is(i)
             } else {
-                Num::Lacks
+                Num::None
             }
         }
     }
@@ -53,7 +53,7 @@ fn us_at(bytes: &[u8], rows: &[u32], found: Num) -> Num
     ensures { λ r. ⌜ Below 65536 r ⌝ }
 {
     match found {
-        Num::Lacks => Num::Lacks,
+        Num::None => Num::None,
         Num::Is(i) => value::us_of(node::value(bytes, rows, i)),
     }
 }
@@ -64,7 +64,7 @@ fn is_cs_at(bytes: &[u8], rows: &[u32], found: Num, word: &[u8]) -> bool
     ensures { λ r. ⌜ r ≡ holds found (λ i. isWord (valueAt (nodesOf (now (bytes .entry))) i) (now (word .entry))) ⌝ }
 {
     match found {
-        Num::Lacks => false,
+        Num::None => false,
         Num::Is(i) => value::is_word(node::value(bytes, rows, i), word),
     }
 }
@@ -93,7 +93,7 @@ pub fn is_absent_root(bytes: &[u8], rows: &[u32], tag: usize) -> bool
     ensures { λ r. ⌜ r ≡ absent (find (nodesOf (now (bytes .entry))) tag (root (nodesOf (now (bytes .entry))))) ⌝ }
 {
     match find_root(bytes, rows, tag) {
-        Num::Lacks => true,
+        Num::None => true,
         Num::Is(_) => false,
     }
 }
@@ -103,7 +103,7 @@ pub fn has_root(bytes: &[u8], rows: &[u32], tag: usize, vr: usize) -> bool
     ensures { λ r. ⌜ r ≡ has (nodesOf (now (bytes .entry))) tag vr (root (nodesOf (now (bytes .entry)))) ⌝ }
 {
     match find_vr_root(bytes, rows, tag, vr) {
-        Num::Lacks => false,
+        Num::None => false,
         Num::Is(i) => node::is_filled(bytes, rows, i),
     }
 }
@@ -129,7 +129,7 @@ pub fn is_ui_root(bytes: &[u8], rows: &[u32], tag: usize, uid: &[u8]) -> bool
     ensures { λ r. ⌜ r ≡ uiIs (nodesOf (now (bytes .entry))) tag (now (uid .entry)) (root (nodesOf (now (bytes .entry)))) ⌝ }
 {
     match find_vr_root(bytes, rows, tag, vrs::UI) {
-        Num::Lacks => false,
+        Num::None => false,
         Num::Is(i) => value::is_uid(node::value(bytes, rows, i), uid),
     }
 }
@@ -200,15 +200,15 @@ pub fn the_item(bytes: &[u8], rows: &[u32], i: usize) -> Num
         let first = i + 1;
         if first < end {
             if node::next(bytes, rows, first) < end {
-                Num::Lacks
+                Num::None
             } else {
                 Num::Is(first)
             }
         } else {
-            Num::Lacks
+            Num::None
         }
     } else {
-        Num::Lacks
+        Num::None
     }
 }
 
@@ -218,7 +218,7 @@ pub fn is_one_item(bytes: &[u8], rows: &[u32], i: usize) -> bool
     ensures { λ r. ⌜ r ≡ oneItem (nodesOf (now (bytes .entry))) i ⌝ }
 {
     match the_item(bytes, rows, i) {
-        Num::Lacks => false,
+        Num::None => false,
         Num::Is(_) => true,
     }
 }
@@ -229,7 +229,7 @@ fn items_root(bytes: &[u8], rows: &[u32], tag: usize) -> Items
     ensures { λ r. ⌜ Along (nodesOf (now (bytes .entry))) (itemsIn (nodesOf (now (bytes .entry))) tag (root (nodesOf (now (bytes .entry))))) r ⌝ }
 {
     match find_vr_root(bytes, rows, tag, vrs::SQ) {
-        Num::Lacks => Items { at: 0, end: 0 },
+        Num::None => Items { at: 0, end: 0 },
         Num::Is(i) => Items {
             at: i + 1,
             end: node::next(bytes, rows, i),
@@ -264,7 +264,7 @@ fn function_at(bytes: &[u8], rows: &[u32], k: usize) -> Function
     if node::vr(bytes, rows, k) == vrs::CS {
         value::function_of(node::value(bytes, rows, k))
     } else {
-        Function::Lacks
+        Function::Other
     }
 }
 
@@ -274,7 +274,7 @@ pub fn function_in(bytes: &[u8], rows: &[u32], item: usize) -> Function
     ensures { λ r. ⌜ r ≡ functionIn (nodesOf (now (bytes .entry))) (inside (nodesOf (now (bytes .entry))) item) ⌝ }
 {
     match find_item(bytes, rows, item, tags::VOI_LUT_FUNCTION) {
-        Num::Lacks => Function::Linear,
+        Num::None => Function::Linear,
         Num::Is(k) => function_at(bytes, rows, k),
     }
 }
@@ -290,7 +290,7 @@ fn counted(n: Signed) -> Num
     match n {
         Signed::Plus(k) => Num::Is(k),
         Signed::Minus(_) => Num::Is(0),
-        Signed::Lacks => Num::Lacks,
+        Signed::None => Num::None,
     }
 }
 
@@ -301,7 +301,7 @@ pub fn frame_count(bytes: &[u8], rows: &[u32]) -> Num
     ensures { λ r. ⌜ Below 100000000000 r ⌝ }
 {
     match find_vr_root(bytes, rows, tags::NUMBER_OF_FRAMES, vrs::IS) {
-        Num::Lacks => Num::Lacks,
+        Num::None => Num::None,
         Num::Is(i) => counted(value::is_of(node::value(bytes, rows, i))),
     }
 }
@@ -313,12 +313,12 @@ pub fn shared_item(bytes: &[u8], rows: &[u32]) -> Num
     ensures { λ r. ⌜ Below (length (nodesOf (now (bytes .entry)))) r ⌝ }
 {
     match find_root(bytes, rows, tags::SHARED_FUNCTIONAL_GROUPS_SEQUENCE) {
-        Num::Lacks => Num::Lacks,
+        Num::None => Num::None,
         Num::Is(i) => the_item(bytes, rows, i),
     }
 }
 
-// The items of the is-per-frame functional groups, from the first.
+// The items of the per-frame functional groups, from the first.
 pub fn frame_items(bytes: &[u8], rows: &[u32]) -> Items
     requires { ⌜ Table (now bytes) (now rows) ⌝ }
     ensures { λ r. ⌜ Along (nodesOf (now (bytes .entry))) (frameItems (nodesOf (now (bytes .entry)))) r ⌝ }
@@ -342,6 +342,6 @@ fn group_of(bytes: &[u8], rows: &[u32], tag: usize, shared: usize, item: usize) 
 {
     match find_item(bytes, rows, item, tag) {
         Num::Is(g) => Num::Is(g),
-        Num::Lacks => find_item(bytes, rows, shared, tag),
+        Num::None => find_item(bytes, rows, shared, tag),
     }
 }

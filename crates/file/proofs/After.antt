@@ -38,7 +38,8 @@ broken-parts f (read.Refused code offset) n rule frame e = let z : _≡_ {A = �
 broken-parts f read.TooLarge n rule frame e = let z : _≡_ {A = ℕ} 0 1 = cc in absurd (omega arith)
 broken-parts f read.NoRoom n rule frame e = let z : _≡_ {A = ℕ} 0 1 = cc in absurd (omega arith)
 
-pub after-broken : (s before buffer : List ℕ) (n rule frame : ℕ) → judged.Broken n rule frame ≡ judgeOf s before → buffer ≡ bufferOf (readingOf s) before
+pub after-broken : (s before buffer : List ℕ) (n rule frame : ℕ) → judged.Broken n rule frame ≡ judgeOf s before
+    → buffer ≡ bufferOf (readingOf s) before
     → (7 * n ≤ length buffer) × Table s (take (7 * n) buffer)
 unfolding judgeOf
 after-broken s before buffer n rule frame e f =
@@ -59,31 +60,39 @@ show-other : (ns : List Node) (f : ℕ) (image : List ℕ) (n : ℕ) → showIn 
 unfolding acceptedAnswer
 show-other ns f image n = go (isFrameOf ns f) (leb (imageSize ns) (length image))
   where
-    go : (t u : Bool) → showIn false (cond t (cond u (shown.Drawn n (pictureOf ns f .masked)) shown.NoImageRoom) shown.NoFrame) ≡ showFile.OtherClass
+    go : (t u : Bool)
+        → showIn false (cond t (cond u (shown.Drawn n (pictureOf ns f .masked)) shown.NoImageRoom) shown.NoFrame) ≡ showFile.OtherClass
     go true true = refl
     go true false = refl
     go false u = refl
 
 module _ (s class : List ℕ) (f : ℕ) (before image : List ℕ) (j : JudgeAnswer) (e : j ≡ judgeOf s before) where
-  pub part-shown : (same : Bool) → same ≡ sameClass class (nodesOf s) → showIn same (shownFor (nodesOf s) f image j) ≡ showPart s class f before image
+  pub part-shown : (same : Bool) → same ≡ sameClass class (nodesOf s)
+      → showIn same (shownFor (nodesOf s) f image j) ≡ showPart s class f before image
   unfolding showPart
-  part-shown same q = ap (λ (b : Bool). showIn b (shownFor (nodesOf s) f image j)) q ∙ ap (showIn (sameClass class (nodesOf s))) (shown-by s f before image j e)
+  part-shown same q = ap (λ (b : Bool). showIn b (shownFor (nodesOf s) f image j)) q
+      ∙ ap (showIn (sameClass class (nodesOf s))) (shown-by s f before image j e)
 
   pub part-image : (same : Bool) → same ≡ sameClass class (nodesOf s)
-      → imageIn (showIn same (shownFor (nodesOf s) f image j)) (imageBy (pictureOf (nodesOf s) f) image (shownFor (nodesOf s) f image j)) image ≡ imagePart s class f before image
+      → imageIn (showIn same (shownFor (nodesOf s) f image j))
+      (imageBy (pictureOf (nodesOf s) f) image (shownFor (nodesOf s) f image j)) image ≡ imagePart s class f before image
   unfolding imagePart
   part-image same q =
-      ap (λ (x : ShowFileAnswer). imageIn x (imageBy (pictureOf (nodesOf s) f) image (shownFor (nodesOf s) f image j)) image) (part-shown same q)
+      ap (λ (x : ShowFileAnswer). imageIn x (imageBy (pictureOf (nodesOf s) f) image (shownFor (nodesOf s) f image j)) image)
+      (part-shown same q)
       ∙ ap (λ (x : List ℕ). imageIn (showPart s class f before image) x image) (image-by s f before image j e)
 
 -- An accepted data set whose class is the head's, or another.
 module _ (s class : List ℕ) (f : ℕ) (before image : List ℕ) (n : ℕ) (e : judged.Accepted n ≡ judgeOf s before) where
-  pub same-shown : true ≡ sameClass class (nodesOf s) → showFile.Shown (acceptedAnswer (nodesOf s) f image n) ≡ showPart s class f before image
+  pub same-shown : true ≡ sameClass class (nodesOf s)
+      → showFile.Shown (acceptedAnswer (nodesOf s) f image n) ≡ showPart s class f before image
   same-shown q = sym (show-same (acceptedAnswer (nodesOf s) f image n)) ∙ part-shown s class f before image (judged.Accepted n) e true q
 
-  pub same-image : true ≡ sameClass class (nodesOf s) → imageBy (pictureOf (nodesOf s) f) image (acceptedAnswer (nodesOf s) f image n) ≡ imagePart s class f before image
+  pub same-image : true ≡ sameClass class (nodesOf s)
+      → imageBy (pictureOf (nodesOf s) f) image (acceptedAnswer (nodesOf s) f image n) ≡ imagePart s class f before image
   same-image q =
-      sym (ap (λ (x : ShowFileAnswer). imageIn x (imageBy (pictureOf (nodesOf s) f) image (acceptedAnswer (nodesOf s) f image n)) image) (show-same (acceptedAnswer (nodesOf s) f image n)))
+      sym (ap (λ (x : ShowFileAnswer). imageIn x (imageBy (pictureOf (nodesOf s) f) image (acceptedAnswer (nodesOf s) f image n)) image)
+      (show-same (acceptedAnswer (nodesOf s) f image n)))
       ∙ part-image s class f before image (judged.Accepted n) e true q
 
   pub other-shown : false ≡ sameClass class (nodesOf s) → showFile.OtherClass ≡ showPart s class f before image
@@ -91,5 +100,6 @@ module _ (s class : List ℕ) (f : ℕ) (before image : List ℕ) (n : ℕ) (e :
 
   pub other-image : false ≡ sameClass class (nodesOf s) → image ≡ imagePart s class f before image
   other-image q =
-      sym (ap (λ (x : ShowFileAnswer). imageIn x (imageBy (pictureOf (nodesOf s) f) image (acceptedAnswer (nodesOf s) f image n)) image) (show-other (nodesOf s) f image n))
+      sym (ap (λ (x : ShowFileAnswer). imageIn x (imageBy (pictureOf (nodesOf s) f) image (acceptedAnswer (nodesOf s) f image n)) image)
+      (show-other (nodesOf s) f image n))
       ∙ part-image s class f before image (judged.Accepted n) e false q

@@ -37,6 +37,7 @@ left-in s class before buffer a e f =
 pub left-judged : (s rows : List ℕ) {a : JudgeFileAnswer} {j : JudgeAnswer} → a ≡ judgeFile.Judged j → LeftIn s rows a → Left s rows j
 left-judged s rows e l = subst (λ (x : JudgeFileAnswer). LeftIn s rows x) e l
 
-pub counted-part : (s class buffer : List ℕ) (a : JudgeFileAnswer) (n : ℕ) → a ≡ judgePart s class buffer → n ≡ searchesIn (searchesOf (nodesOf s)) a
+pub counted-part : (s class buffer : List ℕ) (a : JudgeFileAnswer) (n : ℕ) → a ≡ judgePart s class buffer
+    → n ≡ searchesIn (searchesOf (nodesOf s)) a
     → _≡_ {A = CountedFile} (record { answer = a; searches = n }) (countedPart s class buffer)
 counted-part s class buffer a n e f = rw (f, e)

@@ -35,7 +35,9 @@ use Rattle.file.specs.declared.JudgeFileAnswer.{JudgeFileAnswer}
 use Rattle.file.specs.declared.JudgeFileAnswer.the-variants as judgeFile
 use Rattle.file.specs.declared.ShowFileAnswer.{ShowFileAnswer}
 use Rattle.file.specs.declared.ShowFileAnswer.the-variants as showFile
-use Rattle.file.specs.File.{startBy, startOf, startFields, sameClass, readIn, readPart, readBy, readFileOf, rowsBy, rowsLeft, judgeIn, judgePart, judgeBy, judgeFileOf, showIn, showPart, showBy, showFileOf, imageIn, imagePart, imageLeftBy, imageLeft, readFields, judgeFields, showFields}
+use Rattle.file.specs.File.{startBy, startOf, startFields, sameClass, readIn, readPart, readBy, readFileOf, rowsBy, rowsLeft, judgeIn}
+use Rattle.file.specs.File.{judgePart, judgeBy, judgeFileOf, showIn, showPart, showBy, showFileOf, imageIn, imagePart, imageLeftBy}
+use Rattle.file.specs.File.{imageLeft, readFields, judgeFields, showFields}
 use Rattle.searches.specs.Reported.{reportedOf}
 use Rattle.file.specs.Searches.{searchesFileOf}
 use Rattle.file.specs.Files as files
@@ -86,19 +88,23 @@ unfolding startOf
 starts s e = meta-at (metaOf s) e
 
 module _ (s : List ℕ) (from a b : ℕ) (e : metaOf s ≡ head.Good from a b) where
-  read-is : (buffer : List ℕ) → readFileOf s buffer ≡ readIn (sameClass (part s a b) (nodesOf (drop from s))) (answerOf (readingOf (drop from s)) buffer)
+  read-is : (buffer : List ℕ)
+      → readFileOf s buffer ≡ readIn (sameClass (part s a b) (nodesOf (drop from s))) (answerOf (readingOf (drop from s)) buffer)
   unfolding readFileOf readPart
   read-is buffer = ap (λ (m : Meta). readBy s m buffer) e
 
-  judge-is : (buffer : List ℕ) → judgeFileOf s buffer ≡ judgeIn (sameClass (part s a b) (nodesOf (drop from s))) (judgeOf (drop from s) buffer)
+  judge-is : (buffer : List ℕ)
+      → judgeFileOf s buffer ≡ judgeIn (sameClass (part s a b) (nodesOf (drop from s))) (judgeOf (drop from s) buffer)
   unfolding judgeFileOf judgePart
   judge-is buffer = ap (λ (m : Meta). judgeBy s m buffer) e
 
-  show-is : (f : ℕ) (buffer image : List ℕ) → showFileOf s f buffer image ≡ showIn (sameClass (part s a b) (nodesOf (drop from s))) (showOf (drop from s) f buffer image)
+  show-is : (f : ℕ) (buffer image : List ℕ)
+      → showFileOf s f buffer image ≡ showIn (sameClass (part s a b) (nodesOf (drop from s))) (showOf (drop from s) f buffer image)
   unfolding showFileOf showPart
   show-is f buffer image = ap (λ (m : Meta). showBy s m f buffer image) e
 
-  image-is : (f : ℕ) (buffer image : List ℕ) → imageLeft s f buffer image ≡ imageIn (showFileOf s f buffer image) (imageOf (drop from s) f buffer image) image
+  image-is : (f : ℕ) (buffer image : List ℕ)
+      → imageLeft s f buffer image ≡ imageIn (showFileOf s f buffer image) (imageOf (drop from s) f buffer image) image
   unfolding imageLeft imagePart showFileOf
   image-is f buffer image =
       ap (λ (m : Meta). imageLeftBy s m f buffer image) e
@@ -108,11 +114,13 @@ module _ (s : List ℕ) (from a b : ℕ) (e : metaOf s ≡ head.Good from a b) w
   unfolding rowsLeft
   rows-is buffer = ap (λ (m : Meta). rowsBy s m buffer) e
 
-  searches-is : (buffer : List ℕ) → judgeFileOf s buffer ≡ judgeFile.Judged (judgeOf (drop from s) buffer) → searchesFileOf s buffer ≡ reportedOf (drop from s) buffer
+  searches-is : (buffer : List ℕ) → judgeFileOf s buffer ≡ judgeFile.Judged (judgeOf (drop from s) buffer)
+      → searchesFileOf s buffer ≡ reportedOf (drop from s) buffer
   unfolding searchesFileOf reportedOf
   searches-is buffer k = rw (k, e)
 
-  judge-bare : (buffer : List ℕ) → (judgeFileOf s buffer ≡ judgeFile.OtherClass → ⊥) → judgeFileOf s buffer ≡ judgeFile.Judged (judgeOf (drop from s) buffer)
+  judge-bare : (buffer : List ℕ) → (judgeFileOf s buffer ≡ judgeFile.OtherClass → ⊥)
+      → judgeFileOf s buffer ≡ judgeFile.Judged (judgeOf (drop from s) buffer)
   judge-bare buffer h = judge-is buffer ∙ judge-in _ (judgeOf (drop from s) buffer) (λ x. h (judge-is buffer ∙ x))
 
   as-bare : files.AsBare s from
@@ -124,9 +132,11 @@ module _ (s : List ℕ) (from a b : ℕ) (e : metaOf s ≡ head.Good from a b) w
         judge = judge-bare;
         searches = λ buffer h. searches-is buffer (judge-bare buffer h);
         show = λ f buffer image h.
-            let k : showFileOf s f buffer image ≡ showFile.Shown (showOf (drop from s) f buffer image) = show-is f buffer image ∙ show-in _ (showOf (drop from s) f buffer image) (λ x. h (show-is f buffer image ∙ x)) in
+            let k : showFileOf s f buffer image ≡ showFile.Shown (showOf (drop from s) f buffer image) = show-is f buffer image
+            ∙ show-in _ (showOf (drop from s) f buffer image) (λ x. h (show-is f buffer image ∙ x)) in
             (k, image-is f buffer image ∙ ap (λ (x : ShowFileAnswer). imageIn x (imageOf (drop from s) f buffer image) image) k);
-        other = λ f buffer image h. image-is f buffer image ∙ ap (λ (x : ShowFileAnswer). imageIn x (imageOf (drop from s) f buffer image) image) h;
+        other = λ f buffer image h.
+            image-is f buffer image ∙ ap (λ (x : ShowFileAnswer). imageIn x (imageOf (drop from s) f buffer image) image) h;
       }
 
 -- ---- Demand 2
@@ -162,14 +172,16 @@ judge-accepted t buffer n e =
     let r = done-reads (readingOf t) buffer n (p .0) in
     record { rows = r .0; reads = r .1; sound = p .1 }
 
-judge-accepts : (t buffer : List ℕ) → IsAccepted t → width * length (rowsOf t) ≤ length buffer → judgeOf t buffer ≡ judged.Accepted (length (rowsOf t))
+judge-accepts : (t buffer : List ℕ) → IsAccepted t → width * length (rowsOf t) ≤ length buffer
+    → judgeOf t buffer ≡ judged.Accepted (length (rowsOf t))
 unfolding judgeOf rowsOf
 judge-accepts t buffer a h =
     let q : rowsIn (readingOf t) ≡ a .rows = ap rowsIn (a .reads) in
     let k : width * length (a .rows) ≤ length buffer = subst (λ (l : List Row). width * length l ≤ length buffer) q h in
     rw (a .reads, le-leb (width * length (a .rows)) (length buffer) k, a .sound)
 
-judge-broken : (t buffer : List ℕ) (n rule frame : ℕ) → judgeOf t buffer ≡ judged.Broken n rule frame → findingOf (nodesOf t) ≡ finding.Broken rule frame
+judge-broken : (t buffer : List ℕ) (n rule frame : ℕ) → judgeOf t buffer ≡ judged.Broken n rule frame
+    → findingOf (nodesOf t) ≡ finding.Broken rule frame
 unfolding judgeOf
 judge-broken t buffer n rule frame e = broken-by (findingOf (nodesOf t)) (answerOf (readingOf t) buffer) n rule frame e
 
@@ -207,11 +219,13 @@ drawn-other {x} e f =
 
 of-3 : (s : List ℕ) (from f : ℕ) → files.AsBare s from → Promise (drop from s) f → files.Demand3 s from f
 of-3 s from f w p =
-    let code : (buffer image : List ℕ) → showFields (showFileOf s f buffer image) .code ≡ 0 → fieldsOf (showOf (drop from s) f buffer image) .code ≡ 0 =
+    let code : (buffer image : List ℕ) → showFields (showFileOf s f buffer image) .code ≡ 0
+    → fieldsOf (showOf (drop from s) f buffer image) .code ≡ 0 =
     λ buffer image e. sym (ap (λ (x : ShowFileAnswer). showFields x .code) (w .show f buffer image (drawn-other e) .0)) ∙ e in
     record {
       promise = p;
-      drawn = λ buffer image a i r n. ap (λ (x : ShowFileAnswer). showFields x .code) (w .show f buffer image n .0) ∙ p .drawing .drawn buffer image a i r;
+      drawn = λ buffer image a i r n.
+          ap (λ (x : ShowFileAnswer). showFields x .code) (w .show f buffer image n .0) ∙ p .drawing .drawn buffer image a i r;
       nothing-else = λ buffer image e. p .drawing .nothing-else buffer image (code buffer image e);
       as-stepped = λ buffer image e.
           let h = p .drawing .as-stepped buffer image (code buffer image e) in
@@ -221,19 +235,22 @@ of-3 s from f w p =
 -- ---- 15, 16 and 17
 
 module _ (s : List ℕ) where
-  read-refused : (m : Meta) → (startFields (startBy m) .code ≡ 0 → ⊥) → (buffer : List ℕ) → readFields (readBy s m buffer) ≡ startFields (startBy m)
+  read-refused : (m : Meta) → (startFields (startBy m) .code ≡ 0 → ⊥) → (buffer : List ℕ)
+      → readFields (readBy s m buffer) ≡ startFields (startBy m)
   read-refused (head.Good from a b) h buffer = absurd (h refl)
   read-refused head.NoMark h buffer = refl
   read-refused head.BadHead h buffer = refl
   read-refused head.OtherSyntax h buffer = refl
 
-  judge-refused : (m : Meta) → (startFields (startBy m) .code ≡ 0 → ⊥) → (buffer : List ℕ) → judgeFields (judgeBy s m buffer) ≡ startFields (startBy m)
+  judge-refused : (m : Meta) → (startFields (startBy m) .code ≡ 0 → ⊥) → (buffer : List ℕ)
+      → judgeFields (judgeBy s m buffer) ≡ startFields (startBy m)
   judge-refused (head.Good from a b) h buffer = absurd (h refl)
   judge-refused head.NoMark h buffer = refl
   judge-refused head.BadHead h buffer = refl
   judge-refused head.OtherSyntax h buffer = refl
 
-  show-refused : (m : Meta) → (startFields (startBy m) .code ≡ 0 → ⊥) → (f : ℕ) (buffer image : List ℕ) → showFields (showBy s m f buffer image) ≡ startFields (startBy m)
+  show-refused : (m : Meta) → (startFields (startBy m) .code ≡ 0 → ⊥) → (f : ℕ) (buffer image : List ℕ)
+      → showFields (showBy s m f buffer image) ≡ startFields (startBy m)
   show-refused (head.Good from a b) h f buffer image = absurd (h refl)
   show-refused head.NoMark h f buffer image = refl
   show-refused head.BadHead h f buffer image = refl
@@ -245,7 +262,8 @@ module _ (s : List ℕ) where
   rows-untouched head.BadHead h buffer = refl
   rows-untouched head.OtherSyntax h buffer = refl
 
-  image-untouched : (m : Meta) → (startFields (startBy m) .code ≡ 0 → ⊥) → (f : ℕ) (buffer image : List ℕ) → imageLeftBy s m f buffer image ≡ image
+  image-untouched : (m : Meta) → (startFields (startBy m) .code ≡ 0 → ⊥) → (f : ℕ) (buffer image : List ℕ)
+      → imageLeftBy s m f buffer image ≡ image
   image-untouched (head.Good from a b) h f buffer image = absurd (h refl)
   image-untouched head.NoMark h f buffer image = refl
   image-untouched head.BadHead h f buffer image = refl
@@ -269,6 +287,7 @@ all-files s =
     record {
       bare = λ from e. let g = starts s e in as-bare s from (g .0) (g .1 .0) (g .1 .1);
       demand-2 = λ from e. let g = starts s e in of-2 s from (as-bare s from (g .0) (g .1 .0) (g .1 .1));
-      demand-3 = λ from e b f. let g = starts s e in of-3 s from f (as-bare s from (g .0) (g .1 .0) (g .1 .1)) (demand-3 (drop from s) (bytes-part s from b) f);
+      demand-3 = λ from e b f. let g = starts s e in
+          of-3 s from f (as-bare s from (g .0) (g .1 .0) (g .1 .1)) (demand-3 (drop from s) (bytes-part s from b) f);
       refuses = refused s;
     }

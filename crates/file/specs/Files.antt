@@ -1,10 +1,11 @@
 -- What holds of files (document 02, Q-1: "Where none of 15-18 is given, demands 2 and 3 hold for the data set inside"). The head is good,
--- or the file is refused with 15, 16 or 17 and every buffer is left as it was. Where the head is good, the data set is all of the file from one
--- place on. Reading, judging and showing the file then answer 18, or what the bare calls answer on that part, with the sum of its searches; the row buffer is left
--- as the bare calls leave it either way, and the image buffer is left as it was by 18 and as the bare call leaves it otherwise. So demand 2
--- holds for the data set inside: the file is accepted exactly when its data set has room for its rows and is accepted, and else
--- the rule and frame named are those of the data set. And demand 3 holds for it, in drawing and mapping: show draws a frame of the file exactly
--- when the data set is accepted, the number is that of one of its frames, and there is room; what it hands back is what the steps give.
+-- or the file is refused with 15, 16 or 17 and every buffer is left as it was. Where the head is good, the data set is all of the file from
+-- one place on. Reading, judging and showing the file then answer 18, or what the bare calls answer on that part, with the sum of its
+-- searches; the row buffer is left as the bare calls leave it either way, and the image buffer is left as it was by 18 and as the bare call
+-- leaves it otherwise. So demand 2 holds for the data set inside: the file is accepted exactly when its data set has room for its rows and
+-- is accepted, and else the rule and frame named are those of the data set. And demand 3 holds for it, in drawing and mapping: show draws a
+-- frame of the file exactly when the data set is accepted, the number is that of one of its frames, and there is room; what it hands back
+-- is what the steps give.
 use mathlib.Core.Path.{_≡_}
 use mathlib.Core.List.{List, _++_}
 use mathlib.Core.Option.{some}
@@ -26,7 +27,8 @@ use Rattle.file.specs.declared.Start.the-variants as start
 use Rattle.file.specs.declared.ReadFileAnswer.the-variants as readFile
 use Rattle.file.specs.declared.JudgeFileAnswer.the-variants as judgeFile
 use Rattle.file.specs.declared.ShowFileAnswer.the-variants as showFile
-use Rattle.file.specs.File.{startOf, startFields, readFileOf, rowsLeft, judgeFileOf, showFileOf, imageLeft, readFields, judgeFields, showFields}
+use Rattle.file.specs.File.{startOf, startFields, readFileOf, rowsLeft, judgeFileOf, showFileOf, imageLeft, readFields, judgeFields}
+use Rattle.file.specs.File.{showFields}
 use Rattle.file.specs.Searches.{searchesFileOf}
 
 -- The calls on a file s whose data set starts at `from`, beside the bare calls on that part.
@@ -37,7 +39,8 @@ pub record AsBare (s : List ℕ) (from : ℕ) : Type 0 where
       → readFileOf s buffer ≡ readFile.Read (answerOf (readingOf (drop from s)) buffer)
   pub judge : (buffer : List ℕ) → (judgeFileOf s buffer ≡ judgeFile.OtherClass → ⊥)
       → judgeFileOf s buffer ≡ judgeFile.Judged (judgeOf (drop from s) buffer)
-  pub searches : (buffer : List ℕ) → (judgeFileOf s buffer ≡ judgeFile.OtherClass → ⊥) → searchesFileOf s buffer ≡ reportedOf (drop from s) buffer
+  pub searches : (buffer : List ℕ) → (judgeFileOf s buffer ≡ judgeFile.OtherClass → ⊥)
+      → searchesFileOf s buffer ≡ reportedOf (drop from s) buffer
   pub show : (f : ℕ) (buffer image : List ℕ) → (showFileOf s f buffer image ≡ showFile.OtherClass → ⊥)
       → (showFileOf s f buffer image ≡ showFile.Shown (showOf (drop from s) f buffer image))
       × (imageLeft s f buffer image ≡ imageOf (drop from s) f buffer image)

@@ -1,4 +1,5 @@
--- What judging a file reports of its searches (document 02, Q-11): the sum of the data set inside with code 0, and 0 with every other answer.
+-- What judging a file reports of its searches (document 02, Q-11): the sum of the data set inside with code 0, and 0 with every other
+-- answer.
 use Prim.Native.Nat.{ℕ}
 use mathlib.Core.List.{List}
 use lib.ListN.{drop}

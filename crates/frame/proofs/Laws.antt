@@ -17,9 +17,12 @@ last-frame (suc m) s h =
     rw e (omega arith)
 
 -- A frame's bytes end within the pixel bytes, and its size and number of samples are no larger than those.
-pub frame-fits : (rows columns width f l : ℕ) → Fits rows columns width f l → ((f - 1) * frameSize rows columns width + frameSize rows columns width ≤ l) × ((frameSize rows columns width ≤ l) × (rows * columns ≤ l))
+pub frame-fits : (rows columns width f l : ℕ) → Fits rows columns width f l
+    → ((f - 1) * frameSize rows columns width + frameSize rows columns width ≤ l)
+    × ((frameSize rows columns width ≤ l) × (rows * columns ≤ l))
 frame-fits rows columns width f l h =
-    let e : f * frameSize rows columns width ≡ (f - 1) * frameSize rows columns width + frameSize rows columns width = last-frame f (frameSize rows columns width) (h .first) in
+    let e : f * frameSize rows columns width
+    ≡ (f - 1) * frameSize rows columns width + frameSize rows columns width = last-frame f (frameSize rows columns width) (h .first) in
     let a : f * frameSize rows columns width ≤ l = h .inside in
     let b : rows * columns ≤ rows * columns * width = le-mul-of-pos-right (rows * columns) (h .some) in
     (omega arith, (omega arith, omega arith))
@@ -41,7 +44,8 @@ pub part-size : (s : RefT (List ℕ)) (at n : ℕ) (r : RefT (List ℕ)) → Par
 part-size s at n r p = ap length (p .bytes) ∙ part-length (s .now) at n (p .inside)
 
 -- A part of a part is a part.
-pub part-part : (s : RefT (List ℕ)) (at n : ℕ) (r : RefT (List ℕ)) (at′ n′ : ℕ) (t : RefT (List ℕ)) → Part s at n r → Part r at′ n′ t → Part s (at + at′) n′ t
+pub part-part : (s : RefT (List ℕ)) (at n : ℕ) (r : RefT (List ℕ)) (at′ n′ : ℕ) (t : RefT (List ℕ)) → Part s at n r → Part r at′ n′ t
+    → Part s (at + at′) n′ t
 part-part s at n r at′ n′ t p q =
     let l : length (r .now) ≡ n = part-size s at n r p in
     let i : at′ + n′ ≤ length (r .now) = q .inside in
@@ -54,7 +58,8 @@ part-part s at n r at′ n′ t p q =
     }
 
 -- A line of a view lies in it.
-pub line-fits : (s : RefT (List ℕ)) (rows columns width f row : ℕ) (v : FrameView) → IsView s rows columns width f v → row < rows → row * (v .columns * width) + v .columns * width ≤ length (v .samples .now)
+pub line-fits : (s : RefT (List ℕ)) (rows columns width f row : ℕ) (v : FrameView) → IsView s rows columns width f v → row < rows
+    → row * (v .columns * width) + v .columns * width ≤ length (v .samples .now)
 line-fits s rows columns width f row v h l =
     let n : length (v .samples .now) ≡ frameSize rows columns width = part-size s _ _ (v .samples) (h .part) in
     let a : (row + 1) * (columns * width) ≤ rows * (columns * width) = mul-le-mul-right (columns * width) (omega arith) in
@@ -63,13 +68,16 @@ line-fits s rows columns width f row v h l =
     rw (h .columns-are) (omega arith)
 
 -- A line of a frame is a part of the pixel bytes.
-pub line-part : (s : RefT (List ℕ)) (rows columns width f row : ℕ) (v : FrameView) (t : RefT (List ℕ)) → IsView s rows columns width f v → Part (v .samples) (row * (v .columns * width)) (v .columns * width) t
+pub line-part : (s : RefT (List ℕ)) (rows columns width f row : ℕ) (v : FrameView) (t : RefT (List ℕ)) → IsView s rows columns width f v
+    → Part (v .samples) (row * (v .columns * width)) (v .columns * width) t
     → Part s ((f - 1) * frameSize rows columns width + row * (columns * width)) (columns * width) t
 line-part s rows columns width f row v t h p =
     part-part s _ _ (v .samples) _ _ t (h .part) (subst (λ (c : ℕ). Part (v .samples) (row * (c * width)) (c * width) t) (h .columns-are) p)
 
 -- A range that starts at a and has n places, where these are what a definition says.
-pub part-range : (s r : RefT (List ℕ)) (a n at size : ℕ) → a ≡ at → n ≡ size → r .ptr .0 ≡ s .ptr .0 → r .ptr .1 ≡ s .ptr .1 + a → r .now ≡ take (a + n - a) (drop a (s .now)) → a + n ≤ length (s .now) → Part s at size r
+pub part-range : (s r : RefT (List ℕ)) (a n at size : ℕ) → a ≡ at → n ≡ size → r .ptr .0 ≡ s .ptr .0 → r .ptr .1 ≡ s .ptr .1 + a
+    → r .now ≡ take (a + n - a) (drop a (s .now)) → a + n ≤ length (s .now) → Part s at size r
 part-range s r a n at size p q block place bytes inside =
     let e : a + n - a ≡ n = omega arith in
-    subst (λ (x : ℕ). Part s at x r) q (subst (λ (x : ℕ). Part s x n r) p (record { inside = inside; block = block; place = place; bytes = rw e at bytes }))
+    subst (λ (x : ℕ). Part s at x r) q
+    (subst (λ (x : ℕ). Part s x n r) p (record { inside = inside; block = block; place = place; bytes = rw e at bytes }))

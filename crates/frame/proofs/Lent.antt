@@ -27,10 +27,12 @@ le-part (suc k) v at n p h =
     rw (a, b, e)
 
 -- A sample of a part that starts with sample j is sample j + c.
-pub cell-part : (g : Geometry) (v : List ℕ) (j n c : ℕ) → c * g .width + g .width ≤ n → cellAt g (take n (drop (j * g .width) v)) c ≡ cellAt g v (j + c)
+pub cell-part : (g : Geometry) (v : List ℕ) (j n c : ℕ) → c * g .width + g .width ≤ n
+    → cellAt g (take n (drop (j * g .width) v)) c ≡ cellAt g v (j + c)
 unfolding cellAt
 cell-part g v j n c h =
-    ap (λ (x : ℕ). x % 2 ^ g .stored) (le-part (g .width) v (j * g .width) n (c * g .width) h ∙ ap (leBytes (g .width) v) (sym (add-mul j c (g .width))))
+    ap (λ (x : ℕ). x % 2 ^ g .stored)
+    (le-part (g .width) v (j * g .width) n (c * g .width) h ∙ ap (leBytes (g .width) v) (sym (add-mul j c (g .width))))
 
 -- What `value_part` and `view` say together: p is the row of the pixel bytes.
 pub in-data-set : (bytes pixels : RefT (List ℕ)) (p : ℕ) (g : Geometry) (f : ℕ) (v : FrameView)
@@ -43,6 +45,9 @@ in-data-set bytes pixels p g f v a b =
     cell i h =
         let m : (i + 1) * g .width ≤ samplesOf g * g .width = mul-le-mul-right (g .width) (omega arith) in
         let n : (i + 1) * g .width ≡ i * g .width + g .width = omega arith in
-        let e : (f - 1) * frameSize (g .rows) (g .columns) (g .width) ≡ (f - 1) * samplesOf g * g .width = sym (mul-assoc (f - 1) (samplesOf g) (g .width)) in
-        ap (λ (x : List ℕ). cellAt g x i) (b .part .bytes ∙ ap (λ (x : ℕ). take (frameSize (g .rows) (g .columns) (g .width)) (drop x (pixels .now))) e)
-        ∙ (cell-part g (pixels .now) ((f - 1) * samplesOf g) (frameSize (g .rows) (g .columns) (g .width)) i (omega arith) ∙ sym (sample-cell g (pixels .now) f i))
+        let e : (f - 1) * frameSize (g .rows) (g .columns) (g .width)
+        ≡ (f - 1) * samplesOf g * g .width = sym (mul-assoc (f - 1) (samplesOf g) (g .width)) in
+        ap (λ (x : List ℕ). cellAt g x i)
+        (b .part .bytes ∙ ap (λ (x : ℕ). take (frameSize (g .rows) (g .columns) (g .width)) (drop x (pixels .now))) e)
+        ∙ (cell-part g (pixels .now) ((f - 1) * samplesOf g) (frameSize (g .rows) (g .columns) (g .width)) i (omega arith)
+        ∙ sym (sample-cell g (pixels .now) f i))

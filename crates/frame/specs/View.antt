@@ -37,5 +37,6 @@ pub record IsView (pixels : RefT (List ℕ)) (rows columns width f : ℕ) (v : F
 -- The same in the data set as lent, where p is the row of the pixel bytes: frame f starts f - 1 frames after the value's
 -- offset, is as long as a frame, and holds the cells that step 1 reads as those of frame f.
 pub record InDataSet (bytes : RefT (List ℕ)) (p : ℕ) (g : Geometry) (pixels : List ℕ) (f : ℕ) (v : FrameView) : Type 0 where
-  pub part : Part bytes (rowAt (rowsOf (bytes .now)) p .offset + (f - 1) * frameSize (g .rows) (g .columns) (g .width)) (frameSize (g .rows) (g .columns) (g .width)) (v .samples)
+  pub part : Part bytes (rowAt (rowsOf (bytes .now)) p .offset + (f - 1) * frameSize (g .rows) (g .columns) (g .width))
+      (frameSize (g .rows) (g .columns) (g .width)) (v .samples)
   pub cells : (i : ℕ) → i < samplesOf g → cellAt g (v .samples .now) i ≡ sampleAt g pixels f i

@@ -21,7 +21,8 @@ module _ (ns : List Node) (id at to : ℕ) where
   pub among-here : at < to → idOf ns at ≡ id → isIn id (idsOf ns (members ns at to)) ≡ true
   among-here h q = rw (members-next ns at to h, eq-eqb id (idOf ns at) (sym q))
 
-  pub among-later : at < to → (idOf ns at ≡ id → ⊥) → isIn id (idsOf ns (members ns at to)) ≡ isIn id (idsOf ns (members ns (nextNode ns at) to))
+  pub among-later : at < to → (idOf ns at ≡ id → ⊥)
+      → isIn id (idsOf ns (members ns at to)) ≡ isIn id (idsOf ns (members ns (nextNode ns at) to))
   among-later h q = rw (members-next ns at to h, ne-eqb id (idOf ns at) (λ e. q (sym e)))
 
 -- ---- No ID twice
@@ -82,10 +83,12 @@ clear-other : (marks : List ℕ) (x y : ℕ) (l : List ℕ) → (x ≡ y → ⊥
     → clear (set marks x 1) (y ∷ l) ≡ (clear marks (y ∷ l) && not (isIn x (y ∷ l)))
 unfolding clear
 clear-other marks x y l n e =
-    rw (ne-eqb x y n, getD-set-other marks x y 1 0 (λ q. n (sym q)), e) (sym (and-assoc (eqb (getD marks y 0) 0) (clear marks l) (not (isIn x l))))
+    rw (ne-eqb x y n, getD-set-other marks x y 1 0 (λ q. n (sym q)), e)
+    (sym (and-assoc (eqb (getD marks y 0) 0) (clear marks l) (not (isIn x l))))
 
 clear-by : (marks : List ℕ) (x y : ℕ) (l : List ℕ) (b : Bool) → eqb x y ≡ b → x < length marks
-    → clear (set marks x 1) l ≡ (clear marks l && not (isIn x l)) → clear (set marks x 1) (y ∷ l) ≡ (clear marks (y ∷ l) && not (isIn x (y ∷ l)))
+    → clear (set marks x 1) l ≡ (clear marks l && not (isIn x l))
+    → clear (set marks x 1) (y ∷ l) ≡ (clear marks (y ∷ l) && not (isIn x (y ∷ l)))
 clear-by marks x y l true e h i = clear-same marks x y l h (eqb-true x y e)
 clear-by marks x y l false e h i = clear-other marks x y l (eqb-false x y e) i
 
@@ -114,4 +117,5 @@ module _ (ns : List Node) (marks : List ℕ) (at to : ℕ) where
     unfolding unique fresh clear
     fresh-later b q =
         rw (members-next ns at to h, ← e, q, clear-set marks id (idsOf ns (members ns (nextNode ns at) to)) b)
-        (and-assoc (clear marks (idsOf ns (members ns (nextNode ns at) to))) (not (isIn id (idsOf ns (members ns (nextNode ns at) to)))) (unique (idsOf ns (members ns (nextNode ns at) to))))
+        (and-assoc (clear marks (idsOf ns (members ns (nextNode ns at) to))) (not (isIn id (idsOf ns (members ns (nextNode ns at) to))))
+        (unique (idsOf ns (members ns (nextNode ns at) to))))

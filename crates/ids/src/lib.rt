@@ -17,7 +17,7 @@ pub fn has_id(bytes: &[u8], rows: &[u32], item: usize) -> bool
     ensures { λ r. ⌜ r ≡ hasId (nodesOf (now (bytes .entry))) item ⌝ }
 {
     match element::us_item(bytes, rows, item, tags::SUBTRACTION_ITEM_ID) {
-        Num::Lacks => false,
+        Num::None => false,
         Num::Is(_) => true,
     }
 }
@@ -29,7 +29,7 @@ fn id_of(bytes: &[u8], rows: &[u32], item: usize) -> usize
     ensures { λ r. ⌜ r < 65536 ⌝ }
 {
     match element::us_item(bytes, rows, item, tags::SUBTRACTION_ITEM_ID) {
-        Num::Lacks => 0,
+        Num::None => 0,
         Num::Is(n) => n,
     }
 }

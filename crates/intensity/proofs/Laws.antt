@@ -57,7 +57,8 @@ module _ (ns : List Node) (from to k : ℕ) (at : Stops ns from to k) where
     only h = rest ∙ ap (λ (l : List ℕ). k ∷ l) (linear-end ns other to h)
 
     pub luts-more : other < to → lutsOf ns (linearAmong ns (members ns from to)) ≡ 0
-    luts-more h = rw (rest, linear-here ns other to h (later .stands h)) (luts-two ns k other (linearAmong ns (members ns (nextNode ns other) to)))
+    luts-more h = rw (rest, linear-here ns other to h (later .stands h))
+        (luts-two ns k other (linearAmong ns (members ns (nextNode ns other) to)))
 
 -- How many entries a descriptor says.
 pub count-zero : (d : List ℕ) → le16 d 0 ≡ 0 → entryCount d ≡ 65536

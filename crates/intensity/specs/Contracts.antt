@@ -7,7 +7,7 @@ use lib.Dec.{eqb, leb}
 use Rattle.node.specs.Nodes.{Node, inside, members}
 use Rattle.node.specs.Find.{find}
 use Rattle.value.specs.declared.Num.{Num}
-use Rattle.value.specs.declared.Num.the-variants.{Is, Lacks}
+use Rattle.value.specs.declared.Num.the-variants.{Is, None}
 use Rattle.element.specs.Tags
 use Rattle.element.specs.Elements.{oneItem}
 use Rattle.rules.specs.Intensity.{areLuts, isLutGroup, hasLinear, isLog, isLinear, linearAmong}
@@ -31,7 +31,7 @@ tableOf ns g = grade (isLutGroup ns g) (hasLinear ns g)
 
 -- The grade of a group; `otherwise` where the item has none.
 abbrev pub gradeOn : Num → (ℕ → ℕ) → ℕ → ℕ
-gradeOn Lacks of otherwise = otherwise
+gradeOn None of otherwise = otherwise
 gradeOn (Is g) of otherwise = of g
 
 unfoldable pub relationIn : List Node → ℕ → ℕ → ℕ

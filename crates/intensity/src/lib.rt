@@ -117,7 +117,7 @@ fn relation_of(bytes: &[u8], rows: &[u32], group: usize) -> usize
     ensures { λ r. ⌜ r ≡ relationOf (nodesOf (now (bytes .entry))) group ⌝ }
 {
     match element::the_item(bytes, rows, group) {
-        Num::Lacks => 0,
+        Num::None => 0,
         Num::Is(j) => {
             if element::is_cs_item(bytes, rows, j, tags::PIXEL_INTENSITY_RELATIONSHIP, b"LOG") {
                 2
@@ -139,7 +139,7 @@ pub fn relation_in(bytes: &[u8], rows: &[u32], item: usize, otherwise: usize) ->
         item,
         tags::FRAME_PIXEL_DATA_PROPERTIES_SEQUENCE,
     ) {
-        Num::Lacks => otherwise,
+        Num::None => otherwise,
         Num::Is(g) => relation_of(bytes, rows, g),
     }
 }
@@ -154,7 +154,7 @@ pub fn table_in(bytes: &[u8], rows: &[u32], item: usize, otherwise: usize) -> us
         item,
         tags::PIXEL_INTENSITY_RELATIONSHIP_LUT_SEQUENCE,
     ) {
-        Num::Lacks => otherwise,
+        Num::None => otherwise,
         Num::Is(g) => table_of(bytes, rows, g),
     }
 }

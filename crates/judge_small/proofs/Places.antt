@@ -32,13 +32,15 @@ broken-read f (read.Refused code offset) n rule frame e = let z : _≡_ {A = ℕ
 broken-read f read.TooLarge n rule frame e = let z : _≡_ {A = ℕ} 0 1 = cc in absurd (omega arith)
 broken-read f read.NoRoom n rule frame e = let z : _≡_ {A = ℕ} 0 1 = cc in absurd (omega arith)
 
-pub after-broken : (s before buffer : List ℕ) (n rule frame : ℕ) → judged.Broken n rule frame ≡ judgeOf s before → buffer ≡ bufferOf (readingOf s) before
+pub after-broken : (s before buffer : List ℕ) (n rule frame : ℕ) → judged.Broken n rule frame ≡ judgeOf s before
+    → buffer ≡ bufferOf (readingOf s) before
     → (7 * n ≤ length buffer) × Table s (take (7 * n) buffer)
 unfolding judgeOf
 after-broken s before buffer n rule frame e f =
     after-reading s before buffer n (broken-read (findingOf (nodesOf s)) (answerOf (readingOf s) before) n rule frame e) f
 
-pub roomy-located : (s buffer : List ℕ) → 7 * length s ≤ 8 * length buffer → (a : JudgeAnswer) → a ≡ judgeOf s buffer → located (nodesOf s) a ≡ locatedOf s
+pub roomy-located : (s buffer : List ℕ) → 7 * length s ≤ 8 * length buffer → (a : JudgeAnswer) → a ≡ judgeOf s buffer
+    → located (nodesOf s) a ≡ locatedOf s
 roomy-located s buffer h a e = ap (located (nodesOf s)) (e ∙ roomy s buffer h)
 
 pub not-broken : (ns : List Node) (a : JudgeAnswer) → OneOf (0 ∷ 2 ∷ 3 ∷ 4 ∷ []) (tagOf the-type a)

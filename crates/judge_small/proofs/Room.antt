@@ -16,7 +16,8 @@ use Rattle.node.specs.Nodes.{nodesOf}
 use Rattle.conformance.specs.Judging.{findingOf, answerFor, judgeOf}
 use Rattle.judge_small.specs.Contracts.{roomyOf}
 
-same-answer : (s buffer : List ℕ) → 7 * length s ≤ 8 * length buffer → answerOf (readingOf s) buffer ≡ answerOf (readingOf s) (flat (rowsOf s))
+same-answer : (s buffer : List ℕ) → 7 * length s ≤ 8 * length buffer
+    → answerOf (readingOf s) buffer ≡ answerOf (readingOf s) (flat (rowsOf s))
 unfolding rowsOf
 same-answer s buffer h = by-reading (readingOf s) (row-count s)
   where

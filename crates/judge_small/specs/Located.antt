@@ -4,7 +4,7 @@ use mathlib.Core.List.{List}
 use mathlib.Core.Bool.{cond}
 use lib.Dec.{eqb}
 use Rattle.value.specs.declared.Num.{Num}
-use Rattle.value.specs.declared.Num.the-variants.{Is, Lacks}
+use Rattle.value.specs.declared.Num.the-variants.{Is, None}
 use Rattle.node.specs.Nodes.{Node, nodesOf}
 use Rattle.element.specs.Frames.{frameItem}
 use Rattle.conformance.specs.declared.JudgeAnswer.{JudgeAnswer}
@@ -15,9 +15,9 @@ use Rattle.judge_small.specs.Contracts.{roomyOf}
 -- The number of a node's row, counted from 1; 0 where there is none.
 abbrev pub rowNumber : Num → ℕ
 rowNumber (Is i) = i + 1
-rowNumber Lacks = 0
+rowNumber None = 0
 
--- The row of item f of the is-per-frame functional groups; frame 0 is no frame.
+-- The row of item f of the per-frame functional groups; frame 0 is no frame.
 abbrev pub itemRow : List Node → ℕ → ℕ
 itemRow ns frame = cond (eqb frame 0) 0 (rowNumber (frameItem ns frame))
 

@@ -36,7 +36,7 @@ fn item_row(bytes: &[u8], rows: &[u32], frame: usize) -> usize
     }
     match steps::item_at(bytes, rows, frame) {
         Num::Is(i) => i + 1,
-        Num::Lacks => 0,
+        Num::None => 0,
     }
 }
 

@@ -9,7 +9,7 @@ use lib.ListN.{length}
 use lib.Dec.{eqb, leb}
 use Rattle.basics.specs.Vr.{SQ}
 use Rattle.value.specs.declared.Num.{Num}
-use Rattle.value.specs.declared.Num.the-variants.{Is, Lacks}
+use Rattle.value.specs.declared.Num.the-variants.{Is, None}
 use Rattle.basics.proofs.Tests.{and-both}
 use Rattle.node.specs.Nodes.{Node, nodesOf, nodeAt, root, inside}
 use Rattle.node.specs.Find.{holds, ifPresent}
@@ -38,8 +38,8 @@ first-has ns (k ∷ js) j e h =
 
 on-group : (ns : List Node) (o : Num) (j : ℕ) → ifPresent o (isLutGroup ns) ≡ true → linearOn ns o ≡ some (Is j) → hasLut ns j ≡ true
 unfolding isLutGroup areLuts
-on-group ns Lacks j h e =
-    let q : Lacks ≡ Is j = cc in
+on-group ns None j h e =
+    let q : None ≡ Is j = cc in
     let z : _≡_ {A = ℕ} 0 1 = cc in absurd (omega arith)
 on-group ns (Is g) j h e =
     let a = and-both (eqb (nodeAt ns g .vr) SQ) (leb 1 (length (inside ns g)) && areLuts ns (linearAmong ns (inside ns g))) h in
@@ -49,13 +49,15 @@ on-group ns (Is g) j h e =
     let q : first (linearAmong ns (inside ns g)) ≡ Is j = cc in
     first-has ns (linearAmong ns (inside ns g)) j q (d .1)
 
-pub item-lut : (ns : List Node) → findingOf ns ≡ Accepted → (n f j : ℕ) → framesOf ns ≡ Is n → 1 ≤ f → f ≤ n → linearFor ns f ≡ some (Is j) → hasLut ns j ≡ true
+pub item-lut : (ns : List Node) → findingOf ns ≡ Accepted → (n f j : ℕ) → framesOf ns ≡ Is n → 1 ≤ f → f ≤ n → linearFor ns f ≡ some (Is j)
+    → hasLut ns j ≡ true
 unfolding rule39 item39 linearFor
 item-lut ns ok n f j count low high e =
     let a = at-items ns f (item39 ns) (r39 ns ok n f count low high) in
     let p = groupOf ns Tags.FramePixelDataPropertiesSequence (a .s) (a .i) in
     let g = groupOf ns Tags.PixelIntensityRelationshipLUTSequence (a .s) (a .i) in
-    let b = and-both (ifPresent p (oneItem ns)) (ifPresent g (isLutGroup ns) && (not (holds p (isLog ns)) || holds g (hasLinear ns))) (a .holds) in
+    let b = and-both (ifPresent p (oneItem ns)) (ifPresent g (isLutGroup ns) && (not (holds p (isLog ns)) || holds g (hasLinear ns)))
+    (a .holds) in
     let d = and-both (ifPresent g (isLutGroup ns)) (not (holds p (isLog ns)) || holds g (hasLinear ns)) (b .1) in
     on-group ns g j (d .0) (rw (group-is ns f Tags.PixelIntensityRelationshipLUTSequence (a .s) (a .i) (a .shared) (a .item)) at e)
 
@@ -70,7 +72,15 @@ mappable s b ok n f j count low high e most room =
       geometry = o .geometry;
       v = o .v;
       pixels = o .pixels;
-      shape = record { width = o .width; stored-some = o .stored-low; stored-most = o .stored-high; rows-some = o .rows-low; rows-most = o .rows-high; columns-some = o .columns-low; columns-most = o .columns-high };
+      shape = record {
+        width = o .width;
+        stored-some = o .stored-low;
+        stored-most = o .stored-high;
+        rows-some = o .rows-low;
+        rows-most = o .rows-high;
+        columns-some = o .columns-low;
+        columns-most = o .columns-high;
+      };
       inside = o .whole f low (omega arith);
       room = omega (arith, geometry-size ns (o .g) (o .geometry));
       lut = item-lut ns ok n f j count low high e;

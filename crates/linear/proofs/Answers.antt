@@ -5,7 +5,7 @@ use mathlib.Core.Option.{none, some}
 use Prim.Native.Nat.{ℕ, _≤_, _<_}
 use lib.ListN.{length}
 use borrow.Author.Tests.{le-leb, lt-leb}
-use Rattle.value.specs.declared.Num.the-variants.{Is, Lacks}
+use Rattle.value.specs.declared.Num.the-variants.{Is, None}
 use Rattle.node.specs.Nodes.{Node, nodesOf}
 use Rattle.element.specs.Frames.{framesOf}
 use Rattle.conformance.specs.declared.JudgeAnswer.{JudgeAnswer}
@@ -22,7 +22,7 @@ unfolding entriesOf mappingOf
 entries-are ns f j e = rw e
 
 module _ (ns : List Node) (f : ℕ) (values : List ℕ) (count : ℕ) where
-  pub no-frames : framesOf ns ≡ Lacks → linear.NoFrame ≡ acceptedAnswer ns f values count
+  pub no-frames : framesOf ns ≡ None → linear.NoFrame ≡ acceptedAnswer ns f values count
   unfolding acceptedAnswer
   no-frames e = rw (e, none-frame f)
 
@@ -40,7 +40,7 @@ module _ (ns : List Node) (f : ℕ) (values : List ℕ) (count : ℕ) where
       unfolding acceptedAnswer isMapped
       item-lacks h = rw (e, le-leb 1 f low, le-leb f n high, h)
 
-      pub item-absent : linearFor ns f ≡ some Lacks → linear.NoItem ≡ acceptedAnswer ns f values count
+      pub item-absent : linearFor ns f ≡ some None → linear.NoItem ≡ acceptedAnswer ns f values count
       unfolding acceptedAnswer isMapped
       item-absent h = rw (e, le-leb 1 f low, le-leb f n high, h)
 

@@ -14,7 +14,7 @@ use Rattle.node.specs.Nodes.{Node, nodesOf, root}
 use Rattle.element.specs.Frames.{framesOf}
 use Rattle.conformance.specs.Judging.{numberOf}
 use Rattle.value.specs.declared.Num.{Num}
-use Rattle.value.specs.declared.Num.the-variants.{Is, Lacks}
+use Rattle.value.specs.declared.Num.the-variants.{Is, None}
 use Rattle.display.specs.Show.{isFrameOf, imageSize}
 use Rattle.display.specs.Drawing.{Bytes, IsAccepted, IsFrame, HasRoom}
 use Rattle.display.proofs.Codes.{was-frame, judged-accepted, was-judged}
@@ -33,12 +33,19 @@ use Rattle.linear.proofs.Maps as maps
 -- ---- Where there is room, the answer is the numbers
 
 module _ (s : List ℕ) (f : ℕ) (buffer values : List ℕ) where
-  answer-mapped : (n : ℕ) → IsFrame s f → isMapped (nodesOf s) f ≡ true → HasRoom s buffer values → acceptedAnswer (nodesOf s) f values n ≡ linear.Mapped n
+  answer-mapped : (n : ℕ) → IsFrame s f → isMapped (nodesOf s) f ≡ true → HasRoom s buffer values
+      → acceptedAnswer (nodesOf s) f values n ≡ linear.Mapped n
   unfolding acceptedAnswer
   answer-mapped n i m r =
-      rw (le-leb 1 f (i .low), le-leb f (numberOf (framesOf (nodesOf s))) (i .high), m, le-leb (imageSize (nodesOf s)) (length values) (r .cells))
+      rw (
+        le-leb 1 f (i .low),
+        le-leb f (numberOf (framesOf (nodesOf s))) (i .high),
+        m,
+        le-leb (imageSize (nodesOf s)) (length values) (r .cells),
+      )
 
-  maps-to : (a : IsAccepted s) → IsFrame s f → isMapped (nodesOf s) f ≡ true → HasRoom s buffer values → linearOf s f buffer values ≡ linear.Mapped (length (rowsOf s))
+  maps-to : (a : IsAccepted s) → IsFrame s f → isMapped (nodesOf s) f ≡ true → HasRoom s buffer values
+      → linearOf s f buffer values ≡ linear.Mapped (length (rowsOf s))
   unfolding linearOf
   maps-to a i m r = rw (judged-accepted s buffer a (r .rows), answer-mapped (length (rowsOf s)) i m r)
 
@@ -62,7 +69,8 @@ module _ (s : List ℕ) (f : ℕ) (buffer values : List ℕ) where
       go true false u p w q e = absurd (omega (arith, e))
       go false m u p w q e = absurd (omega (arith, e))
 
-  was-accepted : fieldsOf (linearOf s f buffer values) .code ≡ 0 → IsAccepted s × (IsFrame s f × ((isMapped (nodesOf s) f ≡ true) × HasRoom s buffer values))
+  was-accepted : fieldsOf (linearOf s f buffer values) .code ≡ 0
+      → IsAccepted s × (IsFrame s f × ((isMapped (nodesOf s) f ≡ true) × HasRoom s buffer values))
   unfolding linearOf
   was-accepted e =
       let j = was-judged s buffer (λ a. fieldsOf (linearFrom (nodesOf s) f values a) .code)
@@ -81,7 +89,8 @@ module _ (s : List ℕ) (f : ℕ) (buffer values : List ℕ) where
   unfolding valuesOf
   values-is a i m r = rw (maps-to a i m r)
 
-  handed : (a : IsAccepted s) → IsFrame s f → isMapped (nodesOf s) f ≡ true → HasRoom s buffer values → Mapped (nodesOf s) f → Measured s f buffer values
+  handed : (a : IsAccepted s) → IsFrame s f → isMapped (nodesOf s) f ≡ true → HasRoom s buffer values → Mapped (nodesOf s) f
+      → Measured s f buffer values
   handed a i m r w =
       record {
         l = w .l;
@@ -89,7 +98,8 @@ module _ (s : List ℕ) (f : ℕ) (buffer values : List ℕ) where
         rows = ap (λ (x : LinearAnswer). fieldsOf x .rows) (maps-to a i m r);
         numbers =
             subst (λ (n : ℕ). valuesOf s f buffer values ≡ w .l ++ drop n values) (w .size)
-            (subst (λ (x : List ℕ). valuesOf s f buffer values ≡ x ++ drop (length x) values) (entries-is (w .l) (w .is)) (values-is a i m r));
+            (subst (λ (x : List ℕ). valuesOf s f buffer values ≡ x ++ drop (length x) values) (entries-is (w .l) (w .is))
+            (values-is a i m r));
       }
 
 -- ---- The mapping lacks nothing
@@ -97,7 +107,7 @@ module _ (s : List ℕ) (f : ℕ) (buffer values : List ℕ) where
 -- The item that a frame has.
 item-of : (o : Option Num) → isItem o ≡ true → (j : ℕ) × (o ≡ some (Is j))
 item-of none e = let z : _≡_ {A = ℕ} 0 1 = cc in absurd (omega arith)
-item-of (some Lacks) e = let z : _≡_ {A = ℕ} 0 1 = cc in absurd (omega arith)
+item-of (some None) e = let z : _≡_ {A = ℕ} 0 1 = cc in absurd (omega arith)
 item-of (some (Is j)) e = (j, refl)
 
 mapping-by : (ns : List Node) (f j : ℕ) → linearFor ns f ≡ some (Is j) → mappingOf ns f ≡ mappingBy ns f j

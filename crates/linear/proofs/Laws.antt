@@ -9,7 +9,7 @@ use lib.ListN.{length}
 use lib.Dec.{eqb, ltb}
 use borrow.Author.Tests.{eqb-true, eqb-false, ltb-true, ltb-false, lt-ltb, le-ltb, le-leb}
 use Rattle.basics.specs.Bytes.{le16}
-use Rattle.value.specs.declared.Num.the-variants.{Is, Lacks}
+use Rattle.value.specs.declared.Num.the-variants.{Is, None}
 use Rattle.basics.proofs.Tests.{and-both}
 use Rattle.node.specs.Nodes.{Node, members}
 use Rattle.element.specs.Elements.{first}
@@ -28,7 +28,7 @@ module _ (ns : List Node) (from to k : ℕ) (at : Stops ns from to k) where
   pub first-here : k < to → first (linearAmong ns (members ns from to)) ≡ Is k
   first-here h = ap first (sym (at .same) ∙ linear-here ns k to h (at .stands h))
 
-  pub first-none : to ≤ k → first (linearAmong ns (members ns from to)) ≡ Lacks
+  pub first-none : to ≤ k → first (linearAmong ns (members ns from to)) ≡ None
   first-none h = ap first (no-linear ns from to k at h)
 
 -- ---- Places
@@ -91,7 +91,8 @@ entry-is d t e x =
     rw (le-leb (2 * placeAmong (le16 d 2) (entryCount d) x + 2) (length t) (omega (arith, l .two)))
 
 -- The entry of sample i, by the answers on the way.
-pub cell-entry : (g : Geometry) (v : List ℕ) (f : ℕ) (d t : List ℕ) (i x from count place r : ℕ) → x ≡ cellAt g v ((f - 1) * samplesOf g + i)
+pub cell-entry : (g : Geometry) (v : List ℕ) (f : ℕ) (d t : List ℕ) (i x from count place r : ℕ)
+    → x ≡ cellAt g v ((f - 1) * samplesOf g + i)
     → from ≡ le16 d 2 → count ≡ entryCount d → place ≡ placeAmong from count x → r ≡ le16 t (2 * place) → r ≡ entryAt d t (sampleAt g v f i)
 unfolding entryAt entryPlace
 cell-entry g v f d t i x from count place r a b c e h =

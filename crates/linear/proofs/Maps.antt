@@ -7,7 +7,7 @@ use Prim.Native.Nat.{ℕ, zero, suc, _≤_}
 use native.Mathlib.Omega.{arith}
 use lib.ListN.{length, drop}
 use borrow.Author.Tests.{eq-eqb}
-use Rattle.value.specs.declared.Num.the-variants.{Is, Lacks}
+use Rattle.value.specs.declared.Num.the-variants.{Is, None}
 use Rattle.basics.proofs.Tests.{false-is-true}
 use Rattle.node.specs.Nodes.{Node, inside}
 use Rattle.node.specs.Find.{findVr}
@@ -43,11 +43,11 @@ module _ (ns : List Node) (f j most : ℕ) (m : Mappable ns f j most) where
   pub no-pixels : pixelsOf ns ≡ none → ⊥
   no-pixels e = never (sym e ∙ m .pixels)
 
-  pub no-descriptor : findVr ns Tags.LUTDescriptor US (inside ns j) ≡ Lacks → ⊥
+  pub no-descriptor : findVr ns Tags.LUTDescriptor US (inside ns j) ≡ None → ⊥
   unfolding hasLut
   no-descriptor e = false-is-true (rw e at (m .lut))
 
-  pub no-data : (d : ℕ) → findVr ns Tags.LUTDescriptor US (inside ns j) ≡ Is d → findVr ns Tags.LUTData OW (inside ns j) ≡ Lacks → ⊥
+  pub no-data : (d : ℕ) → findVr ns Tags.LUTDescriptor US (inside ns j) ≡ Is d → findVr ns Tags.LUTData OW (inside ns j) ≡ None → ⊥
   unfolding hasLut
   no-data d e h = false-is-true (rw (e, h) at (m .lut))
 
@@ -67,20 +67,28 @@ module _ (ns : List Node) (f j most : ℕ) (m : Mappable ns f j most) where
 
     pub ready : (values : List ℕ) → most ≡ length values → MapReady v g f (valueAt ns d) (valueAt ns t) values
     ready values e =
-        record { shape = subst Shaped (same-some (m .geometry) eg) (m .shape); inside = whole; room = subst (λ (x : ℕ). samplesOf g ≤ x) e room; lut = lut }
+        record {
+          shape = subst Shaped (same-some (m .geometry) eg) (m .shape);
+          inside = whole;
+          room = subst (λ (x : ℕ). samplesOf g ≤ x) e room;
+          lut = lut;
+        }
 
     -- The numbers, and what the values buffer holds.
     pub record Maps (values : List ℕ) : Type 0 where
       pub l : List ℕ
       pub is : mappingBy ns f j ≡ some l
       pub size : length l ≡ samplesOf g
-      pub painted-is : painted (λ i. entryAt (valueAt ns d) (valueAt ns t) (sampleAt g v f i)) (samplesOf g) values ≡ l ++ drop (samplesOf g) values
+      pub painted-is : painted (λ i. entryAt (valueAt ns d) (valueAt ns t) (sampleAt g v f i)) (samplesOf g) values
+          ≡ l ++ drop (samplesOf g) values
 
     pub maps : (values : List ℕ) → samplesOf g ≤ length values → Maps values
     unfolding mappingBy
     maps values h =
         let p = lut-is (valueAt ns d) (valueAt ns t) lut in
-        let c = collected (λ i. entryOf (valueAt ns d) (valueAt ns t) (sampleAt g v f i)) (λ i. entryAt (valueAt ns d) (valueAt ns t) (sampleAt g v f i)) (samplesOf g) values h (λ i k. entry-is (valueAt ns d) (valueAt ns t) lut (sampleAt g v f i)) in
+        let c = collected (λ i. entryOf (valueAt ns d) (valueAt ns t) (sampleAt g v f i))
+        (λ i. entryAt (valueAt ns d) (valueAt ns t) (sampleAt g v f i)) (samplesOf g) values h
+        (λ i k. entry-is (valueAt ns d) (valueAt ns t) lut (sampleAt g v f i)) in
         record {
           l = c .l;
           is = rw (eg, ev, whole, ed, et, eq-eqb _ _ (p .three), eq-eqb _ _ (p .bits)) (c .is);
@@ -88,11 +96,13 @@ module _ (ns : List Node) (f j most : ℕ) (m : Mappable ns f j most) where
           painted-is = c .image-is;
         }
 
-    pub leaves : (values : List ℕ) → most ≡ length values → painted (λ i. entryAt (valueAt ns d) (valueAt ns t) (sampleAt g v f i)) (samplesOf g) values
+    pub leaves : (values : List ℕ) → most ≡ length values
+        → painted (λ i. entryAt (valueAt ns d) (valueAt ns t) (sampleAt g v f i)) (samplesOf g) values
         ≡ entriesIn (mappingBy ns f j) ++ drop (length (entriesIn (mappingBy ns f j))) values
     leaves values e =
         let c = maps values (subst (λ (x : ℕ). samplesOf g ≤ x) e room) in
-        c .painted-is ∙ ap (λ (n : ℕ). c .l ++ drop n values) (sym (c .size)) ∙ ap (λ (o : Option (List ℕ)). entriesIn o ++ drop (length (entriesIn o)) values) (sym (c .is))
+        c .painted-is ∙ ap (λ (n : ℕ). c .l ++ drop n values) (sym (c .size))
+        ∙ ap (λ (o : Option (List ℕ)). entriesIn o ++ drop (length (entriesIn o)) values) (sym (c .is))
 
   -- What the mapping gives, whatever the room.
   pub by-mappable : (l : List ℕ) × ((mappingBy ns f j ≡ some l) × (length l ≡ samplesOf (m .g)))
@@ -100,5 +110,6 @@ module _ (ns : List Node) (f j most : ℕ) (m : Mappable ns f j most) where
   by-mappable =
       let d = had (findVr ns Tags.LUTDescriptor US (inside ns j)) _ (m .lut) in
       let t = had (findVr ns Tags.LUTData OW (inside ns j)) _ (d .1 .1) in
-      let c = maps (m .g) (m .v) (d .0) (t .0) (m .geometry) (m .pixels) (d .1 .0) (t .1 .0) (zeros (samplesOf (m .g))) (zeros-room (samplesOf (m .g))) in
+      let c = maps (m .g) (m .v) (d .0) (t .0) (m .geometry) (m .pixels) (d .1 .0) (t .1 .0) (zeros (samplesOf (m .g)))
+      (zeros-room (samplesOf (m .g))) in
       (c .l, (c .is, c .size))

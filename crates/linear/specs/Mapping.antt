@@ -10,7 +10,7 @@ use lib.Dec.{eqb, leb, ltb}
 use Rattle.basics.specs.Bytes.{le16}
 use Rattle.basics.specs.Vr.{SQ, US, OW}
 use Rattle.value.specs.declared.Num.{Num}
-use Rattle.value.specs.declared.Num.the-variants.{Is, Lacks}
+use Rattle.value.specs.declared.Num.the-variants.{Is, None}
 use Rattle.node.specs.Nodes.{Node, nodeAt, inside}
 use Rattle.node.specs.Find.{findVr}
 use Rattle.element.specs.Tags
@@ -23,7 +23,7 @@ use Rattle.steps.specs.Steps.{geometryOf, pixelsOf, groupFor}
 -- The first TO_LINEAR item of a frame's Pixel Intensity Relationship LUT Sequence (0028,9422), or that there is none; a group that
 -- is no sequence lacks its items.
 abbrev pub linearOn : List Node → Num → Option Num
-linearOn ns Lacks = some Lacks
+linearOn ns None = some None
 linearOn ns (Is g) = check (eqb (nodeAt ns g .vr) SQ) (some (first (linearAmong ns (inside ns g))))
 
 -- The frame's TO_LINEAR item, or that it has none.
@@ -43,7 +43,7 @@ unfoldable pub entryAt : List ℕ → List ℕ → ℕ → ℕ
 entryAt d t x = le16 t (2 * entryPlace d x)
 
 unfoldable pub entryOf : List ℕ → List ℕ → ℕ → Num
-entryOf d t x = cond (leb (2 * entryPlace d x + 2) (length t)) (Is (entryAt d t x)) Lacks
+entryOf d t x = cond (leb (2 * entryPlace d x + 2) (length t)) (Is (entryAt d t x)) None
 
 -- The entries of the frame's cells (step 1: modulo 2^stored, no mask and no window), by TO_LINEAR item j: its LUT Descriptor
 -- (0028,3002) US, of three numbers, the last 16, and its LUT Data (0028,3006) OW.
@@ -64,7 +64,7 @@ mappingOf ns f = then (linearFor ns f) (λ o. need o (mappingBy ns f))
 -- The frame has a TO_LINEAR item.
 abbrev pub isItem : Option Num → Bool
 isItem none = false
-isItem (some Lacks) = false
+isItem (some None) = false
 isItem (some (Is j)) = true
 
 unfoldable pub isMapped : List Node → ℕ → Bool

@@ -126,7 +126,8 @@ fn map_cells(
 
 // Maps a frame of an accepted object by its TO_LINEAR item.
 fn map(bytes: &[u8], rows: &[u32], frame: usize, item: usize, values: &mut [u16])
-    requires { ⌜ Table (now bytes) (now rows) × ((item < length (nodesOf (now bytes))) × Mappable (nodesOf (now bytes)) frame item (length (now values))) ⌝ }
+    requires { ⌜ Table (now bytes) (now rows)
+        × ((item < length (nodesOf (now bytes))) × Mappable (nodesOf (now bytes)) frame item (length (now values))) ⌝ }
     ensures { λ _. ⌜ now (values .exit) ≡ entriesIn (mappingBy (nodesOf (now (bytes .entry))) frame item) ++ drop (length (entriesIn (mappingBy (nodesOf (now (bytes .entry))) frame item))) (now (values .entry)) ⌝ }
 {
     let Sized::Is(g) = steps::geometry_of(bytes, rows) else {
@@ -161,7 +162,8 @@ fn linear_table(
     count: usize,
     values: &mut [u16],
 ) -> LinearAnswer
-    requires { ⌜ Table (now bytes) (now rows) × (((i : ℕ) → getD (now bytes) i 0 < 256) × (findingOf (nodesOf (now bytes)) ≡ finding.Accepted)) ⌝ }
+    requires { ⌜ Table (now bytes) (now rows)
+        × (((i : ℕ) → getD (now bytes) i 0 < 256) × (findingOf (nodesOf (now bytes)) ≡ finding.Accepted)) ⌝ }
     ensures { λ r. ⌜ r ≡ acceptedAnswer (nodesOf (now (bytes .entry))) frame (now (values .entry)) count ⌝ }
     ensures { λ r. ⌜ now (values .exit) ≡ valuesBy (entriesOf (nodesOf (now (bytes .entry))) frame) (now (values .entry)) r ⌝ }
 {

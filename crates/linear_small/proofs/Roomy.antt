@@ -46,7 +46,8 @@ module _ (s : List ℕ) (f : ℕ) (buffer values : List ℕ) (h : 7 * length s �
 
 -- ---- A frame that was mapped
 
-mapped-count : (t m u : Bool) (k n : ℕ) → linear.Mapped n ≡ cond t (cond m (cond u (linear.Mapped k) linear.NoValuesRoom) linear.NoItem) linear.NoFrame → n ≡ k
+mapped-count : (t m u : Bool) (k n : ℕ)
+    → linear.Mapped n ≡ cond t (cond m (cond u (linear.Mapped k) linear.NoValuesRoom) linear.NoItem) linear.NoFrame → n ≡ k
 mapped-count true true true k n e = ap (λ (x : LinearAnswer). fieldsOf x .rows) e
 mapped-count true true false k n e = absurd (omega (arith, ap (λ (x : LinearAnswer). fieldsOf x .code) e))
 mapped-count true false u k n e = absurd (omega (arith, ap (λ (x : LinearAnswer). fieldsOf x .code) e))
@@ -55,7 +56,8 @@ mapped-count false m u k n e = absurd (omega (arith, ap (λ (x : LinearAnswer). 
 mapped-accepted : (ns : List Node) (f : ℕ) (values : List ℕ) (a : JudgeAnswer) (n : ℕ) → linear.Mapped n ≡ answerFor ns f values a
     → judged.Accepted n ≡ a
 unfolding acceptedAnswer
-mapped-accepted ns f values (judged.Accepted k) n e = ap judged.Accepted (mapped-count (isFrameOf ns f) (isMapped ns f) (leb (imageSize ns) (length values)) k n e)
+mapped-accepted ns f values (judged.Accepted k) n e = ap judged.Accepted
+    (mapped-count (isFrameOf ns f) (isMapped ns f) (leb (imageSize ns) (length values)) k n e)
 mapped-accepted ns f values (judged.Broken k rule frame) n e = absurd (omega (arith, ap (λ (x : LinearAnswer). fieldsOf x .code) e))
 mapped-accepted ns f values (judged.Refused code offset) n e = let z : _≡_ {A = ℕ} 0 1 = cc in absurd (omega arith)
 mapped-accepted ns f values judged.TooLarge n e = absurd (omega (arith, ap (λ (x : LinearAnswer). fieldsOf x .code) e))
@@ -83,7 +85,8 @@ not-mapped ns linear.NoValuesRoom h = refl
 -- ---- There is room for the numbers
 
 done-fits : (ns : List Node) (t m u : Bool) (k n : ℕ) → (u ≡ true → imageSize ns ≤ n)
-    → let r = sized ns (cond t (cond m (cond u (linear.Mapped k) linear.NoValuesRoom) linear.NoItem) linear.NoFrame) in r .height * r .width ≤ n
+    → let r = sized ns (cond t (cond m (cond u (linear.Mapped k) linear.NoValuesRoom) linear.NoItem) linear.NoFrame) in
+    r .height * r .width ≤ n
 done-fits ns true true true k n h = h refl
 done-fits ns true true false k n h = omega arith
 done-fits ns true false u k n h = omega arith

@@ -37,7 +37,8 @@ pub upTo-plus : (f : ℕ → ℕ) (m n : ℕ) → upTo f (m + n) ≡ upTo f m ++
 unfolding upTo
 upTo-plus f m zero = ap (upTo f) (add-zero m) ∙ sym (append-nil (upTo f m))
 upTo-plus f m (suc n) =
-    ap (upTo f) (add-suc m n) ∙ (ap (λ (l : List ℕ). l ++ (f (m + n) ∷ [])) (upTo-plus f m n) ∙ append-assoc (upTo f m) (upTo (λ c. f (m + c)) n) (f (m + n) ∷ []))
+    ap (upTo f) (add-suc m n) ∙ (ap (λ (l : List ℕ). l ++ (f (m + n) ∷ [])) (upTo-plus f m n)
+    ∙ append-assoc (upTo f m) (upTo (λ c. f (m + c)) n) (f (m + n) ∷ []))
 
 pub upTo-same : (f h : ℕ → ℕ) (n : ℕ) → ((k : ℕ) → k < n → f k ≡ h k) → upTo f n ≡ upTo h n
 unfolding upTo
@@ -48,11 +49,13 @@ pub painted-list : (f : ℕ → ℕ) (n : ℕ) (s : List ℕ) → n ≤ length s
 unfolding painted upTo
 painted-list f zero s h = refl
 painted-list f (suc n) s h =
-    ap (λ (l : List ℕ). set l n (f n)) (painted-list f n s (omega arith) ∙ ap (λ (l : List ℕ). upTo f n ++ l) (drop-cons s n 0 (omega arith)))
+    ap (λ (l : List ℕ). set l n (f n))
+    (painted-list f n s (omega arith) ∙ ap (λ (l : List ℕ). upTo f n ++ l) (drop-cons s n 0 (omega arith)))
     ∙ set-at (upTo f n) (getD s n 0) (drop (suc n) s) (f n) n (upTo-length f n)
     ∙ sym (append-assoc (upTo f n) (f n ∷ []) (drop (suc n) s))
 
 -- The first n places of what is painted.
 pub painted-take : (f : ℕ → ℕ) (n : ℕ) (s : List ℕ) → n ≤ length s → take n (painted f n s) ≡ upTo f n
 painted-take f n s h =
-    ap (take n) (painted-list f n s h) ∙ subst (λ (k : ℕ). take k (upTo f n ++ drop n s) ≡ upTo f n) (upTo-length f n) (take-append-seam (upTo f n) (drop n s))
+    ap (take n) (painted-list f n s h)
+    ∙ subst (λ (k : ℕ). take k (upTo f n ++ drop n s) ≡ upTo f n) (upTo-length f n) (take-append-seam (upTo f n) (drop n s))

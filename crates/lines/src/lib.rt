@@ -5,7 +5,8 @@ ghost use Prim.Native.Nat.{_+_, _-_, _*_, _/_, _%_, _^_, _≤_};
 ghost use lib.ListN.{length};
 ghost use Rattle.value.specs.Number.{usValues};
 ghost use Rattle.window.specs.Contracts.{Drawable, shadeAt, Filled};
-ghost use Rattle.pixel.specs.Contracts.{painted, nativeShade, longestRow, Row, plainPlace, maskPlace, shifted, Averaged, quarterShade, Subtracts};
+ghost use Rattle.pixel.specs.Contracts.{painted, nativeShade, longestRow, Row, plainPlace, maskPlace, shifted, Averaged, quarterShade};
+ghost use Rattle.pixel.specs.Contracts.{Subtracts};
 ghost use Rattle.lines.specs.Contracts.{Shaded, shadesOf, LineReady, MaskedBy};
 use pixel::Geometry;
 use window::Window;
@@ -84,7 +85,10 @@ pub fn whole_line(
     sums: &mut [u32],
     levels: &mut [u8],
 )
-    requires { ⌜ LineReady (now pixels) g frame row (now levels) × (MaskedBy (now pixels) g (now masks) down right × (Shaded shades (g .stored) (now table) × ((shades .filled ≡ true) × ((down % 4 ≡ 0) × ((right % 4 ≡ 0) × (longestRow ≤ length (now sums))))))) ⌝ }
+    requires { ⌜ LineReady (now pixels) g frame row (now levels)
+        × (MaskedBy (now pixels) g (now masks) down right
+        × (Shaded shades (g .stored) (now table)
+        × ((shades .filled ≡ true) × ((down % 4 ≡ 0) × ((right % 4 ≡ 0) × (longestRow ≤ length (now sums))))))) ⌝ }
     ensures { λ _. ⌜ now (levels .exit) ≡ painted (λ c. quarterShade (shadesOf shades (g .stored)) g (now (pixels .entry)) frame (usValues (now (masks .entry))) down right (row * g .columns + c)) (g .columns) (now (levels .entry)) ⌝ }
 {
     let rows = g.rows;
@@ -145,7 +149,12 @@ pub fn quarter_line(
     lower: &mut [u32],
     levels: &mut [u8],
 )
-    requires { ⌜ LineReady (now pixels) g frame row (now levels) × (MaskedBy (now pixels) g (now masks) down right × (Shaded shades (g .stored) (now table) × ((longestRow ≤ length (now upper)) × ((longestRow ≤ length (now lower)) × Averaged (now pixels) g (usValues (now masks)) (shifted (down / 4) (g .rows) row) (now lower))))) ⌝ }
+    requires { ⌜ LineReady (now pixels) g frame row (now levels)
+        × (MaskedBy (now pixels) g (now masks) down right
+        × (Shaded shades (g .stored) (now table)
+        × ((longestRow ≤ length (now upper))
+        × ((longestRow ≤ length (now lower))
+        × Averaged (now pixels) g (usValues (now masks)) (shifted (down / 4) (g .rows) row) (now lower))))) ⌝ }
     ensures { λ _. ⌜ now (levels .exit) ≡ painted (λ c. quarterShade (shadesOf shades (g .stored)) g (now (pixels .entry)) frame (usValues (now (masks .entry))) down right (row * g .columns + c)) (g .columns) (now (levels .entry)) ⌝ }
     ensures { λ _. ⌜ Averaged (now (pixels .entry)) g (usValues (now (masks .entry))) (shifted (down / 4) (g .rows) (row + 1)) (now (lower .exit)) ⌝ }
 {

@@ -85,7 +85,8 @@ module _ (s : List ℕ) (end : ℕ) where
 
   -- The rows so far come to what was found, which lies within the file.
   abbrev Keeps : List ℕ → List ℕ → ℕ → ℕ → ℕ → Found → Type 0
-  Keeps none₀ none at n least found = (i : Here none₀ none at n least) × ((foundIn nothing (i .rows) ≡ found) × FoundWithin (length s) found)
+  Keeps none₀ none at n least found = (i : Here none₀ none at n least)
+      × ((foundIn nothing (i .rows) ≡ found) × FoundWithin (length s) found)
 
   abbrev pub Kept : List ℕ → List ℕ → Cursor → ℕ → ℕ → Found → Type 0
   Kept none₀ none here n least found = (here ≡ moved from (here .at)) × Keeps none₀ none (here .at) n least found
@@ -112,7 +113,8 @@ module _ (s : List ℕ) (end : ℕ) where
     )
 
     module _ {none : List ℕ} {here : Cursor} {n least : ℕ} {found : Found} (k : Kept none₀ none here n least found) where
-      pub ended : {tag vr : ℕ} {next : Cursor} → stands (here .at) least ≡ heads.End tag vr next → elements.Good found ≡ walkOf (elementsAt 8 s 0 from)
+      pub ended : {tag vr : ℕ} {next : Cursor} → stands (here .at) least ≡ heads.End tag vr next
+          → elements.Good found ≡ walkOf (elementsAt 8 s 0 from)
       ended e =
           sym (ap elements.Good (k .1 .1 .0))
           ∙ ap walkOf (level.ended-run stands (valueRun 8 s) 0 (elementsAt 8 s 0 from) from 0 none₀ (k .1 .0) e)
@@ -121,10 +123,12 @@ module _ (s : List ℕ) (end : ℕ) where
           → elements.Refused ≡ walkOf (elementsAt 8 s 0 from)
       refused-by w = sym (ap walkOf (level.stopped (elementsAt 8 s 0 from) w .0))
 
-      pub refuses : {code : ℕ} → stands (here .at) least ≡ heads.Refused code → (1 ≤ code) × (code ≤ 6) → elements.Refused ≡ walkOf (elementsAt 8 s 0 from)
+      pub refuses : {code : ℕ} → stands (here .at) least ≡ heads.Refused code → (1 ≤ code) × (code ≤ 6)
+          → elements.Refused ≡ walkOf (elementsAt 8 s 0 from)
       refuses e p = refused-by (level.refuses stands (valueRun 8 s) 0 (elementsAt 8 s 0 from) from 0 none₀ (k .1 .0) e p)
 
-      module _ {tag vr : ℕ} {v : Cursor} (e : stands (here .at) least ≡ heads.Header tag vr v) (w : Within (moved from (here .at)) (heads.Header tag vr v)) {none₁ : List ℕ} where
+      module _ {tag vr : ℕ} {v : Cursor} (e : stands (here .at) least ≡ heads.Header tag vr v)
+          (w : Within (moved from (here .at)) (heads.Header tag vr v)) {none₁ : List ℕ} where
         pub fails : {code offset : ℕ} → Walked (valueRun 8 s (n + 1) vr v) v (n + 1) none none₁ (walk.Refused code offset)
             → elements.Refused ≡ walkOf (elementsAt 8 s 0 from)
         fails u = refused-by (level.fails stands (valueRun 8 s) 0 (elementsAt 8 s 0 from) from 0 none₀ (k .1 .0) e w u)
@@ -133,7 +137,8 @@ module _ (s : List ℕ) (end : ℕ) where
             → Walked (valueRun 8 s (n + 1) vr v) v (n + 1) none none₁ (walk.Done stop next m)
             → more ≡ noted found tag vr (v .at) (stop - v .at) → r ≡ moved here next → Kept none₀ none₁ r m (tag + 1) more
         goes-on {stop} {next} {m} {r} {more} q z l u f p =
-            let x = level.onward stands (valueRun 8 s) 0 (elementsAt 8 s 0 from) from 0 none₀ (k .1 .0) e w l refl u (λ h. absurd (omega (arith, h, l, z, k .1 .0 .kept))) in
+            let x = level.onward stands (valueRun 8 s) 0 (elementsAt 8 s 0 from) from 0 none₀ (k .1 .0) e w l refl u
+            (λ h. absurd (omega (arith, h, l, z, k .1 .0 .kept))) in
             let d : Deep 1 (x .inner) = subst (λ (o : Run). RunDeep 1 o) (x .is) (value-deep 8 1 (omega arith) s (n + 1) vr v) in
             let b = level.below (valueRun 8 s (n + 1) vr v) u in
             let g : foundIn nothing (x .here .rows) ≡ more =

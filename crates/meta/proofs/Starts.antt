@@ -11,11 +11,12 @@ use Rattle.dataset.specs.Reading.{Run, done, refused}
 use Rattle.value.specs.Text.{isSingle}
 use Rattle.value.specs.Words.{isUid}
 use Rattle.meta.specs.declared.Uid.{Uid}
-use Rattle.meta.specs.declared.Uid.the-variants.{At, Lacks}
+use Rattle.meta.specs.declared.Uid.the-variants.{At, None}
 use Rattle.meta.specs.declared.Found.{Found}
 use Rattle.meta.specs.declared.Meta.{Meta}
 use Rattle.meta.specs.declared.Meta.the-variants.{Good, NoMark, BadHead, OtherSyntax}
-use Rattle.meta.specs.Meta.{explicitLittleEndian, isMarked, hasGroupLength, endOf, headOf, nothing, foundIn, part, named, ofRun, headedOf, metaOf}
+use Rattle.meta.specs.Meta.{explicitLittleEndian, isMarked, hasGroupLength, endOf, headOf, nothing, foundIn, part, named, ofRun}
+use Rattle.meta.specs.Meta.{headedOf, metaOf}
 
 -- Good only at the end named.
 abbrev EndsAt : ℕ → Meta → Type 0
@@ -29,11 +30,12 @@ either end true m n p q = p
 either end false m n p q = q
 
 named-ends : (s : List ℕ) (class syntax : Uid) → EndsAt (endOf s) (named s class syntax)
-named-ends s Lacks syntax = tt
-named-ends s (At a b) Lacks = tt
+named-ends s None syntax = tt
+named-ends s (At a b) None = tt
 named-ends s (At a b) (At c d) =
     either (endOf s) (isSingle (part s a b)) _ BadHead
-    (either (endOf s) (isSingle (part s c d)) _ BadHead (either (endOf s) (isUid (part s c d) explicitLittleEndian) (Good (endOf s) a b) OtherSyntax refl tt) tt)
+    (either (endOf s) (isSingle (part s c d)) _ BadHead
+    (either (endOf s) (isUid (part s c d) explicitLittleEndian) (Good (endOf s) a b) OtherSyntax refl tt) tt)
     tt
 
 run-ends : (s : List ℕ) (o : Run) → EndsAt (endOf s) (ofRun s o)

@@ -80,7 +80,8 @@ module _ (s : List ℕ) where
   unfolding headOf
   head-is end e = ap (λ (k : ℕ). elementsAt 8 s 0 (cursor 132 k false)) e
 
-  pub walked : (end : ℕ) → end ≡ endOf s → end ≤ length s → (w : Elements) → w ≡ walkOf (elementsAt 8 s 0 (cursor 132 end false)) → ofElements w ≡ headedOf s
+  pub walked : (end : ℕ) → end ≡ endOf s → end ≤ length s → (w : Elements) → w ≡ walkOf (elementsAt 8 s 0 (cursor 132 end false))
+      → ofElements w ≡ headedOf s
   walked end e h w q = ap ofElements (q ∙ ap walkOf (head-is end e)) ∙ of-run (headOf s) ∙ headed (omega (arith, e))
 
   pub only-these : (f : Found) → f .only ≡ true → named s (f .class) (f .syntax) ≡ ofFound s f

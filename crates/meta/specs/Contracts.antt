@@ -2,7 +2,7 @@
 use Prim.Native.Nat.{ℕ, _≤_}
 use Rattle.dataset.specs.Reading.{Run, done, refused}
 use Rattle.meta.specs.declared.Uid.{Uid}
-use Rattle.meta.specs.declared.Uid.the-variants.{At, Lacks}
+use Rattle.meta.specs.declared.Uid.the-variants.{At, None}
 use Rattle.meta.specs.declared.Found.{Found}
 use Rattle.meta.specs.declared.Elements.{Elements}
 use Rattle.meta.specs.declared.Elements.the-variants as elements
@@ -12,7 +12,7 @@ use Rattle.meta.specs.Meta.{nothing, foundIn}
 
 -- A UID's value lies within so many bytes.
 abbrev pub UidWithin : ℕ → Uid → Type 0
-UidWithin size Lacks = Unit {0}
+UidWithin size None = Unit {0}
 UidWithin size (At a b) = (a ≤ b) × (b ≤ size)
 
 pub record FoundWithin (size : ℕ) (f : Found) : Type 0 where

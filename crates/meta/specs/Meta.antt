@@ -13,7 +13,7 @@ use Rattle.dataset.specs.Reading.{Row, Run, done, refused, elementsAt, depths}
 use Rattle.value.specs.Text.{ascii, equal, isSingle}
 use Rattle.value.specs.Words.{isUid}
 use Rattle.meta.specs.declared.Uid.{Uid}
-use Rattle.meta.specs.declared.Uid.the-variants.{At, Lacks}
+use Rattle.meta.specs.declared.Uid.the-variants.{At, None}
 use Rattle.meta.specs.declared.Found.{Found}
 use Rattle.meta.specs.declared.Meta.{Meta}
 use Rattle.meta.specs.declared.Meta.the-variants.{Good, NoMark, BadHead, OtherSyntax}
@@ -63,11 +63,11 @@ headOf s = elementsAt depths s 0 (cursor start (endOf s) false)
 
 -- Where the value of an element stands that a file has as a UID: with VR UI and a length that is not 0.
 unfoldable pub uidAt : ℕ → ℕ → ℕ → Uid
-uidAt vr offset size = cond (eqb vr UI) (cond (eqb size 0) Lacks (At offset (offset + size))) Lacks
+uidAt vr offset size = cond (eqb vr UI) (cond (eqb size 0) None (At offset (offset + size))) None
 
 -- What is found at depth 0: whether all elements are of group 0002, and where the two UIDs stand.
 abbrev pub nothing : Found
-nothing = record { only = true; class = Lacks; syntax = Lacks }
+nothing = record { only = true; class = None; syntax = None }
 
 unfoldable pub noted : Found → ℕ → ℕ → ℕ → ℕ → Found
 noted f tag vr offset size = record {
@@ -89,8 +89,8 @@ part s from to = take (to - from) (drop from s)
 -- The head has both UIDs, each single, and the transfer syntax is Explicit VR Little Endian: where the data set starts, and where the
 -- SOP class stands that the head names.
 abbrev pub named : List ℕ → Uid → Uid → Meta
-named s Lacks syntax = BadHead
-named s (At a b) Lacks = BadHead
+named s None syntax = BadHead
+named s (At a b) None = BadHead
 named s (At a b) (At c d) =
     cond (isSingle (part s a b))
     (cond (isSingle (part s c d))

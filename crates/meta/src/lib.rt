@@ -32,7 +32,7 @@ const START: usize = 132;
 // Where the value of a UID starts and stops.
 pub enum Uid {
     At(usize, usize),
-    Lacks,
+    None,
 }
 
 // What the head's elements at depth 0 come to: whether all are of group 0002, and where the two UIDs stand.
@@ -87,12 +87,12 @@ fn uid_at(vr: usize, start: usize, stop: usize) -> Uid
 {
     if vr == vrs::UI {
         if stop == start {
-            Uid::Lacks
+            Uid::None
         } else {
             Uid::At(start, stop)
         }
     } else {
-        Uid::Lacks
+        Uid::None
     }
 }
 
@@ -214,8 +214,8 @@ fn along(file: &[u8], end: usize, none: &mut [u32]) -> Elements
     let mut least: usize = 0;
     let mut found = Found {
         only: true,
-        class: Uid::Lacks,
-        syntax: Uid::Lacks,
+        class: Uid::None,
+        syntax: Uid::None,
     };
     loop {
         match header(file, here, least) {
@@ -245,7 +245,8 @@ fn along(file: &[u8], end: usize, none: &mut [u32]) -> Elements
 
 // The two UIDs that stand from a to b and from c to d: both single, and the second Explicit VR Little Endian.
 fn checked(file: &[u8], end: usize, a: usize, b: usize, c: usize, d: usize) -> Meta
-    requires { ⌜ ((end ≡ endOf (now file)) × (end ≤ length (now file))) × (((a ≤ b) × (b ≤ length (now file))) × ((c ≤ d) × (d ≤ length (now file)))) ⌝ }
+    requires { ⌜ ((end ≡ endOf (now file)) × (end ≤ length (now file)))
+        × (((a ≤ b) × (b ≤ length (now file))) × ((c ≤ d) × (d ≤ length (now file)))) ⌝ }
     ensures { λ r. ⌜ r ≡ named (now (file .entry)) (At a b) (At c d) ⌝ }
     ensures { λ r. ⌜ MetaWithin (length (now (file .entry))) r ⌝ }
 {
@@ -266,14 +267,15 @@ fn checked(file: &[u8], end: usize, a: usize, b: usize, c: usize, d: usize) -> M
 }
 
 fn names(file: &[u8], end: usize, class: Uid, syntax: Uid) -> Meta
-    requires { ⌜ ((end ≡ endOf (now file)) × (end ≤ length (now file))) × (UidWithin (length (now file)) class × UidWithin (length (now file)) syntax) ⌝ }
+    requires { ⌜ ((end ≡ endOf (now file)) × (end ≤ length (now file)))
+        × (UidWithin (length (now file)) class × UidWithin (length (now file)) syntax) ⌝ }
     ensures { λ r. ⌜ r ≡ named (now (file .entry)) class syntax ⌝ }
     ensures { λ r. ⌜ MetaWithin (length (now (file .entry))) r ⌝ }
 {
     match class {
-        Uid::Lacks => Meta::BadHead,
+        Uid::None => Meta::BadHead,
         Uid::At(a, b) => match syntax {
-            Uid::Lacks => Meta::BadHead,
+            Uid::None => Meta::BadHead,
             Uid::At(c, d) => checked(file, end, a, b, c, d),
         },
     }

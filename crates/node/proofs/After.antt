@@ -22,14 +22,18 @@ left-table (refusedAt code offset) before buffer n e f = let z : _≡_ {A = ℕ}
 left-table (read rows) before buffer n e f = go (fits rows before) e f
   where
     go : (t : Bool) → answer.Done n ≡ cond t (answer.Done (length rows)) answer.NoRoom
-        → buffer ≡ cond t (flat rows ++ drop (7 * length rows) before) before → (7 * n ≤ length buffer) × ((take (7 * n) buffer ≡ flat rows) × (n ≡ length rows))
+        → buffer ≡ cond t (flat rows ++ drop (7 * length rows) before) before
+        → (7 * n ≤ length buffer) × ((take (7 * n) buffer ≡ flat rows) × (n ≡ length rows))
     go true e f =
         let m : n ≡ length rows = cc in
-        let l : length (flat rows) ≡ 7 * n = omega (arith, length-flat rows) in
-        (rw (f, length-append (flat rows) (drop (7 * length rows) before)) (omega arith), (rw f (take-at (flat rows) (drop (7 * length rows) before) (7 * n) l), m))
+        let l : length (flat rows) ≡ 7 * n = omega (arith, length-flat rows) in (
+          rw (f, length-append (flat rows) (drop (7 * length rows) before)) (omega arith),
+          (rw f (take-at (flat rows) (drop (7 * length rows) before) (7 * n) l), m),
+        )
     go false e f = let z : _≡_ {A = ℕ} 0 1 = cc in absurd (omega arith)
 
-module _ (s before buffer : List ℕ) (n : ℕ) (e : answer.Done n ≡ answerOf (readingOf s) before) (f : buffer ≡ bufferOf (readingOf s) before) where
+module _ (s before buffer : List ℕ) (n : ℕ) (e : answer.Done n ≡ answerOf (readingOf s) before)
+    (f : buffer ≡ bufferOf (readingOf s) before) where
   pub after-reading : (7 * n ≤ length buffer) × Table s (take (7 * n) buffer)
   unfolding rowsOf
   after-reading =

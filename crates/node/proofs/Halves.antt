@@ -16,7 +16,7 @@ use Rattle.dataset.specs.Tree.{rowsOf, rowAt, nextRow, Kind, elements, items, k
 use Rattle.dataset.proofs.Tree.{rows-members}
 use Rattle.dataset.proofs.Laws.{Found, row-found, row-next, row-nested}
 use Rattle.dataset.proofs.Parents.{Placed, placed}
-use Rattle.value.specs.declared.Num.the-variants.{Is, Lacks}
+use Rattle.value.specs.declared.Num.the-variants.{Is, None}
 use Rattle.node.specs.Nodes.{Node, nodesOf, nodeAt, nextNode, members, root, inside}
 use Rattle.node.specs.Find.{find}
 use Rattle.node.specs.Contracts.{Table, Ascends, fromTag, firstIs, lower, Container, MemberAbove}
@@ -34,16 +34,18 @@ starts-low : (kind : Kind) → Starts kind 0 0
 starts-low elements = omega arith
 starts-low items = omega arith
 
-member-from : (size : ℕ) (kind : Kind) (depth holder least x : ℕ) (r : Row) → Member size kind depth holder least r → Starts kind least x → x ≤ r .tag
+member-from : (size : ℕ) (kind : Kind) (depth holder least x : ℕ) (r : Row) → Member size kind depth holder least r → Starts kind least x
+    → x ≤ r .tag
 member-from size elements depth holder least x r m h = omega (arith, m .is .0)
 member-from size items depth holder least x r m h = omega (arith, m .is .0)
 
-member-on : (size : ℕ) (kind : Kind) (depth holder least : ℕ) (r : Row) → Member size kind depth holder least r → Starts kind (r .tag + 1) (r .tag)
+member-on : (size : ℕ) (kind : Kind) (depth holder least : ℕ) (r : Row) → Member size kind depth holder least r
+    → Starts kind (r .tag + 1) (r .tag)
 member-on size elements depth holder least r m = omega arith
 member-on size items depth holder least r m = omega (arith, m .is .0)
 
 -- What is sought among members whose tags are all above it is not there.
-pub find-above : (ns : List Node) (tag least : ℕ) (is : List ℕ) → Ascends ns least is → tag < least → find ns tag is ≡ Lacks
+pub find-above : (ns : List Node) (tag least : ℕ) (is : List ℕ) → Ascends ns least is → tag < least → find ns tag is ≡ None
 unfolding Ascends find
 find-above ns tag least [] a l = refl
 find-above ns tag least (k ∷ ks) a l =
@@ -66,9 +68,10 @@ ascends-next ns i to least h a =
 
 -- The search may stop at a member whose tag is above the one sought.
 pub find-past : (ns : List Node) (tag i to least : ℕ) → i < to → Ascends ns least (members ns i to) → tag < nodeAt ns i .tag
-    → find ns tag (members ns i to) ≡ Lacks
+    → find ns tag (members ns i to) ≡ None
 find-past ns tag i to least h a l =
-    find-later ns tag i to h (λ e. omega arith) ∙ find-above ns tag (nodeAt ns i .tag) (members ns (nextNode ns i) to) (ascends-next ns i to least h a) l
+    find-later ns tag i to h (λ e. omega arith)
+    ∙ find-above ns tag (nodeAt ns i .tag) (members ns (nextNode ns i) to) (ascends-next ns i to least h a) l
 
 -- What is found is the first member whose tag is not below the one sought, if it has that tag.
 pub find-first : (ns : List Node) (tag least : ℕ) (is : List ℕ) → Ascends ns least is → find ns tag is ≡ firstIs ns tag (fromTag ns tag is)
@@ -77,7 +80,8 @@ find-first ns tag least [] a = refl
 find-first ns tag least (k ∷ ks) a =
     go (find-first ns tag (nodeAt ns k .tag) ks (a .1)) (ltb (nodeAt ns k .tag) tag) refl (eqb (nodeAt ns k .tag) tag) refl
   where
-    go : find ns tag ks ≡ firstIs ns tag (fromTag ns tag ks) → (t : Bool) → ltb (nodeAt ns k .tag) tag ≡ t → (u : Bool) → eqb (nodeAt ns k .tag) tag ≡ u
+    go : find ns tag ks ≡ firstIs ns tag (fromTag ns tag ks) → (t : Bool) → ltb (nodeAt ns k .tag) tag ≡ t → (u : Bool)
+        → eqb (nodeAt ns k .tag) tag ≡ u
         → find ns tag (k ∷ ks) ≡ firstIs ns tag (fromTag ns tag (k ∷ ks))
     go x true d u e = rw (d, ne-eqb (nodeAt ns k .tag) tag (λ z. omega (arith, ltb-true (nodeAt ns k .tag) tag d))) x
     go x false d true e = rw (d, e)
@@ -113,7 +117,7 @@ module _ (ns : List Node) (tag k to : ℕ) where
   unfolding fromTag
   from-later h l = rw (members-next ns k to h, lt-ltb (nodeAt ns k .tag) tag l)
 
-  pub first-none : to ≤ k → firstIs ns tag (members ns k to) ≡ Lacks
+  pub first-none : to ≤ k → firstIs ns tag (members ns k to) ≡ None
   unfolding firstIs
   first-none h = rw (members-end ns k to h)
 
@@ -121,7 +125,7 @@ module _ (ns : List Node) (tag k to : ℕ) where
   unfolding firstIs
   first-here h e = rw (members-next ns k to h, eq-eqb (nodeAt ns k .tag) tag e)
 
-  pub first-other : k < to → (nodeAt ns k .tag ≡ tag → ⊥) → firstIs ns tag (members ns k to) ≡ Lacks
+  pub first-other : k < to → (nodeAt ns k .tag ≡ tag → ⊥) → firstIs ns tag (members ns k to) ≡ None
   unfolding firstIs
   first-other h n = rw (members-next ns k to h, ne-eqb (nodeAt ns k .tag) tag n)
 
@@ -142,7 +146,8 @@ module _ (s rows : List ℕ) (t : Table s rows) where
     next-row = ap (λ (n : Node). i + 1 + n .descendants) (node-is s rows t i h)
 
   -- The first member whose tag is not below the tag stands among the members, or after them.
-  lower-within : {kind : Kind} {depth holder least i to : ℕ} → Members (rowsOf s) (length s) kind depth holder least i to → to ≤ length (nodesOf s)
+  lower-within : {kind : Kind} {depth holder least i to : ℕ} → Members (rowsOf s) (length s) kind depth holder least i to
+      → to ≤ length (nodesOf s)
       → (tag : ℕ) → (i ≤ lower (nodesOf s) tag (members (nodesOf s) i to) to) × (lower (nodesOf s) tag (members (nodesOf s) i to) to ≤ to)
   lower-within (Members.end {i} {to} e) h tag = omega (arith, lower-end (nodesOf s) tag i to (omega arith))
   lower-within (Members.member {i} {to} f m b r) h tag = go (lower-within r h tag) (ltb (nodeAt (nodesOf s) i .tag) tag) refl
@@ -152,15 +157,18 @@ module _ (s rows : List ℕ) (t : Table s rows) where
 
       go : Claim (nextRow (rowsOf s) i) → (u : Bool) → ltb (nodeAt (nodesOf s) i .tag) tag ≡ u → Claim i
       go x true d =
-          rw (lower-later (nodesOf s) tag i to (omega arith) (ltb-true (nodeAt (nodesOf s) i .tag) tag d), next-row i (omega arith)) (omega (arith, x .0), x .1)
+          rw (lower-later (nodesOf s) tag i to (omega arith) (ltb-true (nodeAt (nodesOf s) i .tag) tag d), next-row i (omega arith))
+          (omega (arith, x .0), x .1)
       go x false d = omega (arith, lower-here (nodesOf s) tag i to (omega arith) (ltb-false (nodeAt (nodesOf s) i .tag) tag d))
 
-  sides : {kind : Kind} {depth holder least i to : ℕ} → Members (rowsOf s) (length s) kind depth holder least i to → to ≤ length (nodesOf s) → holder ≤ i
+  sides : {kind : Kind} {depth holder least i to : ℕ} → Members (rowsOf s) (length s) kind depth holder least i to → to ≤ length (nodesOf s)
+      → holder ≤ i
       → (tag m : ℕ) → i ≤ m → m < to → rowAt (rowsOf s) m .parent ≡ holder → (x : ℕ) → Starts kind least x
       → Sides tag x (rowAt (rowsOf s) m .tag) m (nextRow (rowsOf s) m) (lower (nodesOf s) tag (members (nodesOf s) i to) to)
   sides (Members.end e) h l tag m p q d x y = absurd (omega arith)
   sides (Members.member {kind} {depth} {holder} {least} {i} {to} f k b r) h l tag m p q d x y =
-      go (λ u. sides r h (omega arith) tag m u q d (rowAt (rowsOf s) i .tag) (member-on (length s) kind depth holder least (rowAt (rowsOf s) i) k))
+      go (λ u. sides r h (omega arith) tag m u q d (rowAt (rowsOf s) i .tag)
+      (member-on (length s) kind depth holder least (rowAt (rowsOf s) i) k))
       (ltb i m) refl (ltb m (nextRow (rowsOf s) i)) refl (ltb (nodeAt (nodesOf s) i .tag) tag) refl
     where
       At : ℕ → ℕ → ℕ → Type 0
@@ -213,14 +221,16 @@ module _ (s rows : List ℕ) (t : Table s rows) where
           }
 
       go : (nextRow (rowsOf s) i ≤ m → At (rowAt (rowsOf s) i .tag) m (nextRow (rowsOf s) i))
-          → (t : Bool) → ltb i m ≡ t → (u : Bool) → ltb m (nextRow (rowsOf s) i) ≡ u → (v : Bool) → ltb (nodeAt (nodesOf s) i .tag) tag ≡ v → At x m i
+          → (t : Bool) → ltb i m ≡ t → (u : Bool) → ltb m (nextRow (rowsOf s) i) ≡ u → (v : Bool) → ltb (nodeAt (nodesOf s) i .tag) tag ≡ v
+          → At x m i
       go z false a u c v e = subst (λ (j : ℕ). At x j i) (omega (arith, ltb-false i m a)) (here v e)
       go z true a true c v e = below (ltb-true i m a) (ltb-true m (nextRow (rowsOf s) i) c)
       go z true a false c v e = on (z (ltb-false m (nextRow (rowsOf s) i) c)) v e
 
   -- ---- The members of a container ascend, and go on from that member
 
-  members-ascend : {kind : Kind} {depth holder least i to : ℕ} → Members (rowsOf s) (length s) kind depth holder least i to → to ≤ length (nodesOf s)
+  members-ascend : {kind : Kind} {depth holder least i to : ℕ} → Members (rowsOf s) (length s) kind depth holder least i to
+      → to ≤ length (nodesOf s)
       → (x : ℕ) → Starts kind least x → Ascends (nodesOf s) x (members (nodesOf s) i to)
   unfolding Ascends
   members-ascend (Members.end {i} {to} e) h x y = rw (members-end (nodesOf s) i to (omega arith)) tt
@@ -230,20 +240,24 @@ module _ (s rows : List ℕ) (t : Table s rows) where
         members-ascend r h (rowAt (rowsOf s) i .tag) (member-on (length s) kind depth holder least (rowAt (rowsOf s) i) k),
       )
 
-  lower-from : {kind : Kind} {depth holder least i to : ℕ} → Members (rowsOf s) (length s) kind depth holder least i to → to ≤ length (nodesOf s)
-      → (tag : ℕ) → members (nodesOf s) (lower (nodesOf s) tag (members (nodesOf s) i to) to) to ≡ fromTag (nodesOf s) tag (members (nodesOf s) i to)
+  lower-from : {kind : Kind} {depth holder least i to : ℕ} → Members (rowsOf s) (length s) kind depth holder least i to
+      → to ≤ length (nodesOf s)
+      → (tag : ℕ) → members (nodesOf s) (lower (nodesOf s) tag (members (nodesOf s) i to) to) to
+      ≡ fromTag (nodesOf s) tag (members (nodesOf s) i to)
   lower-from (Members.end {i} {to} e) h tag =
       rw (lower-end (nodesOf s) tag i to (omega arith), ← from-end (nodesOf s) tag i to (omega arith))
       (members-end (nodesOf s) to to (omega arith) ∙ sym (members-end (nodesOf s) i to (omega arith)))
   lower-from (Members.member {i} {to} f m b r) h tag = go (lower-from r h tag) (ltb (nodeAt (nodesOf s) i .tag) tag) refl
     where
       Claim : ℕ → Type 0
-      Claim j = members (nodesOf s) (lower (nodesOf s) tag (members (nodesOf s) j to) to) to ≡ fromTag (nodesOf s) tag (members (nodesOf s) j to)
+      Claim j = members (nodesOf s) (lower (nodesOf s) tag (members (nodesOf s) j to) to) to
+          ≡ fromTag (nodesOf s) tag (members (nodesOf s) j to)
 
       go : Claim (nextRow (rowsOf s) i) → (u : Bool) → ltb (nodeAt (nodesOf s) i .tag) tag ≡ u → Claim i
       go x true d =
           let l = ltb-true (nodeAt (nodesOf s) i .tag) tag d in
-          rw (lower-later (nodesOf s) tag i to (omega arith) l, ← from-later (nodesOf s) tag i to (omega arith) l, next-row i (omega arith)) x
+          rw (lower-later (nodesOf s) tag i to (omega arith) l, ← from-later (nodesOf s) tag i to (omega arith) l, next-row i (omega arith))
+          x
       go x false d =
           let l = ltb-false (nodeAt (nodesOf s) i .tag) tag d in
           rw (lower-here (nodesOf s) tag i to (omega arith) l) (from-here (nodesOf s) tag i to (omega arith) l)
@@ -311,4 +325,5 @@ module _ (s rows : List ℕ) (t : Table s rows) where
             (p, (omega (arith, x .is), (q, (x .low, omega (arith, next-row m k, next-row p j)))))
 
   pub inside-ascends : (holder : ℕ) → holder < length (nodesOf s) → Ascends (nodesOf s) 0 (inside (nodesOf s) holder)
-  inside-ascends holder h = container-ascends (holder + 1) (nextNode (nodesOf s) holder) (node-container holder h (nextNode (nodesOf s) holder) refl)
+  inside-ascends holder h = container-ascends (holder + 1) (nextNode (nodesOf s) holder)
+      (node-container holder h (nextNode (nodesOf s) holder) refl)

@@ -13,7 +13,7 @@ use Rattle.dataset.specs.Tree.{rowsOf, rowAt, noRow}
 use Rattle.dataset.proofs.Buffer.{length-flat}
 use Rattle.dataset.proofs.Laws.{number-at, row-few, row-within, row-next}
 use Rattle.value.specs.declared.Num.{Num}
-use Rattle.value.specs.declared.Num.the-variants.{Is, Lacks}
+use Rattle.value.specs.declared.Num.the-variants.{Is, None}
 use Rattle.node.specs.Nodes.{Node, nodeOf, nodesOf, nodeAt, nextNode, noNode}
 use Rattle.node.specs.Contracts.{Table}
 use Rattle.value.specs.Contracts.{Below}
@@ -71,7 +71,13 @@ module _ (s rows : List ℕ) (t : Table s rows) (i : ℕ) (h : i < length (nodes
   pub value-part : (nodeAt (nodesOf s) i .vr ≡ SQ → ⊥) → (nodeAt (nodesOf s) i .vr ≡ 0 → ⊥)
       → take (getD rows (7 * i + 4) 0) (drop (getD rows (7 * i + 3) 0) s) ≡ nodeAt (nodesOf s) i .value
   value-part a b =
-      rw (number 4 (omega arith), number 3 (omega arith), node-is, ne-eqb (rowAt (rowsOf s) i .vr) SQ (λ e. a (vr-row ∙ e)), ne-eqb (rowAt (rowsOf s) i .vr) 0 (λ e. b (vr-row ∙ e)))
+      rw (
+        number 4 (omega arith),
+        number 3 (omega arith),
+        node-is,
+        ne-eqb (rowAt (rowsOf s) i .vr) SQ (λ e. a (vr-row ∙ e)),
+        ne-eqb (rowAt (rowsOf s) i .vr) 0 (λ e. b (vr-row ∙ e)),
+      )
 
   pub value-within : getD rows (7 * i + 3) 0 + getD rows (7 * i + 4) 0 ≤ length s
   value-within = rw (number 3 (omega arith), number 4 (omega arith)) (row-within s i known)
@@ -85,12 +91,12 @@ module _ (s rows : List ℕ) (t : Table s rows) (i : ℕ) (h : i < length (nodes
 pub had : {r o : Num} {k : ℕ} → r ≡ Is k → r ≡ o → o ≡ Is k
 had e f = sym f ∙ e
 
-pub lacked : {r o : Num} → r ≡ Lacks → r ≡ o → o ≡ Lacks
-lacked e f = sym f ∙ e
+pub had-none : {r o : Num} → r ≡ None → r ≡ o → o ≡ None
+had-none e f = sym f ∙ e
 
 pub within : (n : ℕ) {r : Num} {k : ℕ} → r ≡ Is k → Below n r → k < n
 within n e w = subst (λ (x : Num). Below n x) e w
 
 pub below-more : (a b : ℕ) (r : Num) → a ≤ b → Below a r → Below b r
 below-more a b (Is k) h l = omega arith
-below-more a b Lacks h l = tt
+below-more a b None h l = tt

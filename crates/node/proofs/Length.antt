@@ -38,9 +38,11 @@ module _ (s : List ℕ) (i : ℕ) (h : i < length (rowsOf s)) where
       length-take-le (r .size) (drop (r .offset) s) (omega (arith, w, length-drop (r .offset) s))
 
   by-vr : (r .vr ≡ 0 → ⊥) → (t : Bool) → eqb (r .vr) SQ ≡ t
-      → cond t (not (eqb (r .descendants) 0)) (not (eqb (length (cond (t || eqb (r .vr) 0) [] (take (r .size) (drop (r .offset) s)))) 0)) ≡ not (eqb (r .size) 0)
+      → cond t (not (eqb (r .descendants) 0)) (not (eqb (length (cond (t || eqb (r .vr) 0) [] (take (r .size) (drop (r .offset) s)))) 0))
+      ≡ not (eqb (r .size) 0)
   by-vr n true p =
-      ap not (zero-same (r .descendants) (r .size) (sequence-bare s i h (eqb-true (r .vr) SQ p)) (λ z. let w = row-roomy s i h in omega (arith, w, z)))
+      ap not (zero-same (r .descendants) (r .size) (sequence-bare s i h (eqb-true (r .vr) SQ p))
+      (λ z. let w = row-roomy s i h in omega (arith, w, z)))
   by-vr n false p = rw (ne-eqb (r .vr) 0 n, value-length)
 
 pub length-not-zero : LengthNotZero

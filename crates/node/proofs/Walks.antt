@@ -6,7 +6,7 @@ use mathlib.Core.List.{List, [], _∷_}
 use mathlib.Core.Bool.{cond}
 use lib.Dec.{eqb, ltb}
 use borrow.Author.Tests.{lt-ltb, le-ltb, eq-eqb, ne-eqb}
-use Rattle.value.specs.declared.Num.the-variants.{Is, Lacks}
+use Rattle.value.specs.declared.Num.the-variants.{Is, None}
 use Rattle.node.specs.Nodes.{Node, nodeAt, nextNode, membersBy, members}
 use Rattle.node.specs.Find.{find}
 
@@ -33,7 +33,7 @@ members-next ns i to h =
     (ap (λ (l : List ℕ). i ∷ l) (steps-same ns to (to - i - 1) (to - nextNode ns i) (nextNode ns i) (omega arith) (omega arith)))
 
 module _ (ns : List Node) (tag i to : ℕ) where
-  pub find-end : to ≤ i → find ns tag (members ns i to) ≡ Lacks
+  pub find-end : to ≤ i → find ns tag (members ns i to) ≡ None
   unfolding find
   find-end h = rw (members-end ns i to h)
 

@@ -10,7 +10,7 @@ use Rattle.node.specs.Nodes.{nodesOf, Node, nodeAt, nextNode, members}
 use mathlib.Core.Bool.{cond}
 use lib.Dec.{eqb, ltb}
 use Rattle.value.specs.declared.Num.{Num}
-use Rattle.value.specs.declared.Num.the-variants.{Is, Lacks}
+use Rattle.value.specs.declared.Num.the-variants.{Is, None}
 
 -- What the functions over a row table ask of it.
 
@@ -35,13 +35,13 @@ fromTag ns tag (k ∷ ks) = cond (ltb (nodeAt ns k .tag) tag) (fromTag ns tag ks
 
 -- The first of the members, if it has the tag.
 unfoldable pub firstIs : List Node → ℕ → List ℕ → Num
-firstIs ns tag [] = Lacks
-firstIs ns tag (k ∷ ks) = cond (eqb (nodeAt ns k .tag) tag) (Is k) Lacks
+firstIs ns tag [] = None
+firstIs ns tag (k ∷ ks) = cond (eqb (nodeAt ns k .tag) tag) (Is k) None
 
 -- Where the members from `from` up to `to` go on from the first on whose tag is not below the tag, if that is told.
 abbrev pub Nearby : List Node → ℕ → ℕ → ℕ → Num → Type 0
 Nearby ns tag from to (Is n) = members ns n to ≡ fromTag ns tag (members ns from to)
-Nearby ns tag from to Lacks = Unit {0}
+Nearby ns tag from to None = Unit {0}
 
 -- The first of the members whose tag is not below the tag, by its number; where there is none, `to`.
 unfoldable pub lower : List Node → ℕ → List ℕ → ℕ → ℕ

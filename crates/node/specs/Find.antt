@@ -1,12 +1,12 @@
 -- Finding an element among members, and what "present" and "has" mean (document 01, "The rule list"). A read that
--- finds nothing answers `Lacks`.
+-- finds nothing answers `None`.
 use Prim.Native.Nat.{ℕ}
 use mathlib.Core.List.{List, [], _∷_}
 use mathlib.Core.Bool.{Bool, true, false, cond, not}
 use lib.ListN.{length}
 use lib.Dec.{eqb}
 use Rattle.value.specs.declared.Num.{Num}
-use Rattle.value.specs.declared.Num.the-variants.{Is, Lacks}
+use Rattle.value.specs.declared.Num.the-variants.{Is, None}
 use Rattle.basics.specs.Vr.{SQ}
 use Rattle.node.specs.Nodes.{Node, nodeAt}
 
@@ -14,41 +14,41 @@ use Rattle.node.specs.Nodes.{Node, nodeAt}
 
 -- Something is there, of which p holds.
 abbrev pub holds : Num → (ℕ → Bool) → Bool
-holds Lacks p = false
+holds None p = false
 holds (Is n) p = p n
 
 -- If something is there, p holds of it.
 abbrev pub ifPresent : Num → (ℕ → Bool) → Bool
-ifPresent Lacks p = true
+ifPresent None p = true
 ifPresent (Is n) p = p n
 
 -- What p says of it; `otherwise` where nothing is there.
 abbrev pub holdsOr : Num → (ℕ → Bool) → Bool → Bool
-holdsOr Lacks p otherwise = otherwise
+holdsOr None p otherwise = otherwise
 holdsOr (Is n) p otherwise = p n
 
 abbrev pub absent : Num → Bool
-absent Lacks = true
+absent None = true
 absent (Is n) = false
 
 abbrev pub andThen : Num → (ℕ → Num) → Num
-andThen Lacks f = Lacks
+andThen None f = None
 andThen (Is n) f = f n
 
 abbrev pub orElse : Num → Num → Num
-orElse Lacks other = other
+orElse None other = other
 orElse (Is n) other = Is n
 
 -- ---- Elements
 
 -- The element of the tag among members, of any VR.
 unfoldable pub find : List Node → ℕ → List ℕ → Num
-find ns tag [] = Lacks
+find ns tag [] = None
 find ns tag (i ∷ is) = cond (eqb (nodeAt ns i .tag) tag) (Is i) (find ns tag is)
 
 -- The same, of the VR.
 unfoldable pub ofVr : List Node → ℕ → ℕ → Num
-ofVr ns vr i = cond (eqb (nodeAt ns i .vr) vr) (Is i) Lacks
+ofVr ns vr i = cond (eqb (nodeAt ns i .vr) vr) (Is i) None
 
 abbrev pub findVr : List Node → ℕ → ℕ → List ℕ → Num
 findVr ns tag vr is = andThen (find ns tag is) (ofVr ns vr)

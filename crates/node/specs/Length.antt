@@ -1,7 +1,7 @@
--- "Length not 0" (document 01, "The rule list": "Has"). A node has no length: `filled` asks of a sequence whether nodes stand in it, and of any other
--- element whether its value has bytes. Both are the paper's question. For every element of every data set that reads well, `filled` says that the length in
--- its row is not 0. So a sequence's length is 0 exactly where no row stands below it. That holds for both forms: an undefined length counts
--- up to the sequence's end mark, so that an empty sequence of undefined length has length 0 too.
+-- "Length not 0" (document 01, "The rule list": "Has"). A node has no length: `filled` asks of a sequence whether nodes stand in it, and of
+-- any other element whether its value has bytes. Both are the paper's question. For every element of every data set that reads well,
+-- `filled` says that the length in its row is not 0. So a sequence's length is 0 exactly where no row stands below it. That holds for both
+-- forms: an undefined length counts up to the sequence's end mark, so that an empty sequence of undefined length has length 0 too.
 use mathlib.Core.Path.{_≡_}
 use mathlib.Core.Bool.{not}
 use mathlib.Core.List.{List}

@@ -62,7 +62,8 @@ pub fn value<'a, 'b>(bytes: &'a [u8], rows: &'b [u32], i: usize) -> &'a [u8]
 
 // The element of the tag among the members from `from` up to `to`. The search stops at the first tag not below the one sought.
 pub fn find_tag(bytes: &[u8], rows: &[u32], from: usize, to: usize, wanted: usize) -> Num
-    requires { ⌜ Table (now bytes) (now rows) × ((to ≤ length (nodesOf (now bytes))) × Ascends (nodesOf (now bytes)) 0 (members (nodesOf (now bytes)) from to)) ⌝ }
+    requires { ⌜ Table (now bytes) (now rows)
+        × ((to ≤ length (nodesOf (now bytes))) × Ascends (nodesOf (now bytes)) 0 (members (nodesOf (now bytes)) from to)) ⌝ }
     ensures { λ r. ⌜ r ≡ find (nodesOf (now (bytes .entry))) wanted (members (nodesOf (now (bytes .entry))) from to) ⌝ }
     ensures { λ r. ⌜ Below to r ⌝ }
 {
@@ -73,12 +74,12 @@ pub fn find_tag(bytes: &[u8], rows: &[u32], from: usize, to: usize, wanted: usiz
             return if here == wanted {
                 Num::Is(i)
             } else {
-                Num::Lacks
+                Num::None
             };
         }
         i = next(bytes, rows, i);
     }
-    Num::Lacks
+    Num::None
 }
 
 // Whether node i has a length that is not 0.
@@ -165,17 +166,19 @@ fn near(bytes: &[u8], rows: &[u32], from: usize, to: usize, wanted: usize) -> Nu
             return Num::Is(k);
         }
     }
-    Num::Lacks
+    Num::None
 }
 
 // The same among the members of the container `up`, which `to` follows, however far it is: the search starts at `from`, at or before it.
 pub fn reach(bytes: &[u8], rows: &[u32], up: usize, from: usize, to: usize, wanted: usize) -> usize
-    requires { ⌜ Table (now bytes) (now rows) × (Container (now bytes) up to × (fromTag (nodesOf (now bytes)) wanted (members (nodesOf (now bytes)) from to) ≡ fromTag (nodesOf (now bytes)) wanted (members (nodesOf (now bytes)) up to))) ⌝ }
+    requires { ⌜ Table (now bytes) (now rows)
+        × (Container (now bytes) up to
+        × (fromTag (nodesOf (now bytes)) wanted (members (nodesOf (now bytes)) from to) ≡ fromTag (nodesOf (now bytes)) wanted (members (nodesOf (now bytes)) up to))) ⌝ }
     ensures { λ r. ⌜ members (nodesOf (now (bytes .entry))) r to ≡ fromTag (nodesOf (now (bytes .entry))) wanted (members (nodesOf (now (bytes .entry))) up to) ⌝ }
 {
     match near(bytes, rows, from, to, wanted) {
         Num::Is(n) => n,
-        Num::Lacks => first_from(bytes, rows, up, to, wanted),
+        Num::None => first_from(bytes, rows, up, to, wanted),
     }
 }
 
@@ -189,10 +192,10 @@ pub fn first_is(bytes: &[u8], rows: &[u32], i: usize, to: usize, wanted: usize) 
         if tag(bytes, rows, i) == wanted {
             Num::Is(i)
         } else {
-            Num::Lacks
+            Num::None
         }
     } else {
-        Num::Lacks
+        Num::None
     }
 }
 

@@ -14,11 +14,13 @@ module _ (h : ℕ → ℕ) (at n : ℕ) (image : List ℕ) (room : at + n ≤ le
   behind : drop at (painted h at image) ≡ drop at image
   behind =
       ap (drop at) (painted-list h at image (omega arith))
-      ∙ subst (λ (k : ℕ). drop k (upTo h at ++ drop at image) ≡ drop at image) (upTo-length h at) (drop-append-seam (upTo h at) (drop at image))
+      ∙ subst (λ (k : ℕ). drop k (upTo h at ++ drop at image) ≡ drop at image) (upTo-length h at)
+      (drop-append-seam (upTo h at) (drop at image))
 
   joined : upTo h at ++ painted (λ c. h (at + c)) n (drop at image) ≡ painted h (at + n) image
   joined =
-      ap (λ (l : List ℕ). upTo h at ++ l) (painted-list (λ c. h (at + c)) n (drop at image) (rw (length-drop at image) (omega arith)) ∙ ap (λ (l : List ℕ). upTo (λ c. h (at + c)) n ++ l) (drop-drop n at image))
+      ap (λ (l : List ℕ). upTo h at ++ l) (painted-list (λ c. h (at + c)) n (drop at image) (rw (length-drop at image) (omega arith))
+      ∙ ap (λ (l : List ℕ). upTo (λ c. h (at + c)) n ++ l) (drop-drop n at image))
       ∙ (sym (append-assoc (upTo h at) (upTo (λ c. h (at + c)) n) (drop (at + n) image))
       ∙ (ap (λ (l : List ℕ). l ++ drop (at + n) image) (sym (upTo-plus h at n)) ∙ sym (painted-list h (at + n) image room)))
 
@@ -27,14 +29,20 @@ module _ (h : ℕ → ℕ) (at n : ℕ) (image : List ℕ) (room : at + n ≤ le
   lent now e =
       ap (λ (k : ℕ). take k (drop at now)) (sym (length-drop at now)) ∙ (take-length (drop at now) ∙ (ap (drop at) e ∙ behind))
 
-  pub line-painted : (now part : List ℕ) → now ≡ painted h at image → part ≡ painted (λ c. h (at + c)) n (take (length now - at) (drop at now)) → take at now ++ (part ++ drop (length now - at) (drop at now)) ≡ painted h (at + n) image
+  pub line-painted : (now part : List ℕ) → now ≡ painted h at image
+      → part ≡ painted (λ c. h (at + c)) n (take (length now - at) (drop at now))
+      → take at now ++ (part ++ drop (length now - at) (drop at now)) ≡ painted h (at + n) image
   line-painted now part e p =
-      ap (λ (l : List ℕ). take at now ++ (part ++ l)) (drop-of-length-le (drop at now) {i = length now - at} (rw (length-drop at now) (omega arith)))
+      ap (λ (l : List ℕ). take at now ++ (part ++ l))
+      (drop-of-length-le (drop at now) {i = length now - at} (rw (length-drop at now) (omega arith)))
       ∙ (ap (λ (l : List ℕ). take at now ++ l) (append-nil part ∙ (p ∙ ap (painted (λ c. h (at + c)) n) (lent now e)))
-      ∙ (ap (λ (l : List ℕ). l ++ painted (λ c. h (at + c)) n (drop at image)) (ap (take at) e ∙ painted-take h at image (omega arith)) ∙ joined))
+      ∙ (ap (λ (l : List ℕ). l ++ painted (λ c. h (at + c)) n (drop at image)) (ap (take at) e ∙ painted-take h at image (omega arith))
+      ∙ joined))
 
 -- Row r of a picture.
-pub next-line : (h : ℕ → ℕ) (r columns : ℕ) (image now part : List ℕ) → r * columns + columns ≤ length image → now ≡ painted h (r * columns) image → part ≡ painted (λ c. h (r * columns + c)) columns (take (length now - r * columns) (drop (r * columns) now))
+pub next-line : (h : ℕ → ℕ) (r columns : ℕ) (image now part : List ℕ) → r * columns + columns ≤ length image
+    → now ≡ painted h (r * columns) image
+    → part ≡ painted (λ c. h (r * columns + c)) columns (take (length now - r * columns) (drop (r * columns) now))
     → take (r * columns) now ++ (part ++ drop (length now - r * columns) (drop (r * columns) now)) ≡ painted h ((r + 1) * columns) image
 next-line h r columns image now part room e p =
     let m : r * columns + columns ≡ (r + 1) * columns = omega arith in

@@ -46,7 +46,10 @@ fn paint_whole(
     sums: &mut [u32],
     image: &mut [u8],
 )
-    requires { ⌜ Ready (now pixels) g frame (now image) × (MaskedBy (now pixels) g (now masks) down right × (Shaded shades (g .stored) (now table) × ((shades .filled ≡ true) × ((down % 4 ≡ 0) × ((right % 4 ≡ 0) × (longestRow ≤ length (now sums))))))) ⌝ }
+    requires { ⌜ Ready (now pixels) g frame (now image)
+        × (MaskedBy (now pixels) g (now masks) down right
+        × (Shaded shades (g .stored) (now table)
+        × ((shades .filled ≡ true) × ((down % 4 ≡ 0) × ((right % 4 ≡ 0) × (longestRow ≤ length (now sums))))))) ⌝ }
     ensures { λ _. ⌜ now (image .exit) ≡ painted (quarterShade (shadesOf shades (g .stored)) g (now (pixels .entry)) frame (usValues (now (masks .entry))) down right) (samplesOf g) (now (image .entry)) ⌝ }
 {
     let rows = g.rows;
@@ -83,7 +86,12 @@ fn paint_blended(
     lower: &mut [u32],
     image: &mut [u8],
 )
-    requires { ⌜ Ready (now pixels) g frame (now image) × (MaskedBy (now pixels) g (now masks) down right × (Shaded shades (g .stored) (now table) × ((longestRow ≤ length (now upper)) × ((longestRow ≤ length (now lower)) × Averaged (now pixels) g (usValues (now masks)) (shifted (down / 4) (g .rows) 0) (now lower))))) ⌝ }
+    requires { ⌜ Ready (now pixels) g frame (now image)
+        × (MaskedBy (now pixels) g (now masks) down right
+        × (Shaded shades (g .stored) (now table)
+        × ((longestRow ≤ length (now upper))
+        × ((longestRow ≤ length (now lower))
+        × Averaged (now pixels) g (usValues (now masks)) (shifted (down / 4) (g .rows) 0) (now lower))))) ⌝ }
     ensures { λ _. ⌜ now (image .exit) ≡ painted (quarterShade (shadesOf shades (g .stored)) g (now (pixels .entry)) frame (usValues (now (masks .entry))) down right) (samplesOf g) (now (image .entry)) ⌝ }
 {
     let rows = g.rows;
@@ -121,7 +129,8 @@ fn paint_quarters(
     upper: &mut [u32],
     image: &mut [u8],
 )
-    requires { ⌜ Ready (now pixels) g frame (now image) × (MaskedBy (now pixels) g (now masks) down right × (Shaded shades (g .stored) (now table) × (longestRow ≤ length (now upper)))) ⌝ }
+    requires { ⌜ Ready (now pixels) g frame (now image)
+        × (MaskedBy (now pixels) g (now masks) down right × (Shaded shades (g .stored) (now table) × (longestRow ≤ length (now upper)))) ⌝ }
     ensures { λ _. ⌜ now (image .exit) ≡ painted (quarterShade (shadesOf shades (g .stored)) g (now (pixels .entry)) frame (usValues (now (masks .entry))) down right) (samplesOf g) (now (image .entry)) ⌝ }
 {
     let mut lower: [u32; pixel::LONGEST] = [0; pixel::LONGEST];
@@ -161,7 +170,9 @@ fn paint_by(
     row: &mut [u32],
     image: &mut [u8],
 )
-    requires { ⌜ Ready (now pixels) g frame (now image) × (MaskedBy (now pixels) g (now masks) down right × (Shaded shades (g .stored) (now table) × ((shades .filled ≡ true) × (longestRow ≤ length (now row))))) ⌝ }
+    requires { ⌜ Ready (now pixels) g frame (now image)
+        × (MaskedBy (now pixels) g (now masks) down right
+        × (Shaded shades (g .stored) (now table) × ((shades .filled ≡ true) × (longestRow ≤ length (now row))))) ⌝ }
     ensures { λ _. ⌜ now (image .exit) ≡ painted (quarterShade (shadesOf shades (g .stored)) g (now (pixels .entry)) frame (usValues (now (masks .entry))) down right) (samplesOf g) (now (image .entry)) ⌝ }
 {
     if down % pixel::UNIT == 0 {
@@ -219,7 +230,8 @@ pub fn paint_masked(
     table: &[u8],
     image: &mut [u8],
 )
-    requires { ⌜ Ready (now pixels) g frame (now image) × (Masks (now pixels) g (now masks) × (ShortMoves moves × (Shaded shades (g .stored) (now table) × (shades .filled ≡ true)))) ⌝ }
+    requires { ⌜ Ready (now pixels) g frame (now image)
+        × (Masks (now pixels) g (now masks) × (ShortMoves moves × (Shaded shades (g .stored) (now table) × (shades .filled ≡ true)))) ⌝ }
     ensures { λ _. ⌜ now (image .exit) ≡ painted (maskedShade (shadesOf shades (g .stored)) g (now (pixels .entry)) frame (usValues (now (masks .entry))) moves) (samplesOf g) (now (image .entry)) ⌝ }
 {
     let vertical = moves.vertical;

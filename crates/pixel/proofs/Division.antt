@@ -2,7 +2,9 @@
 -- divided by d, up to 128, where it is multiplied by 2^32 / d + 1 and the product is divided by 2^32.
 use mathlib.Core.Path.{_≡_, sym, _∙_, ap}
 use Prim.Native.Nat.{ℕ, _+_, _*_, _/_, _≤_, _<_}
-use native.Mathlib.Nat.{le-trans, le-of-eq, lt-of-le-of-lt, mul-le-mul, mul-le-mul-left, mul-le-mul-right, mul-assoc, mul-right-comm, mul-comm, mul-add, add-mul, one-mul, lt-of-mul-lt-mul-right, div-mul-le-self, lt-div-mul-add, div-eq-of-lt-le, div-lt-iff-lt-mul}
+use native.Mathlib.Nat.{le-trans, le-of-eq, lt-of-le-of-lt, mul-le-mul, mul-le-mul-left, mul-le-mul-right, mul-assoc, mul-right-comm}
+use native.Mathlib.Nat.{mul-comm, mul-add, add-mul, one-mul, lt-of-mul-lt-mul-right, div-mul-le-self, lt-div-mul-add, div-eq-of-lt-le}
+use native.Mathlib.Nat.{div-lt-iff-lt-mul}
 use native.Mathlib.Omega.{arith}
 use Rattle.pixel.specs.Pixel.{averageOf}
 
@@ -17,7 +19,8 @@ module _ (p d x : ℕ) (some : 0 < d) (small : x * d < p) where
   low : x / d * p ≤ x * (p / d + 1)
   low =
       le-trans (mul-le-mul-left (x / d) above)
-      (le-trans (le-of-eq (sym (mul-assoc (x / d) (p / d + 1) d) ∙ mul-right-comm (x / d) (p / d + 1) d)) (mul-le-mul-right (p / d + 1) (div-mul-le-self x d)))
+      (le-trans (le-of-eq (sym (mul-assoc (x / d) (p / d + 1) d) ∙ mul-right-comm (x / d) (p / d + 1) d))
+      (mul-le-mul-right (p / d + 1) (div-mul-le-self x d)))
 
   -- Both sides times d.
   next : x * p + p ≤ (x / d + 1) * p * d
@@ -43,19 +46,22 @@ module _ (p d x : ℕ) (some : 0 < d) (small : x * d < p) where
 module _ (sum n : ℕ) (some : 1 ≤ n) (few : n ≤ 64) where
   pub product : sum ≤ 4194240 → (2 * sum + n) * (4294967296 / (2 * n) + 1) ≤ 18014261078917056
   product h =
-      let a : 4294967296 / (2 * n) < 2147483649 = div-lt-iff-lt-mul {k = 2 * n} {x = 4294967296} {y = 2147483649} (omega arith) .1 (omega arith) in
+      let a : 4294967296 / (2 * n)
+      < 2147483649 = div-lt-iff-lt-mul {k = 2 * n} {x = 4294967296} {y = 2147483649} (omega arith) .1 (omega arith) in
       mul-le-mul {n₁ = 2 * sum + n} {m₁ = 4294967296 / (2 * n) + 1} {n₂ = 8388544} {m₂ = 2147483649} (omega arith) (omega arith)
 
   pub by-product : sum ≤ 4194240 → (2 * sum + n) * (4294967296 / (2 * n) + 1) / 4294967296 ≡ averageOf sum n
   unfolding averageOf
-  by-product h = quotient 4294967296 (2 * n) (2 * sum + n) (omega arith) (lt-of-le-of-lt (mul-le-mul {n₁ = 2 * sum + n} {m₁ = 2 * n} {n₂ = 8388544} {m₂ = 128} (omega arith) (omega arith)) (omega arith))
+  by-product h = quotient 4294967296 (2 * n) (2 * sum + n) (omega arith)
+      (lt-of-le-of-lt (mul-le-mul {n₁ = 2 * sum + n} {m₁ = 2 * n} {n₂ = 8388544} {m₂ = 128} (omega arith) (omega arith)) (omega arith))
 
   -- An average is not above what none of the samples is above.
   pub average-most : (low : ℕ) → sum ≤ n * low → averageOf sum n ≤ low
   unfolding averageOf
   average-most low h =
       let a : (low + 1) * (2 * n) ≡ 2 * (n * low) + 2 * n = omega arith in
-      let b : (2 * sum + n) / (2 * n) < low + 1 = div-lt-iff-lt-mul {k = 2 * n} {x = 2 * sum + n} {y = low + 1} (omega arith) .1 (omega arith) in
+      let b : (2 * sum + n) / (2 * n)
+      < low + 1 = div-lt-iff-lt-mul {k = 2 * n} {x = 2 * sum + n} {y = low + 1} (omega arith) .1 (omega arith) in
       omega arith
 
   pub average-fits : sum ≤ 4194240 → averageOf sum n ≤ 4194240

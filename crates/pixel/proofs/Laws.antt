@@ -5,19 +5,21 @@ use mathlib.Core.List.{List, [], _∷_, _++_}
 use mathlib.Core.Logic.{_⊎_, inl, inr, ⊎-elim}
 use Prim.Native.Nat.{ℕ, zero, suc, _+_, _-_, _*_, _/_, _%_, _^_, _≤_, _<_, min}
 use native.Mathlib.Numerals.{add-one}
-use native.Mathlib.Nat.{eq-or-lt-of-le, le-of-suc-le-suc, mul-le-mul-right, le-mul-of-pos-right, mod-lt, mod-eq-of-lt, mul-add-div-right, mul-add-mod-self-right, div-eq-of-lt, pow-le-pow-right, mul-le-mul, min-le-right, div-lt-iff-lt-mul, zero-add}
+use native.Mathlib.Nat.{eq-or-lt-of-le, le-of-suc-le-suc, mul-le-mul-right, le-mul-of-pos-right, mod-lt, mod-eq-of-lt, mul-add-div-right}
+use native.Mathlib.Nat.{mul-add-mod-self-right, div-eq-of-lt, pow-le-pow-right, mul-le-mul, min-le-right, div-lt-iff-lt-mul, zero-add}
 use native.Mathlib.Omega.{arith}
 use borrow.Author.Tests.{leb-true}
 use lib.Bits.{bitAnd, and-mask}
 use lib.Dec.{T, leb}
-use lib.Pow.{pow-pos, pow-lt, le-ones, lt-of-le-ones}
+use lib.Pow.{pow-pos, pow-lt, le-ones}
 use lib.ListN.{length, getD, set, take, drop, length-set, length-drop, List·getD-append}
 use lib.Seq.{getD-set-same, getD-set-other, drop-cons, drop-length, getD-append-add, length-take-le}
 use Rattle.basics.specs.Bytes.{le16}
 use Rattle.value.specs.Number.{usValues}
 use Rattle.pixel.specs.declared.Geometry.{Geometry}
 use Rattle.pixel.specs.Pixel.{leBytes, samplesOf, isFrame, sampleAt, sumAt, averageOf, maskAt}
-use Rattle.pixel.specs.Contracts.{painted, Masks, cellAt, plainPlace, maskPlace, Row, paintedFrom, Summed, Spread, shifted, rowShade, offsetShade}
+use Rattle.pixel.specs.Contracts.{painted, Masks, cellAt, plainPlace, maskPlace, Row, paintedFrom, Summed, Spread, shifted, rowShade}
+use Rattle.pixel.specs.Contracts.{offsetShade}
 use Rattle.pixel.proofs.Division.{average-most}
 
 both : (p q : Bool) → p && q ≡ true → (p ≡ true) × (q ≡ true)
@@ -95,15 +97,13 @@ module _ (g : Geometry) (v : List ℕ) where
   pub sample-most : (k i : ℕ) → sampleAt g v k i ≤ 2 ^ g .stored - 1
   sample-most k i = rw (sample-cell k i) (cell-most ((k - 1) * samplesOf g + i))
 
-  pub sample-below : (k i : ℕ) → sampleAt g v k i < 2 ^ g .stored
-  sample-below k i = lt-of-le-ones (g .stored) (sample-most k i)
-
   -- ---- Frames
 
   pub frame-facts : (k : ℕ) → isFrame g v k ≡ true → (1 ≤ k) × (k * samplesOf g * g .width ≤ length v)
   unfolding isFrame
   frame-facts k h =
-      let p : (leb 1 k ≡ true) × (leb (k * samplesOf g * g .width) (length v) ≡ true) = both (leb 1 k) (leb (k * samplesOf g * g .width) (length v)) h in
+      let p : (leb 1 k ≡ true)
+      × (leb (k * samplesOf g * g .width) (length v) ≡ true) = both (leb 1 k) (leb (k * samplesOf g * g .width) (length v)) h in
       (leb-true _ _ (p .0), leb-true _ _ (p .1))
 
 -- Samples from `from` on, n of them, within l bytes.
@@ -118,7 +118,8 @@ run-at from n w l c some h t =
 pub row-at : (v : List ℕ) (g : Geometry) → Row v g 0 → (c : ℕ) → c < g .columns → c * g .width + g .width ≤ length v
 row-at v g r c h =
     let z : 0 + c ≡ c = omega arith in
-    subst (λ (j : ℕ). j * g .width + g .width ≤ length v) z (run-at 0 (g .columns) (g .width) (length v) c (width-some (g .width) (r .shape .width)) (r .inside) h .0)
+    subst (λ (j : ℕ). j * g .width + g .width ≤ length v) z
+    (run-at 0 (g .columns) (g .width) (length v) c (width-some (g .width) (r .shape .width)) (r .inside) h .0)
 
 -- The samples of a frame.
 pub frame-run : (k n w l : ℕ) → 1 ≤ k → k * n * w ≤ l → ((k - 1) * n + n) * w ≤ l
@@ -129,28 +130,36 @@ frame-run (suc m) n w l o h =
     rw e (rw d at h)
 
 -- The samples of a row of a frame.
-pub row-run : (k rows columns w l r : ℕ) → 1 ≤ k → k * (rows * columns) * w ≤ l → r < rows → ((k - 1) * (rows * columns) + r * columns + columns) * w ≤ l
+pub row-run : (k rows columns w l r : ℕ) → 1 ≤ k → k * (rows * columns) * w ≤ l → r < rows
+    → ((k - 1) * (rows * columns) + r * columns + columns) * w ≤ l
 row-run k rows columns w l r o h t =
     let a : (r + 1) * columns ≤ rows * columns = mul-le-mul-right columns (omega arith) in
     let b : (r + 1) * columns ≡ r * columns + columns = omega arith in
-    let d : ((k - 1) * (rows * columns) + r * columns + columns) * w ≤ ((k - 1) * (rows * columns) + rows * columns) * w = mul-le-mul-right w (omega arith) in
+    let d : ((k - 1) * (rows * columns) + r * columns + columns) * w
+    ≤ ((k - 1) * (rows * columns) + rows * columns) * w = mul-le-mul-right w (omega arith) in
     let e : ((k - 1) * (rows * columns) + rows * columns) * w ≤ l = frame-run k (rows * columns) w l o h in
     omega arith
 
 -- Both, of frame k.
-pub native-run : (g : Geometry) (v : List ℕ) (k : ℕ) → (g .width ≡ 1) ⊎ (g .width ≡ 2) → isFrame g v k ≡ true → ((i : ℕ) → i < samplesOf g → (((k - 1) * samplesOf g + i) * g .width + g .width ≤ length v) × ((k - 1) * samplesOf g + i < length v)) × ((k - 1) * samplesOf g ≤ length v)
+pub native-run : (g : Geometry) (v : List ℕ) (k : ℕ) → (g .width ≡ 1) ⊎ (g .width ≡ 2) → isFrame g v k ≡ true
+    → ((i : ℕ) → i < samplesOf g → (((k - 1) * samplesOf g + i) * g .width + g .width ≤ length v) × ((k - 1) * samplesOf g + i < length v))
+    × ((k - 1) * samplesOf g ≤ length v)
 native-run g v k b h =
     let f : (1 ≤ k) × (k * samplesOf g * g .width ≤ length v) = frame-facts g v k h in
     let r : ((k - 1) * samplesOf g + samplesOf g) * g .width ≤ length v = frame-run k (samplesOf g) (g .width) (length v) (f .0) (f .1) in
-    let d : (k - 1) * samplesOf g + samplesOf g ≤ ((k - 1) * samplesOf g + samplesOf g) * g .width = le-mul-of-pos-right ((k - 1) * samplesOf g + samplesOf g) (width-some (g .width) b) in
+    let d : (k - 1) * samplesOf g + samplesOf g ≤ ((k - 1) * samplesOf g + samplesOf g)
+    * g .width = le-mul-of-pos-right ((k - 1) * samplesOf g + samplesOf g) (width-some (g .width) b) in
     (λ i l. run-at ((k - 1) * samplesOf g) (samplesOf g) (g .width) (length v) i (width-some (g .width) b) r l, omega arith)
 
 -- The samples of row r of frame k.
-pub frame-row : (g : Geometry) (v : List ℕ) (k r : ℕ) → (g .width ≡ 1) ⊎ (g .width ≡ 2) → isFrame g v k ≡ true → r < g .rows → (((k - 1) * samplesOf g + r * g .columns + g .columns) * g .width ≤ length v) × ((k - 1) * samplesOf g + r * g .columns ≤ length v)
+pub frame-row : (g : Geometry) (v : List ℕ) (k r : ℕ) → (g .width ≡ 1) ⊎ (g .width ≡ 2) → isFrame g v k ≡ true → r < g .rows
+    → (((k - 1) * samplesOf g + r * g .columns + g .columns) * g .width ≤ length v) × ((k - 1) * samplesOf g + r * g .columns ≤ length v)
 frame-row g v k r b h l =
     let f : (1 ≤ k) × (k * samplesOf g * g .width ≤ length v) = frame-facts g v k h in
-    let a : ((k - 1) * samplesOf g + r * g .columns + g .columns) * g .width ≤ length v = row-run k (g .rows) (g .columns) (g .width) (length v) r (f .0) (f .1) l in
-    let d : (k - 1) * samplesOf g + r * g .columns + g .columns ≤ ((k - 1) * samplesOf g + r * g .columns + g .columns) * g .width = le-mul-of-pos-right ((k - 1) * samplesOf g + r * g .columns + g .columns) (width-some (g .width) b) in
+    let a : ((k - 1) * samplesOf g + r * g .columns + g .columns) * g .width
+    ≤ length v = row-run k (g .rows) (g .columns) (g .width) (length v) r (f .0) (f .1) l in
+    let d : (k - 1) * samplesOf g + r * g .columns + g .columns ≤ ((k - 1) * samplesOf g + r * g .columns + g .columns)
+    * g .width = le-mul-of-pos-right ((k - 1) * samplesOf g + r * g .columns + g .columns) (width-some (g .width) b) in
     (a, omega arith)
 
 -- A row's samples lie in the frame.
@@ -161,12 +170,14 @@ row-end g r h =
     omega arith
 
 -- The place of a native sample in the table.
-pub plain-place : (g : Geometry) (v : List ℕ) (j s p q : ℕ) → s ≡ cellAt g v j → p ≡ 2 ^ g .stored → q ≡ 2 ^ (g .stored - 1) → s + (p - 1 - q) ≡ plainPlace g v j
+pub plain-place : (g : Geometry) (v : List ℕ) (j s p q : ℕ) → s ≡ cellAt g v j → p ≡ 2 ^ g .stored → q ≡ 2 ^ (g .stored - 1)
+    → s + (p - 1 - q) ≡ plainPlace g v j
 unfolding plainPlace
 plain-place g v j s p q a b d = rw (a, b, d)
 
 -- The place of a sample from whose value a mask value is taken.
-pub mask-place : (g : Geometry) (v masks : List ℕ) (o j s p m : ℕ) → s ≡ cellAt g v j → p ≡ 2 ^ g .stored → m ≡ getD masks (o + j) 0 → s + (p - 1) - m ≡ maskPlace g v masks o j
+pub mask-place : (g : Geometry) (v masks : List ℕ) (o j s p m : ℕ) → s ≡ cellAt g v j → p ≡ 2 ^ g .stored → m ≡ getD masks (o + j) 0
+    → s + (p - 1) - m ≡ maskPlace g v masks o j
 unfolding maskPlace
 mask-place g v masks o j s p m a b d = rw (a, b, d)
 
@@ -187,10 +198,8 @@ module _ (g : Geometry) (v : List ℕ) where
   unfolding maskAt
   mask-most ks i some few = average-most (sumAt g v ks i) (length ks) some few (2 ^ g .stored - 1) (sum-most ks i)
 
-  pub mask-below : (ks : List ℕ) (i : ℕ) → 1 ≤ length ks → length ks ≤ 64 → maskAt g v ks i < 2 ^ g .stored
-  mask-below ks i some few = lt-of-le-ones (g .stored) (mask-most ks i some few)
-
-  pub sum-drop : (ks : List ℕ) (k i : ℕ) → k < length ks → sumAt g v (drop k ks) i ≡ sampleAt g v (getD ks k 0) i + sumAt g v (drop (k + 1) ks) i
+  pub sum-drop : (ks : List ℕ) (k i : ℕ) → k < length ks
+      → sumAt g v (drop k ks) i ≡ sampleAt g v (getD ks k 0) i + sumAt g v (drop (k + 1) ks) i
   unfolding sumAt
   sum-drop ks k i h = rw (add-one k, drop-cons ks k 0)
 
@@ -232,13 +241,16 @@ module _ (g : Geometry) (i : ℕ) (inside : i < samplesOf g) where
       omega arith
 
 -- A row's shades are those of its samples.
-pub row-offset : (table v line : List ℕ) (g : Geometry) (f : ℕ) (ks sums : List ℕ) (down right r n : ℕ) → right ≤ 128 → n ≡ length ks → Spread v g ks (shifted down (g .rows) r) sums → (c : ℕ) → c < g .columns → cellAt g line c ≡ sampleAt g v f (r * g .columns + c) → rowShade table g line sums n right c ≡ offsetShade table g v f ks down right (r * g .columns + c)
+pub row-offset : (table v line : List ℕ) (g : Geometry) (f : ℕ) (ks sums : List ℕ) (down right r n : ℕ) → right ≤ 128 → n ≡ length ks
+    → Spread v g ks (shifted down (g .rows) r) sums → (c : ℕ) → c < g .columns → cellAt g line c ≡ sampleAt g v f (r * g .columns + c)
+    → rowShade table g line sums n right c ≡ offsetShade table g v f ks down right (r * g .columns + c)
 unfolding rowShade offsetShade maskAt
 row-offset table v line g f ks sums down right r n hr e s c hc cell =
     rw (cell, place-row r (g .columns) c hc, place-column r (g .columns) c hc, s .at (c + right) (omega arith), e)
 
 -- The shade of a sample of a row, by its place in the table.
-pub row-shade : (g : Geometry) (v table sums : List ℕ) (n right c s p a : ℕ) → s ≡ cellAt g v c → p ≡ 2 ^ g .stored → a ≡ averageOf (getD sums (c + right) 0) n → getD table (s + (p - 1) - a) 0 ≡ rowShade table g v sums n right c
+pub row-shade : (g : Geometry) (v table sums : List ℕ) (n right c s p a : ℕ) → s ≡ cellAt g v c → p ≡ 2 ^ g .stored
+    → a ≡ averageOf (getD sums (c + right) 0) n → getD table (s + (p - 1) - a) 0 ≡ rowShade table g v sums n right c
 unfolding rowShade
 row-shade g v table sums n right c s p a h k o = rw (h, k, o)
 
@@ -286,13 +298,16 @@ painted-same f h zero s e = refl
 painted-same f h (suc n) s e = rw (e n (omega arith), painted-same f h n s (λ i l. e i (omega arith)))
 
 -- What is added to each place.
-pub added-more : (a : ℕ → ℕ) (i : ℕ) (s : List ℕ) → set (painted (λ c. getD s c 0 + a c) i s) i (getD (painted (λ c. getD s c 0 + a c) i s) i 0 + a i) ≡ painted (λ c. getD s c 0 + a c) (i + 1) s
+pub added-more : (a : ℕ → ℕ) (i : ℕ) (s : List ℕ)
+    → set (painted (λ c. getD s c 0 + a c) i s) i (getD (painted (λ c. getD s c 0 + a c) i s) i 0 + a i)
+    ≡ painted (λ c. getD s c 0 + a c) (i + 1) s
 added-more a i s =
     ap (λ (y : ℕ). set (painted (λ c. getD s c 0 + a c) i s) i (y + a i)) (painted-beyond (λ c. getD s c 0 + a c) i s i (omega arith))
     ∙ painted-more (λ c. getD s c 0 + a c) i s
 
 -- Each place changed by h.
-pub changed-more : (h : ℕ → ℕ) (i : ℕ) (s : List ℕ) → set (painted (λ c. h (getD s c 0)) i s) i (h (getD (painted (λ c. h (getD s c 0)) i s) i 0)) ≡ painted (λ c. h (getD s c 0)) (i + 1) s
+pub changed-more : (h : ℕ → ℕ) (i : ℕ) (s : List ℕ)
+    → set (painted (λ c. h (getD s c 0)) i s) i (h (getD (painted (λ c. h (getD s c 0)) i s) i 0)) ≡ painted (λ c. h (getD s c 0)) (i + 1) s
 changed-more h i s =
     ap (λ (y : ℕ). set (painted (λ c. h (getD s c 0)) i s) i (h y)) (painted-beyond (λ c. h (getD s c 0)) i s i (omega arith))
     ∙ painted-more (λ c. h (getD s c 0)) i s
@@ -344,7 +359,8 @@ from-at f at (suc n) s k h l = ⊎-elim at-n (before (from-at f at n s k (omega 
     at-n : k ≡ n → getD (set (paintedFrom f at n s) (at + n) (f n)) (at + k) 0 ≡ f k
     at-n e = rw e (getD-set-same (paintedFrom f at n s) (at + n) (f n) 0 fits)
 
-    before : (k < n → getD (paintedFrom f at n s) (at + k) 0 ≡ f k) → k < n → getD (set (paintedFrom f at n s) (at + n) (f n)) (at + k) 0 ≡ f k
+    before : (k < n → getD (paintedFrom f at n s) (at + k) 0 ≡ f k) → k < n
+        → getD (set (paintedFrom f at n s) (at + n) (f n)) (at + k) 0 ≡ f k
     before r l = getD-set-other (paintedFrom f at n s) (at + n) (at + k) (f n) 0 (ne l) ∙ r l
 
 -- ---- Products of small numbers fit
@@ -373,26 +389,34 @@ module _ (columns : ℕ) (s : List ℕ) (some : 1 ≤ columns) (fits : columns +
   at-left j l =
       let a : 64 + min (j - 64) (columns - 1) ≡ 64 = omega arith in
       let b : getD left (0 + j) 0 ≡ getD s 64 0 = from-at (λ _. getD s 64 0) 0 64 s j (omega arith) l in
-      from-before (λ _. getD s (64 + columns - 1) 0) (64 + columns) 65 left j (omega arith) ∙ ap (λ (i : ℕ). getD left i 0) (sym (zero-add j)) ∙ b ∙ ap (λ (i : ℕ). getD s i 0) (sym a)
+      from-before (λ _. getD s (64 + columns - 1) 0) (64 + columns) 65 left j (omega arith)
+      ∙ ap (λ (i : ℕ). getD left i 0) (sym (zero-add j)) ∙ b ∙ ap (λ (i : ℕ). getD s i 0) (sym a)
 
   at-middle : (j : ℕ) → 64 ≤ j → j < 64 + columns → getD whole j 0 ≡ getD s (64 + min (j - 64) (columns - 1)) 0
   at-middle j h l =
       let a : 64 + min (j - 64) (columns - 1) ≡ j = omega arith in
-      from-before (λ _. getD s (64 + columns - 1) 0) (64 + columns) 65 left j l ∙ from-after (λ _. getD s 64 0) 0 64 s j (omega arith) ∙ ap (λ (i : ℕ). getD s i 0) (sym a)
+      from-before (λ _. getD s (64 + columns - 1) 0) (64 + columns) 65 left j l ∙ from-after (λ _. getD s 64 0) 0 64 s j (omega arith)
+      ∙ ap (λ (i : ℕ). getD s i 0) (sym a)
 
   at-right : (j : ℕ) → 64 + columns ≤ j → j < columns + 129 → getD whole j 0 ≡ getD s (64 + min (j - 64) (columns - 1)) 0
   at-right j h l =
       let a : 64 + min (j - 64) (columns - 1) ≡ 64 + columns - 1 = omega arith in
       let e : 64 + columns + (j - (64 + columns)) ≡ j = omega arith in
       let f : length left ≡ length s = from-length (λ _. getD s 64 0) 0 64 s in
-      ap (λ (i : ℕ). getD whole i 0) (sym e) ∙ from-at (λ _. getD s (64 + columns - 1) 0) (64 + columns) 65 left (j - (64 + columns)) (omega arith) (omega arith) ∙ ap (λ (i : ℕ). getD s i 0) (sym a)
+      ap (λ (i : ℕ). getD whole i 0) (sym e)
+      ∙ from-at (λ _. getD s (64 + columns - 1) 0) (64 + columns) 65 left (j - (64 + columns)) (omega arith) (omega arith)
+      ∙ ap (λ (i : ℕ). getD s i 0) (sym a)
 
   pub spread-at : (j : ℕ) → j < columns + 129 → getD whole j 0 ≡ getD s (64 + min (j - 64) (columns - 1)) 0
   spread-at j l = ⊎-elim (at-left j) (λ h. ⊎-elim (at-middle j h) (λ m. at-right j m l) (below-or-not j (64 + columns))) (below-or-not j 64)
 
 -- The sums of a row, put so into a list from place 64 on.
-pub spread-row : (v : List ℕ) (g : Geometry) (ks : List ℕ) (row : ℕ) (sums s rest after : List ℕ) → 1 ≤ g .columns → g .columns ≤ length sums → 64 ≤ length s → Summed v g ks row sums → ((j : ℕ) → j < g .columns + 129 → getD after j 0 ≡ getD (take 64 s ++ (sums ++ rest)) (64 + min (j - 64) (g .columns - 1)) 0) → Spread v g ks row after
-spread-row v g ks row sums s rest after some fits room r a = record { at = λ j l. a j l ∙ part (min (j - 64) (g .columns - 1)) (low j) ∙ r .at (min (j - 64) (g .columns - 1)) (low j) }
+pub spread-row : (v : List ℕ) (g : Geometry) (ks : List ℕ) (row : ℕ) (sums s rest after : List ℕ) → 1 ≤ g .columns
+    → g .columns ≤ length sums → 64 ≤ length s → Summed v g ks row sums
+    → ((j : ℕ) → j < g .columns + 129 → getD after j 0 ≡ getD (take 64 s ++ (sums ++ rest)) (64 + min (j - 64) (g .columns - 1)) 0)
+    → Spread v g ks row after
+spread-row v g ks row sums s rest after some fits room r
+    a = record { at = λ j l. a j l ∙ part (min (j - 64) (g .columns - 1)) (low j) ∙ r .at (min (j - 64) (g .columns - 1)) (low j) }
   where
     low : (j : ℕ) → min (j - 64) (g .columns - 1) < g .columns
     low j = omega (arith, min-le-right (j - 64) (g .columns - 1))
@@ -400,41 +424,57 @@ spread-row v g ks row sums s rest after some fits room r a = record { at = λ j 
     part : (c : ℕ) → c < g .columns → getD (take 64 s ++ (sums ++ rest)) (64 + c) 0 ≡ getD sums c 0
     part c l =
         let e : length (take 64 s) ≡ 64 = length-take-le 64 s room in
-        ap (λ (n : ℕ). getD (take 64 s ++ (sums ++ rest)) (n + c) 0) (sym e) ∙ getD-append-add (take 64 s) (sums ++ rest) c 0 ∙ List·getD-append sums rest 0 c (omega arith)
+        ap (λ (n : ℕ). getD (take 64 s ++ (sums ++ rest)) (n + c) 0) (sym e) ∙ getD-append-add (take 64 s) (sums ++ rest) c 0
+        ∙ List·getD-append sums rest 0 c (omega arith)
 
 module _ (v : List ℕ) (g : Geometry) (ks : List ℕ) (row : ℕ) where
   -- Of no frame.
-  pub summed-none : (n : ℕ) (s : List ℕ) → n ≡ length ks → g .columns ≤ length s → Summed v g (drop n ks) row (paintedFrom (λ _. 0) 0 (g .columns) s)
+  pub summed-none : (n : ℕ) (s : List ℕ) → n ≡ length ks → g .columns ≤ length s
+      → Summed v g (drop n ks) row (paintedFrom (λ _. 0) 0 (g .columns) s)
   unfolding sumAt
-  summed-none n s e h = record { at = λ c l. ap (λ (j : ℕ). getD (paintedFrom (λ _. 0) 0 (g .columns) s) j 0) (sym (zero-add c)) ∙ from-at (λ _. 0) 0 (g .columns) s c (omega arith) l ∙ sym (ap (λ (t : List ℕ). sumAt g v t (row * g .columns + c)) (ap (λ (m : ℕ). drop m ks) e ∙ drop-length ks)) }
+  summed-none n s e h = record {
+    at = λ c l. ap (λ (j : ℕ). getD (paintedFrom (λ _. 0) 0 (g .columns) s) j 0) (sym (zero-add c))
+        ∙ from-at (λ _. 0) 0 (g .columns) s c (omega arith) l
+        ∙ sym (ap (λ (t : List ℕ). sumAt g v t (row * g .columns + c)) (ap (λ (m : ℕ). drop m ks) e ∙ drop-length ks));
+  }
 
   -- Of one frame more, in front.
-  pub summed-more : (k x from : ℕ) (s : List ℕ) → 0 < k → k ≤ length ks → x ≡ getD ks (k - 1) 0 → from ≡ (x - 1) * samplesOf g + row * g .columns → g .columns ≤ length s → Summed v g (drop k ks) row s → Summed v g (drop (k - 1) ks) row (painted (λ c. getD s c 0 + cellAt g v (from + c)) (g .columns) s)
+  pub summed-more : (k x from : ℕ) (s : List ℕ) → 0 < k → k ≤ length ks → x ≡ getD ks (k - 1) 0
+      → from ≡ (x - 1) * samplesOf g + row * g .columns → g .columns ≤ length s → Summed v g (drop k ks) row s
+      → Summed v g (drop (k - 1) ks) row (painted (λ c. getD s c 0 + cellAt g v (from + c)) (g .columns) s)
   summed-more k x from s some h ex ef fits before = record { at = λ c l. one c l }
     where
       same : k - 1 + 1 ≡ k
       same = omega arith
 
-      one : (c : ℕ) → c < g .columns → getD (painted (λ c. getD s c 0 + cellAt g v (from + c)) (g .columns) s) c 0 ≡ sumAt g v (drop (k - 1) ks) (row * g .columns + c)
+      one : (c : ℕ) → c < g .columns
+          → getD (painted (λ c. getD s c 0 + cellAt g v (from + c)) (g .columns) s) c 0 ≡ sumAt g v (drop (k - 1) ks) (row * g .columns + c)
       one c l =
-          let a : sumAt g v (drop (k - 1) ks) (row * g .columns + c) ≡ sampleAt g v (getD ks (k - 1) 0) (row * g .columns + c) + sumAt g v (drop (k - 1 + 1) ks) (row * g .columns + c) = sum-drop g v ks (k - 1) (row * g .columns + c) (omega arith) in
-          let b : sumAt g v (drop (k - 1 + 1) ks) (row * g .columns + c) ≡ getD s c 0 = ap (λ (m : ℕ). sumAt g v (drop m ks) (row * g .columns + c)) same ∙ sym (before .at c l) in
-          let d : sampleAt g v (getD ks (k - 1) 0) (row * g .columns + c) ≡ cellAt g v ((x - 1) * samplesOf g + (row * g .columns + c)) = rw (← ex) (sample-cell g v x (row * g .columns + c)) in
+          let a : sumAt g v (drop (k - 1) ks) (row * g .columns + c) ≡ sampleAt g v (getD ks (k - 1) 0) (row * g .columns + c)
+          + sumAt g v (drop (k - 1 + 1) ks) (row * g .columns + c) = sum-drop g v ks (k - 1) (row * g .columns + c) (omega arith) in
+          let b : sumAt g v (drop (k - 1 + 1) ks) (row * g .columns + c)
+          ≡ getD s c 0 = ap (λ (m : ℕ). sumAt g v (drop m ks) (row * g .columns + c)) same ∙ sym (before .at c l) in
+          let d : sampleAt g v (getD ks (k - 1) 0) (row * g .columns + c)
+          ≡ cellAt g v ((x - 1) * samplesOf g + (row * g .columns + c)) = rw (← ex) (sample-cell g v x (row * g .columns + c)) in
           let e : (x - 1) * samplesOf g + (row * g .columns + c) ≡ from + c = rw ef (omega arith) in
           let f : cellAt g v ((x - 1) * samplesOf g + (row * g .columns + c)) ≡ cellAt g v (from + c) = ap (cellAt g v) e in
           painted-at (λ c. getD s c 0 + cellAt g v (from + c)) (g .columns) s c fits l ∙ omega arith
 
-  pub summed-most : (k : ℕ) (s : List ℕ) → length ks ≤ 64 → g .stored ≤ 16 → Summed v g (drop k ks) row s → (c : ℕ) → c < g .columns → getD s c 0 ≤ 4194240
+  pub summed-most : (k : ℕ) (s : List ℕ) → length ks ≤ 64 → g .stored ≤ 16 → Summed v g (drop k ks) row s → (c : ℕ) → c < g .columns
+      → getD s c 0 ≤ 4194240
   summed-most k s few high sums c l =
       let a : length (drop k ks) ≡ length ks - k = length-drop k ks in
-      let b : sumAt g v (drop k ks) (row * g .columns + c) ≤ length (drop k ks) * (2 ^ g .stored - 1) = sum-most g v (drop k ks) (row * g .columns + c) in
+      let b : sumAt g v (drop k ks) (row * g .columns + c)
+      ≤ length (drop k ks) * (2 ^ g .stored - 1) = sum-most g v (drop k ks) (row * g .columns + c) in
       let d : length (drop k ks) * (2 ^ g .stored - 1) ≤ 4194240 = sum-fits (length (drop k ks)) (g .stored) (omega arith) high in
       let e : getD s c 0 ≡ sumAt g v (drop k ks) (row * g .columns + c) = sums .at c l in
       omega arith
 
-pub spread-most : (v : List ℕ) (g : Geometry) (ks : List ℕ) (row : ℕ) (s : List ℕ) (n : ℕ) → n ≡ length ks → Spread v g ks row s → (j : ℕ) → j < g .columns + 129 → getD s j 0 ≤ n * (2 ^ g .stored - 1)
+pub spread-most : (v : List ℕ) (g : Geometry) (ks : List ℕ) (row : ℕ) (s : List ℕ) (n : ℕ) → n ≡ length ks → Spread v g ks row s → (j : ℕ)
+    → j < g .columns + 129 → getD s j 0 ≤ n * (2 ^ g .stored - 1)
 spread-most v g ks row s n e sums j l = rw (sums .at j l, e) (sum-most g v ks (row * g .columns + min (j - 64) (g .columns - 1)))
 
 -- Number k of the mask frames.
-pub mask-frame : (v : List ℕ) (g : Geometry) (ms : List ℕ) (k x : ℕ) → Masks v g ms → 0 < k → k ≤ length (usValues ms) → x ≡ getD (usValues ms) (k - 1) 0 → isFrame g v x ≡ true
+pub mask-frame : (v : List ℕ) (g : Geometry) (ms : List ℕ) (k x : ℕ) → Masks v g ms → 0 < k → k ≤ length (usValues ms)
+    → x ≡ getD (usValues ms) (k - 1) 0 → isFrame g v x ≡ true
 mask-frame v g ms k x m some h e = rw e (m .frames (k - 1) (omega arith))

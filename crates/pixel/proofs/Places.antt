@@ -5,7 +5,7 @@ use native.Mathlib.Nat.{div-add-mod', mod-lt}
 use native.Mathlib.Omega.{arith}
 use lib.IntN.{ℤ, pos, negsuc, natAbs, _+ℤ_}
 use Rattle.value.specs.declared.Signed.{Signed}
-use Rattle.value.specs.declared.Signed.the-variants.{Plus, Minus, Lacks}
+use Rattle.value.specs.declared.Signed.the-variants.{Plus, Minus, None}
 use Rattle.window.proofs.Gaps.{Gap, shift, whole, plus, less, gap, times, value}
 use Rattle.shift.specs.Whole.{inQuarters}
 use Rattle.pixel.specs.Pixel.{lessShift, wholeBelow, quartersAbove, limitedTo, placeOf, restOf}
@@ -45,9 +45,10 @@ module _ {z : ℤ} (x y a : ℕ) (few : a < 4) (g : Gap z (4 * x + a) (4 * y)) w
 
 minus-gap : (n r : ℕ) → Gap (lessShift (Minus n) r) (4 * r + n) 0
 minus-gap zero r = shift (less (whole (4 * r)) (whole 0)) (4 * r + 0) 0 (omega arith)
-minus-gap (suc n) r = shift (less {z = negsuc n} {c = 0} {d = suc n} (whole (4 * r)) (record { is = omega arith })) (4 * r + suc n) 0 (omega arith)
+minus-gap (suc n) r = shift (less {z = negsuc n} {c = 0} {d = suc n} (whole (4 * r)) (record { is = omega arith })) (4 * r + suc n) 0
+    (omega arith)
 
-lacks-gap : (r : ℕ) → Gap (lessShift Lacks r) (4 * r) 0
+lacks-gap : (r : ℕ) → Gap (lessShift None r) (4 * r) 0
 lacks-gap r = shift (less (whole (4 * r)) (whole 0)) (4 * r) 0 (omega arith)
 
 -- An offset d, that is 256 less the shift.
@@ -75,32 +76,34 @@ offset-plus n h = offset-is (Plus n) (256 - n) (omega arith) (λ r. shift (gap (
 pub offset-minus : (n : ℕ) → n < 257 → OffsetOf (Minus n) (256 + n)
 offset-minus n h = offset-is (Minus n) (256 + n) (omega arith) (λ r. shift (minus-gap n r) (4 * r + (256 + n)) 256 (omega arith))
 
-pub offset-none : OffsetOf Lacks 256
-offset-none = offset-is Lacks 256 (omega arith) (λ r. shift (lacks-gap r) (4 * r + 256) 256 (omega arith))
+pub offset-none : OffsetOf None 256
+offset-none = offset-is None 256 (omega arith) (λ r. shift (lacks-gap r) (4 * r + 256) 256 (omega arith))
 
 -- ---- Whole moves, of any size
 
 abbrev Whole : Signed → ℕ → ℕ → Type 0
 Whole m size r = (placeOf (inQuarters m) size r 0 ≡ movedBy m size r) × (restOf (inQuarters m) r ≡ 0)
 
-whole-by : (m : Signed) (size r x y : ℕ) → min (x + 0 - y) (size - 1) ≡ movedBy m size r → Gap (lessShift (inQuarters m) r) (4 * x + 0) (4 * y) → Whole m size r
+whole-by : (m : Signed) (size r x y : ℕ) → min (x + 0 - y) (size - 1) ≡ movedBy m size r
+    → Gap (lessShift (inQuarters m) r) (4 * x + 0) (4 * y) → Whole m size r
 unfolding placeOf restOf
 whole-by m size r x y e g = (below-limited x y 0 (omega arith) g size 0 ∙ e, above-is x y 0 (omega arith) g)
 
 pub whole-place : (m : Signed) (size r : ℕ) → r < size → Whole m size r
 whole-place (Plus n) size r h = whole-by (Plus n) size r r n (omega arith) (shift (gap (4 * r) (4 * n)) (4 * r + 0) (4 * n) (omega arith))
-whole-place (Minus n) size r h = whole-by (Minus n) size r (r + n) 0 (rw-min (r + n) (size - 1)) (shift (minus-gap (4 * n) r) (4 * (r + n) + 0) (4 * 0) (omega arith))
+whole-place (Minus n) size r h = whole-by (Minus n) size r (r + n) 0 (rw-min (r + n) (size - 1))
+    (shift (minus-gap (4 * n) r) (4 * (r + n) + 0) (4 * 0) (omega arith))
   where
     rw-min : (a b : ℕ) → min (a + 0 - 0) b ≡ min a b
     rw-min a b =
         let e : a + 0 - 0 ≡ a = omega arith in
         rw e
-whole-place Lacks size r h = whole-by Lacks size r r 0 (omega arith) (shift (lacks-gap r) (4 * r + 0) (4 * 0) (omega arith))
+whole-place None size r h = whole-by None size r r 0 (omega arith) (shift (lacks-gap r) (4 * r + 0) (4 * 0) (omega arith))
 
 pub moved-below : (m : Signed) (size r : ℕ) → r < size → movedBy m size r < size
 moved-below (Plus n) size r h = omega arith
 moved-below (Minus n) size r h = omega arith
-moved-below Lacks size r h = h
+moved-below None size r h = h
 
 -- A place is one of the picture's.
 pub place-below : (m : Signed) (size r k : ℕ) → r < size → placeOf m size r k < size

@@ -25,5 +25,6 @@ between g v ks m i =
     let d : ℕ = maskAt g v ks (neighbourOf g m i 1 1) in
     record {
       low = blend-least _ _ t (min (min a b) (min c d)) (omega arith) (omega arith) (omega arith) (omega arith);
-      high = blend-most _ _ t (max (max a b) (max c d)) (record { first = omega arith; second = omega arith; third = omega arith; fourth = omega arith });
+      high = blend-most _ _ t (max (max a b) (max c d))
+          (record { first = omega arith; second = omega arith; third = omega arith; fourth = omega arith });
     }

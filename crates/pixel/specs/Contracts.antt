@@ -4,7 +4,8 @@ use mathlib.Core.List.{List, [], _∷_}
 use lib.ListN.{getD, set, length}
 use Rattle.shift.specs.declared.Moves.{Moves}
 use Rattle.pixel.specs.declared.Geometry.{Geometry}
-use Rattle.pixel.specs.Pixel.{sampleAt, blendedAt, leBytes, isFrame, sumAt, averageOf, maskAt, placeOf, restOf, blockOf, weightsOf, blendOf}
+use Rattle.pixel.specs.Pixel.{sampleAt, blendedAt, leBytes, isFrame, sumAt, averageOf, maskAt, placeOf, restOf, blockOf, weightsOf}
+use Rattle.pixel.specs.Pixel.{blendOf}
 use mathlib.Core.Path.{_≡_}
 use mathlib.Core.Bool.{true}
 use mathlib.Core.Logic.{_⊎_}
@@ -148,7 +149,8 @@ rowShade table g v sums n s c = getD table (cellAt g v c + (2 ^ g .stored - 1) -
 unfoldable pub offsetShade : List ℕ → Geometry → List ℕ → ℕ → List ℕ → ℕ → ℕ → ℕ → ℕ
 offsetShade table g v f ks down right i =
     getD table
-    (sampleAt g v f i + (2 ^ g .stored - 1) - maskAt g v ks (shifted down (g .rows) (i / g .columns) * g .columns + shifted right (g .columns) (i % g .columns)))
+    (sampleAt g v f i + (2 ^ g .stored - 1)
+    - maskAt g v ks (shifted down (g .rows) (i / g .columns) * g .columns + shifted right (g .columns) (i % g .columns)))
     0
 
 -- What a row is drawn from.
@@ -178,7 +180,8 @@ quarterShade table g v f ks down right i =
     (sampleAt g v f i
     + (2 ^ g .stored - 1)
     - blendOf
-    (blockOf (λ y x. maskAt g v ks (shifted (down / shiftUnit + y) (g .rows) (i / g .columns) * g .columns + shifted (right / shiftUnit + x) (g .columns) (i % g .columns))))
+    (blockOf (λ y x. maskAt g v ks (shifted (down / shiftUnit + y) (g .rows) (i / g .columns) * g .columns
+    + shifted (right / shiftUnit + x) (g .columns) (i % g .columns))))
     (weightsOf (down % shiftUnit) (right % shiftUnit)))
     0
 

@@ -2,7 +2,7 @@
 -- whole rows and columns here.
 use Prim.Native.Nat.{ℕ, _+_, _-_, _*_, _/_, _%_, min}
 use Rattle.value.specs.declared.Signed.{Signed}
-use Rattle.value.specs.declared.Signed.the-variants.{Plus, Minus, Lacks}
+use Rattle.value.specs.declared.Signed.the-variants.{Plus, Minus, None}
 use Rattle.shift.specs.declared.Moves.{Moves}
 use Rattle.pixel.specs.declared.Geometry.{Geometry}
 
@@ -10,7 +10,7 @@ use Rattle.pixel.specs.declared.Geometry.{Geometry}
 abbrev pub movedBy : Signed → ℕ → ℕ → ℕ
 movedBy (Plus n) size r = r - n
 movedBy (Minus n) size r = min (r + n) (size - 1)
-movedBy Lacks size r = r
+movedBy None size r = r
 
 -- The mask sample that sample i takes, that is cell (r - v, c - h) for cell (r, c).
 unfoldable pub sourceOf : Geometry → Moves → ℕ → ℕ

@@ -7,7 +7,9 @@ ghost use Rattle.value.specs.Number.{usValues};
 ghost use Rattle.shift.specs.Shift.{largestShift};
 ghost use Rattle.shift.specs.Contracts.{tooFar};
 ghost use Rattle.pixel.specs.Pixel.{isFrame, averageOf, weightsOf, blendOf};
-ghost use Rattle.pixel.specs.Contracts.{painted, edges, Masks, Small, Shaped, cellAt, plainPlace, maskPlace, Lies, Row, OffsetOf, shifted, Summed, Spread, Averaged, Cells, Weights, paintedFrom, rowShade, Drawn, Blends, blendsAt, Subtracts};
+ghost use Rattle.pixel.specs.Contracts.{painted, edges, Masks, Small, Shaped, cellAt, plainPlace, maskPlace, Lies, Row, OffsetOf};
+ghost use Rattle.pixel.specs.Contracts.{shifted, Summed, Spread, Averaged, Cells, Weights, paintedFrom, rowShade, Drawn, Blends};
+ghost use Rattle.pixel.specs.Contracts.{blendsAt, Subtracts};
 use basics::u16_at;
 use basics::wide;
 use basics::wider;
@@ -110,7 +112,7 @@ pub fn offset_of(m: Signed) -> usize
     match m {
         Signed::Plus(n) => MOST - n,
         Signed::Minus(n) => MOST + n,
-        Signed::Lacks => MOST,
+        Signed::None => MOST,
     }
 }
 
@@ -165,7 +167,8 @@ fn sum_row(pixels: &[u8], g: Geometry, masks: &[u8], row: usize, sums: &mut [u32
 // Puts the first sum before the row, and the last one behind it, so that no edge is met in drawing.
 fn spread(columns: usize, sums: &mut [u32])
     requires { ⌜ (1 ≤ columns) × (columns + edges ≤ length (now sums)) ⌝ }
-    ensures { λ _. ⌜ ((j : ℕ) → j < columns + edges → getD (now (sums .exit)) j 0 ≡ getD (now (sums .entry)) (largestShift + min (j - largestShift) (columns - 1)) 0) ⌝ }
+    ensures { λ _. ⌜ ((j : ℕ) → j < columns + edges
+        → getD (now (sums .exit)) j 0 ≡ getD (now (sums .entry)) (largestShift + min (j - largestShift) (columns - 1)) 0) ⌝ }
 {
     let first = sums[MARGIN];
     let end = MARGIN + columns;

@@ -8,19 +8,24 @@ use Rattle.basics.specs.Vr.{SQ, DS, US, FL, OW}
 use Rattle.value.specs.Text.{ascii}
 use Rattle.value.specs.Number.{usOf}
 use Rattle.value.specs.declared.Num.{Num}
-use Rattle.value.specs.declared.Num.the-variants.{Is, Lacks}
+use Rattle.value.specs.declared.Num.the-variants.{Is, None}
 use Rattle.shift.specs.Shift.{isFrameShift}
 use Rattle.node.specs.Nodes.{Node, nodeAt, root, inside}
 use Rattle.node.specs.Find.{holds, ifPresent, absent, andThen, find, findVr, ofVr, filled}
 use Rattle.element.specs.Tags
 use Rattle.element.specs.Elements.{valueAt, oneItem, theItem, every}
 use Rattle.element.specs.Frames.{framesOf, sharedItem, frameItems, frameItem, groupOf, maskItems, operationIs}
-use Rattle.rules.specs.Frame.{atFrame, isShared, repeatsShared, item27, rule27, item28, rule28, item29, rule29, hasWindow, isVoi, item30, rule30, numberOr0, unique, uniqueIds, hasId, isShiftItem, isShiftGroup, item37, rule37}
-use Rattle.rules.specs.Mask.{isOperation, isMask, rule31, isRange, rangeFits, rule32, areMaskFrames, isOne, averageFits, averagesFit, rule33, isOffset, offsetFits, rule34, isShiftAt, shiftFits, rule35, hasShiftGroup, anyShift, masksHaveIds, rule36}
+use Rattle.rules.specs.Frame.{atFrame, isShared, repeatsShared, item27, rule27, item28, rule28, item29, rule29, hasWindow, isVoi, item30}
+use Rattle.rules.specs.Frame.{rule30, numberOr0, unique, uniqueIds, hasId, isShiftItem, isShiftGroup, item37, rule37}
+use Rattle.rules.specs.Mask.{isOperation, isMask, rule31, isRange, rangeFits, rule32, areMaskFrames, isOne, averageFits, averagesFit}
+use Rattle.rules.specs.Mask.{rule33, isOffset, offsetFits, rule34, isShiftAt, shiftFits, rule35, hasShiftGroup, anyShift, masksHaveIds}
+use Rattle.rules.specs.Mask.{rule36}
 use Rattle.rules.specs.Intensity.{isLinear, linearAmong, hasLut, areLuts, isLutGroup, hasLinear, isLog, item39, rule39}
 use Rattle.privacy.specs.Read.{isRead}
 use Rattle.privacy.specs.Alike.{Alike}
-use Rattle.privacy.proofs.Words.{holds-same, if-same, every-same, some-same, map-same, inside-same, find-same, find-root, vr-same, value-same, value-vr-same, test-same, cs-same, one-same, the-same, frames-same, shared-same, frame-items-same, mask-items-same, group-same, operation-same, id-same, function-same}
+use Rattle.privacy.proofs.Words.{holds-same, if-same, every-same, some-same, map-same, inside-same, find-same, find-root, vr-same}
+use Rattle.privacy.proofs.Words.{value-same, value-vr-same, test-same, cs-same, one-same, the-same, frames-same, shared-same}
+use Rattle.privacy.proofs.Words.{frame-items-same, mask-items-same, group-same, operation-same, id-same, function-same}
 
 module _ {ns ms : List Node} (a : Alike ns ms) where
   at-same : (f : ℕ) (p q : ℕ → ℕ → Bool) → ((s i : ℕ) → p s i ≡ q s i) → atFrame ns f p ≡ atFrame ms f q
@@ -28,7 +33,8 @@ module _ {ns ms : List Node} (a : Alike ns ms) where
       rw (shared-same a, frame-items-same a) (holds-same (sharedItem ms) _ _ (λ s _. holds-same (frameItem ms f) _ _ (λ i _. h s i)))
 
   -- A test of a frame's group, if that is present.
-  if-group : (tag : ℕ) (p q : ℕ → Bool) → ((g : ℕ) → p g ≡ q g) → (s i : ℕ) → ifPresent (groupOf ns tag s i) p ≡ ifPresent (groupOf ms tag s i) q
+  if-group : (tag : ℕ) (p q : ℕ → Bool) → ((g : ℕ) → p g ≡ q g) → (s i : ℕ)
+      → ifPresent (groupOf ns tag s i) p ≡ ifPresent (groupOf ms tag s i) q
   if-group tag p q h s i = rw (group-same a tag s i) (if-same (groupOf ms tag s i) p q (λ g _. h g))
 
   holds-group : (tag : ℕ) (p q : ℕ → Bool) → ((g : ℕ) → p g ≡ q g) → (s i : ℕ) → holds (groupOf ns tag s i) p ≡ holds (groupOf ms tag s i) q
@@ -46,14 +52,21 @@ module _ {ns ms : List Node} (a : Alike ns ms) where
 
   pub rule27-same : (f : ℕ) → rule27 ns f ≡ rule27 ms f
   unfolding rule27 item27 repeatsShared
-  rule27-same f = at-same f (item27 ns) (item27 ms) (λ s i. rw (inside-same a i, some-same (isShared ns s) (isShared ms s) (shared-is s) (inside ms i)))
+  rule27-same f = at-same f (item27 ns) (item27 ms)
+      (λ s i. rw (inside-same a i, some-same (isShared ns s) (isShared ms s) (shared-is s) (inside ms i)))
 
   pub rule28-same : (f : ℕ) → rule28 ns f ≡ rule28 ms f
   unfolding rule28 item28
   rule28-same f =
       at-same f (item28 ns) (item28 ms) (λ s i.
-      rw (inside-same a i, inside-same a s, find-same a Tags.FrameContentSequence (inside ms i), find-same a Tags.FrameContentSequence (inside ms s))
-      (ap (λ (b : Bool). absent (find ms Tags.FrameContentSequence (inside ms s)) && b) (holds-same (find ms Tags.FrameContentSequence (inside ms i)) _ _ (λ g _. one-same a g))))
+      rw (
+        inside-same a i,
+        inside-same a s,
+        find-same a Tags.FrameContentSequence (inside ms i),
+        find-same a Tags.FrameContentSequence (inside ms s),
+      )
+      (ap (λ (b : Bool). absent (find ms Tags.FrameContentSequence (inside ms s)) && b)
+      (holds-same (find ms Tags.FrameContentSequence (inside ms i)) _ _ (λ g _. one-same a g))))
 
   pub rule29-same : (f : ℕ) → rule29 ns f ≡ rule29 ms f
   unfolding rule29 item29
@@ -91,11 +104,17 @@ module _ {ns ms : List Node} (a : Alike ns ms) where
 
   shift-group-same : (g : ℕ) → isShiftGroup ns g ≡ isShiftGroup ms g
   unfolding isShiftGroup
-  shift-group-same g = rw (a .vr g, inside-same a g, every-same (isShiftItem ns) (isShiftItem ms) shift-item-same (inside ms g), unique-same (inside ms g))
+  shift-group-same g = rw (
+    a .vr g,
+    inside-same a g,
+    every-same (isShiftItem ns) (isShiftItem ms) shift-item-same (inside ms g),
+    unique-same (inside ms g),
+  )
 
   pub rule37-same : (f : ℕ) → rule37 ns f ≡ rule37 ms f
   unfolding rule37 item37
-  rule37-same f = at-same f (item37 ns) (item37 ms) (if-group Tags.FramePixelShiftSequence (isShiftGroup ns) (isShiftGroup ms) shift-group-same)
+  rule37-same f = at-same f (item37 ns) (item37 ms)
+      (if-group Tags.FramePixelShiftSequence (isShiftGroup ns) (isShiftGroup ms) shift-group-same)
 
   -- ---- Rules 31 to 36
 
@@ -116,7 +135,8 @@ module _ {ns ms : List Node} (a : Alike ns ms) where
   unfolding rangeFits isRange isRead
   range-same n j =
       rw (inside-same a j, ← find-same a Tags.ApplicableFrameRange (inside ms j))
-      (if-same (find ns Tags.ApplicableFrameRange (inside ms j)) _ _ (λ r e. rw (value-same a Tags.ApplicableFrameRange refl (inside ms j) r e, a .vr r)))
+      (if-same (find ns Tags.ApplicableFrameRange (inside ms j)) _ _
+      (λ r e. rw (value-same a Tags.ApplicableFrameRange refl (inside ms j) r e, a .vr r)))
 
   pub rule32-same : rule32 ns ≡ rule32 ms
   unfolding rule32
@@ -126,14 +146,19 @@ module _ {ns ms : List Node} (a : Alike ns ms) where
   unfolding isOne ofVr isRead
   one-value-same j k e = rw (a .vr k) (go (eqb (nodeAt ms k .vr) US))
     where
-      go : (b : Bool) → holds (andThen (cond b (Is k) Lacks) (λ i. usOf (valueAt ns i))) (λ x. eqb x 1) ≡ holds (andThen (cond b (Is k) Lacks) (λ i. usOf (valueAt ms i))) (λ x. eqb x 1)
+      go : (b : Bool) → holds (andThen (cond b (Is k) None) (λ i. usOf (valueAt ns i))) (λ x. eqb x 1)
+          ≡ holds (andThen (cond b (Is k) None) (λ i. usOf (valueAt ms i))) (λ x. eqb x 1)
       go true = rw (value-same a Tags.ContrastFrameAveraging refl (inside ms j) k e)
       go false = refl
 
   average-same : (n j : ℕ) → averageFits ns n j ≡ averageFits ms n j
   unfolding averageFits isRead
   average-same n j =
-      rw (inside-same a j, test-same a Tags.MaskFrameNumbers refl (inside ms j) US (areMaskFrames n), ← find-same a Tags.ContrastFrameAveraging (inside ms j))
+      rw (
+        inside-same a j,
+        test-same a Tags.MaskFrameNumbers refl (inside ms j) US (areMaskFrames n),
+        ← find-same a Tags.ContrastFrameAveraging (inside ms j),
+      )
       (ap (λ (b : Bool). holds (findVr ms Tags.MaskFrameNumbers US (inside ms j)) (λ k. areMaskFrames n (valueAt ms k)) && b)
       (if-same (find ns Tags.ContrastFrameAveraging (inside ms j)) _ _ (one-value-same j)))
 
@@ -143,7 +168,8 @@ module _ {ns ms : List Node} (a : Alike ns ms) where
 
   pub rule33-same : rule33 ns ≡ rule33 ms
   unfolding rule33
-  rule33-same = rw (frames-same a) (holds-same (framesOf ms) _ _ (λ n _. every-mask (averagesFit ns n) (averagesFit ms n) (averages-same n)))
+  rule33-same = rw (frames-same a)
+      (holds-same (framesOf ms) _ _ (λ n _. every-mask (averagesFit ns n) (averagesFit ms n) (averages-same n)))
 
   offset-same : (j : ℕ) → offsetFits ns j ≡ offsetFits ms j
   unfolding offsetFits isOffset isRead
@@ -160,7 +186,8 @@ module _ {ns ms : List Node} (a : Alike ns ms) where
   unfolding shiftFits isShiftAt isRead
   shift-same j =
       rw (inside-same a j, ← find-same a Tags.MaskSubPixelShift (inside ms j))
-      (if-same (find ns Tags.MaskSubPixelShift (inside ms j)) _ _ (λ k e. rw (a .vr k, value-same a Tags.MaskSubPixelShift refl (inside ms j) k e)))
+      (if-same (find ns Tags.MaskSubPixelShift (inside ms j)) _ _
+      (λ k e. rw (a .vr k, value-same a Tags.MaskSubPixelShift refl (inside ms j) k e)))
 
   pub rule35-same : rule35 ns ≡ rule35 ms
   unfolding rule35
@@ -170,12 +197,13 @@ module _ {ns ms : List Node} (a : Alike ns ms) where
   unfolding hasShiftGroup filled ofVr
   shift-had s i = rw (group-same a Tags.FramePixelShiftSequence s i) (go (groupOf ms Tags.FramePixelShiftSequence s i))
     where
-      on : (g : ℕ) (b : Bool) → eqb (nodeAt ms g .vr) SQ ≡ b → holds (cond b (Is g) Lacks) (filled ns) ≡ holds (cond b (Is g) Lacks) (filled ms)
+      on : (g : ℕ) (b : Bool) → eqb (nodeAt ms g .vr) SQ ≡ b
+          → holds (cond b (Is g) None) (filled ns) ≡ holds (cond b (Is g) None) (filled ms)
       on g true e = rw (a .vr g, a .descendants g, e)
       on g false e = refl
 
       go : (o : Num) → holds (andThen o (ofVr ns SQ)) (filled ns) ≡ holds (andThen o (ofVr ms SQ)) (filled ms)
-      go Lacks = refl
+      go None = refl
       go (Is g) = rw (a .vr g) (on g (eqb (nodeAt ms g .vr) SQ) refl)
 
   pub rule36-same : rule36 ns ≡ rule36 ms
@@ -183,7 +211,11 @@ module _ {ns ms : List Node} (a : Alike ns ms) where
   rule36-same =
       rw (shared-same a, mask-items-same a, frame-items-same a)
       (holds-same (sharedItem ms) _ _ (λ s _.
-      rw (some-same (hasShiftGroup ns s) (hasShiftGroup ms s) (shift-had s) (frameItems ms), every-same (hasId ns) (hasId ms) has-id-same (maskItems ms), unique-same (maskItems ms))))
+      rw (
+        some-same (hasShiftGroup ns s) (hasShiftGroup ms s) (shift-had s) (frameItems ms),
+        every-same (hasId ns) (hasId ms) has-id-same (maskItems ms),
+        unique-same (maskItems ms),
+      )))
 
   -- ---- Rule 39
 
@@ -217,10 +249,16 @@ module _ {ns ms : List Node} (a : Alike ns ms) where
   unfolding isLog isRead
   log-same p =
       rw (the-same a p)
-      (holds-same (theItem ms p) _ _ (λ j _. rw (inside-same a j) (cs-same a Tags.PixelIntensityRelationship refl (inside ms j) (ascii "LOG"))))
+      (holds-same (theItem ms p) _ _
+      (λ j _. rw (inside-same a j) (cs-same a Tags.PixelIntensityRelationship refl (inside ms j) (ascii "LOG"))))
 
   pub rule39-same : (f : ℕ) → rule39 ns f ≡ rule39 ms f
   unfolding rule39 item39
   rule39-same f =
       at-same f (item39 ns) (item39 ms) (λ s i.
-      rw (if-group Tags.FramePixelDataPropertiesSequence (oneItem ns) (oneItem ms) (one-same a) s i, if-group Tags.PixelIntensityRelationshipLUTSequence (isLutGroup ns) (isLutGroup ms) lut-group-same s i, holds-group Tags.FramePixelDataPropertiesSequence (isLog ns) (isLog ms) log-same s i, holds-group Tags.PixelIntensityRelationshipLUTSequence (hasLinear ns) (hasLinear ms) has-linear-same s i))
+      rw (
+        if-group Tags.FramePixelDataPropertiesSequence (oneItem ns) (oneItem ms) (one-same a) s i,
+        if-group Tags.PixelIntensityRelationshipLUTSequence (isLutGroup ns) (isLutGroup ms) lut-group-same s i,
+        holds-group Tags.FramePixelDataPropertiesSequence (isLog ns) (isLog ms) log-same s i,
+        holds-group Tags.PixelIntensityRelationshipLUTSequence (hasLinear ns) (hasLinear ms) has-linear-same s i,
+      ))

@@ -19,7 +19,8 @@ module _ {A : Type 0} (d : A) where
   map-at f e (r ∷ rs) zero = refl
   map-at f e (r ∷ rs) (suc i) = map-at f e rs i
 
-  pub both-at : (f g : Row → A) → f noRow ≡ d → g noRow ≡ d → (rs qs : List Row) → map f rs ≡ map g qs → (i : ℕ) → f (rowAt rs i) ≡ g (rowAt qs i)
+  pub both-at : (f g : Row → A) → f noRow ≡ d → g noRow ≡ d → (rs qs : List Row) → map f rs ≡ map g qs → (i : ℕ)
+      → f (rowAt rs i) ≡ g (rowAt qs i)
   both-at f g x y rs qs e i = sym (map-at f x rs i) ∙ ap (λ (l : List A). getD l i d) e ∙ map-at g y qs i
 
 node-at : (s : List ℕ) (rs : List Row) (i : ℕ) → nodeAt (map (nodeOf s) rs) i ≡ nodeOf s (rowAt rs i)
@@ -50,18 +51,21 @@ module _ (s t : List ℕ) (w : SameRows s t) where
   other-is i = ap (λ (ns : List Node). nodeAt ns i) others-are ∙ node-at t (w .others) i
 
   -- A part of a node that its row has too.
-  part-same : {A : Type 0} (part : Node → A) (i : ℕ) → part (nodeOf s (rowAt (w .rows) i)) ≡ part (nodeOf t (rowAt (w .others) i)) → part (nodeAt (nodesOf s) i) ≡ part (nodeAt (nodesOf t) i)
+  part-same : {A : Type 0} (part : Node → A) (i : ℕ) → part (nodeOf s (rowAt (w .rows) i)) ≡ part (nodeOf t (rowAt (w .others) i))
+      → part (nodeAt (nodesOf s) i) ≡ part (nodeAt (nodesOf t) i)
   part-same part i e = ap part (node-is i) ∙ e ∙ sym (ap part (other-is i))
 
   tag-is : (i : ℕ) → rowAt (w .rows) i .tag ≡ nodeAt (nodesOf s) i .tag
   tag-is i = sym (ap (λ (n : Node). n .tag) (node-is i))
 
   pub alike : ((i : ℕ) → isRead (rowAt (w .rows) i .tag) ≡ true → valueIn s (rowAt (w .rows) i) ≡ valueIn t (rowAt (w .others) i))
-      → ((i : ℕ) → rowAt (w .rows) i .tag ≡ Tags.PixelData → length (valueIn s (rowAt (w .rows) i)) ≡ length (valueIn t (rowAt (w .others) i)))
+      → ((i : ℕ) → rowAt (w .rows) i .tag ≡ Tags.PixelData
+      → length (valueIn s (rowAt (w .rows) i)) ≡ length (valueIn t (rowAt (w .others) i)))
       → Alike (nodesOf s) (nodesOf t)
   alike value long =
       record {
-        size = ap length nodes-are ∙ length-map (w .rows) (nodeOf s) ∙ count-same ∙ sym (length-map (w .others) (nodeOf t)) ∙ sym (ap length others-are);
+        size = ap length nodes-are ∙ length-map (w .rows) (nodeOf s) ∙ count-same ∙ sym (length-map (w .others) (nodeOf t))
+            ∙ sym (ap length others-are);
         tag = λ i. part-same (λ n. n .tag) i (tag-at i);
         vr = λ i. part-same (λ n. n .vr) i (ap (λ (r : Row). r .vr) (outline-at i));
         descendants = λ i. part-same (λ n. n .descendants) i (ap (λ (r : Row). r .descendants) (outline-at i));
@@ -69,5 +73,6 @@ module _ (s t : List ℕ) (w : SameRows s t) where
         long = λ i q. part-same (λ n. length (n .value)) i (long i (tag-is i ∙ q));
       }
 
-  pub same-pixels : ((i : ℕ) → rowAt (w .rows) i .tag ≡ Tags.PixelData → valueIn s (rowAt (w .rows) i) ≡ valueIn t (rowAt (w .others) i)) → SamePixels (nodesOf s) (nodesOf t)
+  pub same-pixels : ((i : ℕ) → rowAt (w .rows) i .tag ≡ Tags.PixelData → valueIn s (rowAt (w .rows) i) ≡ valueIn t (rowAt (w .others) i))
+      → SamePixels (nodesOf s) (nodesOf t)
   same-pixels h = record { pixels = λ i q. part-same (λ n. n .value) i (h i (tag-is i ∙ q)) }

@@ -14,7 +14,9 @@ use Rattle.node.specs.Find.{find, ofVr, filled, has}
 use Rattle.element.specs.Elements.{oneItem, theItem, itemsIn, every, some}
 use Rattle.element.specs.Frames.{framesOf, sharedItem, frameItems, maskItems}
 use Rattle.verdict.specs.Verdict.{perFrame}
-use Rattle.rules.specs.Root.{isXa, isXrf, imageTypeIs, isImageType, planesAre, photometricIs, bitsFit, lossyIs, isOriginal, rule1, rule2, rule3, rule4, rule5, rule6, rule7, rule8, rule9, rule10, rule11, rule12, rule13, rule14, rule15, rule16, rule17, rule18, rule19, rule20, rule21, rule22, rule23, rule24, rule25, rule26}
+use Rattle.rules.specs.Root.{isXa, isXrf, imageTypeIs, isImageType, planesAre, photometricIs, bitsFit, lossyIs, isOriginal, rule1, rule2}
+use Rattle.rules.specs.Root.{rule3, rule4, rule5, rule6, rule7, rule8, rule9, rule10, rule11, rule12, rule13, rule14, rule15, rule16}
+use Rattle.rules.specs.Root.{rule17, rule18, rule19, rule20, rule21, rule22, rule23, rule24, rule25, rule26}
 use Rattle.rules.specs.Frame.{isShared, repeatsShared, item27, item28, item29, item30, item37, rule27, rule28, rule29, rule30, rule37}
 use Rattle.rules.specs.Mask.{hasShiftGroup, anyShift, rule31, rule32, rule33, rule34, rule35, rule36}
 use Rattle.rules.specs.Pixels.{isPixelVr, isPixelData, rule38}
@@ -56,7 +58,8 @@ unfolding
     isPatient patientSizes
 sizes = (refl, refl)
 
-drawn : (fieldsOf (judgeOf one buffer) .code ≡ 0) × ((show.fieldsOf (showOf one 1 buffer image) .code ≡ 0) × (imageOf one 1 buffer image ≡ 7 ∷ 200 ∷ []))
+drawn : (fieldsOf (judgeOf one buffer) .code ≡ 0)
+    × ((show.fieldsOf (showOf one 1 buffer image) .code ≡ 0) × (imageOf one 1 buffer image ≡ 7 ∷ 200 ∷ []))
 unfolding
     le16
     listed formOf
@@ -71,7 +74,8 @@ unfolding
     oneItem theItem itemsIn every some
     framesOf sharedItem frameItems maskItems
     perFrame
-    isXa isXrf imageTypeIs isImageType planesAre photometricIs bitsFit lossyIs isOriginal rule1 rule2 rule3 rule4 rule5 rule6 rule7 rule8 rule9 rule10 rule11 rule12 rule13 rule14 rule15 rule16 rule17 rule18 rule19 rule20 rule21 rule22 rule23 rule24 rule25 rule26
+    isXa isXrf imageTypeIs isImageType planesAre photometricIs bitsFit lossyIs isOriginal rule1 rule2 rule3 rule4 rule5 rule6 rule7 rule8
+    rule9 rule10 rule11 rule12 rule13 rule14 rule15 rule16 rule17 rule18 rule19 rule20 rule21 rule22 rule23 rule24 rule25 rule26
     isShared repeatsShared item27 item28 item29 item30 item37 rule27 rule28 rule29 rule30 rule37
     hasShiftGroup anyShift rule31 rule32 rule33 rule34 rule35 rule36
     isPixelVr isPixelData rule38

@@ -41,7 +41,8 @@ none-in p [] e tag q = let z : _≡_ {A = ℕ} 0 1 = ap (λ (c : Bool). cond c 1
 none-in p (x ∷ l) e tag q = go (none-in p l) (eqb tag x) refl (p x) refl e q
   where
     go : (every (λ y. not (p y)) l ≡ true → (k : ℕ) → isIn k l ≡ true → p k ≡ false)
-        → (b : Bool) → eqb tag x ≡ b → (d : Bool) → p x ≡ d → (not d && every (λ y. not (p y)) l) ≡ true → (b || isIn tag l) ≡ true → p tag ≡ false
+        → (b : Bool) → eqb tag x ≡ b → (d : Bool) → p x ≡ d → (not d && every (λ y. not (p y)) l) ≡ true → (b || isIn tag l) ≡ true
+        → p tag ≡ false
     go rest b f true g e q = let z : _≡_ {A = ℕ} 0 1 = ap (λ (c : Bool). cond c 1 0) e in absurd (omega (arith, z))
     go rest true f false g e q = ap p (eqb-true tag x f) ∙ g
     go rest false f false g e q = rest e tag q
@@ -71,13 +72,16 @@ module _ (s t : List ℕ) (p : SameButPatient s t) where
   unfolding isPatient
   kept-at i = both-at [] (keptValue s) (keptValue t) refl refl (p .shape .rows) (p .shape .others) (p .values) i
 
-  value-at : (i : ℕ) → isOfPatient (rowAt (p .shape .rows) i .tag) ≡ false → valueIn s (rowAt (p .shape .rows) i) ≡ valueIn t (rowAt (p .shape .others) i)
+  value-at : (i : ℕ) → isOfPatient (rowAt (p .shape .rows) i .tag) ≡ false
+      → valueIn s (rowAt (p .shape .rows) i) ≡ valueIn t (rowAt (p .shape .others) i)
   value-at i e =
       sym (ap (λ (b : Bool). cond b [] (valueIn s (rowAt (p .shape .rows) i))) (row-not-patient (rowAt (p .shape .rows) i) e))
       ∙ kept-at i
-      ∙ ap (λ (b : Bool). cond b [] (valueIn t (rowAt (p .shape .others) i))) (row-not-patient (rowAt (p .shape .others) i) (ap isOfPatient (sym (tag-at s t (p .shape) i)) ∙ e))
+      ∙ ap (λ (b : Bool). cond b [] (valueIn t (rowAt (p .shape .others) i)))
+      (row-not-patient (rowAt (p .shape .others) i) (ap isOfPatient (sym (tag-at s t (p .shape) i)) ∙ e))
 
-  pixels-at : (i : ℕ) → rowAt (p .shape .rows) i .tag ≡ Tags.PixelData → valueIn s (rowAt (p .shape .rows) i) ≡ valueIn t (rowAt (p .shape .others) i)
+  pixels-at : (i : ℕ) → rowAt (p .shape .rows) i .tag ≡ Tags.PixelData
+      → valueIn s (rowAt (p .shape .rows) i) ≡ valueIn t (rowAt (p .shape .others) i)
   pixels-at i e = value-at i (pixels-not-patient (rowAt (p .shape .rows) i .tag) e)
 
   a : Alike (nodesOf s) (nodesOf t)
@@ -105,7 +109,8 @@ module _ (s t : List ℕ) (p : SameButPatient s t) where
   unfolding sheetOf
   sheet-same first last buffer = rw (judged-same buffer) (sampled-same a b first last (judgeOf t buffer))
 
-  comparison-same : (frame : ℕ) (cells : List ℕ) (tolerance : ℕ) (buffer : List ℕ) → compareOf s frame cells tolerance buffer ≡ compareOf t frame cells tolerance buffer
+  comparison-same : (frame : ℕ) (cells : List ℕ) (tolerance : ℕ) (buffer : List ℕ)
+      → compareOf s frame cells tolerance buffer ≡ compareOf t frame cells tolerance buffer
   unfolding compareOf
   comparison-same frame cells tolerance buffer = rw (judged-same buffer) (compared-same a b frame cells tolerance (judgeOf t buffer))
 

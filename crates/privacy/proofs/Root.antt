@@ -12,11 +12,15 @@ use Rattle.node.specs.Find.{absent, find, findVr}
 use Rattle.element.specs.Tags
 use Rattle.element.specs.Elements.{usIn, oneItem}
 use Rattle.element.specs.Frames.{framesOf}
-use Rattle.rules.specs.Root.{isXa, isXrf, imageTypeIs, isImageType, planesAre, isOtherPlane, photometricIs, lossyIs, isOriginal, hasRadiation, hasExposure, rule1, rule2, rule3, rule4, rule5, rule6, rule7, rule8, rule9, rule10, rule11, rule12, rule13, rule14, rule15, rule16, rule17, rule18, rule19, rule20, rule21, rule22, rule23, rule24, rule25, rule26}
+use Rattle.rules.specs.Root.{isXa, isXrf, imageTypeIs, isImageType, planesAre, isOtherPlane, photometricIs, lossyIs, isOriginal}
+use Rattle.rules.specs.Root.{hasRadiation, hasExposure, rule1, rule2, rule3, rule4, rule5, rule6, rule7, rule8, rule9, rule10, rule11}
+use Rattle.rules.specs.Root.{rule12, rule13, rule14, rule15, rule16, rule17, rule18, rule19, rule20, rule21, rule22, rule23, rule24, rule25}
+use Rattle.rules.specs.Root.{rule26}
 use Rattle.rules.specs.Pixels.{isPixelData, rule38}
 use Rattle.privacy.specs.Read.{isRead}
 use Rattle.privacy.specs.Alike.{Alike}
-use Rattle.privacy.proofs.Words.{holds-same, inside-same, find-root, find-tag, vr-root, is-cs-root, is-ui-root, us-root, has-root, test-root, one-same, frames-same, shared-same}
+use Rattle.privacy.proofs.Words.{holds-same, inside-same, find-root, find-tag, vr-root, is-cs-root, is-ui-root, us-root, has-root}
+use Rattle.privacy.proofs.Words.{test-root, one-same, frames-same, shared-same}
 
 module _ {ns ms : List Node} (a : Alike ns ms) where
   -- ---- Words of several rules
@@ -114,7 +118,11 @@ module _ {ns ms : List Node} (a : Alike ns ms) where
   pub rule16-same : rule16 ns ≡ rule16 ms
   unfolding rule16 isRead
   rule16-same =
-      rw (is-cs-root a Tags.ContentQualification refl (ascii "PRODUCT"), is-cs-root a Tags.ContentQualification refl (ascii "RESEARCH"), is-cs-root a Tags.ContentQualification refl (ascii "SERVICE"))
+      rw (
+        is-cs-root a Tags.ContentQualification refl (ascii "PRODUCT"),
+        is-cs-root a Tags.ContentQualification refl (ascii "RESEARCH"),
+        is-cs-root a Tags.ContentQualification refl (ascii "SERVICE"),
+      )
 
   pub rule17-same : rule17 ns ≡ rule17 ms
   unfolding rule17 isRead
@@ -127,23 +135,39 @@ module _ {ns ms : List Node} (a : Alike ns ms) where
   pub rule19-same : rule19 ns ≡ rule19 ms
   unfolding rule19 isRead
   rule19-same =
-      rw (lossy-same (ascii "01"), has-root a Tags.LossyImageCompressionRatio refl DS, has-root a Tags.LossyImageCompressionMethod refl CS, find-root a Tags.LossyImageCompressionRatio, find-root a Tags.LossyImageCompressionMethod)
+      rw (
+        lossy-same (ascii "01"),
+        has-root a Tags.LossyImageCompressionRatio refl DS,
+        has-root a Tags.LossyImageCompressionMethod refl CS,
+        find-root a Tags.LossyImageCompressionRatio,
+        find-root a Tags.LossyImageCompressionMethod,
+      )
 
   pub rule20-same : rule20 ns ≡ rule20 ms
   unfolding rule20
   rule20-same =
       rw (planes-same (ascii "BIPLANE"), find-root a Tags.ReferencedOtherPlaneSequence)
-      (ap (λ (b : Bool). cond (planesAre ms (ascii "BIPLANE")) b (absent (find ms Tags.ReferencedOtherPlaneSequence (root ms)))) (holds-same (find ms Tags.ReferencedOtherPlaneSequence (root ms)) (oneItem ns) (oneItem ms) (λ i _. one-same a i)))
+      (ap (λ (b : Bool). cond (planesAre ms (ascii "BIPLANE")) b (absent (find ms Tags.ReferencedOtherPlaneSequence (root ms))))
+      (holds-same (find ms Tags.ReferencedOtherPlaneSequence (root ms)) (oneItem ns) (oneItem ms) (λ i _. one-same a i)))
 
   pub rule21-same : rule21 ns ≡ rule21 ms
   unfolding rule21 isRead
   rule21-same =
-      rw (photometric-same (ascii "MONOCHROME1"), is-cs-root a Tags.PresentationLUTShape refl (ascii "INVERSE"), is-cs-root a Tags.PresentationLUTShape refl (ascii "IDENTITY"))
+      rw (
+        photometric-same (ascii "MONOCHROME1"),
+        is-cs-root a Tags.PresentationLUTShape refl (ascii "INVERSE"),
+        is-cs-root a Tags.PresentationLUTShape refl (ascii "IDENTITY"),
+      )
 
   radiation-same : hasRadiation ns ≡ hasRadiation ms
   unfolding hasRadiation isRead
   radiation-same =
-      rw (has-root a Tags.KVP refl DS, has-root a Tags.RadiationMode refl CS, is-cs-root a Tags.RadiationSetting refl (ascii "SC"), is-cs-root a Tags.RadiationSetting refl (ascii "GR"))
+      rw (
+        has-root a Tags.KVP refl DS,
+        has-root a Tags.RadiationMode refl CS,
+        is-cs-root a Tags.RadiationSetting refl (ascii "SC"),
+        is-cs-root a Tags.RadiationSetting refl (ascii "GR"),
+      )
 
   pub rule22-same : rule22 ns ≡ rule22 ms
   unfolding rule22
@@ -180,7 +204,13 @@ module _ {ns ms : List Node} (a : Alike ns ms) where
   pub rule38-same : rule38 ns ≡ rule38 ms
   unfolding rule38 isRead
   rule38-same =
-      rw (frames-same a, us-root a Tags.Rows refl, us-root a Tags.Columns refl, us-root a Tags.BitsAllocated refl, ← find-root a Tags.PixelData)
+      rw (
+        frames-same a,
+        us-root a Tags.Rows refl,
+        us-root a Tags.Columns refl,
+        us-root a Tags.BitsAllocated refl,
+        ← find-root a Tags.PixelData,
+      )
       (holds-same (framesOf ms) _ _ (λ n _.
       holds-same (usIn ms Tags.Rows (root ms)) _ _ (λ r _.
       holds-same (usIn ms Tags.Columns (root ms)) _ _ (λ c _.

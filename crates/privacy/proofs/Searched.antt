@@ -1,16 +1,18 @@
--- The searches that judging is said to make look at tags and at the nodes below alone: their sum is the same of lists of nodes that are alike.
+-- The searches that judging is said to make look at tags and at the nodes below alone: their sum is the same of lists of nodes that are
+-- alike.
 use mathlib.Core.Path.{_≡_, refl}
 use Prim.Native.Nat.{ℕ}
 use mathlib.Core.List.{List, [], _∷_}
 use lib.Dec.{leb}
 use Rattle.value.specs.declared.Num.{Num}
-use Rattle.value.specs.declared.Num.the-variants.{Is, Lacks}
+use Rattle.value.specs.declared.Num.the-variants.{Is, None}
 use Rattle.node.specs.Nodes.{Node, nodeAt, root, inside}
 use Rattle.node.specs.Find.{orElse, find}
 use Rattle.element.specs.Elements.{insideOf}
 use Rattle.element.specs.Frames.{sharedItem, frameItems, maskItems}
 use Rattle.searches.specs.Count.{lowerTags, remains, lookedAt}
-use Rattle.searches.specs.Searches.{Search, GroupSearch, rootSearches, maskSearches, frameSearches, searchedAmong, maskSum, readIn, readInEach, inShared, groupSum, groupsSum, frameSum, framesSum, overFrames, searchesOf}
+use Rattle.searches.specs.Searches.{Search, GroupSearch, rootSearches, maskSearches, frameSearches, searchedAmong, maskSum, readIn}
+use Rattle.searches.specs.Searches.{readInEach, inShared, groupSum, groupsSum, frameSum, framesSum, overFrames, searchesOf}
 use Rattle.privacy.specs.Alike.{Alike}
 use Rattle.privacy.proofs.Words.{some-same, inside-same, root-same, find-same, shared-same, frame-items-same, mask-items-same}
 
@@ -55,7 +57,7 @@ module _ {ns ms : List Node} (a : Alike ns ms) where
   read-each-same tags (j ∷ js) = rw (read-same tags j, read-each-same tags js)
 
   items-same : (o : Num) → insideOf ns o ≡ insideOf ms o
-  items-same Lacks = refl
+  items-same None = refl
   items-same (Is g) = inside-same a g
 
   group-sum-same : (g : GroupSearch) (s i : ℕ) → groupSum ns g s i ≡ groupSum ms g s i
@@ -84,7 +86,7 @@ module _ {ns ms : List Node} (a : Alike ns ms) where
   frames-sum-same s (i ∷ is) = rw (inside-same a i, inside-same a s, groups-sum-same frameSearches s i, frames-sum-same s is)
 
   over-same : (o : Num) → overFrames ns o ≡ overFrames ms o
-  over-same Lacks = refl
+  over-same None = refl
   over-same (Is s) = rw (frame-items-same a) (frames-sum-same s (frameItems ms))
 
   pub searches-same : searchesOf ns ≡ searchesOf ms

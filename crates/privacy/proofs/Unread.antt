@@ -21,13 +21,15 @@ module _ (s t : List ℕ) (p : SameWhereRead s t) where
   length-at : (i : ℕ) → pixelLength s (rowAt (p .shape .rows) i) ≡ pixelLength t (rowAt (p .shape .others) i)
   length-at i = both-at 0 (pixelLength s) (pixelLength t) refl refl (p .shape .rows) (p .shape .others) (p .pixels) i
 
-  value-same : (i : ℕ) → isRead (rowAt (p .shape .rows) i .tag) ≡ true → valueIn s (rowAt (p .shape .rows) i) ≡ valueIn t (rowAt (p .shape .others) i)
+  value-same : (i : ℕ) → isRead (rowAt (p .shape .rows) i .tag) ≡ true
+      → valueIn s (rowAt (p .shape .rows) i) ≡ valueIn t (rowAt (p .shape .others) i)
   value-same i e =
       sym (ap (λ (b : Bool). cond b (valueIn s (rowAt (p .shape .rows) i)) []) e)
       ∙ read-at i
       ∙ ap (λ (b : Bool). cond b (valueIn t (rowAt (p .shape .others) i)) []) (ap isRead (sym (tag-at s t (p .shape) i)) ∙ e)
 
-  length-same : (i : ℕ) → rowAt (p .shape .rows) i .tag ≡ Tags.PixelData → length (valueIn s (rowAt (p .shape .rows) i)) ≡ length (valueIn t (rowAt (p .shape .others) i))
+  length-same : (i : ℕ) → rowAt (p .shape .rows) i .tag ≡ Tags.PixelData
+      → length (valueIn s (rowAt (p .shape .rows) i)) ≡ length (valueIn t (rowAt (p .shape .others) i))
   length-same i e =
       sym (ap (λ (b : Bool). cond b (length (valueIn s (rowAt (p .shape .rows) i))) 0) (eq-eqb _ _ e))
       ∙ length-at i

@@ -8,7 +8,7 @@ use mathlib.Core.List.{List, [], _∷_, map}
 use lib.Dec.{eqb}
 use borrow.Author.Tests.{eqb-true}
 use Rattle.value.specs.declared.Num.{Num}
-use Rattle.value.specs.declared.Num.the-variants.{Is, Lacks}
+use Rattle.value.specs.declared.Num.the-variants.{Is, None}
 use Rattle.value.specs.Words.{isWord, isUid}
 use Rattle.value.specs.Number.{usOf, isOf}
 use Rattle.basics.specs.Vr.{SQ, CS, UI, US, IS}
@@ -23,15 +23,15 @@ use Rattle.privacy.specs.Alike.{Alike}
 -- ---- Tests that agree where something is there
 
 pub holds-same : (o : Num) (p q : ℕ → Bool) → ((i : ℕ) → o ≡ Is i → p i ≡ q i) → holds o p ≡ holds o q
-holds-same Lacks p q h = refl
+holds-same None p q h = refl
 holds-same (Is i) p q h = h i refl
 
 pub if-same : (o : Num) (p q : ℕ → Bool) → ((i : ℕ) → o ≡ Is i → p i ≡ q i) → ifPresent o p ≡ ifPresent o q
-if-same Lacks p q h = refl
+if-same None p q h = refl
 if-same (Is i) p q h = h i refl
 
 pub and-same : (o : Num) (p q : ℕ → Num) → ((i : ℕ) → o ≡ Is i → p i ≡ q i) → andThen o p ≡ andThen o q
-and-same Lacks p q h = refl
+and-same None p q h = refl
 and-same (Is i) p q h = h i refl
 
 pub every-same : (p q : ℕ → Bool) → ((i : ℕ) → p i ≡ q i) → (l : List ℕ) → every p l ≡ every q l
@@ -82,7 +82,8 @@ module _ {ns ms : List Node} (a : Alike ns ms) where
   find-tag tag [] i e = let z : _≡_ {A = ℕ} 0 1 = cc in absurd (omega arith)
   find-tag tag (j ∷ js) i e = go (λ t. find-tag tag js i t) (eqb (nodeAt ns j .tag) tag) refl e
     where
-      go : (find ns tag js ≡ Is i → nodeAt ns i .tag ≡ tag) → (b : Bool) → eqb (nodeAt ns j .tag) tag ≡ b → cond b (Is j) (find ns tag js) ≡ Is i → nodeAt ns i .tag ≡ tag
+      go : (find ns tag js ≡ Is i → nodeAt ns i .tag ≡ tag) → (b : Bool) → eqb (nodeAt ns j .tag) tag ≡ b
+          → cond b (Is j) (find ns tag js) ≡ Is i → nodeAt ns i .tag ≡ tag
       go r true t e = let z : j ≡ i = cc in subst (λ (k : ℕ). nodeAt ns k .tag ≡ tag) z (eqb-true (nodeAt ns j .tag) tag t)
       go r false t e = r e
 
@@ -91,7 +92,7 @@ module _ {ns ms : List Node} (a : Alike ns ms) where
   vr-same vr tag is = rw (find-same tag is) (go (find ms tag is))
     where
       go : (o : Num) → andThen o (ofVr ns vr) ≡ andThen o (ofVr ms vr)
-      go Lacks = refl
+      go None = refl
       go (Is i) = rw (a .vr i)
 
   pub vr-root : (vr tag : ℕ) → findVr ns tag vr (root ns) ≡ findVr ms tag vr (root ms)
@@ -102,10 +103,10 @@ module _ {ns ms : List Node} (a : Alike ns ms) where
   vr-tag tag vr is i e = go (find ns tag is) refl e
     where
       go : (o : Num) → find ns tag is ≡ o → andThen o (ofVr ns vr) ≡ Is i → nodeAt ns i .tag ≡ tag
-      go Lacks f e = let z : _≡_ {A = ℕ} 0 1 = cc in absurd (omega arith)
+      go None f e = let z : _≡_ {A = ℕ} 0 1 = cc in absurd (omega arith)
       go (Is j) f e = on (eqb (nodeAt ns j .vr) vr) e
         where
-          on : (b : Bool) → cond b (Is j) Lacks ≡ Is i → nodeAt ns i .tag ≡ tag
+          on : (b : Bool) → cond b (Is j) None ≡ Is i → nodeAt ns i .tag ≡ tag
           on true e = let z : j ≡ i = cc in find-tag tag is i (f ∙ ap (λ (k : ℕ). Is k) z)
           on false e = let z : _≡_ {A = ℕ} 0 1 = cc in absurd (omega arith)
 
@@ -118,13 +119,17 @@ module _ {ns ms : List Node} (a : Alike ns ms) where
     pub value-vr-same : (vr i : ℕ) → findVr ns tag vr is ≡ Is i → valueAt ns i ≡ valueAt ms i
     value-vr-same vr i e = a .value i (rw (vr-tag tag vr is i e) q)
 
-    pub test-same : (vr : ℕ) (p : List ℕ → Bool) → holds (findVr ns tag vr is) (λ i. p (valueAt ns i)) ≡ holds (findVr ms tag vr is) (λ i. p (valueAt ms i))
+    pub test-same : (vr : ℕ) (p : List ℕ → Bool)
+        → holds (findVr ns tag vr is) (λ i. p (valueAt ns i)) ≡ holds (findVr ms tag vr is) (λ i. p (valueAt ms i))
     test-same vr p =
-        holds-same (findVr ns tag vr is) _ _ (λ i e. ap p (value-vr-same vr i e)) ∙ ap (λ (o : Num). holds o (λ i. p (valueAt ms i))) (vr-same vr tag is)
+        holds-same (findVr ns tag vr is) _ _ (λ i e. ap p (value-vr-same vr i e))
+        ∙ ap (λ (o : Num). holds o (λ i. p (valueAt ms i))) (vr-same vr tag is)
 
-    pub number-same : (vr : ℕ) (p : List ℕ → Num) → andThen (findVr ns tag vr is) (λ i. p (valueAt ns i)) ≡ andThen (findVr ms tag vr is) (λ i. p (valueAt ms i))
+    pub number-same : (vr : ℕ) (p : List ℕ → Num)
+        → andThen (findVr ns tag vr is) (λ i. p (valueAt ns i)) ≡ andThen (findVr ms tag vr is) (λ i. p (valueAt ms i))
     number-same vr p =
-        and-same (findVr ns tag vr is) _ _ (λ i e. ap p (value-vr-same vr i e)) ∙ ap (λ (o : Num). andThen o (λ i. p (valueAt ms i))) (vr-same vr tag is)
+        and-same (findVr ns tag vr is) _ _ (λ i e. ap p (value-vr-same vr i e))
+        ∙ ap (λ (o : Num). andThen o (λ i. p (valueAt ms i))) (vr-same vr tag is)
 
     pub us-same : usIn ns tag is ≡ usIn ms tag is
     us-same = number-same US usOf
@@ -138,7 +143,8 @@ module _ {ns ms : List Node} (a : Alike ns ms) where
     has-same : (vr : ℕ) → has ns tag vr is ≡ has ms tag vr is
     unfolding has filled
     has-same vr =
-        holds-same (findVr ns tag vr is) _ _ (λ i e. rw (value-vr-same vr i e, a .vr i, a .descendants i)) ∙ ap (λ (o : Num). holds o (filled ms)) (vr-same vr tag is)
+        holds-same (findVr ns tag vr is) _ _ (λ i e. rw (value-vr-same vr i e, a .vr i, a .descendants i))
+        ∙ ap (λ (o : Num). holds o (filled ms)) (vr-same vr tag is)
 
   -- The same in the root.
   module _ (tag : ℕ) (q : isRead tag ≡ true) where
@@ -154,7 +160,8 @@ module _ {ns ms : List Node} (a : Alike ns ms) where
     pub has-root : (vr : ℕ) → has ns tag vr (root ns) ≡ has ms tag vr (root ms)
     has-root vr = rw root-same (has-same tag q (root ms) vr)
 
-    pub test-root : (vr : ℕ) (p : List ℕ → Bool) → holds (findVr ns tag vr (root ns)) (λ i. p (valueAt ns i)) ≡ holds (findVr ms tag vr (root ms)) (λ i. p (valueAt ms i))
+    pub test-root : (vr : ℕ) (p : List ℕ → Bool)
+        → holds (findVr ns tag vr (root ns)) (λ i. p (valueAt ns i)) ≡ holds (findVr ms tag vr (root ms)) (λ i. p (valueAt ms i))
     test-root vr p = rw root-same (test-same tag q (root ms) vr p)
 
   -- ---- Sequences, items and frames
@@ -172,7 +179,7 @@ module _ {ns ms : List Node} (a : Alike ns ms) where
   items-same tag is = rw (vr-same SQ tag is) (go (findVr ms tag SQ is))
     where
       go : (o : Num) → insideOf ns o ≡ insideOf ms o
-      go Lacks = refl
+      go None = refl
       go (Is i) = inside-same i
 
   pub frames-same : framesOf ns ≡ framesOf ms
@@ -181,7 +188,8 @@ module _ {ns ms : List Node} (a : Alike ns ms) where
 
   pub shared-same : sharedItem ns ≡ sharedItem ms
   unfolding sharedItem
-  shared-same = rw (find-root Tags.SharedFunctionalGroupsSequence) (and-same (find ms Tags.SharedFunctionalGroupsSequence (root ms)) _ _ (λ i _. the-same i))
+  shared-same = rw (find-root Tags.SharedFunctionalGroupsSequence)
+      (and-same (find ms Tags.SharedFunctionalGroupsSequence (root ms)) _ _ (λ i _. the-same i))
 
   pub frame-items-same : frameItems ns ≡ frameItems ms
   unfolding frameItems
@@ -210,5 +218,5 @@ module _ {ns ms : List Node} (a : Alike ns ms) where
   function-same is = go (find ns Tags.VOILUTFunction is) refl ∙ ap (functionOn ms) (find-same Tags.VOILUTFunction is)
     where
       go : (o : Num) → find ns Tags.VOILUTFunction is ≡ o → functionOn ns o ≡ functionOn ms o
-      go Lacks e = refl
+      go None e = refl
       go (Is k) e = rw (a .vr k, value-same Tags.VOILUTFunction refl is k e)

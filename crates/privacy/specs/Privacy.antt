@@ -1,15 +1,15 @@
 -- The list on the wall (document 02, Q-7).
 --
--- Once a data set reads, nothing of four patient items reaches a verdict, a picture or a sheet. Take two data sets within the size
--- limit that both read, with the same rows but for places and lengths, whose values differ only in the root elements Patient's Name
--- (0010,0010), Patient ID (0010,0020), Patient's Birth Date (0010,0030) and Image Comments (0020,4000), in any lengths. With the same
--- buffers and frame numbers, `judge` gives the same code, rule, frame and row count, and the same sum of its searches; `show` the same answer and the same image buffer; `sheet`
--- the same answer and the same numbers. So do `compare`, the mapping to beam intensity and the slip of the verdict.
+-- Once a data set reads, nothing of four patient items reaches a verdict, a picture or a sheet. Take two data sets within the size limit
+-- that both read, with the same rows but for places and lengths, whose values differ only in the root elements Patient's Name (0010,0010),
+-- Patient ID (0010,0020), Patient's Birth Date (0010,0030) and Image Comments (0020,4000), in any lengths. With the same buffers and frame
+-- numbers, `judge` gives the same code, rule, frame and row count, and the same sum of its searches; `show` the same answer and the same
+-- image buffer; `sheet` the same answer and the same numbers. So do `compare`, the mapping to beam intensity and the slip of the verdict.
 --
 -- Not promised: the row table, offsets and the canonical form, which do depend on these values.
 --
--- Proved in proofs/Privacy.antt. A rule or drawing step that reads one of the four items makes that proof fail: its tag would have to stand among
--- the tags that are read (specs/Read.antt), and none of the four may. specs/Pair.antt has two such data sets, accepted.
+-- Proved in proofs/Privacy.antt. A rule or drawing step that reads one of the four items makes that proof fail: its tag would have to stand
+-- among the tags that are read (specs/Read.antt), and none of the four may. specs/Pair.antt has two such data sets, accepted.
 use mathlib.Core.Path.{_≡_}
 use Prim.Native.Nat.{ℕ}
 use mathlib.Core.Bool.{Bool, cond, _&&_}
@@ -35,7 +35,8 @@ patientTags = 0x0010_0010 ∷ 0x0010_0020 ∷ 0x0010_0030 ∷ 0x0020_4000 ∷ []
 unfoldable pub isPatient : Row → Bool
 isPatient r = isIn (r .tag) patientTags && eqb (r .parent) 0
 
--- The bytes of a row's value in the data set s, unless they are a patient item's. A sequence and an item have none of their own (`valueIn`).
+-- The bytes of a row's value in the data set s, unless they are a patient item's. A sequence and an item have none of their own
+-- (`valueIn`).
 abbrev pub keptValue : List ℕ → Row → List ℕ
 keptValue s r = cond (isPatient r) [] (valueIn s r)
 
@@ -55,7 +56,8 @@ pub record SameAnswers (s t : List ℕ) : Type 0 where
   pub picture : (frame : ℕ) (buffer image : List ℕ) → imageOf s frame buffer image ≡ imageOf t frame buffer image
   -- The answer and the numbers.
   pub sampled : (first last : ℕ) (buffer : List ℕ) → sheetOf s first last buffer ≡ sheetOf t first last buffer
-  pub compared : (frame : ℕ) (cells : List ℕ) (tolerance : ℕ) (buffer : List ℕ) → compareOf s frame cells tolerance buffer ≡ compareOf t frame cells tolerance buffer
+  pub compared : (frame : ℕ) (cells : List ℕ) (tolerance : ℕ) (buffer : List ℕ)
+      → compareOf s frame cells tolerance buffer ≡ compareOf t frame cells tolerance buffer
   -- The answer, and the values buffer afterwards.
   pub mapped : (frame : ℕ) (buffer values : List ℕ) → linearOf s frame buffer values ≡ linearOf t frame buffer values
   pub intensities : (frame : ℕ) (buffer values : List ℕ) → valuesOf s frame buffer values ≡ valuesOf t frame buffer values

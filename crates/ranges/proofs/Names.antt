@@ -33,7 +33,8 @@ told-both t a b e o h =
     let m : (4 * a + b) % 4 ≡ b = omega arith in
     ap (λ (x : ℕ). record { operation = operationIn x; shared = foundIn ((4 * a + b) / 4) }) m
     ∙ (ap (λ (x : ℕ). record { operation = operationIn b; shared = foundIn x }) d
-    ∙ (ap (λ (x : Operation). record { operation = x; shared = foundIn a }) o ∙ ap (λ (x : Found). record { operation = t .operation; shared = x }) e))
+    ∙ (ap (λ (x : Operation). record { operation = x; shared = foundIn a }) o
+    ∙ ap (λ (x : Found). record { operation = t .operation; shared = x }) e))
 
 pub known-none : (ns : List Node) (keys answers : List ℕ) → Cleared 16 keys → Known ns keys answers
 known-none ns keys answers z = record { each = λ i j h e. absurd (omega (arith, z .each i h, e)) }
@@ -51,4 +52,5 @@ known-more ns keys answers i at x r a b q e s = record { each = λ k j h t. ⊎-
 
     there : (k j : ℕ) → k < 16 → getD (set keys i (at + 1)) k 0 ≡ j + 1 → (k ≡ i → ⊥) → IsTold ns j (toldIn (getD (set answers i x) k 0))
     there k j h t n =
-        subst (λ (y : ℕ). IsTold ns j (toldIn y)) (sym (getD-set-other answers i k x 0 n)) (q .each k j h (sym (getD-set-other keys i k (at + 1) 0 n) ∙ t))
+        subst (λ (y : ℕ). IsTold ns j (toldIn y)) (sym (getD-set-other answers i k x 0 n))
+        (q .each k j h (sym (getD-set-other keys i k (at + 1) 0 n) ∙ t))

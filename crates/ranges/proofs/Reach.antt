@@ -21,14 +21,25 @@ either (suc a) (suc b) = ⊎-elim (λ h. inl (omega arith)) (λ h. inr (omega ar
 
 pub max-pairs : (a b c d : ℕ) → max (max a b) (max c d) ≡ max (max a c) (max b d)
 max-pairs a b c d =
-    let p : max (max a b) (max c d) ≤ max (max a c) (max b d) = max-le (max-le (omega (arith, le-max-left a c, le-max-left (max a c) (max b d))) (omega (arith, le-max-left b d, le-max-right (max a c) (max b d)))) (max-le (omega (arith, le-max-right a c, le-max-left (max a c) (max b d))) (omega (arith, le-max-right b d, le-max-right (max a c) (max b d)))) in
-    let q : max (max a c) (max b d) ≤ max (max a b) (max c d) = max-le (max-le (omega (arith, le-max-left a b, le-max-left (max a b) (max c d))) (omega (arith, le-max-left c d, le-max-right (max a b) (max c d)))) (max-le (omega (arith, le-max-right a b, le-max-left (max a b) (max c d))) (omega (arith, le-max-right c d, le-max-right (max a b) (max c d)))) in
+    let p : max (max a b) (max c d) ≤ max (max a c) (max b d) = max-le (max-le
+    (omega (arith, le-max-left a c, le-max-left (max a c) (max b d)))
+    (omega (arith, le-max-left b d, le-max-right (max a c) (max b d)))) (max-le
+    (omega (arith, le-max-right a c, le-max-left (max a c) (max b d)))
+    (omega (arith, le-max-right b d, le-max-right (max a c) (max b d)))) in
+    let q : max (max a c) (max b d) ≤ max (max a b) (max c d) = max-le (max-le
+    (omega (arith, le-max-left a b, le-max-left (max a b) (max c d)))
+    (omega (arith, le-max-left c d, le-max-right (max a b) (max c d)))) (max-le
+    (omega (arith, le-max-right a b, le-max-left (max a b) (max c d)))
+    (omega (arith, le-max-right c d, le-max-right (max a b) (max c d)))) in
     omega (arith, p, q)
 
 pub max-next : (a b c : ℕ) → max (max a b) c ≡ max a (max b c)
 max-next a b c =
-    let p : max (max a b) c ≤ max a (max b c) = max-le (max-le (le-max-left a (max b c)) (omega (arith, le-max-left b c, le-max-right a (max b c)))) (omega (arith, le-max-right b c, le-max-right a (max b c))) in
-    let q : max a (max b c) ≤ max (max a b) c = max-le (omega (arith, le-max-left a b, le-max-left (max a b) c)) (max-le (omega (arith, le-max-right a b, le-max-left (max a b) c)) (le-max-right (max a b) c)) in
+    let p : max (max a b) c ≤ max a (max b c) = max-le
+    (max-le (le-max-left a (max b c)) (omega (arith, le-max-left b c, le-max-right a (max b c))))
+    (omega (arith, le-max-right b c, le-max-right a (max b c))) in
+    let q : max a (max b c) ≤ max (max a b) c = max-le (omega (arith, le-max-left a b, le-max-left (max a b) c))
+    (max-le (omega (arith, le-max-right a b, le-max-left (max a b) c)) (le-max-right (max a b) c)) in
     omega (arith, p, q)
 
 leb-max : (f a b : ℕ) → leb f (max a b) ≡ (leb f a || leb f b)
@@ -52,7 +63,8 @@ pub in-reach : (f : ℕ) (l : List ℕ) → 1 ≤ f → inPairs f l ≡ leb f (r
 unfolding inPairs reachOf
 in-reach f [] h = sym (lt-leb f 0 h)
 in-reach f (a ∷ []) h = sym (lt-leb f 0 h)
-in-reach f (a ∷ b ∷ l) h = sym (leb-max f (cond (leb a f) b 0) (reachOf f l) ∙ rw (← in-reach f l h) (ap (λ (t : Bool). t || inPairs f l) (here (leb a f))))
+in-reach f (a ∷ b ∷ l) h = sym
+    (leb-max f (cond (leb a f) b 0) (reachOf f l) ∙ rw (← in-reach f l h) (ap (λ (t : Bool). t || inPairs f l) (here (leb a f))))
   where
     here : (t : Bool) → leb f (cond t b 0) ≡ (t && leb f b)
     here true = refl
@@ -73,7 +85,9 @@ unfolding reachOf markOf
 reach-next f [] = refl
 reach-next f (a ∷ []) = refl
 reach-next f (a ∷ b ∷ l) =
-    rw (reach-next f l) (ap (λ (x : ℕ). max x (max (reachOf f l) (markOf (suc f) l))) (⊎-elim early (λ h. ⊎-elim (there h) (late h) (either a (suc f))) (either a f)) ∙ max-pairs (cond (leb a f) b 0) (cond (eqb a (suc f)) b 0) (reachOf f l) (markOf (suc f) l))
+    rw (reach-next f l) (ap (λ (x : ℕ). max x (max (reachOf f l) (markOf (suc f) l)))
+    (⊎-elim early (λ h. ⊎-elim (there h) (late h) (either a (suc f))) (either a f))
+    ∙ max-pairs (cond (leb a f) b 0) (cond (eqb a (suc f)) b 0) (reachOf f l) (markOf (suc f) l))
   where
     early : a ≤ f → cond (leb a (suc f)) b 0 ≡ max (cond (leb a f) b 0) (cond (eqb a (suc f)) b 0)
     early h = rw (le-leb a (suc f) (omega arith), le-leb a f h, ne-eqb a (suc f) (λ e. omega arith)) (sym (max-zero b))
@@ -89,7 +103,8 @@ pub far-marks : (t l : List ℕ) (n f : ℕ) → ((i : ℕ) → i ≤ n → getD
 unfolding farOf
 far-marks t l n zero h k = h 0 (omega arith) ∙ sym (reach-first l)
 far-marks t l n (suc f) h k =
-    ap (λ (x : ℕ). max x (getD t (suc f) 0)) (far-marks t l n f h (omega arith)) ∙ (ap (max (reachOf f l)) (h (suc f) k) ∙ sym (reach-next f l))
+    ap (λ (x : ℕ). max x (getD t (suc f) 0)) (far-marks t l n f h (omega arith))
+    ∙ (ap (max (reachOf f l)) (h (suc f) k) ∙ sym (reach-next f l))
 
 -- A mark at 0 reaches at least as far everywhere.
 pub far-first : (t : List ℕ) (f : ℕ) → getD t 0 0 ≤ farOf t f

@@ -41,15 +41,18 @@ mark-one : (reach : List ℕ) (a b i : ℕ) (rest : List ℕ) → a < length rea
 unfolding markOf
 mark-one reach a b i rest h = ⊎-elim here there (same-or-not i a)
   where
-    here : i ≡ a → max (getD (set reach a (max (getD reach a 0) b)) i 0) (markOf i rest) ≡ max (getD reach i 0) (max (cond (eqb a i) b 0) (markOf i rest))
+    here : i ≡ a → max (getD (set reach a (max (getD reach a 0) b)) i 0) (markOf i rest)
+        ≡ max (getD reach i 0) (max (cond (eqb a i) b 0) (markOf i rest))
     here e = rw (e, getD-set-same reach a (max (getD reach a 0) b) 0 h, eq-eqb a a refl) (max-next (getD reach a 0) b (markOf a rest))
 
-    there : (i ≡ a → ⊥) → max (getD (set reach a (max (getD reach a 0) b)) i 0) (markOf i rest) ≡ max (getD reach i 0) (max (cond (eqb a i) b 0) (markOf i rest))
+    there : (i ≡ a → ⊥) → max (getD (set reach a (max (getD reach a 0) b)) i 0) (markOf i rest)
+        ≡ max (getD reach i 0) (max (cond (eqb a i) b 0) (markOf i rest))
     there n = rw (getD-set-other reach a i (max (getD reach a 0) b) 0 n, ne-eqb a i (λ e. n (sym e)), zero-max (markOf i rest))
 
 pub mark-more : (v : List ℕ) (k a b : ℕ) → a ≡ getD (usValues v) (2 * k) 0 → b ≡ getD (usValues v) (2 * k + 1) 0 → 2 * k + 1 < length v / 2
     → (reach : List ℕ) (x i : ℕ) → a < length reach → x ≡ max (getD reach a 0) b
-    → max (getD (set reach a x) i 0) (markOf i (drop (2 * (k + 1)) (usValues v))) ≡ max (getD reach i 0) (markOf i (drop (2 * k) (usValues v)))
+    → max (getD (set reach a x) i 0) (markOf i (drop (2 * (k + 1)) (usValues v)))
+    ≡ max (getD reach i 0) (markOf i (drop (2 * k) (usValues v)))
 mark-more v k a b ea eb h reach x i l ex =
     rw (ex, pair-at 0 v k a b ea eb h) (mark-one reach a b i (drop (2 * (k + 1)) (usValues v)) l)
 

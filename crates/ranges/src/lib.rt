@@ -13,7 +13,8 @@ ghost use Rattle.node.specs.Nodes.{nodesOf, members};
 ghost use Rattle.node.specs.Contracts.{Table};
 ghost use Rattle.steps.specs.Contracts.{FoundBelow, IsTold};
 ghost use Rattle.steps.specs.Steps.{inPairs, rangeHolds, rangeHas};
-ghost use Rattle.ranges.specs.Contracts.{takenBy, itemOf, foundIn, operationIn, toldIn, Cleared, Marked, Covered, CoveredBy, CoveredAll, Tried, Held, Left, Answering, Applied, Rooms, Known};
+ghost use Rattle.ranges.specs.Contracts.{takenBy, itemOf, foundIn, operationIn, toldIn, Cleared, Marked, Covered, CoveredBy};
+ghost use Rattle.ranges.specs.Contracts.{CoveredAll, Tried, Held, Left, Answering, Applied, Rooms, Known};
 use element::tags;
 use steps::Applying;
 use steps::Found;
@@ -125,7 +126,7 @@ fn cover_item(bytes: &[u8], rows: &[u32], j: usize, n: usize, reach: &mut [u32],
 {
     let item = (j + 1) as u32;
     match element::find_item(bytes, rows, j, tags::APPLICABLE_FRAME_RANGE) {
-        Num::Lacks => {
+        Num::None => {
             cover_all(n, item, reach, which);
         }
         Num::Is(i) => {
@@ -144,7 +145,10 @@ fn cover_items(
     reach: &mut [u32],
     which: &mut [u32],
 )
-    requires { ⌜ Table (now bytes) (now rows) × ((to ≤ length (nodesOf (now bytes))) × (Rooms n (now reach) (now which) × (Cleared (n + 1) (now which) × Held (nodesOf (now bytes)) n (members (nodesOf (now bytes)) from to)))) ⌝ }
+    requires { ⌜ Table (now bytes) (now rows)
+        × ((to ≤ length (nodesOf (now bytes)))
+        × (Rooms n (now reach) (now which)
+        × (Cleared (n + 1) (now which) × Held (nodesOf (now bytes)) n (members (nodesOf (now bytes)) from to)))) ⌝ }
     ensures { λ _. ⌜ Left (nodesOf (now (bytes .entry))) n (members (nodesOf (now (bytes .entry))) from to) [] (now (which .exit)) ⌝ }
 {
     let mut at = from;
@@ -260,7 +264,9 @@ fn tell_items(
     keys: &mut [u32],
     answers: &mut [u32],
 )
-    requires { ⌜ Table (now bytes) (now rows) × ((to ≤ length (nodesOf (now bytes))) × ((16 ≤ length (now keys)) × ((16 ≤ length (now answers)) × Known (nodesOf (now bytes)) (now keys) (now answers)))) ⌝ }
+    requires { ⌜ Table (now bytes) (now rows)
+        × ((to ≤ length (nodesOf (now bytes)))
+        × ((16 ≤ length (now keys)) × ((16 ≤ length (now answers)) × Known (nodesOf (now bytes)) (now keys) (now answers)))) ⌝ }
     ensures { λ _. ⌜ Known (nodesOf (now (bytes .entry))) (now (keys .exit)) (now (answers .exit)) ⌝ }
 {
     let mut at = from;
@@ -288,7 +294,9 @@ pub fn tell_all(bytes: &[u8], rows: &[u32], keys: &mut [u32], answers: &mut [u32
 
 // What mask item j says: as written down, else worked out.
 pub fn told_of(bytes: &[u8], rows: &[u32], j: usize, keys: &[u32], answers: &[u32]) -> Told
-    requires { ⌜ Table (now bytes) (now rows) × ((j < length (nodesOf (now bytes))) × ((16 ≤ length (now keys)) × ((16 ≤ length (now answers)) × Known (nodesOf (now bytes)) (now keys) (now answers)))) ⌝ }
+    requires { ⌜ Table (now bytes) (now rows)
+        × ((j < length (nodesOf (now bytes)))
+        × ((16 ≤ length (now keys)) × ((16 ≤ length (now answers)) × Known (nodesOf (now bytes)) (now keys) (now answers)))) ⌝ }
     ensures { λ r. ⌜ IsTold (nodesOf (now (bytes .entry))) j r ⌝ }
 {
     let key = (j + 1) as u32;

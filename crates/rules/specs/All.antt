@@ -4,7 +4,8 @@ use mathlib.Core.List.{List, [], _∷_}
 use mathlib.Core.Bool.{Bool, true}
 use lib.ListN.{getD}
 use Rattle.node.specs.Nodes.{Node}
-use Rattle.rules.specs.Root.{rule1, rule2, rule3, rule4, rule5, rule6, rule7, rule8, rule9, rule10, rule11, rule12, rule13, rule14, rule15, rule16, rule17, rule18, rule19, rule20, rule21, rule22, rule23, rule24, rule25, rule26}
+use Rattle.rules.specs.Root.{rule1, rule2, rule3, rule4, rule5, rule6, rule7, rule8, rule9, rule10, rule11, rule12, rule13, rule14}
+use Rattle.rules.specs.Root.{rule15, rule16, rule17, rule18, rule19, rule20, rule21, rule22, rule23, rule24, rule25, rule26}
 use Rattle.rules.specs.Frame.{rule27, rule28, rule29, rule30, rule37}
 use Rattle.rules.specs.Mask.{rule31, rule32, rule33, rule34, rule35, rule36}
 use Rattle.rules.specs.Pixels.{rule38}

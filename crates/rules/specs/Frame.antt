@@ -1,4 +1,4 @@
--- Rules 27 to 30 and 37, which are asked at each frame f. Each is of item f of the is-per-frame groups (its node is i) and
+-- Rules 27 to 30 and 37, which are asked at each frame f. Each is of item f of the per-frame groups (its node is i) and
 -- of the shared item (s).
 use Prim.Native.Nat.{ℕ}
 use mathlib.Core.List.{List, [], _∷_, map}
@@ -7,7 +7,7 @@ use lib.ListN.{length}
 use lib.Dec.{eqb, leb}
 use Rattle.basics.specs.Vr.{SQ, DS, FL}
 use Rattle.value.specs.declared.Num.{Num}
-use Rattle.value.specs.declared.Num.the-variants.{Is, Lacks}
+use Rattle.value.specs.declared.Num.the-variants.{Is, None}
 use Rattle.value.specs.Text.{valuesOf}
 use Rattle.value.specs.declared.Function.{Function}
 use Rattle.value.specs.Words.{isFunction}
@@ -60,7 +60,8 @@ isWindow f centers widths =
 
 unfoldable pub hasWindow : List Node → List ℕ → Bool
 hasWindow ns is =
-    holds (findVr ns Tags.WindowCenter DS is) (λ c. holds (findVr ns Tags.WindowWidth DS is) (λ w. isWindow (functionIn ns is) (valueAt ns c) (valueAt ns w)))
+    holds (findVr ns Tags.WindowCenter DS is)
+    (λ c. holds (findVr ns Tags.WindowWidth DS is) (λ w. isWindow (functionIn ns is) (valueAt ns c) (valueAt ns w)))
 
 unfoldable pub isVoi : List Node → ℕ → Bool
 isVoi ns g = holds (theItem ns g) (λ j. hasWindow ns (inside ns j))
@@ -75,7 +76,7 @@ rule30 ns f = atFrame ns f (item30 ns)
 -- as in rule 35.
 abbrev pub numberOr0 : Num → ℕ
 numberOr0 (Is n) = n
-numberOr0 Lacks = 0
+numberOr0 None = 0
 
 abbrev pub isIn : ℕ → List ℕ → Bool
 isIn x [] = false

@@ -1,5 +1,5 @@
--- Rule 27 in one walk along two items. Tags never descend in a container, so that what the walk has passed in the shared item is asked for by no
--- element that is left in the other.
+-- Rule 27 in one walk along two items. Tags never descend in a container, so that what the walk has passed in the shared item is asked for
+-- by no element that is left in the other.
 use mathlib.Core.Path.{_≡_, refl, sym, ap, _∙_}
 use Prim.Native.Nat.{ℕ, _+_, _≤_, _<_}
 use native.Mathlib.Omega.{arith}
@@ -9,7 +9,7 @@ use lib.Dec.{eqb, ltb}
 use borrow.Author.Tests.{lt-ltb, ltb-true}
 use Rattle.basics.specs.Vr.{SQ}
 use Rattle.value.specs.declared.Num.{Num}
-use Rattle.value.specs.declared.Num.the-variants.{Is, Lacks}
+use Rattle.value.specs.declared.Num.the-variants.{Is, None}
 use Rattle.node.specs.Nodes.{Node, nodeAt, nextNode, members, inside}
 use Rattle.node.specs.Find.{holds, andThen, ofVr}
 use Rattle.node.specs.Contracts.{Ascends, fromTag, firstIs}
@@ -32,10 +32,10 @@ from-twice ns a t (i ∷ is) h = go (from-twice ns a t is h) (ltb (nodeAt ns i .
 -- What is found is of a VR just where its VR is that.
 of-vr : (ns : List Node) (f : Num) → holds (andThen f (ofVr ns SQ)) (λ k. true) ≡ holds f (λ k. eqb (nodeAt ns k .vr) SQ)
 unfolding ofVr
-of-vr ns Lacks = refl
+of-vr ns None = refl
 of-vr ns (Is k) = go (eqb (nodeAt ns k .vr) SQ)
   where
-    go : (b : Bool) → holds (cond b (Is k) Lacks) (λ k. true) ≡ b
+    go : (b : Bool) → holds (cond b (Is k) None) (λ k. true) ≡ b
     go true = refl
     go false = refl
 
@@ -58,7 +58,8 @@ pub record Ahead (ns : List Node) (shared j end k to : ℕ) : Type 0 where
   pub ascends : Ascends ns least (members ns j end)
   pub same : (tag : ℕ) → least ≤ tag → fromTag ns tag (members ns k to) ≡ fromTag ns tag (inside ns shared)
 
-pub ahead-start : (ns : List Node) (shared item end to : ℕ) → end ≡ nextNode ns item → to ≡ nextNode ns shared → Ascends ns 0 (inside ns item)
+pub ahead-start : (ns : List Node) (shared item end to : ℕ) → end ≡ nextNode ns item → to ≡ nextNode ns shared
+    → Ascends ns 0 (inside ns item)
     → Ahead ns shared (item + 1) end (shared + 1) to
 ahead-start ns shared item end to a b r = record { least = 0; ascends = rw a r; same = λ tag l. rw b }
 
@@ -81,7 +82,8 @@ module _ (ns : List Node) (shared j end k to : ℕ) (h : j < end) (a : Ahead ns 
         rw (members-next ns j end h)
         (none-left ns shared r (nodeAt ns j .tag) (j ∷ members ns (nextNode ns j) end)
         (omega arith, ascends-next ns j end (a .least) h (a .ascends))
-        (λ tag m. sym (from-twice ns (nodeAt ns j .tag) tag (inside ns shared) m) ∙ ap (λ (x : List ℕ). fromTag ns tag x) (sym e ∙ members-end ns n to l)))
+        (λ tag m. sym (from-twice ns (nodeAt ns j .tag) tag (inside ns shared) m)
+        ∙ ap (λ (x : List ℕ). fromTag ns tag x) (sym e ∙ members-end ns n to l)))
 
     pub ahead-next : Ahead ns shared (nextNode ns j) end n to
     ahead-next =

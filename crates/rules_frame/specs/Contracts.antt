@@ -24,7 +24,8 @@ isRepeated ns j ks = eqb (nodeAt ns j .vr) SQ && holds (firstIs ns (nodeAt ns j 
 
 -- The functional group that rule 29, 30 or 37 is of, and what it asks of the group.
 unfoldable pub groupTag : ℕ → ℕ
-groupTag rule = cond (eqb rule 29) Tags.XAXRFFrameCharacteristicsSequence (cond (eqb rule 30) Tags.FrameVOILUTSequence Tags.FramePixelShiftSequence)
+groupTag rule = cond (eqb rule 29) Tags.XAXRFFrameCharacteristicsSequence
+    (cond (eqb rule 30) Tags.FrameVOILUTSequence Tags.FramePixelShiftSequence)
 
 unfoldable pub groupFits : List Node → ℕ → ℕ → Bool
 groupFits ns rule g = cond (eqb rule 29) (oneItem ns g) (cond (eqb rule 30) (isVoi ns g) (isShiftGroup ns g))

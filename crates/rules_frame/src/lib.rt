@@ -12,7 +12,8 @@ ghost use Rattle.node.specs.Contracts.{Table};
 ghost use Rattle.element.specs.Tags.{FrameContentSequence};
 ghost use Rattle.element.specs.Elements.{every};
 ghost use Rattle.rules.specs.Frame.{repeatsShared, item27, item28, isWindow, hasWindow, isVoi, isShiftItem, uniqueIds, isShiftGroup};
-ghost use Rattle.rules_frame.specs.Contracts.{isRepeated, groupTag, groupFits, groupIn, sharedOk, itemBy, sharedPart, itemGrades, itemRule};
+ghost use Rattle.rules_frame.specs.Contracts.{isRepeated, groupTag, groupFits, groupIn, sharedOk, itemBy, sharedPart, itemGrades};
+ghost use Rattle.rules_frame.specs.Contracts.{itemRule};
 use basics::vrs;
 use value::Function;
 use value::Num;
@@ -33,7 +34,7 @@ fn is_repeated(bytes: &[u8], rows: &[u32], j: usize, k: usize, to: usize) -> boo
 {
     if node::vr(bytes, rows, j) == vrs::SQ {
         match node::first_is(bytes, rows, k, to, node::tag(bytes, rows, j)) {
-            Num::Lacks => false,
+            Num::None => false,
             Num::Is(i) => node::vr(bytes, rows, i) == vrs::SQ,
         }
     } else {
@@ -123,19 +124,21 @@ fn is_content_absent(bytes: &[u8], rows: &[u32], shared: usize) -> bool
     ensures { λ r. ⌜ r ≡ absent (find (nodesOf (now (bytes .entry))) FrameContentSequence (inside (nodesOf (now (bytes .entry))) shared)) ⌝ }
 {
     match element::find_item(bytes, rows, shared, element::tags::FRAME_CONTENT_SEQUENCE) {
-        Num::Lacks => true,
+        Num::None => true,
         Num::Is(_) => false,
     }
 }
 
 // `ok` is whether the shared item has no Frame Content.
 fn item_28(bytes: &[u8], rows: &[u32], shared: usize, ok: bool, item: usize) -> bool
-    requires { ⌜ Table (now bytes) (now rows) × ((item < length (nodesOf (now bytes))) × (ok ≡ absent (find (nodesOf (now bytes)) FrameContentSequence (inside (nodesOf (now bytes)) shared)))) ⌝ }
+    requires { ⌜ Table (now bytes) (now rows)
+        × ((item < length (nodesOf (now bytes)))
+        × (ok ≡ absent (find (nodesOf (now bytes)) FrameContentSequence (inside (nodesOf (now bytes)) shared)))) ⌝ }
     ensures { λ r. ⌜ r ≡ item28 (nodesOf (now (bytes .entry))) shared item ⌝ }
 {
     if ok {
         match element::find_item(bytes, rows, item, element::tags::FRAME_CONTENT_SEQUENCE) {
-            Num::Lacks => false,
+            Num::None => false,
             Num::Is(g) => element::is_one_item(bytes, rows, g),
         }
     } else {
@@ -194,7 +197,7 @@ fn is_voi(bytes: &[u8], rows: &[u32], group: usize) -> bool
     ensures { λ r. ⌜ r ≡ isVoi (nodesOf (now (bytes .entry))) group ⌝ }
 {
     match element::the_item(bytes, rows, group) {
-        Num::Lacks => false,
+        Num::None => false,
         Num::Is(j) => has_window(bytes, rows, j),
     }
 }
@@ -213,7 +216,7 @@ fn is_shift_item(bytes: &[u8], rows: &[u32], item: usize) -> bool
             element::tags::MASK_SUB_PIXEL_SHIFT,
             vrs::FL,
         ) {
-            Num::Lacks => false,
+            Num::None => false,
             Num::Is(k) => shift::is_frame_shift(node::value(bytes, rows, k)),
         }
     } else {
@@ -308,7 +311,7 @@ fn group_in(bytes: &[u8], rows: &[u32], rule: usize, item: usize, otherwise: boo
     ensures { λ r. ⌜ r ≡ groupIn (nodesOf (now (bytes .entry))) rule item otherwise ⌝ }
 {
     match element::find_item(bytes, rows, item, group_tag(rule)) {
-        Num::Lacks => otherwise,
+        Num::None => otherwise,
         Num::Is(g) => group_fits(bytes, rows, rule, g),
     }
 }
@@ -331,7 +334,9 @@ fn shared_ok(bytes: &[u8], rows: &[u32], rule: usize, shared: usize) -> bool
 
 // Rules 27 to 30 and 37 at a frame.
 fn item_by(bytes: &[u8], rows: &[u32], rule: usize, shared: usize, ok: bool, item: usize) -> bool
-    requires { ⌜ Table (now bytes) (now rows) × ((shared < length (nodesOf (now bytes))) × ((item < length (nodesOf (now bytes))) × (ok ≡ sharedOk (nodesOf (now bytes)) rule shared))) ⌝ }
+    requires { ⌜ Table (now bytes) (now rows)
+        × ((shared < length (nodesOf (now bytes)))
+        × ((item < length (nodesOf (now bytes))) × (ok ≡ sharedOk (nodesOf (now bytes)) rule shared))) ⌝ }
     ensures { λ r. ⌜ r ≡ itemBy (nodesOf (now (bytes .entry))) rule shared item ⌝ }
 {
     if rule == 27 {
@@ -348,7 +353,8 @@ fn item_by(bytes: &[u8], rows: &[u32], rule: usize, shared: usize, ok: bool, ite
 // ---- Rule 39: the grades of its two groups
 
 fn item_39(bytes: &[u8], rows: &[u32], shared: usize, part: SharedPart, item: usize) -> bool
-    requires { ⌜ Table (now bytes) (now rows) × ((item < length (nodesOf (now bytes))) × (part ≡ sharedPart (nodesOf (now bytes)) 39 shared)) ⌝ }
+    requires { ⌜ Table (now bytes) (now rows)
+        × ((item < length (nodesOf (now bytes))) × (part ≡ sharedPart (nodesOf (now bytes)) 39 shared)) ⌝ }
     ensures { λ r. ⌜ r ≡ itemGrades (nodesOf (now (bytes .entry))) shared item ⌝ }
 {
     let relation = intensity::relation_in(bytes, rows, item, part.relation);
@@ -387,7 +393,9 @@ pub fn item_rule(
     part: SharedPart,
     item: usize,
 ) -> bool
-    requires { ⌜ Table (now bytes) (now rows) × ((shared < length (nodesOf (now bytes))) × ((item < length (nodesOf (now bytes))) × (part ≡ sharedPart (nodesOf (now bytes)) rule shared))) ⌝ }
+    requires { ⌜ Table (now bytes) (now rows)
+        × ((shared < length (nodesOf (now bytes)))
+        × ((item < length (nodesOf (now bytes))) × (part ≡ sharedPart (nodesOf (now bytes)) rule shared))) ⌝ }
     ensures { λ r. ⌜ r ≡ itemRule (nodesOf (now (bytes .entry))) rule shared item ⌝ }
 {
     if rule == 39 {

@@ -11,7 +11,7 @@ use lib.Dec.{eqb, leb}
 use borrow.Author.Tests.{eq-eqb, ne-eqb, le-leb, lt-leb}
 use Rattle.basics.specs.Vr.{SQ}
 use Rattle.value.specs.declared.Num.{Num}
-use Rattle.value.specs.declared.Num.the-variants.{Is, Lacks}
+use Rattle.value.specs.declared.Num.the-variants.{Is, None}
 use Rattle.value.specs.Number.{usValues}
 use Rattle.value.proofs.Laws.{usValues-length}
 use Rattle.node.specs.Nodes.{Node, nextNode, members, inside}
@@ -64,7 +64,8 @@ module _ {n m : ℕ} (k : ℕ) (e : n ≡ m) where
 
 -- ---- Along members
 
-pub every-inside : (ns : List Node) (p : ℕ → Bool) (i next : ℕ) (r : Bool) → next ≡ nextNode ns i → r ≡ every p (members ns (i + 1) next) → every p (inside ns i) ≡ r
+pub every-inside : (ns : List Node) (p : ℕ → Bool) (i next : ℕ) (r : Bool) → next ≡ nextNode ns i → r ≡ every p (members ns (i + 1) next)
+    → every p (inside ns i) ≡ r
 every-inside ns p i next r e h = rw (← e) (sym h)
 
 module _ (ns : List Node) (p : ℕ → Bool) (at to : ℕ) where
@@ -128,25 +129,29 @@ module _ (n : ℕ) (v : List ℕ) (k : ℕ) where
     unfolding pairsFit
     pairs-not q = rw (pair-at, q)
 
-    pub pairs-next : (leb 1 a && (leb a b && leb b n)) ≡ true → pairsFit n (drop (2 * k) (usValues v)) ≡ pairsFit n (drop (2 * (k + 1)) (usValues v))
+    pub pairs-next : (leb 1 a && (leb a b && leb b n)) ≡ true
+        → pairsFit n (drop (2 * k) (usValues v)) ≡ pairsFit n (drop (2 * (k + 1)) (usValues v))
     unfolding pairsFit
     pairs-next q = rw (pair-at, q)
 
 -- ---- Rules by their number
 
-pub last-rule : (rule : ℕ) → 31 ≤ rule → rule ≤ 36 → (rule ≡ 31 → ⊥) → (rule ≡ 32 → ⊥) → (rule ≡ 33 → ⊥) → (rule ≡ 34 → ⊥) → (rule ≡ 35 → ⊥) → rule ≡ 36
+pub last-rule : (rule : ℕ) → 31 ≤ rule → rule ≤ 36 → (rule ≡ 31 → ⊥) → (rule ≡ 32 → ⊥) → (rule ≡ 33 → ⊥) → (rule ≡ 34 → ⊥) → (rule ≡ 35 → ⊥)
+    → rule ≡ 36
 last-rule rule l h a b c d e = omega arith
 
 -- ---- The shared group, looked up once
 
-group-shift : (a b : Num) (p : ℕ → Num) (q : ℕ → Bool) → holds (andThen (orElse a b) p) q ≡ holdsOr a (λ g. holds (p g) q) (holdsOr b (λ g. holds (p g) q) false)
+group-shift : (a b : Num) (p : ℕ → Num) (q : ℕ → Bool)
+    → holds (andThen (orElse a b) p) q ≡ holdsOr a (λ g. holds (p g) q) (holdsOr b (λ g. holds (p g) q) false)
 group-shift (Is k) b p q = refl
-group-shift Lacks (Is k) p q = refl
-group-shift Lacks Lacks p q = refl
+group-shift None (Is k) p q = refl
+group-shift None None p q = refl
 
 pub shift-apart : (ns : List Node) (s i : ℕ) → hasShiftGroup ns s i ≡ shiftIn ns i (shiftIn ns s false)
 unfolding hasShiftGroup shiftIn
-shift-apart ns s i = group-shift (find ns FramePixelShiftSequence (inside ns i)) (find ns FramePixelShiftSequence (inside ns s)) (ofVr ns SQ) (filled ns)
+shift-apart ns s i = group-shift (find ns FramePixelShiftSequence (inside ns i)) (find ns FramePixelShiftSequence (inside ns s))
+    (ofVr ns SQ) (filled ns)
 
 pub shift-found : (ns : List Node) (s i : ℕ) (o r t : Bool) → o ≡ shiftIn ns s false → r ≡ shiftIn ns i o → r ≡ t → hasShiftGroup ns s i ≡ t
 shift-found ns s i o r t a b e = shift-apart ns s i ∙ (ap (shiftIn ns i) (sym a) ∙ (sym b ∙ e))

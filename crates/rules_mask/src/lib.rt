@@ -10,7 +10,9 @@ ghost use Rattle.node.specs.Find.{ifPresent, find};
 ghost use Rattle.node.specs.Contracts.{Table};
 ghost use Rattle.element.specs.Tags.{ContrastFrameAveraging};
 ghost use Rattle.element.specs.Elements.{every};
-ghost use Rattle.rules.specs.Mask.{isOperation, isMask, rule31, pairsFit, isRange, rangeFits, rule32, allFrames, areMaskFrames, isOne, averageFits, averagesFit, rule33, isOffset, offsetFits, rule34, isShiftAt, shiftFits, rule35, anyShift, masksHaveIds, rule36};
+ghost use Rattle.rules.specs.Mask.{isOperation, isMask, rule31, pairsFit, isRange, rangeFits, rule32, allFrames, areMaskFrames, isOne};
+ghost use Rattle.rules.specs.Mask.{averageFits, averagesFit, rule33, isOffset, offsetFits, rule34, isShiftAt, shiftFits, rule35, anyShift};
+ghost use Rattle.rules.specs.Mask.{masksHaveIds, rule36};
 ghost use Rattle.rules.specs.All.{ruleAt};
 ghost use Rattle.rules_mask.specs.Contracts.{itemFits, shiftIn};
 use basics::vrs;
@@ -109,7 +111,7 @@ fn rule_31(bytes: &[u8], rows: &[u32]) -> bool
     ensures { λ r. ⌜ r ≡ rule31 (nodesOf (now (bytes .entry))) ⌝ }
 {
     match element::find_root(bytes, rows, tags::MASK_SUBTRACTION_SEQUENCE) {
-        Num::Lacks => true,
+        Num::None => true,
         Num::Is(i) => is_mask(bytes, rows, i),
     }
 }
@@ -171,7 +173,7 @@ fn range_fits(bytes: &[u8], rows: &[u32], item: usize, n: usize) -> bool
     ensures { λ r. ⌜ r ≡ rangeFits (nodesOf (now (bytes .entry))) n item ⌝ }
 {
     match element::find_item(bytes, rows, item, tags::APPLICABLE_FRAME_RANGE) {
-        Num::Lacks => true,
+        Num::None => true,
         Num::Is(i) => is_range(bytes, rows, i, n),
     }
 }
@@ -182,7 +184,7 @@ fn rule_32(bytes: &[u8], rows: &[u32]) -> bool
     ensures { λ r. ⌜ r ≡ rule32 (nodesOf (now (bytes .entry))) ⌝ }
 {
     match element::frame_count(bytes, rows) {
-        Num::Lacks => false,
+        Num::None => false,
         Num::Is(n) => {
             let items = element::mask_items(bytes, rows);
             all_fit(bytes, rows, Question::Range(n), items.at, items.end)
@@ -240,7 +242,7 @@ fn is_one(bytes: &[u8], rows: &[u32], i: usize) -> bool
 {
     if node::vr(bytes, rows, i) == vrs::US {
         match value::us_of(node::value(bytes, rows, i)) {
-            Num::Lacks => false,
+            Num::None => false,
             Num::Is(x) => x == 1,
         }
     } else {
@@ -254,7 +256,7 @@ fn contrast_fits(bytes: &[u8], rows: &[u32], item: usize) -> bool
     ensures { λ r. ⌜ r ≡ ifPresent (find (nodesOf (now (bytes .entry))) ContrastFrameAveraging (inside (nodesOf (now (bytes .entry))) item)) (isOne (nodesOf (now (bytes .entry)))) ⌝ }
 {
     match element::find_item(bytes, rows, item, tags::CONTRAST_FRAME_AVERAGING) {
-        Num::Lacks => true,
+        Num::None => true,
         Num::Is(i) => is_one(bytes, rows, i),
     }
 }
@@ -265,7 +267,7 @@ fn average_fits(bytes: &[u8], rows: &[u32], item: usize, n: usize) -> bool
     ensures { λ r. ⌜ r ≡ averageFits (nodesOf (now (bytes .entry))) n item ⌝ }
 {
     match element::find_vr_item(bytes, rows, item, tags::MASK_FRAME_NUMBERS, vrs::US) {
-        Num::Lacks => false,
+        Num::None => false,
         Num::Is(k) => {
             if are_mask_frames(node::value(bytes, rows, k), n) {
                 contrast_fits(bytes, rows, item)
@@ -293,7 +295,7 @@ fn rule_33(bytes: &[u8], rows: &[u32]) -> bool
     ensures { λ r. ⌜ r ≡ rule33 (nodesOf (now (bytes .entry))) ⌝ }
 {
     match element::frame_count(bytes, rows) {
-        Num::Lacks => false,
+        Num::None => false,
         Num::Is(n) => {
             let items = element::mask_items(bytes, rows);
             all_fit(bytes, rows, Question::Average(n), items.at, items.end)
@@ -311,7 +313,7 @@ fn is_offset(bytes: &[u8], rows: &[u32], i: usize) -> bool
         match value::ss_of(node::value(bytes, rows, i)) {
             Signed::Plus(_) => true,
             Signed::Minus(_) => true,
-            Signed::Lacks => false,
+            Signed::None => false,
         }
     } else {
         false
@@ -325,7 +327,7 @@ fn offset_fits(bytes: &[u8], rows: &[u32], item: usize) -> bool
 {
     if element::is_cs_item(bytes, rows, item, tags::MASK_OPERATION, b"TID") {
         match element::find_item(bytes, rows, item, tags::TID_OFFSET) {
-            Num::Lacks => true,
+            Num::None => true,
             Num::Is(i) => is_offset(bytes, rows, i),
         }
     } else {
@@ -361,7 +363,7 @@ fn shift_fits(bytes: &[u8], rows: &[u32], item: usize) -> bool
     ensures { λ r. ⌜ r ≡ shiftFits (nodesOf (now (bytes .entry))) item ⌝ }
 {
     match element::find_item(bytes, rows, item, tags::MASK_SUB_PIXEL_SHIFT) {
-        Num::Lacks => true,
+        Num::None => true,
         Num::Is(i) => is_shift_at(bytes, rows, i),
     }
 }
@@ -383,7 +385,7 @@ fn shift_in(bytes: &[u8], rows: &[u32], item: usize, otherwise: bool) -> bool
     ensures { λ r. ⌜ r ≡ shiftIn (nodesOf (now (bytes .entry))) item otherwise ⌝ }
 {
     match element::find_item(bytes, rows, item, tags::FRAME_PIXEL_SHIFT_SEQUENCE) {
-        Num::Lacks => otherwise,
+        Num::None => otherwise,
         Num::Is(g) => {
             if node::vr(bytes, rows, g) == vrs::SQ {
                 node::is_filled(bytes, rows, g)
@@ -431,7 +433,7 @@ fn rule_36(bytes: &[u8], rows: &[u32]) -> bool
     ensures { λ r. ⌜ r ≡ rule36 (nodesOf (now (bytes .entry))) ⌝ }
 {
     match element::shared_item(bytes, rows) {
-        Num::Lacks => false,
+        Num::None => false,
         Num::Is(shared) => {
             if any_shift(bytes, rows, shared) {
                 masks_have_ids(bytes, rows)

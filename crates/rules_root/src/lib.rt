@@ -7,7 +7,10 @@ ghost use Rattle.node.specs.Nodes.{nodesOf, root};
 ghost use Rattle.node.specs.Find.{holds};
 ghost use Rattle.node.specs.Contracts.{Table};
 ghost use Rattle.element.specs.Elements.{usIn};
-ghost use Rattle.rules.specs.Root.{isXa, isXrf, imageTypeIs, isImageType, planesAre, isOtherPlane, photometricIs, bitsFit, lossyIs, isOriginal, hasRadiation, hasExposure, rule1, rule2, rule3, rule4, rule5, rule6, rule7, rule8, rule9, rule10, rule11, rule12, rule13, rule14, rule15, rule16, rule17, rule18, rule19, rule20, rule21, rule22, rule23, rule24, rule25, rule26};
+ghost use Rattle.rules.specs.Root.{isXa, isXrf, imageTypeIs, isImageType, planesAre, isOtherPlane, photometricIs, bitsFit, lossyIs};
+ghost use Rattle.rules.specs.Root.{isOriginal, hasRadiation, hasExposure, rule1, rule2, rule3, rule4, rule5, rule6, rule7, rule8, rule9};
+ghost use Rattle.rules.specs.Root.{rule10, rule11, rule12, rule13, rule14, rule15, rule16, rule17, rule18, rule19, rule20, rule21, rule22};
+ghost use Rattle.rules.specs.Root.{rule23, rule24, rule25, rule26};
 ghost use Rattle.rules.specs.Pixels.{padded, isPixelVr, isPixelData, rule38};
 ghost use Rattle.rules.specs.All.{ruleAt};
 use basics::vrs;
@@ -48,7 +51,7 @@ fn image_type_is(bytes: &[u8], rows: &[u32], word: &[u8]) -> bool
     ensures { λ r. ⌜ r ≡ imageTypeIs (nodesOf (now (bytes .entry))) (now (word .entry)) ⌝ }
 {
     match element::find_vr_root(bytes, rows, tags::IMAGE_TYPE, vrs::CS) {
-        Num::Lacks => false,
+        Num::None => false,
         Num::Is(i) => value::is_word_at(node::value(bytes, rows, i), 0, word),
     }
 }
@@ -135,7 +138,7 @@ fn rule_3(bytes: &[u8], rows: &[u32]) -> bool
     ensures { λ r. ⌜ r ≡ rule3 (nodesOf (now (bytes .entry))) ⌝ }
 {
     match element::find_vr_root(bytes, rows, tags::IMAGE_TYPE, vrs::CS) {
-        Num::Lacks => false,
+        Num::None => false,
         Num::Is(i) => is_image_type(node::value(bytes, rows, i)),
     }
 }
@@ -201,7 +204,7 @@ fn rule_7(bytes: &[u8], rows: &[u32]) -> bool
 {
     if planes_are(bytes, rows, b"BIPLANE") {
         match element::find_vr_root(bytes, rows, tags::PLANE_IDENTIFICATION, vrs::CS) {
-            Num::Lacks => false,
+            Num::None => false,
             Num::Is(i) => is_other_plane(node::value(bytes, rows, i)),
         }
     } else {
@@ -225,7 +228,7 @@ fn rule_9(bytes: &[u8], rows: &[u32]) -> bool
     ensures { λ r. ⌜ r ≡ rule9 (nodesOf (now (bytes .entry))) ⌝ }
 {
     match element::us_root(bytes, rows, tags::SAMPLES_PER_PIXEL) {
-        Num::Lacks => false,
+        Num::None => false,
         Num::Is(n) => n == 1,
     }
 }
@@ -248,7 +251,7 @@ fn is_above_zero(bytes: &[u8], rows: &[u32], tag: usize) -> bool
     ensures { λ r. ⌜ r ≡ holds (usIn (nodesOf (now (bytes .entry))) tag (root (nodesOf (now (bytes .entry))))) (λ n. leb 1 n) ⌝ }
 {
     match element::us_root(bytes, rows, tag) {
-        Num::Lacks => false,
+        Num::None => false,
         Num::Is(n) => 1 <= n,
     }
 }
@@ -313,7 +316,7 @@ fn rule_14(bytes: &[u8], rows: &[u32]) -> bool
     ensures { λ r. ⌜ r ≡ rule14 (nodesOf (now (bytes .entry))) ⌝ }
 {
     match element::us_root(bytes, rows, tags::PIXEL_REPRESENTATION) {
-        Num::Lacks => false,
+        Num::None => false,
         Num::Is(n) => n == 0,
     }
 }
@@ -324,7 +327,7 @@ fn rule_15(bytes: &[u8], rows: &[u32]) -> bool
     ensures { λ r. ⌜ r ≡ rule15 (nodesOf (now (bytes .entry))) ⌝ }
 {
     match element::frame_count(bytes, rows) {
-        Num::Lacks => false,
+        Num::None => false,
         Num::Is(n) => { if 1 <= n { n <= 65535 } else { false } }
     }
 }
@@ -394,7 +397,7 @@ fn rule_20(bytes: &[u8], rows: &[u32]) -> bool
 {
     if planes_are(bytes, rows, b"BIPLANE") {
         match element::find_root(bytes, rows, tags::REFERENCED_OTHER_PLANE_SEQUENCE) {
-            Num::Lacks => false,
+            Num::None => false,
             Num::Is(i) => element::is_one_item(bytes, rows, i),
         }
     } else {
@@ -498,12 +501,12 @@ fn rule_25(bytes: &[u8], rows: &[u32]) -> bool
     ensures { λ r. ⌜ r ≡ rule25 (nodesOf (now (bytes .entry))) ⌝ }
 {
     match element::shared_item(bytes, rows) {
-        Num::Lacks => false,
+        Num::None => false,
         Num::Is(_) => true,
     }
 }
 
-// Rule 26: the is-per-frame functional groups are an item for each frame.
+// Rule 26: the per-frame functional groups are an item for each frame.
 fn rule_26(bytes: &[u8], rows: &[u32]) -> bool
     requires { ⌜ Table (now bytes) (now rows) ⌝ }
     ensures { λ r. ⌜ r ≡ rule26 (nodesOf (now (bytes .entry))) ⌝ }
@@ -559,7 +562,9 @@ fn is_pixel_data(
     allocated: usize,
     i: usize,
 ) -> bool
-    requires { ⌜ Table (now bytes) (now rows) × ((i < length (nodesOf (now bytes))) × ((frames < 100000000000) × ((height < 65536) × ((width < 65536) × (allocated < 65536))))) ⌝ }
+    requires { ⌜ Table (now bytes) (now rows)
+        × ((i < length (nodesOf (now bytes)))
+        × ((frames < 100000000000) × ((height < 65536) × ((width < 65536) × (allocated < 65536))))) ⌝ }
     ensures { λ r. ⌜ r ≡ isPixelData (nodesOf (now (bytes .entry))) frames height width allocated i ⌝ }
 {
     if is_pixel_vr(node::vr(bytes, rows, i), allocated) {

@@ -30,7 +30,11 @@ pub record Case : Type 0 where
 abbrev pub stepped : List ℕ → ℕ → Option Picture → Case
 stepped bytes frame picture =
     record {
-      gives = record { code = fieldsOf (judgeOf bytes manyRows) .code; rule = fieldsOf (judgeOf bytes manyRows) .rule; picture = stepsOf (nodesOf bytes) frame };
+      gives = record {
+        code = fieldsOf (judgeOf bytes manyRows) .code;
+        rule = fieldsOf (judgeOf bytes manyRows) .rule;
+        picture = stepsOf (nodesOf bytes) frame;
+      };
       says = record { code = 9; rule = 1; picture = picture };
     }
 
@@ -180,6 +184,7 @@ lacking =
     ∷ lacks (withMask (average (numbers []))) 2
     ∷ []
 
--- The cell itself lacks where it would divide by 0, whatever was read before it: a masked cell of frame 2, in any window, with no mask frame.
+-- The cell itself lacks where it would divide by 0, whatever was read before it: a masked cell of frame 2, in any window, with no mask
+-- frame.
 abbrev pub cellOfNoFrame : Window → Num
 cellOfNoFrame w = maskedCell oneCell (90 ∷ 91 ∷ []) 2 [] unmoved w false 0

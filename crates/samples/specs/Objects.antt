@@ -65,7 +65,8 @@ voi center width =
 abbrev pub exactVoi : String → String → List ℕ
 exactVoi center width =
     sequence 0x0028 0x9132
-    (item (short 0x0028 0x1050 "DS" (ascii center) ++ (short 0x0028 0x1051 "DS" (ascii width) ++ short 0x0028 0x1056 "CS" (ascii "LINEAR_EXACT"))))
+    (item (short 0x0028 0x1050 "DS" (ascii center)
+    ++ (short 0x0028 0x1051 "DS" (ascii width) ++ short 0x0028 0x1056 "CS" (ascii "LINEAR_EXACT"))))
 
 -- ---- Data sets
 

@@ -8,7 +8,8 @@
 -- picture, which is judged and drawn by all steps. The claim that both fields are the same in every line is `starred`, in
 -- proofs/Starred.antt; the prover works out every line.
 --
--- The fields of an answer are written as in `Fields` of `Rattle.dataset`: `counted` rows; `placed`, a code and its place; `broken`, rows, rule and frame.
+-- The fields of an answer are written as in `Fields` of `Rattle.dataset`: `counted` rows; `placed`, a code and its place; `broken`, rows,
+-- rule and frame.
 --
 -- Numbers that the paper leaves open are worked out by hand: the fields of a row, how many rows a whole data set has, and the
 -- cells of its picture beside those that the paper names. A number 9 in a buffer is one that was not touched.
@@ -182,7 +183,8 @@ windowSamples =
     -- "Width 1, centre 50: 49 gives 0, 50 gives 255."
     ∷ levels monochrome2 (window 50 1) 49 0
     ∷ levels monochrome2 (window 50 1) 50 255
-    ∷ shows (oneFrame "MONOCHROME2 " "IDENTITY" (voi "50" "1 ") (49 ∷ 50 ∷ [])) 1 lent (shownNative 29) (0 ∷ 255 ∷ 9 ∷ 9 ∷ 9 ∷ 9 ∷ 9 ∷ 9 ∷ [])
+    ∷ shows (oneFrame "MONOCHROME2 " "IDENTITY" (voi "50" "1 ") (49 ∷ 50 ∷ [])) 1 lent (shownNative 29)
+    (0 ∷ 255 ∷ 9 ∷ 9 ∷ 9 ∷ 9 ∷ 9 ∷ 9 ∷ [])
     -- "Width 10, centre 40: 35, 36, 40, 44, 45 give 0, 28, 142, 255, 255; MONOCHROME1 makes 142 into 113."
     ∷ levels monochrome2 (window 40 10) 35 0
     ∷ levels monochrome2 (window 40 10) 36 28
@@ -190,13 +192,15 @@ windowSamples =
     ∷ levels monochrome2 (window 40 10) 44 255
     ∷ levels monochrome2 (window 40 10) 45 255
     ∷ levels monochrome1 (window 40 10) 40 113
-    ∷ shows (oneFrame "MONOCHROME2 " "IDENTITY" (voi "40" "10") widthTen) 1 lent (shownNative 29) (0 ∷ 28 ∷ 142 ∷ 255 ∷ 255 ∷ 9 ∷ 9 ∷ 9 ∷ [])
+    ∷ shows (oneFrame "MONOCHROME2 " "IDENTITY" (voi "40" "10") widthTen) 1 lent (shownNative 29)
+    (0 ∷ 28 ∷ 142 ∷ 255 ∷ 255 ∷ 9 ∷ 9 ∷ 9 ∷ [])
     ∷ shows (oneFrame "MONOCHROME1 " "INVERSE " (voi "40" "10") widthTen) 1 lent (shownNative 29) (255 ∷ 227 ∷ 113 ∷ 0 ∷ 0 ∷ 9 ∷ 9 ∷ 9 ∷ [])
     -- "8 bits, no VOI: 0, 128, 255 stay."
     ∷ levels monochrome2 (fullWindow 8) 0 0
     ∷ levels monochrome2 (fullWindow 8) 128 128
     ∷ levels monochrome2 (fullWindow 8) 255 255
-    ∷ shows (oneFrame "MONOCHROME2 " "IDENTITY" noWindow (0 ∷ 128 ∷ 255 ∷ [])) 1 lent (shownNative 25) (0 ∷ 128 ∷ 255 ∷ 9 ∷ 9 ∷ 9 ∷ 9 ∷ 9 ∷ [])
+    ∷ shows (oneFrame "MONOCHROME2 " "IDENTITY" noWindow (0 ∷ 128 ∷ 255 ∷ [])) 1 lent (shownNative 25)
+    (0 ∷ 128 ∷ 255 ∷ 9 ∷ 9 ∷ 9 ∷ 9 ∷ 9 ∷ [])
     ∷ []
 
 -- Masks.
@@ -227,7 +231,9 @@ samples = windowSamples ++ maskSamples
 abbrev pub later : List Sample
 later =
     -- Q-2: the window of centre 40 and width 10, its numbers written with exponents.
-    shows (oneFrame "MONOCHROME2 " "IDENTITY" (voi "4E1 " "100.0e-1") widthTen) 1 lent (shownNative 29) (0 ∷ 28 ∷ 142 ∷ 255 ∷ 255 ∷ 9 ∷ 9 ∷ 9 ∷ [])
+    shows (oneFrame "MONOCHROME2 " "IDENTITY" (voi "4E1 " "100.0e-1") widthTen) 1 lent (shownNative 29)
+    (0 ∷ 28 ∷ 142 ∷ 255 ∷ 255 ∷ 9 ∷ 9 ∷ 9 ∷ [])
     -- Q-3: that window with LINEAR_EXACT, at 36 floor((255 · 2 + 10) / 20).
-    ∷ shows (oneFrame "MONOCHROME2 " "IDENTITY" (exactVoi "40" "10") widthTen) 1 lent (shownNative 30) (0 ∷ 26 ∷ 128 ∷ 230 ∷ 255 ∷ 9 ∷ 9 ∷ 9 ∷ [])
+    ∷ shows (oneFrame "MONOCHROME2 " "IDENTITY" (exactVoi "40" "10") widthTen) 1 lent (shownNative 30)
+    (0 ∷ 26 ∷ 128 ∷ 230 ∷ 255 ∷ 9 ∷ 9 ∷ 9 ∷ [])
     ∷ []

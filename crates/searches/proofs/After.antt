@@ -30,7 +30,8 @@ accepted-read f (read.Refused code offset) n e = let z : _≡_ {A = ℕ} 0 1 = c
 accepted-read f read.TooLarge n e = let z : _≡_ {A = ℕ} 0 1 = cc in absurd (omega arith)
 accepted-read f read.NoRoom n e = let z : _≡_ {A = ℕ} 0 1 = cc in absurd (omega arith)
 
-pub rows-left : (s before buffer : List ℕ) (a : JudgeAnswer) → a ≡ judgeOf s before → buffer ≡ bufferOf (readingOf s) before → Left s buffer a
+pub rows-left : (s before buffer : List ℕ) (a : JudgeAnswer) → a ≡ judgeOf s before → buffer ≡ bufferOf (readingOf s) before
+    → Left s buffer a
 unfolding judgeOf
 rows-left s before buffer (judged.Accepted n) e f =
     after-reading s before buffer n (accepted-read (findingOf (nodesOf s)) (answerOf (readingOf s) before) n e) f
@@ -39,7 +40,8 @@ rows-left s before buffer (judged.Refused code offset) e f = tt
 rows-left s before buffer judged.TooLarge e f = tt
 rows-left s before buffer judged.NoRoom e f = tt
 
-pub left-accepted : (s rows : List ℕ) {a : JudgeAnswer} {n : ℕ} → a ≡ judged.Accepted n → Left s rows a → (7 * n ≤ length rows) × Table s (take (7 * n) rows)
+pub left-accepted : (s rows : List ℕ) {a : JudgeAnswer} {n : ℕ} → a ≡ judged.Accepted n → Left s rows a
+    → (7 * n ≤ length rows) × Table s (take (7 * n) rows)
 left-accepted s rows e l = subst (λ (x : JudgeAnswer). Left s rows x) e l
 
 pub counted-is : (s buffer : List ℕ) (a : JudgeAnswer) (n : ℕ) → a ≡ judgeOf s buffer → n ≡ ifAccepted (searchesOf (nodesOf s)) a

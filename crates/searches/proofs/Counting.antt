@@ -32,12 +32,14 @@ module _ (ns : List Node) (tag i to : ℕ) where
   unfolding lookedAt lowerTags remains some
   looked-end h = rw (members-end ns i to h)
 
-  pub looked-later : i < to → nodeAt ns i .tag < tag → lookedAt ns tag (members ns i to) ≡ 1 + lookedAt ns tag (members ns (nextNode ns i) to)
+  pub looked-later : i < to → nodeAt ns i .tag < tag
+      → lookedAt ns tag (members ns i to) ≡ 1 + lookedAt ns tag (members ns (nextNode ns i) to)
   unfolding lookedAt lowerTags remains some
   looked-later h l =
       rw (members-next ns i to h, lt-ltb (nodeAt ns i .tag) tag l, lt-leb tag (nodeAt ns i .tag) l) (omega arith)
 
-  pub looked-here : (least : ℕ) → Ascends ns least (members ns i to) → i < to → tag ≤ nodeAt ns i .tag → lookedAt ns tag (members ns i to) ≡ 1
+  pub looked-here : (least : ℕ) → Ascends ns least (members ns i to) → i < to → tag ≤ nodeAt ns i .tag
+      → lookedAt ns tag (members ns i to) ≡ 1
   unfolding lookedAt lowerTags remains some
   looked-here least a h l =
       rw (

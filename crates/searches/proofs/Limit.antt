@@ -1,5 +1,5 @@
--- The limit: 33 searches in the root and 7 in each mask item look at no more than 40 times the rows, since mask items do not overlap; those of a
--- frame at no more than 25 times, and rule 26 says that there are N items of frames.
+-- The limit: 33 searches in the root and 7 in each mask item look at no more than 40 times the rows, since mask items do not overlap; those
+-- of a frame at no more than 25 times, and rule 26 says that there are N items of frames.
 use mathlib.Core.Path.{_≡_, _∙_}
 use Prim.Native.Nat.{ℕ, _+_, _*_, _≤_}
 use native.Mathlib.Omega.{arith}
@@ -9,7 +9,7 @@ use lib.ListN.{length}
 use lib.Dec.{eqb}
 use borrow.Author.Tests.{eqb-true}
 use Rattle.value.specs.declared.Num.{Num}
-use Rattle.value.specs.declared.Num.the-variants.{Is, Lacks}
+use Rattle.value.specs.declared.Num.the-variants.{Is, None}
 use Rattle.node.specs.Nodes.{Node, nodesOf, root, inside}
 use Rattle.node.specs.Find.{holds, findVr}
 use Rattle.basics.specs.Vr.{SQ}
@@ -22,7 +22,8 @@ use Rattle.verdict.specs.Verdict.{perFrame}
 use Rattle.conformance.specs.declared.Finding.the-variants as finding
 use Rattle.conformance.specs.Judging.{firstFrame, frameCount, findingOf}
 use Rattle.conformance.proofs.First.{accepted-holds}
-use Rattle.searches.specs.Searches.{rootSearches, maskSearches, frameSearches, searchedAmong, maskSum, framesSum, overFrames, searchesOf}
+use Rattle.searches.specs.Searches.{rootSearches, maskSearches, frameSearches, searchedAmong, maskSum, framesSum, overFrames}
+use Rattle.searches.specs.Searches.{searchesOf}
 use Rattle.searches.specs.Contracts.{tagsOf, maskTags}
 use Rattle.searches.specs.Limit.{Limit}
 use Rattle.searches.proofs.Counting.{members-few, Within, nodes-within}
@@ -43,8 +44,8 @@ items-are ns n r f = go (findVr ns Tags.PerFrameFunctionalGroupsSequence SQ (roo
 
     go : (found frames : Num) → frames ≡ Is n → holds found (λ p. holds frames (λ m. eqb (length (inside ns p)) m)) ≡ true
         → length (insideOf ns found) ≡ n
-    go Lacks frames e r = clash r
-    go (Is p) Lacks e r = let x : _≡_ {A = ℕ} 0 1 = cc in absurd (omega arith)
+    go None frames e r = clash r
+    go (Is p) None e r = let x : _≡_ {A = ℕ} 0 1 = cc in absurd (omega arith)
     go (Is p) (Is m) e r =
         let q : m ≡ n = cc in
         eqb-true (length (inside ns p)) m r ∙ q
@@ -67,7 +68,7 @@ module _ (ns : List Node) (w : Within ns) where
   frames-few s is = rw (frames-are ns s is) (omega (arith, both-few ns w s is, groups-few ns w s frameSearches is))
 
   pub over-frames-few : (shared : Num) → overFrames ns shared ≤ 25 * length ns * length (frameItems ns)
-  over-frames-few Lacks = omega arith
+  over-frames-few None = omega arith
   over-frames-few (Is s) = frames-few s (frameItems ns)
 
   pub sum-few : searchesOf ns ≤ 40 * length ns + 25 * length ns * length (frameItems ns)

@@ -11,7 +11,7 @@ use lib.Seq.{drop-cons, drop-length}
 use lib.Dec.{leb}
 use borrow.Author.Tests.{leb-true, leb-false, le-leb, lt-leb}
 use Rattle.value.specs.declared.Num.{Num}
-use Rattle.value.specs.declared.Num.the-variants.{Is, Lacks}
+use Rattle.value.specs.declared.Num.the-variants.{Is, None}
 use Rattle.basics.specs.Vr.{SQ}
 use Rattle.node.specs.Nodes.{Node, nodesOf, nodeAt, nextNode, members, root, inside}
 use Rattle.node.specs.Find.{find, findVr}
@@ -81,7 +81,8 @@ module _ (ns : List Node) (i to : ℕ) where
         go q (all-step tags tag q) (leb tag (nodeAt ns i .tag)) refl
       where
         go : rises tag tags ≡ true
-            → allLooked ns tags (members ns i to) ≡ length tags + allLooked ns (above (nodeAt ns i .tag) tags) (members ns (nextNode ns i) to)
+            → allLooked ns tags (members ns i to)
+            ≡ length tags + allLooked ns (above (nodeAt ns i .tag) tags) (members ns (nextNode ns i) to)
             → (b : Bool) → leb tag (nodeAt ns i .tag) ≡ b
             → allLooked ns (tag ∷ tags) (members ns i to)
             ≡ length (tag ∷ tags) + allLooked ns (cond b (above (nodeAt ns i .tag) tags) (tag ∷ tags)) (members ns (nextNode ns i) to)
@@ -143,7 +144,7 @@ module _ (ns : List Node) (w : Within ns) where
   items-few = go (findVr ns Tags.PerFrameFunctionalGroupsSequence SQ (root ns))
     where
       go : (found : Num) → length (insideOf ns found) ≤ length ns
-      go Lacks = omega arith
+      go None = omega arith
       go (Is p) = inside-few ns w p
 
 -- 134,217,728 × 134,217,728.
@@ -196,7 +197,7 @@ or-true false = refl
 
 module _ (ns : List Node) (tag : ℕ) (reads : List ℕ) (s i : ℕ) where
   -- Not in the item: in the shared item.
-  pub group-lacks : (always : Bool) → find ns tag (inside ns i) ≡ Lacks
+  pub group-lacks : (always : Bool) → find ns tag (inside ns i) ≡ None
       → groupAt ns tag always reads s i
       ≡ lookedAt ns tag (inside ns i) + (lookedAt ns tag (inside ns s) + readInEach ns reads (insideOf ns (find ns tag (inside ns s))))
   unfolding groupAt groupSum inShared
@@ -204,7 +205,8 @@ module _ (ns : List Node) (tag : ℕ) (reads : List ℕ) (s i : ℕ) where
 
   -- In the item, and looked for in the shared item all the same, or not.
   pub group-both : (always : Bool) → always ≡ true → (g : ℕ) → find ns tag (inside ns i) ≡ Is g
-      → groupAt ns tag always reads s i ≡ lookedAt ns tag (inside ns i) + (lookedAt ns tag (inside ns s) + readInEach ns reads (inside ns g))
+      → groupAt ns tag always reads s i
+      ≡ lookedAt ns tag (inside ns i) + (lookedAt ns tag (inside ns s) + readInEach ns reads (inside ns g))
   unfolding groupAt groupSum inShared
   group-both always p g e = rw (p, e)
 
@@ -220,7 +222,8 @@ module _ (s : List ℕ) (few : length (nodesOf s) ≤ 134217728) where
   unfolding rootOrder
   root-fits r to h e = omega (arith, e, all-fits s few rootOrder 0 to (omega arith) h)
 
-  pub masks-fit : (r from to : ℕ) → to ≤ length (nodesOf s) → r ≡ readInEach (nodesOf s) maskTags (members (nodesOf s) from to) → r ≤ 8589934592
+  pub masks-fit : (r from to : ℕ) → to ≤ length (nodesOf s) → r ≡ readInEach (nodesOf s) maskTags (members (nodesOf s) from to)
+      → r ≤ 8589934592
   unfolding maskTags maskSearches
   masks-fit r from to h e = omega (arith, e, each-fits s few maskTags from to (omega arith) h)
 
@@ -259,7 +262,8 @@ pub root-rises : rises 0 rootOrder ≡ true
 unfolding rises rootOrder
 root-rises = refl
 
-pub root-sum : (ns : List Node) (to : ℕ) → to ≡ length ns → allLooked ns rootOrder (members ns 0 to) ≡ searchedAmong ns rootSearches (root ns)
+pub root-sum : (ns : List Node) (to : ℕ) → to ≡ length ns
+    → allLooked ns rootOrder (members ns 0 to) ≡ searchedAmong ns rootSearches (root ns)
 unfolding rootTags
 root-sum ns to e = rw e (root-order ns (root ns) ∙ sym (searched-is ns rootSearches (root ns)))
 

@@ -9,13 +9,14 @@ use lib.ListN.{length, List·getD-eq-default}
 use lib.Dec.{ltb}
 use borrow.Author.Tests.{ltb-true, ltb-false}
 use Rattle.value.specs.declared.Num.{Num}
-use Rattle.value.specs.declared.Num.the-variants.{Is, Lacks}
+use Rattle.value.specs.declared.Num.the-variants.{Is, None}
 use Rattle.node.specs.Nodes.{Node, noNode, nodeAt, nextNode, membersBy, members, inside}
 use Rattle.node.specs.Find.{absent, orElse, find}
 use Rattle.element.specs.Elements.{insideOf}
 use Rattle.node.proofs.Walks.{members-end}
 use Rattle.searches.specs.Count.{lookedAt}
-use Rattle.searches.specs.Searches.{Search, GroupSearch, maskSearches, frameSearches, searchedAmong, maskSum, readIn, readInEach, inShared, groupSum, groupsSum, frameSum, framesSum}
+use Rattle.searches.specs.Searches.{Search, GroupSearch, maskSearches, frameSearches, searchedAmong, maskSum, readIn, readInEach}
+use Rattle.searches.specs.Searches.{inShared, groupSum, groupsSum, frameSum, framesSum}
 use Rattle.searches.specs.Contracts.{allLooked, tagsOf, maskTags, groupAt, overGroup, overGroups, overBoth}
 use Rattle.searches.proofs.Counting.{looked-few, Within, inside-below, inside-few}
 
@@ -80,12 +81,13 @@ module _ (ns : List Node) (w : Within ns) (tags : List ℕ) where
       go : (b : Bool) → ltb g (length ns) ≡ b → readInEach ns tags (inside ns g) ≤ length tags * length ns
       go true e = each-few ns tags w (nextNode ns g) (w g (ltb-true g (length ns) e)) (g + 1)
       go false e =
-          let d : nodeAt ns g .descendants ≡ 0 = ap (λ (n : Node). n .descendants) (List·getD-eq-default ns noNode (ltb-false g (length ns) e)) in
+          let d : nodeAt ns g .descendants
+          ≡ 0 = ap (λ (n : Node). n .descendants) (List·getD-eq-default ns noNode (ltb-false g (length ns) e)) in
           rw (members-end ns (g + 1) (nextNode ns g) (omega arith)) (omega arith)
 
   pub group-read : (found : Num) → readInEach ns tags (insideOf ns found) ≤ length tags * length ns
   unfolding readInEach
-  group-read Lacks = omega arith
+  group-read None = omega arith
   group-read (Is g) = inside-read g
 
 -- ---- A group over all frames

@@ -1,4 +1,5 @@
--- Small data sets whose searches were added up by hand, so that the definitions speak of something. Proved by computing, in proofs/Samples.antt.
+-- Small data sets whose searches were added up by hand, so that the definitions speak of something. Proved by computing, in
+-- proofs/Samples.antt.
 use mathlib.Core.Path.{_≡_}
 use Prim.Native.Nat.{ℕ}
 use mathlib.Core.List.{List, [], _∷_, map}

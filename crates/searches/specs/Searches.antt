@@ -5,7 +5,7 @@ use mathlib.Core.List.{List, [], _∷_}
 use mathlib.Core.Bool.{Bool, true, false, cond, _||_}
 use lib.ListN.{length}
 use Rattle.value.specs.declared.Num.{Num}
-use Rattle.value.specs.declared.Num.the-variants.{Is, Lacks}
+use Rattle.value.specs.declared.Num.the-variants.{Is, None}
 use Rattle.node.specs.Nodes.{Node, root, inside}
 use Rattle.node.specs.Find.{absent, find}
 use Rattle.element.specs.Tags
@@ -142,7 +142,7 @@ framesSum ns s [] = 0
 framesSum ns s (i ∷ is) = frameSum ns s i + framesSum ns s is
 
 abbrev pub overFrames : List Node → Num → ℕ
-overFrames ns Lacks = 0
+overFrames ns None = 0
 overFrames ns (Is s) = framesSum ns s (frameItems ns)
 
 -- The sum of an accepted data set's searches. It has N items of frames, one shared item and its mask items.

@@ -113,7 +113,8 @@ pub struct Counted {
 
 // The loop of `node::find_tag`, with a count of the rows that it looks at.
 fn look(bytes: &[u8], rows: &[u32], from: usize, to: usize, wanted: usize) -> Looked
-    requires { ⌜ Table (now bytes) (now rows) × ((to ≤ length (nodesOf (now bytes))) × Ascends (nodesOf (now bytes)) 0 (members (nodesOf (now bytes)) from to)) ⌝ }
+    requires { ⌜ Table (now bytes) (now rows)
+        × ((to ≤ length (nodesOf (now bytes))) × Ascends (nodesOf (now bytes)) 0 (members (nodesOf (now bytes)) from to)) ⌝ }
     ensures { λ r. ⌜ Looks (nodesOf (now (bytes .entry))) wanted from to r ⌝ }
 {
     let mut count: usize = 0;
@@ -129,7 +130,7 @@ fn look(bytes: &[u8], rows: &[u32], from: usize, to: usize, wanted: usize) -> Lo
                 }
             } else {
                 Looked {
-                    found: Num::Lacks,
+                    found: Num::None,
                     count,
                 }
             };
@@ -137,7 +138,7 @@ fn look(bytes: &[u8], rows: &[u32], from: usize, to: usize, wanted: usize) -> Lo
         i = node::next(bytes, rows, i);
     }
     Looked {
-        found: Num::Lacks,
+        found: Num::None,
         count,
     }
 }
@@ -146,7 +147,9 @@ fn look(bytes: &[u8], rows: &[u32], from: usize, to: usize, wanted: usize) -> Lo
 
 // All the tags, each sought among the members from `from` up to `to`.
 fn look_all(bytes: &[u8], rows: &[u32], from: usize, to: usize, wanted: &[usize]) -> usize
-    requires { ⌜ Table (now bytes) (now rows) × ((to ≤ length (nodesOf (now bytes))) × (Ascends (nodesOf (now bytes)) 0 (members (nodesOf (now bytes)) from to) × (length (now wanted) ≤ 64))) ⌝ }
+    requires { ⌜ Table (now bytes) (now rows)
+        × ((to ≤ length (nodesOf (now bytes)))
+        × (Ascends (nodesOf (now bytes)) 0 (members (nodesOf (now bytes)) from to) × (length (now wanted) ≤ 64))) ⌝ }
     ensures { λ r. ⌜ r ≡ allLooked (nodesOf (now (bytes .entry))) (now (wanted .entry)) (members (nodesOf (now (bytes .entry))) from to) ⌝ }
 {
     let mut sum: usize = 0;
@@ -176,7 +179,10 @@ fn first_above(wanted: &[usize], from: usize, here: usize) -> usize
 
 // As `look_all` in one walk, for tags that ascend: those from k on are still sought, and each looks at the member.
 fn look_along(bytes: &[u8], rows: &[u32], from: usize, to: usize, wanted: &[usize]) -> usize
-    requires { ⌜ Table (now bytes) (now rows) × ((to ≤ length (nodesOf (now bytes))) × (Ascends (nodesOf (now bytes)) 0 (members (nodesOf (now bytes)) from to) × ((length (now wanted) ≤ 64) × (rises 0 (now wanted) ≡ true)))) ⌝ }
+    requires { ⌜ Table (now bytes) (now rows)
+        × ((to ≤ length (nodesOf (now bytes)))
+        × (Ascends (nodesOf (now bytes)) 0 (members (nodesOf (now bytes)) from to)
+        × ((length (now wanted) ≤ 64) × (rises 0 (now wanted) ≡ true)))) ⌝ }
     ensures { λ r. ⌜ r ≡ allLooked (nodesOf (now (bytes .entry))) (now (wanted .entry)) (members (nodesOf (now (bytes .entry))) from to) ⌝ }
 {
     let mut sum: usize = 0;
@@ -216,7 +222,7 @@ fn look_group(bytes: &[u8], rows: &[u32], found: Num, wanted: &[usize]) -> usize
     ensures { λ r. ⌜ r ≡ readInEach (nodesOf (now (bytes .entry))) (now (wanted .entry)) (insideOf (nodesOf (now (bytes .entry))) found) ⌝ }
 {
     match found {
-        Num::Lacks => 0,
+        Num::None => 0,
         Num::Is(g) => {
             let end = node::next(bytes, rows, g);
             look_each(bytes, rows, g + 1, end, wanted)
@@ -263,14 +269,16 @@ fn group_at(
     reads: &[usize],
     item: usize,
 ) -> usize
-    requires { ⌜ Table (now bytes) (now rows) × ((item < length (nodesOf (now bytes))) × (InShared (nodesOf (now bytes)) group (now reads) shared part × (length (now reads) ≤ 3))) ⌝ }
+    requires { ⌜ Table (now bytes) (now rows)
+        × ((item < length (nodesOf (now bytes)))
+        × (InShared (nodesOf (now bytes)) group (now reads) shared part × (length (now reads) ≤ 3))) ⌝ }
     ensures { λ r. ⌜ r ≡ groupAt (nodesOf (now (bytes .entry))) group always (now (reads .entry)) shared item ⌝ }
 {
     let l = look_item(bytes, rows, item, group);
     let here = l.count;
     let found = l.found;
     match found {
-        Num::Lacks => here + part.looked + part.read,
+        Num::None => here + part.looked + part.read,
         Num::Is(g) => {
             let read = look_group(bytes, rows, Num::Is(g), reads);
             if always {
@@ -349,7 +357,7 @@ fn frames_sum(bytes: &[u8], rows: &[u32]) -> usize
     ensures { λ r. ⌜ r ≤ 2 ^ 60 ⌝ }
 {
     match element::shared_item(bytes, rows) {
-        Num::Lacks => 0,
+        Num::None => 0,
         Num::Is(s) => both_items(bytes, rows, s) + groups_over(bytes, rows, s),
     }
 }

@@ -6,7 +6,7 @@ use Prim.Native.Nat.{ℕ, suc, _+_, _-_, _≤_, _<_}
 use lib.ListN.{length, getD, length-replicate, List·getD-append}
 use native.Mathlib.Omega.{arith}
 use borrow.Author.Tests.{le-leb, lt-leb}
-use Rattle.value.specs.declared.Num.the-variants.{Is, Lacks}
+use Rattle.value.specs.declared.Num.the-variants.{Is, None}
 use Rattle.node.specs.Nodes.{Node, nodesOf}
 use Rattle.element.specs.Frames.{framesOf}
 use Rattle.conformance.specs.Judging.{judgeOf}
@@ -21,7 +21,8 @@ use Rattle.sheet.specs.Sheet.{times, levelsOf, framesSheet, noSheet}
 use Rattle.sheet.specs.Answer.{acceptedAnswer, answerFor, sheetFor, withSheet, sheetOf}
 
 -- What `sheet` hands back, by what the judge answered.
-pub sheet-by : (s : List ℕ) (a b : ℕ) (before : List ℕ) (j : JudgeAnswer) → j ≡ judgeOf s before → withSheet (nodesOf s) a b (answerFor (nodesOf s) a b j) ≡ sheetOf s a b before
+pub sheet-by : (s : List ℕ) (a b : ℕ) (before : List ℕ) (j : JudgeAnswer) → j ≡ judgeOf s before
+    → withSheet (nodesOf s) a b (answerFor (nodesOf s) a b j) ≡ sheetOf s a b before
 unfolding sheetOf
 sheet-by s a b before j e = ap (λ (x : JudgeAnswer). withSheet (nodesOf s) a b (answerFor (nodesOf s) a b x)) e
 
@@ -34,7 +35,7 @@ module _ (ns : List Node) (a b count : ℕ) where
   unfolding acceptedAnswer
   order-wrong h = rw (lt-leb a b h)
 
-  frames-none : a ≤ b → framesOf ns ≡ Lacks → acceptedAnswer ns a b count ≡ answer.NoFrame
+  frames-none : a ≤ b → framesOf ns ≡ None → acceptedAnswer ns a b count ≡ answer.NoFrame
   unfolding acceptedAnswer
   frames-none order e = rw (le-leb a b order, e, none-frame a)
 
@@ -48,7 +49,8 @@ module _ (ns : List Node) (a b count : ℕ) where
 
   pub frames-done : a ≤ b → (n : ℕ) → framesOf ns ≡ Is n → 1 ≤ a → b ≤ n → acceptedAnswer ns a b count ≡ answer.Done count
   unfolding acceptedAnswer
-  frames-done order n e low high = rw (le-leb a b order, e, le-leb 1 a low, le-leb a n (omega arith), le-leb 1 b (omega arith), le-leb b n high)
+  frames-done order n e low
+      high = rw (le-leb a b order, e, le-leb 1 a low, le-leb a n (omega arith), le-leb 1 b (omega arith), le-leb b n high)
 
   answered : (r : SheetAnswer) → acceptedAnswer ns a b count ≡ r → withSheet ns a b r ≡ withSheet ns a b (acceptedAnswer ns a b count)
   answered r e = ap (withSheet ns a b) (sym e)
@@ -57,7 +59,7 @@ module _ (ns : List Node) (a b count : ℕ) where
   wrong-order h = answered answer.WrongOrder (order-wrong h)
 
   module _ (order : a ≤ b) where
-    pub no-frames : framesOf ns ≡ Lacks → zeros answer.NoFrame ≡ withSheet ns a b (acceptedAnswer ns a b count)
+    pub no-frames : framesOf ns ≡ None → zeros answer.NoFrame ≡ withSheet ns a b (acceptedAnswer ns a b count)
     no-frames e = answered answer.NoFrame (frames-none order e)
 
     module _ (n : ℕ) (e : framesOf ns ≡ Is n) where
@@ -67,8 +69,10 @@ module _ (ns : List Node) (a b count : ℕ) where
       pub above-frames : n < b → zeros answer.NoFrame ≡ withSheet ns a b (acceptedAnswer ns a b count)
       above-frames h = answered answer.NoFrame (frames-above order n e h)
 
-      pub is-done : 1 ≤ a → b ≤ n → (t : Numbers) → t ≡ framesSheet ns a b → record { answer = answer.Done count; sheet = t } ≡ withSheet ns a b (acceptedAnswer ns a b count)
-      is-done low high t q = ap (λ (x : Numbers). record { answer = answer.Done count; sheet = x }) q ∙ answered (answer.Done count) (frames-done order n e low high)
+      pub is-done : 1 ≤ a → b ≤ n → (t : Numbers) → t ≡ framesSheet ns a b
+          → record { answer = answer.Done count; sheet = t } ≡ withSheet ns a b (acceptedAnswer ns a b count)
+      is-done low high t q = ap (λ (x : Numbers). record { answer = answer.Done count; sheet = x }) q
+          ∙ answered (answer.Done count) (frames-done order n e low high)
 
 -- ---- The 260 numbers
 

@@ -72,7 +72,8 @@ total-one x (suc n) h =
 total-times : (l : List ℕ) → AllLevels l → total (λ y. times y l) 256 ≡ length l
 unfolding times
 total-times [] h = total-zero 256
-total-times (x ∷ l) h = total-plus (λ y. cond (eqb x y) 1 0) (λ y. times y l) 256 ∙ omega (arith, total-one x 256 (omega (arith, h .0)), total-times l (h .1))
+total-times (x ∷ l) h = total-plus (λ y. cond (eqb x y) 1 0) (λ y. times y l) 256
+    ∙ omega (arith, total-one x 256 (omega (arith, h .0)), total-times l (h .1))
 
 -- The counts of levels add up to how many there are.
 pub counts-add : (l : List ℕ) → AllLevels l → sumOf (countsOf l) ≡ length l
@@ -91,7 +92,8 @@ unfolding tallied
 tallied-append [] ys c = refl
 tallied-append (x ∷ xs) ys c = tallied-append xs ys (set c x (getD c x 0 + 1))
 
-pub tallied-next : (l c : List ℕ) (i : ℕ) → i < length l → tallied (drop i l) c ≡ tallied (drop (i + 1) l) (set c (getD l i 0) (getD c (getD l i 0) 0 + 1))
+pub tallied-next : (l c : List ℕ) (i : ℕ) → i < length l
+    → tallied (drop i l) c ≡ tallied (drop (i + 1) l) (set c (getD l i 0) (getD c (getD l i 0) 0 + 1))
 unfolding tallied
 tallied-next l c i h = rw (add-one i, drop-cons l i 0)
 
@@ -103,7 +105,8 @@ bump-most (a ∷ c) (suc x) zero = omega arith
 bump-most (a ∷ c) (suc x) (suc y) = bump-most c x y
 
 -- Room for the cells that are left.
-pub room-next : (c : List ℕ) (x l i : ℕ) → i < l → ((y : ℕ) → getD c y 0 + (l - i) < 2 ^ 64) → (y : ℕ) → getD (set c x (getD c x 0 + 1)) y 0 + (l - (i + 1)) < 2 ^ 64
+pub room-next : (c : List ℕ) (x l i : ℕ) → i < l → ((y : ℕ) → getD c y 0 + (l - i) < 2 ^ 64) → (y : ℕ)
+    → getD (set c x (getD c x 0 + 1)) y 0 + (l - (i + 1)) < 2 ^ 64
 room-next c x l i h room y = omega (arith, bump-most c x y, room y)
 
 pub tallied-all : (l c : List ℕ) (i : ℕ) → length l ≤ i → tallied (drop i l) c ≡ c
@@ -141,10 +144,12 @@ tallied-at (x ∷ l) c y h =
 -- Counting from 256 zeros gives the counts of the sheet.
 pub counts-are : (l : List ℕ) → tallied l (replicate 256 0) ≡ countsOf l
 counts-are l =
-    ext-getD 0 (tallied l (replicate 256 0)) (countsOf l) (tallied-length l (replicate 256 0) ∙ (length-replicate {A = ℕ} 256 0 ∙ sym (upTo-length (λ y. times y l) 256)))
+    ext-getD 0 (tallied l (replicate 256 0)) (countsOf l)
+    (tallied-length l (replicate 256 0) ∙ (length-replicate {A = ℕ} 256 0 ∙ sym (upTo-length (λ y. times y l) 256)))
     (λ y h.
     let k : y < 256 = omega (arith, tallied-length l (replicate 256 0), length-replicate {A = ℕ} 256 0) in
-    tallied-at l (replicate 256 0) y (omega (arith, length-replicate {A = ℕ} 256 0)) ∙ (ap (λ (x : ℕ). x + times y l) (getD-replicate {A = ℕ} 256 y 0 0 k) ∙ (omega arith ∙ sym (upTo-at (λ x. times x l) 256 y k))))
+    tallied-at l (replicate 256 0) y (omega (arith, length-replicate {A = ℕ} 256 0))
+    ∙ (ap (λ (x : ℕ). x + times y l) (getD-replicate {A = ℕ} 256 y 0 0 k) ∙ (omega arith ∙ sym (upTo-at (λ x. times x l) 256 y k))))
 
 -- The count of a level.
 pub count-is : (l : List ℕ) (y : ℕ) → y < 256 → getD (countsOf l) y 0 ≡ times y l
@@ -201,5 +206,7 @@ pub sum-weighted : (l : List ℕ) → AllLevels l → total (λ y. y * times y l
 unfolding times sumOf
 sum-weighted [] h = total-same (λ y. y * 0) (λ _. 0) 256 (λ y. omega arith) ∙ total-zero 256
 sum-weighted (x ∷ l) h =
-    total-same (λ y. y * (cond (eqb x y) 1 0 + times y l)) (λ y. y * cond (eqb x y) 1 0 + y * times y l) 256 (λ y. mul-add y (cond (eqb x y) 1 0) (times y l))
-    ∙ (total-plus (λ y. y * cond (eqb x y) 1 0) (λ y. y * times y l) 256 ∙ omega (arith, weight-one x 256 (omega (arith, h .0)), sum-weighted l (h .1)))
+    total-same (λ y. y * (cond (eqb x y) 1 0 + times y l)) (λ y. y * cond (eqb x y) 1 0 + y * times y l) 256
+    (λ y. mul-add y (cond (eqb x y) 1 0) (times y l))
+    ∙ (total-plus (λ y. y * cond (eqb x y) 1 0) (λ y. y * times y l) 256
+    ∙ omega (arith, weight-one x 256 (omega (arith, h .0)), sum-weighted l (h .1)))

@@ -8,7 +8,7 @@ use native.Mathlib.Omega.{arith}
 use lib.ListN.{length, drop}
 use borrow.Author.Tests.{le-leb, ne-eqb}
 use Rattle.value.specs.declared.Num.{Num}
-use Rattle.value.specs.declared.Num.the-variants.{Is, Lacks}
+use Rattle.value.specs.declared.Num.the-variants.{Is, None}
 use Rattle.node.specs.Nodes.{Node, nodesOf}
 use Rattle.node.proofs.Walks.{members-end, members-next}
 use Rattle.element.specs.declared.Items.{Items}
@@ -32,17 +32,22 @@ use Rattle.sheet.proofs.Runs.{tallied-most}
 
 module _ (ns : List Node) (f : ℕ) (c : Items) (w : Along ns (drop (f - 1) (frameItems ns)) c) (low : 1 ≤ f) where
   pub item-some : c .at < c .end → IsItem ns f (Is (c .at))
-  item-some h = record { is = rw (le-leb 1 f low) (sym (ap first (sym (w .ahead) ∙ members-next ns (c .at) (c .end) h))); below = omega (arith, w .inner) }
+  item-some h = record {
+    is = rw (le-leb 1 f low) (sym (ap first (sym (w .ahead) ∙ members-next ns (c .at) (c .end) h)));
+    below = omega (arith, w .inner);
+  }
 
-  pub item-none : c .end ≤ c .at → IsItem ns f Lacks
+  pub item-none : c .end ≤ c .at → IsItem ns f None
   item-none h = record { is = rw (le-leb 1 f low) (sym (ap first (sym (w .ahead) ∙ members-end ns (c .at) (c .end) h))); below = tt }
 
 -- ---- Levels and room
 
-pub picture-cells : (s : List ℕ) (n f : ℕ) → IsObject s n → 1 ≤ f → f ≤ n → length (pictureOf (nodesOf s) f .samples) ≡ imageSize (nodesOf s)
+pub picture-cells : (s : List ℕ) (n f : ℕ) → IsObject s n → 1 ≤ f → f ≤ n
+    → length (pictureOf (nodesOf s) f .samples) ≡ imageSize (nodesOf s)
 unfolding pictureOf
 picture-cells s n f h low high =
-    let w : Whole (nodesOf s) f = nothing-lacks s (h .bytes) (h .sound) f low (subst (λ (x : Num). f ≤ numberOf x) (sym (h .frames)) high) in
+    let w : Whole (nodesOf s) f = nothing-lacks s (h .bytes) (h .sound) f low
+    (subst (λ (x : Num). f ≤ numberOf x) (sym (h .frames)) high) in
     ap (λ (p : Option Picture). length (pictureIn p .samples)) (w .is) ∙ w .size
 
 -- What is left to count, with one frame counted.
@@ -51,7 +56,9 @@ pub frames-more : (ns : List Node) (f end : ℕ) (now after : List ℕ) → f < 
 unfolding levelsOf
 frames-more ns f end now after h e =
     let z : end - f ≡ suc (end - (f + 1)) = omega arith in
-    ap (tallied (levelsOf ns (f + 1) (end - (f + 1)))) e ∙ (sym (tallied-append (pictureOf ns f .samples) (levelsOf ns (f + 1) (end - (f + 1))) now) ∙ ap (λ (k : ℕ). tallied (levelsOf ns f k) now) (sym z))
+    ap (tallied (levelsOf ns (f + 1) (end - (f + 1)))) e
+    ∙ (sym (tallied-append (pictureOf ns f .samples) (levelsOf ns (f + 1) (end - (f + 1))) now)
+    ∙ ap (λ (k : ℕ). tallied (levelsOf ns f k) now) (sym z))
 
 pub frames-none : (ns : List Node) (f end : ℕ) (now : List ℕ) → end ≤ f → tallied (levelsOf ns f (end - f)) now ≡ now
 unfolding levelsOf tallied
@@ -90,7 +97,8 @@ split-left f end m h =
 pub room-one : (f end m : ℕ) (now : List ℕ) → f < end → Room now ((end - f) * m) → Room now m
 room-one f end m now h r = record { below = λ y. omega (arith, r .below y, split-left f end m h) }
 
-pub room-rest : (f end m : ℕ) (l now after : List ℕ) → f < end → length l ≡ m → after ≡ tallied l now → Room now ((end - f) * m) → Room after ((end - (f + 1)) * m)
+pub room-rest : (f end m : ℕ) (l now after : List ℕ) → f < end → length l ≡ m → after ≡ tallied l now → Room now ((end - f) * m)
+    → Room after ((end - (f + 1)) * m)
 room-rest f end m l now after h e a r = record { below = λ y. rw a (omega (arith, r .below y, split-left f end m h, tallied-most l now y)) }
 
 -- ---- The mask item that applies

@@ -2,7 +2,7 @@
 -- cells of frame f are the shades of its samples.
 use mathlib.Core.Path.{_≡_, sym, _∙_, subst}
 use mathlib.Core.Bool.{Bool, true}
-use mathlib.Core.List.{List, [], _∷_, _++_, append-nil}
+use mathlib.Core.List.{List, [], _++_, append-nil}
 use mathlib.Core.Option.{some}
 use Prim.Native.Nat.{ℕ, _+_, _-_, _^_, _≤_}
 use native.Mathlib.Omega.{arith}
@@ -35,12 +35,14 @@ module _ (ns : List Node) (f n : ℕ) (g : Geometry) (v : List ℕ) (w : Window)
     (isG : geometryOf ns ≡ some g) (isV : pixelsOf ns ≡ some v) (frame : isFrame g v f ≡ true) (isW : windowFor ns f (g .stored) ≡ some w)
     (d : Drawable w) (isI : inverseOf ns ≡ some inverse) (whole : (k : ℕ) → 1 ≤ k → k ≤ n → isFrame g v k ≡ true) (low : 1 ≤ g .stored)
     (table : List ℕ) (t : Filled (shadeAt w (g .stored) inverse) (2 ^ (g .stored + 1) - 1) table) where
-  pub drawn : (k : Masking) → maskingOf ns k ≡ maskFor ns f → Gives n (maskFor ns f) → length (pictureOf ns f .samples) ≡ samplesOf g → Drawn ns f (isMasked k) (shadeBy ns table g v f k) (samplesOf g)
+  pub drawn : (k : Masking) → maskingOf ns k ≡ maskFor ns f → Gives n (maskFor ns f) → length (pictureOf ns f .samples) ≡ samplesOf g
+      → Drawn ns f (isMasked k) (shadeBy ns table g v f k) (samplesOf g)
   drawn k e q size =
       let z : List ℕ = upTo (λ _. 0) (samplesOf g) in
       let l : length z ≡ samplesOf g = upTo-length (λ _. 0) (samplesOf g) in
       let s = painted-shows ns f n g v w inverse isG isV frame isW d isI whole low table t z (omega arith) k e q in
       record {
         masked-is = s .masked-is;
-        cells = ends (pictureOf ns f .samples) (upTo (shadeBy ns table g v f k) (samplesOf g)) z (samplesOf g) size l (sym (painted-list (shadeBy ns table g v f k) (samplesOf g) z (omega arith)) ∙ s .image-is);
+        cells = ends (pictureOf ns f .samples) (upTo (shadeBy ns table g v f k) (samplesOf g)) z (samplesOf g) size l
+            (sym (painted-list (shadeBy ns table g v f k) (samplesOf g) z (omega arith)) ∙ s .image-is);
       }

@@ -51,7 +51,8 @@ low-found (x ∷ l) = ⊎-elim left (right (low-found l)) (either x (lowestOf l)
     left : x ≤ lowestOf l → (1 ≤ times (min x (lowestOf l)) (x ∷ l)) ⊎ (min x (lowestOf l) ≡ 255)
     left h = inl (rw (min-eq-left h) (times-same x l))
 
-    right : (1 ≤ times (lowestOf l) l) ⊎ (lowestOf l ≡ 255) → lowestOf l ≤ x → (1 ≤ times (min x (lowestOf l)) (x ∷ l)) ⊎ (min x (lowestOf l) ≡ 255)
+    right : (1 ≤ times (lowestOf l) l) ⊎ (lowestOf l ≡ 255) → lowestOf l ≤ x
+        → (1 ≤ times (min x (lowestOf l)) (x ∷ l)) ⊎ (min x (lowestOf l) ≡ 255)
     right (inl f) h = inl (rw (min-eq-right h) (omega (arith, f, times-more (lowestOf l) x l)))
     right (inr e) h = inr (min-eq-right h ∙ e)
 
@@ -76,7 +77,8 @@ high-found (x ∷ l) = ⊎-elim left (right (high-found l)) (either (highestOf l
     left : highestOf l ≤ x → (1 ≤ times (max x (highestOf l)) (x ∷ l)) ⊎ (max x (highestOf l) ≡ 0)
     left h = inl (rw (max-eq-left h) (times-same x l))
 
-    right : (1 ≤ times (highestOf l) l) ⊎ (highestOf l ≡ 0) → x ≤ highestOf l → (1 ≤ times (max x (highestOf l)) (x ∷ l)) ⊎ (max x (highestOf l) ≡ 0)
+    right : (1 ≤ times (highestOf l) l) ⊎ (highestOf l ≡ 0) → x ≤ highestOf l
+        → (1 ≤ times (max x (highestOf l)) (x ∷ l)) ⊎ (max x (highestOf l) ≡ 0)
     right (inl f) h = inl (rw (max-eq-right h) (omega (arith, f, times-more (highestOf l) x l)))
     right (inr e) h = inr (max-eq-right h ∙ e)
 
@@ -117,14 +119,16 @@ module _ (l : List ℕ) (a : AllLevels l) (counts : List ℕ) (e : counts ≡ co
       below k (inr m) = omega (arith, m, k, low-most l)
 
       above : lowestOf l < r → (1 ≤ times (lowestOf l) l) ⊎ (lowestOf l ≡ 255) → r ≡ lowestOf l
-      above k (inl m) = absurd (none-some (times (lowestOf l) l) m (sym (count-at (lowestOf l) (low-most l)) ∙ f .none-below (lowestOf l) k))
+      above k (inl m) = absurd
+          (none-some (times (lowestOf l) l) m (sym (count-at (lowestOf l) (low-most l)) ∙ f .none-below (lowestOf l) k))
       above k (inr m) = omega (arith, m, k, f .most)
 
   pub last-is : Last counts r → r ≡ highestOf l
   last-is f = ⊎-elim (λ k. below k (high-found l)) (⊎-elim (λ k. above k (f .found)) (λ q. q)) (order r (highestOf l))
     where
       below : r < highestOf l → (1 ≤ times (highestOf l) l) ⊎ (highestOf l ≡ 0) → r ≡ highestOf l
-      below k (inl m) = absurd (none-some (times (highestOf l) l) m (sym (count-at (highestOf l) (high-most l a)) ∙ f .none-above (highestOf l) k (omega (arith, high-most l a))))
+      below k (inl m) = absurd (none-some (times (highestOf l) l) m
+          (sym (count-at (highestOf l) (high-most l a)) ∙ f .none-above (highestOf l) k (omega (arith, high-most l a))))
       below k (inr m) = omega (arith, m, k)
 
       above : highestOf l < r → (1 ≤ getD counts r 0) ⊎ (r ≡ 0) → r ≡ highestOf l

@@ -29,7 +29,8 @@ line-more f row columns c now after line a b e =
     ∙ ap (λ (l : List ℕ). tallied l c) (sym (upTo-plus f (row * columns) columns) ∙ ap (upTo f) (sym n)))))
 
 -- Room for a line, of those that are left.
-pub line-room : (f : ℕ → ℕ) (row rows columns l : ℕ) (c now : List ℕ) → now ≡ tallied (upTo f (row * columns)) c → Room c (rows * columns) → row < rows → l ≡ columns → Room now l
+pub line-room : (f : ℕ → ℕ) (row rows columns l : ℕ) (c now : List ℕ) → now ≡ tallied (upTo f (row * columns)) c → Room c (rows * columns)
+    → row < rows → l ≡ columns → Room now l
 line-room f row rows columns l c now a room h e =
     let m : (row + 1) * columns ≤ rows * columns = mul-le-mul-right columns (omega arith) in
     let n : (row + 1) * columns ≡ row * columns + columns = omega arith in

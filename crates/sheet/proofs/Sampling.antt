@@ -13,7 +13,7 @@ use borrow.Author.Tests.{leb-true}
 use Rattle.dataset.specs.Answer.{width}
 use Rattle.dataset.specs.Tree.{rowsOf}
 use Rattle.value.specs.declared.Num.{Num}
-use Rattle.value.specs.declared.Num.the-variants.{Is, Lacks}
+use Rattle.value.specs.declared.Num.the-variants.{Is, None}
 use Rattle.node.specs.Nodes.{Node, nodesOf, root}
 use Rattle.element.specs.Frames.{framesOf}
 use Rattle.conformance.specs.Judging.{numberOf}
@@ -37,7 +37,8 @@ use Rattle.display.specs.Contracts.{IsObject, IsScene}
 use Rattle.sheet.specs.Sampling.{Range, total, Consistent, HandsBack, Sampling}
 use Rattle.sheet.proofs.Counts.{counts-add, levels-append, count-is, times-most, upTo-most, sum-weighted}
 use Rattle.display.proofs.Scenes.{cells-few}
-use Rattle.sheet.proofs.Lowest.{first-is, last-is, either, times-same, times-more, low-most, low-none, low-found, high-most, high-none, high-found}
+use Rattle.sheet.proofs.Lowest.{first-is, last-is, either, times-same, times-more, low-most, low-none, low-found, high-most}
+use Rattle.sheet.proofs.Lowest.{high-none, high-found}
 use Rattle.sheet.proofs.Frames.{natives-few}
 use Rattle.sheet.proofs.Answers.{frames-done}
 
@@ -107,12 +108,14 @@ unfolding total
 total-within f g zero e = refl
 total-within f g (suc n) e = omega (arith, total-within f g n (λ y h. e y (omega arith)), e n (omega arith))
 
-consistent : (l : List ℕ) (natives n size : ℕ) → AllLevels l → length l ≡ n * size → 1 ≤ length l → natives ≤ n → Consistent (sheetBy l natives) n size
+consistent : (l : List ℕ) (natives n size : ℕ) → AllLevels l → length l ≡ n * size → 1 ≤ length l → natives ≤ n
+    → Consistent (sheetBy l natives) n size
 consistent l natives n size a e some few =
     record {
       levels = upTo-length (λ y. times y l) 256;
       adds-up = counts-add l a ∙ e;
-      sum-is = sym (sum-weighted l a) ∙ total-within (λ y. y * times y l) (λ y. y * getD (countsOf l) y 0) 256 (λ y h. ap (λ (x : ℕ). y * x) (sym (count-is l y h)));
+      sum-is = sym (sum-weighted l a)
+          ∙ total-within (λ y. y * times y l) (λ y. y * getD (countsOf l) y 0) 256 (λ y h. ap (λ (x : ℕ). y * x) (sym (count-is l y h)));
       lowest-drawn = rw (count-is l (lowestOf l) (omega (arith, low-most l))) (low-drawn l a some);
       none-below = λ y h. count-is l y (omega (arith, low-most l, h)) ∙ low-none l y h;
       highest-drawn = rw (count-is l (highestOf l) (omega (arith, high-most l a))) (high-drawn l some);
@@ -125,16 +128,28 @@ consistent l natives n size a e some few =
 module _ (s : List ℕ) (n a b : ℕ) (h : IsObject s n) (low : 1 ≤ a) (order : a ≤ b) (high : b ≤ n) where
   object-run : Run (nodesOf s) a (b + 1 - a)
   object-run =
-      run (nodesOf s) a (b + 1 - a) (λ f l k. nothing-lacks s (h .bytes) (h .sound) f (omega (arith, low, l)) (subst (λ (x : Num). f ≤ numberOf x) (sym (h .frames)) (omega (arith, order, high, k))))
+      run (nodesOf s) a (b + 1 - a) (λ f l k. nothing-lacks s (h .bytes) (h .sound) f (omega (arith, low, l))
+      (subst (λ (x : Num). f ≤ numberOf x) (sym (h .frames)) (omega (arith, order, high, k))))
 
-  pub few-counts : (c : Scene) → IsScene (nodesOf s) c → (counts : List ℕ) → counts ≡ countsOf (levelsOf (nodesOf s) a (b + 1 - a)) → Few counts
+  pub few-counts : (c : Scene) → IsScene (nodesOf s) c → (counts : List ℕ) → counts ≡ countsOf (levelsOf (nodesOf s) a (b + 1 - a))
+      → Few counts
   few-counts c q counts e =
       record {
         size = ap length e ∙ upTo-length (λ y. times y (levelsOf (nodesOf s) a (b + 1 - a))) 256;
-        below = λ y. rw e (omega (arith, upTo-most (λ x. times x (levelsOf (nodesOf s) a (b + 1 - a))) 256 281462092005375 (λ x. omega (arith, times-most x (levelsOf (nodesOf s) a (b + 1 - a)), object-run .size, cells-few s n h (omega (arith, low, order, high)) c q (b + 1 - a) (omega (arith, low, order, high)))) y));
+        below = λ y. rw e (omega (
+          arith,
+          upTo-most (λ x. times x (levelsOf (nodesOf s) a (b + 1 - a))) 256 281462092005375
+              (λ x. omega (
+                arith,
+                times-most x (levelsOf (nodesOf s) a (b + 1 - a)),
+                object-run .size,
+                cells-few s n h (omega (arith, low, order, high)) c q (b + 1 - a) (omega (arith, low, order, high)),
+              )) y,
+        ));
       }
 
-  pub made : (counts : List ℕ) (natives lowest highest sum : ℕ) → counts ≡ countsOf (levelsOf (nodesOf s) a (b + 1 - a)) → natives ≡ nativesOf (nodesOf s) a (b + 1 - a)
+  pub made : (counts : List ℕ) (natives lowest highest sum : ℕ) → counts ≡ countsOf (levelsOf (nodesOf s) a (b + 1 - a))
+      → natives ≡ nativesOf (nodesOf s) a (b + 1 - a)
       → First counts lowest → Last counts highest → sum ≡ total (λ y. y * getD counts y 0) 256
       → record { counts = counts; natives = natives; lowest = lowest; highest = highest; sum = sum } ≡ framesSheet (nodesOf s) a b
   unfolding framesSheet
@@ -144,12 +159,17 @@ module _ (s : List ℕ) (n a b : ℕ) (h : IsObject s n) (low : 1 ≤ a) (order 
       let lo : lowest ≡ lowestOf levels = first-is levels (object-run .levels) counts e lowest f in
       let hi : highest ≡ highestOf levels = last-is levels (object-run .levels) counts e highest l in
       let u : sum ≡ sumOf levels =
-      t ∙ (total-within (λ y. y * getD counts y 0) (λ y. y * times y levels) 256 (λ y k. ap (λ (x : ℕ). y * x) (ap (λ (x : List ℕ). getD x y 0) e ∙ count-is levels y k)) ∙ sum-weighted levels (object-run .levels)) in
+      t ∙ (total-within (λ y. y * getD counts y 0) (λ y. y * times y levels) 256
+      (λ y k. ap (λ (x : ℕ). y * x) (ap (λ (x : List ℕ). getD x y 0) e ∙ count-is levels y k))
+      ∙ sum-weighted levels (object-run .levels)) in
       same counts natives lowest highest sum e ne lo hi u ∙ ap (λ (k : ℕ). sheetBy (levelsOf (nodesOf s) a k) (nativesOf (nodesOf s) a k)) z
     where
-      same : (counts : List ℕ) (natives lowest highest sum : ℕ) → counts ≡ countsOf (levelsOf (nodesOf s) a (b + 1 - a)) → natives ≡ nativesOf (nodesOf s) a (b + 1 - a)
-          → lowest ≡ lowestOf (levelsOf (nodesOf s) a (b + 1 - a)) → highest ≡ highestOf (levelsOf (nodesOf s) a (b + 1 - a)) → sum ≡ sumOf (levelsOf (nodesOf s) a (b + 1 - a))
-          → record { counts = counts; natives = natives; lowest = lowest; highest = highest; sum = sum } ≡ sheetBy (levelsOf (nodesOf s) a (b + 1 - a)) (nativesOf (nodesOf s) a (b + 1 - a))
+      same : (counts : List ℕ) (natives lowest highest sum : ℕ) → counts ≡ countsOf (levelsOf (nodesOf s) a (b + 1 - a))
+          → natives ≡ nativesOf (nodesOf s) a (b + 1 - a)
+          → lowest ≡ lowestOf (levelsOf (nodesOf s) a (b + 1 - a)) → highest ≡ highestOf (levelsOf (nodesOf s) a (b + 1 - a))
+          → sum ≡ sumOf (levelsOf (nodesOf s) a (b + 1 - a))
+          → record { counts = counts; natives = natives; lowest = lowest; highest = highest; sum = sum }
+          ≡ sheetBy (levelsOf (nodesOf s) a (b + 1 - a)) (nativesOf (nodesOf s) a (b + 1 - a))
       same counts natives lowest highest sum p q r u v = rw (p, q, r, u, v)
 
 -- ---- From the answer back to what was asked
@@ -157,11 +177,12 @@ module _ (s : List ℕ) (n a b : ℕ) (h : IsObject s n) (low : 1 ≤ a) (order 
 module _ (s : List ℕ) (a b : ℕ) where
   frames-is : (n : Num) → 1 ≤ numberOf n → n ≡ Is (numberOf n)
   frames-is (Is k) h = refl
-  frames-is Lacks h = absurd (omega arith)
+  frames-is None h = absurd (omega arith)
 
   answer-done : (n : ℕ) → Range s a b → acceptedAnswer (nodesOf s) a b n ≡ answer.Done n
   answer-done n r =
-      frames-done (nodesOf s) a b n (r .order) (numberOf (framesOf (nodesOf s))) (frames-is (framesOf (nodesOf s)) (omega (arith, r .first .low, r .first .high))) (r .first .low) (r .last .high)
+      frames-done (nodesOf s) a b n (r .order) (numberOf (framesOf (nodesOf s)))
+      (frames-is (framesOf (nodesOf s)) (omega (arith, r .first .low, r .first .high))) (r .first .low) (r .last .high)
 
   both : (p q : Bool) → p && q ≡ true → (p ≡ true) × (q ≡ true)
   both true q h = (refl, h)
@@ -180,7 +201,8 @@ module _ (s : List ℕ) (a b : ℕ) where
       go false u p q e = absurd (omega (arith, e))
 
   module _ (buffer : List ℕ) where
-    answered : IsAccepted s → Range s a b → width * length (rowsOf s) ≤ length buffer → sheetOf s a b buffer .answer ≡ answer.Done (length (rowsOf s))
+    answered : IsAccepted s → Range s a b → width * length (rowsOf s) ≤ length buffer
+        → sheetOf s a b buffer .answer ≡ answer.Done (length (rowsOf s))
     unfolding sheetOf
     answered acc r room = rw (judged-accepted s buffer acc room) (answer-done (length (rowsOf s)) r)
 
@@ -188,7 +210,8 @@ module _ (s : List ℕ) (a b : ℕ) where
     unfolding sheetOf
     sheet-is = refl
 
-    was-done : fieldsOf (sheetOf s a b buffer .answer) .code ≡ 0 → IsAccepted s × (Range s a b × (width * length (rowsOf s) ≤ length buffer))
+    was-done : fieldsOf (sheetOf s a b buffer .answer) .code ≡ 0
+        → IsAccepted s × (Range s a b × (width * length (rowsOf s) ≤ length buffer))
     unfolding sheetOf
     was-done e =
         let j = was-judged s buffer (λ x. fieldsOf (answerFor (nodesOf s) a b x) .code)
@@ -209,7 +232,8 @@ module _ (s : List ℕ) (a b : ℕ) where
 some-cell : (s : List ℕ) → Bytes s → IsAccepted s → 1 ≤ imageSize (nodesOf s)
 some-cell s b acc =
     let o = object (nodesOf s) (λ tag k e. us-in-small s b tag k (root (nodesOf s)) e) (acc .sound) in
-    let m : 1 * 1 ≤ o .g .rows * o .g .columns = mul-le-mul {n₁ = 1} {m₁ = 1} {n₂ = o .g .rows} {m₂ = o .g .columns} (o .rows-low) (o .columns-low) in
+    let m : 1 * 1
+    ≤ o .g .rows * o .g .columns = mul-le-mul {n₁ = 1} {m₁ = 1} {n₂ = o .g .rows} {m₂ = o .g .columns} (o .rows-low) (o .columns-low) in
     omega (arith, m, geometry-size (nodesOf s) (o .g) (o .geometry))
 
 module _ (s : List ℕ) (bytes : Bytes s) (a b : ℕ) (acc : IsAccepted s) (r : Range s a b) where
@@ -221,20 +245,27 @@ module _ (s : List ℕ) (bytes : Bytes s) (a b : ℕ) (acc : IsAccepted s) (r : 
 
   some : 1 ≤ (b - a + 1) * imageSize (nodesOf s)
   some =
-      let m : 1 * 1 ≤ (b - a + 1) * imageSize (nodesOf s) = mul-le-mul {n₁ = 1} {m₁ = 1} {n₂ = b - a + 1} {m₂ = imageSize (nodesOf s)} (omega arith) (some-cell s bytes acc) in
+      let m : 1 * 1 ≤ (b - a + 1) * imageSize (nodesOf s) = mul-le-mul {n₁ = 1} {m₁ = 1} {n₂ = b - a + 1} {m₂ = imageSize (nodesOf s)}
+      (omega arith) (some-cell s bytes acc) in
       omega (arith, m)
 
   all-consistent : Consistent (framesSheet (nodesOf s) a b) (b - a + 1) (imageSize (nodesOf s))
   unfolding framesSheet
   all-consistent =
-      consistent (levelsOf (nodesOf s) a (b - a + 1)) (nativesOf (nodesOf s) a (b - a + 1)) (b - a + 1) (imageSize (nodesOf s)) (all-cells .levels) (all-cells .size)
+      consistent (levelsOf (nodesOf s) a (b - a + 1)) (nativesOf (nodesOf s) a (b - a + 1)) (b - a + 1) (imageSize (nodesOf s))
+      (all-cells .levels) (all-cells .size)
       (omega (arith, all-cells .size, some)) (natives-few (nodesOf s) a (b - a + 1))
 
   handed : (buffer : List ℕ) → width * length (rowsOf s) ≤ length buffer → HandsBack s a b buffer
   handed buffer room =
       let is : sheetOf s a b buffer .answer ≡ answer.Done (length (rowsOf s)) = answered s a b buffer acc r room in
       let sheet : sheetOf s a b buffer .sheet ≡ framesSheet (nodesOf s) a b = sheet-is s a b buffer ∙ ap (sheetFor (nodesOf s) a b) is in
-      record { rows = ap (λ (x : SheetAnswer). fieldsOf x .rows) is; of-pictures = sheet; pictures = whole; consistent = subst (λ (x : Numbers). Consistent x (b - a + 1) (imageSize (nodesOf s))) (sym sheet) all-consistent }
+      record {
+        rows = ap (λ (x : SheetAnswer). fieldsOf x .rows) is;
+        of-pictures = sheet;
+        pictures = whole;
+        consistent = subst (λ (x : Numbers). Consistent x (b - a + 1) (imageSize (nodesOf s))) (sym sheet) all-consistent;
+      }
 
 pub sampling : Sampling
 sampling s bytes a b buffer =

@@ -32,14 +32,21 @@ windows-same a b p q r =
     let by : Function → Window = λ x. record { center = b .center; width = b .width; function = x } in
     ap center p ∙ (ap wide q ∙ ap by r)
 
-pub room-for : (s : List ℕ) (n f : ℕ) (h : IsObject s n) (low : 1 ≤ f) (high : f ≤ n) (c : Scene) (q : IsScene (nodesOf s) c) (counts : List ℕ) → Room counts (imageSize (nodesOf s)) → Room counts (samplesOf (c .g))
+pub room-for : (s : List ℕ) (n f : ℕ) (h : IsObject s n) (low : 1 ≤ f) (high : f ≤ n) (c : Scene) (q : IsScene (nodesOf s) c)
+    (counts : List ℕ) → Room counts (imageSize (nodesOf s)) → Room counts (samplesOf (c .g))
 room-for s n f h low high c q counts r = subst (Room counts) (sym (based s n f h low high c q .size)) r
 
-module _ (s : List ℕ) (n f : ℕ) (h : IsObject s n) (low : 1 ≤ f) (high : f ≤ n) (c : Scene) (q : IsScene (nodesOf s) c) (p : Plan) (r : IsPlan (nodesOf s) f (c .g .stored) p) where
+module _ (s : List ℕ) (n f : ℕ) (h : IsObject s n) (low : 1 ≤ f) (high : f ≤ n) (c : Scene) (q : IsScene (nodesOf s) c) (p : Plan)
+    (r : IsPlan (nodesOf s) f (c .g .stored) p) where
   pub picture : (t : Shades) → t .window ≡ p .window → t .inverse ≡ c .inverse
-      → Drawn (nodesOf s) f (isMasked (p .masking)) (shadeBy (nodesOf s) (shadesOf t (c .g .stored)) (c .g) (valueAt (nodesOf s) (c .p)) f (p .masking)) (samplesOf (c .g))
+      → Drawn (nodesOf s) f (isMasked (p .masking))
+      (shadeBy (nodesOf s) (shadesOf t (c .g .stored)) (c .g) (valueAt (nodesOf s) (c .p)) f (p .masking)) (samplesOf (c .g))
   picture t same-window same-inverse =
-      drawn (nodesOf s) f n (c .g) (valueAt (nodesOf s) (c .p)) (t .window) (t .inverse) (q .geometry) (pixels-are s n f h low high c q .is) (based s n f h low high c q .inside) (r .window-is ∙ ap some (sym same-window)) (subst Drawable (sym same-window) (r .drawable)) (q .inverse-is ∙ ap some (sym same-inverse)) (based s n f h low high c q .each) (based s n f h low high c q .shape .stored-some) (shadesOf t (c .g .stored)) (ideal-filled t (c .g .stored) (based s n f h low high c q .shape .stored-most)) (p .masking) (r .masking-is) (all s n f h low high c q .mask) (picture-size s n f h low high c q)
+      drawn (nodesOf s) f n (c .g) (valueAt (nodesOf s) (c .p)) (t .window) (t .inverse) (q .geometry) (pixels-are s n f h low high c q .is)
+      (based s n f h low high c q .inside) (r .window-is ∙ ap some (sym same-window)) (subst Drawable (sym same-window) (r .drawable))
+      (q .inverse-is ∙ ap some (sym same-inverse)) (based s n f h low high c q .each) (based s n f h low high c q .shape .stored-some)
+      (shadesOf t (c .g .stored)) (ideal-filled t (c .g .stored) (based s n f h low high c q .shape .stored-most)) (p .masking)
+      (r .masking-is) (all s n f h low high c q .mask) (picture-size s n f h low high c q)
 
 -- Step 2 lacks nothing at any of its frames.
 pub answering : (s : List ℕ) (n : ℕ) → IsObject s n → Answering (nodesOf s) n

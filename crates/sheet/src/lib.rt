@@ -123,7 +123,11 @@ fn count_whole(
     line: &mut [u8],
     counts: [u64; 256],
 ) -> [u64; 256]
-    requires { ⌜ FrameReady (now pixels) g frame (now line) × (MaskedBy (now pixels) g (now masks) down right × (Shaded shades (g .stored) (now table) × ((shades .filled ≡ true) × ((down % 4 ≡ 0) × ((right % 4 ≡ 0) × ((longestRow ≤ length (now sums)) × Room counts (samplesOf g))))))) ⌝ }
+    requires { ⌜ FrameReady (now pixels) g frame (now line)
+        × (MaskedBy (now pixels) g (now masks) down right
+        × (Shaded shades (g .stored) (now table)
+        × ((shades .filled ≡ true)
+        × ((down % 4 ≡ 0) × ((right % 4 ≡ 0) × ((longestRow ≤ length (now sums)) × Room counts (samplesOf g))))))) ⌝ }
     ensures { λ r. ⌜ r ≡ tallied (upTo (quarterShade (shadesOf shades (g .stored)) g (now (pixels .entry)) frame (usValues (now (masks .entry))) down right) (samplesOf g)) counts ⌝ }
 {
     let height = g.rows;
@@ -164,7 +168,12 @@ fn count_quarters(
     line: &mut [u8],
     counts: [u64; 256],
 ) -> [u64; 256]
-    requires { ⌜ FrameReady (now pixels) g frame (now line) × (MaskedBy (now pixels) g (now masks) down right × (Shaded shades (g .stored) (now table) × ((longestRow ≤ length (now upper)) × ((longestRow ≤ length (now lower)) × (Averaged (now pixels) g (usValues (now masks)) (shifted (down / 4) (g .rows) 0) (now lower) × Room counts (samplesOf g)))))) ⌝ }
+    requires { ⌜ FrameReady (now pixels) g frame (now line)
+        × (MaskedBy (now pixels) g (now masks) down right
+        × (Shaded shades (g .stored) (now table)
+        × ((longestRow ≤ length (now upper))
+        × ((longestRow ≤ length (now lower))
+        × (Averaged (now pixels) g (usValues (now masks)) (shifted (down / 4) (g .rows) 0) (now lower) × Room counts (samplesOf g)))))) ⌝ }
     ensures { λ r. ⌜ r ≡ tallied (upTo (quarterShade (shadesOf shades (g .stored)) g (now (pixels .entry)) frame (usValues (now (masks .entry))) down right) (samplesOf g)) counts ⌝ }
 {
     let height = g.rows;
@@ -206,7 +215,10 @@ fn count_blended(
     line: &mut [u8],
     counts: [u64; 256],
 ) -> [u64; 256]
-    requires { ⌜ FrameReady (now pixels) g frame (now line) × (MaskedBy (now pixels) g (now masks) down right × (Shaded shades (g .stored) (now table) × ((longestRow ≤ length (now upper)) × ((longestRow ≤ length (now lower)) × Room counts (samplesOf g))))) ⌝ }
+    requires { ⌜ FrameReady (now pixels) g frame (now line)
+        × (MaskedBy (now pixels) g (now masks) down right
+        × (Shaded shades (g .stored) (now table)
+        × ((longestRow ≤ length (now upper)) × ((longestRow ≤ length (now lower)) × Room counts (samplesOf g))))) ⌝ }
     ensures { λ r. ⌜ r ≡ tallied (upTo (quarterShade (shadesOf shades (g .stored)) g (now (pixels .entry)) frame (usValues (now (masks .entry))) down right) (samplesOf g)) counts ⌝ }
 {
     pixel::average_row(
@@ -248,7 +260,10 @@ fn count_masked(
     line: &mut [u8],
     counts: [u64; 256],
 ) -> [u64; 256]
-    requires { ⌜ FrameReady (now pixels) g frame (now line) × (MaskedBy (now pixels) g (now masks) down right × (Shaded shades (g .stored) (now table) × ((longestRow ≤ length (now upper)) × ((longestRow ≤ length (now lower)) × Room counts (samplesOf g))))) ⌝ }
+    requires { ⌜ FrameReady (now pixels) g frame (now line)
+        × (MaskedBy (now pixels) g (now masks) down right
+        × (Shaded shades (g .stored) (now table)
+        × ((longestRow ≤ length (now upper)) × ((longestRow ≤ length (now lower)) × Room counts (samplesOf g))))) ⌝ }
     ensures { λ r. ⌜ r ≡ tallied (upTo (quarterShade (shadesOf shades (g .stored)) g (now (pixels .entry)) frame (usValues (now (masks .entry))) down right) (samplesOf g)) counts ⌝ }
 {
     if shades.filled {
@@ -300,7 +315,10 @@ fn count_moved(
     line: &mut [u8],
     counts: [u64; 256],
 ) -> [u64; 256]
-    requires { ⌜ FrameReady (now pixels) g frame (now line) × (Masks (now pixels) g (now masks) × (ShortMoves moves × (Shaded shades (g .stored) (now table) × ((longestRow ≤ length (now upper)) × ((longestRow ≤ length (now lower)) × Room counts (samplesOf g)))))) ⌝ }
+    requires { ⌜ FrameReady (now pixels) g frame (now line)
+        × (Masks (now pixels) g (now masks)
+        × (ShortMoves moves × (Shaded shades (g .stored) (now table)
+        × ((longestRow ≤ length (now upper)) × ((longestRow ≤ length (now lower)) × Room counts (samplesOf g)))))) ⌝ }
     ensures { λ r. ⌜ r ≡ tallied (upTo (maskedShade (shadesOf shades (g .stored)) g (now (pixels .entry)) frame (usValues (now (masks .entry))) moves) (samplesOf g)) counts ⌝ }
 {
     let vertical = moves.vertical;
@@ -327,7 +345,9 @@ fn count_moved(
 
 // What the mask item that applies says, as it was written down.
 fn told_here(bytes: &[u8], rows: &[u32], applies: Applying, keys: &[u32], answers: &[u32]) -> Told
-    requires { ⌜ Table (now bytes) (now rows) × (ApplyingBelow (length (nodesOf (now bytes))) applies × ((16 ≤ length (now keys)) × ((16 ≤ length (now answers)) × Known (nodesOf (now bytes)) (now keys) (now answers)))) ⌝ }
+    requires { ⌜ Table (now bytes) (now rows)
+        × (ApplyingBelow (length (nodesOf (now bytes))) applies
+        × ((16 ≤ length (now keys)) × ((16 ≤ length (now answers)) × Known (nodesOf (now bytes)) (now keys) (now answers)))) ⌝ }
     ensures { λ r. ⌜ ToldBy (nodesOf (now (bytes .entry))) applies r ⌝ }
 {
     let Applying::Item(j) = applies else {
@@ -348,7 +368,11 @@ fn plan_at(
     keys: &[u32],
     answers: &[u32],
 ) -> Plan
-    requires { ⌜ Table (now bytes) (now rows) × (IsObject (now bytes) n × (IsScene (nodesOf (now bytes)) c × (IsItem (nodesOf (now bytes)) frame item × ((1 ≤ frame) × ((frame ≤ n) × IsAhead (nodesOf (now bytes)) n (now which) (now keys) (now answers)))))) ⌝ }
+    requires { ⌜ Table (now bytes) (now rows)
+        × (IsObject (now bytes) n
+        × (IsScene (nodesOf (now bytes)) c
+        × (IsItem (nodesOf (now bytes)) frame item
+        × ((1 ≤ frame) × ((frame ≤ n) × IsAhead (nodesOf (now bytes)) n (now which) (now keys) (now answers)))))) ⌝ }
     ensures { λ r. ⌜ IsPlan (nodesOf (now (bytes .entry))) frame (c .g .stored) r ⌝ }
 {
     let applies = ranges::applying_at(which, frame);
@@ -358,12 +382,13 @@ fn plan_at(
 
 // The item of a frame, at a cursor that is stepped along the items with the frames.
 fn item_here(bytes: &[u8], rows: &[u32], items: Items, frame: usize) -> Num
-    requires { ⌜ Table (now bytes) (now rows) × (Along (nodesOf (now bytes)) (drop (frame - 1) (frameItems (nodesOf (now bytes)))) items × (1 ≤ frame)) ⌝ }
+    requires { ⌜ Table (now bytes) (now rows)
+        × (Along (nodesOf (now bytes)) (drop (frame - 1) (frameItems (nodesOf (now bytes)))) items × (1 ≤ frame)) ⌝ }
     ensures { λ r. ⌜ IsItem (nodesOf (now (bytes .entry))) frame r ⌝ }
 {
     let at = items.at;
     let end = items.end;
-    if at < end { Num::Is(at) } else { Num::Lacks }
+    if at < end { Num::Is(at) } else { Num::None }
 }
 
 // ---- The table of levels
@@ -375,14 +400,14 @@ fn same_signed(a: Signed, b: Signed) -> bool
         Signed::Plus(m) => match b {
             Signed::Plus(n) => m == n,
             Signed::Minus(_) => false,
-            Signed::Lacks => false,
+            Signed::None => false,
         },
         Signed::Minus(m) => match b {
             Signed::Plus(_) => false,
             Signed::Minus(n) => m == n,
-            Signed::Lacks => false,
+            Signed::None => false,
         },
-        Signed::Lacks => false,
+        Signed::None => false,
     }
 }
 
@@ -393,14 +418,14 @@ fn same_function(a: Function, b: Function) -> bool
         Function::Linear => match b {
             Function::Linear => true,
             Function::Exact => false,
-            Function::Lacks => false,
+            Function::Other => false,
         },
         Function::Exact => match b {
             Function::Linear => false,
             Function::Exact => true,
-            Function::Lacks => false,
+            Function::Other => false,
         },
-        Function::Lacks => false,
+        Function::Other => false,
     }
 }
 
@@ -466,7 +491,9 @@ fn shades_for(
     held: Held,
     table: &mut [u8],
 ) -> Held
-    requires { ⌜ Drawable window × ((1 ≤ stored) × ((stored ≤ 16) × ((length (now table) ≡ 131072) × ((cells ≤ 4294836225) × IsHeld stored inverse held (now table))))) ⌝ }
+    requires { ⌜ Drawable window
+        × ((1 ≤ stored) × ((stored ≤ 16)
+        × ((length (now table) ≡ 131072) × ((cells ≤ 4294836225) × IsHeld stored inverse held (now table))))) ⌝ }
     ensures { λ r. ⌜ (r .shades .window ≡ window) × IsHeld stored inverse r (now (table .exit)) ⌝ }
 {
     let last = held.shades;
@@ -499,7 +526,12 @@ fn count_frame(
     line: &mut [u8],
     counts: [u64; 256],
 ) -> [u64; 256]
-    requires { ⌜ Table (now bytes) (now rows) × (IsPixels (nodesOf (now bytes)) (c .p) × (FrameReady (valueAt (nodesOf (now bytes)) (c .p)) (c .g) frame (now line) × (MasksReady (nodesOf (now bytes)) (valueAt (nodesOf (now bytes)) (c .p)) (c .g) masking × (Shaded shades (c .g .stored) (now table) × ((longestRow ≤ length (now upper)) × ((longestRow ≤ length (now lower)) × Room counts (samplesOf (c .g)))))))) ⌝ }
+    requires { ⌜ Table (now bytes) (now rows)
+        × (IsPixels (nodesOf (now bytes)) (c .p)
+        × (FrameReady (valueAt (nodesOf (now bytes)) (c .p)) (c .g) frame (now line)
+        × (MasksReady (nodesOf (now bytes)) (valueAt (nodesOf (now bytes)) (c .p)) (c .g) masking
+        × (Shaded shades (c .g .stored) (now table)
+        × ((longestRow ≤ length (now upper)) × ((longestRow ≤ length (now lower)) × Room counts (samplesOf (c .g)))))))) ⌝ }
     ensures { λ r. ⌜ r ≡ tallied (upTo (shadeBy (nodesOf (now (bytes .entry))) (shadesOf shades (c .g .stored)) (c .g) (valueAt (nodesOf (now (bytes .entry))) (c .p)) frame masking) (samplesOf (c .g))) counts ⌝ }
 {
     let g = c.g;
@@ -575,8 +607,17 @@ fn count_picture(
     lower: &mut [u32],
     line: &mut [u8],
 ) -> Counted
-    requires { ⌜ Table (now bytes) (now rows) × (IsObject (now bytes) n × (IsScene (nodesOf (now bytes)) c × (IsPlan (nodesOf (now bytes)) frame (c .g .stored) own × ((1 ≤ frame) × ((frame ≤ n) × (Rooms (now table) (now upper) (now lower) (now line) × (IsHeld (c .g .stored) (c .inverse) (sofar .held) (now table) × ((sofar .natives < 65536) × Room (sofar .counts) (imageSize (nodesOf (now bytes))))))))))) ⌝ }
-    ensures { λ r. ⌜ (r .counts ≡ tallied (pictureOf (nodesOf (now (bytes .entry))) frame .samples) (sofar .counts)) × ((r .natives ≡ cond (pictureOf (nodesOf (now (bytes .entry))) frame .masked) 0 1 + sofar .natives) × IsHeld (c .g .stored) (c .inverse) (r .held) (now (table .exit))) ⌝ }
+    requires { ⌜ Table (now bytes) (now rows)
+        × (IsObject (now bytes) n
+        × (IsScene (nodesOf (now bytes)) c
+        × (IsPlan (nodesOf (now bytes)) frame (c .g .stored) own
+        × ((1 ≤ frame) × ((frame ≤ n)
+        × (Rooms (now table) (now upper) (now lower) (now line)
+        × (IsHeld (c .g .stored) (c .inverse) (sofar .held) (now table)
+        × ((sofar .natives < 65536) × Room (sofar .counts) (imageSize (nodesOf (now bytes))))))))))) ⌝ }
+    ensures { λ r. ⌜ (r .counts ≡ tallied (pictureOf (nodesOf (now (bytes .entry))) frame .samples) (sofar .counts))
+        × ((r .natives ≡ cond (pictureOf (nodesOf (now (bytes .entry))) frame .masked) 0 1 + sofar .natives)
+        × IsHeld (c .g .stored) (c .inverse) (r .held) (now (table .exit))) ⌝ }
 {
     let g = c.g;
     let stored = g.stored;
@@ -646,8 +687,15 @@ fn count_frames(
     lower: &mut [u32],
     line: &mut [u8],
 ) -> Counted
-    requires { ⌜ Table (now bytes) (now rows) × (IsObject (now bytes) n × (IsScene (nodesOf (now bytes)) c × (Along (nodesOf (now bytes)) (drop (a - 1) (frameItems (nodesOf (now bytes)))) start × ((1 ≤ a) × ((a ≤ b) × ((b ≤ n) × (Rooms (now table) (now upper) (now lower) (now line) × IsAhead (nodesOf (now bytes)) n (now which) (now keys) (now answers)))))))) ⌝ }
-    ensures { λ r. ⌜ (r .counts ≡ countsOf (levelsOf (nodesOf (now (bytes .entry))) a (b + 1 - a))) × (r .natives ≡ nativesOf (nodesOf (now (bytes .entry))) a (b + 1 - a)) ⌝ }
+    requires { ⌜ Table (now bytes) (now rows)
+        × (IsObject (now bytes) n
+        × (IsScene (nodesOf (now bytes)) c
+        × (Along (nodesOf (now bytes)) (drop (a - 1) (frameItems (nodesOf (now bytes)))) start
+        × ((1 ≤ a) × ((a ≤ b)
+        × ((b ≤ n) × (Rooms (now table) (now upper) (now lower) (now line)
+        × IsAhead (nodesOf (now bytes)) n (now which) (now keys) (now answers)))))))) ⌝ }
+    ensures { λ r. ⌜ (r .counts ≡ countsOf (levelsOf (nodesOf (now (bytes .entry))) a (b + 1 - a)))
+        × (r .natives ≡ nativesOf (nodesOf (now (bytes .entry))) a (b + 1 - a)) ⌝ }
 {
     let mut items = start;
     let g = c.g;
@@ -689,8 +737,13 @@ fn count_all(
     lower: &mut [u32],
     line: &mut [u8],
 ) -> Counted
-    requires { ⌜ Table (now bytes) (now rows) × (IsObject (now bytes) n × (IsScene (nodesOf (now bytes)) c × (Along (nodesOf (now bytes)) (drop (a - 1) (frameItems (nodesOf (now bytes)))) start × ((1 ≤ a) × ((a ≤ b) × ((b ≤ n) × Rooms (now table) (now upper) (now lower) (now line))))))) ⌝ }
-    ensures { λ r. ⌜ (r .counts ≡ countsOf (levelsOf (nodesOf (now (bytes .entry))) a (b + 1 - a))) × (r .natives ≡ nativesOf (nodesOf (now (bytes .entry))) a (b + 1 - a)) ⌝ }
+    requires { ⌜ Table (now bytes) (now rows)
+        × (IsObject (now bytes) n
+        × (IsScene (nodesOf (now bytes)) c
+        × (Along (nodesOf (now bytes)) (drop (a - 1) (frameItems (nodesOf (now bytes)))) start
+        × ((1 ≤ a) × ((a ≤ b) × ((b ≤ n) × Rooms (now table) (now upper) (now lower) (now line))))))) ⌝ }
+    ensures { λ r. ⌜ (r .counts ≡ countsOf (levelsOf (nodesOf (now (bytes .entry))) a (b + 1 - a)))
+        × (r .natives ≡ nativesOf (nodesOf (now (bytes .entry))) a (b + 1 - a)) ⌝ }
 {
     let mut which: [u32; 65536] = [0; 65536];
     let mut keys: [u32; 16] = [0; 16];
@@ -825,7 +878,8 @@ fn refused(answer: SheetAnswer) -> Sampled
 
 // The sheet of frames of an accepted object with so many rows: codes 19 and 10, or the sheet.
 fn sheet_table(bytes: &[u8], rows: &[u32], first: usize, last: usize, count: usize) -> Sampled
-    requires { ⌜ Table (now bytes) (now rows) × (((i : ℕ) → getD (now bytes) i 0 < 256) × (findingOf (nodesOf (now bytes)) ≡ finding.Accepted)) ⌝ }
+    requires { ⌜ Table (now bytes) (now rows)
+        × (((i : ℕ) → getD (now bytes) i 0 < 256) × (findingOf (nodesOf (now bytes)) ≡ finding.Accepted)) ⌝ }
     ensures { λ r. ⌜ r ≡ withSheet (nodesOf (now (bytes .entry))) first last (acceptedAnswer (nodesOf (now (bytes .entry))) first last count) ⌝ }
 {
     if last < first {
@@ -873,7 +927,7 @@ fn last_frame(bytes: &[u8], rows: &[u32]) -> usize
 {
     match element::frame_count(bytes, rows) {
         Num::Is(n) => n,
-        Num::Lacks => 0,
+        Num::None => 0,
     }
 }
 

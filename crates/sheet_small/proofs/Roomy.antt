@@ -25,7 +25,8 @@ use Rattle.display.specs.Show.{isFrameOf}
 use Rattle.sheet.specs.declared.SheetAnswer.the-variants as answer
 use Rattle.sheet.specs.Answer.{acceptedAnswer, answerFor as sheetFor, withSheet, sheetOf, fieldsOf}
 
-pub roomy-sheet : (s : List ℕ) (a b : ℕ) (buffer : List ℕ) → 7 * length s ≤ 8 * length buffer → sheetOf s a b buffer ≡ sheetOf s a b (flat (rowsOf s))
+pub roomy-sheet : (s : List ℕ) (a b : ℕ) (buffer : List ℕ) → 7 * length s ≤ 8 * length buffer
+    → sheetOf s a b buffer ≡ sheetOf s a b (flat (rowsOf s))
 unfolding sheetOf
 roomy-sheet s a b buffer h = ap (λ (x : JudgeAnswer). withSheet (nodesOf s) a b (sheetFor (nodesOf s) a b x)) (roomy s buffer h)
 
@@ -45,15 +46,18 @@ module _ (ns : List Node) (a b : ℕ) where
   by-finding n finding.Accepted e = accepted-other ns a b n e
   by-finding n (finding.Broken rule frame) e = omega (arith, e)
 
-  by-room : (f : Finding) (n : ℕ) (t : Bool) → t ≡ true → fieldsOf (sheetFor ns a b (answerFor f (cond t (reads.Done n) reads.NoRoom))) .code ≡ 8 → ⊥
+  by-room : (f : Finding) (n : ℕ) (t : Bool) → t ≡ true
+      → fieldsOf (sheetFor ns a b (answerFor f (cond t (reads.Done n) reads.NoRoom))) .code ≡ 8 → ⊥
   by-room f n true h e = by-finding n f e
   by-room f n false h e = false-is-true h
 
-  by-reading : (o : Reading) (f : Finding) → Small (answerOf o (flat (rowsIn o))) → fieldsOf (sheetFor ns a b (answerFor f (answerOf o (flat (rowsIn o))))) .code ≡ 8 → ⊥
+  by-reading : (o : Reading) (f : Finding) → Small (answerOf o (flat (rowsIn o)))
+      → fieldsOf (sheetFor ns a b (answerFor f (answerOf o (flat (rowsIn o))))) .code ≡ 8 → ⊥
   by-reading tooLarge f w e = omega (arith, e)
   by-reading (refusedAt code offset) f w e = omega (arith, e, w .1 .0)
   by-reading (read rows) f w e =
-      by-room f (length rows) (leb (width * length rows) (length (flat rows))) (le-leb (width * length rows) (length (flat rows)) (omega (arith, length-flat rows))) e
+      by-room f (length rows) (leb (width * length rows) (length (flat rows)))
+      (le-leb (width * length rows) (length (flat rows)) (omega (arith, length-flat rows))) e
 
 pub never-eight : (s : List ℕ) (a b : ℕ) → fieldsOf (sheetOf s a b (flat (rowsOf s)) .answer) .code ≡ 8 → ⊥
 unfolding sheetOf judgeOf rowsOf

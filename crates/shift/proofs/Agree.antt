@@ -11,7 +11,7 @@ use lib.Ieee.{Float, nan, inf, fin, up, down}
 use lib.Ieee.Fits.{down-pos}
 use borrow.Author.Tests.{eqb-true, leb-true, le-leb}
 use Rattle.value.specs.declared.Signed.{Signed}
-use Rattle.value.specs.declared.Signed.the-variants.{Plus, Minus, Lacks}
+use Rattle.value.specs.declared.Signed.the-variants.{Plus, Minus, None}
 use Rattle.value.specs.Number.{isNumber}
 use Rattle.shift.specs.declared.Shift.{Shift}
 use Rattle.shift.specs.declared.Shift.the-variants as shift
@@ -60,8 +60,9 @@ whole-quarters nan h = refl
 whole-quarters (inf s) h = refl
 whole-quarters (fin s m e) h = go (eqb (m * up e % down e) 0) refl h
   where
-    go : (t : Bool) → eqb (m * up e % down e) 0 ≡ t → isNumber (cond t (signedSize s (m * up e / down e)) Lacks) ≡ true
-        → cond (eqb (m * up e * 4 % down e) 0) (signedSize s (m * up e * 4 / down e)) Lacks ≡ inQuarters (cond t (signedSize s (m * up e / down e)) Lacks)
+    go : (t : Bool) → eqb (m * up e % down e) 0 ≡ t → isNumber (cond t (signedSize s (m * up e / down e)) None) ≡ true
+        → cond (eqb (m * up e * 4 % down e) 0) (signedSize s (m * up e * 4 / down e)) None
+        ≡ inQuarters (cond t (signedSize s (m * up e / down e)) None)
     go true p h =
         let z : m * up e % down e ≡ 0 = eqb-true _ _ p in
         rw (left-none (m * up e) (down e) (down-pos e) z, quotient (m * up e) (down e) (down-pos e) z) (signed s (m * up e / down e))
@@ -70,7 +71,7 @@ whole-quarters (fin s m e) h = go (eqb (m * up e % down e) 0) refl h
 short-number : (w : Signed) → isShortWhole w ≡ true → isNumber w ≡ true
 short-number (Plus n) h = refl
 short-number (Minus n) h = refl
-short-number Lacks h = h
+short-number None h = h
 
 -- In quarters the limit is the same.
 same-limit : (n : ℕ) → leb (4 * n) 256 ≡ leb n 64
@@ -85,7 +86,7 @@ same-limit n = go (leb n 64) (leb (4 * n) 256) refl refl
 short-same : (w : Signed) → isShort (inQuarters w) ≡ isShortWhole w
 short-same (Plus n) = same-limit n
 short-same (Minus n) = same-limit n
-short-same Lacks = refl
+short-same None = refl
 
 short-quarters : (w : Signed) → isShortWhole w ≡ true → isShort (inQuarters w) ≡ true
 short-quarters w h = short-same w ∙ h
@@ -146,10 +147,11 @@ whole-both s h =
     rw (short-number (wholeMovesOf s .vertical) (p .0), short-number (wholeMovesOf s .horizontal) (p .1))
 
 -- Numbers in quarters are numbers.
-pub whole-numbers : (m : Moves) → isNumber (m .vertical) ≡ true → isNumber (m .horizontal) ≡ true → isNumber (inQuarters (m .vertical)) && isNumber (inQuarters (m .horizontal)) ≡ true
+pub whole-numbers : (m : Moves) → isNumber (m .vertical) ≡ true → isNumber (m .horizontal) ≡ true
+    → isNumber (inQuarters (m .vertical)) && isNumber (inQuarters (m .horizontal)) ≡ true
 whole-numbers m v h = rw (one (m .vertical) v, one (m .horizontal) h)
   where
     one : (w : Signed) → isNumber w ≡ true → isNumber (inQuarters w) ≡ true
     one (Plus n) e = e
     one (Minus n) e = e
-    one Lacks e = e
+    one None e = e

@@ -4,7 +4,9 @@
 use mathlib.Core.Path.{_≡_, refl, sym, ap, _∙_, subst}
 use mathlib.Core.Bool.{Bool, true, false, not, _&&_, _||_, cond, Bool·beq}
 use Prim.Native.Nat.{ℕ, zero, suc, _+_, _*_, _-_, _/_, _%_, _≤_, _<_, _^_}
-use native.Mathlib.Nat.{div-add-mod', mul-le-mul-right, div-le-of-le-mul, zero-div, eq-of-mul-eq-mul-right, le-of-mul-le-mul-right, mul-right-comm, mul-comm, mul-assoc, mul-one, zero-mul, mul-mod-left, mul-div-mul-right, min-eq-left, lt-trans, lt-irrefl, lt-of-lt-of-le}
+use native.Mathlib.Nat.{div-add-mod', mul-le-mul-right, div-le-of-le-mul, zero-div, eq-of-mul-eq-mul-right, le-of-mul-le-mul-right}
+use native.Mathlib.Nat.{mul-right-comm, mul-comm, mul-assoc, mul-one, zero-mul, mul-mod-left, mul-div-mul-right, min-eq-left, lt-trans}
+use native.Mathlib.Nat.{lt-irrefl, lt-of-lt-of-le}
 use native.Mathlib.Omega.{arith}
 use borrow.Author.Tests.{ltb-true, ltb-false, leb-true, leb-false, eqb-true, eqb-false, lt-ltb, le-ltb, le-leb, lt-leb, eq-eqb, ne-eqb}
 use lib.Dec.{T, ltb, leb, eqb, lt→ltb, lit<}
@@ -57,13 +59,13 @@ module _ (n d : ℕ) where
   quotient-some : 0 < n → n % d ≡ 0 → n / d ≡ 0 → ⊥
   quotient-some h p z = let k : 0 ≡ n = sym (zero-mul d) ∙ ap (λ (x : ℕ). x * d) (sym z) ∙ exact p in omega arith
 
-  fraction-high : (l : ℕ) → l * d < n → upTo l n d ≡ num.Lacks
+  fraction-high : (l : ℕ) → l * d < n → upTo l n d ≡ num.None
   fraction-high l h = go (leb (n / d) l) (eqb (n % d) 0) refl refl
     where
       clash : n % d ≡ 0 → n / d * d ≤ l * d → ⊥
       clash p q = omega (arith, exact p)
 
-      go : (p q : Bool) → leb (n / d) l ≡ p → eqb (n % d) 0 ≡ q → cond (p && q) (num.Is (n / d)) num.Lacks ≡ num.Lacks
+      go : (p q : Bool) → leb (n / d) l ≡ p → eqb (n % d) 0 ≡ q → cond (p && q) (num.Is (n / d)) num.None ≡ num.None
       go true true a b = absurd (clash (eqb-true _ _ b) (mul-le-mul-right d (leb-true _ _ a)))
       go true false a b = refl
       go false q a b = refl
@@ -89,7 +91,8 @@ fraction-same : (l a b c d : ℕ) → 0 < b → 0 < d → a * d ≡ c * b → up
 fraction-same l a b c d pb pd h = rw (quotients, tests)
   where
     quotients : a / b ≡ c / d
-    quotients = sym (mul-div-mul-right a b pd) ∙ ap (λ (x : ℕ). x / (b * d)) h ∙ ap (λ (x : ℕ). c * b / x) (mul-comm b d) ∙ mul-div-mul-right c d pb
+    quotients = sym (mul-div-mul-right a b pd) ∙ ap (λ (x : ℕ). x / (b * d)) h ∙ ap (λ (x : ℕ). c * b / x) (mul-comm b d)
+        ∙ mul-div-mul-right c d pb
 
     one-way : (a b c d : ℕ) → 0 < b → a * d ≡ c * b → a % b ≡ 0 → c % d ≡ 0
     one-way a b c d pb h z =
@@ -124,7 +127,7 @@ low (fin true m e) h k =
     let a : m * up e * 1 + 0 * down e ≤ 0 = ltb-false _ _ h in
     (omega arith, λ _. omega arith)
 
-pub high : (y : Float) → lt y (ofBits binary32 0) ≡ false → le y (ofBits binary32 0x42800000) ≡ false → shortSize y ≡ num.Lacks
+pub high : (y : Float) → lt y (ofBits binary32 0) ≡ false → le y (ofBits binary32 0x42800000) ≡ false → shortSize y ≡ num.None
 unfolding lt le eq ofBits shortSize
 high nan h k = refl
 high (inf s) h k = refl
@@ -162,7 +165,8 @@ cut-low (inf s) h = absurd h
 cut-low (fin s m e) h = rw (cut-is s m e h) (quotient-low (m * up e) (down e) 256 (h .0))
 
 -- A float b of the quotient equals the float where nothing was cut off.
-back-is : (b : Float) (s : Bool) (m : ℕ) (e : ℤ) → HasValue b false (m * up e / down e) 1 → Low 256 (fin s m e) → eq b (fin s m e) ≡ eqb (m * up e % down e) 0
+back-is : (b : Float) (s : Bool) (m : ℕ) (e : ℤ) → HasValue b false (m * up e / down e) 1 → Low 256 (fin s m e)
+    → eq b (fin s m e) ≡ eqb (m * up e % down e) 0
 unfolding eq
 back-is nan s m e v h = absurd v
 back-is (inf t) s m e v h = absurd v
@@ -181,30 +185,36 @@ back-is (fin false a d) s m e v h =
         ∙ ap (λ (x : ℕ). x * down e) (zero-mul (down d))
         ∙ zero-mul (down e)
 
-    signs : (s : Bool) → (s ≡ true → m * up e ≡ 0) → eqb (m * up e % down e) 0 && (Bool·beq false s || eqb (m * up e / down e * down d * down e) 0) ≡ eqb (m * up e % down e) 0
+    signs : (s : Bool) → (s ≡ true → m * up e ≡ 0)
+        → eqb (m * up e % down e) 0 && (Bool·beq false s || eqb (m * up e / down e * down d * down e) 0) ≡ eqb (m * up e % down e) 0
     signs false w = and-true (eqb (m * up e % down e) 0)
     signs true w = rw (eq-eqb _ 0 (none (w refl))) (and-true (eqb (m * up e % down e) 0))
 
 -- The whole number that a float up to 256 is.
 abbrev pub wholeUp : Float → Num
-wholeUp nan = num.Lacks
-wholeUp (inf s) = num.Lacks
+wholeUp nan = num.None
+wholeUp (inf s) = num.None
 wholeUp (fin s m e) = upTo 256 (m * up e) (down e)
 
-whole-is : (z : Float) → Low 256 z → wholeUp z ≡ cond (eq (ofInt binary32 (pos (toUnsigned 64 z))) z) (num.Is (toUnsigned 64 z)) num.Lacks
+whole-is : (z : Float) → Low 256 z → wholeUp z ≡ cond (eq (ofInt binary32 (pos (toUnsigned 64 z))) z) (num.Is (toUnsigned 64 z)) num.None
 unfolding ofInt
 whole-is nan h = absurd h
 whole-is (inf s) h = absurd h
 whole-is (fin s m e) h =
     let q : m * up e / down e ≤ 256 = quotient-low (m * up e) (down e) 256 (h .0) in
-    rw (cut-is s m e h, le-leb (m * up e / down e) 256 q, back-is (ofInt binary32 (pos (m * up e / down e))) s m e (round-whole binary32 false (m * up e / down e) (omega arith)) h)
+    rw (
+      cut-is s m e h,
+      le-leb (m * up e / down e) 256 q,
+      back-is (ofInt binary32 (pos (m * up e / down e))) s m e (round-whole binary32 false (m * up e / down e) (omega arith)) h,
+    )
 
 -- ---- Four times a float is exact
 
 -- Four times m * 2^e, in units of 2^-149, is m * 2^j.
 module _ (s : Bool) (m : ℕ) (few : m < 16777216) where
   exact-up : (k : ℕ) → m * 2 ^ k ≤ 64 * 1 → HasValue (round binary32 s (m * 2 ^ k * 4) (1 * 1)) s (m * 2 ^ k * 4) (1 * 1)
-  exact-up k h = round-exact binary32 s (m * 2 ^ k * 4) 1 m (k + 151) (lit< tt) few (subst (λ (x : ℕ). x < 2 ^ 277) (sym big-is) room) (level (m * 2 ^ k) (m * 2 ^ (k + 151)) big-is)
+  exact-up k h = round-exact binary32 s (m * 2 ^ k * 4) 1 m (k + 151) (lit< tt) few (subst (λ (x : ℕ). x < 2 ^ 277) (sym big-is) room)
+      (level (m * 2 ^ k) (m * 2 ^ (k + 151)) big-is)
     where
       big-is : m * 2 ^ (k + 151) ≡ m * 2 ^ k * 2 ^ 151
       big-is = ap (λ (x : ℕ). m * x) (pow-add 2 k 151) ∙ sym (mul-assoc m (2 ^ k) (2 ^ 151))
@@ -219,7 +229,8 @@ module _ (s : Bool) (m : ℕ) (few : m < 16777216) where
       level x y h = mul-assoc x 4 (2 ^ 149) ∙ sym h ∙ sym (mul-one y)
 
   exact-down : (k : ℕ) → suc k ≤ 149 → HasValue (round binary32 s (m * 1 * 4) (2 ^ suc k * 1)) s (m * 1 * 4) (2 ^ suc k * 1)
-  exact-down k h = round-exact binary32 s (m * 1 * 4) (2 ^ suc k * 1) m (151 - suc k) some few (lt-trans (shl-lt 24 (151 - suc k) few) (pow-lt below)) (level m _ big-is)
+  exact-down k h = round-exact binary32 s (m * 1 * 4) (2 ^ suc k * 1) m (151 - suc k) some few
+      (lt-trans (shl-lt 24 (151 - suc k) few) (pow-lt below)) (level m _ big-is)
     where
       some : 0 < 2 ^ suc k * 1
       some = omega (arith, pow-pos (suc k))
@@ -231,7 +242,8 @@ module _ (s : Bool) (m : ℕ) (few : m < 16777216) where
       back = omega arith
 
       big-is : m * 2 ^ (151 - suc k) * (2 ^ suc k * 1) ≡ m * 2 ^ 151
-      big-is = ap (λ (x : ℕ). m * 2 ^ (151 - suc k) * x) (mul-one (2 ^ suc k)) ∙ mul-assoc m (2 ^ (151 - suc k)) (2 ^ suc k) ∙ ap (λ (x : ℕ). m * x) (sym (pow-add 2 (151 - suc k) (suc k)) ∙ ap (λ (x : ℕ). 2 ^ x) back)
+      big-is = ap (λ (x : ℕ). m * 2 ^ (151 - suc k) * x) (mul-one (2 ^ suc k)) ∙ mul-assoc m (2 ^ (151 - suc k)) (2 ^ suc k)
+          ∙ ap (λ (x : ℕ). m * x) (sym (pow-add 2 (151 - suc k) (suc k)) ∙ ap (λ (x : ℕ). 2 ^ x) back)
 
       level : (x y : ℕ) → y ≡ x * 2 ^ 151 → x * 1 * 4 * 2 ^ 149 ≡ y
       level x y h = ap (λ (z : ℕ). z * 4 * 2 ^ 149) (mul-one x) ∙ mul-assoc x 4 (2 ^ 149) ∙ sym h
@@ -248,7 +260,8 @@ parts s m e f =
     let p = middle (eqb (suc m % 2) 1) (ltb (suc m) (2 ^ 24)) (leb (down e) (2 ^ 149)) (ltb (suc m * up e) (2 ^ 128 * down e)) f in
     (ltb-true _ _ (p .0), leb-true _ _ (p .1))
 
-four-exact : (s : Bool) (m : ℕ) (e : ℤ) → fits binary32 (fin s m e) ≡ true → m * up e ≤ 64 * down e → HasValue (round binary32 s (m * up e * 4) (down e * 1)) s (m * up e * 4) (down e * 1)
+four-exact : (s : Bool) (m : ℕ) (e : ℤ) → fits binary32 (fin s m e) ≡ true → m * up e ≤ 64 * down e
+    → HasValue (round binary32 s (m * up e * 4) (down e * 1)) s (m * up e * 4) (down e * 1)
 four-exact s zero e f h = round-exact binary32 s (0 * up e * 4) (down e * 1) 0 0 some (lit< tt) (lit< tt) none
   where
     some : 0 < down e * 1
@@ -263,7 +276,8 @@ four-exact s (suc m) (negsuc k) f h = exact-down s (suc m) (parts s m (negsuc k)
     go true e = leb-true _ _ e
     go false e = absurd (lt-irrefl _ (lt-of-lt-of-le (pow-lt (leb-false _ _ e)) (parts s m (negsuc k) f .1)))
 
-four-by : (z : Float) (s : Bool) (n d : ℕ) → 0 < d → n ≤ 64 * d → (s ≡ true → n ≡ 0) → HasValue z s (n * 4) (d * 1) → Low 256 z × (wholeUp z ≡ upTo 256 (n * 4) d)
+four-by : (z : Float) (s : Bool) (n d : ℕ) → 0 < d → n ≤ 64 * d → (s ≡ true → n ≡ 0) → HasValue z s (n * 4) (d * 1)
+    → Low 256 z × (wholeUp z ≡ upTo 256 (n * 4) d)
 four-by nan s n d p h w v = absurd v
 four-by (inf t) s n d p h w v = absurd v
 four-by (fin t a e) s n d p h w v = ((small, sign), fraction-same 256 (a * up e) (down e) (n * 4) d (down-pos e) p value)
@@ -277,11 +291,13 @@ four-by (fin t a e) s n d p h w v = ((small, sign), fraction-same 256 (a * up e)
     small : a * up e ≤ 256 * down e
     small =
         le-of-mul-le-mul-right {m = a * up e} {n = 256 * down e} {k = d}
-        (subst (λ (x : ℕ). x ≤ 256 * down e * d) (sym value) (subst (λ (x : ℕ). n * 4 * down e ≤ x) (mul-right-comm 256 d (down e)) (mul-le-mul-right (down e) four-le)))
+        (subst (λ (x : ℕ). x ≤ 256 * down e * d) (sym value)
+        (subst (λ (x : ℕ). n * 4 * down e ≤ x) (mul-right-comm 256 d (down e)) (mul-le-mul-right (down e) four-le)))
         p
 
     sign : t ≡ true → a * up e ≡ 0
-    sign q = eq-of-mul-eq-mul-right d p (a * up e) 0 (value ∙ ap (λ (x : ℕ). x * 4 * down e) (w (sym (v .0) ∙ q)) ∙ zero-mul (down e) ∙ sym (zero-mul d))
+    sign q = eq-of-mul-eq-mul-right d p (a * up e) 0
+        (value ∙ ap (λ (x : ℕ). x * 4 * down e) (w (sym (v .0) ∙ q)) ∙ zero-mul (down e) ∙ sym (zero-mul d))
 
 unlike-plus : (s : Bool) → not (Bool·beq s false) ≡ s
 unlike-plus true = refl
@@ -295,10 +311,13 @@ pub four-times : (y : Float) → fits binary32 y ≡ true → Low 64 y → Low 2
 unfolding mul ofBits shortSize
 four-times nan f h = absurd h
 four-times (inf s) f h = absurd h
-four-times (fin s m e) f h = four-by (round binary32 (not (Bool·beq s false)) (m * up e * 4) (down e * 1)) s (m * up e) (down e) (down-pos e) (h .0) (h .1) (subst (λ (t : Bool). HasValue (round binary32 t (m * up e * 4) (down e * 1)) s (m * up e * 4) (down e * 1)) (sym (unlike-plus s)) (four-exact s m e f (h .0)))
+four-times (fin s m e) f h = four-by (round binary32 (not (Bool·beq s false)) (m * up e * 4) (down e * 1)) s (m * up e) (down e)
+    (down-pos e) (h .0) (h .1) (subst (λ (t : Bool). HasValue (round binary32 t (m * up e * 4) (down e * 1)) s (m * up e * 4) (down e * 1))
+    (sym (unlike-plus s)) (four-exact s m e f (h .0)))
 
 -- The same of the code's numbers: z is four times y, n is what is left of it, b is n as a float, t the test.
-pub size-by : (y : Float) → fits binary32 y ≡ true → Low 64 y → (n : ℕ) (b : Float) (t : Bool) → n ≡ toUnsigned 64 (fourTimes y) → b ≡ ofInt binary32 (pos n) → eq b (fourTimes y) ≡ t → cond t (num.Is n) num.Lacks ≡ shortSize y
+pub size-by : (y : Float) → fits binary32 y ≡ true → Low 64 y → (n : ℕ) (b : Float) (t : Bool) → n ≡ toUnsigned 64 (fourTimes y)
+    → b ≡ ofInt binary32 (pos n) → eq b (fourTimes y) ≡ t → cond t (num.Is n) num.None ≡ shortSize y
 size-by y f h n b t e d g =
     let k = four-times y f h in
     sym (sym (k .1) ∙ whole-is (fourTimes y) (k .0) ∙ rw (← e, ← d, g))
@@ -318,10 +337,13 @@ neg-low (fin false m e) h =
     absurd (omega arith)
 
 -- A number w of quarters up to 64 is a size up to 64 with the sign that `sign` puts on.
-short-by : (sign : Num → Signed) (q : ℕ) → isShort (sign (num.Is q)) ≡ leb q largestMove → sign num.Lacks ≡ signed.Lacks → (p : Bool) (w : Signed) → (p ≡ true → w ≡ sign (num.Is q)) → cond (isShort (cond p w signed.Lacks)) (cond p w signed.Lacks) signed.Lacks ≡ sign (cond (leb q largestMove && p) (num.Is q) num.Lacks)
+short-by : (sign : Num → Signed) (q : ℕ) → isShort (sign (num.Is q)) ≡ leb q largestMove → sign num.None ≡ signed.None
+    → (p : Bool) (w : Signed) → (p ≡ true → w ≡ sign (num.Is q))
+    → cond (isShort (cond p w signed.None)) (cond p w signed.None) signed.None ≡ sign (cond (leb q largestMove && p) (num.Is q) num.None)
 short-by sign q short lacks p w is = go p (leb q largestMove) refl is
   where
-    go : (p t : Bool) → leb q largestMove ≡ t → (p ≡ true → w ≡ sign (num.Is q)) → cond (isShort (cond p w signed.Lacks)) (cond p w signed.Lacks) signed.Lacks ≡ sign (cond (t && p) (num.Is q) num.Lacks)
+    go : (p t : Bool) → leb q largestMove ≡ t → (p ≡ true → w ≡ sign (num.Is q))
+        → cond (isShort (cond p w signed.None)) (cond p w signed.None) signed.None ≡ sign (cond (t && p) (num.Is q) num.None)
     go true true e is = rw (is refl, short, e)
     go true false e is = rw (is refl, short, e) (sym lacks)
     go false true e is = sym lacks
@@ -331,7 +353,8 @@ pub short-plus : (x : Float) → lt x (ofBits binary32 0) ≡ false → shortOf 
 unfolding lt ofBits quartersOf shortOf shortSize
 short-plus nan h = refl
 short-plus (inf s) h = refl
-short-plus (fin false m e) h = short-by plus (m * up e * 4 / down e) refl refl (eqb (m * up e * 4 % down e) 0) (signed.Plus (m * up e * 4 / down e)) (λ _. refl)
+short-plus (fin false m e) h = short-by plus (m * up e * 4 / down e) refl refl (eqb (m * up e * 4 % down e) 0)
+    (signed.Plus (m * up e * 4 / down e)) (λ _. refl)
 short-plus (fin true m e) h =
     let a : m * up e * 1 + 0 * down e ≤ 0 = ltb-false _ _ h in
     let z : m * up e * 4 / down e ≡ 0 = quotient-none (m * up e * 4) (down e) (omega arith) in
@@ -346,7 +369,8 @@ short-minus (fin false m e) h =
     absurd (omega arith)
 short-minus (fin true m e) h =
     let a : 0 < m * up e * 1 + 0 * down e = ltb-true _ _ h in
-    short-by minus (m * up e * 4 / down e) refl refl (eqb (m * up e * 4 % down e) 0) (signedSize true (m * up e * 4 / down e)) (λ p. some (m * up e * 4 / down e) (quotient-some (m * up e * 4) (down e) (omega arith) (eqb-true _ _ p)))
+    short-by minus (m * up e * 4 / down e) refl refl (eqb (m * up e * 4 % down e) 0) (signedSize true (m * up e * 4 / down e))
+    (λ p. some (m * up e * 4 / down e) (quotient-some (m * up e * 4) (down e) (omega arith) (eqb-true _ _ p)))
   where
     some : (q : ℕ) → (q ≡ 0 → ⊥) → signedSize true q ≡ signed.Minus q
     some zero f = absurd (f refl)

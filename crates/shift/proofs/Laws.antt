@@ -2,20 +2,18 @@
 use mathlib.Core.Path.{_≡_, refl, sym, ap, _∙_, subst}
 use mathlib.Core.Bool.{Bool, true, false, _&&_, cond}
 use mathlib.Core.List.{List}
-use Prim.Native.Nat.{ℕ, _<_}
-use native.Mathlib.Omega.{arith}
-use lib.Dec.{T, eqb, leb}
+use Prim.Native.Nat.{ℕ}
+use lib.Dec.{T, eqb}
 use lib.ListN.{length}
 use lib.Ieee.{Float}
-use borrow.Author.Tests.{eqb-true, eq-eqb, leb-true}
+use borrow.Author.Tests.{eqb-true}
 use Rattle.value.specs.declared.Signed.{Signed}
-use Rattle.value.specs.declared.Signed.the-variants.{Plus, Minus, Lacks}
+use Rattle.value.specs.declared.Signed.the-variants.{Plus, Minus, None}
 use Rattle.value.specs.Number.{isNumber}
-use Rattle.value.specs.Contracts.{SizeBelow}
 use Rattle.shift.specs.declared.Shift.{Shift}
 use Rattle.shift.specs.declared.Shift.the-variants as shift
-use Rattle.shift.specs.Shift.{floatAt, quartersOf, largestMove, isShort, shortOf, movesOf, shortMovesOf, isShiftOf, itemShift, frameShift, isShift, isFrameShift}
-use Rattle.shift.specs.Contracts.{ShortMoves}
+use Rattle.shift.specs.Shift.{floatAt, quartersOf, isShort, shortOf, movesOf, shortMovesOf, isShiftOf, itemShift, frameShift, isShift}
+use Rattle.shift.specs.Shift.{isFrameShift}
 
 both : (p q : Bool) → p && q ≡ true → (p ≡ true) × (q ≡ true)
 both true q h = (refl, h)
@@ -28,39 +26,20 @@ pub number-short : (x : Float) → isNumber (shortOf x) ≡ isShort (quartersOf 
 unfolding shortOf
 number-short x = go (quartersOf x)
   where
-    kept : (t : Bool) (w : Signed) → isNumber w ≡ true → isNumber (cond t w Lacks) ≡ t
+    kept : (t : Bool) (w : Signed) → isNumber w ≡ true → isNumber (cond t w None) ≡ t
     kept true w h = h
     kept false w h = refl
 
-    go : (w : Signed) → isNumber (cond (isShort w) w Lacks) ≡ isShort w
+    go : (w : Signed) → isNumber (cond (isShort w) w None) ≡ isShort w
     go (Plus n) = kept (isShort (Plus n)) (Plus n) refl
     go (Minus n) = kept (isShort (Minus n)) (Minus n) refl
-    go Lacks = refl
+    go None = refl
 
 pub short-is : (x : Float) → isShort (quartersOf x) ≡ true → quartersOf x ≡ shortOf x
 unfolding shortOf
 short-is x h = rw h
 
-pub short-below : (x : Float) → SizeBelow 257 (shortOf x)
-unfolding shortOf
-short-below x = go (quartersOf x)
-  where
-    kept : (n : ℕ) (w : Signed) (t : Bool) → leb n largestMove ≡ t → (n < 257 → SizeBelow 257 w) → SizeBelow 257 (cond t w Lacks)
-    kept n w true h k = k (omega (arith, leb-true n largestMove h))
-    kept n w false h k = tt
-
-    go : (w : Signed) → SizeBelow 257 (cond (isShort w) w Lacks)
-    go (Plus n) = kept n (Plus n) (leb n largestMove) refl (λ h. h)
-    go (Minus n) = kept n (Minus n) (leb n largestMove) refl (λ h. h)
-    go Lacks = tt
-
 -- ---- Two numbers
-
-pub short-moves-below : (s : Shift) → ShortMoves (shortMovesOf s)
-unfolding shortMovesOf
-short-moves-below shift.None = record { vertical = omega arith; horizontal = omega arith }
-short-moves-below (shift.Item v h) = record { vertical = short-below v; horizontal = short-below h }
-short-moves-below (shift.Frame v h) = record { vertical = short-below v; horizontal = short-below h }
 
 -- The code's test of a shift.
 pub shift-numbers : (s : Shift) → isShiftOf s ≡ isNumber (shortMovesOf s .vertical) && isNumber (shortMovesOf s .horizontal)
@@ -84,21 +63,15 @@ moves-short (shift.Frame v h) e = rw (short-is v (moves-both (shift.Frame v h) e
 -- ---- A value
 
 -- What says nothing of whose the numbers are is the same of the item's and of the frame's own.
-pub same-of : {A : Type 0} (f : Shift → A) → ((a b : Float) → f (shift.Item a b) ≡ f (shift.Frame a b)) → (v : List ℕ) → f (itemShift v) ≡ f (frameShift v)
+pub same-of : {A : Type 0} (f : Shift → A) → ((a b : Float) → f (shift.Item a b) ≡ f (shift.Frame a b)) → (v : List ℕ)
+    → f (itemShift v) ≡ f (frameShift v)
 unfolding itemShift frameShift
 same-of f same v = go (eqb (length v) 8)
   where
-    go : (t : Bool) → f (cond t (shift.Item (floatAt v 0) (floatAt v 4)) shift.None) ≡ f (cond t (shift.Frame (floatAt v 0) (floatAt v 4)) shift.None)
+    go : (t : Bool)
+        → f (cond t (shift.Item (floatAt v 0) (floatAt v 4)) shift.None) ≡ f (cond t (shift.Frame (floatAt v 0) (floatAt v 4)) shift.None)
     go true = same (floatAt v 0) (floatAt v 4)
     go false = refl
-
-pub same-moves : (v : List ℕ) → movesOf (itemShift v) ≡ movesOf (frameShift v)
-unfolding movesOf
-same-moves = same-of movesOf (λ a b. refl)
-
-pub same-short-moves : (v : List ℕ) → shortMovesOf (itemShift v) ≡ shortMovesOf (frameShift v)
-unfolding shortMovesOf
-same-short-moves = same-of shortMovesOf (λ a b. refl)
 
 pub same-test : (v : List ℕ) → isShiftOf (itemShift v) ≡ isShiftOf (frameShift v)
 unfolding isShiftOf movesOf
@@ -114,31 +87,9 @@ module _ (v : List ℕ) (is : isShift v ≡ true) where
   unfolding isShift
   shift-length = eqb-true _ _ (both (eqb (length v) 8) _ is .0)
 
-  pub shift-item : itemShift v ≡ shift.Item (floatAt v 0) (floatAt v 4)
-  unfolding itemShift
-  shift-item = rw (eq-eqb (length v) 8 shift-length)
-
-  pub shift-frame : frameShift v ≡ shift.Frame (floatAt v 0) (floatAt v 4)
-  unfolding frameShift
-  shift-frame = rw (eq-eqb (length v) 8 shift-length)
-
   pub item-is : isShiftOf (itemShift v) ≡ true
   unfolding isShift
   item-is = both (eqb (length v) 8) _ is .1
 
   pub frame-is : isShiftOf (frameShift v) ≡ true
   frame-is = sym (same-test v) ∙ item-is
-
-  pub vertical-short : isShort (quartersOf (floatAt v 0)) ≡ true
-  unfolding movesOf
-  vertical-short = moves-both (shift.Item (floatAt v 0) (floatAt v 4)) (rw shift-item at item-is) .0
-
-  pub horizontal-short : isShort (quartersOf (floatAt v 4)) ≡ true
-  unfolding movesOf
-  horizontal-short = moves-both (shift.Item (floatAt v 0) (floatAt v 4)) (rw shift-item at item-is) .1
-
-  pub item-moves : movesOf (itemShift v) ≡ shortMovesOf (itemShift v)
-  item-moves = moves-short (itemShift v) item-is
-
-  pub frame-moves : movesOf (frameShift v) ≡ shortMovesOf (frameShift v)
-  frame-moves = moves-short (frameShift v) frame-is

@@ -4,19 +4,19 @@ use mathlib.Core.Bool.{cond, _&&_}
 use lib.Dec.{eqb, leb}
 use lib.Ieee.{Float, nan, inf, fin, up, down}
 use Rattle.value.specs.declared.Num.{Num}
-use Rattle.value.specs.declared.Num.the-variants.{Is, Lacks}
+use Rattle.value.specs.declared.Num.the-variants.{Is, None}
 use Rattle.value.specs.Contracts.{SizeBelow}
 use Rattle.shift.specs.declared.Moves.{Moves}
 use Rattle.shift.specs.Shift.{shiftUnit, largestMove}
 
 -- The fraction n / d as a whole number up to l.
 abbrev pub upTo : ℕ → ℕ → ℕ → Num
-upTo l n d = cond (leb (n / d) l && eqb (n % d) 0) (Is (n / d)) Lacks
+upTo l n d = cond (leb (n / d) l && eqb (n % d) 0) (Is (n / d)) None
 
 -- The quarters of a float without its sign, where they are whole and it is up to 64.
 unfoldable pub shortSize : Float → Num
-shortSize nan = Lacks
-shortSize (inf s) = Lacks
+shortSize nan = None
+shortSize (inf s) = None
 shortSize (fin s m e) = upTo largestMove (m * up e * shiftUnit) (down e)
 
 -- The first size that no move has, in quarters.

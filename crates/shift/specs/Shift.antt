@@ -7,7 +7,7 @@ use lib.Dec.{eqb, leb}
 use lib.Ieee.{Float, nan, inf, fin, up, down, ofBits, binary32}
 use Rattle.basics.specs.Bytes.{le32}
 use Rattle.value.specs.declared.Signed.{Signed}
-use Rattle.value.specs.declared.Signed.the-variants.{Plus, Minus, Lacks}
+use Rattle.value.specs.declared.Signed.the-variants.{Plus, Minus, None}
 use Rattle.shift.specs.declared.Shift.{Shift}
 use Rattle.shift.specs.declared.Shift.the-variants as shift
 use Rattle.shift.specs.declared.Moves.{Moves}
@@ -29,10 +29,10 @@ shiftUnit = 4
 -- How many quarters a float is, of any size; NaN, the infinities and other fractions are none. The float `fin s m e` is
 -- m × 2^e, that is m × up e / down e, with the sign s.
 unfoldable pub quartersOf : Float → Signed
-quartersOf nan = Lacks
-quartersOf (inf s) = Lacks
+quartersOf nan = None
+quartersOf (inf s) = None
 quartersOf (fin s m e) =
-    cond (eqb (m * up e * shiftUnit % down e) 0) (signedSize s (m * up e * shiftUnit / down e)) Lacks
+    cond (eqb (m * up e * shiftUnit % down e) 0) (signedSize s (m * up e * shiftUnit / down e)) None
 
 -- The largest number that a shift may have, to either side (local rule); in quarters.
 abbrev pub largestShift : ℕ
@@ -44,11 +44,11 @@ largestMove = shiftUnit * largestShift
 abbrev pub isShort : Signed → Bool
 isShort (Plus n) = leb n largestMove
 isShort (Minus n) = leb n largestMove
-isShort Lacks = false
+isShort None = false
 
 -- Whole quarters from -64 to 64.
 unfoldable pub shortOf : Float → Signed
-shortOf x = cond (isShort (quartersOf x)) (quartersOf x) Lacks
+shortOf x = cond (isShort (quartersOf x)) (quartersOf x) None
 
 -- ---- No shift, the item's two numbers, or the frame's own two
 

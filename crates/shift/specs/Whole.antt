@@ -7,7 +7,7 @@ use lib.ListN.{length}
 use lib.Dec.{eqb, leb}
 use lib.Ieee.{Float, nan, inf, fin, up, down}
 use Rattle.value.specs.declared.Signed.{Signed}
-use Rattle.value.specs.declared.Signed.the-variants.{Plus, Minus, Lacks}
+use Rattle.value.specs.declared.Signed.the-variants.{Plus, Minus, None}
 use Rattle.shift.specs.declared.Shift.{Shift}
 use Rattle.shift.specs.declared.Shift.the-variants as shift
 use Rattle.shift.specs.declared.Moves.{Moves}
@@ -15,9 +15,9 @@ use Rattle.shift.specs.Shift.{shiftUnit, largestShift, signedSize, itemS
 
 -- The whole number that a float is, of any size; NaN, the infinities and fractions are none.
 unfoldable pub wholeFloat : Float → Signed
-wholeFloat nan = Lacks
-wholeFloat (inf s) = Lacks
-wholeFloat (fin s m e) = cond (eqb (m * up e % down e) 0) (signedSize s (m * up e / down e)) Lacks
+wholeFloat nan = None
+wholeFloat (inf s) = None
+wholeFloat (fin s m e) = cond (eqb (m * up e % down e) 0) (signedSize s (m * up e / down e)) None
 
 unfoldable pub wholeMovesOf : Shift → Moves
 wholeMovesOf shift.None = record { vertical = Plus 0; horizontal = Plus 0 }
@@ -28,7 +28,7 @@ wholeMovesOf (shift.Frame v h) = record { vertical = wholeFloat v; horizontal = 
 abbrev pub isShortWhole : Signed → Bool
 isShortWhole (Plus n) = leb n largestShift
 isShortWhole (Minus n) = leb n largestShift
-isShortWhole Lacks = false
+isShortWhole None = false
 
 unfoldable pub isWholeShiftOf : Shift → Bool
 isWholeShiftOf s = isShortWhole (wholeMovesOf s .vertical) && isShortWhole (wholeMovesOf s .horizontal)
@@ -41,7 +41,7 @@ isWholeShift v = eqb (length v) 8 && isWholeShiftOf (itemShift v)
 abbrev pub inQuarters : Signed → Signed
 inQuarters (Plus n) = Plus (shiftUnit * n)
 inQuarters (Minus n) = Minus (shiftUnit * n)
-inQuarters Lacks = Lacks
+inQuarters None = None
 
 abbrev pub movesInQuarters : Moves → Moves
 movesInQuarters m = record { vertical = inQuarters (m .vertical); horizontal = inQuarters (m .horizontal) }

@@ -67,10 +67,10 @@ fn short_size(y: f32) -> Num
         if back == z {
             Num::Is(n as usize)
         } else {
-            Num::Lacks
+            Num::None
         }
     } else {
-        Num::Lacks
+        Num::None
     }
 }
 
@@ -81,12 +81,12 @@ fn short_of(x: f32) -> Signed
     if x < 0.0 {
         match short_size(-x) {
             Num::Is(n) => Signed::Minus(n),
-            Num::Lacks => Signed::Lacks,
+            Num::None => Signed::None,
         }
     } else {
         match short_size(x) {
             Num::Is(n) => Signed::Plus(n),
-            Num::Lacks => Signed::Lacks,
+            Num::None => Signed::None,
         }
     }
 }
@@ -119,7 +119,7 @@ fn is_number(n: Signed) -> bool
     match n {
         Signed::Plus(_) => true,
         Signed::Minus(_) => true,
-        Signed::Lacks => false,
+        Signed::None => false,
     }
 }
 

@@ -52,7 +52,8 @@ drawn-count false u p m k n e = absurd (omega (arith, ap (λ (x : ShowAnswer). f
 drawn-accepted : (ns : List Node) (f : ℕ) (image : List ℕ) (a : JudgeAnswer) (n : ℕ) (m : Bool) → shown.Drawn n m ≡ answerFor ns f image a
     → judged.Accepted n ≡ a
 unfolding acceptedAnswer
-drawn-accepted ns f image (judged.Accepted k) n m e = ap judged.Accepted (drawn-count (isFrameOf ns f) (leb (imageSize ns) (length image)) (pictureOf ns f .masked) m k n e)
+drawn-accepted ns f image (judged.Accepted k) n m e = ap judged.Accepted
+    (drawn-count (isFrameOf ns f) (leb (imageSize ns) (length image)) (pictureOf ns f .masked) m k n e)
 drawn-accepted ns f image (judged.Broken k rule frame) n m e = absurd (omega (arith, ap (λ (x : ShowAnswer). fieldsOf x .code) e))
 drawn-accepted ns f image (judged.Refused code offset) n m e = let z : _≡_ {A = ℕ} 0 1 = cc in absurd (omega arith)
 drawn-accepted ns f image judged.TooLarge n m e = absurd (omega (arith, ap (λ (x : ShowAnswer). fieldsOf x .code) e))

@@ -24,7 +24,7 @@ pub fn number_of(n: Num) -> usize
 {
     match n {
         Num::Is(k) => k,
-        Num::Lacks => 0,
+        Num::None => 0,
     }
 }
 

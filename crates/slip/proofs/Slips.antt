@@ -20,7 +20,9 @@ use Rattle.basics.proofs.Tests.{false-is-true, and-both}
 use Rattle.verdict.proofs.Bounds.{Small, possible-small, possible-rows}
 use Rattle.slip.specs.declared.SlipAnswer.{SlipAnswer}
 use Rattle.slip.specs.declared.SlipAnswer.the-variants as read
-use Rattle.slip.specs.Slip.{mark, version, oldVersion, versionPlace, codePlace, rulePlace, framePlace, offsetPlace, rowsPlace, headSize, oldSize, slipSize, number, fieldBytes, slipWith, slipBy, slipOf, sameBytes, recorded, ifPossible, readSized, readVersion, readOf, slipBuffer}
+use Rattle.slip.specs.Slip.{mark, version, oldVersion, versionPlace, codePlace, rulePlace, framePlace, offsetPlace, rowsPlace}
+use Rattle.slip.specs.Slip.{headSize, oldSize, slipSize, number, fieldBytes, slipWith, slipBy, slipOf, sameBytes, recorded}
+use Rattle.slip.specs.Slip.{ifPossible, readSized, readVersion, readOf, slipBuffer}
 use Rattle.basics.specs.Bytes.{le}
 use Rattle.slip.specs.Version1.{oldSlipOf}
 use Rattle.slip.specs.Slips.{Bytes, Slips}
@@ -80,7 +82,8 @@ sized : (size : ℕ) (rows : RowCount) (s : List ℕ) (v : Verdict) → length s
 unfolding readSized ifPossible
 sized size rows s v l f h = rw (eq-eqb (length s) size l, f, h)
 
-as-new : (s : List ℕ) → number 2 s versionPlace ≡ version → readVersion (number 2 s versionPlace) s ≡ readSized slipSize (Known (number 4 s rowsPlace)) s
+as-new : (s : List ℕ) → number 2 s versionPlace ≡ version
+    → readVersion (number 2 s versionPlace) s ≡ readSized slipSize (Known (number 4 s rowsPlace)) s
 unfolding readVersion
 as-new s e = rw e
 
@@ -97,7 +100,8 @@ with-back v n h e =
     let r : number 4 s rowsPlace ≡ n = rows-back v n (omega (arith, possible-rows v n h e)) in
     begins s (omega arith) (mark-back version v (le 4 n))
     ∙ as-new s (version-back v (le 4 n))
-    ∙ sized slipSize (Known (number 4 s rowsPlace)) s v l (fields-back version v (possible-small v h) (le 4 n) (Known (number 4 s rowsPlace)) (e ∙ ap Known (sym r))) h
+    ∙ sized slipSize (Known (number 4 s rowsPlace)) s v l
+    (fields-back version v (possible-small v h) (le 4 n) (Known (number 4 s rowsPlace)) (e ∙ ap Known (sym r))) h
 
 -- A verdict that can be written is possible, and its row count is some number.
 read-back : (v : Verdict) → writable v ≡ true → readOf (slipOf v) ≡ read.Read v
@@ -186,7 +190,8 @@ unfolding readVersion
 read-possible s v e = go (eqb (number 2 s versionPlace) oldVersion) (eqb (number 2 s versionPlace) version) (begun s v e .on)
   where
     go : (a b : Bool)
-        → cond a (readSized oldSize NotKnown s) (cond b (readSized slipSize (Known (number 4 s rowsPlace)) s) (read.Refused 13)) ≡ read.Read v
+        → cond a (readSized oldSize NotKnown s) (cond b (readSized slipSize (Known (number 4 s rowsPlace)) s) (read.Refused 13))
+        ≡ read.Read v
         → possible v ≡ true
     go true b f = well oldSize NotKnown s v f .can
     go false true f = well slipSize (Known (number 4 s rowsPlace)) s v f .can
@@ -229,7 +234,13 @@ field-bytes : (s : List ℕ) (rows : RowCount) → Bytes s → take 3 s ≡ list
 unfolding fieldBytes
 field-bytes s rows b t m =
     let first : listing 3 s 0 ≡ mark = sym t ∙ equal-true (take 3 s) mark m in
-    rw (le-number s b 2 versionPlace, le-number s b 1 codePlace, le-number s b 1 rulePlace, le-number s b 2 framePlace, le-number s b 4 offsetPlace)
+    rw (
+      le-number s b 2 versionPlace,
+      le-number s b 1 codePlace,
+      le-number s b 1 rulePlace,
+      le-number s b 2 framePlace,
+      le-number s b 4 offsetPlace,
+    )
     (ap (λ (l : List ℕ). l ++ listing 10 s 3) first)
 
 write-back : (s : List ℕ) (v : Verdict) → Bytes s → readOf s ≡ read.Read v → number 2 s versionPlace ≡ version

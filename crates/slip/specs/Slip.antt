@@ -1,6 +1,6 @@
 -- Verdict slips (document 01, "A slip records a verdict"; document 02, Q-13): the bytes of a slip, and what reading and
 -- writing one answer. Slips of version 2 are written; those of versions 1 and 2 are read.
-use Prim.Native.Nat.{ℕ, zero, suc, _+_, _*_, _/_, _%_}
+use Prim.Native.Nat.{ℕ, zero, suc, _+_, _*_}
 use mathlib.Core.Bool.{Bool, true, false, cond, not, _&&_}
 use mathlib.Core.List.{List, [], _∷_, _++_}
 use mathlib.Core.Option.{Option, none, some}

@@ -29,7 +29,8 @@ not-above n p h k = not-by (leb p n) refl
     not-by true e = leb-true p n e
     not-by false e = absurd (k (omega (arith, leb-false p n e)))
 
-step : (b : Bool) (n t p rest : ℕ) → leb (suc n * suc n) t ≡ b → (p ≤ n → rest ≡ p) → p ≤ suc n → p * p ≤ t → t < (p + 1) * (p + 1) → cond b (suc n) rest ≡ p
+step : (b : Bool) (n t p rest : ℕ) → leb (suc n * suc n) t ≡ b → (p ≤ n → rest ≡ p) → p ≤ suc n → p * p ≤ t → t < (p + 1) * (p + 1)
+    → cond b (suc n) rest ≡ p
 step true n t p rest e go h low high =
     let a : suc n ≤ p = under t p (suc n) (leb-true (suc n * suc n) t e) high in omega arith
 step false n t p rest e go h low high =
@@ -62,7 +63,8 @@ largest-low zero t = omega arith
 largest-low (suc n) t = low-by (leb (suc n * suc n) t) n t (largestBy n t) refl (largest-low n t)
 
 -- What is below the square after n's is below the square after the answer's.
-high-by : (b : Bool) (n t rest : ℕ) → leb (suc n * suc n) t ≡ b → (t < (n + 1) * (n + 1) → t < (rest + 1) * (rest + 1)) → t < (suc n + 1) * (suc n + 1) → t < (cond b (suc n) rest + 1) * (cond b (suc n) rest + 1)
+high-by : (b : Bool) (n t rest : ℕ) → leb (suc n * suc n) t ≡ b → (t < (n + 1) * (n + 1) → t < (rest + 1) * (rest + 1))
+    → t < (suc n + 1) * (suc n + 1) → t < (cond b (suc n) rest + 1) * (cond b (suc n) rest + 1)
 high-by true n t rest e go h = h
 high-by false n t rest e go h = go (omega (arith, leb-false (suc n * suc n) t e))
 

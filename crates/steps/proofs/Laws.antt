@@ -11,7 +11,7 @@ use lib.Seq.{drop-cons, drop-length}
 use lib.Dec.{eqb, leb}
 use borrow.Author.Tests.{eq-eqb, ne-eqb, eqb-true, le-leb, lt-leb}
 use Rattle.value.specs.declared.Num.{Num}
-use Rattle.value.specs.declared.Num.the-variants.{Is, Lacks}
+use Rattle.value.specs.declared.Num.the-variants.{Is, None}
 use Rattle.value.specs.declared.Signed.{Signed}
 use Rattle.value.specs.declared.Signed.the-variants as signed
 use Rattle.value.specs.Number.{usValues, isNumber}
@@ -51,12 +51,12 @@ signed-said {r} {s} e = rw e (cases s)
     cases : (s : Signed) → signedOf s ≡ check (isNumber s) (some s)
     cases (signed.Plus n) = refl
     cases (signed.Minus n) = refl
-    cases signed.Lacks = refl
+    cases signed.None = refl
 
 -- ---- The item of a frame
 
 module _ (ns : List Node) (at end : ℕ) where
-  pub first-none : (n : ℕ) → end ≤ at → first (drop n (members ns at end)) ≡ Lacks
+  pub first-none : (n : ℕ) → end ≤ at → first (drop n (members ns at end)) ≡ None
   first-none zero h = rw (members-end ns at end h)
   first-none (suc n) h = rw (members-end ns at end h)
 
@@ -141,13 +141,13 @@ module _ (ns : List Node) (f at to : ℕ) where
 -- Where step 2 lacks nothing, it is the search among the mask items; and what that found is its answer.
 module _ (ns : List Node) (f : ℕ) where
   by-vr : (m : ℕ) (t : Bool) → (check t (firstHolding ns f (inside ns m)) ≡ none → ⊥)
-      → check t (firstHolding ns f (inside ns m)) ≡ firstHolding ns f (insideOf ns (cond t (Is m) Lacks))
+      → check t (firstHolding ns f (inside ns m)) ≡ firstHolding ns f (insideOf ns (cond t (Is m) None))
   by-vr m true h = refl
   by-vr m false h = absurd (h refl)
 
   on-items : (o : Num) → (onMask ns f o ≡ none → ⊥) → onMask ns f o ≡ firstHolding ns f (insideOf ns (andThen o (ofVr ns SQ)))
   unfolding firstHolding ofVr
-  on-items Lacks h = refl
+  on-items None h = refl
   on-items (Is m) h = by-vr m (eqb (nodeAt ns m .vr) SQ) h
 
   pub among-items : GivesItem ns f → applyingTo ns f ≡ firstHolding ns f (maskItems ns)
@@ -172,14 +172,15 @@ second false b e = let x : _≡_ {A = ℕ} 0 1 = cc in absurd (omega arith)
 -- A node that holds pairs holds whole ones.
 pub pairs-whole : (ns : List Node) (i : ℕ) → hasPairs ns i ≡ true → length (valueAt ns i) % 4 ≡ 0
 pairs-whole ns i e =
-    eqb-true (length (valueAt ns i) % 4) 0 (second (leb 4 (length (valueAt ns i))) (eqb (length (valueAt ns i) % 4) 0) (second (eqb (nodeAt ns i .vr) US) (leb 4 (length (valueAt ns i)) && eqb (length (valueAt ns i) % 4) 0) e))
+    eqb-true (length (valueAt ns i) % 4) 0 (second (leb 4 (length (valueAt ns i))) (eqb (length (valueAt ns i) % 4) 0)
+    (second (eqb (nodeAt ns i .vr) US) (leb 4 (length (valueAt ns i)) && eqb (length (valueAt ns i) % 4) 0) e))
 
 module _ (ns : List Node) (id at to : ℕ) where
-  pub naming-end : to ≤ at → naming ns id (members ns at to) ≡ some Lacks
+  pub naming-end : to ≤ at → naming ns id (members ns at to) ≡ some None
   unfolding naming
   naming-end h = rw (members-end ns at to h)
 
-  pub naming-lacks : at < to → idIn ns at ≡ Lacks → naming ns id (members ns at to) ≡ none
+  pub naming-lacks : at < to → idIn ns at ≡ None → naming ns id (members ns at to) ≡ none
   unfolding naming
   naming-lacks h q = rw (members-next ns at to h, q)
 
@@ -188,7 +189,8 @@ module _ (ns : List Node) (id at to : ℕ) where
     unfolding naming
     naming-here s = rw (members-next ns at to h, q, eq-eqb x id s)
 
-    pub naming-next : (next : ℕ) → next ≡ nextNode ns at → (x ≡ id → ⊥) → naming ns id (members ns at to) ≡ naming ns id (members ns next to)
+    pub naming-next : (next : ℕ) → next ≡ nextNode ns at → (x ≡ id → ⊥)
+        → naming ns id (members ns at to) ≡ naming ns id (members ns next to)
     unfolding naming
     naming-next next e s = rw (members-next ns at to h, q, ne-eqb x id s, e)
 

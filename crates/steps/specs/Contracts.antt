@@ -43,7 +43,7 @@ use Rattle.steps.specs.declared.Inverse.the-variants as inverse
 -- A number that may be absent.
 abbrev pub foundOf : Found → Option Num
 foundOf (found.At n) = some (num.Is n)
-foundOf found.Absent = some num.Lacks
+foundOf found.Absent = some num.None
 foundOf found.Lacks = none
 
 -- The number that was found is below n.
@@ -54,7 +54,7 @@ FoundBelow n found.Lacks = Unit {0}
 
 -- What the shared shift group names for mask item j.
 abbrev pub sharedNaming : List Node → ℕ → Option Num
-sharedNaming ns j = then (orShared ns Tags.FramePixelShiftSequence num.Lacks) (ownIn ns j)
+sharedNaming ns j = then (orShared ns Tags.FramePixelShiftSequence num.None) (ownIn ns j)
 
 -- An answer that says so.
 pub record IsShared (ns : List Node) (j : ℕ) (r : Found) : Type 0 where
@@ -100,17 +100,17 @@ ApplyingBelow n applying.Nothing = Unit {0}
 -- The value of the node that was found, and the frame numbers in it.
 abbrev pub valueIn : List Node → Num → Option (List ℕ)
 valueIn ns (num.Is k) = some (valueAt ns k)
-valueIn ns num.Lacks = none
+valueIn ns num.None = none
 
 abbrev pub framesIn : List Node → Num → Option (List ℕ)
 framesIn ns (num.Is k) = some (usValues (valueAt ns k))
-framesIn ns num.Lacks = none
+framesIn ns num.None = none
 
 -- A signed number.
 abbrev pub signedOf : Signed → Option Signed
 signedOf (signed.Plus n) = some (signed.Plus n)
 signedOf (signed.Minus n) = some (signed.Minus n)
-signedOf signed.Lacks = none
+signedOf signed.None = none
 
 abbrev pub shiftsOf : Shifts → Option Shift
 shiftsOf (shifts.Is s) = some s
@@ -138,7 +138,7 @@ windowedOf windowed.Lacks = none
 
 -- The window of a frame that has no VOI group of its own.
 abbrev pub sharedWindow : List Node → ℕ → Option Window
-sharedWindow ns stored = then (orShared ns Tags.FrameVOILUTSequence num.Lacks) (windowOn ns stored)
+sharedWindow ns stored = then (orShared ns Tags.FrameVOILUTSequence num.None) (windowOn ns stored)
 
 abbrev pub inverseSaid : Inverse → Option Bool
 inverseSaid inverse.Yes = some true

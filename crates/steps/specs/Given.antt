@@ -4,12 +4,12 @@ use mathlib.Core.Bool.{Bool, true, false}
 use mathlib.Core.List.{List, [], _∷_, _++_}
 use mathlib.Core.Option.{Option, none, some}
 use Rattle.value.specs.declared.Num.{Num}
-use Rattle.value.specs.declared.Num.the-variants.{Is, Lacks}
+use Rattle.value.specs.declared.Num.the-variants.{Is, None}
 
 module _ {A : Type 0} where
   -- Goes on with the number, where there is one.
   abbrev pub need : Num → (ℕ → Option A) → Option A
-  need Lacks go = none
+  need None go = none
   need (Is n) go = go n
 
   -- Goes on where the test holds.

@@ -29,7 +29,7 @@ use lib.Dec.{eqb, leb}
 use lib.IntN.{pos, _+ℤ_, _-ℤ_}
 use Rattle.basics.specs.Vr.{SQ, CS, DS, FL, OB, OW, SS, US}
 use Rattle.value.specs.declared.Num.{Num}
-use Rattle.value.specs.declared.Num.the-variants.{Is, Lacks}
+use Rattle.value.specs.declared.Num.the-variants.{Is, None}
 use Rattle.value.specs.declared.Signed.{Signed}
 use Rattle.value.specs.declared.Signed.the-variants as signed
 use Rattle.value.specs.Text.{ascii, valueOf, isSingle}
@@ -78,7 +78,7 @@ pixelsOf ns =
 -- A frame's functional group of the tag, or that it has none: item f is opened, and the shared item where item f has none.
 abbrev pub orShared : List Node → ℕ → Num → Option Num
 orShared ns tag (Is g) = some (Is g)
-orShared ns tag Lacks = need (sharedItem ns) (λ s. some (find ns tag (inside ns s)))
+orShared ns tag None = need (sharedItem ns) (λ s. some (find ns tag (inside ns s)))
 
 unfoldable pub groupFor : List Node → ℕ → ℕ → Option Num
 groupFor ns f tag = need (frameItem ns f) (λ i. orShared ns tag (find ns tag (inside ns i)))
@@ -91,7 +91,7 @@ inPairs f (a ∷ []) = false
 inPairs f (a ∷ b ∷ l) = (leb a f && leb f b) || inPairs f l
 
 abbrev pub rangeHas : List Node → ℕ → Num → Option Bool
-rangeHas ns f Lacks = some true
+rangeHas ns f None = some true
 rangeHas ns f (Is r) =
     check (eqb (nodeAt ns r .vr) US && (leb 4 (length (valueAt ns r)) && eqb (length (valueAt ns r) % 4) 0))
     (some (inPairs f (usValues (valueAt ns r))))
@@ -104,7 +104,7 @@ firstHolding ns f [] = some Nothing
 firstHolding ns f (j ∷ js) = then (rangeHolds ns f j) (λ h. cond h (some (Item j)) (firstHolding ns f js))
 
 abbrev pub onMask : List Node → ℕ → Num → Option Applying
-onMask ns f Lacks = some Nothing
+onMask ns f None = some Nothing
 onMask ns f (Is m) = check (eqb (nodeAt ns m .vr) SQ) (firstHolding ns f (inside ns m))
 
 unfoldable pub applyingTo : List Node → ℕ → Option Applying
@@ -118,7 +118,7 @@ averageFrames ns j =
     check (eqb (length (valueAt ns k) % 2) 0 && leb 1 (length (usValues (valueAt ns k)))) (some (usValues (valueAt ns k))))
 
 abbrev pub offsetAt : List Node → Num → Option Signed
-offsetAt ns Lacks = some (signed.Plus 1)
+offsetAt ns None = some (signed.Plus 1)
 offsetAt ns (Is k) = check (eqb (nodeAt ns k .vr) SS && isNumber (ssOf (valueAt ns k))) (some (ssOf (valueAt ns k)))
 
 unfoldable pub offsetOf : List Node → ℕ → Option Signed
@@ -128,33 +128,33 @@ offsetOf ns j = offsetAt ns (find ns Tags.TIDOffset (inside ns j))
 abbrev pub less : ℕ → Signed → ℕ
 less f (signed.Plus d) = f - d
 less f (signed.Minus d) = f + d
-less f signed.Lacks = 0
+less f signed.None = 0
 
 unfoldable pub tidFrame : List Node → ℕ → ℕ → Option Num
 tidFrame ns f j =
     then (offsetOf ns j) (λ d.
-    need (framesOf ns) (λ n. some (cond (leb 1 (less f d) && leb (less f d) n) (Is (less f d)) Lacks)))
+    need (framesOf ns) (λ n. some (cond (leb 1 (less f d) && leb (less f d) n) (Is (less f d)) None)))
 
 -- ---- Step 4. The shift: none, the item's two numbers, or the frame's own two where its group names the item's ID.
 
 -- The first item that names the ID, or that none does.
 unfoldable pub naming : List Node → ℕ → List ℕ → Option Num
-naming ns id [] = some Lacks
+naming ns id [] = some None
 naming ns id (k ∷ ks) = need (idIn ns k) (λ x. cond (eqb x id) (some (Is k)) (naming ns id ks))
 
 abbrev pub ownIn : List Node → ℕ → Num → Option Num
-ownIn ns j Lacks = some Lacks
+ownIn ns j None = some None
 ownIn ns j (Is g) =
     check (eqb (nodeAt ns g .vr) SQ && leb 1 (length (inside ns g))) (need (idIn ns j) (λ id. naming ns id (inside ns g)))
 
 -- The item's own two numbers.
 abbrev pub itemShiftAt : List Node → Num → Option Shift
-itemShiftAt ns Lacks = some shift.None
+itemShiftAt ns None = some shift.None
 itemShiftAt ns (Is k) = check (eqb (nodeAt ns k .vr) FL && eqb (length (valueAt ns k)) 8) (some (itemShift (valueAt ns k)))
 
 -- The frame's own win.
 abbrev pub shiftFrom : List Node → ℕ → Num → Option Shift
-shiftFrom ns j Lacks = itemShiftAt ns (find ns Tags.MaskSubPixelShift (inside ns j))
+shiftFrom ns j None = itemShiftAt ns (find ns Tags.MaskSubPixelShift (inside ns j))
 shiftFrom ns j (Is k) =
     need (findVr ns Tags.MaskSubPixelShift FL (inside ns k)) (λ x.
     check (eqb (length (valueAt ns x)) 8) (some (frameShift (valueAt ns x))))
@@ -175,7 +175,7 @@ pub data Mask : Type 0 where
   masked : List ℕ → Moves → Mask
 
 abbrev pub onTid : List Node → ℕ → ℕ → Num → Option Mask
-onTid ns f j Lacks = some native
+onTid ns f j None = some native
 onTid ns f j (Is k) = then (movesFor ns f j) (λ m. some (masked (k ∷ []) m))
 
 unfoldable pub maskBy : List Node → ℕ → ℕ → Option Mask
@@ -198,11 +198,16 @@ unfoldable pub windowIn : List Node → List ℕ → Option Window
 windowIn ns is =
     need (findVr ns Tags.WindowCenter DS is) (λ c.
     need (findVr ns Tags.WindowWidth DS is) (λ w.
-    check (isNumber (decimalOf (valueOf (valueAt ns c) 0)) && (isNumber (decimalOf (valueOf (valueAt ns w) 0)) && isFunction (functionIn ns is)))
-    (some (record { center = decimalOf (valueOf (valueAt ns c) 0); width = decimalOf (valueOf (valueAt ns w) 0); function = functionIn ns is }))))
+    check (isNumber (decimalOf (valueOf (valueAt ns c) 0))
+    && (isNumber (decimalOf (valueOf (valueAt ns w) 0)) && isFunction (functionIn ns is)))
+    (some (record {
+      center = decimalOf (valueOf (valueAt ns c) 0);
+      width = decimalOf (valueOf (valueAt ns w) 0);
+      function = functionIn ns is;
+    }))))
 
 abbrev pub windowOn : List Node → ℕ → Num → Option Window
-windowOn ns stored Lacks = some (fullWindow stored)
+windowOn ns stored None = some (fullWindow stored)
 windowOn ns stored (Is g) = need (theItem ns g) (λ j. windowIn ns (inside ns j))
 
 unfoldable pub windowFor : List Node → ℕ → ℕ → Option Window
@@ -230,7 +235,7 @@ maskedCell g v f ks m w inverse i =
     (cond (eqb (g .stored) 0)
     (levelHalf w (pos (sampleAt g v f i) -ℤ pos (blendedAt g v ks m i)))
     (levelOf w (pos (sampleAt g v f i) -ℤ pos (blendedAt g v ks m i) +ℤ pos (2 ^ (g .stored - 1))))))
-    Lacks
+    None
 
 -- Every one is a whole frame inside the pixel bytes.
 unfoldable pub areFrames : Geometry → List ℕ → List ℕ → Bool

@@ -16,8 +16,12 @@ ghost use Rattle.node.specs.Contracts.{Table};
 ghost use Rattle.element.specs.Tags.{FramePixelShiftSequence};
 ghost use Rattle.element.specs.Frames.{framesOf, frameItem};
 ghost use Rattle.steps.specs.Given.{need, check, then};
-ghost use Rattle.steps.specs.Steps.{orShared, groupFor, inPairs, rangeHas, rangeHolds, firstHolding, applyingTo, averageFrames, offsetAt, offsetOf, tidFrame, naming, ownIn, itemShiftAt, shiftFrom, shiftFor, geometryOf, pixelsOf, windowIn, windowOn, windowFor, inverseOf};
-ghost use Rattle.steps.specs.Contracts.{foundOf, FoundBelow, holdsOf, hasPairs, ifRead, GivesItem, ApplyingBelow, valueIn, framesIn, signedOf, shiftsOf, sizedOf, SizedSmall, windowedOf, inverseSaid, sharedNaming, sharedWindow, IsShared, operationOf, IsTold};
+ghost use Rattle.steps.specs.Steps.{orShared, groupFor, inPairs, rangeHas, rangeHolds, firstHolding, applyingTo, averageFrames};
+ghost use Rattle.steps.specs.Steps.{offsetAt, offsetOf, tidFrame, naming, ownIn, itemShiftAt, shiftFrom, shiftFor, geometryOf};
+ghost use Rattle.steps.specs.Steps.{pixelsOf, windowIn, windowOn, windowFor, inverseOf};
+ghost use Rattle.steps.specs.Contracts.{foundOf, FoundBelow, holdsOf, hasPairs, ifRead, GivesItem, ApplyingBelow, valueIn, framesIn};
+ghost use Rattle.steps.specs.Contracts.{signedOf, shiftsOf, sizedOf, SizedSmall, windowedOf, inverseSaid, sharedNaming, sharedWindow};
+ghost use Rattle.steps.specs.Contracts.{IsShared, operationOf, IsTold};
 use basics::vrs;
 use element::tags;
 use pixel::Geometry;
@@ -88,14 +92,14 @@ pub enum Inverse {
 
 // ---- Functional groups of a frame
 
-// The node of item f of the is-per-frame functional groups.
+// The node of item f of the per-frame functional groups.
 pub fn item_at(bytes: &[u8], rows: &[u32], frame: usize) -> Num
     requires { ⌜ Table (now bytes) (now rows) ⌝ }
     ensures { λ r. ⌜ r ≡ frameItem (nodesOf (now (bytes .entry))) frame ⌝ }
     ensures { λ r. ⌜ Below (length (nodesOf (now (bytes .entry)))) r ⌝ }
 {
     if frame < 1 {
-        return Num::Lacks;
+        return Num::None;
     }
     let items = element::frame_items(bytes, rows);
     let end = items.end;
@@ -106,22 +110,22 @@ pub fn item_at(bytes: &[u8], rows: &[u32], frame: usize) -> Num
             at = node::next(bytes, rows, at);
             k += 1;
         } else {
-            return Num::Lacks;
+            return Num::None;
         }
     }
-    if at < end { Num::Is(at) } else { Num::Lacks }
+    if at < end { Num::Is(at) } else { Num::None }
 }
 
 // The shared functional group of the tag.
 fn shared_group(bytes: &[u8], rows: &[u32], tag: usize) -> Found
     requires { ⌜ Table (now bytes) (now rows) ⌝ }
-    ensures { λ r. ⌜ foundOf r ≡ orShared (nodesOf (now (bytes .entry))) tag num.Lacks ⌝ }
+    ensures { λ r. ⌜ foundOf r ≡ orShared (nodesOf (now (bytes .entry))) tag num.None ⌝ }
     ensures { λ r. ⌜ FoundBelow (length (nodesOf (now (bytes .entry)))) r ⌝ }
 {
     match element::shared_item(bytes, rows) {
-        Num::Lacks => Found::Lacks,
+        Num::None => Found::Lacks,
         Num::Is(s) => match element::find_item(bytes, rows, s, tag) {
-            Num::Lacks => Found::Absent,
+            Num::None => Found::Absent,
             Num::Is(g) => Found::At(g),
         },
     }
@@ -129,14 +133,15 @@ fn shared_group(bytes: &[u8], rows: &[u32], tag: usize) -> Found
 
 // A frame's functional group of the tag: that in its item, else the shared one.
 pub fn group_for(bytes: &[u8], rows: &[u32], frame: usize, item: Num, tag: usize) -> Found
-    requires { ⌜ Table (now bytes) (now rows) × ((item ≡ frameItem (nodesOf (now bytes)) frame) × Below (length (nodesOf (now bytes))) item) ⌝ }
+    requires { ⌜ Table (now bytes) (now rows)
+        × ((item ≡ frameItem (nodesOf (now bytes)) frame) × Below (length (nodesOf (now bytes))) item) ⌝ }
     ensures { λ r. ⌜ foundOf r ≡ groupFor (nodesOf (now (bytes .entry))) frame tag ⌝ }
     ensures { λ r. ⌜ FoundBelow (length (nodesOf (now (bytes .entry)))) r ⌝ }
 {
     match item {
-        Num::Lacks => Found::Lacks,
+        Num::None => Found::Lacks,
         Num::Is(i) => match element::find_item(bytes, rows, i, tag) {
-            Num::Lacks => shared_group(bytes, rows, tag),
+            Num::None => shared_group(bytes, rows, tag),
             Num::Is(g) => Found::At(g),
         },
     }
@@ -208,7 +213,7 @@ pub fn range_holds(bytes: &[u8], rows: &[u32], frame: usize, j: usize) -> Holds
     ensures { λ r. ⌜ holdsOf r ≡ rangeHolds (nodesOf (now (bytes .entry))) frame j ⌝ }
 {
     match element::find_item(bytes, rows, j, tags::APPLICABLE_FRAME_RANGE) {
-        Num::Lacks => Holds::Yes,
+        Num::None => Holds::Yes,
         Num::Is(i) => range_at(bytes, rows, frame, i),
     }
 }
@@ -276,13 +281,13 @@ pub fn average_element(bytes: &[u8], rows: &[u32], j: usize) -> Num
     ensures { λ r. ⌜ Below (length (nodesOf (now (bytes .entry)))) r ⌝ }
 {
     match element::find_vr_item(bytes, rows, j, tags::MASK_FRAME_NUMBERS, vrs::US) {
-        Num::Lacks => Num::Lacks,
+        Num::None => Num::None,
         Num::Is(k) => {
             let n = node::value(bytes, rows, k).len();
             if n % 2 == 0 {
-                if 2 <= n { Num::Is(k) } else { Num::Lacks }
+                if 2 <= n { Num::Is(k) } else { Num::None }
             } else {
-                Num::Lacks
+                Num::None
             }
         }
     }
@@ -297,7 +302,7 @@ fn offset_at(bytes: &[u8], rows: &[u32], k: usize) -> Signed
     if node::vr(bytes, rows, k) == vrs::SS {
         value::ss_of(node::value(bytes, rows, k))
     } else {
-        Signed::Lacks
+        Signed::None
     }
 }
 
@@ -308,17 +313,17 @@ fn offset_of(bytes: &[u8], rows: &[u32], j: usize) -> Signed
     ensures { λ r. ⌜ SizeBelow 32769 r ⌝ }
 {
     match element::find_item(bytes, rows, j, tags::TID_OFFSET) {
-        Num::Lacks => Signed::Plus(1),
+        Num::None => Signed::Plus(1),
         Num::Is(k) => offset_at(bytes, rows, k),
     }
 }
 
 // A number x, where it is one of the frames; `frames` says how many there are.
 fn among_frames(x: usize, frames: Num) -> Found
-    ensures { λ r. ⌜ foundOf r ≡ need frames (λ n. some (cond (leb 1 x && leb x n) (num.Is x) num.Lacks)) ⌝ }
+    ensures { λ r. ⌜ foundOf r ≡ need frames (λ n. some (cond (leb 1 x && leb x n) (num.Is x) num.None)) ⌝ }
 {
     match frames {
-        Num::Lacks => Found::Lacks,
+        Num::None => Found::Lacks,
         Num::Is(n) => {
             if 1 <= x {
                 if x <= n { Found::At(x) } else { Found::Absent }
@@ -338,13 +343,14 @@ fn less(a: usize, b: usize) -> usize
 
 // The mask frame that a TID mask item gives a frame; `frames` is Number of Frames.
 pub fn tid_frame(bytes: &[u8], rows: &[u32], frame: usize, j: usize, frames: Num) -> Found
-    requires { ⌜ Table (now bytes) (now rows) × ((j < length (nodesOf (now bytes))) × ((frame < 4294967296) × (frames ≡ framesOf (nodesOf (now bytes))))) ⌝ }
+    requires { ⌜ Table (now bytes) (now rows)
+        × ((j < length (nodesOf (now bytes))) × ((frame < 4294967296) × (frames ≡ framesOf (nodesOf (now bytes))))) ⌝ }
     ensures { λ r. ⌜ foundOf r ≡ tidFrame (nodesOf (now (bytes .entry))) frame j ⌝ }
 {
     match offset_of(bytes, rows, j) {
         Signed::Plus(d) => among_frames(less(frame, d), frames),
         Signed::Minus(d) => among_frames(frame + d, frames),
-        Signed::Lacks => Found::Lacks,
+        Signed::None => Found::Lacks,
     }
 }
 
@@ -359,7 +365,7 @@ fn naming(bytes: &[u8], rows: &[u32], id: usize, from: usize, to: usize) -> Foun
     let mut at = from;
     while at < to {
         match element::us_item(bytes, rows, at, tags::SUBTRACTION_ITEM_ID) {
-            Num::Lacks => {
+            Num::None => {
                 return Found::Lacks;
             }
             Num::Is(x) => {
@@ -385,7 +391,7 @@ fn own_in(bytes: &[u8], rows: &[u32], j: usize, g: usize) -> Found
         let to = node::next(bytes, rows, g);
         if from < to {
             match element::us_item(bytes, rows, j, tags::SUBTRACTION_ITEM_ID) {
-                Num::Lacks => Found::Lacks,
+                Num::None => Found::Lacks,
                 Num::Is(id) => naming(bytes, rows, id, from, to),
             }
         } else {
@@ -429,10 +435,10 @@ fn item_shift_at(bytes: &[u8], rows: &[u32], k: usize) -> Shifts
 // The shift of mask item j itself.
 fn item_shift_in(bytes: &[u8], rows: &[u32], j: usize) -> Shifts
     requires { ⌜ Table (now bytes) (now rows) × (j < length (nodesOf (now bytes))) ⌝ }
-    ensures { λ r. ⌜ shiftsOf r ≡ shiftFrom (nodesOf (now (bytes .entry))) j num.Lacks ⌝ }
+    ensures { λ r. ⌜ shiftsOf r ≡ shiftFrom (nodesOf (now (bytes .entry))) j num.None ⌝ }
 {
     match element::find_item(bytes, rows, j, tags::MASK_SUB_PIXEL_SHIFT) {
-        Num::Lacks => Shifts::Is(Shift::None),
+        Num::None => Shifts::Is(Shift::None),
         Num::Is(k) => item_shift_at(bytes, rows, k),
     }
 }
@@ -443,7 +449,7 @@ fn frame_shift_in(bytes: &[u8], rows: &[u32], j: usize, k: usize) -> Shifts
     ensures { λ r. ⌜ shiftsOf r ≡ shiftFrom (nodesOf (now (bytes .entry))) j (num.Is k) ⌝ }
 {
     match element::find_vr_item(bytes, rows, k, tags::MASK_SUB_PIXEL_SHIFT, vrs::FL) {
-        Num::Lacks => Shifts::Lacks,
+        Num::None => Shifts::Lacks,
         Num::Is(x) => {
             let v = node::value(bytes, rows, x);
             if v.len() == 8 {
@@ -497,14 +503,17 @@ pub fn nothing_told() -> Told {
 
 // The item of a frame's shift group that names the ID of mask item j; `shared` is that of the shared one.
 fn naming_for(bytes: &[u8], rows: &[u32], frame: usize, item: Num, j: usize, shared: Found) -> Found
-    requires { ⌜ Table (now bytes) (now rows) × ((j < length (nodesOf (now bytes))) × ((item ≡ frameItem (nodesOf (now bytes)) frame) × (Below (length (nodesOf (now bytes))) item × IsShared (nodesOf (now bytes)) j shared))) ⌝ }
+    requires { ⌜ Table (now bytes) (now rows)
+        × ((j < length (nodesOf (now bytes)))
+        × ((item ≡ frameItem (nodesOf (now bytes)) frame)
+        × (Below (length (nodesOf (now bytes))) item × IsShared (nodesOf (now bytes)) j shared))) ⌝ }
     ensures { λ r. ⌜ foundOf r ≡ then (groupFor (nodesOf (now (bytes .entry))) frame FramePixelShiftSequence) (ownIn (nodesOf (now (bytes .entry))) j) ⌝ }
     ensures { λ r. ⌜ FoundBelow (length (nodesOf (now (bytes .entry)))) r ⌝ }
 {
     match item {
-        Num::Lacks => Found::Lacks,
+        Num::None => Found::Lacks,
         Num::Is(i) => match element::find_item(bytes, rows, i, tags::FRAME_PIXEL_SHIFT_SEQUENCE) {
-            Num::Lacks => shared,
+            Num::None => shared,
             Num::Is(g) => own_in(bytes, rows, j, g),
         },
     }
@@ -519,7 +528,10 @@ pub fn shift_by(
     j: usize,
     shared: Found,
 ) -> Shifts
-    requires { ⌜ Table (now bytes) (now rows) × ((j < length (nodesOf (now bytes))) × ((item ≡ frameItem (nodesOf (now bytes)) frame) × (Below (length (nodesOf (now bytes))) item × IsShared (nodesOf (now bytes)) j shared))) ⌝ }
+    requires { ⌜ Table (now bytes) (now rows)
+        × ((j < length (nodesOf (now bytes)))
+        × ((item ≡ frameItem (nodesOf (now bytes)) frame)
+        × (Below (length (nodesOf (now bytes))) item × IsShared (nodesOf (now bytes)) j shared))) ⌝ }
     ensures { λ r. ⌜ shiftsOf r ≡ shiftFor (nodesOf (now (bytes .entry))) frame j ⌝ }
 {
     let named = naming_for(bytes, rows, frame, item, j, shared);
@@ -528,7 +540,9 @@ pub fn shift_by(
 
 // The same, with what the shared shift group names worked out here.
 pub fn shift_for(bytes: &[u8], rows: &[u32], frame: usize, item: Num, j: usize) -> Shifts
-    requires { ⌜ Table (now bytes) (now rows) × ((j < length (nodesOf (now bytes))) × ((item ≡ frameItem (nodesOf (now bytes)) frame) × Below (length (nodesOf (now bytes))) item)) ⌝ }
+    requires { ⌜ Table (now bytes) (now rows)
+        × ((j < length (nodesOf (now bytes)))
+        × ((item ≡ frameItem (nodesOf (now bytes)) frame) × Below (length (nodesOf (now bytes))) item)) ⌝ }
     ensures { λ r. ⌜ shiftsOf r ≡ shiftFor (nodesOf (now (bytes .entry))) frame j ⌝ }
 {
     let shared = shared_naming(bytes, rows, j);
@@ -543,7 +557,7 @@ fn is_number(n: Signed) -> bool
     match n {
         Signed::Plus(_) => true,
         Signed::Minus(_) => true,
-        Signed::Lacks => false,
+        Signed::None => false,
     }
 }
 
@@ -599,7 +613,7 @@ fn window_at(bytes: &[u8], rows: &[u32], stored: usize, g: usize) -> Windowed
     ensures { λ r. ⌜ windowedOf r ≡ windowOn (nodesOf (now (bytes .entry))) stored (num.Is g) ⌝ }
 {
     match element::the_item(bytes, rows, g) {
-        Num::Lacks => Windowed::Lacks,
+        Num::None => Windowed::Lacks,
         Num::Is(j) => window_in(bytes, rows, j),
     }
 }
@@ -625,13 +639,15 @@ pub fn window_by(
     stored: usize,
     common: Windowed,
 ) -> Windowed
-    requires { ⌜ Table (now bytes) (now rows) × ((item ≡ frameItem (nodesOf (now bytes)) frame) × (Below (length (nodesOf (now bytes))) item × (windowedOf common ≡ sharedWindow (nodesOf (now bytes)) stored))) ⌝ }
+    requires { ⌜ Table (now bytes) (now rows)
+        × ((item ≡ frameItem (nodesOf (now bytes)) frame)
+        × (Below (length (nodesOf (now bytes))) item × (windowedOf common ≡ sharedWindow (nodesOf (now bytes)) stored))) ⌝ }
     ensures { λ r. ⌜ windowedOf r ≡ windowFor (nodesOf (now (bytes .entry))) frame stored ⌝ }
 {
     match item {
-        Num::Lacks => Windowed::Lacks,
+        Num::None => Windowed::Lacks,
         Num::Is(i) => match element::find_item(bytes, rows, i, tags::FRAME_VOI_LUT_SEQUENCE) {
-            Num::Lacks => common,
+            Num::None => common,
             Num::Is(g) => window_at(bytes, rows, stored, g),
         },
     }
@@ -639,7 +655,8 @@ pub fn window_by(
 
 // The same, with the window of the shared group worked out here.
 pub fn window_for(bytes: &[u8], rows: &[u32], frame: usize, item: Num, stored: usize) -> Windowed
-    requires { ⌜ Table (now bytes) (now rows) × ((item ≡ frameItem (nodesOf (now bytes)) frame) × (Below (length (nodesOf (now bytes))) item × (stored ≤ 16))) ⌝ }
+    requires { ⌜ Table (now bytes) (now rows)
+        × ((item ≡ frameItem (nodesOf (now bytes)) frame) × (Below (length (nodesOf (now bytes))) item × (stored ≤ 16))) ⌝ }
     ensures { λ r. ⌜ windowedOf r ≡ windowFor (nodesOf (now (bytes .entry))) frame stored ⌝ }
 {
     let common = shared_window(bytes, rows, stored);
@@ -672,7 +689,7 @@ pub fn inverse_of(bytes: &[u8], rows: &[u32]) -> Inverse
     ensures { λ r. ⌜ inverseSaid r ≡ inverseOf (nodesOf (now (bytes .entry))) ⌝ }
 {
     match element::find_vr_root(bytes, rows, tags::PHOTOMETRIC_INTERPRETATION, vrs::CS) {
-        Num::Lacks => Inverse::Lacks,
+        Num::None => Inverse::Lacks,
         Num::Is(i) => inverse_by(node::value(bytes, rows, i)),
     }
 }
@@ -729,17 +746,13 @@ pub fn pixel_element(bytes: &[u8], rows: &[u32]) -> Num
     ensures { λ r. ⌜ Below (length (nodesOf (now (bytes .entry)))) r ⌝ }
 {
     match element::find_root(bytes, rows, tags::PIXEL_DATA) {
-        Num::Lacks => Num::Lacks,
+        Num::None => Num::None,
         Num::Is(p) => {
             let vr = node::vr(bytes, rows, p);
             if vr == vrs::OW {
                 Num::Is(p)
             } else {
-                if vr == vrs::OB {
-                    Num::Is(p)
-                } else {
-                    Num::Lacks
-                }
+                if vr == vrs::OB { Num::Is(p) } else { Num::None }
             }
         }
     }

@@ -18,7 +18,7 @@ fn print_signed(n: Signed) {
     match n {
         Signed::Plus(k) => print_number(k),
         Signed::Minus(k) => print_minus(k),
-        Signed::Lacks => {
+        Signed::None => {
             io::write_all(1, b" other");
         }
     }
@@ -121,7 +121,7 @@ fn print_function(function: Function) {
         Function::Exact => {
             io::write_all(1, b" LINEAR_EXACT");
         }
-        Function::Lacks => {
+        Function::Other => {
             io::write_all(1, b" other");
         }
     }

@@ -34,7 +34,7 @@ pub fn print_pixels(bytes: &[u8], rows: &[u32], pixels: Num)
             io::write_all(1, b" pixels");
             answers::print_number(node::value(bytes, rows, p).len());
         }
-        Num::Lacks => {
+        Num::None => {
             io::write_all(1, b" pixels lacks");
         }
     }
@@ -108,7 +108,7 @@ fn print_masks(bytes: &[u8], rows: &[u32], masks: Num)
             io::write_all(1, b" masks");
             print_numbers(node::value(bytes, rows, k));
         }
-        Num::Lacks => {
+        Num::None => {
             io::write_all(1, b" masks lacks");
         }
     }
@@ -124,7 +124,9 @@ fn print_tid(bytes: &[u8], rows: &[u32], frame: usize, j: usize)
 
 // Step 4. It is not asked for frame 0, which no data set has: `frameItem` counts from 1, and gives the first item for 0 too.
 fn print_shift(bytes: &[u8], rows: &[u32], frame: usize, item: Num, j: usize)
-    requires { ⌜ Table (now bytes) (now rows) × ((j < length (nodesOf (now bytes))) × ((item ≡ frameItem (nodesOf (now bytes)) frame) × Below (length (nodesOf (now bytes))) item)) ⌝ }
+    requires { ⌜ Table (now bytes) (now rows)
+        × ((j < length (nodesOf (now bytes)))
+        × ((item ≡ frameItem (nodesOf (now bytes)) frame) × Below (length (nodesOf (now bytes))) item)) ⌝ }
 {
     if frame == 0 {
         io::write_all(1, b" shift -");
@@ -135,7 +137,9 @@ fn print_shift(bytes: &[u8], rows: &[u32], frame: usize, item: Num, j: usize)
 
 // Mask item j, which applies to the frame: its place among the mask items, its operation, and what steps 3 and 4 give.
 fn print_item(bytes: &[u8], rows: &[u32], frame: usize, item: Num, j: usize)
-    requires { ⌜ Table (now bytes) (now rows) × ((j < length (nodesOf (now bytes))) × ((item ≡ frameItem (nodesOf (now bytes)) frame) × (Below (length (nodesOf (now bytes))) item × (frame < 5)))) ⌝ }
+    requires { ⌜ Table (now bytes) (now rows)
+        × ((j < length (nodesOf (now bytes)))
+        × ((item ≡ frameItem (nodesOf (now bytes)) frame) × (Below (length (nodesOf (now bytes))) item × (frame < 5)))) ⌝ }
 {
     let items = element::mask_items(bytes, rows);
     io::write_all(1, b" item");
@@ -169,7 +173,7 @@ fn applying_to(bytes: &[u8], rows: &[u32], frame: usize) -> Applies
     ensures { λ r. ⌜ AppliesBelow (length (nodesOf (now (bytes .entry)))) r ⌝ }
 {
     match element::find_root(bytes, rows, tags::MASK_SUBTRACTION_SEQUENCE) {
-        Num::Lacks => Applies::Nothing,
+        Num::None => Applies::Nothing,
         Num::Is(m) => {
             if node::vr(bytes, rows, m) == vrs::SQ {
                 let found = steps::first_holding(
@@ -189,7 +193,8 @@ fn applying_to(bytes: &[u8], rows: &[u32], frame: usize) -> Applies
 
 // Steps 2 to 4.
 fn print_mask(bytes: &[u8], rows: &[u32], frame: usize, item: Num)
-    requires { ⌜ Table (now bytes) (now rows) × ((item ≡ frameItem (nodesOf (now bytes)) frame) × (Below (length (nodesOf (now bytes))) item × (frame < 5))) ⌝ }
+    requires { ⌜ Table (now bytes) (now rows)
+        × ((item ≡ frameItem (nodesOf (now bytes)) frame) × (Below (length (nodesOf (now bytes))) item × (frame < 5))) ⌝ }
 {
     match applying_to(bytes, rows, frame) {
         Applies::Item(j) => print_item(bytes, rows, frame, item, j),
@@ -204,7 +209,8 @@ fn print_mask(bytes: &[u8], rows: &[u32], frame: usize, item: Num)
 
 // Step 6, likewise. The library gives windows for at most 16 bits stored.
 fn print_window(bytes: &[u8], rows: &[u32], size: Sized, frame: usize, item: Num)
-    requires { ⌜ Table (now bytes) (now rows) × (SizedSmall size × ((item ≡ frameItem (nodesOf (now bytes)) frame) × Below (length (nodesOf (now bytes))) item)) ⌝ }
+    requires { ⌜ Table (now bytes) (now rows)
+        × (SizedSmall size × ((item ≡ frameItem (nodesOf (now bytes)) frame) × Below (length (nodesOf (now bytes))) item)) ⌝ }
 {
     let Sized::Is(g) = size else {
         io::write_all(1, b" window -");

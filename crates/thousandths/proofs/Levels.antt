@@ -26,10 +26,20 @@ record Scaled (y z : ℤ) : Type 0 where
   pub thousand : Gap z (1000 * a) (1000 * b)
 
 of-plus : {x y u v : ℤ} → Scaled x y → Scaled u v → Scaled (x +ℤ u) (y +ℤ v)
-of-plus s t = record { a = s .a + t .a; b = s .b + t .b; one = plus (s .one) (t .one); thousand = shift (plus (s .thousand) (t .thousand)) _ _ (omega arith) }
+of-plus s t = record {
+  a = s .a + t .a;
+  b = s .b + t .b;
+  one = plus (s .one) (t .one);
+  thousand = shift (plus (s .thousand) (t .thousand)) _ _ (omega arith);
+}
 
 of-less : {x y u v : ℤ} → Scaled x y → Scaled u v → Scaled (x -ℤ u) (y -ℤ v)
-of-less s t = record { a = s .a + t .b; b = s .b + t .a; one = less (s .one) (t .one); thousand = shift (less (s .thousand) (t .thousand)) _ _ (omega arith) }
+of-less s t = record {
+  a = s .a + t .b;
+  b = s .b + t .a;
+  one = less (s .one) (t .one);
+  thousand = shift (less (s .thousand) (t .thousand)) _ _ (omega arith);
+}
 
 of-two : {x y : ℤ} → Scaled x y → Scaled (pos 2 *ℤ x) (pos 2 *ℤ y)
 of-two s = record { a = 2 * s .a; b = 2 * s .b; one = times 2 (s .one); thousand = shift (times 2 (s .thousand)) _ _ (omega arith) }
@@ -69,8 +79,10 @@ quotient : (n m d : ℕ) → m / 1000 ≡ n → m / (1000 * d) ≡ n / d
 quotient n m d e = sym (div-div-eq-div-mul m 1000 d) ∙ ap (λ (x : ℕ). x / d) e
 
 same-floor : {x y u v : ℤ} → Scaled x y → Scaled u v → floor y v ≡ floor x u
-same-floor {x = pos n} {y = y} {u = u} {v = v} s t = rw (scaled-pos n y s, scaled-size u v t) (ap pos (quotient n (1000 * n) (natAbs u) (omega arith)))
-same-floor {x = negsuc n} {y = y} {u = u} {v = v} s t = rw (scaled-neg n y s, scaled-size u v t) (ap negsuc (quotient n (1000 * n + 999) (natAbs u) (omega arith)))
+same-floor {x = pos n} {y = y} {u = u} {v = v} s t = rw (scaled-pos n y s, scaled-size u v t)
+    (ap pos (quotient n (1000 * n) (natAbs u) (omega arith)))
+same-floor {x = negsuc n} {y = y} {u = u} {v = v} s t = rw (scaled-neg n y s, scaled-size u v t)
+    (ap negsuc (quotient n (1000 * n + 999) (natAbs u) (omega arith)))
 
 -- ---- The level
 
@@ -86,16 +98,26 @@ level-scaled se sc sw st =
 scaled-off : (f : Function) → Scaled (pos (takenOff f)) (pos (window.takenOff f))
 scaled-off function.Linear = of-whole 1000
 scaled-off function.Exact = of-whole 0
-scaled-off function.Lacks = of-whole 1000
+scaled-off function.Other = of-whole 1000
 
 scaled-signed : (s : Signed) → Scaled (integer s) (integer (scaled s))
 scaled-signed (signed.Plus n) = of-whole n
 scaled-signed (signed.Minus zero) = of-whole 0
-scaled-signed (signed.Minus (suc n)) = record { a = 0; b = suc n; one = record { is = omega arith }; thousand = shift (signed-gap (signed.Minus (1000 * suc n))) 0 (1000 * suc n) (omega arith) }
-scaled-signed signed.Lacks = of-whole 0
+scaled-signed (signed.Minus (suc n)) = record {
+  a = 0;
+  b = suc n;
+  one = record { is = omega arith };
+  thousand = shift (signed-gap (signed.Minus (1000 * suc n))) 0 (1000 * suc n) (omega arith);
+}
+scaled-signed signed.None = of-whole 0
 
 scaled-place : (x : ℤ) → Scaled (pos 2000 *ℤ x) (pos 2000000 *ℤ x)
-scaled-place x = record { a = 2000 * over x; b = 2000 * under x; one = times 2000 (integer-gap x); thousand = shift (times 2000000 (integer-gap x)) _ _ (omega arith) }
+scaled-place x = record {
+  a = 2000 * over x;
+  b = 2000 * under x;
+  one = times 2000 (integer-gap x);
+  thousand = shift (times 2000000 (integer-gap x)) _ _ (omega arith);
+}
 
 -- The same window, in millionths.
 abbrev pub scaledWindow : Window → present.Window
@@ -116,4 +138,5 @@ pub same-full : (stored : ℕ) → window.fullWindow stored ≡ scaledWindow (fu
 unfolding window.fullWindow fullWindow
 same-full stored =
     ap (λ (n : ℕ). record { center = signed.Plus n; width = signed.Plus (1000000 * 2 ^ stored); function = function.Linear }) (omega arith)
-    ∙ ap (λ (n : ℕ). record { center = signed.Plus (1000 * (1000 * 2 ^ stored / 2)); width = signed.Plus n; function = function.Linear }) (omega arith)
+    ∙ ap (λ (n : ℕ). record { center = signed.Plus (1000 * (1000 * 2 ^ stored / 2)); width = signed.Plus n; function = function.Linear })
+    (omega arith)

@@ -30,23 +30,28 @@ differ : false ≡ true → ⊥
 differ e = let z : _≡_ {A = ℕ} 0 1 = cc in omega arith
 
 -- Where the digits ended before the limit, a larger limit reads the same.
-same-digits : (limit more n k : ℕ) (s : List ℕ) → stops (digitsOf limit n k s .rest) ≡ true → length s ≤ more → digitsOf more n k s ≡ digitsOf limit n k s
+same-digits : (limit more n k : ℕ) (s : List ℕ) → stops (digitsOf limit n k s .rest) ≡ true → length s ≤ more
+    → digitsOf more n k s ≡ digitsOf limit n k s
 unfolding digitsOf
 same-digits zero zero n k s e h = refl
 same-digits zero (suc more) n k [] e h = refl
 same-digits zero (suc more) n k (c ∷ s) e h = go (isDigit c) e
   where
-    go : (t : Bool) → not t ≡ true → cond t (digitsOf more (10 * n + (c - 0x30)) (k + 1) s) (record { number = n; count = k; rest = c ∷ s }) ≡ record { number = n; count = k; rest = c ∷ s }
+    go : (t : Bool) → not t ≡ true → cond t (digitsOf more (10 * n + (c - 0x30)) (k + 1) s) (record { number = n; count = k; rest = c ∷ s })
+        ≡ record { number = n; count = k; rest = c ∷ s }
     go true e = absurd (differ e)
     go false e = refl
 same-digits (suc limit) zero n k [] e h = refl
 same-digits (suc limit) (suc more) n k [] e h = refl
 same-digits (suc limit) zero n k (c ∷ s) e h = absurd (omega arith)
-same-digits (suc limit) (suc more) n k (c ∷ s) e h = go (isDigit c) (λ q. same-digits limit more (10 * n + (c - 0x30)) (k + 1) s q (omega arith)) e
+same-digits (suc limit) (suc more) n k (c ∷ s) e h = go (isDigit c)
+    (λ q. same-digits limit more (10 * n + (c - 0x30)) (k + 1) s q (omega arith)) e
   where
-    go : (t : Bool) → (stops (digitsOf limit (10 * n + (c - 0x30)) (k + 1) s .rest) ≡ true → digitsOf more (10 * n + (c - 0x30)) (k + 1) s ≡ digitsOf limit (10 * n + (c - 0x30)) (k + 1) s)
+    go : (t : Bool) → (stops (digitsOf limit (10 * n + (c - 0x30)) (k + 1) s .rest) ≡ true
+        → digitsOf more (10 * n + (c - 0x30)) (k + 1) s ≡ digitsOf limit (10 * n + (c - 0x30)) (k + 1) s)
         → stops (cond t (digitsOf limit (10 * n + (c - 0x30)) (k + 1) s) (record { number = n; count = k; rest = c ∷ s }) .rest) ≡ true
-        → cond t (digitsOf more (10 * n + (c - 0x30)) (k + 1) s) (record { number = n; count = k; rest = c ∷ s }) ≡ cond t (digitsOf limit (10 * n + (c - 0x30)) (k + 1) s) (record { number = n; count = k; rest = c ∷ s })
+        → cond t (digitsOf more (10 * n + (c - 0x30)) (k + 1) s) (record { number = n; count = k; rest = c ∷ s })
+        ≡ cond t (digitsOf limit (10 * n + (c - 0x30)) (k + 1) s) (record { number = n; count = k; rest = c ∷ s })
     go true f e = f e
     go false f e = refl
 
@@ -62,7 +67,8 @@ counted (suc limit) n k [] = record { all = refl; few = omega arith }
 counted (suc limit) n k (c ∷ s) = go (isDigit c) (counted limit (10 * n + (c - 0x30)) (k + 1) s)
   where
     go : (t : Bool) → Counted limit (10 * n + (c - 0x30)) (k + 1) s (digitsOf limit (10 * n + (c - 0x30)) (k + 1) s)
-        → Counted (suc limit) n k (c ∷ s) (cond t (digitsOf limit (10 * n + (c - 0x30)) (k + 1) s) (record { number = n; count = k; rest = c ∷ s }))
+        → Counted (suc limit) n k (c ∷ s)
+        (cond t (digitsOf limit (10 * n + (c - 0x30)) (k + 1) s) (record { number = n; count = k; rest = c ∷ s }))
     go true r = record { all = omega (arith, r .all); few = omega (arith, r .few) }
     go false r = record { all = refl; few = omega arith }
 
@@ -72,13 +78,13 @@ pub record Reads (s : List ℕ) (n : ℕ) : Type 0 where
   pub is : current.sizeOf s ≡ num.Is (1000 * n)
   pub short : length s ≤ 10
 
-lacks : (n : ℕ) → num.Lacks ≡ num.Is n → ⊥
+lacks : (n : ℕ) → num.None ≡ num.Is n → ⊥
 lacks n e = let z : _≡_ {A = ℕ} 0 1 = cc in omega arith
 
-chosen : (k m n : ℕ) → cond (eqb k 0) num.Lacks (num.Is m) ≡ num.Is n → (k ≡ 0 → ⊥) × (m ≡ n)
+chosen : (k m n : ℕ) → cond (eqb k 0) num.None (num.Is m) ≡ num.Is n → (k ≡ 0 → ⊥) × (m ≡ n)
 chosen k m n e = go (eqb k 0) refl e
   where
-    go : (t : Bool) → eqb k 0 ≡ t → cond t num.Lacks (num.Is m) ≡ num.Is n → (k ≡ 0 → ⊥) × (m ≡ n)
+    go : (t : Bool) → eqb k 0 ≡ t → cond t num.None (num.Is m) ≡ num.Is n → (k ≡ 0 → ⊥) × (m ≡ n)
     go true p e = absurd (lacks n e)
     go false p e = (eqb-false k 0 p, let q : m ≡ n = cc in q)
 
@@ -94,7 +100,8 @@ exact-is m after h b =
     ∙ ap ifSmall (powers m after h)
     ∙ within-is (1000 * (m * 10 ^ (3 - after))) (omega arith)
 
-end-is : (count m after : ℕ) → (count ≡ 0 → ⊥) → after ≤ 3 → m * 10 ^ (3 - after) < 1000000000 → endOf count m after [] ≡ num.Is (1000 * (m * 10 ^ (3 - after)))
+end-is : (count m after : ℕ) → (count ≡ 0 → ⊥) → after ≤ 3 → m * 10 ^ (3 - after) < 1000000000
+    → endOf count m after [] ≡ num.Is (1000 * (m * 10 ^ (3 - after)))
 unfolding endOf
 end-is count m after z h b = rw (ne-eqb count 0 z) (exact-is m after h b)
 
@@ -151,7 +158,8 @@ reads s n e = go (digitsOf 6 0 0 s .rest) refl e
     go (c ∷ t) r e = by-point (eqb c 0x2E) refl e
       where
         by-point : (b : Bool) → eqb c 0x2E ≡ b
-            → cond b (pointOn (digitsOf 6 0 0 s .count) (digitsOf 3 (digitsOf 6 0 0 s .number) 0 t) (digitsOf 3 (digitsOf 6 0 0 s .number) 0 t .rest)) num.Lacks ≡ num.Is n
+            → cond b (pointOn (digitsOf 6 0 0 s .count) (digitsOf 3 (digitsOf 6 0 0 s .number) 0 t)
+            (digitsOf 3 (digitsOf 6 0 0 s .number) 0 t .rest)) num.None ≡ num.Is n
             → Reads s n
         by-point false q e = absurd (lacks n e)
         by-point true q e =
@@ -175,24 +183,28 @@ record SignedReads (s : List ℕ) (old : Signed) : Type 0 where
   pub is : signedBy current.sizeOf s ≡ scaled old
   pub short : length s ≤ 11
 
-plus-reads : (s : List ℕ) (o : Num) → sizeOf s ≡ o → isNumber (plus o) ≡ true → (plus (current.sizeOf s) ≡ scaled (plus o)) × (length s ≤ 10)
+plus-reads : (s : List ℕ) (o : Num) → sizeOf s ≡ o → isNumber (plus o) ≡ true
+    → (plus (current.sizeOf s) ≡ scaled (plus o)) × (length s ≤ 10)
 plus-reads s (num.Is n) q e = let r = reads s n q in (ap plus (r .is), r .short)
-plus-reads s num.Lacks q e = absurd (differ e)
+plus-reads s num.None q e = absurd (differ e)
 
-minus-reads : (s : List ℕ) (o : Num) → sizeOf s ≡ o → isNumber (minus o) ≡ true → (minus (current.sizeOf s) ≡ scaled (minus o)) × (length s ≤ 10)
+minus-reads : (s : List ℕ) (o : Num) → sizeOf s ≡ o → isNumber (minus o) ≡ true
+    → (minus (current.sizeOf s) ≡ scaled (minus o)) × (length s ≤ 10)
 minus-reads s (num.Is n) q e = let r = reads s n q in (ap minus (r .is), r .short)
-minus-reads s num.Lacks q e = absurd (differ e)
+minus-reads s num.None q e = absurd (differ e)
 
 signed-reads : (s : List ℕ) → isNumber (signedBy sizeOf s) ≡ true → SignedReads s (signedBy sizeOf s)
 unfolding signedBy
 signed-reads [] e = let p = plus-reads [] (sizeOf []) refl e in record { is = p .0; short = omega arith }
 signed-reads (c ∷ s) e = go (eqb c 0x2B) (eqb c 0x2D) refl refl e
   where
-    go : (p m : Bool) → eqb c 0x2B ≡ p → eqb c 0x2D ≡ m → isNumber (cond p (plus (sizeOf s)) (cond m (minus (sizeOf s)) (plus (sizeOf (c ∷ s))))) ≡ true
+    go : (p m : Bool) → eqb c 0x2B ≡ p → eqb c 0x2D ≡ m
+        → isNumber (cond p (plus (sizeOf s)) (cond m (minus (sizeOf s)) (plus (sizeOf (c ∷ s))))) ≡ true
         → SignedReads (c ∷ s) (cond p (plus (sizeOf s)) (cond m (minus (sizeOf s)) (plus (sizeOf (c ∷ s)))))
     go true m p q e = let r = plus-reads s (sizeOf s) refl e in record { is = rw p (r .0); short = omega (arith, r .1) }
     go false true p q e = let r = minus-reads s (sizeOf s) refl e in record { is = rw (p, q) (r .0); short = omega (arith, r .1) }
-    go false false p q e = let r = plus-reads (c ∷ s) (sizeOf (c ∷ s)) refl e in record { is = rw (p, q) (r .0); short = omega (arith, r .1) }
+    go false false p q e = let r = plus-reads (c ∷ s) (sizeOf (c ∷ s)) refl e in
+        record { is = rw (p, q) (r .0); short = omega (arith, r .1) }
 
 pub numbers : (v : List ℕ) → isNumber (decimalOf v) ≡ true → current.decimalOf v ≡ scaled (decimalOf v)
 unfolding decimalOf current.decimalOf

@@ -8,7 +8,7 @@ use lib.Dec.{eqb}
 use lib.ListN.{length}
 use lib.IntN.{pos}
 use Rattle.value.specs.declared.Num.{Num}
-use Rattle.value.specs.declared.Num.the-variants.{Is, Lacks}
+use Rattle.value.specs.declared.Num.the-variants.{Is, None}
 use Rattle.value.specs.declared.Signed.{Signed}
 use Rattle.value.specs.declared.Signed.the-variants as signed
 use Rattle.value.specs.declared.Function.{Function}
@@ -58,7 +58,7 @@ collect-same f g h (suc n) = rw (collect-same f g h n, h n)
 number-scaled : (s : Signed) → isNumber s ≡ true → isNumber (scaled s) ≡ true
 number-scaled (signed.Plus n) e = refl
 number-scaled (signed.Minus n) e = refl
-number-scaled signed.Lacks e = e
+number-scaled signed.None e = e
 
 module _ (ns : List Node) where
   -- The window of the centre at c and the width at d, with a function.
@@ -66,14 +66,24 @@ module _ (ns : List Node) where
   of-values k c d = record { center = decimalOf (valueOf (valueAt ns c) 0); width = decimalOf (valueOf (valueAt ns d) 0); function = k }
 
   now-in : (is : List ℕ) (c d : ℕ) → findVr ns Tags.WindowCenter DS is ≡ Is c → findVr ns Tags.WindowWidth DS is ≡ Is d
-      → isNumber (decimalOf (valueOf (valueAt ns c) 0)) ≡ true → isNumber (decimalOf (valueOf (valueAt ns d) 0)) ≡ true → isFunction (functionIn ns is) ≡ true
+      → isNumber (decimalOf (valueOf (valueAt ns c) 0)) ≡ true → isNumber (decimalOf (valueOf (valueAt ns d) 0)) ≡ true
+      → isFunction (functionIn ns is) ≡ true
       → steps.windowIn ns is ≡ some (scaledWindow (of-values (functionIn ns is) c d))
   unfolding steps.windowIn
   now-in is c d p q x y z =
-      rw (p, q, numbers (valueOf (valueAt ns c) 0) x, numbers (valueOf (valueAt ns d) 0) y, number-scaled (decimalOf (valueOf (valueAt ns c) 0)) x, number-scaled (decimalOf (valueOf (valueAt ns d) 0)) y, z)
+      rw (
+        p,
+        q,
+        numbers (valueOf (valueAt ns c) 0) x,
+        numbers (valueOf (valueAt ns d) 0) y,
+        number-scaled (decimalOf (valueOf (valueAt ns c) 0)) x,
+        number-scaled (decimalOf (valueOf (valueAt ns d) 0)) y,
+        z,
+      )
 
   then-in : (is : List ℕ) (c d : ℕ) → findVr ns Tags.WindowCenter DS is ≡ Is c → findVr ns Tags.WindowWidth DS is ≡ Is d
-      → isNumber (decimalOf (valueOf (valueAt ns c) 0)) ≡ true → isNumber (decimalOf (valueOf (valueAt ns d) 0)) ≡ true → isFunction (functionIn ns is) ≡ true
+      → isNumber (decimalOf (valueOf (valueAt ns c) 0)) ≡ true → isNumber (decimalOf (valueOf (valueAt ns d) 0)) ≡ true
+      → isFunction (functionIn ns is) ≡ true
       → windowIn ns is ≡ some (of-values (functionIn ns is) c d)
   unfolding windowIn
   then-in is c d p q x y z = rw (p, q, x, y, z)
@@ -91,7 +101,7 @@ module _ (ns : List Node) where
       now-in is (c .0) (d .0) (c .1 .0) (d .1 .0) (b .0) (e .0) (e .1) ∙ ap (λ (v : Window). some (scaledWindow v)) same
 
   window-on : (stored : ℕ) (o : Num) (w : Window) → windowOn ns stored o ≡ some w → steps.windowOn ns stored o ≡ some (scaledWindow w)
-  window-on stored Lacks w e =
+  window-on stored None w e =
       let same : fullWindow stored ≡ w = cc in
       ap some (same-full stored ∙ ap scaledWindow same)
   window-on stored (Is g) w e =
@@ -111,7 +121,8 @@ module _ (g : Geometry) (v : List ℕ) (f : ℕ) (w : Window) (inverse : Bool) w
   unfolding steps.nativeCell nativeCell
   same-native i = ap (shaded inverse) (same-level w (pos (sampleAt g v f i)))
 
-  same-masked : (ks : List ℕ) (m : Moves) (i : ℕ) → steps.maskedCell g v f ks m (scaledWindow w) inverse i ≡ maskedCell g v f ks m w inverse i
+  same-masked : (ks : List ℕ) (m : Moves) (i : ℕ)
+      → steps.maskedCell g v f ks m (scaledWindow w) inverse i ≡ maskedCell g v f ks m w inverse i
   unfolding steps.maskedCell maskedCell
   same-masked ks m i = rw (same-half, same-level)
 
@@ -123,8 +134,10 @@ module _ (g : Geometry) (v : List ℕ) (f : ℕ) (w : Window) (inverse : Bool) w
 -- ---- The steps
 
 module _ (ns : List Node) (f : ℕ) where
-  to-picture : (g : Geometry) (v : List ℕ) (m : Mask) (w : Window) (inverse : Bool) → geometryOf ns ≡ some g → pixelsOf ns ≡ some v → isFrame g v f ≡ true
-      → maskFor ns f ≡ some m → windowFor ns f (g .stored) ≡ some w → inverseOf ns ≡ some inverse → steps.stepsOf ns f ≡ pictureBy g v f w inverse m
+  to-picture : (g : Geometry) (v : List ℕ) (m : Mask) (w : Window) (inverse : Bool) → geometryOf ns ≡ some g → pixelsOf ns ≡ some v
+      → isFrame g v f ≡ true
+      → maskFor ns f ≡ some m → windowFor ns f (g .stored) ≡ some w → inverseOf ns ≡ some inverse
+      → steps.stepsOf ns f ≡ pictureBy g v f w inverse m
   unfolding steps.stepsOf
   to-picture g v m w inverse eg ev ef em ew ei =
       rw (eg, ev, ef, em, window-for ns f (g .stored) w ew, ei) (same-picture g v f w inverse m)
@@ -154,7 +167,8 @@ module _ (ns : List Node) (f : ℕ) where
           ≡ then (windowFor ns f (g .stored)) (λ w. then (inverseOf ns) (λ inverse. pictureBy g v f w inverse m))
       by-window g v m h =
           rw (h .1, window-for ns f (g .stored) (h .0) (h .1))
-          (then-same (inverseOf ns) (λ inverse. steps.pictureBy g v f (scaledWindow (h .0)) inverse m) (λ inverse. pictureBy g v f (h .0) inverse m) (λ inverse. same-picture g v f (h .0) inverse m))
+          (then-same (inverseOf ns) (λ inverse. steps.pictureBy g v f (scaledWindow (h .0)) inverse m)
+          (λ inverse. pictureBy g v f (h .0) inverse m) (λ inverse. same-picture g v f (h .0) inverse m))
 
   -- Where rule 30 held there is one.
   has-in : (is : List ℕ) → hasWindow ns is ≡ true → (w : Window) × (windowIn ns is ≡ some w)
@@ -165,25 +179,29 @@ module _ (ns : List Node) (f : ℕ) where
       let x = valueAt ns (c .0) in
       let y = valueAt ns (d .0) in
       let least = leastWidth (functionIn ns is) in
-      let k = and-both (isFunction (functionIn ns is)) (eqb (length (valuesOf x)) (length (valuesOf y)) && (allDecimals x && allWidths least y)) (d .1 .1) in
+      let k = and-both (isFunction (functionIn ns is))
+      (eqb (length (valuesOf x)) (length (valuesOf y)) && (allDecimals x && allWidths least y)) (d .1 .1) in
       let a = and-both (eqb (length (valuesOf x)) (length (valuesOf y))) (allDecimals x && allWidths least y) (k .1) in
       let b = and-both (allDecimals x) (allWidths least y) (a .1) in
       let p : isNumber (decimalOf (valueOf x 0)) ≡ true = all-first (λ v. isNumber (decimalOf v)) x (b .0) in
-      let q : isNumber (decimalOf (valueOf y 0)) ≡ true = width-number least (decimalOf (valueOf y 0)) (all-first (λ v. isWidth least (decimalOf v)) y (b .1)) in
+      let q : isNumber (decimalOf (valueOf y 0))
+      ≡ true = width-number least (decimalOf (valueOf y 0)) (all-first (λ v. isWidth least (decimalOf v)) y (b .1)) in
       (of-values ns (functionIn ns is) (c .0) (d .0), then-in ns is (c .0) (d .0) (c .1 .0) (d .1 .0) p q (k .0))
 
-  item-window : (stored g j : ℕ) (w : Window) → theItem ns g ≡ Is j → windowIn ns (inside ns j) ≡ some w → windowOn ns stored (Is g) ≡ some w
+  item-window : (stored g j : ℕ) (w : Window) → theItem ns g ≡ Is j → windowIn ns (inside ns j) ≡ some w
+      → windowOn ns stored (Is g) ≡ some w
   item-window stored g j w e h = rw e h
 
   has-on : (stored : ℕ) (o : Num) → ifPresent o (isVoi ns) ≡ true → (w : Window) × (windowOn ns stored o ≡ some w)
   unfolding isVoi
-  has-on stored Lacks e = (fullWindow stored, refl)
+  has-on stored None e = (fullWindow stored, refl)
   has-on stored (Is g) e =
       let j = had (theItem ns g) (λ i. hasWindow ns (inside ns i)) e in
       let w = has-in (inside ns (j .0)) (j .1 .1) in
       (w .0, item-window stored g (j .0) (w .0) (j .1 .0) (w .1))
 
-  group-window : (stored : ℕ) (o : Num) (w : Window) → groupFor ns f Tags.FrameVOILUTSequence ≡ some o → windowOn ns stored o ≡ some w → windowFor ns f stored ≡ some w
+  group-window : (stored : ℕ) (o : Num) (w : Window) → groupFor ns f Tags.FrameVOILUTSequence ≡ some o → windowOn ns stored o ≡ some w
+      → windowFor ns f stored ≡ some w
   unfolding windowFor
   group-window stored o w e h = rw e h
 
@@ -191,8 +209,11 @@ module _ (ns : List Node) (f : ℕ) where
   unfolding rule30 item30
   has-window e stored =
       let a = at-items ns f (item30 ns) e in
-      let o = has-on stored (groupOf ns Tags.FrameVOILUTSequence (a .s) (a .i)) (a .holds) in
-      (o .0, group-window stored (groupOf ns Tags.FrameVOILUTSequence (a .s) (a .i)) (o .0) (group-is ns f Tags.FrameVOILUTSequence (a .s) (a .i) (a .shared) (a .item)) (o .1))
+      let o = has-on stored (groupOf ns Tags.FrameVOILUTSequence (a .s) (a .i)) (a .holds) in (
+        o .0,
+        group-window stored (groupOf ns Tags.FrameVOILUTSequence (a .s) (a .i)) (o .0)
+            (group-is ns f Tags.FrameVOILUTSequence (a .s) (a .i) (a .shared) (a .item)) (o .1),
+      )
 
   pub pictures : rule30 ns f ≡ true → steps.stepsOf ns f ≡ stepsOf ns f
   pictures e = same-steps (has-window e)

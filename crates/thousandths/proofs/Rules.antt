@@ -8,7 +8,7 @@ use lib.Dec.{eqb}
 use lib.ListN.{length}
 use borrow.Author.Tests.{le-leb, leb-true, eqb-true}
 use Rattle.value.specs.declared.Num.{Num}
-use Rattle.value.specs.declared.Num.the-variants.{Is, Lacks}
+use Rattle.value.specs.declared.Num.the-variants.{Is, None}
 use Rattle.value.specs.declared.Signed.{Signed}
 use Rattle.value.specs.declared.Signed.the-variants as signed
 use Rattle.value.specs.declared.Function.{Function}
@@ -45,39 +45,41 @@ all-more p q h (v ∷ vs) e =
 
 holds-more : (o : Num) (p q : ℕ → Bool) → ((n : ℕ) → p n ≡ true → q n ≡ true) → holds o p ≡ true → holds o q ≡ true
 holds-more (Is n) p q h e = h n e
-holds-more Lacks p q h e = e
+holds-more None p q h e = e
 
 present-more : (o : Num) (p q : ℕ → Bool) → ((n : ℕ) → p n ≡ true → q n ≡ true) → ifPresent o p ≡ true → ifPresent o q ≡ true
 present-more (Is n) p q h e = h n e
-present-more Lacks p q h e = e
+present-more None p q h e = e
 
 -- ---- Numbers and widths
 
 number-scaled : (s : Signed) → isNumber s ≡ true → isNumber (scaled s) ≡ true
 number-scaled (signed.Plus n) e = refl
 number-scaled (signed.Minus n) e = refl
-number-scaled signed.Lacks e = e
+number-scaled signed.None e = e
 
 pub width-number : (least : ℕ) (s : Signed) → isWidth least s ≡ true → isNumber s ≡ true
 width-number least (signed.Plus n) e = refl
 width-number least (signed.Minus n) e = absurd (false-is-true e)
-width-number least signed.Lacks e = absurd (false-is-true e)
+width-number least signed.None e = absurd (false-is-true e)
 
 least-scaled : (f : Function) → current.leastWidth f ≤ 1000 * leastWidth f
 least-scaled function.Linear = omega arith
 least-scaled function.Exact = omega arith
-least-scaled function.Lacks = omega arith
+least-scaled function.Other = omega arith
 
 width-scaled : (f : Function) (s : Signed) → isWidth (leastWidth f) s ≡ true → current.isWidth (current.leastWidth f) (scaled s) ≡ true
 width-scaled f (signed.Plus n) e = le-leb (current.leastWidth f) (1000 * n) (omega (arith, least-scaled f, leb-true (leastWidth f) n e))
 width-scaled f (signed.Minus n) e = e
-width-scaled f signed.Lacks e = e
+width-scaled f signed.None e = e
 
 number-now : (v : List ℕ) → isNumber (decimalOf v) ≡ true → isNumber (current.decimalOf v) ≡ true
 number-now v e = ap isNumber (numbers v e) ∙ number-scaled (decimalOf v) e
 
-width-now : (f : Function) (v : List ℕ) → isWidth (leastWidth f) (decimalOf v) ≡ true → current.isWidth (current.leastWidth f) (current.decimalOf v) ≡ true
-width-now f v e = ap (current.isWidth (current.leastWidth f)) (numbers v (width-number (leastWidth f) (decimalOf v) e)) ∙ width-scaled f (decimalOf v) e
+width-now : (f : Function) (v : List ℕ) → isWidth (leastWidth f) (decimalOf v) ≡ true
+    → current.isWidth (current.leastWidth f) (current.decimalOf v) ≡ true
+width-now f v e = ap (current.isWidth (current.leastWidth f)) (numbers v (width-number (leastWidth f) (decimalOf v) e))
+    ∙ width-scaled f (decimalOf v) e
 
 -- ---- Rule 30
 
@@ -91,7 +93,8 @@ window-now f c w e =
       k .0,
       a .0,
       all-more (λ d. isNumber (decimalOf d)) (λ d. isNumber (current.decimalOf d)) number-now (valuesOf c) (b .0),
-      all-more (λ d. isWidth (leastWidth f) (decimalOf d)) (λ d. current.isWidth (current.leastWidth f) (current.decimalOf d)) (width-now f) (valuesOf w) (b .1),
+      all-more (λ d. isWidth (leastWidth f) (decimalOf d)) (λ d. current.isWidth (current.leastWidth f) (current.decimalOf d)) (width-now f)
+          (valuesOf w) (b .1),
     )
 
 module _ (ns : List Node) where
@@ -99,12 +102,15 @@ module _ (ns : List Node) where
   unfolding hasWindow rules.hasWindow
   has-now is e =
       holds-more (findVr ns Tags.WindowCenter DS is) _ _
-      (λ c. holds-more (findVr ns Tags.WindowWidth DS is) (λ w. isWindow (functionIn ns is) (valueAt ns c) (valueAt ns w)) (λ w. rules.isWindow (functionIn ns is) (valueAt ns c) (valueAt ns w)) (λ w. window-now (functionIn ns is) (valueAt ns c) (valueAt ns w)))
+      (λ c. holds-more (findVr ns Tags.WindowWidth DS is) (λ w. isWindow (functionIn ns is) (valueAt ns c) (valueAt ns w))
+      (λ w. rules.isWindow (functionIn ns is) (valueAt ns c) (valueAt ns w))
+      (λ w. window-now (functionIn ns is) (valueAt ns c) (valueAt ns w)))
       e
 
   voi-now : (g : ℕ) → isVoi ns g ≡ true → rules.isVoi ns g ≡ true
   unfolding isVoi rules.isVoi
-  voi-now g e = holds-more (theItem ns g) (λ j. hasWindow ns (inside ns j)) (λ j. rules.hasWindow ns (inside ns j)) (λ j. has-now (inside ns j)) e
+  voi-now g e = holds-more (theItem ns g) (λ j. hasWindow ns (inside ns j)) (λ j. rules.hasWindow ns (inside ns j))
+      (λ j. has-now (inside ns j)) e
 
   item-now : (s i : ℕ) → item30 ns s i ≡ true → rules.item30 ns s i ≡ true
   unfolding item30 rules.item30

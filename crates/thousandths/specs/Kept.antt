@@ -29,7 +29,8 @@ use Rattle.thousandths.specs.Step6.{stepsOf}
 -- Every rule held, rule 30 as it was, at every frame at which it is asked.
 abbrev pub RulesHeld : List Node → Type 0
 RulesHeld ns =
-    (rule : ℕ) → 1 ≤ rule → rule ≤ lastRule → (f : ℕ) → firstFrame rule ≤ f → f < firstFrame rule + frameCount ns rule → ruleAt ns rule f ≡ true
+    (rule : ℕ) → 1 ≤ rule → rule ≤ lastRule → (f : ℕ) → firstFrame rule ≤ f → f < firstFrame rule + frameCount ns rule
+    → ruleAt ns rule f ≡ true
 
 -- The data set passed the size limit and the reading checks, and broke no rule.
 pub record WasAccepted (s : List ℕ) : Type 0 where

@@ -22,15 +22,15 @@ unit = 10 ^ decimals
 -- Up to 6 digits, then optionally a point and up to 3 digits, at least one digit in all.
 -- After the point: `whole` digits stood before it, and the decimals that were not written are zeros.
 abbrev pub pointOn : ℕ → Digits → List ℕ → Num
-pointOn whole d [] = cond (eqb (whole + d .count) 0) num.Lacks (num.Is (d .number * 10 ^ (decimals - d .count)))
-pointOn whole d (c ∷ s) = num.Lacks
+pointOn whole d [] = cond (eqb (whole + d .count) 0) num.None (num.Is (d .number * 10 ^ (decimals - d .count)))
+pointOn whole d (c ∷ s) = num.None
 
 abbrev pub pointBy : ℕ → Digits → Num
 pointBy whole d = pointOn whole d (d .rest)
 
 abbrev pub fractionOn : Digits → List ℕ → Num
-fractionOn d [] = cond (eqb (d .count) 0) num.Lacks (num.Is (d .number * unit))
-fractionOn d (c ∷ s) = cond (eqb c 0x2E) (pointBy (d .count) (digitsOf decimals (d .number) 0 s)) num.Lacks
+fractionOn d [] = cond (eqb (d .count) 0) num.None (num.Is (d .number * unit))
+fractionOn d (c ∷ s) = cond (eqb c 0x2E) (pointBy (d .count) (digitsOf decimals (d .number) 0 s)) num.None
 
 abbrev pub fractionBy : Digits → Num
 fractionBy d = fractionOn d (d .rest)
@@ -46,13 +46,13 @@ decimalOf v = signedBy sizeOf (trimmed v)
 abbrev pub leastWidth : Function → ℕ
 leastWidth function.Linear = unit
 leastWidth function.Exact = 1
-leastWidth function.Lacks = unit
+leastWidth function.Other = unit
 
 -- A width: at least so many thousandths.
 abbrev pub isWidth : ℕ → Signed → Bool
 isWidth least (signed.Plus n) = leb least n
 isWidth least (signed.Minus n) = false
-isWidth least signed.Lacks = false
+isWidth least signed.None = false
 
 -- Every value of a DS has the form; every one is a width.
 unfoldable pub allDecimals : List ℕ → Bool
@@ -65,4 +65,4 @@ allWidths least v = all (λ d. isWidth least (decimalOf d)) (valuesOf v)
 abbrev pub scaled : Signed → Signed
 scaled (signed.Plus n) = signed.Plus (1000 * n)
 scaled (signed.Minus n) = signed.Minus (1000 * n)
-scaled signed.Lacks = signed.Lacks
+scaled signed.None = signed.None

@@ -25,7 +25,8 @@ isWindow f centers widths =
 
 unfoldable pub hasWindow : List Node → List ℕ → Bool
 hasWindow ns is =
-    holds (findVr ns Tags.WindowCenter DS is) (λ c. holds (findVr ns Tags.WindowWidth DS is) (λ w. isWindow (functionIn ns is) (valueAt ns c) (valueAt ns w)))
+    holds (findVr ns Tags.WindowCenter DS is)
+    (λ c. holds (findVr ns Tags.WindowWidth DS is) (λ w. isWindow (functionIn ns is) (valueAt ns c) (valueAt ns w)))
 
 unfoldable pub isVoi : List Node → ℕ → Bool
 isVoi ns g = holds (theItem ns g) (λ j. hasWindow ns (inside ns j))

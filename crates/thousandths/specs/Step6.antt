@@ -8,7 +8,7 @@ use lib.Dec.{eqb, leb}
 use lib.IntN.{ℤ, pos, _+ℤ_, _-ℤ_, _*ℤ_}
 use lib.Signed.{leZ, ltZ}
 use Rattle.value.specs.declared.Num.{Num}
-use Rattle.value.specs.declared.Num.the-variants.{Is, Lacks}
+use Rattle.value.specs.declared.Num.the-variants.{Is, None}
 use Rattle.value.specs.declared.Signed.{Signed}
 use Rattle.value.specs.declared.Signed.the-variants as signed
 use Rattle.value.specs.declared.Function.{Function}
@@ -37,13 +37,14 @@ pub record Window : Type 0 where
 
 -- The window of a frame without a VOI group: centre 2^(stored - 1) and width 2^stored.
 unfoldable pub fullWindow : ℕ → Window
-fullWindow stored = record { center = signed.Plus (unit * 2 ^ stored / 2); width = signed.Plus (unit * 2 ^ stored); function = function.Linear }
+fullWindow
+    stored = record { center = signed.Plus (unit * 2 ^ stored / 2); width = signed.Plus (unit * 2 ^ stored); function = function.Linear }
 
 -- What a function takes off, e: LINEAR one, in thousandths, and LINEAR_EXACT nothing.
 abbrev pub takenOff : Function → ℕ
 takenOff function.Linear = unit
 takenOff function.Exact = 0
-takenOff function.Lacks = unit
+takenOff function.Other = unit
 
 -- For a centre C and a width W, with u the units to one and t = 2ux: 0 if t ≤ 2C - W; 255 if t > 2C + W - 2e; else
 -- floor((255(t - 2C + W) + W - e) / (2(W - e))), whose divisor must be above 0.
@@ -70,11 +71,16 @@ unfoldable pub windowIn : List Node → List ℕ → Option Window
 windowIn ns is =
     need (findVr ns Tags.WindowCenter DS is) (λ c.
     need (findVr ns Tags.WindowWidth DS is) (λ w.
-    check (isNumber (decimalOf (valueOf (valueAt ns c) 0)) && (isNumber (decimalOf (valueOf (valueAt ns w) 0)) && isFunction (functionIn ns is)))
-    (some (record { center = decimalOf (valueOf (valueAt ns c) 0); width = decimalOf (valueOf (valueAt ns w) 0); function = functionIn ns is }))))
+    check (isNumber (decimalOf (valueOf (valueAt ns c) 0))
+    && (isNumber (decimalOf (valueOf (valueAt ns w) 0)) && isFunction (functionIn ns is)))
+    (some (record {
+      center = decimalOf (valueOf (valueAt ns c) 0);
+      width = decimalOf (valueOf (valueAt ns w) 0);
+      function = functionIn ns is;
+    }))))
 
 abbrev pub windowOn : List Node → ℕ → Num → Option Window
-windowOn ns stored Lacks = some (fullWindow stored)
+windowOn ns stored None = some (fullWindow stored)
 windowOn ns stored (Is g) = need (theItem ns g) (λ j. windowIn ns (inside ns j))
 
 unfoldable pub windowFor : List Node → ℕ → ℕ → Option Window
@@ -91,7 +97,7 @@ maskedCell g v f ks m w inverse i =
     (cond (eqb (g .stored) 0)
     (levelHalf w (pos (sampleAt g v f i) -ℤ pos (blendedAt g v ks m i)))
     (levelOf w (pos (sampleAt g v f i) -ℤ pos (blendedAt g v ks m i) +ℤ pos (2 ^ (g .stored - 1))))))
-    Lacks
+    None
 
 unfoldable pub pictureBy : Geometry → List ℕ → ℕ → Window → Bool → Mask → Option Picture
 pictureBy g v f w inverse native =

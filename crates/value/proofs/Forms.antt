@@ -10,7 +10,8 @@ use borrow.Author.Tests.{eq-eqb, ne-eqb}
 use Rattle.value.specs.declared.Num.{Num}
 use Rattle.value.specs.declared.Num.the-variants as num
 use Rattle.value.specs.declared.Run.{Run}
-use Rattle.value.specs.Number.{digitsOf, plus, minus, signedBy, wholeOf, decimals, runOf, exactOf, scaledBy, isMark, exponentOf, endOf, pointBy, sizeOf}
+use Rattle.value.specs.Number.{digitsOf, plus, minus, signedBy, wholeOf, decimals, runOf, exactOf, scaledBy, isMark, exponentOf}
+use Rattle.value.specs.Number.{endOf, pointBy, sizeOf}
 use Rattle.value.specs.Contracts.{DigitsRead}
 use Rattle.value.proofs.Lists.{from-next, from-end}
 use Rattle.value.proofs.Runs.{digits-size, digits-below}
@@ -26,7 +27,7 @@ module _ (limit start : ℕ) (s : List ℕ) (r : Run) (d : DigitsRead limit star
 -- ---- Digits alone
 
 module _ (limit : ℕ) (s : List ℕ) (r : Run) (d : DigitsRead limit 0 s r) where
-  pub whole-none : r .count ≡ length s → r .count ≡ 0 → wholeOf limit s ≡ num.Lacks
+  pub whole-none : r .count ≡ length s → r .count ≡ 0 → wholeOf limit s ≡ num.None
   unfolding wholeOf
   whole-none e z = rw (rest-none limit 0 s r d e, ← d .count, eq-eqb (r .count) 0 z)
 
@@ -34,7 +35,7 @@ module _ (limit : ℕ) (s : List ℕ) (r : Run) (d : DigitsRead limit 0 s r) whe
   unfolding wholeOf
   whole-is e z = rw (rest-none limit 0 s r d e, ← d .count, ne-eqb (r .count) 0 z, ← d .number)
 
-  pub whole-more : (r .count ≡ length s → ⊥) → wholeOf limit s ≡ num.Lacks
+  pub whole-more : (r .count ≡ length s → ⊥) → wholeOf limit s ≡ num.None
   unfolding wholeOf
   whole-more e = rw (rest-some limit 0 s r d e)
 
@@ -49,20 +50,28 @@ module _ (s : List ℕ) (r : Run) (d : DigitsRead (length s) 0 s r) where
   unfolding sizeOf
   size-end e = rw (rest-none (length s) 0 s r d e, ← d .count, ← d .number, from-end s (r .count) (omega arith))
 
-  pub size-point : (r .count ≡ length s → ⊥) → getD s (r .count) 0 ≡ 0x2E → sizeOf s ≡ pointBy (r .count) (runOf (r .number) (drop (r .count + 1) s))
+  pub size-point : (r .count ≡ length s → ⊥) → getD s (r .count) 0 ≡ 0x2E
+      → sizeOf s ≡ pointBy (r .count) (runOf (r .number) (drop (r .count + 1) s))
   unfolding sizeOf
   size-point e p = rw (rest-some (length s) 0 s r d e, eq-eqb (getD s (r .count) 0) 0x2E p, ← d .count, ← d .number)
 
-  pub size-other : (r .count ≡ length s → ⊥) → (getD s (r .count) 0 ≡ 0x2E → ⊥) → sizeOf s ≡ endOf (r .count) (r .number) 0 (drop (r .count) s)
+  pub size-other : (r .count ≡ length s → ⊥) → (getD s (r .count) 0 ≡ 0x2E → ⊥)
+      → sizeOf s ≡ endOf (r .count) (r .number) 0 (drop (r .count) s)
   unfolding sizeOf
-  size-other e p = rw (rest-some (length s) 0 s r d e, ne-eqb (getD s (r .count) 0) 0x2E p, ← d .count, ← d .number, from-next s (r .count) (omega (arith, d .within)))
+  size-other e p = rw (
+    rest-some (length s) 0 s r d e,
+    ne-eqb (getD s (r .count) 0) 0x2E p,
+    ← d .count,
+    ← d .number,
+    from-next s (r .count) (omega (arith, d .within)),
+  )
 
 module _ (count m after : ℕ) (s : List ℕ) where
-  pub end-none : count ≡ 0 → endOf count m after s ≡ num.Lacks
+  pub end-none : count ≡ 0 → endOf count m after s ≡ num.None
   unfolding endOf
   end-none z = go s
     where
-      go : (l : List ℕ) → endOf count m after l ≡ num.Lacks
+      go : (l : List ℕ) → endOf count m after l ≡ num.None
       go [] = rw (eq-eqb count 0 z)
       go (c ∷ l) = rw (eq-eqb count 0 z)
 
@@ -74,7 +83,8 @@ module _ (count m after : ℕ) (s : List ℕ) where
       from-empty [] h = refl
       from-empty (c ∷ l) h = absurd (omega arith)
 
-  pub end-mark : (count ≡ 0 → ⊥) → (length s ≡ 0 → ⊥) → isMark (getD s 0 0) ≡ true → endOf count m after s ≡ scaledBy m after (exponentOf (drop 1 s))
+  pub end-mark : (count ≡ 0 → ⊥) → (length s ≡ 0 → ⊥) → isMark (getD s 0 0) ≡ true
+      → endOf count m after s ≡ scaledBy m after (exponentOf (drop 1 s))
   unfolding endOf
   end-mark z e p = go s e p
     where
@@ -82,11 +92,11 @@ module _ (count m after : ℕ) (s : List ℕ) where
       go [] e p = absurd (e refl)
       go (c ∷ l) e p = rw (ne-eqb count 0 z, p)
 
-  pub end-other : (count ≡ 0 → ⊥) → (length s ≡ 0 → ⊥) → isMark (getD s 0 0) ≡ false → endOf count m after s ≡ num.Lacks
+  pub end-other : (count ≡ 0 → ⊥) → (length s ≡ 0 → ⊥) → isMark (getD s 0 0) ≡ false → endOf count m after s ≡ num.None
   unfolding endOf
   end-other z e p = go s e p
     where
-      go : (l : List ℕ) → (length l ≡ 0 → ⊥) → isMark (getD l 0 0) ≡ false → endOf count m after l ≡ num.Lacks
+      go : (l : List ℕ) → (length l ≡ 0 → ⊥) → isMark (getD l 0 0) ≡ false → endOf count m after l ≡ num.None
       go [] e p = absurd (e refl)
       go (c ∷ l) e p = rw (ne-eqb count 0 z, p)
 
@@ -103,7 +113,8 @@ module _ (size : List ℕ → Num) where
   sign-plus [] e p = absurd (e refl)
   sign-plus (c ∷ s) e p = rw (eq-eqb c 0x2B p)
 
-  pub sign-minus : (s : List ℕ) → (length s ≡ 0 → ⊥) → (getD s 0 0 ≡ 0x2B → ⊥) → getD s 0 0 ≡ 0x2D → signedBy size s ≡ minus (size (drop 1 s))
+  pub sign-minus : (s : List ℕ) → (length s ≡ 0 → ⊥) → (getD s 0 0 ≡ 0x2B → ⊥) → getD s 0 0 ≡ 0x2D
+      → signedBy size s ≡ minus (size (drop 1 s))
   unfolding signedBy
   sign-minus [] e p q = absurd (e refl)
   sign-minus (c ∷ s) e p q = rw (ne-eqb c 0x2B p, eq-eqb c 0x2D q)
@@ -118,13 +129,16 @@ module _ (size : List ℕ → Num) where
 pub run-fits : (n : ℕ) → n ≤ 16 → (0 + 1) * 10 ^ n ≤ 10000000000000000
 run-fits n h = omega (arith, pow-le-pow-right {n = 10} (omega arith) {i = n} {j = 16} h)
 
-pub number-fits : (whole : ℕ) (s : List ℕ) (r : Run) → DigitsRead (length s) whole s r → (whole + 1) * 10 ^ length s ≤ 10000000000000000 → r .number ≤ 10000000000000000
+pub number-fits : (whole : ℕ) (s : List ℕ) (r : Run) → DigitsRead (length s) whole s r → (whole + 1) * 10 ^ length s ≤ 10000000000000000
+    → r .number ≤ 10000000000000000
 number-fits whole s r d h = omega (arith, d .number, digits-below (length s) whole s)
 
 -- With what follows the point as digits.
-pub point-fits : (s : List ℕ) (r : Run) → DigitsRead (length s) 0 s r → length s ≤ 16 → (k : ℕ) → k + r .count ≤ length s → (r .number + 1) * 10 ^ k ≤ 10000000000000000
+pub point-fits : (s : List ℕ) (r : Run) → DigitsRead (length s) 0 s r → length s ≤ 16 → (k : ℕ) → k + r .count ≤ length s
+    → (r .number + 1) * 10 ^ k ≤ 10000000000000000
 point-fits s r d h k l =
     let n = digitsOf (length s) 0 0 s .number in
     let more : k ≤ length s + 0 - digitsOf (length s) 0 0 s .count = omega (arith, d .count) in
-    let a : (n + 1) * 10 ^ k ≤ (n + 1) * 10 ^ (length s + 0 - digitsOf (length s) 0 0 s .count) = mul-le-mul-left (n + 1) (pow-le-pow-right {n = 10} (omega arith) {i = k} {j = length s + 0 - digitsOf (length s) 0 0 s .count} more) in
+    let a : (n + 1) * 10 ^ k ≤ (n + 1) * 10 ^ (length s + 0 - digitsOf (length s) 0 0 s .count) = mul-le-mul-left (n + 1)
+    (pow-le-pow-right {n = 10} (omega arith) {i = k} {j = length s + 0 - digitsOf (length s) 0 0 s .count} more) in
     rw (d .number) (le-trans a (le-trans (digits-size (length s) 0 0 s) (run-fits (length s) h)))

@@ -14,7 +14,9 @@ use Rattle.value.specs.declared.Num.the-variants as num
 use Rattle.value.specs.declared.Signed.{Signed}
 use Rattle.value.specs.declared.Signed.the-variants as signed
 use Rattle.value.specs.Text.{isSingle, valueOf, trimmed}
-use Rattle.value.specs.Number.{Digits, usValues, digitsOf, plus, minus, signedBy, wholeOn, wholeOf, isOf, decimals, sizeLimit, characters, runOf, ifSmall, exactOf, scaledBy, isMark, exponentOf, endOf, pointBy, fractionOn, sizeOf, decimalOf}
+use Rattle.value.specs.Number.{Digits, usValues, digitsOf, plus, minus, signedBy, wholeOn, wholeOf, isOf, decimals, sizeLimit}
+use Rattle.value.specs.Number.{characters, runOf, ifSmall, exactOf, scaledBy, isMark, exponentOf, endOf, pointBy, fractionOn, sizeOf}
+use Rattle.value.specs.Number.{decimalOf}
 use Rattle.value.specs.Contracts.{Below, SizeBelow}
 use Rattle.value.proofs.Runs.{digits-below}
 
@@ -44,11 +46,12 @@ usValues-at (a ∷ []) k h = absurd (omega arith)
 usValues-at (a ∷ b ∷ s) zero h = refl
 usValues-at (a ∷ b ∷ s) (suc k) h =
     let d : 2 * suc k ≡ suc (suc (2 * k)) = omega arith in
-    rw (d, add-one (suc (suc (2 * k)))) (usValues-at s k (omega arith) ∙ ap (λ (j : ℕ). getD s (2 * k) 0 + 256 * getD s j 0) (add-one (2 * k)))
+    rw (d, add-one (suc (suc (2 * k))))
+    (usValues-at s k (omega arith) ∙ ap (λ (j : ℕ). getD s (2 * k) 0 + 256 * getD s j 0) (add-one (2 * k)))
 
 -- ---- Bounds of the text forms
 
-by-flag : (n k : ℕ) (t : Bool) → k < n → Below n (cond t num.Lacks (num.Is k))
+by-flag : (n k : ℕ) (t : Bool) → k < n → Below n (cond t num.None (num.Is k))
 by-flag n k true h = tt
 by-flag n k false h = h
 
@@ -63,7 +66,7 @@ whole-below limit s = whole-on (10 ^ limit) (digitsOf limit 0 0 s) (digitsOf lim
 within-below : (n : ℕ) → Below sizeLimit (ifSmall n)
 within-below n = go (ltb n sizeLimit) refl
   where
-    go : (t : Bool) → ltb n sizeLimit ≡ t → Below sizeLimit (cond t (num.Is n) num.Lacks)
+    go : (t : Bool) → ltb n sizeLimit ≡ t → Below sizeLimit (cond t (num.Is n) num.None)
     go true e = ltb-true n sizeLimit e
     go false e = tt
 
@@ -73,25 +76,28 @@ by-test n false a b p q = q
 
 exact-below : (m up down : ℕ) → Below sizeLimit (exactOf m up down)
 unfolding exactOf
-exact-below m up down = by-test sizeLimit (eqb (m * 10 ^ up % 10 ^ down) 0) (ifSmall (m * 10 ^ up / 10 ^ down)) num.Lacks (within-below (m * 10 ^ up / 10 ^ down)) tt
+exact-below m up down = by-test sizeLimit (eqb (m * 10 ^ up % 10 ^ down) 0) (ifSmall (m * 10 ^ up / 10 ^ down)) num.None
+    (within-below (m * 10 ^ up / 10 ^ down)) tt
 
 scaled-below : (m after : ℕ) (e : Signed) → Below sizeLimit (scaledBy m after e)
 scaled-below m after (signed.Plus e) = exact-below m (decimals + e) after
 scaled-below m after (signed.Minus e) = exact-below m decimals (after + e)
-scaled-below m after signed.Lacks = tt
+scaled-below m after signed.None = tt
 
 end-below : (count m after : ℕ) (s : List ℕ) → Below sizeLimit (endOf count m after s)
 unfolding endOf
-end-below count m after [] = by-test sizeLimit (eqb count 0) num.Lacks (scaledBy m after (signed.Plus 0)) tt (scaled-below m after (signed.Plus 0))
+end-below count m after [] = by-test sizeLimit (eqb count 0) num.None (scaledBy m after (signed.Plus 0)) tt
+    (scaled-below m after (signed.Plus 0))
 end-below count m after (c ∷ s) =
-    by-test sizeLimit (eqb count 0) num.Lacks (cond (isMark c) (scaledBy m after (exponentOf s)) num.Lacks) tt
-    (by-test sizeLimit (isMark c) (scaledBy m after (exponentOf s)) num.Lacks (scaled-below m after (exponentOf s)) tt)
+    by-test sizeLimit (eqb count 0) num.None (cond (isMark c) (scaledBy m after (exponentOf s)) num.None) tt
+    (by-test sizeLimit (isMark c) (scaledBy m after (exponentOf s)) num.None (scaled-below m after (exponentOf s)) tt)
 
 fraction-on : (d : Digits) (rest : List ℕ) → Below sizeLimit (fractionOn d rest)
 fraction-on d [] = end-below (d .count) (d .number) 0 []
 fraction-on d (c ∷ s) =
     by-test sizeLimit (eqb c 0x2E) (pointBy (d .count) (runOf (d .number) s)) (endOf (d .count) (d .number) 0 (c ∷ s))
-    (end-below (d .count + runOf (d .number) s .count) (runOf (d .number) s .number) (runOf (d .number) s .count) (runOf (d .number) s .rest))
+    (end-below (d .count + runOf (d .number) s .count) (runOf (d .number) s .number) (runOf (d .number) s .count)
+    (runOf (d .number) s .rest))
     (end-below (d .count) (d .number) 0 (c ∷ s))
 
 pub size-below : (s : List ℕ) → Below sizeLimit (sizeOf s)
@@ -100,11 +106,11 @@ size-below s = fraction-on (runOf 0 s) (runOf 0 s .rest)
 
 plus-below : (n : ℕ) (r : Num) → Below n r → SizeBelow n (plus r)
 plus-below n (num.Is k) h = h
-plus-below n num.Lacks h = tt
+plus-below n num.None h = tt
 
 minus-below : (n : ℕ) (r : Num) → Below n r → SizeBelow n (minus r)
 minus-below n (num.Is k) h = h
-minus-below n num.Lacks h = tt
+minus-below n num.None h = tt
 
 by-sign : (n : ℕ) (t : Bool) (a b : Signed) → SizeBelow n a → SizeBelow n b → SizeBelow n (cond t a b)
 by-sign n true a b p q = p
@@ -120,7 +126,7 @@ signed-below n size h (c ∷ s) =
 pub isOf-below : (v : List ℕ) → SizeBelow 100000000000 (isOf v)
 unfolding isOf
 isOf-below v =
-    by-sign 100000000000 (isSingle v) (signedBy (wholeOf 11) (trimmed (valueOf v 0))) signed.Lacks
+    by-sign 100000000000 (isSingle v) (signedBy (wholeOf 11) (trimmed (valueOf v 0))) signed.None
     (signed-below 100000000000 (wholeOf 11) (whole-below 11) (trimmed (valueOf v 0))) tt
 
 pub exponent-below : (s : List ℕ) → SizeBelow 10000000000000000 (exponentOf s)
@@ -130,5 +136,5 @@ exponent-below s = signed-below 10000000000000000 (wholeOf characters) (whole-be
 pub decimalOf-below : (v : List ℕ) → SizeBelow sizeLimit (decimalOf v)
 unfolding decimalOf
 decimalOf-below v =
-    by-sign sizeLimit (leb (length (trimmed v)) characters) (signedBy sizeOf (trimmed v)) signed.Lacks
+    by-sign sizeLimit (leb (length (trimmed v)) characters) (signedBy sizeOf (trimmed v)) signed.None
     (signed-below sizeLimit sizeOf size-below (trimmed v)) tt

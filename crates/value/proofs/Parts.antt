@@ -42,7 +42,8 @@ count-cons : (c : ℕ) (s : List ℕ) → length (valuesOf (c ∷ s)) ≡ partsA
 unfolding valuesOf
 count-cons c s = count-byte c s (eqb c 0x5C)
 
-pub count-next : (v : List ℕ) (i : ℕ) → i < length v → length (valuesOf (drop i v)) ≡ partsAt (getD v i 0) + length (valuesOf (drop (i + 1) v))
+pub count-next : (v : List ℕ) (i : ℕ) → i < length v
+    → length (valuesOf (drop i v)) ≡ partsAt (getD v i 0) + length (valuesOf (drop (i + 1) v))
 count-next v i h = rw (from-next v i h) (count-cons (getD v i 0) (drop (i + 1) v))
 
 pub count-end : (v : List ℕ) (i : ℕ) → length v ≤ i → length (valuesOf (drop i v)) ≡ 1
@@ -112,13 +113,15 @@ first-more [] h = absurd (omega arith)
 first-more (c ∷ s) h =
     ⊎-elim
     (λ e. values-stop c s e ∙ rw (first-stop c s e))
-    (λ e. values-go c s e ∙ rw (first-go c s e) (ap (λ (vs : List (List ℕ)). (c ∷ valueOf s 0) ∷ drop 1 vs) (first-more s (omega (arith, ap length (first-go c s e))))))
+    (λ e. values-go c s e ∙ rw (first-go c s e)
+    (ap (λ (vs : List (List ℕ)). (c ∷ valueOf s 0) ∷ drop 1 vs) (first-more s (omega (arith, ap length (first-go c s e))))))
     (backslash c)
 
 -- ---- The part that starts at a place
 
 -- One byte on.
-pub place-next : (v : List ℕ) (i : ℕ) → i < length v → (getD v i 0 ≡ 0x5C → ⊥) → length (valueOf (drop i v) 0) ≡ length (valueOf (drop (i + 1) v) 0) + 1
+pub place-next : (v : List ℕ) (i : ℕ) → i < length v → (getD v i 0 ≡ 0x5C → ⊥)
+    → length (valueOf (drop i v) 0) ≡ length (valueOf (drop (i + 1) v) 0) + 1
 place-next v i h e = rw (from-next v i h, first-go (getD v i 0) (drop (i + 1) v) e) (omega arith)
 
 pub place-stop : (v : List ℕ) (i : ℕ) → i < length v → getD v i 0 ≡ 0x5C → length (valueOf (drop i v) 0) ≡ 0
@@ -150,12 +153,15 @@ module _ (v : List ℕ) (from end : ℕ) (e : end ≡ from + length (valueOf (dr
   part-more h =
       let d : from + suc (length (valueOf (drop from v) 0)) ≡ end + 1 = omega arith in
       first-more (drop from v) (omega (arith, length-drop from v))
-      ∙ ap (λ (l : List ℕ). valueOf (drop from v) 0 ∷ valuesOf l) (drop-drop (suc (length (valueOf (drop from v) 0))) from v ∙ ap (λ (n : ℕ). drop n v) d)
+      ∙ ap (λ (l : List ℕ). valueOf (drop from v) 0 ∷ valuesOf l)
+      (drop-drop (suc (length (valueOf (drop from v) 0))) from v ∙ ap (λ (n : ℕ). drop n v) d)
 
   -- Value number `left` from there on.
-  pub later-value : (left : ℕ) → 0 < left → end < length v → getD (valuesOf (drop from v)) left [] ≡ getD (valuesOf (drop (end + 1) v)) (left - 1) []
+  pub later-value : (left : ℕ) → 0 < left → end < length v
+      → getD (valuesOf (drop from v)) left [] ≡ getD (valuesOf (drop (end + 1) v)) (left - 1) []
   later-value zero p h = absurd (omega arith)
-  later-value (suc left) p h = let d : suc left - 1 ≡ left = omega arith in rw d (ap (λ (vs : List (List ℕ)). getD vs (suc left) []) (part-more h))
+  later-value (suc left) p h = let d : suc left - 1 ≡ left = omega arith in
+      rw d (ap (λ (vs : List (List ℕ)). getD vs (suc left) []) (part-more h))
 
   pub no-later : (left : ℕ) → 0 < left → length v ≤ end → getD (valuesOf (drop from v)) left [] ≡ []
   no-later zero p h = absurd (omega arith)
@@ -170,7 +176,8 @@ module _ (v : List ℕ) (from end : ℕ) (e : end ≡ from + length (valueOf (dr
   unfolding all
   all-last p h = ap (all p) (part-last h) ∙ and-true (p (valueOf (drop from v) 0))
 
-  pub all-more : (p : List ℕ → Bool) → end < length v → p (valueOf (drop from v) 0) ≡ true → all p (valuesOf (drop from v)) ≡ all p (valuesOf (drop (end + 1) v))
+  pub all-more : (p : List ℕ → Bool) → end < length v → p (valueOf (drop from v) 0) ≡ true
+      → all p (valuesOf (drop from v)) ≡ all p (valuesOf (drop (end + 1) v))
   unfolding all
   all-more p h t = ap (all p) (part-more h) ∙ ap (λ (x : Bool). x && all p (valuesOf (drop (end + 1) v))) t
 

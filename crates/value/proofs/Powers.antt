@@ -2,7 +2,8 @@
 use mathlib.Core.Path.{_≡_, refl, sym, ap, _∙_}
 use Prim.Native.Nat.{ℕ, zero, suc, _+_, _-_, _*_, _/_, _%_, _^_, _≤_, _<_}
 use native.Mathlib.Omega.{arith}
-use native.Mathlib.Nat.{mul-assoc, mul-comm, mul-sub, mul-mod-left, mul-mod-right, mul-div-cancel, mul-div-mul-left, mod-def, mod-one, div-one, zero-mod, zero-div, div-add-mod, le-trans, le-mul-of-pos-right, one-le-pow, pow-succ'}
+use native.Mathlib.Nat.{mul-assoc, mul-comm, mul-sub, mul-mod-left, mul-mod-right, mul-div-cancel, mul-div-mul-left, mod-def, mod-one}
+use native.Mathlib.Nat.{div-one, zero-mod, zero-div, div-add-mod, le-trans, le-mul-of-pos-right, one-le-pow, pow-succ'}
 use mathlib.Core.Bool.{Bool, true, false}
 use lib.Dec.{eqb}
 use lib.Pow.{pow-add}
@@ -13,7 +14,7 @@ use Rattle.value.specs.Number.{sizeLimit, ifSmall, wholly, exactOf}
 pub within-is : (n : ℕ) → n < sizeLimit → ifSmall n ≡ num.Is n
 within-is n h = rw (lt-ltb n sizeLimit h)
 
-pub within-large : (n : ℕ) → sizeLimit ≤ n → ifSmall n ≡ num.Lacks
+pub within-large : (n : ℕ) → sizeLimit ≤ n → ifSmall n ≡ num.None
 within-large n h = rw (le-ltb n sizeLimit h)
 
 -- ---- Multiplying
@@ -27,7 +28,7 @@ grown n (suc l) h =
     let d : suc l - 1 ≡ l = omega arith in
     rw (d, pow-succ' 10 l) (ap (λ (x : ℕ). x * 10 ^ l) (mul-comm 10 n) ∙ mul-assoc n 10 (10 ^ l))
 
-pub too-large : (n left : ℕ) → sizeLimit ≤ n → ifSmall (n * 10 ^ left) ≡ num.Lacks
+pub too-large : (n left : ℕ) → sizeLimit ≤ n → ifSmall (n * 10 ^ left) ≡ num.None
 too-large n left h = within-large (n * 10 ^ left) (le-trans h (le-mul-of-pos-right n (power-one left)))
 
 pub times-one : (n left : ℕ) → left ≤ 0 → n * 10 ^ left ≡ n
@@ -72,7 +73,7 @@ shrunk n (suc l) h e =
     rw (d, pow-succ' 10 l) (ap (λ (x : ℕ). wholly x (10 * 10 ^ l)) q ∙ wholly-factor 10 (n / 10) (10 ^ l) (omega arith))
 
 -- What ten does not divide, no higher power divides.
-pub no-multiple : (n left : ℕ) → 0 < left → (n % 10 ≡ 0 → ⊥) → wholly n (10 ^ left) ≡ num.Lacks
+pub no-multiple : (n left : ℕ) → 0 < left → (n % 10 ≡ 0 → ⊥) → wholly n (10 ^ left) ≡ num.None
 no-multiple n zero h e = absurd (omega arith)
 no-multiple n (suc l) h e = rw (pow-succ' 10 l, ne-eqb (n % (10 * 10 ^ l)) 0 (λ z. e (divides z)))
   where
@@ -98,7 +99,8 @@ split up down h =
 pub exact-up : (m up down : ℕ) → down ≤ up → exactOf m up down ≡ ifSmall (m * 10 ^ (up - down))
 unfolding exactOf
 exact-up m up down h =
-    let e : m * 10 ^ up ≡ m * 10 ^ (up - down) * 10 ^ down = ap (λ (x : ℕ). m * x) (split up down h) ∙ sym (mul-assoc m (10 ^ (up - down)) (10 ^ down)) in
+    let e : m * 10 ^ up
+    ≡ m * 10 ^ (up - down) * 10 ^ down = ap (λ (x : ℕ). m * x) (split up down h) ∙ sym (mul-assoc m (10 ^ (up - down)) (10 ^ down)) in
     rw (e, mul-mod-left (m * 10 ^ (up - down)) (10 ^ down), mul-div-cancel (m * 10 ^ (up - down)) {n = 10 ^ down} (power-one down))
 
 pub exact-down : (m up down : ℕ) → up < down → exactOf m up down ≡ wholly m (10 ^ (down - up))

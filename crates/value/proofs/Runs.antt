@@ -16,7 +16,8 @@ use Rattle.value.proofs.Lists.{from-next, from-end}
 abbrev pub stopped : ℕ → ℕ → List ℕ → Digits
 stopped n k s = record { number = n; count = k; rest = s }
 
-digits-go : (limit n k c : ℕ) (s : List ℕ) → isDigit c ≡ true → digitsOf (suc limit) n k (c ∷ s) ≡ digitsOf limit (10 * n + (c - 0x30)) (k + 1) s
+digits-go : (limit n k c : ℕ) (s : List ℕ) → isDigit c ≡ true
+    → digitsOf (suc limit) n k (c ∷ s) ≡ digitsOf limit (10 * n + (c - 0x30)) (k + 1) s
 unfolding digitsOf
 digits-go limit n k c s e = rw e
 
@@ -43,7 +44,8 @@ module _ (s : List ℕ) (i left n k : ℕ) where
       is : isDigit (getD s i 0) ≡ true
       is = rw (le-leb 0x30 (getD s i 0) q, le-leb (getD s i 0) 0x39 r)
 
-      by-left : (l : ℕ) → (l ≡ 0 → ⊥) → digitsOf l n k (getD s i 0 ∷ drop (i + 1) s) ≡ digitsOf (l - 1) (10 * n + (getD s i 0 - 0x30)) (k + 1) (drop (i + 1) s)
+      by-left : (l : ℕ) → (l ≡ 0 → ⊥)
+          → digitsOf l n k (getD s i 0 ∷ drop (i + 1) s) ≡ digitsOf (l - 1) (10 * n + (getD s i 0 - 0x30)) (k + 1) (drop (i + 1) s)
       by-left zero o = absurd (o refl)
       by-left (suc l) o = let d : suc l - 1 ≡ l = omega arith in rw d (digits-go l n k (getD s i 0) (drop (i + 1) s) is)
 
@@ -68,7 +70,8 @@ module _ (s : List ℕ) (i left n k : ℕ) where
 
 -- What the code answers where it stops at i.
 pub read-at : (limit start : ℕ) (s : List ℕ) (left n i : ℕ) → digitsOf left n i (drop i s) ≡ digitsOf limit start 0 s →
-    digitsOf left n i (drop i s) ≡ stopped n i (drop i s) → i ≤ length s → i ≤ limit → DigitsRead limit start s (record { number = n; count = i })
+    digitsOf left n i (drop i s) ≡ stopped n i (drop i s) → i ≤ length s → i ≤ limit
+    → DigitsRead limit start s (record { number = n; count = i })
 read-at limit start s left n i e t w f =
     let d : stopped n i (drop i s) ≡ digitsOf limit start 0 s = sym t ∙ e in
     record {
@@ -110,17 +113,20 @@ same n k limit = let d : limit + k - k ≡ limit = omega arith in rw d (omega ar
 abbrev Sized : ℕ → ℕ → ℕ → List ℕ → Type 0
 Sized limit n k s = (digitsOf limit n k s .number + 1) * 10 ^ (limit + k - digitsOf limit n k s .count) ≤ (n + 1) * 10 ^ limit
 
-by-digit : (limit n k c : ℕ) (s : List ℕ) (t : Bool) → isDigit c ≡ t → Sized limit (10 * n + (c - 0x30)) (k + 1) s → Sized (suc limit) n k (c ∷ s)
+by-digit : (limit n k c : ℕ) (s : List ℕ) (t : Bool) → isDigit c ≡ t → Sized limit (10 * n + (c - 0x30)) (k + 1) s
+    → Sized (suc limit) n k (c ∷ s)
 by-digit limit n k c s true e h =
     let x : c ≤ 0x39 = leb-true c 0x39 (and-right (leb 0x30 c) (leb c 0x39) e) in
     let d : suc limit + k ≡ limit + (k + 1) = omega arith in
     rw (digits-go limit n k c s e, d) (le-trans h (larger n (c - 0x30) limit (omega arith)))
 by-digit limit n k c s false e h = rw (digits-stop limit n k c s e) (same n k (suc limit))
 
-pub digits-size : (limit n k : ℕ) (s : List ℕ) → (digitsOf limit n k s .number + 1) * 10 ^ (limit + k - digitsOf limit n k s .count) ≤ (n + 1) * 10 ^ limit
+pub digits-size : (limit n k : ℕ) (s : List ℕ)
+    → (digitsOf limit n k s .number + 1) * 10 ^ (limit + k - digitsOf limit n k s .count) ≤ (n + 1) * 10 ^ limit
 digits-size zero n k s = rw (digits-full n k s) (same n k zero)
 digits-size (suc limit) n k [] = rw (digits-none (suc limit) n k) (same n k (suc limit))
 digits-size (suc limit) n k (c ∷ s) = by-digit limit n k c s (isDigit c) refl (digits-size limit (10 * n + (c - 0x30)) (k + 1) s)
 
 pub digits-below : (limit n : ℕ) (s : List ℕ) → digitsOf limit n 0 s .number < (n + 1) * 10 ^ limit
-digits-below limit n s = bounded (digitsOf limit n 0 s .number) (limit + 0 - digitsOf limit n 0 s .count) ((n + 1) * 10 ^ limit) (digits-size limit n 0 s)
+digits-below limit n s = bounded (digitsOf limit n 0 s .number) (limit + 0 - digitsOf limit n 0 s .count) ((n + 1) * 10 ^ limit)
+    (digits-size limit n 0 s)

@@ -16,13 +16,13 @@ use Rattle.value.specs.Number.{digitsOf}
 -- A number that was read is below n.
 abbrev pub Below : ℕ → Num → Type 0
 Below n (num.Is k) = k < n
-Below n num.Lacks = Unit {0}
+Below n num.None = Unit {0}
 
 -- The same without its sign.
 abbrev pub SizeBelow : ℕ → Signed → Type 0
 SizeBelow n (signed.Plus k) = k < n
 SizeBelow n (signed.Minus k) = k < n
-SizeBelow n signed.Lacks = Unit {0}
+SizeBelow n signed.None = Unit {0}
 
 -- How many values end at a byte.
 abbrev pub partsAt : ℕ → ℕ

@@ -1,4 +1,4 @@
--- Numbers in values: US and SS in binary, IS and DS in text. A read that has no number answers `Lacks`.
+-- Numbers in values: US and SS in binary, IS and DS in text. A read that has no number answers `None`.
 use Prim.Native.Nat.{ℕ, zero, suc, _+_, _-_, _*_, _/_, _%_, _^_}
 use mathlib.Core.Bool.{Bool, true, false, cond, _&&_, _||_}
 use mathlib.Core.List.{List, [], _∷_}
@@ -17,7 +17,7 @@ use Rattle.value.specs.Text.{valuesOf, valueOf, isSingle, trimmed}
 
 -- A single US.
 unfoldable pub usOf : List ℕ → Num
-usOf v = cond (eqb (length v) 2) (num.Is (le16 v 0)) num.Lacks
+usOf v = cond (eqb (length v) 2) (num.Is (le16 v 0)) num.None
 
 -- The values of a US, two bytes each.
 unfoldable pub usValues : List ℕ → List ℕ
@@ -30,7 +30,7 @@ unfoldable pub ssOf : List ℕ → Signed
 ssOf v =
     cond (eqb (length v) 2)
     (cond (ltb (le16 v 0) 32768) (signed.Plus (le16 v 0)) (signed.Minus (65536 - le16 v 0)))
-    signed.Lacks
+    signed.None
 
 -- ---- Digits
 
@@ -54,11 +54,11 @@ digitsOf (suc limit) n k (c ∷ s) =
 
 abbrev pub plus : Num → Signed
 plus (num.Is n) = signed.Plus n
-plus num.Lacks = signed.Lacks
+plus num.None = signed.None
 
 abbrev pub minus : Num → Signed
 minus (num.Is n) = signed.Minus n
-minus num.Lacks = signed.Lacks
+minus num.None = signed.None
 
 -- An optional sign, then what `size` reads.
 unfoldable pub signedBy : (List ℕ → Num) → List ℕ → Signed
@@ -69,8 +69,8 @@ signedBy size (c ∷ s) = cond (eqb c 0x2B) (plus (size s)) (cond (eqb c 0x2D) (
 
 -- Digits and nothing after them, at least one.
 abbrev pub wholeOn : Digits → List ℕ → Num
-wholeOn d [] = cond (eqb (d .count) 0) num.Lacks (num.Is (d .number))
-wholeOn d (c ∷ s) = num.Lacks
+wholeOn d [] = cond (eqb (d .count) 0) num.None (num.Is (d .number))
+wholeOn d (c ∷ s) = num.None
 
 abbrev pub wholeBy : Digits → Num
 wholeBy d = wholeOn d (d .rest)
@@ -81,7 +81,7 @@ wholeOf limit s = wholeBy (digitsOf limit 0 0 s)
 
 -- A single IS: rule 15's form, 1 to 11 digits.
 unfoldable pub isOf : List ℕ → Signed
-isOf v = cond (isSingle v) (signedBy (wholeOf 11) (trimmed (valueOf v 0))) signed.Lacks
+isOf v = cond (isSingle v) (signedBy (wholeOf 11) (trimmed (valueOf v 0))) signed.None
 
 -- ---- DS
 
@@ -106,11 +106,11 @@ runOf n s = digitsOf (length s) n 0 s
 
 -- So many units, where a DS number may be of that size.
 abbrev pub ifSmall : ℕ → Num
-ifSmall n = cond (ltb n sizeLimit) (num.Is n) num.Lacks
+ifSmall n = cond (ltb n sizeLimit) (num.Is n) num.None
 
 -- n / p, where that is a whole number.
 abbrev pub wholly : ℕ → ℕ → Num
-wholly n p = cond (eqb (n % p) 0) (ifSmall (n / p)) num.Lacks
+wholly n p = cond (eqb (n % p) 0) (ifSmall (n / p)) num.None
 
 -- The exact number m · 10^up / 10^down, where that is a whole number of units and of a DS number's size.
 unfoldable pub exactOf : ℕ → ℕ → ℕ → Num
@@ -120,7 +120,7 @@ exactOf m up down = wholly (m * 10 ^ up) (10 ^ down)
 abbrev pub scaledBy : ℕ → ℕ → Signed → Num
 scaledBy m after (signed.Plus e) = exactOf m (decimals + e) after
 scaledBy m after (signed.Minus e) = exactOf m decimals (after + e)
-scaledBy m after signed.Lacks = num.Lacks
+scaledBy m after signed.None = num.None
 
 -- E or e.
 abbrev pub isMark : ℕ → Bool
@@ -132,8 +132,8 @@ exponentOf s = signedBy (wholeOf characters) s
 
 -- What stands after `count` digits that made m, `after` of them behind the point: nothing, or an exponent.
 unfoldable pub endOf : ℕ → ℕ → ℕ → List ℕ → Num
-endOf count m after [] = cond (eqb count 0) num.Lacks (scaledBy m after (signed.Plus 0))
-endOf count m after (c ∷ s) = cond (eqb count 0) num.Lacks (cond (isMark c) (scaledBy m after (exponentOf s)) num.Lacks)
+endOf count m after [] = cond (eqb count 0) num.None (scaledBy m after (signed.Plus 0))
+endOf count m after (c ∷ s) = cond (eqb count 0) num.None (cond (isMark c) (scaledBy m after (exponentOf s)) num.None)
 
 -- Digits after a point, `before` digits stood before it.
 abbrev pub pointBy : ℕ → Digits → Num
@@ -152,24 +152,24 @@ sizeOf s = fractionBy (runOf 0 s)
 
 -- One value of a DS, without outer spaces: at most 16 characters, an optional sign and a size.
 unfoldable pub decimalOf : List ℕ → Signed
-decimalOf v = cond (leb (length (trimmed v)) characters) (signedBy sizeOf (trimmed v)) signed.Lacks
+decimalOf v = cond (leb (length (trimmed v)) characters) (signedBy sizeOf (trimmed v)) signed.None
 
 abbrev pub isNumber : Signed → Bool
 isNumber (signed.Plus n) = true
 isNumber (signed.Minus n) = true
-isNumber signed.Lacks = false
+isNumber signed.None = false
 
 -- The least width of a function: 1 for LINEAR; for LINEAR_EXACT a width need only be above 0.
 abbrev pub leastWidth : Function → ℕ
 leastWidth function.Linear = unit
 leastWidth function.Exact = 1
-leastWidth function.Lacks = unit
+leastWidth function.Other = unit
 
 -- A width: at least so many units.
 abbrev pub isWidth : ℕ → Signed → Bool
 isWidth least (signed.Plus n) = leb least n
 isWidth least (signed.Minus n) = false
-isWidth least signed.Lacks = false
+isWidth least signed.None = false
 
 unfoldable pub all : (List ℕ → Bool) → List (List ℕ) → Bool
 all p [] = true

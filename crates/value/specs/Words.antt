@@ -4,7 +4,7 @@ use mathlib.Core.Bool.{Bool, true, false, cond, _&&_}
 use mathlib.Core.List.{List}
 use Rattle.value.specs.Text.{ascii, equal, isSingle, valueOf, trimEnd, trimmed}
 use Rattle.value.specs.declared.Function.{Function}
-use Rattle.value.specs.declared.Function.the-variants.{Linear, Exact, Lacks}
+use Rattle.value.specs.declared.Function.the-variants.{Linear, Exact, Other}
 
 -- Value k of a CS, without outer spaces, is the word.
 unfoldable pub wordAt : List ℕ → ℕ → List ℕ → Bool
@@ -20,9 +20,9 @@ isUid v uid = isSingle v && equal (trimEnd 0 (valueOf v 0)) uid
 
 -- VOI LUT Function (0028,1056): LINEAR or LINEAR_EXACT. No other word is drawn.
 unfoldable pub functionOf : List ℕ → Function
-functionOf v = cond (isWord v (ascii "LINEAR")) Linear (cond (isWord v (ascii "LINEAR_EXACT")) Exact Lacks)
+functionOf v = cond (isWord v (ascii "LINEAR")) Linear (cond (isWord v (ascii "LINEAR_EXACT")) Exact Other)
 
 abbrev pub isFunction : Function → Bool
 isFunction Linear = true
 isFunction Exact = true
-isFunction Lacks = false
+isFunction Other = false

@@ -5,7 +5,9 @@ ghost use Prim.Native.Nat.{_+_, _-_, _*_, _^_, _≤_, _<_};
 ghost use lib.ListN.{length, drop, getD};
 ghost use Rattle.value.specs.Text.{equal, valuesOf, valueOf, isSingle, trimStart, trimEnd, trimmed};
 ghost use Rattle.value.specs.Words.{wordAt, isWord, isUid, functionOf, isFunction};
-ghost use Rattle.value.specs.Number.{usOf, usValues, ssOf, plus, minus, signedBy, wholeOf, isOf, sizeLimit, characters, runOf, ifSmall, wholly, exactOf, scaledBy, isMark, exponentOf, endOf, pointBy, sizeOf, decimalOf, isNumber, leastWidth, isWidth, allDecimals, allWidths};
+ghost use Rattle.value.specs.Number.{usOf, usValues, ssOf, plus, minus, signedBy, wholeOf, isOf, sizeLimit, characters, runOf};
+ghost use Rattle.value.specs.Number.{ifSmall, wholly, exactOf, scaledBy, isMark, exponentOf, endOf, pointBy, sizeOf, decimalOf};
+ghost use Rattle.value.specs.Number.{isNumber, leastWidth, isWidth, allDecimals, allWidths};
 ghost use Rattle.value.specs.Contracts.{Below, SizeBelow, DigitsRead, partsAt};
 use basics::u16_at;
 use basics::wide;
@@ -13,21 +15,21 @@ use basics::wide;
 // A number, or none.
 pub enum Num {
     Is(usize),
-    Lacks,
+    None,
 }
 
 // A number with a sign, or none.
 pub enum Signed {
     Plus(usize),
     Minus(usize),
-    Lacks,
+    None,
 }
 
 // The function of a window, or none that is drawn.
 pub enum Function {
     Linear,
     Exact,
-    Lacks,
+    Other,
 }
 
 // Digits that were read: their number, and how many they are.
@@ -220,7 +222,7 @@ pub fn function_of(v: &[u8]) -> Function
         if is_word(v, b"LINEAR_EXACT") {
             Function::Exact
         } else {
-            Function::Lacks
+            Function::Other
         }
     }
 }
@@ -231,7 +233,7 @@ pub fn is_function(f: Function) -> bool
     match f {
         Function::Linear => true,
         Function::Exact => true,
-        Function::Lacks => false,
+        Function::Other => false,
     }
 }
 
@@ -242,7 +244,7 @@ pub fn least_width(f: Function) -> usize
     match f {
         Function::Linear => UNIT,
         Function::Exact => 1,
-        Function::Lacks => UNIT,
+        Function::Other => UNIT,
     }
 }
 
@@ -256,7 +258,7 @@ pub fn us_of(v: &[u8]) -> Num
     if v.len() == 2 {
         Num::Is(u16_at(v, 0))
     } else {
-        Num::Lacks
+        Num::None
     }
 }
 
@@ -282,7 +284,7 @@ pub fn ss_of(v: &[u8]) -> Signed
             Signed::Minus(65536 - n)
         }
     } else {
-        Signed::Lacks
+        Signed::None
     }
 }
 
@@ -331,7 +333,7 @@ fn plus(n: Num) -> Signed
 {
     match n {
         Num::Is(k) => Signed::Plus(k),
-        Num::Lacks => Signed::Lacks,
+        Num::None => Signed::None,
     }
 }
 
@@ -340,7 +342,7 @@ fn minus(n: Num) -> Signed
 {
     match n {
         Num::Is(k) => Signed::Minus(k),
-        Num::Lacks => Signed::Lacks,
+        Num::None => Signed::None,
     }
 }
 
@@ -354,13 +356,9 @@ fn whole_of(s: &[u8], limit: usize) -> Num
     let d = digits(s, limit, 0);
     let n = d.count;
     if n == s.len() {
-        if n == 0 {
-            Num::Lacks
-        } else {
-            Num::Is(d.number)
-        }
+        if n == 0 { Num::None } else { Num::Is(d.number) }
     } else {
-        Num::Lacks
+        Num::None
     }
 }
 
@@ -391,7 +389,7 @@ pub fn is_of(v: &[u8]) -> Signed
         let t = trimmed(p);
         signed_whole(t, 11)
     } else {
-        Signed::Lacks
+        Signed::None
     }
 }
 
@@ -406,7 +404,7 @@ fn multiplied(m: usize, e: usize) -> Num
     let mut left = e;
     while 0 < left {
         if SIZE_LIMIT <= n {
-            return Num::Lacks;
+            return Num::None;
         }
         n = 10 * n;
         left -= 1;
@@ -414,7 +412,7 @@ fn multiplied(m: usize, e: usize) -> Num
     if n < SIZE_LIMIT {
         Num::Is(n)
     } else {
-        Num::Lacks
+        Num::None
     }
 }
 
@@ -426,7 +424,7 @@ fn divided(m: usize, e: usize) -> Num
     let mut left = e;
     while 0 < left {
         if n % 10 != 0 {
-            return Num::Lacks;
+            return Num::None;
         }
         n = n / 10;
         left -= 1;
@@ -434,7 +432,7 @@ fn divided(m: usize, e: usize) -> Num
     if n < SIZE_LIMIT {
         Num::Is(n)
     } else {
-        Num::Lacks
+        Num::None
     }
 }
 
@@ -462,7 +460,7 @@ fn scaled(m: usize, after: usize, exponent: Signed) -> Num
     match exponent {
         Signed::Plus(e) => exact(m, DECIMALS + e, after),
         Signed::Minus(e) => exact(m, DECIMALS, after + e),
-        Signed::Lacks => Num::Lacks,
+        Signed::None => Num::None,
     }
 }
 
@@ -486,7 +484,7 @@ fn end_of(s: &[u8], count: usize, m: usize, after: usize) -> Num
     ensures { λ r. ⌜ r ≡ endOf count m after (now (s .entry)) ⌝ }
 {
     if count == 0 {
-        return Num::Lacks;
+        return Num::None;
     }
     if s.len() == 0 {
         return exact(m, DECIMALS, after);
@@ -494,7 +492,7 @@ fn end_of(s: &[u8], count: usize, m: usize, after: usize) -> Num
     if is_mark(s[0]) {
         scaled(m, after, exponent_of(&s[1..]))
     } else {
-        Num::Lacks
+        Num::None
     }
 }
 
@@ -553,7 +551,7 @@ pub fn decimal_of(v: &[u8]) -> Signed
     if t.len() <= CHARACTERS {
         signed_size(t)
     } else {
-        Signed::Lacks
+        Signed::None
     }
 }
 
@@ -563,7 +561,7 @@ fn is_decimal(v: &[u8]) -> bool
     match decimal_of(v) {
         Signed::Plus(_) => true,
         Signed::Minus(_) => true,
-        Signed::Lacks => false,
+        Signed::None => false,
     }
 }
 
@@ -574,7 +572,7 @@ fn is_width(v: &[u8], least: usize) -> bool
     match decimal_of(v) {
         Signed::Plus(n) => least <= n,
         Signed::Minus(_) => false,
-        Signed::Lacks => false,
+        Signed::None => false,
     }
 }
 

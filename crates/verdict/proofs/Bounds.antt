@@ -11,7 +11,8 @@ use Rattle.basics.specs.Limits.{mostRows}
 use Rattle.verdict.specs.declared.RowCount.{RowCount}
 use Rattle.verdict.specs.declared.RowCount.the-variants.{Known}
 use Rattle.verdict.specs.declared.Verdict.{Verdict}
-use Rattle.verdict.specs.Verdict.{perFrame, frameFits, lastFrame, lastRule, lastOffset, alone, possiblePlain, possibleRefusal, possibleBreach, fieldsFit, countFits, rowsFit, possible}
+use Rattle.verdict.specs.Verdict.{perFrame, frameFits, lastFrame, lastRule, lastOffset, alone, possiblePlain, possibleRefusal}
+use Rattle.verdict.specs.Verdict.{possibleBreach, fieldsFit, countFits, rowsFit, possible}
 use Rattle.basics.proofs.Tests.{and-both, or-either}
 
 pub record Small (v : Verdict) : Type 0 where
@@ -58,7 +59,8 @@ breach-frame false n e = omega (arith, eqb-true n 0 e)
 breach : (v : Verdict) → possibleBreach v ≡ true → Small v
 unfolding frameFits
 breach v e =
-    let a = and-both (eqb (v .code) 9) ((leb 1 (v .rule) && leb (v .rule) lastRule) && (frameFits (v .rule) (v .frame) && eqb (v .offset) 0)) e in
+    let a = and-both (eqb (v .code) 9)
+    ((leb 1 (v .rule) && leb (v .rule) lastRule) && (frameFits (v .rule) (v .frame) && eqb (v .offset) 0)) e in
     let b = and-both (leb 1 (v .rule) && leb (v .rule) lastRule) (frameFits (v .rule) (v .frame) && eqb (v .offset) 0) (a .1) in
     let k = and-both (leb 1 (v .rule)) (leb (v .rule) lastRule) (b .0) in
     let d = and-both (frameFits (v .rule) (v .frame)) (eqb (v .offset) 0) (b .1) in

@@ -1,6 +1,7 @@
 // Verdicts: the code, rule, frame, offset and row count of a judge's answer.
 ghost use mathlib.Core.Path.{_≡_};
-ghost use Rattle.verdict.specs.Verdict.{perFrame, frameFits, alone, possiblePlain, possibleRefusal, possibleBreach, fieldsFit, countFits, rowsFit, possible};
+ghost use Rattle.verdict.specs.Verdict.{perFrame, frameFits, alone, possiblePlain, possibleRefusal, possibleBreach, fieldsFit};
+ghost use Rattle.verdict.specs.Verdict.{countFits, rowsFit, possible};
 
 // The number of the last rule.
 pub const LAST_RULE: usize = 39;

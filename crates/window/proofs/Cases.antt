@@ -52,7 +52,8 @@ samples =
     ∷ cell (fullWindow 8) false 255 255
     ∷ []
 
-pub sample-shades : map (λ (c : Cell). shaded (c .inverse) (levelOf (c .window) (pos (c .x)))) samples ≡ map (λ (c : Cell). Is (c .shade)) samples
+pub sample-shades : map (λ (c : Cell). shaded (c .inverse) (levelOf (c .window) (pos (c .x)))) samples
+    ≡ map (λ (c : Cell). Is (c .shade)) samples
 unfolding samples narrow wide exact fullWindow levelOf shadeOf
 sample-shades = refl
 

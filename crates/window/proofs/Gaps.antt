@@ -74,7 +74,8 @@ pub le-test : {y z : ℤ} {a b c d : ℕ} → Gap y a b → Gap z c d → leZ y 
 le-test {y = pos m} {z = pos n} {a = a} {b = b} {c = c} {d = d} g h = same-leb m n (a + d) (c + b) (λ k. omega arith) (λ k. omega arith)
 le-test {y = pos m} {z = negsuc n} {a = a} {b = b} {c = c} {d = d} g h = sym (lt-leb (a + d) (c + b) (omega arith))
 le-test {y = negsuc m} {z = pos n} {a = a} {b = b} {c = c} {d = d} g h = sym (le-leb (a + d) (c + b) (omega arith))
-le-test {y = negsuc m} {z = negsuc n} {a = a} {b = b} {c = c} {d = d} g h = same-leb n m (a + d) (c + b) (λ k. omega arith) (λ k. omega arith)
+le-test {y = negsuc m} {z = negsuc n} {a = a} {b = b} {c = c} {d = d} g h = same-leb n m (a + d) (c + b) (λ k. omega arith)
+    (λ k. omega arith)
 
 ltb-leb : (m n : ℕ) → ltb m n ≡ not (leb n m)
 ltb-leb m n = go (leb n m) refl

@@ -45,12 +45,12 @@ differ e =
 is-wide : (least : ℕ) (s : Signed) → isWidth least s ≡ true → least ≤ above s
 is-wide least (signed.Plus n) e = leb-true least n e
 is-wide least (signed.Minus n) e = absurd (differ e)
-is-wide least signed.Lacks e = absurd (differ e)
+is-wide least signed.None e = absurd (differ e)
 
 off-least : (f : Function) → (takenOff f ≤ leastWidth f) × (0 < leastWidth f)
 off-least function.Linear = (omega arith, omega arith)
 off-least function.Exact = (omega arith, omega arith)
-off-least function.Lacks = (omega arith, omega arith)
+off-least function.Other = (omega arith, omega arith)
 
 pub widths : (w : Window) → Ruled w → Widths w
 widths w r =
@@ -61,12 +61,12 @@ widths w r =
 above-small : (s : Signed) → SizeBelow sizeLimit s → above s < sizeLimit
 above-small (signed.Plus n) h = h
 above-small (signed.Minus n) h = omega arith
-above-small signed.Lacks h = omega arith
+above-small signed.None h = omega arith
 
 below-small : (s : Signed) → SizeBelow sizeLimit s → below s < sizeLimit
 below-small (signed.Plus n) h = omega arith
 below-small (signed.Minus n) h = h
-below-small signed.Lacks h = omega arith
+below-small signed.None h = omega arith
 
 pub sizes : (w : Window) → Drawable w → Sizes w
 sizes w d = record {
@@ -81,17 +81,17 @@ pub signed-gap : (s : Signed) → Gap (integer s) (above s) (below s)
 signed-gap (signed.Plus n) = whole n
 signed-gap (signed.Minus zero) = whole 0
 signed-gap (signed.Minus (suc n)) = record { is = omega arith }
-signed-gap signed.Lacks = whole 0
+signed-gap signed.None = whole 0
 
 width-is : (s : Signed) → 0 < above s → integer s ≡ pos (above s)
 width-is (signed.Plus n) h = refl
 width-is (signed.Minus n) h = absurd (omega arith)
-width-is signed.Lacks h = absurd (omega arith)
+width-is signed.None h = absurd (omega arith)
 
 width-below : (s : Signed) → 0 < above s → below s ≡ 0
 width-below (signed.Plus n) h = refl
 width-below (signed.Minus n) h = absurd (omega arith)
-width-below signed.Lacks h = absurd (omega arith)
+width-below signed.None h = absurd (omega arith)
 
 -- ---- The third case
 
@@ -136,7 +136,8 @@ module _ {t c : ℤ} {p m a b : ℕ} (e w : ℕ) (t-is : Gap t p m) (c-is : Gap 
         (omega arith)
         ∙ ap pos (omega arith)
 
-    pub third : n < u → floor (pos 255 *ℤ (t -ℤ pos 2 *ℤ c +ℤ pos w) +ℤ pos w -ℤ pos e) (pos 2 *ℤ (pos w -ℤ pos e)) ≡ pos ((255 * (u - n) + w - e) / (2 * (w - e)))
+    pub third : n < u → floor (pos 255 *ℤ (t -ℤ pos 2 *ℤ c +ℤ pos w) +ℤ pos w -ℤ pos e) (pos 2 *ℤ (pos w -ℤ pos e))
+        ≡ pos ((255 * (u - n) + w - e) / (2 * (w - e)))
     third h = rw (dividend h, divisor)
 
     pub level-none : u ≤ n → levelBy (pos e) c (pos w) t ≡ some (pos 0)
@@ -154,21 +155,25 @@ module _ {t c : ℤ} {p m a b : ℕ} (e w : ℕ) (t-is : Gap t p m) (c-is : Gap 
     unfolding rampOf
     level-ramp h = go (ltb (2 * w) (u - n + 2 * e)) refl
       where
-        go : (b : Bool) → ltb (2 * w) (u - n + 2 * e) ≡ b → levelBy (pos e) c (pos w) t ≡ some (pos (cond b 255 ((255 * (u - n) + w - e) / (2 * (w - e)))))
+        go : (b : Bool) → ltb (2 * w) (u - n + 2 * e) ≡ b
+            → levelBy (pos e) c (pos w) t ≡ some (pos (cond b 255 ((255 * (u - n) + w - e) / (2 * (w - e)))))
         go true q = level-full h (ltb-true (2 * w) (u - n + 2 * e) q)
         go false q = level-part h (ltb-false (2 * w) (u - n + 2 * e) q)
 
 -- ---- Windows
 
 module _ (window : Window) (widths : Widths window) {x : ℤ} {p m : ℕ} (x-is : Gap x p m) where
-  module _ (u n : ℕ) (u-is : u ≡ 2 * unit * p + 2 * below (window .center) + above (window .width)) (n-is : n ≡ 2 * unit * m + 2 * above (window .center)) where
+  module _ (u n : ℕ) (u-is : u ≡ 2 * unit * p + 2 * below (window .center) + above (window .width))
+      (n-is : n ≡ 2 * unit * m + 2 * above (window .center)) where
     pub window-none : u ≤ n → levelOf window x ≡ some (pos 0)
     unfolding levelOf
-    window-none h = rw (width-is (window .width) (widths .some)) (level-none (takenOff (window .function)) (above (window .width)) (times (2 * unit) x-is) (signed-gap (window .center)) (widths .wide) u n u-is n-is h)
+    window-none h = rw (width-is (window .width) (widths .some)) (level-none (takenOff (window .function)) (above (window .width))
+        (times (2 * unit) x-is) (signed-gap (window .center)) (widths .wide) u n u-is n-is h)
 
     pub window-ramp : n < u → levelOf window x ≡ some (pos (rampOf (takenOff (window .function)) (u - n) (above (window .width))))
     unfolding levelOf
-    window-ramp h = rw (width-is (window .width) (widths .some)) (level-ramp (takenOff (window .function)) (above (window .width)) (times (2 * unit) x-is) (signed-gap (window .center)) (widths .wide) u n u-is n-is h)
+    window-ramp h = rw (width-is (window .width) (widths .some)) (level-ramp (takenOff (window .function)) (above (window .width))
+        (times (2 * unit) x-is) (signed-gap (window .center)) (widths .wide) u n u-is n-is h)
 
 -- A level that does not lack, and is at most 255.
 pub record Leveled (window : Window) (x : ℤ) : Type 0 where
@@ -218,29 +223,36 @@ levelled window p m =
     (rampOf (takenOff (window .function)) (raised window p - lowered window m) (above (window .width)))
 
 module _ (window : Window) {t : ℤ} {p m : ℕ} (t-is : Gap t p m) where
-  above-none : lowered window m < raised window p → levelAt window t ≡ some (pos (rampOf (takenOff (window .function)) (raised window p - lowered window m) (above (window .width))))
+  above-none : lowered window m < raised window p
+      → levelAt window t ≡ some (pos (rampOf (takenOff (window .function)) (raised window p - lowered window m) (above (window .width))))
   unfolding raised lowered
   above-none l = go (leb (above (window .width)) (takenOff (window .function))) refl
     where
       go : (s : Bool) → leb (above (window .width)) (takenOff (window .function)) ≡ s
-          → levelAt window t ≡ some (pos (rampOf (takenOff (window .function)) (raised window p - lowered window m) (above (window .width))))
+          → levelAt window t
+          ≡ some (pos (rampOf (takenOff (window .function)) (raised window p - lowered window m) (above (window .width))))
       go true q =
           let narrow = leb-true (above (window .width)) (takenOff (window .function)) q in
           step-full (takenOff (window .function)) t-is (signed-gap (window .center)) (signed-gap (window .width)) (omega (arith, narrow)) l
-          ∙ ap (λ (y : ℕ). some (pos y)) (sym (ramp-full (takenOff (window .function)) (raised window p - lowered window m) (above (window .width)) narrow (omega arith)))
+          ∙ ap (λ (y : ℕ). some (pos y)) (sym
+          (ramp-full (takenOff (window .function)) (raised window p - lowered window m) (above (window .width)) narrow (omega arith)))
       go false q =
-          let wide : takenOff (window .function) < above (window .width) = leb-false (above (window .width)) (takenOff (window .function)) q in
+          let wide : takenOff (window .function)
+          < above (window .width) = leb-false (above (window .width)) (takenOff (window .function)) q in
           let none = width-below (window .width) (omega arith) in
           rw (width-is (window .width) (omega arith))
-          (level-ramp (takenOff (window .function)) (above (window .width)) t-is (signed-gap (window .center)) (omega arith) (raised window p) (lowered window m) refl (omega (arith, none)) l)
+          (level-ramp (takenOff (window .function)) (above (window .width)) t-is (signed-gap (window .center)) (omega arith)
+          (raised window p) (lowered window m) refl (omega (arith, none)) l)
 
   pub level-is : levelAt window t ≡ some (pos (levelled window p m))
   unfolding levelled raised lowered
   level-is = go (leb (raised window p) (lowered window m)) refl
     where
       go : (s : Bool) → leb (raised window p) (lowered window m) ≡ s
-          → levelAt window t ≡ some (pos (cond s 0 (rampOf (takenOff (window .function)) (raised window p - lowered window m) (above (window .width)))))
-      go true e = step-none (takenOff (window .function)) t-is (signed-gap (window .center)) (signed-gap (window .width)) (leb-true (raised window p) (lowered window m) e)
+          → levelAt window t
+          ≡ some (pos (cond s 0 (rampOf (takenOff (window .function)) (raised window p - lowered window m) (above (window .width)))))
+      go true e = step-none (takenOff (window .function)) t-is (signed-gap (window .center)) (signed-gap (window .width))
+          (leb-true (raised window p) (lowered window m) e)
       go false e = above-none (leb-false (raised window p) (lowered window m) e)
 
 pub level-small : (window : Window) (p m : ℕ) → levelled window p m ≤ 255
@@ -297,6 +309,8 @@ shaded-is true y h = ap cellOf (value (gap 255 y) h)
 shaded-is false y h = refl
 
 -- A place of the table, by its level.
-pub shade-is : (window : Window) (stored : ℕ) (inverse : Bool) (i y : ℕ) → y ≤ 255 → levelOf window (pos (i + 2 ^ (stored - 1)) -ℤ pos (2 ^ stored - 1)) ≡ some (pos y) → shadeAt window stored inverse i ≡ shadeNumber inverse y
+pub shade-is : (window : Window) (stored : ℕ) (inverse : Bool) (i y : ℕ) → y ≤ 255
+    → levelOf window (pos (i + 2 ^ (stored - 1)) -ℤ pos (2 ^ stored - 1)) ≡ some (pos y)
+    → shadeAt window stored inverse i ≡ shadeNumber inverse y
 unfolding shadeAt
 shade-is window stored inverse i y h e = ap (λ (o : Option ℤ). number (shaded inverse o)) e ∙ ap number (shaded-is inverse y h)

@@ -42,11 +42,13 @@ levelled-grows window p m q n l = go (leb (raised window p) (lowered window m)) 
     go : (s t : Bool) → leb (raised window p) (lowered window m) ≡ s → leb (raised window q) (lowered window n) ≡ t
         → cond s 0 (f (raised window p - lowered window m)) ≤ cond t 0 (f (raised window q - lowered window n))
     go true t i j = omega arith
-    go false true i j = absurd (omega (arith, l, leb-false (raised window p) (lowered window m) i, leb-true (raised window q) (lowered window n) j))
+    go false true i j = absurd
+        (omega (arith, l, leb-false (raised window p) (lowered window m) i, leb-true (raised window q) (lowered window n) j))
     go false false i j =
         let u : lowered window m < raised window p = leb-false (raised window p) (lowered window m) i in
         let v : lowered window n < raised window q = leb-false (raised window q) (lowered window n) j in
-        ramp-grows (takenOff (window .function)) (raised window p - lowered window m) (raised window q - lowered window n) (above (window .width)) (omega arith) (omega (arith, l))
+        ramp-grows (takenOff (window .function)) (raised window p - lowered window m) (raised window q - lowered window n)
+        (above (window .width)) (omega arith) (omega (arith, l))
 
 pub monotone : Monotone
 unfolding levelOf
@@ -57,5 +59,6 @@ monotone w x z h =
       v = pos (levelled w (2 * unit * over z) (2 * unit * under z));
       is = level-is w (times (2 * unit) (integer-gap x));
       next = level-is w (times (2 * unit) (integer-gap z));
-      rises = le-leb _ _ (levelled-grows w (2 * unit * over x) (2 * unit * under x) (2 * unit * over z) (2 * unit * under z) (omega (arith, o)));
+      rises = le-leb _ _
+          (levelled-grows w (2 * unit * over x) (2 * unit * under x) (2 * unit * over z) (2 * unit * under z) (omega (arith, o)));
     }

@@ -7,7 +7,7 @@ use lib.Dec.{ltb}
 use lib.ListN.{length, getD}
 use lib.IntN.{pos, _-ℤ_}
 use Rattle.value.specs.declared.Num.{Num}
-use Rattle.value.specs.declared.Num.the-variants.{Is, Lacks}
+use Rattle.value.specs.declared.Num.the-variants.{Is, None}
 use Rattle.value.specs.declared.Signed.{Signed}
 use Rattle.value.specs.declared.Signed.the-variants as signed
 use Rattle.value.specs.Words.{isFunction}
@@ -32,12 +32,12 @@ pub record Drawable (w : Window) : Type 0 where
 abbrev pub above : Signed → ℕ
 above (signed.Plus n) = n
 above (signed.Minus n) = 0
-above signed.Lacks = 0
+above signed.None = 0
 
 abbrev pub below : Signed → ℕ
 below (signed.Plus n) = 0
 below (signed.Minus n) = n
-below signed.Lacks = 0
+below signed.None = 0
 
 -- The level where d is 2ux - 2C + W and above 0, and e what the function takes off.
 unfoldable pub rampOf : ℕ → ℕ → ℕ → ℕ
@@ -46,7 +46,7 @@ rampOf e d w = cond (ltb (2 * w) (d + 2 * e)) 255 ((255 * d + w - e) / (2 * (w -
 -- The number of a cell that does not lack.
 abbrev pub number : Num → ℕ
 number (Is n) = n
-number Lacks = 0
+number None = 0
 
 -- Place i of a table for so many stored bits: the shade of x = i + 2^(stored - 1) - (2^stored - 1).
 unfoldable pub shadeAt : Window → ℕ → Bool → ℕ → ℕ

@@ -5,7 +5,7 @@ use mathlib.Core.Option.{Option, none, some}
 use lib.IntN.{ℤ, pos, negsuc, natAbs, _+ℤ_, _-ℤ_, _*ℤ_}
 use lib.Signed.{leZ, ltZ}
 use Rattle.value.specs.declared.Num.{Num}
-use Rattle.value.specs.declared.Num.the-variants.{Is, Lacks}
+use Rattle.value.specs.declared.Num.the-variants.{Is, None}
 use Rattle.value.specs.declared.Signed.{Signed}
 use Rattle.value.specs.declared.Signed.the-variants as signed
 use Rattle.value.specs.declared.Function.{Function}
@@ -18,11 +18,12 @@ abbrev pub integer : Signed → ℤ
 integer (signed.Plus n) = pos n
 integer (signed.Minus zero) = pos 0
 integer (signed.Minus (suc n)) = negsuc n
-integer signed.Lacks = pos 0
+integer signed.None = pos 0
 
 -- The window of a frame without a VOI group: centre 2^(stored - 1), which is 1/2 for 0 bits stored, and width 2^stored, in units; LINEAR.
 unfoldable pub fullWindow : ℕ → Window
-fullWindow stored = record { center = signed.Plus (unit * 2 ^ stored / 2); width = signed.Plus (unit * 2 ^ stored); function = function.Linear }
+fullWindow
+    stored = record { center = signed.Plus (unit * 2 ^ stored / 2); width = signed.Plus (unit * 2 ^ stored); function = function.Linear }
 
 -- a / b rounded down, for a b above 0.
 abbrev pub floor : ℤ → ℤ → ℤ
@@ -33,7 +34,7 @@ floor (negsuc a) b = negsuc (a / natAbs b)
 abbrev pub takenOff : Function → ℕ
 takenOff function.Linear = unit
 takenOff function.Exact = 0
-takenOff function.Lacks = unit
+takenOff function.Other = unit
 
 -- Step 6, for a centre C and a width W, with u the units to one and t = 2ux: 0 if t ≤ 2C - W; 255 if t > 2C + W - 2e; else
 -- floor((255(t - 2C + W) + W - e) / (2(W - e))), whose divisor must be above 0. With e = u it is the paper's LINEAR
@@ -63,8 +64,8 @@ shadeOf inverse y = cond inverse (pos 255 -ℤ y) y
 -- A cell of the picture is a number from 0 on. An integer below 0 would be none; and none comes (Bounded.antt).
 abbrev pub cellOf : ℤ → Num
 cellOf (pos n) = Is n
-cellOf (negsuc n) = Lacks
+cellOf (negsuc n) = None
 
 abbrev pub shaded : Bool → Option ℤ → Num
-shaded inverse none = Lacks
+shaded inverse none = None
 shaded inverse (some y) = cellOf (shadeOf inverse y)

@@ -23,7 +23,7 @@ fn above(s: Signed) -> usize
     match s {
         Signed::Plus(n) => n,
         Signed::Minus(n) => 0,
-        Signed::Lacks => 0,
+        Signed::None => 0,
     }
 }
 
@@ -33,7 +33,7 @@ fn below(s: Signed) -> usize
     match s {
         Signed::Plus(n) => 0,
         Signed::Minus(n) => n,
-        Signed::Lacks => 0,
+        Signed::None => 0,
     }
 }
 
@@ -44,7 +44,7 @@ fn taken_off(f: Function) -> usize
     match f {
         Function::Linear => value::UNIT,
         Function::Exact => 0,
-        Function::Lacks => value::UNIT,
+        Function::Other => value::UNIT,
     }
 }
 

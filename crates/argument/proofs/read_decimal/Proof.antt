@@ -43,13 +43,17 @@ loop-less c =
 loop-again : tie.Need-loop-again Inv-loop μ-loop
 loop-again c =
     let at-loop = c .before .before .before in
-    let entry = at-loop .before .before .before in
-    (search needs, laws.next (entry .args .text .now) (at-loop .loop .i) (at-loop .loop .d) (c .with-byte .result) (search needs) (c .with-byte .ensures) ∙ at-loop .loop .inv .1)
+    let entry = at-loop .before .before .before in (
+      search needs,
+      laws.next (entry .args .text .now) (at-loop .loop .i) (at-loop .loop .d) (c .with-byte .result) (search needs)
+          (c .with-byte .ensures) ∙ at-loop .loop .inv .1,
+    )
 
 returns-2 : tie.Need-returns-2 Inv-loop μ-loop
 returns-2 c =
     let entry = c .before .before .before .before in
-    laws.last (entry .args .text .now) (c .before .loop .i) (c .before .loop .d) (omega arith) ∙ (c .before .loop .inv .1 ∙ laws.some-bytes (entry .args .text .now) (c .before .before .if1 .left))
+    laws.last (entry .args .text .now) (c .before .loop .i) (c .before .loop .d) (omega arith)
+    ∙ (c .before .loop .inv .1 ∙ laws.some-bytes (entry .args .text .now) (c .before .before .if1 .left))
 
 pub read-decimal-spec : {M : Type 1} → statement M
 read-decimal-spec =

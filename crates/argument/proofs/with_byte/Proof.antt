@@ -15,13 +15,15 @@ returns c =
 returns-2 : tie.Need-returns-2
 returns-2 c =
     let entry = c .before .before .before .before in
-    laws.below-digits (entry .args .before) (c .before .before .before2 .given .0 .0) (c .before .before .before2 .given .1) (entry .args .c) (c .if1 .taken)
+    laws.below-digits (entry .args .before) (c .before .before .before2 .given .0 .0) (c .before .before .before2 .given .1)
+    (entry .args .c) (c .if1 .taken)
 
 returns-3 : tie.Need-returns-3
 returns-3 c =
     let at-before2 = c .before .before .before in
     let entry = at-before2 .before .before in
-    laws.above-digits (entry .args .before) (at-before2 .before2 .given .0 .0) (at-before2 .before2 .given .1) (entry .args .c) (c .if2 .taken)
+    laws.above-digits (entry .args .before) (at-before2 .before2 .given .0 .0) (at-before2 .before2 .given .1) (entry .args .c)
+    (c .if2 .taken)
 
 cast-more : tie.Need-cast-more
 cast-more c = search needs
@@ -33,7 +35,8 @@ returns-4 : tie.Need-returns-4
 returns-4 c =
     let at-before2 = c .before .before .before .before in
     let entry = at-before2 .before .before in
-    c .more .ensures ∙ laws.digit (entry .args .before) (at-before2 .before2 .given .0 .0) (at-before2 .before2 .given .1) (entry .args .c) (search needs) (search needs)
+    c .more .ensures ∙ laws.digit (entry .args .before) (at-before2 .before2 .given .0 .0) (at-before2 .before2 .given .1) (entry .args .c)
+    (search needs) (search needs)
 
 pub with-byte-spec : {M : Type 1} → statement M
 with-byte-spec =

@@ -58,8 +58,21 @@ unfolding listed
 returns-12 c =
     let x = c .before .args .first in
     let r = c .match .rest in
-    let none : Outside letters x = (r .0 .0 .0 .0 .0 .0 .0 .0 .0 .0 .1, (r .0 .0 .0 .0 .0 .0 .0 .0 .0 .1, (r .0 .0 .0 .0 .0 .0 .0 .0 .1, (r .0 .0 .0 .0 .0 .0 .0 .1, (r .0 .0 .0 .0 .0 .0 .1, (r .0 .0 .0 .0 .0 .1, (r .0 .0 .0 .0 .1, (r .0 .0 .0 .1, (r .0 .0 .1, (r .0 .1, (r .1, tt))))))))))) in
+    let none : Outside letters x = (
+      r .0 .0 .0 .0 .0 .0 .0 .0 .0 .0 .1,
+      (
+        r .0 .0 .0 .0 .0 .0 .0 .0 .0 .1,
+        (
+          r .0 .0 .0 .0 .0 .0 .0 .0 .1,
+          (
+            r .0 .0 .0 .0 .0 .0 .0 .1,
+            (r .0 .0 .0 .0 .0 .0 .1, (r .0 .0 .0 .0 .0 .1, (r .0 .0 .0 .0 .1, (r .0 .0 .0 .1, (r .0 .0 .1, (r .0 .1, (r .1, tt))))))),
+          ),
+        ),
+      ),
+    ) in
     no-forms letters x none tt tt
 
 pub forms-after-spec : {M : Type 1} → statement M
-forms-after-spec = tie.close (tie.spec returns returns-2 returns-3 returns-4 returns-5 returns-6 returns-7 returns-8 returns-9 returns-10 returns-11 returns-12)
+forms-after-spec = tie.close
+    (tie.spec returns returns-2 returns-3 returns-4 returns-5 returns-6 returns-7 returns-8 returns-9 returns-10 returns-11 returns-12)

@@ -1,4 +1,5 @@
--- Nodes put one after another: a turn puts the value, all that is below the node, and then the header. The nodes below are fewer, so the calls end.
+-- Nodes put one after another: a turn puts the value, all that is below the node, and then the header. The nodes below are fewer, so the
+-- calls end.
 use mathlib.Core.Path.{refl}
 use Prim.Native.Nat.{ℕ, _-_, _<_}
 use native.Mathlib.Omega.{arith}
@@ -6,7 +7,8 @@ use borrow.Author.Needs.{needs}
 use borrow.Fn.Kinds.{In, Out}
 use borrow.Fn.PlainCycle.{Measures, is, falls, and}
 use Rattle.node.specs.Nodes.{nodesOf}
-use Rattle.canonical.proofs.Members.{Going, going-first, going-next, going-last, turn-known, turn-room, turn-fits, turn-next, turn-end, wrote-node, wrote-leaf}
+use Rattle.canonical.proofs.Members.{Going, going-first, going-next, going-last, turn-known, turn-room, turn-fits, turn-next}
+use Rattle.canonical.proofs.Members.{turn-end, wrote-node, wrote-leaf}
 use Rattle.canonical.proofs.put_members.Reads as put-members
 use Rattle.canonical.proofs.put_members.Kinds as put-members-kinds
 use Rattle.canonical.proofs.+put_members.Lts-put_members as lts
@@ -57,7 +59,8 @@ claims t = (
 )
 
 -- A need, at what the callees and the function itself are given.
-abbrev Needed : (lts.Claims → In 3 put-members-kinds.ps → Out 3 put-members-kinds.ps put-members-kinds.r → lts.InvT-loop → lts.MeasureT-loop → Type 0) → ℕ → Type 0
+abbrev Needed : (lts.Claims → In 3 put-members-kinds.ps → Out 3 put-members-kinds.ps put-members-kinds.r → lts.InvT-loop
+    → lts.MeasureT-loop → Type 0) → ℕ → Type 0
 Needed N t = N (claims t) (at-measure t) put-members.Post Inv μ-loop
 
 loop-holds : (t : ℕ) → Needed lts.Need-loop-holds t
@@ -96,14 +99,24 @@ add-inside t c =
     let at-vr = c .before .before .before in
     let at-loop = at-vr .before .before .before in
     let entry = at-loop .before .before .before .before in
-    omega (arith, turn-room (entry .args .bytes .now) (entry .pre .1 .1) (at-loop .loop .inv) (omega arith) (at-vr .vr .ensures) (c .before .value .ensures), c .head-size .ensures)
+    omega (
+      arith,
+      turn-room (entry .args .bytes .now) (entry .pre .1 .1) (at-loop .loop .inv) (omega arith) (at-vr .vr .ensures)
+          (c .before .value .ensures),
+      c .head-size .ensures,
+    )
 
 put-value-requires : (t : ℕ) → Needed lts.Need-put-value-requires t
 put-value-requires t c κs =
     let at-vr = c .before .before .before .before in
     let at-loop = at-vr .before .before .before in
     let entry = at-loop .before .before .before .before in
-    omega (arith, turn-room (entry .args .bytes .now) (entry .pre .1 .1) (at-loop .loop .inv) (omega arith) (at-vr .vr .ensures) (c .before .before .value .ensures), c .before .head-size .ensures)
+    omega (
+      arith,
+      turn-room (entry .args .bytes .now) (entry .pre .1 .1) (at-loop .loop .inv) (omega arith) (at-vr .vr .ensures)
+          (c .before .before .value .ensures),
+      c .before .head-size .ensures,
+    )
 
 add-after : (t : ℕ) → Needed lts.Need-add-after t
 add-after t c =
@@ -112,7 +125,12 @@ add-after t c =
     let at-vr = at-value .before .before in
     let at-loop = at-vr .before .before .before in
     let entry = at-loop .before .before .before .before in
-    omega (arith, turn-room (entry .args .bytes .now) (entry .pre .1 .1) (at-loop .loop .inv) (omega arith) (at-vr .vr .ensures) (at-value .value .ensures), at-head-size .head-size .ensures)
+    omega (
+      arith,
+      turn-room (entry .args .bytes .now) (entry .pre .1 .1) (at-loop .loop .inv) (omega arith) (at-vr .vr .ensures)
+          (at-value .value .ensures),
+      at-head-size .head-size .ensures,
+    )
 
 add-if1 : (t : ℕ) → Needed lts.Need-add-if1 t
 add-if1 t c =
@@ -127,8 +145,16 @@ put-header-requires t c κs =
     let at-value = at-head-size .before in
     let at-vr = at-value .before .before in
     let at-loop = at-vr .before .before .before in
-    let entry = at-loop .before .before .before .before in
-    (at-head-size .head-size .ensures .0, omega (arith, turn-room (entry .args .bytes .now) (entry .pre .1 .1) (at-loop .loop .inv) (omega arith) (at-vr .vr .ensures) (at-value .value .ensures), at-put-value .put-value .ensures .kept, at-head-size .head-size .ensures))
+    let entry = at-loop .before .before .before .before in (
+      at-head-size .head-size .ensures .0,
+      omega (
+        arith,
+        turn-room (entry .args .bytes .now) (entry .pre .1 .1) (at-loop .loop .inv)
+            (omega arith) (at-vr .vr .ensures) (at-value .value .ensures),
+        at-put-value .put-value .ensures .kept,
+        at-head-size .head-size .ensures,
+      ),
+    )
 
 loop-less : (t : ℕ) → Needed lts.Need-loop-less t
 loop-less t c =
@@ -149,11 +175,21 @@ loop-again t c =
     let at-loop = at-tag .before .before in
     let entry = at-loop .before .before .before .before in
     going-next (entry .args .bytes .now) (entry .pre .1 .1) (at-loop .loop .inv) (omega arith) (at-next .next .ensures .0)
-    (wrote-leaf (nodesOf (entry .args .bytes .now)) (at-loop .loop .i) (turn-known (entry .args .bytes .now) (entry .pre .1 .1) (at-loop .loop .inv) (omega arith)) (at-tag .tag .ensures) (at-vr .vr .ensures) (at-value .value .ensures) (at-next .next .ensures .0) (at-if1 .if1 .taken) (omega (arith, at-head-size .head-size .ensures)) (at-put-value .put-value .ensures) (c .before .before .put-header .ensures))
+    (wrote-leaf (nodesOf (entry .args .bytes .now)) (at-loop .loop .i)
+    (turn-known (entry .args .bytes .now) (entry .pre .1 .1) (at-loop .loop .inv) (omega arith)) (at-tag .tag .ensures)
+    (at-vr .vr .ensures) (at-value .value .ensures) (at-next .next .ensures .0) (at-if1 .if1 .taken)
+    (omega (arith, at-head-size .head-size .ensures)) (at-put-value .put-value .ensures) (c .before .before .put-header .ensures))
 
 add-put-members : (t : ℕ) → Needed lts.Need-add-put-members t
 add-put-members t c =
-    omega (arith, turn-known (c .before .before .before .before .before .before .before .before .before .before .before .before .before .before .before .before .args .bytes .now) (c .before .before .before .before .before .before .before .before .before .before .before .before .before .before .before .before .pre .1 .1) (c .before .before .before .before .before .before .before .before .before .before .before .before .loop .inv) (omega arith), c .before .before .before .before .before .before .before .before .before .before .before .before .before .before .before .before .pre .1 .0 .table .few)
+    omega (
+      arith,
+      turn-known
+          (c .before .before .before .before .before .before .before .before .before .before .before .before .before .before .before .before .args .bytes .now)
+          (c .before .before .before .before .before .before .before .before .before .before .before .before .before .before .before .before .pre .1 .1)
+          (c .before .before .before .before .before .before .before .before .before .before .before .before .loop .inv) (omega arith),
+      c .before .before .before .before .before .before .before .before .before .before .before .before .before .before .before .before .pre .1 .0 .table .few,
+    )
 
 put-members-requires : (t : ℕ) → Needed lts.Need-put-members-requires t
 put-members-requires t c κs =
@@ -164,8 +200,16 @@ put-members-requires t c κs =
     let at-vr = at-next .before in
     let at-loop = at-vr .before .before .before in
     let entry = at-loop .before .before .before .before in
-    let n = turn-next (entry .args .bytes .now) (entry .pre .1 .1) (at-loop .loop .inv) (omega arith) (at-next .next .ensures .0) in
-    (omega (arith, entry .pre .0, at-loop .loop .inv .low, n), (entry .pre .1 .0, turn-fits (entry .args .bytes .now) (entry .pre .1 .1) (at-loop .loop .inv) (omega arith) (at-vr .vr .ensures) (at-value .value .ensures) (omega (arith, at-head-size .head-size .ensures)) refl (at-next .next .ensures .0) (at-put-value .put-value .ensures .kept)))
+    let n = turn-next (entry .args .bytes .now) (entry .pre .1 .1) (at-loop .loop .inv) (omega arith) (at-next .next .ensures .0) in (
+      omega (arith, entry .pre .0, at-loop .loop .inv .low, n),
+      (
+        entry .pre .1 .0,
+        turn-fits (entry .args .bytes .now) (entry .pre .1 .1)
+            (at-loop .loop .inv) (omega arith) (at-vr .vr .ensures) (at-value .value .ensures)
+            (omega (arith, at-head-size .head-size .ensures))
+            refl (at-next .next .ensures .0) (at-put-value .put-value .ensures .kept),
+      ),
+    )
 
 sub-put-header : (t : ℕ) → Needed lts.Need-sub-put-header t
 sub-put-header t c =
@@ -173,7 +217,11 @@ sub-put-header t c =
     let at-next = at-put-members .before .before .before .before .before .before .before .before .before in
     let at-loop = at-next .before .before .before .before in
     let entry = at-loop .before .before .before .before in
-    omega (arith, turn-end (entry .args .bytes .now) (entry .pre .1 .1) (at-loop .loop .inv) (omega arith) (at-next .next .ensures .0) (at-put-members .put-members .ensures))
+    omega (
+      arith,
+      turn-end (entry .args .bytes .now) (entry .pre .1 .1) (at-loop .loop .inv) (omega arith) (at-next .next .ensures .0)
+          (at-put-members .put-members .ensures),
+    )
 
 put-header-requires-2 : (t : ℕ) → Needed lts.Need-put-header-requires-2 t
 put-header-requires-2 t c κs =
@@ -183,8 +231,17 @@ put-header-requires-2 t c κs =
     let at-value = at-head-size .before in
     let at-vr = at-value .before .before in
     let at-loop = at-vr .before .before .before in
-    let entry = at-loop .before .before .before .before in
-    (at-head-size .head-size .ensures .0, omega (arith, turn-room (entry .args .bytes .now) (entry .pre .1 .1) (at-loop .loop .inv) (omega arith) (at-vr .vr .ensures) (at-value .value .ensures), at-put-members .put-members .ensures .kept, at-put-value .put-value .ensures .kept, at-head-size .head-size .ensures))
+    let entry = at-loop .before .before .before .before in (
+      at-head-size .head-size .ensures .0,
+      omega (
+        arith,
+        turn-room (entry .args .bytes .now) (entry .pre .1 .1) (at-loop .loop .inv)
+            (omega arith) (at-vr .vr .ensures) (at-value .value .ensures),
+        at-put-members .put-members .ensures .kept,
+        at-put-value .put-value .ensures .kept,
+        at-head-size .head-size .ensures,
+      ),
+    )
 
 loop-less-2 : (t : ℕ) → Needed lts.Need-loop-less-2 t
 loop-less-2 t c =
@@ -205,7 +262,15 @@ loop-again-2 t c =
     let at-loop = at-tag .before .before in
     let entry = at-loop .before .before .before .before in
     going-next (entry .args .bytes .now) (entry .pre .1 .1) (at-loop .loop .inv) (omega arith) (at-next .next .ensures .0)
-    (wrote-node (nodesOf (entry .args .bytes .now)) (at-loop .loop .i) (turn-known (entry .args .bytes .now) (entry .pre .1 .1) (at-loop .loop .inv) (omega arith)) (at-tag .tag .ensures) (at-vr .vr .ensures) (at-value .value .ensures) (at-next .next .ensures .0) (omega (arith, at-head-size .head-size .ensures)) (at-put-value .put-value .ensures) refl (at-put-members .put-members .ensures) refl (c .before .before .put-header2 .ensures) (omega (arith, turn-end (entry .args .bytes .now) (entry .pre .1 .1) (at-loop .loop .inv) (omega arith) (at-next .next .ensures .0) (at-put-members .put-members .ensures))))
+    (wrote-node (nodesOf (entry .args .bytes .now)) (at-loop .loop .i)
+    (turn-known (entry .args .bytes .now) (entry .pre .1 .1) (at-loop .loop .inv) (omega arith)) (at-tag .tag .ensures)
+    (at-vr .vr .ensures) (at-value .value .ensures) (at-next .next .ensures .0) (omega (arith, at-head-size .head-size .ensures))
+    (at-put-value .put-value .ensures) refl (at-put-members .put-members .ensures) refl (c .before .before .put-header2 .ensures)
+    (omega (
+      arith,
+      turn-end (entry .args .bytes .now) (entry .pre .1 .1) (at-loop .loop .inv) (omega arith) (at-next .next .ensures .0)
+          (at-put-members .put-members .ensures),
+    )))
 
 same-length : (t : ℕ) → Needed lts.Need-same-length t
 same-length t c =
@@ -217,4 +282,7 @@ returns t c =
 
 pub +put-members-spec : {M : Type 1} → statement M
 +put-members-spec =
-    close μ λ t. lts.spec (claims t) (at-measure t) put-members.Post Inv μ-loop (loop-holds t) (tag-requires t) (vr-requires t) (next-requires t) (value-requires t) (head-size-requires t) (add-inside t) (put-value-requires t) (add-after t) (add-if1 t) (put-header-requires t) (loop-less t) (loop-again t) (add-put-members t) (put-members-requires t) (sub-put-header t) (put-header-requires-2 t) (loop-less-2 t) (loop-again-2 t) (same-length t) (returns t)
+    close μ λ t. lts.spec (claims t) (at-measure t) put-members.Post Inv μ-loop (loop-holds t) (tag-requires t) (vr-requires t)
+    (next-requires t) (value-requires t) (head-size-requires t) (add-inside t) (put-value-requires t) (add-after t) (add-if1 t)
+    (put-header-requires t) (loop-less t) (loop-again t) (add-put-members t) (put-members-requires t) (sub-put-header t)
+    (put-header-requires-2 t) (loop-less-2 t) (loop-again-2 t) (same-length t) (returns t)

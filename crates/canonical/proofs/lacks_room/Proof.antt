@@ -24,7 +24,8 @@ returns c =
 returns-2 : tie.Need-returns-2
 returns-2 c =
     let entry = c .before .before .before .before .before in
-    ap (ltb (entry .args .room)) (c .span .ensures .0 ∙ ap writtenSize (slice-all (nodesOf (entry .args .bytes .now)) (c .before .count .result) (c .before .count .ensures .0)))
+    ap (ltb (entry .args .room)) (c .span .ensures .0
+    ∙ ap writtenSize (slice-all (nodesOf (entry .args .bytes .now)) (c .before .count .result) (c .before .count .ensures .0)))
 
 pub lacks-room-spec : {M : Type 1} → statement M
 lacks-room-spec = tie.close (tie.spec count-requires span-requires returns returns-2)

@@ -30,7 +30,9 @@ returns c =
     let at-put-u162 = c .before .before .before .before .before .before in
     let at-put-u16 = at-put-u162 .before .before .before .before in
     let entry = at-put-u16 .before .before .before in
-    header-puts (entry .args .tag) (entry .args .vr) (entry .args .size) (at-put-u16 .put-u16 .ensures) (at-put-u162 .put-u162 .ensures) (c .before .before .put-length .ensures)
+    header-puts (entry .args .tag) (entry .args .vr) (entry .args .size) (at-put-u16 .put-u16 .ensures) (at-put-u162 .put-u162 .ensures)
+    (c .before .before .put-length .ensures)
 
 pub put-header-spec : {M : Type 1} → statement M
-put-header-spec = tie.close (tie.spec put-u16-requires add-put-u16 put-u16-requires-2 add-put-length put-length-requires same-length returns)
+put-header-spec = tie.close
+    (tie.spec put-u16-requires add-put-u16 put-u16-requires-2 add-put-length put-length-requires same-length returns)

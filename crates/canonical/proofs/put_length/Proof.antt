@@ -60,7 +60,9 @@ returns-2 c =
     let at-put-letters = at-if2 .before .before .before in
     let at-if1 = at-put-letters .before .before in
     let entry = at-if1 .before .before in
-    long-puts (entry .args .vr) (entry .args .size) (at-if1 .if1 .left) (at-put-letters .put-letters .ensures) (form-long (entry .args .vr) (sym (entry .pre .0) ∙ at-if2 .if2 .taken)) (at-put-u16 .put-u16 .ensures) (c .before .before .put-u322 .ensures)
+    long-puts (entry .args .vr) (entry .args .size) (at-if1 .if1 .left) (at-put-letters .put-letters .ensures)
+    (form-long (entry .args .vr) (sym (entry .pre .0) ∙ at-if2 .if2 .taken)) (at-put-u16 .put-u16 .ensures)
+    (c .before .before .put-u322 .ensures)
 
 same-length-3 : tie.Need-same-length-3
 same-length-3 c = search needs
@@ -71,7 +73,9 @@ returns-3 c =
     let at-put-letters = at-if2 .before .before .before in
     let at-if1 = at-put-letters .before .before in
     let entry = at-if1 .before .before in
-    short-puts (entry .args .vr) (entry .args .size) (at-if1 .if1 .left) (at-put-letters .put-letters .ensures) (λ e. at-if2 .if2 .left (entry .pre .0 ∙ head-is (entry .args .vr) e)) (c .before .before .put-u162 .ensures)
+    short-puts (entry .args .vr) (entry .args .size) (at-if1 .if1 .left) (at-put-letters .put-letters .ensures)
+    (λ e. at-if2 .if2 .left (entry .pre .0 ∙ head-is (entry .args .vr) e)) (c .before .before .put-u162 .ensures)
 
 pub put-length-spec : {M : Type 1} → statement M
-put-length-spec = tie.close (tie.spec put-u32-requires put-letters-requires add-put-u16 put-u16-requires add-put-u32 put-u32-requires-2 add-put-u16-2 put-u16-requires-2 same-length returns same-length-2 returns-2 same-length-3 returns-3)
+put-length-spec = tie.close (tie.spec put-u32-requires put-letters-requires add-put-u16 put-u16-requires add-put-u32 put-u32-requires-2
+    add-put-u16-2 put-u16-requires-2 same-length returns same-length-2 returns-2 same-length-3 returns-3)

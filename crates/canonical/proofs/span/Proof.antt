@@ -27,7 +27,13 @@ add-sum : tie.Need-add-sum Inv-loop μ-loop
 add-sum c =
     let entry = c .before .before .before .before .before in
     let n = summed-next (c .before .before .loop .inv) (c .before .loop-test .taken) (entry .pre .1 .1) in
-    omega (arith, n .rest, size-slice (entry .args .from) (entry .args .to) (nodesOf (entry .args .bytes .now)), c .own-size .ensures, entry .pre .0 .small)
+    omega (
+      arith,
+      n .rest,
+      size-slice (entry .args .from) (entry .args .to) (nodesOf (entry .args .bytes .now)),
+      c .own-size .ensures,
+      entry .pre .0 .small,
+    )
 
 add-i : tie.Need-add-i Inv-loop μ-loop
 add-i c =

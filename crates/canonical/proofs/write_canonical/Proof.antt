@@ -1,4 +1,5 @@
--- The answer is reading's where that refuses; else what is left of the row table says whether the target is too short, and what was put into it.
+-- The answer is reading's where that refuses; else what is left of the row table says whether the target is too short, and what was put
+-- into it.
 use mathlib.Core.Path.{sym, _∙_}
 use native.Mathlib.Omega.{arith}
 use Prim.Native.Nat.{_*_}
@@ -33,28 +34,39 @@ mul-end c =
     let at-read = c .before .before .before .before .before in
     let at-byte-bounds = at-read .before .before in
     let entry = at-byte-bounds .before .before .before .before in
-    omega (arith, ready (entry .args .bytes .now) (entry .args .rows .now) (at-read .read .last .1 .0) (c .before .n .given .0 .0) (at-byte-bounds .byte-bounds .ensures) (sym (c .before .n .given .1) ∙ at-read .read .ensures .0 .same) (at-read .read .ensures .1) .room)
+    omega (
+      arith,
+      ready (entry .args .bytes .now) (entry .args .rows .now) (at-read .read .last .1 .0) (c .before .n .given .0 .0)
+          (at-byte-bounds .byte-bounds .ensures) (sym (c .before .n .given .1) ∙ at-read .read .ensures .0 .same)
+          (at-read .read .ensures .1) .room,
+    )
 
 slice-reshare-prefix-table : tie.Need-slice-reshare-prefix-table
 slice-reshare-prefix-table c =
     let at-read = c .before .before .before .before .before in
     let at-byte-bounds = at-read .before .before in
     let entry = at-byte-bounds .before .before .before .before in
-    ready (entry .args .bytes .now) (entry .args .rows .now) (at-read .read .last .1 .0) (c .before .n .given .0 .0) (at-byte-bounds .byte-bounds .ensures) (sym (c .before .n .given .1) ∙ at-read .read .ensures .0 .same) (at-read .read .ensures .1) .room
+    ready (entry .args .bytes .now) (entry .args .rows .now) (at-read .read .last .1 .0) (c .before .n .given .0 .0)
+    (at-byte-bounds .byte-bounds .ensures) (sym (c .before .n .given .1) ∙ at-read .read .ensures .0 .same)
+    (at-read .read .ensures .1) .room
 
 slice-aggregate-table : tie.Need-slice-aggregate-table
 slice-aggregate-table c =
     let at-read = c .before .before .before .before .before .before in
     let at-byte-bounds = at-read .before .before in
     let entry = at-byte-bounds .before .before .before .before in
-    sym (length-take-le (7 * c .before .before .n .given .0 .0) (at-read .read .last .1 .0) (ready (entry .args .bytes .now) (entry .args .rows .now) (at-read .read .last .1 .0) (c .before .before .n .given .0 .0) (at-byte-bounds .byte-bounds .ensures) (sym (c .before .before .n .given .1) ∙ at-read .read .ensures .0 .same) (at-read .read .ensures .1) .room))
+    sym (length-take-le (7 * c .before .before .n .given .0 .0) (at-read .read .last .1 .0) (ready (entry .args .bytes .now)
+    (entry .args .rows .now) (at-read .read .last .1 .0) (c .before .before .n .given .0 .0) (at-byte-bounds .byte-bounds .ensures)
+    (sym (c .before .before .n .given .1) ∙ at-read .read .ensures .0 .same) (at-read .read .ensures .1) .room))
 
 lacks-room-requires : tie.Need-lacks-room-requires
 lacks-room-requires c κs =
     let at-read = c .before .before .before .before .before .before in
     let at-byte-bounds = at-read .before .before in
     let entry = at-byte-bounds .before .before .before .before in
-    ready (entry .args .bytes .now) (entry .args .rows .now) (at-read .read .last .1 .0) (c .before .before .n .given .0 .0) (at-byte-bounds .byte-bounds .ensures) (sym (c .before .before .n .given .1) ∙ at-read .read .ensures .0 .same) (at-read .read .ensures .1) .sized
+    ready (entry .args .bytes .now) (entry .args .rows .now) (at-read .read .last .1 .0) (c .before .before .n .given .0 .0)
+    (at-byte-bounds .byte-bounds .ensures) (sym (c .before .before .n .given .1) ∙ at-read .read .ensures .0 .same)
+    (at-read .read .ensures .1) .sized
 
 span-requires : tie.Need-span-requires
 span-requires c κs =
@@ -62,7 +74,8 @@ span-requires c κs =
     let at-read = at-n .before .before .before .before in
     let at-byte-bounds = at-read .before .before in
     let entry = at-byte-bounds .before .before .before .before in
-    let r = ready (entry .args .bytes .now) (entry .args .rows .now) (at-read .read .last .1 .0) (at-n .n .given .0 .0) (at-byte-bounds .byte-bounds .ensures) (sym (at-n .n .given .1) ∙ at-read .read .ensures .0 .same) (at-read .read .ensures .1) in
+    let r = ready (entry .args .bytes .now) (entry .args .rows .now) (at-read .read .last .1 .0) (at-n .n .given .0 .0)
+    (at-byte-bounds .byte-bounds .ensures) (sym (at-n .n .given .1) ∙ at-read .read .ensures .0 .same) (at-read .read .ensures .1) in
     (r .sized, (omega arith, omega (arith, r .count)))
 
 put-members-requires : tie.Need-put-members-requires
@@ -71,8 +84,12 @@ put-members-requires c κs =
     let at-read = at-n .before .before .before .before in
     let at-byte-bounds = at-read .before .before in
     let entry = at-byte-bounds .before .before .before .before in
-    let r = ready (entry .args .bytes .now) (entry .args .rows .now) (at-read .read .last .1 .0) (at-n .n .given .0 .0) (at-byte-bounds .byte-bounds .ensures) (sym (at-n .n .given .1) ∙ at-read .read .ensures .0 .same) (at-read .read .ensures .1) in
-    (r .sized, fitting-all (entry .args .bytes .now) (entry .args .target .now) r (sym (c .before .before .lacks-room .ensures) ∙ c .before .if1 .left))
+    let r = ready (entry .args .bytes .now) (entry .args .rows .now) (at-read .read .last .1 .0) (at-n .n .given .0 .0)
+    (at-byte-bounds .byte-bounds .ensures) (sym (at-n .n .given .1) ∙ at-read .read .ensures .0 .same) (at-read .read .ensures .1) in (
+      r .sized,
+      fitting-all (entry .args .bytes .now) (entry .args .target .now) r
+          (sym (c .before .before .lacks-room .ensures) ∙ c .before .if1 .left),
+    )
 
 same-length : tie.Need-same-length
 same-length c = search needs
@@ -80,8 +97,10 @@ same-length c = search needs
 returns : tie.Need-returns
 unfolding canonicalOf targetOf
 returns c =
-    let at-read = c .before .before .before .before in
-    (promised (rw (← at-read .read .ensures .0 .same, c .enum-told .given .1)), (at-read .read .ensures .1, rw (← at-read .read .ensures .0 .same, c .enum-told .given .1)))
+    let at-read = c .before .before .before .before in (
+      promised (rw (← at-read .read .ensures .0 .same, c .enum-told .given .1)),
+      (at-read .read .ensures .1, rw (← at-read .read .ensures .0 .same, c .enum-told .given .1)),
+    )
 
 same-length-2 : tie.Need-same-length-2
 same-length-2 c = search needs
@@ -89,8 +108,10 @@ same-length-2 c = search needs
 returns-2 : tie.Need-returns-2
 unfolding canonicalOf targetOf
 returns-2 c =
-    let at-read = c .before .before .before .before .before in
-    (promised (rw (← at-read .read .ensures .0 .same, c .before .code .given .1)), (at-read .read .ensures .1, rw (← at-read .read .ensures .0 .same, c .before .code .given .1)))
+    let at-read = c .before .before .before .before .before in (
+      promised (rw (← at-read .read .ensures .0 .same, c .before .code .given .1)),
+      (at-read .read .ensures .1, rw (← at-read .read .ensures .0 .same, c .before .code .given .1)),
+    )
 
 same-length-3 : tie.Need-same-length-3
 same-length-3 c = search needs
@@ -98,8 +119,10 @@ same-length-3 c = search needs
 returns-3 : tie.Need-returns-3
 unfolding canonicalOf targetOf
 returns-3 c =
-    let at-read = c .before .before .before .before in
-    (promised (rw (← at-read .read .ensures .0 .same, c .enum-told2 .given .1)), (at-read .read .ensures .1, rw (← at-read .read .ensures .0 .same, c .enum-told2 .given .1)))
+    let at-read = c .before .before .before .before in (
+      promised (rw (← at-read .read .ensures .0 .same, c .enum-told2 .given .1)),
+      (at-read .read .ensures .1, rw (← at-read .read .ensures .0 .same, c .enum-told2 .given .1)),
+    )
 
 same-length-4 : tie.Need-same-length-4
 same-length-4 c = search needs
@@ -110,8 +133,11 @@ returns-4 c =
     let at-read = at-n .before .before .before .before in
     let at-byte-bounds = at-read .before .before in
     let entry = at-byte-bounds .before .before .before .before in
-    let r = ready (entry .args .bytes .now) (entry .args .rows .now) (at-read .read .last .1 .0) (at-n .n .given .0 .0) (at-byte-bounds .byte-bounds .ensures) (sym (at-n .n .given .1) ∙ at-read .read .ensures .0 .same) (at-read .read .ensures .1) in
-    let a = short-answer (entry .args .bytes .now) (entry .args .rows .now) (entry .args .target .now) (at-n .n .given .0 .0) (sym (at-n .n .given .1) ∙ at-read .read .ensures .0 .same) (r .count) (c .span .result) (c .span .ensures .0) (sym (c .before .before .lacks-room .ensures) ∙ c .before .if1 .taken) in
+    let r = ready (entry .args .bytes .now) (entry .args .rows .now) (at-read .read .last .1 .0) (at-n .n .given .0 .0)
+    (at-byte-bounds .byte-bounds .ensures) (sym (at-n .n .given .1) ∙ at-read .read .ensures .0 .same) (at-read .read .ensures .1) in
+    let a = short-answer (entry .args .bytes .now) (entry .args .rows .now) (entry .args .target .now) (at-n .n .given .0 .0)
+    (sym (at-n .n .given .1) ∙ at-read .read .ensures .0 .same) (r .count) (c .span .result) (c .span .ensures .0)
+    (sym (c .before .before .lacks-room .ensures) ∙ c .before .if1 .taken) in
     (promised (a .0), (at-read .read .ensures .1, a .1))
 
 same-length-5 : tie.Need-same-length-5
@@ -128,8 +154,11 @@ returns-5 c =
     let at-read = at-n .before .before .before .before in
     let at-byte-bounds = at-read .before .before in
     let entry = at-byte-bounds .before .before .before .before in
-    let r = ready (entry .args .bytes .now) (entry .args .rows .now) (at-read .read .last .1 .0) (at-n .n .given .0 .0) (at-byte-bounds .byte-bounds .ensures) (sym (at-n .n .given .1) ∙ at-read .read .ensures .0 .same) (at-read .read .ensures .1) in
-    let a = done-answer (entry .args .bytes .now) (entry .args .rows .now) (entry .args .target .now) (at-n .n .given .0 .0) (sym (at-n .n .given .1) ∙ at-read .read .ensures .0 .same) (r .count) (c .before .before .put-members .result) _ (c .before .before .put-members .ensures) (sym (at-lacks-room .lacks-room .ensures) ∙ at-if1 .if1 .left) in
+    let r = ready (entry .args .bytes .now) (entry .args .rows .now) (at-read .read .last .1 .0) (at-n .n .given .0 .0)
+    (at-byte-bounds .byte-bounds .ensures) (sym (at-n .n .given .1) ∙ at-read .read .ensures .0 .same) (at-read .read .ensures .1) in
+    let a = done-answer (entry .args .bytes .now) (entry .args .rows .now) (entry .args .target .now) (at-n .n .given .0 .0)
+    (sym (at-n .n .given .1) ∙ at-read .read .ensures .0 .same) (r .count) (c .before .before .put-members .result) _
+    (c .before .before .put-members .ensures) (sym (at-lacks-room .lacks-room .ensures) ∙ at-if1 .if1 .left) in
     (promised (a .0), (at-read .read .ensures .1, a .1))
 
 pub write-canonical-spec : {M : Type 1} → statement M

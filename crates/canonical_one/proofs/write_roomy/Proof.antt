@@ -27,8 +27,18 @@ returns c =
     let a = entry .args in
     let p = entry .pre in
     let w = at-write-canonical .write-canonical in
-    let e = w .ensures in
-    (e .0 .same, (e .1 .1, (subst (λ (r : CanonicalAnswer). Held r (w .last .1 .1 .0)) (sym (e .0 .same)) (held (a .bytes .now) (a .rows .now) (a .target .now) (w .last .1 .1 .0) (search needs)), subst Roomy (sym (e .0 .same)) (roomy (a .bytes .now) (a .rows .now) (a .target .now) (at-byte-bounds .byte-bounds .ensures) (p .0) (p .1)))))
+    let e = w .ensures in (
+      e .0 .same,
+      (
+        e .1 .1,
+        (
+          subst (λ (r : CanonicalAnswer). Held r (w .last .1 .1 .0)) (sym (e .0 .same))
+              (held (a .bytes .now) (a .rows .now) (a .target .now) (w .last .1 .1 .0) (search needs)),
+          subst Roomy (sym (e .0 .same))
+              (roomy (a .bytes .now) (a .rows .now) (a .target .now) (at-byte-bounds .byte-bounds .ensures) (p .0) (p .1)),
+        ),
+      ),
+    )
 
 pub write-roomy-spec : {M : Type 1} → statement M
 write-roomy-spec =

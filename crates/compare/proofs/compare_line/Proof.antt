@@ -21,8 +21,15 @@ abbrev μ-loop : tie.MeasureT-loop
     k-end - k
 
 loop-holds : tie.Need-loop-holds Inv-loop μ-loop
-loop-holds c =
-    (omega arith, (refl, places.along-none (λ j. not (within (c .before .before .args .tolerance) (getD (c .before .before .args .line .now) j 0) (getD (c .before .before .args .cells .now) (c .before .before .args .at + j) 0))) (c .before .before .args .at) (c .before .before .args .sofar)))
+loop-holds c = (
+  omega arith,
+  (
+    refl,
+    places.along-none (λ j. not (within (c .before .before .args .tolerance)
+        (getD (c .before .before .args .line .now) j 0) (getD (c .before .before .args .cells .now) (c .before .before .args .at + j) 0)))
+        (c .before .before .args .at) (c .before .before .args .sofar),
+  ),
+)
 
 add-place : tie.Need-add-place Inv-loop μ-loop
 add-place c =
@@ -57,8 +64,18 @@ look-requires : tie.Need-look-requires Inv-loop μ-loop
 look-requires c κs =
     let at-loop-test = c .before .before .before .before .before in
     let at-loop = at-loop-test .before in
-    let entry = at-loop .before .before .before in
-    (subst (λ (d : Differing). d .count ≤ entry .args .at + at-loop .loop .k) (sym (at-loop .loop .inv .1 .1)) (omega (arith, entry .pre .few, places.along-most (λ j. not (within (entry .args .tolerance) (getD (entry .args .line .now) j 0) (getD (entry .args .cells .now) (entry .args .at + j) 0))) (entry .args .at) (at-loop .loop .k) (entry .args .sofar))), omega (arith, entry .pre .inside, at-loop-test .loop-test .taken, at-loop .loop .inv .1 .0))
+    let entry = at-loop .before .before .before in (
+      subst (λ (d : Differing). d .count ≤ entry .args .at + at-loop .loop .k) (sym (at-loop .loop .inv .1 .1))
+          (omega (
+            arith,
+            entry .pre .few,
+            places.along-most (λ j.
+                not (within (entry .args .tolerance) (getD (entry .args .line .now) j 0)
+                (getD (entry .args .cells .now) (entry .args .at + j) 0)))
+                (entry .args .at) (at-loop .loop .k) (entry .args .sofar),
+          )),
+      omega (arith, entry .pre .inside, at-loop-test .loop-test .taken, at-loop .loop .inv .1 .0),
+    )
 
 add-k : tie.Need-add-k Inv-loop μ-loop
 add-k c =
@@ -77,14 +94,26 @@ loop-again c =
     let at-wide = c .before .before .before .before in
     let at-loop-test = at-wide .before .before in
     let at-loop = at-loop-test .before in
-    let entry = at-loop .before .before .before in
-    (omega (arith, at-loop-test .loop-test .taken), (at-loop .loop .inv .1 .0, places.along-next (λ j. not (within (entry .args .tolerance) (getD (entry .args .line .now) j 0) (getD (entry .args .cells .now) (entry .args .at + j) 0))) (entry .args .at) (at-loop .loop .k) (entry .args .sofar) (at-loop .loop .now) _ _ (at-loop .loop .inv .1 .1) (c .before .is-off .ensures ∙ rw (at-wide .wide .ensures .0, c .before .before .wide2 .ensures .0)) (c .look .ensures)))
+    let entry = at-loop .before .before .before in (
+      omega (arith, at-loop-test .loop-test .taken),
+      (
+        at-loop .loop .inv .1 .0,
+        places.along-next (λ j.
+            not (within (entry .args .tolerance) (getD (entry .args .line .now) j 0)
+            (getD (entry .args .cells .now) (entry .args .at + j) 0)))
+            (entry .args .at) (at-loop .loop .k) (entry .args .sofar) (at-loop .loop .now) _ _ (at-loop .loop .inv .1 .1)
+            (c .before .is-off .ensures ∙ rw (at-wide .wide .ensures .0, c .before .before .wide2 .ensures .0)) (c .look .ensures),
+      ),
+    )
 
 returns : tie.Need-returns Inv-loop μ-loop
 returns c =
     let entry = c .before .before .before .before in
-    let e : c .before .loop .k ≡ length (entry .args .line .now) = omega (arith, c .loop-test .left, c .before .loop .inv .0, c .before .loop .inv .1 .0) in
-    subst (λ (n : ℕ). c .before .loop .now ≡ along (λ j. not (within (entry .args .tolerance) (getD (entry .args .line .now) j 0) (getD (entry .args .cells .now) (entry .args .at + j) 0))) (entry .args .at) n (entry .args .sofar)) e (c .before .loop .inv .1 .1)
+    let e : c .before .loop .k
+    ≡ length (entry .args .line .now) = omega (arith, c .loop-test .left, c .before .loop .inv .0, c .before .loop .inv .1 .0) in
+    subst (λ (n : ℕ). c .before .loop .now ≡ along (λ j.
+    not (within (entry .args .tolerance) (getD (entry .args .line .now) j 0) (getD (entry .args .cells .now) (entry .args .at + j) 0)))
+    (entry .args .at) n (entry .args .sofar)) e (c .before .loop .inv .1 .1)
 
 pub compare-line-spec : {M : Type 1} → statement M
 compare-line-spec =

@@ -27,7 +27,8 @@ slice-aggregate-fill c =
 fill-requires : tie.Need-fill-requires
 fill-requires c κs =
     let entry = c .before .before .before .before .before .before in
-    let b = scenes.based (entry .args .bytes .now) (entry .args .n) (entry .args .frame) (entry .pre .1 .0) (entry .pre .1 .1 .1 .1 .0) (entry .pre .1 .1 .1 .1 .1 .0) (entry .args .c) (entry .pre .1 .1 .0) in
+    let b = scenes.based (entry .args .bytes .now) (entry .args .n) (entry .args .frame) (entry .pre .1 .0) (entry .pre .1 .1 .1 .1 .0)
+    (entry .pre .1 .1 .1 .1 .1 .0) (entry .args .c) (entry .pre .1 .1 .0) in
     (entry .pre .1 .1 .1 .0 .drawable, (b .shape .stored-some, (b .shape .stored-most, length-replicate {A = ℕ} 131072 0)))
 
 slice-aggregate-compare-frame : tie.Need-slice-aggregate-compare-frame
@@ -50,17 +51,49 @@ compare-frame-requires : tie.Need-compare-frame-requires
 compare-frame-requires c κs =
     let at-fill = c .before .before .before .before .before in
     let entry = at-fill .before .before .before .before .before .before .before in
-    let b = scenes.based (entry .args .bytes .now) (entry .args .n) (entry .args .frame) (entry .pre .1 .0) (entry .pre .1 .1 .1 .1 .0) (entry .pre .1 .1 .1 .1 .1 .0) (entry .args .c) (entry .pre .1 .1 .0) in
-    (entry .pre .0, (scenes.is-pixels (entry .args .bytes .now) (entry .args .n) (entry .args .frame) (entry .pre .1 .0) (entry .pre .1 .1 .1 .1 .0) (entry .pre .1 .1 .1 .1 .1 .0) (entry .args .c) (entry .pre .1 .1 .0), (record { shape = b .shape; inside = b .inside; wide = omega (arith, length-replicate {A = ℕ} 65535 0) }, (scenes.ready (entry .args .bytes .now) (entry .args .n) (entry .args .frame) (entry .pre .1 .0) (entry .pre .1 .1 .1 .1 .0) (entry .pre .1 .1 .1 .1 .1 .0) (entry .args .c) (entry .pre .1 .1 .0) (entry .args .own) (entry .pre .1 .1 .1 .0), (record { drawable = entry .pre .1 .1 .1 .0 .drawable; shades = λ e. at-fill .fill .ensures }, (omega (arith, length-replicate {A = ℕ} 65664 0), (omega (arith, length-replicate {A = ℕ} 65664 0), subst (λ (k : ℕ). Against (entry .args .cells .now) (entry .args .tolerance) k) (sym (b .size)) (entry .pre .1 .1 .1 .1 .1 .1))))))))
+    let b = scenes.based (entry .args .bytes .now) (entry .args .n) (entry .args .frame) (entry .pre .1 .0) (entry .pre .1 .1 .1 .1 .0)
+    (entry .pre .1 .1 .1 .1 .1 .0) (entry .args .c) (entry .pre .1 .1 .0) in (
+      entry .pre .0,
+      (
+        scenes.is-pixels (entry .args .bytes .now) (entry .args .n) (entry .args .frame) (entry .pre .1 .0) (entry .pre .1 .1 .1 .1 .0)
+            (entry .pre .1 .1 .1 .1 .1 .0) (entry .args .c) (entry .pre .1 .1 .0),
+        (
+          record { shape = b .shape; inside = b .inside; wide = omega (arith, length-replicate {A = ℕ} 65535 0) },
+          (
+            scenes.ready (entry .args .bytes .now) (entry .args .n) (entry .args .frame) (entry .pre .1 .0) (entry .pre .1 .1 .1 .1 .0)
+                (entry .pre .1 .1 .1 .1 .1 .0) (entry .args .c) (entry .pre .1 .1 .0) (entry .args .own) (entry .pre .1 .1 .1 .0),
+            (
+              record { drawable = entry .pre .1 .1 .1 .0 .drawable; shades = λ e. at-fill .fill .ensures },
+              (
+                omega (arith, length-replicate {A = ℕ} 65664 0),
+                (
+                  omega (arith, length-replicate {A = ℕ} 65664 0),
+                  subst
+                      (λ (k : ℕ). Against (entry .args .cells .now) (entry .args .tolerance) k) (sym (b .size))
+                      (entry .pre .1 .1 .1 .1 .1 .1),
+                ),
+              ),
+            ),
+          ),
+        ),
+      ),
+    )
 
 returns : tie.Need-returns
 returns c =
     let at-compare-frame = c .before .before .before in
     let entry = at-compare-frame .before .before .before .before .before .before .before .before .before .before .before .before .before in
-    let b = scenes.based (entry .args .bytes .now) (entry .args .n) (entry .args .frame) (entry .pre .1 .0) (entry .pre .1 .1 .1 .1 .0) (entry .pre .1 .1 .1 .1 .1 .0) (entry .args .c) (entry .pre .1 .1 .0) in
+    let b = scenes.based (entry .args .bytes .now) (entry .args .n) (entry .args .frame) (entry .pre .1 .0) (entry .pre .1 .1 .1 .1 .0)
+    (entry .pre .1 .1 .1 .1 .1 .0) (entry .args .c) (entry .pre .1 .1 .0) in
     let t : Shades = record { window = entry .args .own .window; inverse = entry .args .c .inverse; filled = true } in
-    let d = counted.picture (entry .args .bytes .now) (entry .args .n) (entry .args .frame) (entry .pre .1 .0) (entry .pre .1 .1 .1 .1 .0) (entry .pre .1 .1 .1 .1 .1 .0) (entry .args .c) (entry .pre .1 .1 .0) (entry .args .own) (entry .pre .1 .1 .1 .0) t refl refl in
-    at-compare-frame .compare-frame .ensures ∙ (met-list (entry .args .tolerance) (shadeBy (nodesOf (entry .args .bytes .now)) (shadesOf t (entry .args .c .g .stored)) (entry .args .c .g) (valueAt (nodesOf (entry .args .bytes .now)) (entry .args .c .p)) (entry .args .frame) (entry .args .own .masking)) (entry .args .cells .now) (pictureOf (nodesOf (entry .args .bytes .now)) (entry .args .frame) .samples) (samplesOf (entry .args .c .g)) (d .cells) ∙ ap (λ (k : ℕ). along (isOff (entry .args .tolerance) (pictureOf (nodesOf (entry .args .bytes .now)) (entry .args .frame) .samples) (entry .args .cells .now)) 0 k nothing) (b .size))
+    let d = counted.picture (entry .args .bytes .now) (entry .args .n) (entry .args .frame) (entry .pre .1 .0) (entry .pre .1 .1 .1 .1 .0)
+    (entry .pre .1 .1 .1 .1 .1 .0) (entry .args .c) (entry .pre .1 .1 .0) (entry .args .own) (entry .pre .1 .1 .1 .0) t refl refl in
+    at-compare-frame .compare-frame .ensures
+    ∙ (met-list (entry .args .tolerance) (shadeBy (nodesOf (entry .args .bytes .now)) (shadesOf t (entry .args .c .g .stored))
+    (entry .args .c .g) (valueAt (nodesOf (entry .args .bytes .now)) (entry .args .c .p)) (entry .args .frame)
+    (entry .args .own .masking)) (entry .args .cells .now) (pictureOf (nodesOf (entry .args .bytes .now)) (entry .args .frame) .samples)
+    (samplesOf (entry .args .c .g)) (d .cells) ∙ ap (λ (k : ℕ). along (isOff (entry .args .tolerance)
+    (pictureOf (nodesOf (entry .args .bytes .now)) (entry .args .frame) .samples) (entry .args .cells .now)) 0 k nothing) (b .size))
 
 pub compare-planned-spec : {M : Type 1} → statement M
 compare-planned-spec =

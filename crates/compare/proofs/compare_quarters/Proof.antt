@@ -15,8 +15,12 @@ use Rattle.compare.proofs.compare_quarters.Statement.{statement}
 use Rattle.compare.proofs.compare_quarters.Tie as tie
 
 abbrev Inv-loop : tie.InvT-loop
-Inv-loop pixels g frame masks down right shades table upper₀ lower₀ line₀ cells tolerance height columns now₀ row₀ upper lower line now row =
-    (row ≤ g .rows) × ((length upper ≡ length upper₀) × ((length lower ≡ length lower₀) × (Averaged pixels g (usValues masks) (shifted (down / 4) (g .rows) row) lower × ((length line ≡ length line₀) × (now ≡ met tolerance (quarterShade (shadesOf shades (g .stored)) g pixels frame (usValues masks) down right) cells (row * g .columns))))))
+Inv-loop pixels g frame masks down right shades table upper₀ lower₀ line₀ cells tolerance height columns now₀ row₀ upper lower line now
+    row =
+    (row ≤ g .rows) × ((length upper ≡ length upper₀) × ((length lower ≡ length lower₀)
+    × (Averaged pixels g (usValues masks) (shifted (down / 4) (g .rows) row) lower × ((length line ≡ length line₀)
+    × (now ≡ met tolerance (quarterShade (shadesOf shades (g .stored)) g pixels frame (usValues masks) down right) cells
+    (row * g .columns))))))
 
 abbrev μ-loop : tie.MeasureT-loop
 μ-loop pixels g frame masks down right shades table upper₀ lower₀ line₀ cells tolerance height columns now₀ row₀ upper lower line now row =
@@ -24,36 +28,80 @@ abbrev μ-loop : tie.MeasureT-loop
 
 loop-holds : tie.Need-loop-holds Inv-loop μ-loop
 loop-holds c =
-    let entry = c .before .before .before .before .before .before .before in
-    (omega arith, (refl, (refl, (entry .pre .1 .1 .1 .1 .1 .0, (refl, places.no-line (entry .args .tolerance) (quarterShade (shadesOf (entry .args .shades) (entry .args .g .stored)) (entry .args .g) (entry .args .pixels .now) (entry .args .frame) (usValues (entry .args .masks .now)) (entry .args .down) (entry .args .right)) (entry .args .cells .now) (entry .args .g .columns))))))
+    let entry = c .before .before .before .before .before .before .before in (
+      omega arith,
+      (
+        refl,
+        (
+          refl,
+          (
+            entry .pre .1 .1 .1 .1 .1 .0,
+            (
+              refl,
+              places.no-line (entry .args .tolerance) (quarterShade
+                  (shadesOf (entry .args .shades) (entry .args .g .stored)) (entry .args .g) (entry .args .pixels .now) (entry .args .frame)
+                  (usValues (entry .args .masks .now)) (entry .args .down) (entry .args .right)) (entry .args .cells .now)
+                  (entry .args .g .columns),
+            ),
+          ),
+        ),
+      ),
+    )
 
 quarter-line-requires : tie.Need-quarter-line-requires Inv-loop μ-loop
 quarter-line-requires c κs =
     let at-loop-test = c .before .before .before in
     let at-loop = at-loop-test .before in
-    let entry = at-loop .before .before .before .before .before .before .before .before in
-    (record { shape = entry .pre .0 .shape; inside = entry .pre .0 .inside; lies = at-loop-test .loop-test .taken; room = omega (arith, at-loop .loop .inv .1 .1 .1 .1 .0, entry .pre .0 .wide, entry .pre .0 .shape .columns-most) }, (entry .pre .1 .0, (entry .pre .1 .1 .0, (omega (arith, at-loop .loop .inv .1 .0, entry .pre .1 .1 .1 .0), (omega (arith, at-loop .loop .inv .1 .1 .0, entry .pre .1 .1 .1 .1 .0), at-loop .loop .inv .1 .1 .1 .0)))))
+    let entry = at-loop .before .before .before .before .before .before .before .before in (
+      record {
+        shape = entry .pre .0 .shape;
+        inside = entry .pre .0 .inside;
+        lies = at-loop-test .loop-test .taken;
+        room = omega (arith, at-loop .loop .inv .1 .1 .1 .1 .0, entry .pre .0 .wide, entry .pre .0 .shape .columns-most);
+      },
+      (
+        entry .pre .1 .0,
+        (
+          entry .pre .1 .1 .0,
+          (
+            omega (arith, at-loop .loop .inv .1 .0, entry .pre .1 .1 .1 .0),
+            (omega (arith, at-loop .loop .inv .1 .1 .0, entry .pre .1 .1 .1 .1 .0), at-loop .loop .inv .1 .1 .1 .0),
+          ),
+        ),
+      ),
+    )
 
 slice-reshare-prefix-compare-line : tie.Need-slice-reshare-prefix-compare-line Inv-loop μ-loop
 slice-reshare-prefix-compare-line c =
     let at-quarter-line = c .before .before .before .before .before .before in
     let at-loop = at-quarter-line .before .before .before .before .before in
     let entry = at-loop .before .before .before .before .before .before .before .before in
-    omega (arith, runs.line-length _ _ _ (at-quarter-line .quarter-line .ensures .0), at-loop .loop .inv .1 .1 .1 .1 .0, entry .pre .0 .wide, entry .pre .0 .shape .columns-most)
+    omega (
+      arith,
+      runs.line-length _ _ _ (at-quarter-line .quarter-line .ensures .0),
+      at-loop .loop .inv .1 .1 .1 .1 .0,
+      entry .pre .0 .wide,
+      entry .pre .0 .shape .columns-most,
+    )
 
 slice-aggregate-compare-line : tie.Need-slice-aggregate-compare-line Inv-loop μ-loop
 slice-aggregate-compare-line c =
     let at-quarter-line = c .before .before .before .before .before .before .before in
     let at-loop = at-quarter-line .before .before .before .before .before in
     let entry = at-loop .before .before .before .before .before .before .before .before in
-    sym (ap length (runs.line-list _ _ _ (at-quarter-line .quarter-line .ensures .0) (omega (arith, at-loop .loop .inv .1 .1 .1 .1 .0, entry .pre .0 .wide, entry .pre .0 .shape .columns-most))) ∙ upTo-length _ _)
+    sym (ap length (runs.line-list _ _ _ (at-quarter-line .quarter-line .ensures .0)
+    (omega (arith, at-loop .loop .inv .1 .1 .1 .1 .0, entry .pre .0 .wide, entry .pre .0 .shape .columns-most))) ∙ upTo-length _ _)
 
 mul-compare-line : tie.Need-mul-compare-line Inv-loop μ-loop
 mul-compare-line c =
     let at-loop-test = c .before .before .before .before .before .before .before .before .before .before .before in
     let at-loop = at-loop-test .before in
     let entry = at-loop .before .before .before .before .before .before .before .before in
-    omega (arith, places.place-fits (at-loop .loop .row) (entry .args .g .rows) (entry .args .g .columns) (at-loop-test .loop-test .taken) (entry .pre .0 .shape .rows-most) (entry .pre .0 .shape .columns-most))
+    omega (
+      arith,
+      places.place-fits (at-loop .loop .row) (entry .args .g .rows) (entry .args .g .columns) (at-loop-test .loop-test .taken)
+          (entry .pre .0 .shape .rows-most) (entry .pre .0 .shape .columns-most),
+    )
 
 compare-line-requires : tie.Need-compare-line-requires Inv-loop μ-loop
 compare-line-requires c κs =
@@ -61,7 +109,12 @@ compare-line-requires c κs =
     let at-loop-test = at-quarter-line .before .before .before .before in
     let at-loop = at-loop-test .before in
     let entry = at-loop .before .before .before .before .before .before .before .before in
-    places.line-of (entry .args .tolerance) (quarterShade (shadesOf (entry .args .shades) (entry .args .g .stored)) (entry .args .g) (entry .args .pixels .now) (entry .args .frame) (usValues (entry .args .masks .now)) (entry .args .down) (entry .args .right)) (entry .args .cells .now) (at-loop .loop .row) (entry .args .g .rows) (entry .args .g .columns) (at-loop .loop .now) _ (at-loop .loop .inv .1 .1 .1 .1 .1) (entry .pre .1 .1 .1 .1 .1 .1) (at-loop-test .loop-test .taken) (ap length (runs.line-list _ _ _ (at-quarter-line .quarter-line .ensures .0) (omega (arith, at-loop .loop .inv .1 .1 .1 .1 .0, entry .pre .0 .wide, entry .pre .0 .shape .columns-most))) ∙ upTo-length _ _)
+    places.line-of (entry .args .tolerance) (quarterShade (shadesOf (entry .args .shades) (entry .args .g .stored)) (entry .args .g)
+    (entry .args .pixels .now) (entry .args .frame) (usValues (entry .args .masks .now)) (entry .args .down) (entry .args .right))
+    (entry .args .cells .now) (at-loop .loop .row) (entry .args .g .rows) (entry .args .g .columns) (at-loop .loop .now) _
+    (at-loop .loop .inv .1 .1 .1 .1 .1) (entry .pre .1 .1 .1 .1 .1 .1) (at-loop-test .loop-test .taken)
+    (ap length (runs.line-list _ _ _ (at-quarter-line .quarter-line .ensures .0)
+    (omega (arith, at-loop .loop .inv .1 .1 .1 .1 .0, entry .pre .0 .wide, entry .pre .0 .shape .columns-most))) ∙ upTo-length _ _)
 
 add-row : tie.Need-add-row Inv-loop μ-loop
 add-row c =
@@ -81,8 +134,29 @@ loop-again c =
     let at-quarter-line = at-upper .before in
     let at-loop-test = at-quarter-line .before .before .before .before in
     let at-loop = at-loop-test .before in
-    let entry = at-loop .before .before .before .before .before .before .before .before in
-    (omega (arith, at-loop-test .loop-test .taken), (at-upper .upper .given ∙ at-loop .loop .inv .1 .0, (at-lower .lower .given ∙ at-loop .loop .inv .1 .1 .0, (at-quarter-line .quarter-line .ensures .1, (runs.line-length _ _ _ (at-quarter-line .quarter-line .ensures .0) ∙ at-loop .loop .inv .1 .1 .1 .1 .0, places.line-more (entry .args .tolerance) (quarterShade (shadesOf (entry .args .shades) (entry .args .g .stored)) (entry .args .g) (entry .args .pixels .now) (entry .args .frame) (usValues (entry .args .masks .now)) (entry .args .down) (entry .args .right)) (entry .args .cells .now) (at-loop .loop .row) (entry .args .g .columns) (at-loop .loop .now) _ _ (at-loop .loop .inv .1 .1 .1 .1 .1) (runs.line-list _ _ _ (at-quarter-line .quarter-line .ensures .0) (omega (arith, at-loop .loop .inv .1 .1 .1 .1 .0, entry .pre .0 .wide, entry .pre .0 .shape .columns-most))) (c .compare-line .ensures))))))
+    let entry = at-loop .before .before .before .before .before .before .before .before in (
+      omega (arith, at-loop-test .loop-test .taken),
+      (
+        at-upper .upper .given ∙ at-loop .loop .inv .1 .0,
+        (
+          at-lower .lower .given ∙ at-loop .loop .inv .1 .1 .0,
+          (
+            at-quarter-line .quarter-line .ensures .1,
+            (
+              runs.line-length _ _ _ (at-quarter-line .quarter-line .ensures .0) ∙ at-loop .loop .inv .1 .1 .1 .1 .0,
+              places.line-more (entry .args .tolerance)
+                  (quarterShade (shadesOf (entry .args .shades) (entry .args .g .stored)) (entry .args .g)
+                  (entry .args .pixels .now) (entry .args .frame) (usValues (entry .args .masks .now)) (entry .args .down)
+                  (entry .args .right))
+                  (entry .args .cells .now) (at-loop .loop .row) (entry .args .g .columns) (at-loop .loop .now) _ _
+                  (at-loop .loop .inv .1 .1 .1 .1 .1) (runs.line-list _ _ _ (at-quarter-line .quarter-line .ensures .0)
+                  (omega (arith, at-loop .loop .inv .1 .1 .1 .1 .0, entry .pre .0 .wide, entry .pre .0 .shape .columns-most)))
+                  (c .compare-line .ensures),
+            ),
+          ),
+        ),
+      ),
+    )
 
 same-length : tie.Need-same-length Inv-loop μ-loop
 same-length c =

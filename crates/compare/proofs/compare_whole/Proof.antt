@@ -16,7 +16,8 @@ use Rattle.compare.proofs.compare_whole.Tie as tie
 
 abbrev Inv-loop : tie.InvT-loop
 Inv-loop pixels g frame masks down right shades table sums₀ line₀ cells tolerance height columns now₀ row₀ sums line now row =
-    (row ≤ g .rows) × ((length sums ≡ length sums₀) × ((length line ≡ length line₀) × (now ≡ met tolerance (quarterShade (shadesOf shades (g .stored)) g pixels frame (usValues masks) down right) cells (row * g .columns))))
+    (row ≤ g .rows) × ((length sums ≡ length sums₀) × ((length line ≡ length line₀) × (now
+    ≡ met tolerance (quarterShade (shadesOf shades (g .stored)) g pixels frame (usValues masks) down right) cells (row * g .columns))))
 
 abbrev μ-loop : tie.MeasureT-loop
 μ-loop pixels g frame masks down right shades table sums₀ line₀ cells tolerance height columns now₀ row₀ sums line now row =
@@ -24,35 +25,76 @@ abbrev μ-loop : tie.MeasureT-loop
 
 loop-holds : tie.Need-loop-holds Inv-loop μ-loop
 loop-holds c =
-    let entry = c .before .before .before .before .before .before in
-    (omega arith, (refl, (refl, places.no-line (entry .args .tolerance) (quarterShade (shadesOf (entry .args .shades) (entry .args .g .stored)) (entry .args .g) (entry .args .pixels .now) (entry .args .frame) (usValues (entry .args .masks .now)) (entry .args .down) (entry .args .right)) (entry .args .cells .now) (entry .args .g .columns))))
+    let entry = c .before .before .before .before .before .before in (
+      omega arith,
+      (
+        refl,
+        (
+          refl,
+          places.no-line (entry .args .tolerance) (quarterShade
+              (shadesOf (entry .args .shades) (entry .args .g .stored)) (entry .args .g) (entry .args .pixels .now) (entry .args .frame)
+              (usValues (entry .args .masks .now)) (entry .args .down) (entry .args .right)) (entry .args .cells .now)
+              (entry .args .g .columns),
+        ),
+      ),
+    )
 
 whole-line-requires : tie.Need-whole-line-requires Inv-loop μ-loop
 whole-line-requires c κs =
     let at-loop = c .before .before .before in
-    let entry = at-loop .before .before .before .before .before .before .before in
-    (record { shape = entry .pre .0 .shape; inside = entry .pre .0 .inside; lies = c .before .before .loop-test .taken; room = omega (arith, at-loop .loop .inv .1 .1 .0, entry .pre .0 .wide, entry .pre .0 .shape .columns-most) }, (entry .pre .1 .0, (entry .pre .1 .1 .0, (entry .pre .1 .1 .1 .0, (entry .pre .1 .1 .1 .1 .0, (entry .pre .1 .1 .1 .1 .1 .0, omega (arith, at-loop .loop .inv .1 .0, entry .pre .1 .1 .1 .1 .1 .1 .0)))))))
+    let entry = at-loop .before .before .before .before .before .before .before in (
+      record {
+        shape = entry .pre .0 .shape;
+        inside = entry .pre .0 .inside;
+        lies = c .before .before .loop-test .taken;
+        room = omega (arith, at-loop .loop .inv .1 .1 .0, entry .pre .0 .wide, entry .pre .0 .shape .columns-most);
+      },
+      (
+        entry .pre .1 .0,
+        (
+          entry .pre .1 .1 .0,
+          (
+            entry .pre .1 .1 .1 .0,
+            (
+              entry .pre .1 .1 .1 .1 .0,
+              (entry .pre .1 .1 .1 .1 .1 .0, omega (arith, at-loop .loop .inv .1 .0, entry .pre .1 .1 .1 .1 .1 .1 .0)),
+            ),
+          ),
+        ),
+      ),
+    )
 
 slice-reshare-prefix-compare-line : tie.Need-slice-reshare-prefix-compare-line Inv-loop μ-loop
 slice-reshare-prefix-compare-line c =
     let at-whole-line = c .before .before .before .before in
     let at-loop = at-whole-line .before .before .before .before in
     let entry = at-loop .before .before .before .before .before .before .before in
-    omega (arith, runs.line-length _ _ _ (at-whole-line .whole-line .ensures), at-loop .loop .inv .1 .1 .0, entry .pre .0 .wide, entry .pre .0 .shape .columns-most)
+    omega (
+      arith,
+      runs.line-length _ _ _ (at-whole-line .whole-line .ensures),
+      at-loop .loop .inv .1 .1 .0,
+      entry .pre .0 .wide,
+      entry .pre .0 .shape .columns-most,
+    )
 
 slice-aggregate-compare-line : tie.Need-slice-aggregate-compare-line Inv-loop μ-loop
 slice-aggregate-compare-line c =
     let at-whole-line = c .before .before .before .before .before in
     let at-loop = at-whole-line .before .before .before .before in
     let entry = at-loop .before .before .before .before .before .before .before in
-    sym (ap length (runs.line-list _ _ _ (at-whole-line .whole-line .ensures) (omega (arith, at-loop .loop .inv .1 .1 .0, entry .pre .0 .wide, entry .pre .0 .shape .columns-most))) ∙ upTo-length _ _)
+    sym (ap length (runs.line-list _ _ _ (at-whole-line .whole-line .ensures)
+    (omega (arith, at-loop .loop .inv .1 .1 .0, entry .pre .0 .wide, entry .pre .0 .shape .columns-most))) ∙ upTo-length _ _)
 
 mul-compare-line : tie.Need-mul-compare-line Inv-loop μ-loop
 mul-compare-line c =
     let at-loop-test = c .before .before .before .before .before .before .before .before in
     let at-loop = at-loop-test .before in
     let entry = at-loop .before .before .before .before .before .before .before in
-    omega (arith, places.place-fits (at-loop .loop .row) (entry .args .g .rows) (entry .args .g .columns) (at-loop-test .loop-test .taken) (entry .pre .0 .shape .rows-most) (entry .pre .0 .shape .columns-most))
+    omega (
+      arith,
+      places.place-fits (at-loop .loop .row) (entry .args .g .rows) (entry .args .g .columns) (at-loop-test .loop-test .taken)
+          (entry .pre .0 .shape .rows-most) (entry .pre .0 .shape .columns-most),
+    )
 
 compare-line-requires : tie.Need-compare-line-requires Inv-loop μ-loop
 compare-line-requires c κs =
@@ -60,7 +102,12 @@ compare-line-requires c κs =
     let at-loop-test = at-whole-line .before .before .before in
     let at-loop = at-loop-test .before in
     let entry = at-loop .before .before .before .before .before .before .before in
-    places.line-of (entry .args .tolerance) (quarterShade (shadesOf (entry .args .shades) (entry .args .g .stored)) (entry .args .g) (entry .args .pixels .now) (entry .args .frame) (usValues (entry .args .masks .now)) (entry .args .down) (entry .args .right)) (entry .args .cells .now) (at-loop .loop .row) (entry .args .g .rows) (entry .args .g .columns) (at-loop .loop .now) _ (at-loop .loop .inv .1 .1 .1) (entry .pre .1 .1 .1 .1 .1 .1 .1) (at-loop-test .loop-test .taken) (ap length (runs.line-list _ _ _ (at-whole-line .whole-line .ensures) (omega (arith, at-loop .loop .inv .1 .1 .0, entry .pre .0 .wide, entry .pre .0 .shape .columns-most))) ∙ upTo-length _ _)
+    places.line-of (entry .args .tolerance) (quarterShade (shadesOf (entry .args .shades) (entry .args .g .stored)) (entry .args .g)
+    (entry .args .pixels .now) (entry .args .frame) (usValues (entry .args .masks .now)) (entry .args .down) (entry .args .right))
+    (entry .args .cells .now) (at-loop .loop .row) (entry .args .g .rows) (entry .args .g .columns) (at-loop .loop .now) _
+    (at-loop .loop .inv .1 .1 .1) (entry .pre .1 .1 .1 .1 .1 .1 .1) (at-loop-test .loop-test .taken)
+    (ap length (runs.line-list _ _ _ (at-whole-line .whole-line .ensures)
+    (omega (arith, at-loop .loop .inv .1 .1 .0, entry .pre .0 .wide, entry .pre .0 .shape .columns-most))) ∙ upTo-length _ _)
 
 add-row : tie.Need-add-row Inv-loop μ-loop
 add-row c =
@@ -79,8 +126,23 @@ loop-again c =
     let at-whole-line = at-sums .before in
     let at-loop-test = at-whole-line .before .before .before in
     let at-loop = at-loop-test .before in
-    let entry = at-loop .before .before .before .before .before .before .before in
-    (omega (arith, at-loop-test .loop-test .taken), (at-sums .sums .given ∙ at-loop .loop .inv .1 .0, (runs.line-length _ _ _ (at-whole-line .whole-line .ensures) ∙ at-loop .loop .inv .1 .1 .0, places.line-more (entry .args .tolerance) (quarterShade (shadesOf (entry .args .shades) (entry .args .g .stored)) (entry .args .g) (entry .args .pixels .now) (entry .args .frame) (usValues (entry .args .masks .now)) (entry .args .down) (entry .args .right)) (entry .args .cells .now) (at-loop .loop .row) (entry .args .g .columns) (at-loop .loop .now) _ _ (at-loop .loop .inv .1 .1 .1) (runs.line-list _ _ _ (at-whole-line .whole-line .ensures) (omega (arith, at-loop .loop .inv .1 .1 .0, entry .pre .0 .wide, entry .pre .0 .shape .columns-most))) (c .compare-line .ensures))))
+    let entry = at-loop .before .before .before .before .before .before .before in (
+      omega (arith, at-loop-test .loop-test .taken),
+      (
+        at-sums .sums .given ∙ at-loop .loop .inv .1 .0,
+        (
+          runs.line-length _ _ _ (at-whole-line .whole-line .ensures) ∙ at-loop .loop .inv .1 .1 .0,
+          places.line-more
+              (entry .args .tolerance) (quarterShade (shadesOf (entry .args .shades) (entry .args .g .stored)) (entry .args .g)
+              (entry .args .pixels .now) (entry .args .frame) (usValues (entry .args .masks .now)) (entry .args .down) (entry .args .right))
+              (entry .args .cells .now) (at-loop .loop .row) (entry .args .g .columns) (at-loop .loop .now) _ _
+              (at-loop .loop .inv .1 .1 .1)
+              (runs.line-list _ _ _ (at-whole-line .whole-line .ensures)
+              (omega (arith, at-loop .loop .inv .1 .1 .0, entry .pre .0 .wide, entry .pre .0 .shape .columns-most)))
+              (c .compare-line .ensures),
+        ),
+      ),
+    )
 
 same-length : tie.Need-same-length Inv-loop μ-loop
 same-length c =

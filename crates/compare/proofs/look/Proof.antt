@@ -17,15 +17,18 @@ add-t11 c =
 
 returns : tie.Need-returns
 returns c =
-    places.seen-first (c .before .before .args .place) (c .before .before .args .sofar) (c .if2 .taken) ∙ ap (λ (b : Bool). seen b (c .before .before .args .place) (c .before .before .args .sofar)) (sym (c .before .if1 .taken))
+    places.seen-first (c .before .before .args .place) (c .before .before .args .sofar) (c .if2 .taken)
+    ∙ ap (λ (b : Bool). seen b (c .before .before .args .place) (c .before .before .args .sofar)) (sym (c .before .if1 .taken))
 
 returns-2 : tie.Need-returns-2
 returns-2 c =
-    places.seen-next (c .before .before .args .place) (c .before .before .args .sofar) (c .if2 .left) ∙ ap (λ (b : Bool). seen b (c .before .before .args .place) (c .before .before .args .sofar)) (sym (c .before .if1 .taken))
+    places.seen-next (c .before .before .args .place) (c .before .before .args .sofar) (c .if2 .left)
+    ∙ ap (λ (b : Bool). seen b (c .before .before .args .place) (c .before .before .args .sofar)) (sym (c .before .if1 .taken))
 
 returns-3 : tie.Need-returns-3
 returns-3 c =
-    places.seen-none (c .before .args .place) (c .before .args .sofar) ∙ ap (λ (b : Bool). seen b (c .before .args .place) (c .before .args .sofar)) (sym (c .if1 .left))
+    places.seen-none (c .before .args .place) (c .before .args .sofar)
+    ∙ ap (λ (b : Bool). seen b (c .before .args .place) (c .before .args .sofar)) (sym (c .if1 .left))
 
 pub look-spec : {M : Type 1} → statement M
 look-spec =

@@ -15,7 +15,8 @@ use Rattle.conformance.proofs.first_broken.Tie as tie
 
 abbrev Inv-loop2 : tie.InvT-loop2
 Inv-loop2 bytes rows n shared items rule part first end left₀ frame₀ left frame =
-    (lowest (nodesOf bytes) rule (end - frame) frame (firstBroken (nodesOf bytes) (endRule - (rule + 1)) (rule + 1)) ≡ findingOf (nodesOf bytes))
+    (lowest (nodesOf bytes) rule (end - frame) frame (firstBroken (nodesOf bytes) (endRule - (rule + 1)) (rule + 1))
+    ≡ findingOf (nodesOf bytes))
     × ((first ≤ frame) × Along (nodesOf bytes) (drop (frame - first) (frameItems (nodesOf bytes))) left)
 
 abbrev μ-loop2 : tie.MeasureT-loop2
@@ -81,7 +82,8 @@ loop2-holds c =
     let at-loop = at-loop-test .before in
     let at-frame-items = at-loop .before .before in
     let at-frame-total = at-frame-items .before .before in (
-      rw (c .before .first-frame .ensures, c .end-frame .ensures .0, at-frame-total .frame-total .ensures .0) (sym (loops.rules-start _ _ (at-loop-test .loop-test .taken)) ∙ at-loop .loop .inv .1 .1),
+      rw (c .before .first-frame .ensures, c .end-frame .ensures .0, at-frame-total .frame-total .ensures .0)
+          (sym (loops.rules-start _ _ (at-loop-test .loop-test .taken)) ∙ at-loop .loop .inv .1 .1),
       (omega arith, loops.along-start _ (c .before .first-frame .result) (at-frame-items .frame-items .ensures)),
     )
 
@@ -102,7 +104,10 @@ rule-holds-requires c κs =
           at-shared-item .shared-item .ensures .0,
           (
             at-shared-ok .shared-ok .ensures,
-            loops.asked-at _ (at-frame-total .frame-total .result) (at-loop .loop .rule) (c .before .loop2 .frame) (at-loop .loop .inv .0) (at-loop-test .loop-test .taken) (omega (arith, at-first-frame .first-frame .ensures, c .before .loop2 .inv .1 .0)) (omega (arith, c .before .before .end-frame .ensures .0, c .loop2-test .taken)) (rw (at-first-frame .first-frame .ensures) at (c .before .loop2 .inv .1 .1)),
+            loops.asked-at _ (at-frame-total .frame-total .result) (at-loop .loop .rule) (c .before .loop2 .frame) (at-loop .loop .inv .0)
+                (at-loop-test .loop-test .taken) (omega (arith, at-first-frame .first-frame .ensures, c .before .loop2 .inv .1 .0))
+                (omega (arith, c .before .before .end-frame .ensures .0, c .loop2-test .taken))
+                (rw (at-first-frame .first-frame .ensures) at (c .before .loop2 .inv .1 .1)),
           ),
         ),
       ),
@@ -127,8 +132,13 @@ loop2-again c =
     let at-loop2-test = c .before .before .before in
     let at-loop2 = at-loop2-test .before in
     let at-first-frame = at-loop2 .before .before in (
-      sym (loops.frames-pass _ _ _ _ _ (at-loop2-test .loop2-test .taken) (sym (c .before .before .rule-holds .ensures) ∙ c .before .if1 .taken)) ∙ at-loop2 .loop2 .inv .0,
-      (omega (arith, at-loop2 .loop2 .inv .1 .0), loops.along-more _ (at-first-frame .first-frame .result) (at-loop2 .loop2 .frame) (at-loop2 .loop2 .inv .1 .0) (at-loop2 .loop2 .inv .1 .1) (c .advance .ensures)),
+      sym (loops.frames-pass _ _ _ _ _ (at-loop2-test .loop2-test .taken)
+          (sym (c .before .before .rule-holds .ensures) ∙ c .before .if1 .taken)) ∙ at-loop2 .loop2 .inv .0,
+      (
+        omega (arith, at-loop2 .loop2 .inv .1 .0),
+        loops.along-more _ (at-first-frame .first-frame .result) (at-loop2 .loop2 .frame)
+            (at-loop2 .loop2 .inv .1 .0) (at-loop2 .loop2 .inv .1 .1) (c .advance .ensures),
+      ),
     )
 
 add-rule : tie.Need-add-rule Inv-loop2 μ-loop2 Inv-loop μ-loop Inv-judge μ-judge
@@ -146,7 +156,8 @@ loop-again c =
 returns : tie.Need-returns Inv-loop2 μ-loop2 Inv-loop μ-loop Inv-judge μ-judge
 returns c =
     let at-loop2 = c .before .before .before in
-    sym (loops.frames-hit _ _ _ _ _ (c .before .before .loop2-test .taken) (sym (c .before .rule-holds .ensures) ∙ c .if1 .left)) ∙ at-loop2 .loop2 .inv .0
+    sym (loops.frames-hit _ _ _ _ _ (c .before .before .loop2-test .taken) (sym (c .before .rule-holds .ensures) ∙ c .if1 .left))
+    ∙ at-loop2 .loop2 .inv .0
 
 returns-2 : tie.Need-returns-2 Inv-loop2 μ-loop2 Inv-loop μ-loop Inv-judge μ-judge
 returns-2 c =

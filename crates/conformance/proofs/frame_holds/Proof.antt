@@ -29,7 +29,8 @@ item-rule-requires c κs =
         (
           omega (arith, c .if1 .taken, p .1 .1 .1 .1 .1 .1 .inner),
           p .1 .1 .1 .0 ∙ ap (λ (x : Num). okFor (nodesOf (a .bytes .now)) (a .rule) x) (c .before .before .shared .given .1)
-              ∙ ap (λ (t : Bool). cond t (sharedPart (nodesOf (a .bytes .now)) (a .rule) (c .before .before .shared .given .0 .0)) noPart) (p .1 .1 .1 .1 .0),
+              ∙ ap (λ (t : Bool). cond t (sharedPart (nodesOf (a .bytes .now)) (a .rule) (c .before .before .shared .given .0 .0)) noPart)
+              (p .1 .1 .1 .1 .0),
         ),
       ),
     )
@@ -47,14 +48,23 @@ returns-2 c =
     let entry = at-shared .before .before .before .before in
     let p = entry .pre in
     let a = entry .args in
-    rw (frames.asked (nodesOf (a .bytes .now)) (a .frame) (a .rule) (p .1 .1 .1 .1 .0), sym (p .1 .1 .0) ∙ at-shared .shared .given .1, frames.item-here (nodesOf (a .bytes .now)) (a .frame) (a .items) (p .1 .1 .1 .1 .1 .0) (p .1 .1 .1 .1 .1 .1) (c .before .if1 .taken)) (c .item-rule .ensures)
+    rw (
+      frames.asked (nodesOf (a .bytes .now)) (a .frame) (a .rule) (p .1 .1 .1 .1 .0),
+      sym (p .1 .1 .0) ∙ at-shared .shared .given .1,
+      frames.item-here (nodesOf (a .bytes .now)) (a .frame) (a .items) (p .1 .1 .1 .1 .1 .0) (p .1 .1 .1 .1 .1 .1)
+          (c .before .if1 .taken),
+    ) (c .item-rule .ensures)
 
 returns-3 : tie.Need-returns-3
 returns-3 c =
     let entry = c .before .before .before .before .before .before in
     let p = entry .pre in
     let a = entry .args in
-    rw (frames.asked (nodesOf (a .bytes .now)) (a .frame) (a .rule) (p .1 .1 .1 .1 .0), sym (p .1 .1 .0) ∙ c .before .before .shared .given .1, frames.item-none (nodesOf (a .bytes .now)) (a .frame) (a .items) (p .1 .1 .1 .1 .1 .0) (p .1 .1 .1 .1 .1 .1) (c .if1 .left))
+    rw (
+      frames.asked (nodesOf (a .bytes .now)) (a .frame) (a .rule) (p .1 .1 .1 .1 .0),
+      sym (p .1 .1 .0) ∙ c .before .before .shared .given .1,
+      frames.item-none (nodesOf (a .bytes .now)) (a .frame) (a .items) (p .1 .1 .1 .1 .1 .0) (p .1 .1 .1 .1 .1 .1) (c .if1 .left),
+    )
 
 pub frame-holds-spec : {M : Type 1} → statement M
 frame-holds-spec =

@@ -16,12 +16,14 @@ enum-told c = search needs
 
 returns : tie.Need-returns
 returns c =
-    let at-frame-count = c .before .before .before in
-    (rw (node-laws.had (c .before .n .given .1) (at-frame-count .frame-count .ensures .0)), node-laws.within _ (c .before .n .given .1) (at-frame-count .frame-count .ensures .1))
+    let at-frame-count = c .before .before .before in (
+      rw (node-laws.had (c .before .n .given .1) (at-frame-count .frame-count .ensures .0)),
+      node-laws.within _ (c .before .n .given .1) (at-frame-count .frame-count .ensures .1),
+    )
 
 returns-2 : tie.Need-returns-2
 returns-2 c =
-    (rw (node-laws.lacked (c .enum-told .given .1) (c .before .before .frame-count .ensures .0)), omega arith)
+    (rw (node-laws.had-none (c .enum-told .given .1) (c .before .before .frame-count .ensures .0)), omega arith)
 
 pub frame-total-spec : {M : Type 1} → statement M
 frame-total-spec =

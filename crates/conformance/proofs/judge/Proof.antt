@@ -29,26 +29,31 @@ mul-end : tie.Need-mul-end
 mul-end c =
     let at-read = c .before .before .before .before .before in
     let entry = at-read .before .before .before .before in
-    let t = after-reading (entry .args .bytes .now) (entry .args .rows .now) (at-read .read .last .1 .0) (c .before .n .given .0 .0) (sym (c .before .n .given .1) ∙ at-read .read .ensures .0 .same) (at-read .read .ensures .1) in
+    let t = after-reading (entry .args .bytes .now) (entry .args .rows .now) (at-read .read .last .1 .0) (c .before .n .given .0 .0)
+    (sym (c .before .n .given .1) ∙ at-read .read .ensures .0 .same) (at-read .read .ensures .1) in
     omega (arith, t .1 .size, t .1 .few, length-take-le (7 * c .before .n .given .0 .0) (at-read .read .last .1 .0) (t .0))
 
 slice-reshare-prefix-first-broken : tie.Need-slice-reshare-prefix-first-broken
 slice-reshare-prefix-first-broken c =
     let at-read = c .before .before .before .before .before in
     let entry = at-read .before .before .before .before in
-    after-reading (entry .args .bytes .now) (entry .args .rows .now) (at-read .read .last .1 .0) (c .before .n .given .0 .0) (sym (c .before .n .given .1) ∙ at-read .read .ensures .0 .same) (at-read .read .ensures .1) .0
+    after-reading (entry .args .bytes .now) (entry .args .rows .now) (at-read .read .last .1 .0) (c .before .n .given .0 .0)
+    (sym (c .before .n .given .1) ∙ at-read .read .ensures .0 .same) (at-read .read .ensures .1) .0
 
 slice-aggregate-first-broken : tie.Need-slice-aggregate-first-broken
 slice-aggregate-first-broken c =
     let at-read = c .before .before .before .before .before .before in
     let entry = at-read .before .before .before .before in
-    sym (length-take-le _ _ (after-reading (entry .args .bytes .now) (entry .args .rows .now) (at-read .read .last .1 .0) (c .before .before .n .given .0 .0) (sym (c .before .before .n .given .1) ∙ at-read .read .ensures .0 .same) (at-read .read .ensures .1) .0))
+    sym (length-take-le _ _ (after-reading (entry .args .bytes .now) (entry .args .rows .now) (at-read .read .last .1 .0)
+    (c .before .before .n .given .0 .0) (sym (c .before .before .n .given .1) ∙ at-read .read .ensures .0 .same)
+    (at-read .read .ensures .1) .0))
 
 first-broken-requires : tie.Need-first-broken-requires
 first-broken-requires c κs =
     let at-read = c .before .before .before .before .before .before in
     let entry = at-read .before .before .before .before in
-    after-reading (entry .args .bytes .now) (entry .args .rows .now) (at-read .read .last .1 .0) (c .before .before .n .given .0 .0) (sym (c .before .before .n .given .1) ∙ at-read .read .ensures .0 .same) (at-read .read .ensures .1) .1
+    after-reading (entry .args .bytes .now) (entry .args .rows .now) (at-read .read .last .1 .0) (c .before .before .n .given .0 .0)
+    (sym (c .before .before .n .given .1) ∙ at-read .read .ensures .0 .same) (at-read .read .ensures .1) .1
 
 enum-told-3 : tie.Need-enum-told-3
 enum-told-3 c = search needs
@@ -90,8 +95,11 @@ returns-4 : tie.Need-returns-4
 unfolding judgeOf
 returns-4 c =
     let at-n = c .before .before .before .before .before in
-    let at-read = at-n .before .before .before .before in
-    (promised (rw (← at-read .read .ensures .0 .same, at-n .n .given .1, ← c .before .before .first-broken .ensures, c .enum-told3 .given .1)), at-read .read .ensures .1)
+    let at-read = at-n .before .before .before .before in (
+      promised
+          (rw (← at-read .read .ensures .0 .same, at-n .n .given .1, ← c .before .before .first-broken .ensures, c .enum-told3 .given .1)),
+      at-read .read .ensures .1,
+    )
 
 same-length-5 : tie.Need-same-length-5
 same-length-5 c = search needs
@@ -101,8 +109,11 @@ unfolding judgeOf
 returns-5 c =
     let at-first-broken = c .before .before .before in
     let at-n = at-first-broken .before .before .before in
-    let at-read = at-n .before .before .before .before in
-    (promised (rw (← at-read .read .ensures .0 .same, at-n .n .given .1, ← at-first-broken .first-broken .ensures, c .before .rule .given .1)), at-read .read .ensures .1)
+    let at-read = at-n .before .before .before .before in (
+      promised
+          (rw (← at-read .read .ensures .0 .same, at-n .n .given .1, ← at-first-broken .first-broken .ensures, c .before .rule .given .1)),
+      at-read .read .ensures .1,
+    )
 
 pub judge-spec : {M : Type 1} → statement M
 judge-spec =

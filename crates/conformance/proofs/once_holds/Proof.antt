@@ -29,7 +29,8 @@ returns-2 c = search needs
 returns-3 : tie.Need-returns-3
 returns-3 c =
     let entry = c .before .before .before .before .before in
-    c .rule-38 .ensures .1 ∙ ap (λ (k : ℕ). ruleAt (nodesOf (entry .args .bytes .now)) k 0) (sym (loops.once-last (entry .args .rule) (entry .pre .1 .1 .1) (omega (arith, c .before .if2 .left)) (entry .pre .1 .1 .0)))
+    c .rule-38 .ensures .1 ∙ ap (λ (k : ℕ). ruleAt (nodesOf (entry .args .bytes .now)) k 0)
+    (sym (loops.once-last (entry .args .rule) (entry .pre .1 .1 .1) (omega (arith, c .before .if2 .left)) (entry .pre .1 .1 .0)))
 
 pub once-holds-spec : {M : Type 1} → statement M
 once-holds-spec =

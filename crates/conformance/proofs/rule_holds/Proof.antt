@@ -29,7 +29,8 @@ returns c = search needs
 returns-2 : tie.Need-returns-2
 returns-2 c =
     let entry = c .before .before .before .before .before in
-    c .once-holds .ensures ∙ ap (λ (k : ℕ). ruleAt (nodesOf (entry .args .bytes .now)) (entry .args .rule) k) (sym (entry .pre .1 .1 .1 .1 .once (sym (c .before .before .is-per-frame .ensures) ∙ c .before .if1 .left)))
+    c .once-holds .ensures ∙ ap (λ (k : ℕ). ruleAt (nodesOf (entry .args .bytes .now)) (entry .args .rule) k)
+    (sym (entry .pre .1 .1 .1 .1 .once (sym (c .before .before .is-per-frame .ensures) ∙ c .before .if1 .left)))
 
 pub rule-holds-spec : {M : Type 1} → statement M
 rule-holds-spec =

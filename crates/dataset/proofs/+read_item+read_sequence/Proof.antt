@@ -51,32 +51,59 @@ sequence-below t = and 2 read-sequence-kinds.ps (falls 2 read-sequence-kinds.ps 
 
 abbrev item-inv : item-lts.InvT-loop
 item-inv s levels rows₀ first here₀ n₀ least₀ rows here n least =
-    level.Along (λ a l. elementAt s (moved here₀ a) l levels) (valueRun levels s) (8 - levels) (elementsAt levels s first here₀) here₀ first rows₀ rows here n least
+    level.Along (λ a l. elementAt s (moved here₀ a) l levels) (valueRun levels s) (8 - levels) (elementsAt levels s first here₀) here₀ first
+    rows₀ rows here n least
 
 abbrev item-μ : item-lts.MeasureT-loop
 item-μ s levels rows₀ first here₀ n₀ least₀ rows here n least = bytes-left here
 
 abbrev sequence-inv : sequence-lts.InvT-loop
 sequence-inv s levels rows₀ first here₀ n₀ rows here n =
-    (least : ℕ) × level.Along (λ a l. itemAt s (moved here₀ a)) (λ n _ v. elementsAt levels s n v) (8 - levels) (itemsAt levels s first here₀) here₀ first rows₀ rows here n least
+    (least : ℕ) × level.Along (λ a l. itemAt s (moved here₀ a)) (λ n _ v. elementsAt levels s n v) (8 - levels)
+    (itemsAt levels s first here₀) here₀ first rows₀ rows here n least
 
 abbrev sequence-μ : sequence-lts.MeasureT-loop
 sequence-μ s levels rows₀ first here₀ n₀ rows here n = bytes-left here
 
 -- A need of each, at what its callees and it itself are given.
-abbrev Item : (item-lts.Claims → In 2 read-item-kinds.ps → Out 2 read-item-kinds.ps read-item-kinds.r → item-lts.InvT-loop → item-lts.MeasureT-loop → Type 0) → ℕ → Type 0
+abbrev Item : (item-lts.Claims → In 2 read-item-kinds.ps → Out 2 read-item-kinds.ps read-item-kinds.r → item-lts.InvT-loop
+    → item-lts.MeasureT-loop → Type 0) → ℕ → Type 0
 Item N t =
-    N (element-reads.Asked, element-reads.Learnt, put-row-reads.Asked, put-row-reads.Learnt, moved-reads.Asked, moved-reads.Learnt, sequence-below t, read-sequence.Post)
+    N (
+      element-reads.Asked,
+      element-reads.Learnt,
+      put-row-reads.Asked,
+      put-row-reads.Learnt,
+      moved-reads.Asked,
+      moved-reads.Learnt,
+      sequence-below t,
+      read-sequence.Post,
+    )
     (item-at t) read-item.Post item-inv item-μ
 
-abbrev Sequence : (sequence-lts.Claims → In 2 read-sequence-kinds.ps → Out 2 read-sequence-kinds.ps read-sequence-kinds.r → sequence-lts.InvT-loop → sequence-lts.MeasureT-loop → Type 0) → ℕ → Type 0
+abbrev Sequence : (sequence-lts.Claims → In 2 read-sequence-kinds.ps → Out 2 read-sequence-kinds.ps read-sequence-kinds.r
+    → sequence-lts.InvT-loop → sequence-lts.MeasureT-loop → Type 0) → ℕ → Type 0
 Sequence N t =
-    N (item-reads.Asked, item-reads.Learnt, read-leaf-reads.Asked, read-leaf-reads.Learnt, put-row-reads.Asked, put-row-reads.Learnt, moved-reads.Asked, moved-reads.Learnt, item-below t, read-item.Post)
+    N (
+      item-reads.Asked,
+      item-reads.Learnt,
+      read-leaf-reads.Asked,
+      read-leaf-reads.Learnt,
+      put-row-reads.Asked,
+      put-row-reads.Learnt,
+      moved-reads.Asked,
+      moved-reads.Learnt,
+      item-below t,
+      read-item.Post,
+    )
     (sequence-at t) read-sequence.Post sequence-inv sequence-μ
 
 item-loop-holds : (t : ℕ) → Item item-lts.Need-loop-holds t
-item-loop-holds t c =
-    (refl, level.started _ _ _ _ (c .before .before .args .c) _ _ (c .before .before .args .s .now) (c .before .before .pre .1 .start) (c .before .before .pre .1 .stop) refl)
+item-loop-holds t c = (
+  refl,
+  level.started _ _ _ _ (c .before .before .args .c) _ _ (c .before .before .args .s .now) (c .before .before .pre .1 .start)
+      (c .before .before .pre .1 .stop) refl,
+)
 
 item-element-requires : (t : ℕ) → Item item-lts.Need-element-requires t
 item-element-requires t c κs =
@@ -97,7 +124,8 @@ item-returns t c =
     let at-loop = at-element .before in
     let entry = at-loop .before .before .before in
     let a = entry .args in
-    let there = level.stands (a .c) (at-loop .loop .here) (λ (x : Cursor). elementAt (a .s .now) x (at-loop .loop .least) (a .levels)) (at-loop .loop .inv .0) (at-element .element .ensures) (c .before .code .given .1) in
+    let there = level.stands (a .c) (at-loop .loop .here) (λ (x : Cursor). elementAt (a .s .now) x (at-loop .loop .least) (a .levels))
+    (at-loop .loop .inv .0) (at-element .element .ensures) (c .before .code .given .1) in
     level.refuses _ _ _ _ (a .c) _ _ (at-loop .loop .inv .1) (there .0) (there .1)
 
 item-enum-known-next : (t : ℕ) → Item item-lts.Need-enum-known-next t
@@ -114,7 +142,8 @@ item-returns-2 t c =
     let at-loop = at-element .before in
     let entry = at-loop .before .before .before in
     let a = entry .args in
-    let there = level.stands (a .c) (at-loop .loop .here) (λ (x : Cursor). elementAt (a .s .now) x (at-loop .loop .least) (a .levels)) (at-loop .loop .inv .0) (at-element .element .ensures) (c .before .next .given .1) in
+    let there = level.stands (a .c) (at-loop .loop .here) (λ (x : Cursor). elementAt (a .s .now) x (at-loop .loop .least) (a .levels))
+    (at-loop .loop .inv .0) (at-element .element .ensures) (c .before .next .given .1) in
     level.ended _ _ _ _ (a .c) _ _ (at-loop .loop .inv .1) (there .0) (there .1 .0) (there .1 .1)
 
 item-enum-known-tag : (t : ℕ) → Item item-lts.Need-enum-known-tag t
@@ -127,7 +156,8 @@ item-add-put-row t c =
     let at-loop = at-element .before in
     let entry = at-loop .before .before .before in
     let a = entry .args in
-    let there = level.stands (a .c) (at-loop .loop .here) (λ (x : Cursor). elementAt (a .s .now) x (at-loop .loop .least) (a .levels)) (at-loop .loop .inv .0) (at-element .element .ensures) (at-tag .tag .given .1) in
+    let there = level.stands (a .c) (at-loop .loop .here) (λ (x : Cursor). elementAt (a .s .now) x (at-loop .loop .least) (a .levels))
+    (at-loop .loop .inv .0) (at-element .element .ensures) (at-tag .tag .given .1) in
     omega (arith, at-loop .loop .inv .1 .count, at-loop .loop .inv .1 .few, there .1, entry .pre .1, entry .good)
 
 item-put-row-requires : (t : ℕ) → Item item-lts.Need-put-row-requires t
@@ -137,9 +167,17 @@ item-put-row-requires t c κs =
     let at-loop = at-element .before in
     let entry = at-loop .before .before .before in
     let a = entry .args in
-    let there = level.stands (a .c) (at-loop .loop .here) (λ (x : Cursor). elementAt (a .s .now) x (at-loop .loop .least) (a .levels)) (at-loop .loop .inv .0) (at-element .element .ensures) (at-tag .tag .given .1) in (
+    let there = level.stands (a .c) (at-loop .loop .here) (λ (x : Cursor). elementAt (a .s .now) x (at-loop .loop .least) (a .levels))
+    (at-loop .loop .inv .0) (at-element .element .ensures) (at-tag .tag .given .1) in (
       omega (arith, at-loop .loop .inv .1 .count, at-loop .loop .inv .1 .few, there .1, entry .pre .1),
-      λ h. omega (arith, at-loop .loop .inv .1 .count, at-loop .loop .inv .1 .few, there .1, entry .pre .1, entry .pre .1 .small (omega (arith, h, at-loop .loop .inv .1 .kept))),
+      λ h. omega (
+        arith,
+        at-loop .loop .inv .1 .count,
+        at-loop .loop .inv .1 .few,
+        there .1,
+        entry .pre .1,
+        entry .pre .1 .small (omega (arith, h, at-loop .loop .inv .1 .kept)),
+      ),
     )
 
 item-moved-requires : (t : ℕ) → Item item-lts.Need-moved-requires t
@@ -152,7 +190,8 @@ item-add-n t c =
     let at-loop = at-element .before in
     let entry = at-loop .before .before .before in
     let a = entry .args in
-    let there = level.stands (a .c) (at-loop .loop .here) (λ (x : Cursor). elementAt (a .s .now) x (at-loop .loop .least) (a .levels)) (at-loop .loop .inv .0) (at-element .element .ensures) (at-tag .tag .given .1) in
+    let there = level.stands (a .c) (at-loop .loop .here) (λ (x : Cursor). elementAt (a .s .now) x (at-loop .loop .least) (a .levels))
+    (at-loop .loop .inv .0) (at-element .element .ensures) (at-tag .tag .given .1) in
     omega (arith, at-loop .loop .inv .1 .count, at-loop .loop .inv .1 .few, there .1, entry .pre .1, entry .good)
 
 item-add-least : (t : ℕ) → Item item-lts.Need-add-least t
@@ -162,7 +201,8 @@ item-add-least t c =
     let at-loop = at-element .before in
     let entry = at-loop .before .before .before in
     let a = entry .args in
-    let there = level.stands (a .c) (at-loop .loop .here) (λ (x : Cursor). elementAt (a .s .now) x (at-loop .loop .least) (a .levels)) (at-loop .loop .inv .0) (at-element .element .ensures) (at-tag .tag .given .1) in
+    let there = level.stands (a .c) (at-loop .loop .here) (λ (x : Cursor). elementAt (a .s .now) x (at-loop .loop .least) (a .levels))
+    (at-loop .loop .inv .0) (at-element .element .ensures) (at-tag .tag .given .1) in
     omega (arith, there .1)
 
 item-loop-less : (t : ℕ) → Item item-lts.Need-loop-less t
@@ -172,8 +212,16 @@ item-loop-less t c =
     let at-loop = at-element .before in
     let entry = at-loop .before .before .before in
     let a = entry .args in
-    let there = level.stands (a .c) (at-loop .loop .here) (λ (x : Cursor). elementAt (a .s .now) x (at-loop .loop .least) (a .levels)) (at-loop .loop .inv .0) (at-element .element .ensures) (at-tag .tag .given .1) in
-    omega (arith, there .1, at-loop .loop .inv .1 .high, ap (λ (x : Cursor). x .end) (c .moved .ensures), ap (λ (x : Cursor). x .at) (c .moved .ensures), ap (λ (x : Cursor). x .end) (at-loop .loop .inv .0))
+    let there = level.stands (a .c) (at-loop .loop .here) (λ (x : Cursor). elementAt (a .s .now) x (at-loop .loop .least) (a .levels))
+    (at-loop .loop .inv .0) (at-element .element .ensures) (at-tag .tag .given .1) in
+    omega (
+      arith,
+      there .1,
+      at-loop .loop .inv .1 .high,
+      ap (λ (x : Cursor). x .end) (c .moved .ensures),
+      ap (λ (x : Cursor). x .at) (c .moved .ensures),
+      ap (λ (x : Cursor). x .end) (at-loop .loop .inv .0),
+    )
 
 item-loop-again : (t : ℕ) → Item item-lts.Need-loop-again t
 item-loop-again t c =
@@ -184,7 +232,8 @@ item-loop-again t c =
     let at-loop = at-element .before in
     let entry = at-loop .before .before .before in
     let a = entry .args in
-    let there = level.stands (a .c) (at-loop .loop .here) (λ (x : Cursor). elementAt (a .s .now) x (at-loop .loop .least) (a .levels)) (at-loop .loop .inv .0) (at-element .element .ensures) (at-tag .tag .given .1) in
+    let there = level.stands (a .c) (at-loop .loop .here) (λ (x : Cursor). elementAt (a .s .now) x (at-loop .loop .least) (a .levels))
+    (at-loop .loop .inv .0) (at-element .element .ensures) (at-tag .tag .given .1) in
     level.along _ _ _ _ (a .c) _ _ (at-loop .loop .here) _ (at-loop .loop .inv .0) (c .moved .ensures)
     (level.again _ _ _ _ (a .c) _ _ (at-loop .loop .inv .1) (there .0) (there .1) refl (at-put-row .put-row .kept .0)
     (level.leaf _ _ _ _ (there .1 .1 .0) (level.value-plain _ _ _ _ _ (at-if1 .if1 .taken))) (at-put-row .put-row .ensures))
@@ -195,8 +244,12 @@ item-sub-read-sequence t c =
     let at-loop = at-element .before in
     let entry = at-loop .before .before .before in
     let a = entry .args in
-    let there = level.stands (a .c) (at-loop .loop .here) (λ (x : Cursor). elementAt (a .s .now) x (at-loop .loop .least) (a .levels)) (at-loop .loop .inv .0) (at-element .element .ensures) (c .before .before .tag .given .1) in
-    omega (arith, sequence-level (a .levels) (a .s .now) (moved (a .c) (at-loop .loop .here .at)) (at-loop .loop .least) (there .0) (c .if1 .left))
+    let there = level.stands (a .c) (at-loop .loop .here) (λ (x : Cursor). elementAt (a .s .now) x (at-loop .loop .least) (a .levels))
+    (at-loop .loop .inv .0) (at-element .element .ensures) (c .before .before .tag .given .1) in
+    omega (
+      arith,
+      sequence-level (a .levels) (a .s .now) (moved (a .c) (at-loop .loop .here .at)) (at-loop .loop .least) (there .0) (c .if1 .left),
+    )
 
 item-add-read-sequence : (t : ℕ) → Item item-lts.Need-add-read-sequence t
 item-add-read-sequence t c =
@@ -205,7 +258,8 @@ item-add-read-sequence t c =
     let at-loop = at-element .before in
     let entry = at-loop .before .before .before in
     let a = entry .args in
-    let there = level.stands (a .c) (at-loop .loop .here) (λ (x : Cursor). elementAt (a .s .now) x (at-loop .loop .least) (a .levels)) (at-loop .loop .inv .0) (at-element .element .ensures) (at-tag .tag .given .1) in
+    let there = level.stands (a .c) (at-loop .loop .here) (λ (x : Cursor). elementAt (a .s .now) x (at-loop .loop .least) (a .levels))
+    (at-loop .loop .inv .0) (at-element .element .ensures) (at-tag .tag .given .1) in
     omega (arith, at-loop .loop .inv .1 .count, at-loop .loop .inv .1 .few, there .1, entry .pre .1, entry .good)
 
 item-read-sequence-requires : (t : ℕ) → Item item-lts.Need-read-sequence-requires t
@@ -215,8 +269,18 @@ item-read-sequence-requires t c κs =
     let at-loop = at-element .before in
     let entry = at-loop .before .before .before in
     let a = entry .args in
-    let there = level.stands (a .c) (at-loop .loop .here) (λ (x : Cursor). elementAt (a .s .now) x (at-loop .loop .least) (a .levels)) (at-loop .loop .inv .0) (at-element .element .ensures) (at-tag .tag .given .1) in
-    (omega (arith, entry .pre .0, there .1, at-loop .loop .inv .1 .low, at-loop .loop .inv .1 .high), record { start = there .1 .1 .0; stop = omega (arith, there .1, entry .pre .1); small = λ h. entry .pre .1 .small (omega (arith, h, at-loop .loop .inv .1 .kept)); deep = omega (arith, entry .pre .1); count = omega (arith, at-loop .loop .inv .1 .count, at-loop .loop .inv .1 .few, at-loop .loop .inv .1 .low, there .1, entry .pre .1) })
+    let there = level.stands (a .c) (at-loop .loop .here) (λ (x : Cursor). elementAt (a .s .now) x (at-loop .loop .least) (a .levels))
+    (at-loop .loop .inv .0) (at-element .element .ensures) (at-tag .tag .given .1) in (
+      omega (arith, entry .pre .0, there .1, at-loop .loop .inv .1 .low, at-loop .loop .inv .1 .high),
+      record {
+        start = there .1 .1 .0;
+        stop = omega (arith, there .1, entry .pre .1);
+        small = λ h. entry .pre .1 .small (omega (arith, h, at-loop .loop .inv .1 .kept));
+        deep = omega (arith, entry .pre .1);
+        count = omega
+            (arith, at-loop .loop .inv .1 .count, at-loop .loop .inv .1 .few, at-loop .loop .inv .1 .low, there .1, entry .pre .1);
+      },
+    )
 
 item-enum-known-code-2 : (t : ℕ) → Item item-lts.Need-enum-known-code-2 t
 item-enum-known-code-2 t c = search needs
@@ -236,9 +300,16 @@ item-returns-3 t c =
     let at-loop = at-element .before in
     let entry = at-loop .before .before .before in
     let a = entry .args in
-    let there = level.stands (a .c) (at-loop .loop .here) (λ (x : Cursor). elementAt (a .s .now) x (at-loop .loop .least) (a .levels)) (at-loop .loop .inv .0) (at-element .element .ensures) (at-tag .tag .given .1) in
-    let e = level.value-items (a .levels) (a .s .now) (at-loop .loop .n + 1) _ _ (λ z. absurd (omega (arith, z, sequence-level (a .levels) (a .s .now) (moved (a .c) (at-loop .loop .here .at)) (at-loop .loop .least) (there .0) (at-if1 .if1 .left)))) (at-if1 .if1 .left) in
-    level.fails _ _ _ _ (a .c) _ _ (at-loop .loop .inv .1) (there .0) (there .1) (level.of-run (sym e) (level.walked (c .before .code2 .given .1) (at-read-sequence .read-sequence .ensures)))
+    let there = level.stands (a .c) (at-loop .loop .here) (λ (x : Cursor). elementAt (a .s .now) x (at-loop .loop .least) (a .levels))
+    (at-loop .loop .inv .0) (at-element .element .ensures) (at-tag .tag .given .1) in
+    let e = level.value-items (a .levels) (a .s .now) (at-loop .loop .n + 1) _ _ (λ z. absurd (omega (
+      arith,
+      z,
+      sequence-level (a .levels) (a .s .now) (moved (a .c) (at-loop .loop .here .at)) (at-loop .loop .least) (there .0)
+          (at-if1 .if1 .left),
+    ))) (at-if1 .if1 .left) in
+    level.fails _ _ _ _ (a .c) _ _ (at-loop .loop .inv .1) (there .0) (there .1)
+    (level.of-run (sym e) (level.walked (c .before .code2 .given .1) (at-read-sequence .read-sequence .ensures)))
 
 item-enum-known-stop : (t : ℕ) → Item item-lts.Need-enum-known-stop t
 item-enum-known-stop t c = search needs
@@ -251,10 +322,20 @@ item-put-row-requires-2 t c κs =
     let at-loop = at-element .before in
     let entry = at-loop .before .before .before in
     let a = entry .args in
-    let there = level.stands (a .c) (at-loop .loop .here) (λ (x : Cursor). elementAt (a .s .now) x (at-loop .loop .least) (a .levels)) (at-loop .loop .inv .0) (at-element .element .ensures) (at-tag .tag .given .1) in
+    let there = level.stands (a .c) (at-loop .loop .here) (λ (x : Cursor). elementAt (a .s .now) x (at-loop .loop .least) (a .levels))
+    (at-loop .loop .inv .0) (at-element .element .ensures) (at-tag .tag .given .1) in
     let d = level.below _ (level.walked (c .before .before .stop .given .1) (at-read-sequence .read-sequence .ensures)) in (
       omega (arith, d .within, d .count, there .1, at-loop .loop .inv .1 .count, at-loop .loop .inv .1 .few, entry .pre .1),
-      λ h. omega (arith, d .within, d .count, there .1, at-loop .loop .inv .1 .count, at-loop .loop .inv .1 .few, entry .pre .1, entry .pre .1 .small (omega (arith, h, at-loop .loop .inv .1 .kept, at-read-sequence .read-sequence .kept .1 .1 .1 .0))),
+      λ h. omega (
+        arith,
+        d .within,
+        d .count,
+        there .1,
+        at-loop .loop .inv .1 .count,
+        at-loop .loop .inv .1 .few,
+        entry .pre .1,
+        entry .pre .1 .small (omega (arith, h, at-loop .loop .inv .1 .kept, at-read-sequence .read-sequence .kept .1 .1 .1 .0)),
+      ),
     )
 
 item-moved-requires-2 : (t : ℕ) → Item item-lts.Need-moved-requires-2 t
@@ -267,7 +348,8 @@ item-add-least-2 t c =
     let at-loop = at-element .before in
     let entry = at-loop .before .before .before in
     let a = entry .args in
-    let there = level.stands (a .c) (at-loop .loop .here) (λ (x : Cursor). elementAt (a .s .now) x (at-loop .loop .least) (a .levels)) (at-loop .loop .inv .0) (at-element .element .ensures) (at-tag .tag .given .1) in
+    let there = level.stands (a .c) (at-loop .loop .here) (λ (x : Cursor). elementAt (a .s .now) x (at-loop .loop .least) (a .levels))
+    (at-loop .loop .inv .0) (at-element .element .ensures) (at-tag .tag .given .1) in
     omega (arith, there .1)
 
 item-loop-less-2 : (t : ℕ) → Item item-lts.Need-loop-less-2 t
@@ -279,9 +361,18 @@ item-loop-less-2 t c =
     let at-loop = at-element .before in
     let entry = at-loop .before .before .before in
     let a = entry .args in
-    let there = level.stands (a .c) (at-loop .loop .here) (λ (x : Cursor). elementAt (a .s .now) x (at-loop .loop .least) (a .levels)) (at-loop .loop .inv .0) (at-element .element .ensures) (at-tag .tag .given .1) in
+    let there = level.stands (a .c) (at-loop .loop .here) (λ (x : Cursor). elementAt (a .s .now) x (at-loop .loop .least) (a .levels))
+    (at-loop .loop .inv .0) (at-element .element .ensures) (at-tag .tag .given .1) in
     let d = level.below _ (level.walked (at-stop .stop .given .1) (at-read-sequence .read-sequence .ensures)) in
-    omega (arith, there .1, d .within, at-loop .loop .inv .1 .high, ap (λ (x : Cursor). x .end) (c .moved2 .ensures), ap (λ (x : Cursor). x .at) (c .moved2 .ensures), ap (λ (x : Cursor). x .end) (at-loop .loop .inv .0))
+    omega (
+      arith,
+      there .1,
+      d .within,
+      at-loop .loop .inv .1 .high,
+      ap (λ (x : Cursor). x .end) (c .moved2 .ensures),
+      ap (λ (x : Cursor). x .at) (c .moved2 .ensures),
+      ap (λ (x : Cursor). x .end) (at-loop .loop .inv .0),
+    )
 
 item-loop-again-2 : (t : ℕ) → Item item-lts.Need-loop-again-2 t
 item-loop-again-2 t c =
@@ -294,15 +385,29 @@ item-loop-again-2 t c =
     let at-loop = at-element .before in
     let entry = at-loop .before .before .before in
     let a = entry .args in
-    let there = level.stands (a .c) (at-loop .loop .here) (λ (x : Cursor). elementAt (a .s .now) x (at-loop .loop .least) (a .levels)) (at-loop .loop .inv .0) (at-element .element .ensures) (at-tag .tag .given .1) in
-    let e = level.value-items (a .levels) (a .s .now) (at-loop .loop .n + 1) _ _ (λ z. absurd (omega (arith, z, sequence-level (a .levels) (a .s .now) (moved (a .c) (at-loop .loop .here .at)) (at-loop .loop .least) (there .0) (at-if1 .if1 .left)))) (at-if1 .if1 .left) in
+    let there = level.stands (a .c) (at-loop .loop .here) (λ (x : Cursor). elementAt (a .s .now) x (at-loop .loop .least) (a .levels))
+    (at-loop .loop .inv .0) (at-element .element .ensures) (at-tag .tag .given .1) in
+    let e = level.value-items (a .levels) (a .s .now) (at-loop .loop .n + 1) _ _ (λ z. absurd (omega (
+      arith,
+      z,
+      sequence-level (a .levels) (a .s .now) (moved (a .c) (at-loop .loop .here .at)) (at-loop .loop .least) (there .0)
+          (at-if1 .if1 .left),
+    ))) (at-if1 .if1 .left) in
     level.along _ _ _ _ (a .c) _ _ (at-loop .loop .here) _ (at-loop .loop .inv .0) (c .moved2 .ensures)
-    (level.again _ _ _ _ (a .c) _ _ (at-loop .loop .inv .1) (there .0) (there .1) (at-read-sequence .read-sequence .kept .1 .1 .1 .0) (at-put-row2 .put-row2 .kept .0)
-    (level.of-run (sym e) (level.walked (at-stop .stop .given .1) (at-read-sequence .read-sequence .ensures))) (at-put-row2 .put-row2 .ensures))
+    (level.again _ _ _ _ (a .c) _ _ (at-loop .loop .inv .1) (there .0) (there .1) (at-read-sequence .read-sequence .kept .1 .1 .1 .0)
+    (at-put-row2 .put-row2 .kept .0)
+    (level.of-run (sym e) (level.walked (at-stop .stop .given .1) (at-read-sequence .read-sequence .ensures)))
+    (at-put-row2 .put-row2 .ensures))
 
 sequence-loop-holds : (t : ℕ) → Sequence sequence-lts.Need-loop-holds t
-sequence-loop-holds t c =
-    (0, (refl, level.started _ _ _ _ (c .before .before .args .c) _ _ (c .before .before .args .s .now) (c .before .before .pre .1 .start) (c .before .before .pre .1 .stop) refl))
+sequence-loop-holds t c = (
+  0,
+  (
+    refl,
+    level.started _ _ _ _ (c .before .before .args .c) _ _ (c .before .before .args .s .now) (c .before .before .pre .1 .start)
+        (c .before .before .pre .1 .stop) refl,
+  ),
+)
 
 sequence-item-requires : (t : ℕ) → Sequence sequence-lts.Need-item-requires t
 sequence-item-requires t c κs =
@@ -323,7 +428,8 @@ sequence-returns t c =
     let at-loop = at-item .before in
     let entry = at-loop .before .before .before in
     let a = entry .args in
-    let there = level.stands (a .c) (at-loop .loop .here) (λ (x : Cursor). itemAt (a .s .now) x) (at-loop .loop .inv .1 .0) (at-item .item .ensures) (c .before .code .given .1) in
+    let there = level.stands (a .c) (at-loop .loop .here) (λ (x : Cursor). itemAt (a .s .now) x) (at-loop .loop .inv .1 .0)
+    (at-item .item .ensures) (c .before .code .given .1) in
     level.refuses _ _ _ _ (a .c) _ _ (at-loop .loop .inv .1 .1) (there .0) (there .1)
 
 sequence-enum-known-next : (t : ℕ) → Sequence sequence-lts.Need-enum-known-next t
@@ -340,7 +446,8 @@ sequence-returns-2 t c =
     let at-loop = at-item .before in
     let entry = at-loop .before .before .before in
     let a = entry .args in
-    let there = level.stands (a .c) (at-loop .loop .here) (λ (x : Cursor). itemAt (a .s .now) x) (at-loop .loop .inv .1 .0) (at-item .item .ensures) (c .before .next .given .1) in
+    let there = level.stands (a .c) (at-loop .loop .here) (λ (x : Cursor). itemAt (a .s .now) x) (at-loop .loop .inv .1 .0)
+    (at-item .item .ensures) (c .before .next .given .1) in
     level.ended _ _ _ _ (a .c) _ _ (at-loop .loop .inv .1 .1) (there .0) (there .1 .0) (there .1 .1)
 
 sequence-enum-known-tag : (t : ℕ) → Sequence sequence-lts.Need-enum-known-tag t
@@ -352,7 +459,8 @@ sequence-add-read-leaf t c =
     let at-loop = at-item .before in
     let entry = at-loop .before .before .before in
     let a = entry .args in
-    let there = level.stands (a .c) (at-loop .loop .here) (λ (x : Cursor). itemAt (a .s .now) x) (at-loop .loop .inv .1 .0) (at-item .item .ensures) (c .before .before .tag .given .1) in
+    let there = level.stands (a .c) (at-loop .loop .here) (λ (x : Cursor). itemAt (a .s .now) x) (at-loop .loop .inv .1 .0)
+    (at-item .item .ensures) (c .before .before .tag .given .1) in
     omega (arith, at-loop .loop .inv .1 .1 .count, at-loop .loop .inv .1 .1 .few, there .1, entry .pre .1, entry .good)
 
 sequence-read-leaf-requires : (t : ℕ) → Sequence sequence-lts.Need-read-leaf-requires t
@@ -361,8 +469,16 @@ sequence-read-leaf-requires t c κs =
     let at-loop = at-item .before in
     let entry = at-loop .before .before .before in
     let a = entry .args in
-    let there = level.stands (a .c) (at-loop .loop .here) (λ (x : Cursor). itemAt (a .s .now) x) (at-loop .loop .inv .1 .0) (at-item .item .ensures) (c .before .before .tag .given .1) in
-    record { start = there .1 .1 .0; stop = omega (arith, there .1, entry .pre .1); small = λ h. entry .pre .1 .small (omega (arith, h, at-loop .loop .inv .1 .1 .kept)); deep = omega (arith, entry .pre .1); count = omega (arith, at-loop .loop .inv .1 .1 .count, at-loop .loop .inv .1 .1 .few, at-loop .loop .inv .1 .1 .low, there .1, entry .pre .1) }
+    let there = level.stands (a .c) (at-loop .loop .here) (λ (x : Cursor). itemAt (a .s .now) x) (at-loop .loop .inv .1 .0)
+    (at-item .item .ensures) (c .before .before .tag .given .1) in
+    record {
+      start = there .1 .1 .0;
+      stop = omega (arith, there .1, entry .pre .1);
+      small = λ h. entry .pre .1 .small (omega (arith, h, at-loop .loop .inv .1 .1 .kept));
+      deep = omega (arith, entry .pre .1);
+      count = omega
+          (arith, at-loop .loop .inv .1 .1 .count, at-loop .loop .inv .1 .1 .few, at-loop .loop .inv .1 .1 .low, there .1, entry .pre .1);
+    }
 
 sequence-enum-known-code-2 : (t : ℕ) → Sequence sequence-lts.Need-enum-known-code-2 t
 sequence-enum-known-code-2 t c = search needs
@@ -381,8 +497,10 @@ sequence-returns-3 t c =
     let at-loop = at-item .before in
     let entry = at-loop .before .before .before in
     let a = entry .args in
-    let there = level.stands (a .c) (at-loop .loop .here) (λ (x : Cursor). itemAt (a .s .now) x) (at-loop .loop .inv .1 .0) (at-item .item .ensures) (at-tag .tag .given .1) in
-    level.fails _ _ _ _ (a .c) _ _ (at-loop .loop .inv .1 .1) (there .0) (there .1) (level.leaf-walked _ _ _ _ _ (c .before .code2 .given .1) (at-read-leaf .read-leaf .ensures))
+    let there = level.stands (a .c) (at-loop .loop .here) (λ (x : Cursor). itemAt (a .s .now) x) (at-loop .loop .inv .1 .0)
+    (at-item .item .ensures) (at-tag .tag .given .1) in
+    level.fails _ _ _ _ (a .c) _ _ (at-loop .loop .inv .1 .1) (there .0) (there .1)
+    (level.leaf-walked _ _ _ _ _ (c .before .code2 .given .1) (at-read-leaf .read-leaf .ensures))
 
 sequence-enum-known-stop : (t : ℕ) → Sequence sequence-lts.Need-enum-known-stop t
 sequence-enum-known-stop t c = search needs
@@ -395,10 +513,20 @@ sequence-put-row-requires t c κs =
     let at-loop = at-item .before in
     let entry = at-loop .before .before .before in
     let a = entry .args in
-    let there = level.stands (a .c) (at-loop .loop .here) (λ (x : Cursor). itemAt (a .s .now) x) (at-loop .loop .inv .1 .0) (at-item .item .ensures) (at-tag .tag .given .1) in
+    let there = level.stands (a .c) (at-loop .loop .here) (λ (x : Cursor). itemAt (a .s .now) x) (at-loop .loop .inv .1 .0)
+    (at-item .item .ensures) (at-tag .tag .given .1) in
     let d = level.below _ (level.leaf-walked _ _ _ _ _ (c .before .before .stop .given .1) (at-read-leaf .read-leaf .ensures)) in (
       omega (arith, d .within, d .count, there .1, at-loop .loop .inv .1 .1 .count, at-loop .loop .inv .1 .1 .few, entry .pre .1),
-      λ h. omega (arith, d .within, d .count, there .1, at-loop .loop .inv .1 .1 .count, at-loop .loop .inv .1 .1 .few, entry .pre .1, entry .pre .1 .small (omega (arith, h, at-loop .loop .inv .1 .1 .kept, at-read-leaf .read-leaf .kept .1 .1 .1 .0))),
+      λ h. omega (
+        arith,
+        d .within,
+        d .count,
+        there .1,
+        at-loop .loop .inv .1 .1 .count,
+        at-loop .loop .inv .1 .1 .few,
+        entry .pre .1,
+        entry .pre .1 .small (omega (arith, h, at-loop .loop .inv .1 .1 .kept, at-read-leaf .read-leaf .kept .1 .1 .1 .0)),
+      ),
     )
 
 sequence-moved-requires : (t : ℕ) → Sequence sequence-lts.Need-moved-requires t
@@ -413,9 +541,18 @@ sequence-loop-less t c =
     let at-loop = at-item .before in
     let entry = at-loop .before .before .before in
     let a = entry .args in
-    let there = level.stands (a .c) (at-loop .loop .here) (λ (x : Cursor). itemAt (a .s .now) x) (at-loop .loop .inv .1 .0) (at-item .item .ensures) (at-tag .tag .given .1) in
+    let there = level.stands (a .c) (at-loop .loop .here) (λ (x : Cursor). itemAt (a .s .now) x) (at-loop .loop .inv .1 .0)
+    (at-item .item .ensures) (at-tag .tag .given .1) in
     let d = level.below _ (level.leaf-walked _ _ _ _ _ (at-stop .stop .given .1) (at-read-leaf .read-leaf .ensures)) in
-    omega (arith, there .1, d .within, at-loop .loop .inv .1 .1 .high, ap (λ (x : Cursor). x .end) (c .moved .ensures), ap (λ (x : Cursor). x .at) (c .moved .ensures), ap (λ (x : Cursor). x .end) (at-loop .loop .inv .1 .0))
+    omega (
+      arith,
+      there .1,
+      d .within,
+      at-loop .loop .inv .1 .1 .high,
+      ap (λ (x : Cursor). x .end) (c .moved .ensures),
+      ap (λ (x : Cursor). x .at) (c .moved .ensures),
+      ap (λ (x : Cursor). x .end) (at-loop .loop .inv .1 .0),
+    )
 
 sequence-loop-again : (t : ℕ) → Sequence sequence-lts.Need-loop-again t
 sequence-loop-again t c =
@@ -427,10 +564,13 @@ sequence-loop-again t c =
     let at-loop = at-item .before in
     let entry = at-loop .before .before .before in
     let a = entry .args in
-    let there = level.stands (a .c) (at-loop .loop .here) (λ (x : Cursor). itemAt (a .s .now) x) (at-loop .loop .inv .1 .0) (at-item .item .ensures) (at-tag .tag .given .1) in (
+    let there = level.stands (a .c) (at-loop .loop .here) (λ (x : Cursor). itemAt (a .s .now) x) (at-loop .loop .inv .1 .0)
+    (at-item .item .ensures) (at-tag .tag .given .1) in (
       at-tag .tag .given .0 .0 + 1,
       level.along _ _ _ _ (a .c) _ _ (at-loop .loop .here) _ (at-loop .loop .inv .1 .0) (c .moved .ensures)
-          (level.again _ _ _ _ (a .c) _ _ (at-loop .loop .inv .1 .1) (there .0) (there .1) (at-read-leaf .read-leaf .kept .1 .1 .1 .0) (at-put-row .put-row .kept .0) (level.leaf-walked _ _ _ _ _ (at-stop .stop .given .1) (at-read-leaf .read-leaf .ensures)) (at-put-row .put-row .ensures)),
+          (level.again _ _ _ _ (a .c) _ _ (at-loop .loop .inv .1 .1) (there .0) (there .1) (at-read-leaf .read-leaf .kept .1 .1 .1 .0)
+          (at-put-row .put-row .kept .0) (level.leaf-walked _ _ _ _ _ (at-stop .stop .given .1) (at-read-leaf .read-leaf .ensures))
+          (at-put-row .put-row .ensures)),
     )
 
 sequence-enum-told : (t : ℕ) → Sequence sequence-lts.Need-enum-told t
@@ -443,7 +583,8 @@ sequence-add-read-item t c =
     let at-loop = at-item .before in
     let entry = at-loop .before .before .before in
     let a = entry .args in
-    let there = level.stands (a .c) (at-loop .loop .here) (λ (x : Cursor). itemAt (a .s .now) x) (at-loop .loop .inv .1 .0) (at-item .item .ensures) (at-tag .tag .given .1) in
+    let there = level.stands (a .c) (at-loop .loop .here) (λ (x : Cursor). itemAt (a .s .now) x) (at-loop .loop .inv .1 .0)
+    (at-item .item .ensures) (at-tag .tag .given .1) in
     omega (arith, at-loop .loop .inv .1 .1 .count, at-loop .loop .inv .1 .1 .few, there .1, entry .pre .1, entry .good)
 
 sequence-read-item-requires : (t : ℕ) → Sequence sequence-lts.Need-read-item-requires t
@@ -454,8 +595,18 @@ sequence-read-item-requires t c κs =
     let at-loop = at-item .before in
     let entry = at-loop .before .before .before in
     let a = entry .args in
-    let there = level.stands (a .c) (at-loop .loop .here) (λ (x : Cursor). itemAt (a .s .now) x) (at-loop .loop .inv .1 .0) (at-item .item .ensures) (at-tag .tag .given .1) in
-    (omega (arith, entry .pre .0, there .1, at-loop .loop .inv .1 .1 .low, at-loop .loop .inv .1 .1 .high), record { start = there .1 .1 .0; stop = omega (arith, there .1, entry .pre .1); small = λ h. entry .pre .1 .small (omega (arith, h, at-loop .loop .inv .1 .1 .kept, at-read-leaf .read-leaf .kept .1 .1 .1 .0)); deep = omega (arith, entry .pre .1); count = omega (arith, at-loop .loop .inv .1 .1 .count, at-loop .loop .inv .1 .1 .few, at-loop .loop .inv .1 .1 .low, there .1, entry .pre .1) })
+    let there = level.stands (a .c) (at-loop .loop .here) (λ (x : Cursor). itemAt (a .s .now) x) (at-loop .loop .inv .1 .0)
+    (at-item .item .ensures) (at-tag .tag .given .1) in (
+      omega (arith, entry .pre .0, there .1, at-loop .loop .inv .1 .1 .low, at-loop .loop .inv .1 .1 .high),
+      record {
+        start = there .1 .1 .0;
+        stop = omega (arith, there .1, entry .pre .1);
+        small = λ h. entry .pre .1 .small (omega (arith, h, at-loop .loop .inv .1 .1 .kept, at-read-leaf .read-leaf .kept .1 .1 .1 .0));
+        deep = omega (arith, entry .pre .1);
+        count = omega
+            (arith, at-loop .loop .inv .1 .1 .count, at-loop .loop .inv .1 .1 .few, at-loop .loop .inv .1 .1 .low, there .1, entry .pre .1);
+      },
+    )
 
 sequence-enum-known-code-3 : (t : ℕ) → Sequence sequence-lts.Need-enum-known-code-3 t
 sequence-enum-known-code-3 t c = search needs
@@ -477,8 +628,12 @@ sequence-returns-4 t c =
     let at-loop = at-item .before in
     let entry = at-loop .before .before .before in
     let a = entry .args in
-    let there = level.stands (a .c) (at-loop .loop .here) (λ (x : Cursor). itemAt (a .s .now) x) (at-loop .loop .inv .1 .0) (at-item .item .ensures) (at-tag .tag .given .1) in
-    level.fails _ _ _ _ (a .c) _ _ (at-loop .loop .inv .1 .1) (there .0) (there .1) (level.over _ (at-read-leaf .read-leaf .kept .1 .1 .1 .0) (level.leaf-walked _ _ _ _ _ (at-enum-told .enum-told .given .1) (at-read-leaf .read-leaf .ensures)) (level.walked (c .before .code3 .given .1) (at-read-item .read-item .ensures)))
+    let there = level.stands (a .c) (at-loop .loop .here) (λ (x : Cursor). itemAt (a .s .now) x) (at-loop .loop .inv .1 .0)
+    (at-item .item .ensures) (at-tag .tag .given .1) in
+    level.fails _ _ _ _ (a .c) _ _ (at-loop .loop .inv .1 .1) (there .0) (there .1) (level.over _
+    (at-read-leaf .read-leaf .kept .1 .1 .1 .0)
+    (level.leaf-walked _ _ _ _ _ (at-enum-told .enum-told .given .1) (at-read-leaf .read-leaf .ensures))
+    (level.walked (c .before .code3 .given .1) (at-read-item .read-item .ensures)))
 
 sequence-enum-known-stop-2 : (t : ℕ) → Sequence sequence-lts.Need-enum-known-stop-2 t
 sequence-enum-known-stop-2 t c = search needs
@@ -493,10 +648,28 @@ sequence-put-row-requires-2 t c κs =
     let at-loop = at-item .before in
     let entry = at-loop .before .before .before in
     let a = entry .args in
-    let there = level.stands (a .c) (at-loop .loop .here) (λ (x : Cursor). itemAt (a .s .now) x) (at-loop .loop .inv .1 .0) (at-item .item .ensures) (at-tag .tag .given .1) in
-    let d = level.below _ (level.over _ (at-read-leaf .read-leaf .kept .1 .1 .1 .0) (level.leaf-walked _ _ _ _ _ (at-enum-told .enum-told .given .1) (at-read-leaf .read-leaf .ensures)) (level.walked (c .before .before .stop2 .given .1) (at-read-item .read-item .ensures))) in (
+    let there = level.stands (a .c) (at-loop .loop .here) (λ (x : Cursor). itemAt (a .s .now) x) (at-loop .loop .inv .1 .0)
+    (at-item .item .ensures) (at-tag .tag .given .1) in
+    let d = level.below _ (level.over _ (at-read-leaf .read-leaf .kept .1 .1 .1 .0)
+    (level.leaf-walked _ _ _ _ _ (at-enum-told .enum-told .given .1) (at-read-leaf .read-leaf .ensures))
+    (level.walked (c .before .before .stop2 .given .1) (at-read-item .read-item .ensures))) in (
       omega (arith, d .within, d .count, there .1, at-loop .loop .inv .1 .1 .count, at-loop .loop .inv .1 .1 .few, entry .pre .1),
-      λ h. omega (arith, d .within, d .count, there .1, at-loop .loop .inv .1 .1 .count, at-loop .loop .inv .1 .1 .few, entry .pre .1, entry .pre .1 .small (omega (arith, h, at-loop .loop .inv .1 .1 .kept, at-read-leaf .read-leaf .kept .1 .1 .1 .0, at-read-item .read-item .kept .1 .1 .1 .0))),
+      λ h. omega (
+        arith,
+        d .within,
+        d .count,
+        there .1,
+        at-loop .loop .inv .1 .1 .count,
+        at-loop .loop .inv .1 .1 .few,
+        entry .pre .1,
+        entry .pre .1 .small (omega (
+          arith,
+          h,
+          at-loop .loop .inv .1 .1 .kept,
+          at-read-leaf .read-leaf .kept .1 .1 .1 .0,
+          at-read-item .read-item .kept .1 .1 .1 .0,
+        )),
+      ),
     )
 
 sequence-moved-requires-2 : (t : ℕ) → Sequence sequence-lts.Need-moved-requires-2 t
@@ -513,9 +686,20 @@ sequence-loop-less-2 t c =
     let at-loop = at-item .before in
     let entry = at-loop .before .before .before in
     let a = entry .args in
-    let there = level.stands (a .c) (at-loop .loop .here) (λ (x : Cursor). itemAt (a .s .now) x) (at-loop .loop .inv .1 .0) (at-item .item .ensures) (at-tag .tag .given .1) in
-    let d = level.below _ (level.over _ (at-read-leaf .read-leaf .kept .1 .1 .1 .0) (level.leaf-walked _ _ _ _ _ (at-enum-told .enum-told .given .1) (at-read-leaf .read-leaf .ensures)) (level.walked (at-stop2 .stop2 .given .1) (at-read-item .read-item .ensures))) in
-    omega (arith, there .1, d .within, at-loop .loop .inv .1 .1 .high, ap (λ (x : Cursor). x .end) (c .moved2 .ensures), ap (λ (x : Cursor). x .at) (c .moved2 .ensures), ap (λ (x : Cursor). x .end) (at-loop .loop .inv .1 .0))
+    let there = level.stands (a .c) (at-loop .loop .here) (λ (x : Cursor). itemAt (a .s .now) x) (at-loop .loop .inv .1 .0)
+    (at-item .item .ensures) (at-tag .tag .given .1) in
+    let d = level.below _ (level.over _ (at-read-leaf .read-leaf .kept .1 .1 .1 .0)
+    (level.leaf-walked _ _ _ _ _ (at-enum-told .enum-told .given .1) (at-read-leaf .read-leaf .ensures))
+    (level.walked (at-stop2 .stop2 .given .1) (at-read-item .read-item .ensures))) in
+    omega (
+      arith,
+      there .1,
+      d .within,
+      at-loop .loop .inv .1 .1 .high,
+      ap (λ (x : Cursor). x .end) (c .moved2 .ensures),
+      ap (λ (x : Cursor). x .at) (c .moved2 .ensures),
+      ap (λ (x : Cursor). x .end) (at-loop .loop .inv .1 .0),
+    )
 
 sequence-loop-again-2 : (t : ℕ) → Sequence sequence-lts.Need-loop-again-2 t
 sequence-loop-again-2 t c =
@@ -529,15 +713,52 @@ sequence-loop-again-2 t c =
     let at-loop = at-item .before in
     let entry = at-loop .before .before .before in
     let a = entry .args in
-    let there = level.stands (a .c) (at-loop .loop .here) (λ (x : Cursor). itemAt (a .s .now) x) (at-loop .loop .inv .1 .0) (at-item .item .ensures) (at-tag .tag .given .1) in (
+    let there = level.stands (a .c) (at-loop .loop .here) (λ (x : Cursor). itemAt (a .s .now) x) (at-loop .loop .inv .1 .0)
+    (at-item .item .ensures) (at-tag .tag .given .1) in (
       at-tag .tag .given .0 .0 + 1,
       level.along _ _ _ _ (a .c) _ _ (at-loop .loop .here) _ (at-loop .loop .inv .1 .0) (c .moved2 .ensures)
-          (level.again _ _ _ _ (a .c) _ _ (at-loop .loop .inv .1 .1) (there .0) (there .1) (at-read-item .read-item .kept .1 .1 .1 .0 ∙ at-read-leaf .read-leaf .kept .1 .1 .1 .0) (at-put-row2 .put-row2 .kept .0)
-          (level.over _ (at-read-leaf .read-leaf .kept .1 .1 .1 .0) (level.leaf-walked _ _ _ _ _ (at-enum-told .enum-told .given .1) (at-read-leaf .read-leaf .ensures)) (level.walked (at-stop2 .stop2 .given .1) (at-read-item .read-item .ensures))) (at-put-row2 .put-row2 .ensures)),
+          (level.again _ _ _ _ (a .c) _ _ (at-loop .loop .inv .1 .1) (there .0) (there .1)
+          (at-read-item .read-item .kept .1 .1 .1 .0 ∙ at-read-leaf .read-leaf .kept .1 .1 .1 .0) (at-put-row2 .put-row2 .kept .0)
+          (level.over _ (at-read-leaf .read-leaf .kept .1 .1 .1 .0)
+          (level.leaf-walked _ _ _ _ _ (at-enum-told .enum-told .given .1) (at-read-leaf .read-leaf .ensures))
+          (level.walked (at-stop2 .stop2 .given .1) (at-read-item .read-item .ensures))) (at-put-row2 .put-row2 .ensures)),
     )
 
 pub +read-item+read-sequence-spec : {M : Type 1} → statement M
 +read-item+read-sequence-spec =
     close μ-item μ-sequence
-    (λ t. item-lts.spec (element-reads.Asked, element-reads.Learnt, put-row-reads.Asked, put-row-reads.Learnt, moved-reads.Asked, moved-reads.Learnt, sequence-below t, read-sequence.Post) (item-at t) read-item.Post item-inv item-μ (item-loop-holds t) (item-element-requires t) (item-enum-known-code t) (item-same-length t) (item-returns t) (item-enum-known-next t) (item-same-length-2 t) (item-returns-2 t) (item-enum-known-tag t) (item-add-put-row t) (item-put-row-requires t) (item-moved-requires t) (item-add-n t) (item-add-least t) (item-loop-less t) (item-loop-again t) (item-sub-read-sequence t) (item-add-read-sequence t) (item-read-sequence-requires t) (item-enum-known-code-2 t) (item-same-length-3 t) (item-returns-3 t) (item-enum-known-stop t) (item-put-row-requires-2 t) (item-moved-requires-2 t) (item-add-least-2 t) (item-loop-less-2 t) (item-loop-again-2 t))
-    (λ t. sequence-lts.spec (item-reads.Asked, item-reads.Learnt, read-leaf-reads.Asked, read-leaf-reads.Learnt, put-row-reads.Asked, put-row-reads.Learnt, moved-reads.Asked, moved-reads.Learnt, item-below t, read-item.Post) (sequence-at t) read-sequence.Post sequence-inv sequence-μ (sequence-loop-holds t) (sequence-item-requires t) (sequence-enum-known-code t) (sequence-same-length t) (sequence-returns t) (sequence-enum-known-next t) (sequence-same-length-2 t) (sequence-returns-2 t) (sequence-enum-known-tag t) (sequence-add-read-leaf t) (sequence-read-leaf-requires t) (sequence-enum-known-code-2 t) (sequence-same-length-3 t) (sequence-returns-3 t) (sequence-enum-known-stop t) (sequence-put-row-requires t) (sequence-moved-requires t) (sequence-loop-less t) (sequence-loop-again t) (sequence-enum-told t) (sequence-add-read-item t) (sequence-read-item-requires t) (sequence-enum-known-code-3 t) (sequence-same-length-4 t) (sequence-returns-4 t) (sequence-enum-known-stop-2 t) (sequence-put-row-requires-2 t) (sequence-moved-requires-2 t) (sequence-loop-less-2 t) (sequence-loop-again-2 t))
+    (λ t. item-lts.spec (
+      element-reads.Asked,
+      element-reads.Learnt,
+      put-row-reads.Asked,
+      put-row-reads.Learnt,
+      moved-reads.Asked,
+      moved-reads.Learnt,
+      sequence-below t,
+      read-sequence.Post,
+    ) (item-at t) read-item.Post item-inv item-μ (item-loop-holds t)
+    (item-element-requires t) (item-enum-known-code t) (item-same-length t) (item-returns t) (item-enum-known-next t)
+    (item-same-length-2 t) (item-returns-2 t) (item-enum-known-tag t) (item-add-put-row t) (item-put-row-requires t)
+    (item-moved-requires t) (item-add-n t) (item-add-least t) (item-loop-less t) (item-loop-again t) (item-sub-read-sequence t)
+    (item-add-read-sequence t) (item-read-sequence-requires t) (item-enum-known-code-2 t) (item-same-length-3 t) (item-returns-3 t)
+    (item-enum-known-stop t) (item-put-row-requires-2 t) (item-moved-requires-2 t) (item-add-least-2 t) (item-loop-less-2 t)
+    (item-loop-again-2 t))
+    (λ t. sequence-lts.spec (
+      item-reads.Asked,
+      item-reads.Learnt,
+      read-leaf-reads.Asked,
+      read-leaf-reads.Learnt,
+      put-row-reads.Asked,
+      put-row-reads.Learnt,
+      moved-reads.Asked,
+      moved-reads.Learnt,
+      item-below t,
+      read-item.Post,
+    ) (sequence-at t) read-sequence.Post
+    sequence-inv sequence-μ (sequence-loop-holds t) (sequence-item-requires t) (sequence-enum-known-code t) (sequence-same-length t)
+    (sequence-returns t) (sequence-enum-known-next t) (sequence-same-length-2 t) (sequence-returns-2 t) (sequence-enum-known-tag t)
+    (sequence-add-read-leaf t) (sequence-read-leaf-requires t) (sequence-enum-known-code-2 t) (sequence-same-length-3 t)
+    (sequence-returns-3 t) (sequence-enum-known-stop t) (sequence-put-row-requires t) (sequence-moved-requires t) (sequence-loop-less t)
+    (sequence-loop-again t) (sequence-enum-told t) (sequence-add-read-item t) (sequence-read-item-requires t)
+    (sequence-enum-known-code-3 t) (sequence-same-length-4 t) (sequence-returns-4 t) (sequence-enum-known-stop-2 t)
+    (sequence-put-row-requires-2 t) (sequence-moved-requires-2 t) (sequence-loop-less-2 t) (sequence-loop-again-2 t))

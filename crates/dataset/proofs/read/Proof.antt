@@ -49,7 +49,8 @@ returns-2 c =
     let a = entry .args in
     let call = at-read-item .read-item in
     let e = whole.nothing (call .last .1 .1 .1 .0) (a .rows .now) (call .kept .1 .1 .1 .0) in
-    let x = whole.no-room (a .bytes .now) (a .rows .now) (at-if1 .if1 .left) (level.walked (c .before .before .n .given .1) (call .ensures)) (omega (arith, c .if2 .taken, ap (λ (l : List ℕ). length l) e)) in
+    let x = whole.no-room (a .bytes .now) (a .rows .now) (at-if1 .if1 .left) (level.walked (c .before .before .n .given .1) (call .ensures))
+    (omega (arith, c .if2 .taken, ap (λ (l : List ℕ). length l) e)) in
     (x .0, e ∙ x .1)
 
 read-item-requires-2 : tie.Need-read-item-requires-2
@@ -83,8 +84,10 @@ returns-4 c =
     let call = at-read-item .read-item in
     let e = whole.nothing (call .last .1 .1 .1 .0) (a .rows .now) (call .kept .1 .1 .1 .0) in
     let again = c .before .before .read-item2 in
-    whole.filled (a .bytes .now) (a .rows .now) (at-if1 .if1 .left) (level.walked (at-n .n .given .1) (call .ensures)) (omega (arith, at-if2 .if2 .left, ap (λ (l : List ℕ). length l) e))
-    (subst (λ (l : List ℕ). Walked (elementsAt 8 (a .bytes .now) 0 (whole.all (a .bytes .now))) (whole.all (a .bytes .now)) 0 l (again .last .1 .1 .1 .0) (again .result)) e (again .ensures))
+    whole.filled (a .bytes .now) (a .rows .now) (at-if1 .if1 .left) (level.walked (at-n .n .given .1) (call .ensures))
+    (omega (arith, at-if2 .if2 .left, ap (λ (l : List ℕ). length l) e))
+    (subst (λ (l : List ℕ). Walked (elementsAt 8 (a .bytes .now) 0 (whole.all (a .bytes .now))) (whole.all (a .bytes .now)) 0 l
+    (again .last .1 .1 .1 .0) (again .result)) e (again .ensures))
 
 pub read-spec : {M : Type 1} → statement M
 read-spec =

@@ -12,15 +12,19 @@ use Rattle.dataset.proofs.read_leaf.Tie as tie
 
 abbrev Inv-loop : tie.InvT-loop
 Inv-loop s levels rows₀ first here₀ n₀ least₀ rows here n least =
-    level.Along (λ a l. elementAt s (moved here₀ a) l levels) (valueRun levels s) (8 - levels) (elementsAt levels s first here₀) here₀ first rows₀ rows here n least
+    level.Along (λ a l. elementAt s (moved here₀ a) l levels) (valueRun levels s) (8 - levels) (elementsAt levels s first here₀) here₀ first
+    rows₀ rows here n least
 
 abbrev μ-loop : tie.MeasureT-loop
 μ-loop s levels rows₀ first here₀ n₀ least₀ rows here n least =
     here .end - here .at
 
 loop-holds : tie.Need-loop-holds Inv-loop μ-loop
-loop-holds c =
-    (refl, level.started _ _ _ _ (c .before .before .args .c) _ _ (c .before .before .args .s .now) (c .before .before .pre .start) (c .before .before .pre .stop) refl)
+loop-holds c = (
+  refl,
+  level.started _ _ _ _ (c .before .before .args .c) _ _ (c .before .before .args .s .now) (c .before .before .pre .start)
+      (c .before .before .pre .stop) refl,
+)
 
 element-requires : tie.Need-element-requires Inv-loop μ-loop
 element-requires c κs =
@@ -42,7 +46,8 @@ returns c =
     let at-loop = at-element .before in
     let entry = at-loop .before .before .before in
     let a = entry .args in
-    let there = level.stands (a .c) (at-loop .loop .here) (λ (x : Cursor). elementAt (a .s .now) x (at-loop .loop .least) (a .levels)) (at-loop .loop .inv .0) (at-element .element .ensures) (c .before .code .given .1) in
+    let there = level.stands (a .c) (at-loop .loop .here) (λ (x : Cursor). elementAt (a .s .now) x (at-loop .loop .least) (a .levels))
+    (at-loop .loop .inv .0) (at-element .element .ensures) (c .before .code .given .1) in
     level.refuses _ _ _ _ (a .c) _ _ (at-loop .loop .inv .1) (there .0) (there .1)
 
 enum-known-next : tie.Need-enum-known-next Inv-loop μ-loop
@@ -60,7 +65,8 @@ returns-2 c =
     let at-loop = at-element .before in
     let entry = at-loop .before .before .before in
     let a = entry .args in
-    let there = level.stands (a .c) (at-loop .loop .here) (λ (x : Cursor). elementAt (a .s .now) x (at-loop .loop .least) (a .levels)) (at-loop .loop .inv .0) (at-element .element .ensures) (c .before .next .given .1) in
+    let there = level.stands (a .c) (at-loop .loop .here) (λ (x : Cursor). elementAt (a .s .now) x (at-loop .loop .least) (a .levels))
+    (at-loop .loop .inv .0) (at-element .element .ensures) (c .before .next .given .1) in
     level.ended _ _ _ _ (a .c) _ _ (at-loop .loop .inv .1) (there .0) (there .1 .0) (there .1 .1)
 
 enum-known-tag : tie.Need-enum-known-tag Inv-loop μ-loop
@@ -85,7 +91,8 @@ add-put-row c =
     let at-loop = at-element .before in
     let entry = at-loop .before .before .before in
     let a = entry .args in
-    let there = level.stands (a .c) (at-loop .loop .here) (λ (x : Cursor). elementAt (a .s .now) x (at-loop .loop .least) (a .levels)) (at-loop .loop .inv .0) (at-element .element .ensures) (at-tag .tag .given .1) in
+    let there = level.stands (a .c) (at-loop .loop .here) (λ (x : Cursor). elementAt (a .s .now) x (at-loop .loop .least) (a .levels))
+    (at-loop .loop .inv .0) (at-element .element .ensures) (at-tag .tag .given .1) in
     omega (arith, at-loop .loop .inv .1 .count, at-loop .loop .inv .1 .few, there .1, entry .pre, entry .good)
 
 put-row-requires : tie.Need-put-row-requires Inv-loop μ-loop
@@ -95,9 +102,17 @@ put-row-requires c κs =
     let at-loop = at-element .before in
     let entry = at-loop .before .before .before in
     let a = entry .args in
-    let there = level.stands (a .c) (at-loop .loop .here) (λ (x : Cursor). elementAt (a .s .now) x (at-loop .loop .least) (a .levels)) (at-loop .loop .inv .0) (at-element .element .ensures) (at-tag .tag .given .1) in (
+    let there = level.stands (a .c) (at-loop .loop .here) (λ (x : Cursor). elementAt (a .s .now) x (at-loop .loop .least) (a .levels))
+    (at-loop .loop .inv .0) (at-element .element .ensures) (at-tag .tag .given .1) in (
       omega (arith, at-loop .loop .inv .1 .count, at-loop .loop .inv .1 .few, there .1, entry .pre),
-      λ h. omega (arith, at-loop .loop .inv .1 .count, at-loop .loop .inv .1 .few, there .1, entry .pre, entry .pre .small (omega (arith, h, at-loop .loop .inv .1 .kept))),
+      λ h. omega (
+        arith,
+        at-loop .loop .inv .1 .count,
+        at-loop .loop .inv .1 .few,
+        there .1,
+        entry .pre,
+        entry .pre .small (omega (arith, h, at-loop .loop .inv .1 .kept)),
+      ),
     )
 
 moved-requires : tie.Need-moved-requires Inv-loop μ-loop
@@ -111,7 +126,8 @@ add-n c =
     let at-loop = at-element .before in
     let entry = at-loop .before .before .before in
     let a = entry .args in
-    let there = level.stands (a .c) (at-loop .loop .here) (λ (x : Cursor). elementAt (a .s .now) x (at-loop .loop .least) (a .levels)) (at-loop .loop .inv .0) (at-element .element .ensures) (at-tag .tag .given .1) in
+    let there = level.stands (a .c) (at-loop .loop .here) (λ (x : Cursor). elementAt (a .s .now) x (at-loop .loop .least) (a .levels))
+    (at-loop .loop .inv .0) (at-element .element .ensures) (at-tag .tag .given .1) in
     omega (arith, at-loop .loop .inv .1 .count, at-loop .loop .inv .1 .few, there .1, entry .pre, entry .good)
 
 add-least : tie.Need-add-least Inv-loop μ-loop
@@ -121,7 +137,8 @@ add-least c =
     let at-loop = at-element .before in
     let entry = at-loop .before .before .before in
     let a = entry .args in
-    let there = level.stands (a .c) (at-loop .loop .here) (λ (x : Cursor). elementAt (a .s .now) x (at-loop .loop .least) (a .levels)) (at-loop .loop .inv .0) (at-element .element .ensures) (at-tag .tag .given .1) in
+    let there = level.stands (a .c) (at-loop .loop .here) (λ (x : Cursor). elementAt (a .s .now) x (at-loop .loop .least) (a .levels))
+    (at-loop .loop .inv .0) (at-element .element .ensures) (at-tag .tag .given .1) in
     omega (arith, there .1)
 
 loop-less : tie.Need-loop-less Inv-loop μ-loop
@@ -131,8 +148,16 @@ loop-less c =
     let at-loop = at-element .before in
     let entry = at-loop .before .before .before in
     let a = entry .args in
-    let there = level.stands (a .c) (at-loop .loop .here) (λ (x : Cursor). elementAt (a .s .now) x (at-loop .loop .least) (a .levels)) (at-loop .loop .inv .0) (at-element .element .ensures) (at-tag .tag .given .1) in
-    omega (arith, there .1, at-loop .loop .inv .1 .high, ap (λ (x : Cursor). x .end) (c .moved .ensures), ap (λ (x : Cursor). x .at) (c .moved .ensures), ap (λ (x : Cursor). x .end) (at-loop .loop .inv .0))
+    let there = level.stands (a .c) (at-loop .loop .here) (λ (x : Cursor). elementAt (a .s .now) x (at-loop .loop .least) (a .levels))
+    (at-loop .loop .inv .0) (at-element .element .ensures) (at-tag .tag .given .1) in
+    omega (
+      arith,
+      there .1,
+      at-loop .loop .inv .1 .high,
+      ap (λ (x : Cursor). x .end) (c .moved .ensures),
+      ap (λ (x : Cursor). x .at) (c .moved .ensures),
+      ap (λ (x : Cursor). x .end) (at-loop .loop .inv .0),
+    )
 
 loop-again : tie.Need-loop-again Inv-loop μ-loop
 loop-again c =
@@ -143,7 +168,8 @@ loop-again c =
     let at-loop = at-element .before in
     let entry = at-loop .before .before .before in
     let a = entry .args in
-    let there = level.stands (a .c) (at-loop .loop .here) (λ (x : Cursor). elementAt (a .s .now) x (at-loop .loop .least) (a .levels)) (at-loop .loop .inv .0) (at-element .element .ensures) (at-tag .tag .given .1) in
+    let there = level.stands (a .c) (at-loop .loop .here) (λ (x : Cursor). elementAt (a .s .now) x (at-loop .loop .least) (a .levels))
+    (at-loop .loop .inv .0) (at-element .element .ensures) (at-tag .tag .given .1) in
     level.along _ _ _ _ (a .c) _ _ (at-loop .loop .here) _ (at-loop .loop .inv .0) (c .moved .ensures)
     (level.again _ _ _ _ (a .c) _ _ (at-loop .loop .inv .1) (there .0) (there .1) refl (at-put-row .put-row .kept .0)
     (level.leaf _ _ _ _ (there .1 .1 .0) (level.value-plain _ _ _ _ _ (at-if1 .if1 .left))) (at-put-row .put-row .ensures))

@@ -29,8 +29,25 @@ moves-for-requires c κs =
     let entry = at-average-element .before .before .before in
     let ns = nodesOf (entry .args .bytes .now) in
     let e = steps-laws.said (framesIn ns) (c .before .k .given .1) (at-average-element .average-element .ensures .0) in
-    let p = entry .pre in
-    (p .0, (p .1 .0, (p .1 .1 .0, (p .1 .1 .1 .0, (plan.gives-moves (entry .args .n) _ (movesFor ns (entry .args .frame) (entry .args .j)) (plan.gives-same (entry .args .n) _ _ (ap (λ (o : Option (List ℕ)). then o (λ ks. then (movesFor ns (entry .args .frame) (entry .args .j)) (λ m. some (maskOf ks m)))) e) (p .1 .1 .1 .1 .0)), p .1 .1 .1 .1 .1)))))
+    let p = entry .pre in (
+      p .0,
+      (
+        p .1 .0,
+        (
+          p .1 .1 .0,
+          (
+            p .1 .1 .1 .0,
+            (
+              plan.gives-moves (entry .args .n) _ (movesFor ns (entry .args .frame) (entry .args .j)) (plan.gives-same (entry .args .n) _ _
+                  (ap (λ (o : Option (List ℕ)).
+                  then o (λ ks. then (movesFor ns (entry .args .frame) (entry .args .j)) (λ m. some (maskOf ks m)))) e)
+                  (p .1 .1 .1 .1 .0)),
+              p .1 .1 .1 .1 .1,
+            ),
+          ),
+        ),
+      ),
+    )
 
 returns : tie.Need-returns
 returns c =
@@ -42,8 +59,13 @@ returns-2 : tie.Need-returns-2
 returns-2 c =
     let at-average-element = c .before .before .before .before in
     let entry = at-average-element .before .before .before in
-    let ns = nodesOf (entry .args .bytes .now) in
-    (rw (steps-laws.said (framesIn ns) (c .before .before .k .given .1) (at-average-element .average-element .ensures .0), c .moves-for .ensures), node-laws.within _ (c .before .before .k .given .1) (at-average-element .average-element .ensures .1))
+    let ns = nodesOf (entry .args .bytes .now) in (
+      rw (
+        steps-laws.said (framesIn ns) (c .before .before .k .given .1) (at-average-element .average-element .ensures .0),
+        c .moves-for .ensures,
+      ),
+      node-laws.within _ (c .before .before .k .given .1) (at-average-element .average-element .ensures .1),
+    )
 
 pub average-by-spec : {M : Type 1} → statement M
 average-by-spec =

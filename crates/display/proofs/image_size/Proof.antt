@@ -19,12 +19,21 @@ number-of-requires-2 c κs = search needs
 
 mul-result : tie.Need-mul-result
 mul-result c =
-    omega (arith, answers.product-fits (c .before .before .number-of .result) (c .number-of2 .result) (c .before .before .number-of .ensures .1) (c .number-of2 .ensures .1))
+    omega (
+      arith,
+      answers.product-fits (c .before .before .number-of .result) (c .number-of2 .result)
+          (c .before .before .number-of .ensures .1) (c .number-of2 .ensures .1),
+    )
 
 returns : tie.Need-returns
 returns c =
     let at-us-root = c .before .before .before in
-    rw (c .before .before .number-of .ensures .0, c .number-of2 .ensures .0, at-us-root .us-root .ensures .0, c .before .us-root2 .ensures .0)
+    rw (
+      c .before .before .number-of .ensures .0,
+      c .number-of2 .ensures .0,
+      at-us-root .us-root .ensures .0,
+      c .before .us-root2 .ensures .0,
+    )
 
 pub image-size-spec : {M : Type 1} → statement M
 image-size-spec =

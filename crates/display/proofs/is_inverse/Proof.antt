@@ -30,7 +30,8 @@ returns-2 c =
 returns-3 : tie.Need-returns-3
 returns-3 c =
     let entry = c .before .before .before .before .before in
-    absurd (never (sym (steps-laws.said inverseSaid (c .enum-told3 .given .1) (c .before .before .inverse-of .ensures)) ∙ entry .pre .1 .is))
+    absurd
+    (never (sym (steps-laws.said inverseSaid (c .enum-told3 .given .1) (c .before .before .inverse-of .ensures)) ∙ entry .pre .1 .is))
 
 pub is-inverse-spec : {M : Type 1} → statement M
 is-inverse-spec =

@@ -16,8 +16,24 @@ average-by-requires : tie.Need-average-by-requires
 average-by-requires c κs =
     let entry = c .before .before .before .before in
     let a = entry .args in
-    let p = entry .pre in
-    (p .0, (p .1 .0, (p .1 .1 .0, (p .1 .1 .1 .0, (plan.gives-same (a .n) _ _ (plan.by-told (nodesOf (a .bytes .now)) (a .frame) (a .j) (a .told) (p .1 .1 .1 .1 .1 .1 .0) (c .enum-told2 .given .1)) (p .1 .1 .1 .1 .1 .0), p .1 .1 .1 .1 .1 .1 .0 .names)))))
+    let p = entry .pre in (
+      p .0,
+      (
+        p .1 .0,
+        (
+          p .1 .1 .0,
+          (
+            p .1 .1 .1 .0,
+            (
+              plan.gives-same (a .n) _ _
+                  (plan.by-told (nodesOf (a .bytes .now)) (a .frame) (a .j) (a .told) (p .1 .1 .1 .1 .1 .1 .0) (c .enum-told2 .given .1))
+                  (p .1 .1 .1 .1 .1 .0),
+              p .1 .1 .1 .1 .1 .1 .0 .names,
+            ),
+          ),
+        ),
+      ),
+    )
 
 enum-told-3 : tie.Need-enum-told-3
 enum-told-3 c = search needs
@@ -26,8 +42,27 @@ tid-by-requires : tie.Need-tid-by-requires
 tid-by-requires c κs =
     let entry = c .before .before .before .before in
     let a = entry .args in
-    let p = entry .pre in
-    (p .0, (p .1 .0, (p .1 .1 .0, (p .1 .1 .1 .0, (p .1 .1 .1 .1 .0, (plan.gives-same (a .n) _ _ (plan.by-told (nodesOf (a .bytes .now)) (a .frame) (a .j) (a .told) (p .1 .1 .1 .1 .1 .1 .0) (c .enum-told3 .given .1)) (p .1 .1 .1 .1 .1 .0), (p .1 .1 .1 .1 .1 .1 .0 .names, p .1 .1 .1 .1 .1 .1 .1)))))))
+    let p = entry .pre in (
+      p .0,
+      (
+        p .1 .0,
+        (
+          p .1 .1 .0,
+          (
+            p .1 .1 .1 .0,
+            (
+              p .1 .1 .1 .1 .0,
+              (
+                plan.gives-same (a .n) _ _
+                    (plan.by-told (nodesOf (a .bytes .now)) (a .frame) (a .j) (a .told) (p .1 .1 .1 .1 .1 .1 .0) (c .enum-told3 .given .1))
+                    (p .1 .1 .1 .1 .1 .0),
+                (p .1 .1 .1 .1 .1 .1 .0 .names, p .1 .1 .1 .1 .1 .1 .1),
+              ),
+            ),
+          ),
+        ),
+      ),
+    )
 
 enum-told-4 : tie.Need-enum-told-4
 enum-told-4 c = search needs
@@ -43,15 +78,21 @@ returns-2 : tie.Need-returns-2
 returns-2 c =
     let entry = c .before .before .before .before .before in
     let a = entry .args in
-    let p = entry .pre in
-    (c .average-by .ensures .0 ∙ sym (plan.by-told (nodesOf (a .bytes .now)) (a .frame) (a .j) (a .told) (p .1 .1 .1 .1 .1 .1 .0) (c .before .enum-told2 .given .1)), c .average-by .ensures .1)
+    let p = entry .pre in (
+      c .average-by .ensures .0 ∙ sym
+          (plan.by-told (nodesOf (a .bytes .now)) (a .frame) (a .j) (a .told) (p .1 .1 .1 .1 .1 .1 .0) (c .before .enum-told2 .given .1)),
+      c .average-by .ensures .1,
+    )
 
 returns-3 : tie.Need-returns-3
 returns-3 c =
     let entry = c .before .before .before .before .before in
     let a = entry .args in
-    let p = entry .pre in
-    (c .tid-by .ensures .0 ∙ sym (plan.by-told (nodesOf (a .bytes .now)) (a .frame) (a .j) (a .told) (p .1 .1 .1 .1 .1 .1 .0) (c .before .enum-told3 .given .1)), c .tid-by .ensures .1)
+    let p = entry .pre in (
+      c .tid-by .ensures .0 ∙ sym
+          (plan.by-told (nodesOf (a .bytes .now)) (a .frame) (a .j) (a .told) (p .1 .1 .1 .1 .1 .1 .0) (c .before .enum-told3 .given .1)),
+      c .tid-by .ensures .1,
+    )
 
 returns-4 : tie.Need-returns-4
 returns-4 c =

@@ -29,8 +29,30 @@ unfolding maskFor
 mask-by-requires c κs =
     let entry = c .before .before .before .before .before in
     let p = entry .pre in
-    let ns = nodesOf (entry .args .bytes .now) in
-    (p .0, (p .1 .0, (p .1 .1 .0, (subst (λ (x : Applying). ApplyingBelow (length ns) x) (c .before .applies .given .1) (p .1 .1 .1 .1 .1 .1 .0), (p .1 .1 .1 .0, (plan.gives-same (entry .args .n) (maskFor ns (entry .args .frame)) (maskBy ns (entry .args .frame) (c .before .applies .given .0 .0)) (rw (p .1 .1 .1 .1 .1 .0 ∙ ap some (c .before .applies .given .1)) refl) (p .1 .1 .1 .1 .0), (subst (λ (x : Applying). ToldBy ns x (entry .args .told)) (c .before .applies .given .1) (p .1 .1 .1 .1 .1 .1 .1 .0), p .1 .1 .1 .1 .1 .1 .1 .1)))))))
+    let ns = nodesOf (entry .args .bytes .now) in (
+      p .0,
+      (
+        p .1 .0,
+        (
+          p .1 .1 .0,
+          (
+            subst (λ (x : Applying). ApplyingBelow (length ns) x) (c .before .applies .given .1) (p .1 .1 .1 .1 .1 .1 .0),
+            (
+              p .1 .1 .1 .0,
+              (
+                plan.gives-same (entry .args .n) (maskFor ns (entry .args .frame))
+                    (maskBy ns (entry .args .frame) (c .before .applies .given .0 .0))
+                    (rw (p .1 .1 .1 .1 .1 .0 ∙ ap some (c .before .applies .given .1)) refl) (p .1 .1 .1 .1 .0),
+                (
+                  subst (λ (x : Applying). ToldBy ns x (entry .args .told)) (c .before .applies .given .1) (p .1 .1 .1 .1 .1 .1 .1 .0),
+                  p .1 .1 .1 .1 .1 .1 .1 .1,
+                ),
+              ),
+            ),
+          ),
+        ),
+      ),
+    )
 
 returns-2 : tie.Need-returns-2
 unfolding maskFor

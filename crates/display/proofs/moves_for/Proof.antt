@@ -28,13 +28,16 @@ returns : tie.Need-returns
 returns c =
     let at-shift-by = c .before .before .before .before in
     let entry = at-shift-by .before .before .before in
-    plan.moves-are (nodesOf (entry .args .bytes .now)) (entry .args .frame) (entry .args .j) (c .before .before .s .given .0 .0) (steps-laws.said shiftsOf (c .before .before .s .given .1) (at-shift-by .shift-by .ensures)) (entry .pre .1 .1 .1 .1 .0) ∙ ap some (sym (c .short-moves-of .ensures .0))
+    plan.moves-are (nodesOf (entry .args .bytes .now)) (entry .args .frame) (entry .args .j) (c .before .before .s .given .0 .0)
+    (steps-laws.said shiftsOf (c .before .before .s .given .1) (at-shift-by .shift-by .ensures)) (entry .pre .1 .1 .1 .1 .0)
+    ∙ ap some (sym (c .short-moves-of .ensures .0))
 
 returns-2 : tie.Need-returns-2
 returns-2 c =
     let at-shift-by = c .before .before .before in
     let entry = at-shift-by .before .before .before in
-    absurd (plan.moves-none (nodesOf (entry .args .bytes .now)) (entry .args .frame) (entry .args .j) (steps-laws.said shiftsOf (c .before .enum-told .given .1) (at-shift-by .shift-by .ensures)) (entry .pre .1 .1 .1 .1 .0))
+    absurd (plan.moves-none (nodesOf (entry .args .bytes .now)) (entry .args .frame) (entry .args .j)
+    (steps-laws.said shiftsOf (c .before .enum-told .given .1) (at-shift-by .shift-by .ensures)) (entry .pre .1 .1 .1 .1 .0))
 
 pub moves-for-spec : {M : Type 1} → statement M
 moves-for-spec =

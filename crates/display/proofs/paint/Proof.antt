@@ -30,7 +30,9 @@ enum-known-masking c =
 value-requires-2 : tie.Need-value-requires-2
 value-requires-2 c κs =
     let entry = c .before .before .before .before .before .before .before .before in
-    let r = subst (λ (x : Masking). MasksReady (nodesOf (entry .args .bytes .now)) (valueAt (nodesOf (entry .args .bytes .now)) (entry .args .p)) (entry .args .g) x) (c .before .masking .given .1) (entry .pre .1 .1 .1 .0) in
+    let r = subst (λ (x : Masking).
+    MasksReady (nodesOf (entry .args .bytes .now)) (valueAt (nodesOf (entry .args .bytes .now)) (entry .args .p)) (entry .args .g) x)
+    (c .before .masking .given .1) (entry .pre .1 .1 .1 .0) in
     (entry .pre .0, r .0)
 
 paint-masked-requires : tie.Need-paint-masked-requires
@@ -38,7 +40,9 @@ paint-masked-requires c κs =
     let at-masking = c .before .before .before in
     let at-value = at-masking .before .before in
     let entry = at-value .before .before .before .before .before in
-    let r = subst (λ (x : Masking). MasksReady (nodesOf (entry .args .bytes .now)) (valueAt (nodesOf (entry .args .bytes .now)) (entry .args .p)) (entry .args .g) x) (at-masking .masking .given .1) (entry .pre .1 .1 .1 .0) in
+    let r = subst (λ (x : Masking).
+    MasksReady (nodesOf (entry .args .bytes .now)) (valueAt (nodesOf (entry .args .bytes .now)) (entry .args .p)) (entry .args .g) x)
+    (at-masking .masking .given .1) (entry .pre .1 .1 .1 .0) in
     rw (at-value .value .ensures, c .before .value2 .ensures) (entry .pre .1 .1 .0, (r .1 .0, (r .1 .1, entry .pre .1 .1 .1 .1)))
 
 enum-known-masking-2 : tie.Need-enum-known-masking-2
@@ -62,8 +66,17 @@ paint-masked-requires-2 c κs =
     let at-masking2 = c .before .before .before in
     let at-value = at-masking2 .before .before in
     let entry = at-value .before .before .before .before .before in
-    let r = subst (λ (x : Masking). MasksReady (nodesOf (entry .args .bytes .now)) (valueAt (nodesOf (entry .args .bytes .now)) (entry .args .p)) (entry .args .g) x) (at-masking2 .masking2 .given .1) (entry .pre .1 .1 .1 .0) in
-    rw (at-value .value .ensures) (entry .pre .1 .1 .0, (pair-masks (valueAt (nodesOf (entry .args .bytes .now)) (entry .args .p)) (entry .args .g) (at-masking2 .masking2 .given .0 .0) (r .0) (r .1 .0), (r .1 .1, entry .pre .1 .1 .1 .1)))
+    let r = subst (λ (x : Masking).
+    MasksReady (nodesOf (entry .args .bytes .now)) (valueAt (nodesOf (entry .args .bytes .now)) (entry .args .p)) (entry .args .g) x)
+    (at-masking2 .masking2 .given .1) (entry .pre .1 .1 .1 .0) in
+    rw (at-value .value .ensures) (
+      entry .pre .1 .1 .0,
+      (
+        pair-masks (valueAt (nodesOf (entry .args .bytes .now)) (entry .args .p)) (entry .args .g) (at-masking2 .masking2 .given .0 .0)
+            (r .0) (r .1 .0),
+        (r .1 .1, entry .pre .1 .1 .1 .1),
+      ),
+    )
 
 enum-told-2 : tie.Need-enum-told-2
 enum-told-2 c =
@@ -88,7 +101,8 @@ returns-2 c =
     let at-value2 = c .before .before .before .before in
     let at-masking = at-value2 .before .before in
     let at-value = at-masking .before .before in
-    rw (at-masking .masking .given .1, ← at-value .value .ensures, ← at-value2 .value2 .ensures) (refl, c .before .before .paint-masked .ensures)
+    rw (at-masking .masking .given .1, ← at-value .value .ensures, ← at-value2 .value2 .ensures)
+    (refl, c .before .before .paint-masked .ensures)
 
 same-length-3 : tie.Need-same-length-3
 same-length-3 c =
@@ -99,13 +113,18 @@ returns-3 c =
     let at-masking2 = c .before .before .before .before .before .before in
     let at-value = at-masking2 .before .before in
     let entry = at-value .before .before .before .before .before in
-    let r = subst (λ (x : Masking). MasksReady (nodesOf (entry .args .bytes .now)) (valueAt (nodesOf (entry .args .bytes .now)) (entry .args .p)) (entry .args .g) x) (at-masking2 .masking2 .given .1) (entry .pre .1 .1 .1 .0) in
-    rw (at-masking2 .masking2 .given .1, ← at-value .value .ensures, ← pair-values (at-masking2 .masking2 .given .0 .0) (r .0)) (refl, c .before .before .paint-masked2 .ensures)
+    let r = subst (λ (x : Masking).
+    MasksReady (nodesOf (entry .args .bytes .now)) (valueAt (nodesOf (entry .args .bytes .now)) (entry .args .p)) (entry .args .g) x)
+    (at-masking2 .masking2 .given .1) (entry .pre .1 .1 .1 .0) in
+    rw (at-masking2 .masking2 .given .1, ← at-value .value .ensures, ← pair-values (at-masking2 .masking2 .given .0 .0) (r .0))
+    (refl, c .before .before .paint-masked2 .ensures)
 
 returns-4 : tie.Need-returns-4
 returns-4 c =
     let entry = c .before .before .before .before .before .before .before in
-    absurd (subst (λ (x : Masking). MasksReady (nodesOf (entry .args .bytes .now)) (valueAt (nodesOf (entry .args .bytes .now)) (entry .args .p)) (entry .args .g) x) (c .enum-told2 .given .1) (entry .pre .1 .1 .1 .0))
+    absurd (subst (λ (x : Masking).
+    MasksReady (nodesOf (entry .args .bytes .now)) (valueAt (nodesOf (entry .args .bytes .now)) (entry .args .p)) (entry .args .g) x)
+    (c .enum-told2 .given .1) (entry .pre .1 .1 .1 .0))
 
 pub paint-spec : {M : Type 1} → statement M
 paint-spec =

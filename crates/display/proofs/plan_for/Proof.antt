@@ -14,8 +14,11 @@ mask-item-requires : tie.Need-mask-item-requires
 mask-item-requires c κs =
     let entry = c .before .before .before in
     let p = entry .pre in
-    let a = entry .args in
-    (p .0, λ e. plan.applying-some (nodesOf (a .bytes .now)) (a .frame) (a .n) e (scenes.objects (a .bytes .now) (a .n) (a .frame) (p .1 .0) (p .1 .1 .1 .0) (p .1 .1 .1 .1) .mask))
+    let a = entry .args in (
+      p .0,
+      λ e. plan.applying-some (nodesOf (a .bytes .now)) (a .frame) (a .n) e
+          (scenes.objects (a .bytes .now) (a .n) (a .frame) (p .1 .0) (p .1 .1 .1 .0) (p .1 .1 .1 .1) .mask),
+    )
 
 told-for-requires : tie.Need-told-for-requires
 told-for-requires c κs =
@@ -25,8 +28,25 @@ told-for-requires c κs =
 plan-of-requires : tie.Need-plan-of-requires
 plan-of-requires c κs =
     let entry = c .before .before .before .before .before in
-    let p = entry .pre in
-    (p .0, (p .1 .0, (p .1 .1 .0, (record { is = c .before .before .item-at .ensures .0; below = c .before .before .item-at .ensures .1 }, (p .1 .1 .1 .0, (p .1 .1 .1 .1, record { is = c .before .mask-item .ensures .0; below = c .before .mask-item .ensures .1; tells = c .told-for .ensures }))))))
+    let p = entry .pre in (
+      p .0,
+      (
+        p .1 .0,
+        (
+          p .1 .1 .0,
+          (
+            record { is = c .before .before .item-at .ensures .0; below = c .before .before .item-at .ensures .1 },
+            (
+              p .1 .1 .1 .0,
+              (
+                p .1 .1 .1 .1,
+                record { is = c .before .mask-item .ensures .0; below = c .before .mask-item .ensures .1; tells = c .told-for .ensures },
+              ),
+            ),
+          ),
+        ),
+      ),
+    )
 
 returns : tie.Need-returns
 returns c =

@@ -32,7 +32,8 @@ returns c =
     let at-geometry-of = c .before .before .before in
     let entry = at-geometry-of .before .before .before in
     let all = scenes.objects (entry .args .bytes .now) (entry .args .n) 1 (entry .pre .1) (omega arith) (entry .pre .1 .some-frame) in
-    absurd (never (sym (steps-laws.said sizedOf (c .before .enum-told .given .1) (at-geometry-of .geometry-of .ensures .0)) ∙ all .o .geometry))
+    absurd (never
+    (sym (steps-laws.said sizedOf (c .before .enum-told .given .1) (at-geometry-of .geometry-of .ensures .0)) ∙ all .o .geometry))
 
 find-root-requires : tie.Need-find-root-requires
 find-root-requires c κs =
@@ -55,7 +56,8 @@ returns-2 c =
     let at-find-root = c .before .before .before in
     let entry = at-find-root .before .before .before .before .before .before .before in
     let all = scenes.objects (entry .args .bytes .now) (entry .args .n) 1 (entry .pre .1) (omega arith) (entry .pre .1 .some-frame) in
-    absurd (scenes.no-pixels (nodesOf (entry .args .bytes .now)) (all .o .v) (node-laws.lacked (c .before .enum-told2 .given .1) (at-find-root .find-root .ensures .0)) (all .o .pixels))
+    absurd (scenes.no-pixels (nodesOf (entry .args .bytes .now)) (all .o .v)
+    (node-laws.had-none (c .before .enum-told2 .given .1) (at-find-root .find-root .ensures .0)) (all .o .pixels))
 
 is-inverse-requires : tie.Need-is-inverse-requires
 is-inverse-requires c κs =
@@ -69,8 +71,11 @@ shared-window-requires c κs =
     let at-geometry-of = at-g .before .before in
     let entry = at-geometry-of .before .before .before in
     let a = entry .args in
-    let p = entry .pre in
-    (p .0, scenes.stored-most _ _ _ _ (scenes.objects (a .bytes .now) (a .n) 1 (p .1) (omega arith) (p .1 .some-frame)) (steps-laws.said sizedOf (at-g .g .given .1) (at-geometry-of .geometry-of .ensures .0)))
+    let p = entry .pre in (
+      p .0,
+      scenes.stored-most _ _ _ _ (scenes.objects (a .bytes .now) (a .n) 1 (p .1) (omega arith) (p .1 .some-frame))
+          (steps-laws.said sizedOf (at-g .g .given .1) (at-geometry-of .geometry-of .ensures .0)),
+    )
 
 returns-3 : tie.Need-returns-3
 returns-3 c =

@@ -19,21 +19,30 @@ enum-told c = search needs
 
 returns : tie.Need-returns
 returns c =
-    let entry = c .before .before .before .before .before .before in
-    (answers.no-frames (nodesOf (entry .args .bytes .now)) (entry .args .frame) (entry .args .image .now) (entry .args .count) (node-laws.lacked (c .enum-told .given .1) (c .before .before .frame-count .ensures .0)), refl)
+    let entry = c .before .before .before .before .before .before in (
+      answers.no-frames (nodesOf (entry .args .bytes .now)) (entry .args .frame) (entry .args .image .now) (entry .args .count)
+          (node-laws.had-none (c .enum-told .given .1) (c .before .before .frame-count .ensures .0)),
+      refl,
+    )
 
 returns-2 : tie.Need-returns-2
 returns-2 c =
     let at-frame-count = c .before .before .before .before in
-    let entry = at-frame-count .before .before .before .before in
-    (answers.below-frames (nodesOf (entry .args .bytes .now)) (entry .args .frame) (entry .args .image .now) (entry .args .count) _ (node-laws.had (c .before .before .n .given .1) (at-frame-count .frame-count .ensures .0)) (c .if1 .taken), refl)
+    let entry = at-frame-count .before .before .before .before in (
+      answers.below-frames (nodesOf (entry .args .bytes .now)) (entry .args .frame) (entry .args .image .now) (entry .args .count) _
+          (node-laws.had (c .before .before .n .given .1) (at-frame-count .frame-count .ensures .0)) (c .if1 .taken),
+      refl,
+    )
 
 returns-3 : tie.Need-returns-3
 returns-3 c =
     let at-n = c .before .before .before in
     let at-frame-count = at-n .before .before in
-    let entry = at-frame-count .before .before .before .before in
-    (answers.above-frames (nodesOf (entry .args .bytes .now)) (entry .args .frame) (entry .args .image .now) (entry .args .count) _ (node-laws.had (at-n .n .given .1) (at-frame-count .frame-count .ensures .0)) (c .if2 .taken), refl)
+    let entry = at-frame-count .before .before .before .before in (
+      answers.above-frames (nodesOf (entry .args .bytes .now)) (entry .args .frame) (entry .args .image .now) (entry .args .count) _
+          (node-laws.had (at-n .n .given .1) (at-frame-count .frame-count .ensures .0)) (c .if2 .taken),
+      refl,
+    )
 
 image-size-requires : tie.Need-image-size-requires
 image-size-requires c κs = search needs
@@ -43,8 +52,12 @@ returns-4 c =
     let at-if1 = c .before .before .before in
     let at-n = at-if1 .before .before in
     let at-frame-count = at-n .before .before in
-    let entry = at-frame-count .before .before .before .before in
-    (answers.no-room (nodesOf (entry .args .bytes .now)) (entry .args .frame) (entry .args .image .now) (entry .args .count) _ (node-laws.had (at-n .n .given .1) (at-frame-count .frame-count .ensures .0)) (omega (arith, at-if1 .if1 .left)) (omega (arith, c .before .before .if2 .left)) (omega (arith, c .if3 .taken, c .before .image-size .ensures)), refl)
+    let entry = at-frame-count .before .before .before .before in (
+      answers.no-room (nodesOf (entry .args .bytes .now)) (entry .args .frame) (entry .args .image .now) (entry .args .count) _
+          (node-laws.had (at-n .n .given .1) (at-frame-count .frame-count .ensures .0)) (omega (arith, at-if1 .if1 .left))
+          (omega (arith, c .before .before .if2 .left)) (omega (arith, c .if3 .taken, c .before .image-size .ensures)),
+      refl,
+    )
 
 draw-requires : tie.Need-draw-requires
 draw-requires c κs =
@@ -52,8 +65,22 @@ draw-requires c κs =
     let at-if1 = at-if2 .before in
     let at-n = at-if1 .before .before in
     let at-frame-count = at-n .before .before in
-    let entry = at-frame-count .before .before .before .before in
-    (entry .pre .0, (entry .pre .1 .0, (entry .pre .1 .1, (node-laws.had (at-n .n .given .1) (at-frame-count .frame-count .ensures .0), (omega (arith, at-if1 .if1 .left), (omega (arith, at-if2 .if2 .left), omega (arith, c .before .if3 .left, c .before .before .image-size .ensures)))))))
+    let entry = at-frame-count .before .before .before .before in (
+      entry .pre .0,
+      (
+        entry .pre .1 .0,
+        (
+          entry .pre .1 .1,
+          (
+            node-laws.had (at-n .n .given .1) (at-frame-count .frame-count .ensures .0),
+            (
+              omega (arith, at-if1 .if1 .left),
+              (omega (arith, at-if2 .if2 .left), omega (arith, c .before .if3 .left, c .before .before .image-size .ensures)),
+            ),
+          ),
+        ),
+      ),
+    )
 
 same-length : tie.Need-same-length
 same-length c = search needs
@@ -66,8 +93,13 @@ returns-5 c =
     let at-if1 = at-if2 .before in
     let at-n = at-if1 .before .before in
     let at-frame-count = at-n .before .before in
-    let entry = at-frame-count .before .before .before .before in
-    (rw (c .before .before .draw .ensures .0) (answers.is-drawn (nodesOf (entry .args .bytes .now)) (entry .args .frame) (entry .args .image .now) (entry .args .count) _ (node-laws.had (at-n .n .given .1) (at-frame-count .frame-count .ensures .0)) (omega (arith, at-if1 .if1 .left)) (omega (arith, at-if2 .if2 .left)) (omega (arith, at-if3 .if3 .left, at-image-size .image-size .ensures))), c .before .before .draw .ensures .1)
+    let entry = at-frame-count .before .before .before .before in (
+      rw (c .before .before .draw .ensures .0) (answers.is-drawn (nodesOf (entry .args .bytes .now)) (entry .args .frame)
+          (entry .args .image .now) (entry .args .count) _ (node-laws.had (at-n .n .given .1) (at-frame-count .frame-count .ensures .0))
+          (omega (arith, at-if1 .if1 .left)) (omega (arith, at-if2 .if2 .left))
+          (omega (arith, at-if3 .if3 .left, at-image-size .image-size .ensures))),
+      c .before .before .draw .ensures .1,
+    )
 
 pub show-table-spec : {M : Type 1} → statement M
 show-table-spec =

@@ -33,8 +33,24 @@ moves-for-requires c κs =
     let entry = at-tid-frame .before .before .before in
     let ns = nodesOf (entry .args .bytes .now) in
     let e = steps-laws.said foundOf (c .before .t .given .1) (at-tid-frame .tid-frame .ensures) in
-    let p = entry .pre in
-    (p .0, (p .1 .0, (p .1 .1 .0, (p .1 .1 .1 .0, (plan.gives-moves (entry .args .n) (c .before .t .given .0 .0 ∷ []) (movesFor ns (entry .args .frame) (entry .args .j)) (plan.gives-same (entry .args .n) _ _ (ap (λ (o : Option Num). then o (onTid ns (entry .args .frame) (entry .args .j))) e) (p .1 .1 .1 .1 .1 .0)), p .1 .1 .1 .1 .1 .1 .0)))))
+    let p = entry .pre in (
+      p .0,
+      (
+        p .1 .0,
+        (
+          p .1 .1 .0,
+          (
+            p .1 .1 .1 .0,
+            (
+              plan.gives-moves (entry .args .n) (c .before .t .given .0 .0 ∷ []) (movesFor ns (entry .args .frame) (entry .args .j))
+                  (plan.gives-same (entry .args .n) _ _ (ap (λ (o : Option Num). then o (onTid ns (entry .args .frame) (entry .args .j))) e)
+                  (p .1 .1 .1 .1 .1 .0)),
+              p .1 .1 .1 .1 .1 .1 .0,
+            ),
+          ),
+        ),
+      ),
+    )
 
 returns : tie.Need-returns
 returns c =

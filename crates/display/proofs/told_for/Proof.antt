@@ -21,17 +21,22 @@ nothing-told-requires c κs = search needs
 returns : tie.Need-returns
 returns c =
     let entry = c .before .before .before .before .before in
-    subst (λ (x : Applying). ToldBy (nodesOf (entry .args .bytes .now)) x (c .nothing-told .result)) (sym (c .before .enum-told .given .1)) tt
+    subst (λ (x : Applying). ToldBy (nodesOf (entry .args .bytes .now)) x (c .nothing-told .result)) (sym (c .before .enum-told .given .1))
+    tt
 
 told-by-requires : tie.Need-told-by-requires
 told-by-requires c κs =
-    let entry = c .before .before .before .before .before in
-    (entry .pre .0, subst (λ (x : Applying). ApplyingBelow (length (nodesOf (entry .args .bytes .now))) x) (c .before .applies .given .1) (entry .pre .1))
+    let entry = c .before .before .before .before .before in (
+      entry .pre .0,
+      subst (λ (x : Applying). ApplyingBelow (length (nodesOf (entry .args .bytes .now))) x) (c .before .applies .given .1)
+          (entry .pre .1),
+    )
 
 returns-2 : tie.Need-returns-2
 returns-2 c =
     let entry = c .before .before .before .before .before .before in
-    subst (λ (x : Applying). ToldBy (nodesOf (entry .args .bytes .now)) x (c .told-by .result)) (sym (c .before .before .applies .given .1)) (c .told-by .ensures)
+    subst (λ (x : Applying). ToldBy (nodesOf (entry .args .bytes .now)) x (c .told-by .result)) (sym (c .before .before .applies .given .1))
+    (c .told-by .ensures)
 
 pub told-for-spec : {M : Type 1} → statement M
 told-for-spec =

@@ -51,15 +51,22 @@ loop-again c =
     let at-next = c .before .before .before in
     let entry = at-next .before .before .before in
     let ns = nodesOf (entry .args .bytes .now) in
-    let e = ap (λ (l : List ℕ). length l) (members-next ns (c .before .before .loop .at) (at-next .next .result) (c .before .loop-test .taken)) in
-    let f = ap (λ (k : ℕ). length (members ns k (at-next .next .result))) (c .next2 .ensures .0) in
-    (omega (arith, c .before .before .loop .inv .0, e, f), (c .before .before .loop .inv .1 .0, omega (arith, c .before .before .loop .inv .1 .1, c .next2 .ensures .0)))
+    let e = ap (λ (l : List ℕ). length l)
+    (members-next ns (c .before .before .loop .at) (at-next .next .result) (c .before .loop-test .taken)) in
+    let f = ap (λ (k : ℕ). length (members ns k (at-next .next .result))) (c .next2 .ensures .0) in (
+      omega (arith, c .before .before .loop .inv .0, e, f),
+      (c .before .before .loop .inv .1 .0, omega (arith, c .before .before .loop .inv .1 .1, c .next2 .ensures .0)),
+    )
 
 returns : tie.Need-returns Inv-loop μ-loop
 returns c =
     let entry = c .before .before .before .before .before in
     let ns = nodesOf (entry .args .bytes .now) in
-    omega (arith, c .before .loop .inv .0, ap (λ (l : List ℕ). length l) (members-end ns (c .before .loop .at) (c .before .before .next .result) (c .loop-test .left)))
+    omega (
+      arith,
+      c .before .loop .inv .0,
+      ap (λ (l : List ℕ). length l) (members-end ns (c .before .loop .at) (c .before .before .next .result) (c .loop-test .left)),
+    )
 
 pub count-items-spec : {M : Type 1} → statement M
 count-items-spec =

@@ -30,14 +30,20 @@ counted-requires c κs =
 returns : tie.Need-returns
 unfolding framesOf
 returns c =
-    (rw (node-laws.lacked (c .enum-told .given .1) (c .before .before .find-vr-root .ensures .0)), tt)
+    (rw (node-laws.had-none (c .enum-told .given .1) (c .before .before .find-vr-root .ensures .0)), tt)
 
 returns-2 : tie.Need-returns-2
 unfolding framesOf
 returns-2 c =
     let at-i = c .before .before .before .before in
-    let at-find-vr-root = at-i .before .before in
-    (rw (node-laws.had (at-i .i .given .1) (at-find-vr-root .find-vr-root .ensures .0), ← c .before .before .value .ensures, ← c .before .is-of .ensures .0) (c .counted .ensures .0), c .counted .ensures .1)
+    let at-find-vr-root = at-i .before .before in (
+      rw (
+        node-laws.had (at-i .i .given .1) (at-find-vr-root .find-vr-root .ensures .0),
+        ← c .before .before .value .ensures,
+        ← c .before .is-of .ensures .0,
+      ) (c .counted .ensures .0),
+      c .counted .ensures .1,
+    )
 
 pub frame-count-spec : {M : Type 1} → statement M
 frame-count-spec =

@@ -18,7 +18,8 @@ function-of-requires c κs = search needs
 returns : tie.Need-returns
 returns c =
     let at-vr = c .before .before .before in
-    rw (← at-vr .vr .ensures, eq-eqb _ _ (c .before .before .if1 .taken)) (c .function-of .ensures ∙ ap functionOf (c .before .value .ensures))
+    rw (← at-vr .vr .ensures, eq-eqb _ _ (c .before .before .if1 .taken))
+    (c .function-of .ensures ∙ ap functionOf (c .before .value .ensures))
 
 returns-2 : tie.Need-returns-2
 returns-2 c =

@@ -18,13 +18,17 @@ find-item-requires-2 c κs = search needs
 
 returns : tie.Need-returns
 returns c =
-    let at-find-item = c .before .before .before in
-    (rw (node-laws.had (c .before .g .given .1) (at-find-item .find-item .ensures .0)), node-laws.within _ (c .before .g .given .1) (at-find-item .find-item .ensures .1))
+    let at-find-item = c .before .before .before in (
+      rw (node-laws.had (c .before .g .given .1) (at-find-item .find-item .ensures .0)),
+      node-laws.within _ (c .before .g .given .1) (at-find-item .find-item .ensures .1),
+    )
 
 returns-2 : tie.Need-returns-2
 returns-2 c =
-    let at-find-item = c .before .before .before in
-    (rw (node-laws.lacked (c .before .enum-told .given .1) (at-find-item .find-item .ensures .0)) (c .find-item2 .ensures .0), c .find-item2 .ensures .1)
+    let at-find-item = c .before .before .before in (
+      rw (node-laws.had-none (c .before .enum-told .given .1) (at-find-item .find-item .ensures .0)) (c .find-item2 .ensures .0),
+      c .find-item2 .ensures .1,
+    )
 
 pub group-of-spec : {M : Type 1} → statement M
 group-of-spec =

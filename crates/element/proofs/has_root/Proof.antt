@@ -23,7 +23,7 @@ is-filled-requires c κs =
 
 returns : tie.Need-returns
 unfolding has
-returns c = rw (laws.lacked (c .enum-told .given .1) (c .before .before .find-vr-root .ensures .0))
+returns c = rw (laws.had-none (c .enum-told .given .1) (c .before .before .find-vr-root .ensures .0))
 
 returns-2 : tie.Need-returns-2
 unfolding has

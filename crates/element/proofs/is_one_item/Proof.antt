@@ -16,7 +16,7 @@ enum-told-2 c = search needs
 
 returns : tie.Need-returns
 returns c =
-    laws.one-item-not _ _ (node-laws.lacked (c .enum-told .given .1) (c .before .before .the-item .ensures .0))
+    laws.one-item-not _ _ (node-laws.had-none (c .enum-told .given .1) (c .before .before .the-item .ensures .0))
 
 returns-2 : tie.Need-returns-2
 returns-2 c =

@@ -24,7 +24,7 @@ is-uid-requires c κs = search needs
 
 returns : tie.Need-returns
 returns c =
-    rw (node-laws.lacked (c .enum-told .given .1) (c .before .before .find-vr-root .ensures .0))
+    rw (node-laws.had-none (c .enum-told .given .1) (c .before .before .find-vr-root .ensures .0))
 
 returns-2 : tie.Need-returns-2
 returns-2 c =

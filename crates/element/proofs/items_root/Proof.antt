@@ -34,7 +34,8 @@ returns : tie.Need-returns
 unfolding itemsIn
 returns c =
     let entry = c .before .before .before .before .before in
-    rw (node-laws.lacked (c .enum-told .given .1) (c .before .before .find-vr-root .ensures .0)) (laws.along-none (nodesOf (entry .args .bytes .now)))
+    rw (node-laws.had-none (c .enum-told .given .1) (c .before .before .find-vr-root .ensures .0))
+    (laws.along-none (nodesOf (entry .args .bytes .now)))
 
 returns-2 : tie.Need-returns-2
 unfolding itemsIn

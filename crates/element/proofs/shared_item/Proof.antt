@@ -23,13 +23,15 @@ the-item-requires c κs =
 returns : tie.Need-returns
 unfolding sharedItem
 returns c =
-    (rw (node-laws.lacked (c .enum-told .given .1) (c .before .before .find-root .ensures .0)), tt)
+    (rw (node-laws.had-none (c .enum-told .given .1) (c .before .before .find-root .ensures .0)), tt)
 
 returns-2 : tie.Need-returns-2
 unfolding sharedItem
 returns-2 c =
-    let at-find-root = c .before .before .before .before in
-    (rw (node-laws.had (c .before .before .i .given .1) (at-find-root .find-root .ensures .0)) (c .the-item .ensures .0), c .the-item .ensures .1)
+    let at-find-root = c .before .before .before .before in (
+      rw (node-laws.had (c .before .before .i .given .1) (at-find-root .find-root .ensures .0)) (c .the-item .ensures .0),
+      c .the-item .ensures .1,
+    )
 
 pub shared-item-spec : {M : Type 1} → statement M
 shared-item-spec =

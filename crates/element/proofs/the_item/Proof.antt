@@ -25,8 +25,12 @@ returns c =
     let at-if1 = at-next .before in
     let at-vr = at-if1 .before in
     let entry = at-vr .before .before .before in
-    let q = sym (at-vr .vr .ensures) ∙ at-if1 .if1 .taken in
-    (sym (laws.one-item-many (nodesOf (entry .args .bytes .now)) (entry .args .i) q (omega (arith, at-next .next .ensures .0, c .before .before .if2 .taken)) (omega (arith, at-next .next .ensures .0, c .before .next2 .ensures .0, c .if3 .taken))), tt)
+    let q = sym (at-vr .vr .ensures) ∙ at-if1 .if1 .taken in (
+      sym (laws.one-item-many (nodesOf (entry .args .bytes .now)) (entry .args .i) q
+          (omega (arith, at-next .next .ensures .0, c .before .before .if2 .taken))
+          (omega (arith, at-next .next .ensures .0, c .before .next2 .ensures .0, c .if3 .taken))),
+      tt,
+    )
 
 returns-2 : tie.Need-returns-2
 returns-2 c =
@@ -34,15 +38,22 @@ returns-2 c =
     let at-if1 = at-next .before in
     let at-vr = at-if1 .before in
     let entry = at-vr .before .before .before in
-    let q = sym (at-vr .vr .ensures) ∙ at-if1 .if1 .taken in
-    (sym (laws.one-item-one (nodesOf (entry .args .bytes .now)) (entry .args .i) q (omega (arith, at-next .next .ensures .0, c .before .before .if2 .taken)) (omega (arith, at-next .next .ensures .0, c .before .next2 .ensures .0, c .if3 .left))), omega (arith, at-next .next .ensures .1, c .before .before .if2 .taken))
+    let q = sym (at-vr .vr .ensures) ∙ at-if1 .if1 .taken in (
+      sym (laws.one-item-one (nodesOf (entry .args .bytes .now)) (entry .args .i) q
+          (omega (arith, at-next .next .ensures .0, c .before .before .if2 .taken))
+          (omega (arith, at-next .next .ensures .0, c .before .next2 .ensures .0, c .if3 .left))),
+      omega (arith, at-next .next .ensures .1, c .before .before .if2 .taken),
+    )
 
 returns-3 : tie.Need-returns-3
 returns-3 c =
     let at-vr = c .before .before .before in
     let entry = at-vr .before .before .before in
-    let q = sym (at-vr .vr .ensures) ∙ c .before .before .if1 .taken in
-    (sym (laws.one-item-none (nodesOf (entry .args .bytes .now)) (entry .args .i) q (omega (arith, c .before .next .ensures .0, c .if2 .left))), tt)
+    let q = sym (at-vr .vr .ensures) ∙ c .before .before .if1 .taken in (
+      sym (laws.one-item-none (nodesOf (entry .args .bytes .now)) (entry .args .i) q
+          (omega (arith, c .before .next .ensures .0, c .if2 .left))),
+      tt,
+    )
 
 returns-4 : tie.Need-returns-4
 returns-4 c =

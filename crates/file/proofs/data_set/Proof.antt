@@ -19,7 +19,13 @@ part-result-end c = search needs
 
 returns : tie.Need-returns
 returns c =
-    record { block = refl; place = omega arith; bytes = take-all (length (c .before .args .file .now) - c .before .args .from) (drop (c .before .args .from) (c .before .args .file .now)) (omega (arith, length-drop (c .before .args .from) (c .before .args .file .now))) }
+    record {
+      block = refl;
+      place = omega arith;
+      bytes = take-all (length (c .before .args .file .now) - c .before .args .from)
+          (drop (c .before .args .from) (c .before .args .file .now))
+          (omega (arith, length-drop (c .before .args .from) (c .before .args .file .now)));
+    }
 
 pub data-set-spec : {M : Type 1} → statement M
 data-set-spec = tie.close (tie.spec sub-result part-result-start part-result-end returns)

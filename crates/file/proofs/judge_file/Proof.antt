@@ -32,43 +32,62 @@ enum-known-from c = search needs
 
 data-set-requires : tie.Need-data-set-requires
 data-set-requires c κs =
-    (subst (λ (m : Meta). MetaWithin (length (c .before .before .before .before .before .before .args .file .now)) m) (c .before .from .given .1) (c .before .before .before .read-head .ensures .1)) .0
+    (subst (λ (m : Meta). MetaWithin (length (c .before .before .before .before .before .before .args .file .now)) m)
+    (c .before .from .given .1) (c .before .before .before .read-head .ensures .1)) .0
 
 sub-judge-part : tie.Need-sub-judge-part
 sub-judge-part c =
     let at-read-head = c .before .before .before .before in
     let entry = at-read-head .before .before .before in
-    omega (arith, subst (λ (m : Meta). MetaWithin (length (entry .args .file .now)) m) (c .before .before .from .given .1) (at-read-head .read-head .ensures .1))
+    omega (
+      arith,
+      subst (λ (m : Meta). MetaWithin (length (entry .args .file .now)) m) (c .before .before .from .given .1)
+          (at-read-head .read-head .ensures .1),
+    )
 
 part-judge-part-start : tie.Need-part-judge-part-start
 part-judge-part-start c =
     let at-read-head = c .before .before .before .before in
     let entry = at-read-head .before .before .before in
-    omega (arith, subst (λ (m : Meta). MetaWithin (length (entry .args .file .now)) m) (c .before .before .from .given .1) (at-read-head .read-head .ensures .1))
+    omega (
+      arith,
+      subst (λ (m : Meta). MetaWithin (length (entry .args .file .now)) m) (c .before .before .from .given .1)
+          (at-read-head .read-head .ensures .1),
+    )
 
 part-judge-part-end : tie.Need-part-judge-part-end
 part-judge-part-end c =
     let at-read-head = c .before .before .before .before in
     let entry = at-read-head .before .before .before in
-    omega (arith, subst (λ (m : Meta). MetaWithin (length (entry .args .file .now)) m) (c .before .before .from .given .1) (at-read-head .read-head .ensures .1))
+    omega (
+      arith,
+      subst (λ (m : Meta). MetaWithin (length (entry .args .file .now)) m) (c .before .before .from .given .1)
+          (at-read-head .read-head .ensures .1),
+    )
 
 judge-part-requires : tie.Need-judge-part-requires
 judge-part-requires c κs = search needs
 
 returns : tie.Need-returns
 unfolding judgeFileOf rowsLeft
-returns c =
-    (promised (rw (← c .before .before .read-head .ensures .0, c .enum-told .given .1)), rw (← c .before .before .read-head .ensures .0, c .enum-told .given .1))
+returns c = (
+  promised (rw (← c .before .before .read-head .ensures .0, c .enum-told .given .1)),
+  rw (← c .before .before .read-head .ensures .0, c .enum-told .given .1),
+)
 
 returns-2 : tie.Need-returns-2
 unfolding judgeFileOf rowsLeft
-returns-2 c =
-    (promised (rw (← c .before .before .read-head .ensures .0, c .enum-told2 .given .1)), rw (← c .before .before .read-head .ensures .0, c .enum-told2 .given .1))
+returns-2 c = (
+  promised (rw (← c .before .before .read-head .ensures .0, c .enum-told2 .given .1)),
+  rw (← c .before .before .read-head .ensures .0, c .enum-told2 .given .1),
+)
 
 returns-3 : tie.Need-returns-3
 unfolding judgeFileOf rowsLeft
-returns-3 c =
-    (promised (rw (← c .before .before .read-head .ensures .0, c .enum-told3 .given .1)), rw (← c .before .before .read-head .ensures .0, c .enum-told3 .given .1))
+returns-3 c = (
+  promised (rw (← c .before .before .read-head .ensures .0, c .enum-told3 .given .1)),
+  rw (← c .before .before .read-head .ensures .0, c .enum-told3 .given .1),
+)
 
 same-length : tie.Need-same-length
 same-length c = search needs
@@ -79,8 +98,14 @@ returns-4 c =
     let at-data-set = c .before .before .before .before .before in
     let at-from = at-data-set .before .before in
     let at-read-head = at-from .before .before in
-    let entry = at-read-head .before .before .before in
-    (promised (rw (← at-read-head .read-head .ensures .0, at-from .from .given .1) (c .before .before .judge-part .ensures .0 ∙ ap (λ (x : List ℕ). judgePart x (part (entry .args .file .now) (at-from .from .given .0 .1 .0) (at-from .from .given .0 .1 .1 .0)) (entry .args .rows .now)) (at-data-set .data-set .ensures .bytes))), rw (← at-read-head .read-head .ensures .0, at-from .from .given .1) (c .before .before .judge-part .ensures .1 ∙ ap (λ (x : List ℕ). bufferOf (readingOf x) (entry .args .rows .now)) (at-data-set .data-set .ensures .bytes)))
+    let entry = at-read-head .before .before .before in (
+      promised (rw (← at-read-head .read-head .ensures .0, at-from .from .given .1) (c .before .before .judge-part .ensures .0
+          ∙ ap (λ (x : List ℕ).
+          judgePart x (part (entry .args .file .now) (at-from .from .given .0 .1 .0) (at-from .from .given .0 .1 .1 .0))
+          (entry .args .rows .now)) (at-data-set .data-set .ensures .bytes))),
+      rw (← at-read-head .read-head .ensures .0, at-from .from .given .1) (c .before .before .judge-part .ensures .1
+          ∙ ap (λ (x : List ℕ). bufferOf (readingOf x) (entry .args .rows .now)) (at-data-set .data-set .ensures .bytes)),
+    )
 
 pub judge-file-spec : {M : Type 1} → statement M
 judge-file-spec =

@@ -33,43 +33,62 @@ enum-known-from c = search needs
 
 data-set-requires : tie.Need-data-set-requires
 data-set-requires c κs =
-    (subst (λ (m : Meta). MetaWithin (length (c .before .before .before .before .before .before .args .file .now)) m) (c .before .from .given .1) (c .before .before .before .read-head .ensures .1)) .0
+    (subst (λ (m : Meta). MetaWithin (length (c .before .before .before .before .before .before .args .file .now)) m)
+    (c .before .from .given .1) (c .before .before .before .read-head .ensures .1)) .0
 
 sub-count-part : tie.Need-sub-count-part
 sub-count-part c =
     let at-read-head = c .before .before .before .before in
     let entry = at-read-head .before .before .before in
-    omega (arith, subst (λ (m : Meta). MetaWithin (length (entry .args .file .now)) m) (c .before .before .from .given .1) (at-read-head .read-head .ensures .1))
+    omega (
+      arith,
+      subst (λ (m : Meta). MetaWithin (length (entry .args .file .now)) m) (c .before .before .from .given .1)
+          (at-read-head .read-head .ensures .1),
+    )
 
 part-count-part-start : tie.Need-part-count-part-start
 part-count-part-start c =
     let at-read-head = c .before .before .before .before in
     let entry = at-read-head .before .before .before in
-    omega (arith, subst (λ (m : Meta). MetaWithin (length (entry .args .file .now)) m) (c .before .before .from .given .1) (at-read-head .read-head .ensures .1))
+    omega (
+      arith,
+      subst (λ (m : Meta). MetaWithin (length (entry .args .file .now)) m) (c .before .before .from .given .1)
+          (at-read-head .read-head .ensures .1),
+    )
 
 part-count-part-end : tie.Need-part-count-part-end
 part-count-part-end c =
     let at-read-head = c .before .before .before .before in
     let entry = at-read-head .before .before .before in
-    omega (arith, subst (λ (m : Meta). MetaWithin (length (entry .args .file .now)) m) (c .before .before .from .given .1) (at-read-head .read-head .ensures .1))
+    omega (
+      arith,
+      subst (λ (m : Meta). MetaWithin (length (entry .args .file .now)) m) (c .before .before .from .given .1)
+          (at-read-head .read-head .ensures .1),
+    )
 
 count-part-requires : tie.Need-count-part-requires
 count-part-requires c κs = search needs
 
 returns : tie.Need-returns
 unfolding judgeFileOf rowsLeft searchesFileOf
-returns c =
-    (rw (← c .before .before .read-head .ensures .0, c .enum-told .given .1) (promised refl), rw (← c .before .before .read-head .ensures .0, c .enum-told .given .1))
+returns c = (
+  rw (← c .before .before .read-head .ensures .0, c .enum-told .given .1) (promised refl),
+  rw (← c .before .before .read-head .ensures .0, c .enum-told .given .1),
+)
 
 returns-2 : tie.Need-returns-2
 unfolding judgeFileOf rowsLeft searchesFileOf
-returns-2 c =
-    (rw (← c .before .before .read-head .ensures .0, c .enum-told2 .given .1) (promised refl), rw (← c .before .before .read-head .ensures .0, c .enum-told2 .given .1))
+returns-2 c = (
+  rw (← c .before .before .read-head .ensures .0, c .enum-told2 .given .1) (promised refl),
+  rw (← c .before .before .read-head .ensures .0, c .enum-told2 .given .1),
+)
 
 returns-3 : tie.Need-returns-3
 unfolding judgeFileOf rowsLeft searchesFileOf
-returns-3 c =
-    (rw (← c .before .before .read-head .ensures .0, c .enum-told3 .given .1) (promised refl), rw (← c .before .before .read-head .ensures .0, c .enum-told3 .given .1))
+returns-3 c = (
+  rw (← c .before .before .read-head .ensures .0, c .enum-told3 .given .1) (promised refl),
+  rw (← c .before .before .read-head .ensures .0, c .enum-told3 .given .1),
+)
 
 same-length : tie.Need-same-length
 same-length c = search needs
@@ -84,8 +103,10 @@ returns-4 c =
     let file = entry .args .file .now in
     let rows = entry .args .rows .now in
     let p = part file (at-from .from .given .0 .1 .0) (at-from .from .given .0 .1 .1 .0) in (
-      rw (← at-read-head .read-head .ensures .0, at-from .from .given .1) (promised (c .before .before .count-part .ensures .0 ∙ ap (λ (x : List ℕ). countedPart x p rows) (at-data-set .data-set .ensures .bytes))),
-      rw (← at-read-head .read-head .ensures .0, at-from .from .given .1) (c .before .before .count-part .ensures .1 ∙ ap (λ (x : List ℕ). bufferOf (readingOf x) rows) (at-data-set .data-set .ensures .bytes)),
+      rw (← at-read-head .read-head .ensures .0, at-from .from .given .1) (promised
+          (c .before .before .count-part .ensures .0 ∙ ap (λ (x : List ℕ). countedPart x p rows) (at-data-set .data-set .ensures .bytes))),
+      rw (← at-read-head .read-head .ensures .0, at-from .from .given .1) (c .before .before .count-part .ensures .1
+          ∙ ap (λ (x : List ℕ). bufferOf (readingOf x) rows) (at-data-set .data-set .ensures .bytes)),
     )
 
 pub judge-file-counted-spec : {M : Type 1} → statement M

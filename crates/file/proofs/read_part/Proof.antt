@@ -28,26 +28,31 @@ mul-end : tie.Need-mul-end
 mul-end c =
     let at-read = c .before .before .before .before .before in
     let entry = at-read .before .before .before .before .before in
-    let t = after-reading (entry .args .bytes .now) (entry .args .rows .now) (at-read .read .last .1 .0) (c .before .n .given .0 .0) (sym (c .before .n .given .1) ∙ at-read .read .ensures .0 .same) (at-read .read .ensures .1) in
+    let t = after-reading (entry .args .bytes .now) (entry .args .rows .now) (at-read .read .last .1 .0) (c .before .n .given .0 .0)
+    (sym (c .before .n .given .1) ∙ at-read .read .ensures .0 .same) (at-read .read .ensures .1) in
     omega (arith, t .1 .size, t .1 .few, length-take-le (7 * c .before .n .given .0 .0) (at-read .read .last .1 .0) (t .0))
 
 slice-reshare-prefix-same-class : tie.Need-slice-reshare-prefix-same-class
 slice-reshare-prefix-same-class c =
     let at-read = c .before .before .before .before .before in
     let entry = at-read .before .before .before .before .before in
-    after-reading (entry .args .bytes .now) (entry .args .rows .now) (at-read .read .last .1 .0) (c .before .n .given .0 .0) (sym (c .before .n .given .1) ∙ at-read .read .ensures .0 .same) (at-read .read .ensures .1) .0
+    after-reading (entry .args .bytes .now) (entry .args .rows .now) (at-read .read .last .1 .0) (c .before .n .given .0 .0)
+    (sym (c .before .n .given .1) ∙ at-read .read .ensures .0 .same) (at-read .read .ensures .1) .0
 
 slice-aggregate-same-class : tie.Need-slice-aggregate-same-class
 slice-aggregate-same-class c =
     let at-read = c .before .before .before .before .before .before in
     let entry = at-read .before .before .before .before .before in
-    sym (length-take-le _ _ (after-reading (entry .args .bytes .now) (entry .args .rows .now) (at-read .read .last .1 .0) (c .before .before .n .given .0 .0) (sym (c .before .before .n .given .1) ∙ at-read .read .ensures .0 .same) (at-read .read .ensures .1) .0))
+    sym (length-take-le _ _ (after-reading (entry .args .bytes .now) (entry .args .rows .now) (at-read .read .last .1 .0)
+    (c .before .before .n .given .0 .0) (sym (c .before .before .n .given .1) ∙ at-read .read .ensures .0 .same)
+    (at-read .read .ensures .1) .0))
 
 same-class-requires : tie.Need-same-class-requires
 same-class-requires c κs =
     let at-read = c .before .before .before .before .before .before in
     let entry = at-read .before .before .before .before .before in
-    after-reading (entry .args .bytes .now) (entry .args .rows .now) (at-read .read .last .1 .0) (c .before .before .n .given .0 .0) (sym (c .before .before .n .given .1) ∙ at-read .read .ensures .0 .same) (at-read .read .ensures .1) .1
+    after-reading (entry .args .bytes .now) (entry .args .rows .now) (at-read .read .last .1 .0) (c .before .before .n .given .0 .0)
+    (sym (c .before .before .n .given .1) ∙ at-read .read .ensures .0 .same) (at-read .read .ensures .1) .1
 
 same-length : tie.Need-same-length
 same-length c = search needs

@@ -23,7 +23,9 @@ unfolding sameClass
 returns c =
     let at-has-root = c .before .before .before in
     let entry = at-has-root .before .before .before .before in
-    rw (← at-has-root .has-root .ensures, c .before .before .if1 .taken) (c .is-ui-root .ensures ∙ ap (λ (x : List ℕ). uiIs (nodesOf (entry .args .bytes .now)) 0x0008_0016 x (root (nodesOf (entry .args .bytes .now)))) (c .before .trim-end .ensures))
+    rw (← at-has-root .has-root .ensures, c .before .before .if1 .taken) (c .is-ui-root .ensures ∙ ap
+    (λ (x : List ℕ). uiIs (nodesOf (entry .args .bytes .now)) 0x0008_0016 x (root (nodesOf (entry .args .bytes .now))))
+    (c .before .trim-end .ensures))
 
 returns-2 : tie.Need-returns-2
 unfolding sameClass

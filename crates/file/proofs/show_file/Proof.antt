@@ -32,43 +32,71 @@ enum-known-from c = search needs
 
 data-set-requires : tie.Need-data-set-requires
 data-set-requires c κs =
-    (subst (λ (m : Meta). MetaWithin (length (c .before .before .before .before .before .before .before .args .file .now)) m) (c .before .from .given .1) (c .before .before .before .read-head .ensures .1)) .0
+    (subst (λ (m : Meta). MetaWithin (length (c .before .before .before .before .before .before .before .args .file .now)) m)
+    (c .before .from .given .1) (c .before .before .before .read-head .ensures .1)) .0
 
 sub-show-part : tie.Need-sub-show-part
 sub-show-part c =
     let at-read-head = c .before .before .before .before in
     let entry = at-read-head .before .before .before .before in
-    omega (arith, subst (λ (m : Meta). MetaWithin (length (entry .args .file .now)) m) (c .before .before .from .given .1) (at-read-head .read-head .ensures .1))
+    omega (
+      arith,
+      subst (λ (m : Meta). MetaWithin (length (entry .args .file .now)) m) (c .before .before .from .given .1)
+          (at-read-head .read-head .ensures .1),
+    )
 
 part-show-part-start : tie.Need-part-show-part-start
 part-show-part-start c =
     let at-read-head = c .before .before .before .before in
     let entry = at-read-head .before .before .before .before in
-    omega (arith, subst (λ (m : Meta). MetaWithin (length (entry .args .file .now)) m) (c .before .before .from .given .1) (at-read-head .read-head .ensures .1))
+    omega (
+      arith,
+      subst (λ (m : Meta). MetaWithin (length (entry .args .file .now)) m) (c .before .before .from .given .1)
+          (at-read-head .read-head .ensures .1),
+    )
 
 part-show-part-end : tie.Need-part-show-part-end
 part-show-part-end c =
     let at-read-head = c .before .before .before .before in
     let entry = at-read-head .before .before .before .before in
-    omega (arith, subst (λ (m : Meta). MetaWithin (length (entry .args .file .now)) m) (c .before .before .from .given .1) (at-read-head .read-head .ensures .1))
+    omega (
+      arith,
+      subst (λ (m : Meta). MetaWithin (length (entry .args .file .now)) m) (c .before .before .from .given .1)
+          (at-read-head .read-head .ensures .1),
+    )
 
 show-part-requires : tie.Need-show-part-requires
 show-part-requires c κs = search needs
 
 returns : tie.Need-returns
 unfolding showFileOf rowsLeft imageLeft
-returns c =
-    (promised (rw (← c .before .before .read-head .ensures .0, c .enum-told .given .1)), (rw (← c .before .before .read-head .ensures .0, c .enum-told .given .1), rw (← c .before .before .read-head .ensures .0, c .enum-told .given .1)))
+returns c = (
+  promised (rw (← c .before .before .read-head .ensures .0, c .enum-told .given .1)),
+  (
+    rw (← c .before .before .read-head .ensures .0, c .enum-told .given .1),
+    rw (← c .before .before .read-head .ensures .0, c .enum-told .given .1),
+  ),
+)
 
 returns-2 : tie.Need-returns-2
 unfolding showFileOf rowsLeft imageLeft
-returns-2 c =
-    (promised (rw (← c .before .before .read-head .ensures .0, c .enum-told2 .given .1)), (rw (← c .before .before .read-head .ensures .0, c .enum-told2 .given .1), rw (← c .before .before .read-head .ensures .0, c .enum-told2 .given .1)))
+returns-2 c = (
+  promised (rw (← c .before .before .read-head .ensures .0, c .enum-told2 .given .1)),
+  (
+    rw (← c .before .before .read-head .ensures .0, c .enum-told2 .given .1),
+    rw (← c .before .before .read-head .ensures .0, c .enum-told2 .given .1),
+  ),
+)
 
 returns-3 : tie.Need-returns-3
 unfolding showFileOf rowsLeft imageLeft
-returns-3 c =
-    (promised (rw (← c .before .before .read-head .ensures .0, c .enum-told3 .given .1)), (rw (← c .before .before .read-head .ensures .0, c .enum-told3 .given .1), rw (← c .before .before .read-head .ensures .0, c .enum-told3 .given .1)))
+returns-3 c = (
+  promised (rw (← c .before .before .read-head .ensures .0, c .enum-told3 .given .1)),
+  (
+    rw (← c .before .before .read-head .ensures .0, c .enum-told3 .given .1),
+    rw (← c .before .before .read-head .ensures .0, c .enum-told3 .given .1),
+  ),
+)
 
 same-length : tie.Need-same-length
 same-length c = search needs
@@ -83,8 +111,20 @@ returns-4 c =
     let at-data-set = at-show-part .before .before .before .before in
     let at-from = at-data-set .before .before in
     let at-read-head = at-from .before .before in
-    let entry = at-read-head .before .before .before .before in
-    (promised (rw (← at-read-head .read-head .ensures .0, at-from .from .given .1) (at-show-part .show-part .ensures .0 ∙ ap (λ (x : List ℕ). showPart x (part (entry .args .file .now) (at-from .from .given .0 .1 .0) (at-from .from .given .0 .1 .1 .0)) (entry .args .frame) (entry .args .rows .now) (entry .args .image .now)) (at-data-set .data-set .ensures .bytes))), (rw (← at-read-head .read-head .ensures .0, at-from .from .given .1) (at-show-part .show-part .ensures .1 .0 ∙ ap (λ (x : List ℕ). bufferOf (readingOf x) (entry .args .rows .now)) (at-data-set .data-set .ensures .bytes)), rw (← at-read-head .read-head .ensures .0, at-from .from .given .1) (at-show-part .show-part .ensures .1 .1 ∙ ap (λ (x : List ℕ). imagePart x (part (entry .args .file .now) (at-from .from .given .0 .1 .0) (at-from .from .given .0 .1 .1 .0)) (entry .args .frame) (entry .args .rows .now) (entry .args .image .now)) (at-data-set .data-set .ensures .bytes))))
+    let entry = at-read-head .before .before .before .before in (
+      promised (rw (← at-read-head .read-head .ensures .0, at-from .from .given .1) (at-show-part .show-part .ensures .0
+          ∙ ap
+          (λ (x : List ℕ). showPart x (part (entry .args .file .now) (at-from .from .given .0 .1 .0) (at-from .from .given .0 .1 .1 .0))
+          (entry .args .frame) (entry .args .rows .now) (entry .args .image .now)) (at-data-set .data-set .ensures .bytes))),
+      (
+        rw (← at-read-head .read-head .ensures .0, at-from .from .given .1) (at-show-part .show-part .ensures .1 .0
+            ∙ ap (λ (x : List ℕ). bufferOf (readingOf x) (entry .args .rows .now)) (at-data-set .data-set .ensures .bytes)),
+        rw (← at-read-head .read-head .ensures .0, at-from .from .given .1) (at-show-part .show-part .ensures .1 .1
+            ∙ ap (λ (x : List ℕ).
+            imagePart x (part (entry .args .file .now) (at-from .from .given .0 .1 .0) (at-from .from .given .0 .1 .1 .0))
+            (entry .args .frame) (entry .args .rows .now) (entry .args .image .now)) (at-data-set .data-set .ensures .bytes)),
+      ),
+    )
 
 pub show-file-spec : {M : Type 1} → statement M
 show-file-spec =

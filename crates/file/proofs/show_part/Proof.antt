@@ -34,26 +34,34 @@ mul-end : tie.Need-mul-end
 mul-end c =
     let at-judge = c .before .before .before .before .before in
     let entry = at-judge .before .before .before .before .before .before in
-    let t = after.after-broken (entry .args .bytes .now) (entry .args .rows .now) (at-judge .judge .last .1 .0) (c .before .n .given .0 .0) (c .before .n .given .0 .1 .0) (c .before .n .given .0 .1 .1 .0) (sym (c .before .n .given .1) ∙ at-judge .judge .ensures .0 .same) (at-judge .judge .ensures .1) in
+    let t = after.after-broken (entry .args .bytes .now) (entry .args .rows .now) (at-judge .judge .last .1 .0) (c .before .n .given .0 .0)
+    (c .before .n .given .0 .1 .0) (c .before .n .given .0 .1 .1 .0) (sym (c .before .n .given .1) ∙ at-judge .judge .ensures .0 .same)
+    (at-judge .judge .ensures .1) in
     omega (arith, t .1 .size, t .1 .few, length-take-le (7 * c .before .n .given .0 .0) (at-judge .judge .last .1 .0) (t .0))
 
 slice-reshare-prefix-same-class : tie.Need-slice-reshare-prefix-same-class
 slice-reshare-prefix-same-class c =
     let at-judge = c .before .before .before .before .before in
     let entry = at-judge .before .before .before .before .before .before in
-    after.after-broken (entry .args .bytes .now) (entry .args .rows .now) (at-judge .judge .last .1 .0) (c .before .n .given .0 .0) (c .before .n .given .0 .1 .0) (c .before .n .given .0 .1 .1 .0) (sym (c .before .n .given .1) ∙ at-judge .judge .ensures .0 .same) (at-judge .judge .ensures .1) .0
+    after.after-broken (entry .args .bytes .now) (entry .args .rows .now) (at-judge .judge .last .1 .0) (c .before .n .given .0 .0)
+    (c .before .n .given .0 .1 .0) (c .before .n .given .0 .1 .1 .0) (sym (c .before .n .given .1) ∙ at-judge .judge .ensures .0 .same)
+    (at-judge .judge .ensures .1) .0
 
 slice-aggregate-same-class : tie.Need-slice-aggregate-same-class
 slice-aggregate-same-class c =
     let at-judge = c .before .before .before .before .before .before in
     let entry = at-judge .before .before .before .before .before .before in
-    sym (length-take-le _ _ (after.after-broken (entry .args .bytes .now) (entry .args .rows .now) (at-judge .judge .last .1 .0) (c .before .before .n .given .0 .0) (c .before .before .n .given .0 .1 .0) (c .before .before .n .given .0 .1 .1 .0) (sym (c .before .before .n .given .1) ∙ at-judge .judge .ensures .0 .same) (at-judge .judge .ensures .1) .0))
+    sym (length-take-le _ _ (after.after-broken (entry .args .bytes .now) (entry .args .rows .now) (at-judge .judge .last .1 .0)
+    (c .before .before .n .given .0 .0) (c .before .before .n .given .0 .1 .0) (c .before .before .n .given .0 .1 .1 .0)
+    (sym (c .before .before .n .given .1) ∙ at-judge .judge .ensures .0 .same) (at-judge .judge .ensures .1) .0))
 
 same-class-requires : tie.Need-same-class-requires
 same-class-requires c κs =
     let at-judge = c .before .before .before .before .before .before in
     let entry = at-judge .before .before .before .before .before .before in
-    after.after-broken (entry .args .bytes .now) (entry .args .rows .now) (at-judge .judge .last .1 .0) (c .before .before .n .given .0 .0) (c .before .before .n .given .0 .1 .0) (c .before .before .n .given .0 .1 .1 .0) (sym (c .before .before .n .given .1) ∙ at-judge .judge .ensures .0 .same) (at-judge .judge .ensures .1) .1
+    after.after-broken (entry .args .bytes .now) (entry .args .rows .now) (at-judge .judge .last .1 .0) (c .before .before .n .given .0 .0)
+    (c .before .before .n .given .0 .1 .0) (c .before .before .n .given .0 .1 .1 .0)
+    (sym (c .before .before .n .given .1) ∙ at-judge .judge .ensures .0 .same) (at-judge .judge .ensures .1) .1
 
 enum-known-n-2 : tie.Need-enum-known-n-2
 enum-known-n-2 c = search needs
@@ -62,40 +70,47 @@ mul-end-2 : tie.Need-mul-end-2
 mul-end-2 c =
     let at-judge = c .before .before .before .before .before in
     let entry = at-judge .before .before .before .before .before .before in
-    let t = after-judging (entry .args .bytes .now) (entry .args .rows .now) (at-judge .judge .last .1 .0) (c .before .n2 .given .0 .0) (sym (c .before .n2 .given .1) ∙ at-judge .judge .ensures .0 .same) (at-judge .judge .ensures .1) .0 in
+    let t = after-judging (entry .args .bytes .now) (entry .args .rows .now) (at-judge .judge .last .1 .0) (c .before .n2 .given .0 .0)
+    (sym (c .before .n2 .given .1) ∙ at-judge .judge .ensures .0 .same) (at-judge .judge .ensures .1) .0 in
     omega (arith, t .1 .size, t .1 .few, length-take-le (7 * c .before .n2 .given .0 .0) (at-judge .judge .last .1 .0) (t .0))
 
 slice-reshare-prefix-same-class-2 : tie.Need-slice-reshare-prefix-same-class-2
 slice-reshare-prefix-same-class-2 c =
     let at-judge = c .before .before .before .before .before in
     let entry = at-judge .before .before .before .before .before .before in
-    after-judging (entry .args .bytes .now) (entry .args .rows .now) (at-judge .judge .last .1 .0) (c .before .n2 .given .0 .0) (sym (c .before .n2 .given .1) ∙ at-judge .judge .ensures .0 .same) (at-judge .judge .ensures .1) .0 .0
+    after-judging (entry .args .bytes .now) (entry .args .rows .now) (at-judge .judge .last .1 .0) (c .before .n2 .given .0 .0)
+    (sym (c .before .n2 .given .1) ∙ at-judge .judge .ensures .0 .same) (at-judge .judge .ensures .1) .0 .0
 
 slice-aggregate-same-class-2 : tie.Need-slice-aggregate-same-class-2
 slice-aggregate-same-class-2 c =
     let at-judge = c .before .before .before .before .before .before in
     let entry = at-judge .before .before .before .before .before .before in
-    sym (length-take-le _ _ (after-judging (entry .args .bytes .now) (entry .args .rows .now) (at-judge .judge .last .1 .0) (c .before .before .n2 .given .0 .0) (sym (c .before .before .n2 .given .1) ∙ at-judge .judge .ensures .0 .same) (at-judge .judge .ensures .1) .0 .0))
+    sym (length-take-le _ _ (after-judging (entry .args .bytes .now) (entry .args .rows .now) (at-judge .judge .last .1 .0)
+    (c .before .before .n2 .given .0 .0) (sym (c .before .before .n2 .given .1) ∙ at-judge .judge .ensures .0 .same)
+    (at-judge .judge .ensures .1) .0 .0))
 
 same-class-requires-2 : tie.Need-same-class-requires-2
 same-class-requires-2 c κs =
     let at-judge = c .before .before .before .before .before .before in
     let entry = at-judge .before .before .before .before .before .before in
-    after-judging (entry .args .bytes .now) (entry .args .rows .now) (at-judge .judge .last .1 .0) (c .before .before .n2 .given .0 .0) (sym (c .before .before .n2 .given .1) ∙ at-judge .judge .ensures .0 .same) (at-judge .judge .ensures .1) .0 .1
+    after-judging (entry .args .bytes .now) (entry .args .rows .now) (at-judge .judge .last .1 .0) (c .before .before .n2 .given .0 .0)
+    (sym (c .before .before .n2 .given .1) ∙ at-judge .judge .ensures .0 .same) (at-judge .judge .ensures .1) .0 .1
 
 slice-reshare-prefix-show-table : tie.Need-slice-reshare-prefix-show-table
 slice-reshare-prefix-show-table c =
     let at-n2 = c .before .before .before .before in
     let at-judge = at-n2 .before .before .before .before in
     let entry = at-judge .before .before .before .before .before .before in
-    after-judging (entry .args .bytes .now) (entry .args .rows .now) (at-judge .judge .last .1 .0) (at-n2 .n2 .given .0 .0) (sym (at-n2 .n2 .given .1) ∙ at-judge .judge .ensures .0 .same) (at-judge .judge .ensures .1) .0 .0
+    after-judging (entry .args .bytes .now) (entry .args .rows .now) (at-judge .judge .last .1 .0) (at-n2 .n2 .given .0 .0)
+    (sym (at-n2 .n2 .given .1) ∙ at-judge .judge .ensures .0 .same) (at-judge .judge .ensures .1) .0 .0
 
 slice-aggregate-show-table : tie.Need-slice-aggregate-show-table
 slice-aggregate-show-table c =
     let at-n2 = c .before .before .before .before .before in
     let at-judge = at-n2 .before .before .before .before in
     let entry = at-judge .before .before .before .before .before .before in
-    sym (length-take-le _ _ (after-judging (entry .args .bytes .now) (entry .args .rows .now) (at-judge .judge .last .1 .0) (at-n2 .n2 .given .0 .0) (sym (at-n2 .n2 .given .1) ∙ at-judge .judge .ensures .0 .same) (at-judge .judge .ensures .1) .0 .0))
+    sym (length-take-le _ _ (after-judging (entry .args .bytes .now) (entry .args .rows .now) (at-judge .judge .last .1 .0)
+    (at-n2 .n2 .given .0 .0) (sym (at-n2 .n2 .given .1) ∙ at-judge .judge .ensures .0 .same) (at-judge .judge .ensures .1) .0 .0))
 
 show-table-requires : tie.Need-show-table-requires
 show-table-requires c κs =
@@ -103,7 +118,8 @@ show-table-requires c κs =
     let at-judge = at-n2 .before .before .before .before in
     let at-shared-slice-known = at-judge .before .before .before .before .before in
     let entry = at-shared-slice-known .before in
-    let t = after-judging (entry .args .bytes .now) (entry .args .rows .now) (at-judge .judge .last .1 .0) (at-n2 .n2 .given .0 .0) (sym (at-n2 .n2 .given .1) ∙ at-judge .judge .ensures .0 .same) (at-judge .judge .ensures .1) in
+    let t = after-judging (entry .args .bytes .now) (entry .args .rows .now) (at-judge .judge .last .1 .0) (at-n2 .n2 .given .0 .0)
+    (sym (at-n2 .n2 .given .1) ∙ at-judge .judge .ensures .0 .same) (at-judge .judge .ensures .1) in
     (t .0 .1, (λ i. omega (arith, at-shared-slice-known .shared-slice-known .given i), t .1))
 
 same-length : tie.Need-same-length
@@ -112,8 +128,17 @@ same-length c = search needs
 returns : tie.Need-returns
 returns c =
     let at-judge = c .before .before .before .before in
-    let entry = at-judge .before .before .before .before .before .before in
-    (after.part-shown (entry .args .bytes .now) (entry .args .class .now) (entry .args .frame) (entry .args .rows .now) (entry .args .image .now) judged.TooLarge (sym (c .enum-told .given .1) ∙ at-judge .judge .ensures .0 .same) (sameClass (entry .args .class .now) (nodesOf (entry .args .bytes .now))) refl, (at-judge .judge .ensures .1, after.part-image (entry .args .bytes .now) (entry .args .class .now) (entry .args .frame) (entry .args .rows .now) (entry .args .image .now) judged.TooLarge (sym (c .enum-told .given .1) ∙ at-judge .judge .ensures .0 .same) (sameClass (entry .args .class .now) (nodesOf (entry .args .bytes .now))) refl))
+    let entry = at-judge .before .before .before .before .before .before in (
+      after.part-shown (entry .args .bytes .now) (entry .args .class .now) (entry .args .frame) (entry .args .rows .now)
+          (entry .args .image .now) judged.TooLarge (sym (c .enum-told .given .1) ∙ at-judge .judge .ensures .0 .same)
+          (sameClass (entry .args .class .now) (nodesOf (entry .args .bytes .now))) refl,
+      (
+        at-judge .judge .ensures .1,
+        after.part-image (entry .args .bytes .now) (entry .args .class .now) (entry .args .frame) (entry .args .rows .now)
+            (entry .args .image .now) judged.TooLarge (sym (c .enum-told .given .1) ∙ at-judge .judge .ensures .0 .same)
+            (sameClass (entry .args .class .now) (nodesOf (entry .args .bytes .now))) refl,
+      ),
+    )
 
 same-length-2 : tie.Need-same-length-2
 same-length-2 c = search needs
@@ -121,8 +146,19 @@ same-length-2 c = search needs
 returns-2 : tie.Need-returns-2
 returns-2 c =
     let at-judge = c .before .before .before .before .before in
-    let entry = at-judge .before .before .before .before .before .before in
-    (after.part-shown (entry .args .bytes .now) (entry .args .class .now) (entry .args .frame) (entry .args .rows .now) (entry .args .image .now) (judged.Refused (c .before .code .given .0 .0) (c .before .code .given .0 .1 .0)) (sym (c .before .code .given .1) ∙ at-judge .judge .ensures .0 .same) (sameClass (entry .args .class .now) (nodesOf (entry .args .bytes .now))) refl, (at-judge .judge .ensures .1, after.part-image (entry .args .bytes .now) (entry .args .class .now) (entry .args .frame) (entry .args .rows .now) (entry .args .image .now) (judged.Refused (c .before .code .given .0 .0) (c .before .code .given .0 .1 .0)) (sym (c .before .code .given .1) ∙ at-judge .judge .ensures .0 .same) (sameClass (entry .args .class .now) (nodesOf (entry .args .bytes .now))) refl))
+    let entry = at-judge .before .before .before .before .before .before in (
+      after.part-shown (entry .args .bytes .now) (entry .args .class .now) (entry .args .frame) (entry .args .rows .now)
+          (entry .args .image .now) (judged.Refused (c .before .code .given .0 .0) (c .before .code .given .0 .1 .0))
+          (sym (c .before .code .given .1) ∙ at-judge .judge .ensures .0 .same)
+          (sameClass (entry .args .class .now) (nodesOf (entry .args .bytes .now))) refl,
+      (
+        at-judge .judge .ensures .1,
+        after.part-image (entry .args .bytes .now) (entry .args .class .now) (entry .args .frame) (entry .args .rows .now)
+            (entry .args .image .now) (judged.Refused (c .before .code .given .0 .0) (c .before .code .given .0 .1 .0))
+            (sym (c .before .code .given .1) ∙ at-judge .judge .ensures .0 .same)
+            (sameClass (entry .args .class .now) (nodesOf (entry .args .bytes .now))) refl,
+      ),
+    )
 
 same-length-3 : tie.Need-same-length-3
 same-length-3 c = search needs
@@ -130,8 +166,17 @@ same-length-3 c = search needs
 returns-3 : tie.Need-returns-3
 returns-3 c =
     let at-judge = c .before .before .before .before in
-    let entry = at-judge .before .before .before .before .before .before in
-    (after.part-shown (entry .args .bytes .now) (entry .args .class .now) (entry .args .frame) (entry .args .rows .now) (entry .args .image .now) judged.NoRoom (sym (c .enum-told2 .given .1) ∙ at-judge .judge .ensures .0 .same) (sameClass (entry .args .class .now) (nodesOf (entry .args .bytes .now))) refl, (at-judge .judge .ensures .1, after.part-image (entry .args .bytes .now) (entry .args .class .now) (entry .args .frame) (entry .args .rows .now) (entry .args .image .now) judged.NoRoom (sym (c .enum-told2 .given .1) ∙ at-judge .judge .ensures .0 .same) (sameClass (entry .args .class .now) (nodesOf (entry .args .bytes .now))) refl))
+    let entry = at-judge .before .before .before .before .before .before in (
+      after.part-shown (entry .args .bytes .now) (entry .args .class .now) (entry .args .frame) (entry .args .rows .now)
+          (entry .args .image .now) judged.NoRoom (sym (c .enum-told2 .given .1) ∙ at-judge .judge .ensures .0 .same)
+          (sameClass (entry .args .class .now) (nodesOf (entry .args .bytes .now))) refl,
+      (
+        at-judge .judge .ensures .1,
+        after.part-image (entry .args .bytes .now) (entry .args .class .now) (entry .args .frame) (entry .args .rows .now)
+            (entry .args .image .now) judged.NoRoom (sym (c .enum-told2 .given .1) ∙ at-judge .judge .ensures .0 .same)
+            (sameClass (entry .args .class .now) (nodesOf (entry .args .bytes .now))) refl,
+      ),
+    )
 
 same-length-4 : tie.Need-same-length-4
 same-length-4 c = search needs
@@ -140,8 +185,18 @@ returns-4 : tie.Need-returns-4
 returns-4 c =
     let at-n = c .before .before .before .before in
     let at-judge = at-n .before .before .before .before in
-    let entry = at-judge .before .before .before .before .before .before in
-    (after.part-shown (entry .args .bytes .now) (entry .args .class .now) (entry .args .frame) (entry .args .rows .now) (entry .args .image .now) (judged.Broken (at-n .n .given .0 .0) (at-n .n .given .0 .1 .0) (at-n .n .given .0 .1 .1 .0)) (sym (at-n .n .given .1) ∙ at-judge .judge .ensures .0 .same) true (sym (c .if1 .taken) ∙ c .before .same-class .ensures), (at-judge .judge .ensures .1, after.part-image (entry .args .bytes .now) (entry .args .class .now) (entry .args .frame) (entry .args .rows .now) (entry .args .image .now) (judged.Broken (at-n .n .given .0 .0) (at-n .n .given .0 .1 .0) (at-n .n .given .0 .1 .1 .0)) (sym (at-n .n .given .1) ∙ at-judge .judge .ensures .0 .same) true (sym (c .if1 .taken) ∙ c .before .same-class .ensures)))
+    let entry = at-judge .before .before .before .before .before .before in (
+      after.part-shown (entry .args .bytes .now) (entry .args .class .now) (entry .args .frame) (entry .args .rows .now)
+          (entry .args .image .now) (judged.Broken (at-n .n .given .0 .0) (at-n .n .given .0 .1 .0) (at-n .n .given .0 .1 .1 .0))
+          (sym (at-n .n .given .1) ∙ at-judge .judge .ensures .0 .same) true (sym (c .if1 .taken) ∙ c .before .same-class .ensures),
+      (
+        at-judge .judge .ensures .1,
+        after.part-image (entry .args .bytes .now) (entry .args .class .now) (entry .args .frame)
+            (entry .args .rows .now) (entry .args .image .now)
+            (judged.Broken (at-n .n .given .0 .0) (at-n .n .given .0 .1 .0) (at-n .n .given .0 .1 .1 .0))
+            (sym (at-n .n .given .1) ∙ at-judge .judge .ensures .0 .same) true (sym (c .if1 .taken) ∙ c .before .same-class .ensures),
+      ),
+    )
 
 same-length-5 : tie.Need-same-length-5
 same-length-5 c = search needs
@@ -150,8 +205,18 @@ returns-5 : tie.Need-returns-5
 returns-5 c =
     let at-n = c .before .before .before .before in
     let at-judge = at-n .before .before .before .before in
-    let entry = at-judge .before .before .before .before .before .before in
-    (after.part-shown (entry .args .bytes .now) (entry .args .class .now) (entry .args .frame) (entry .args .rows .now) (entry .args .image .now) (judged.Broken (at-n .n .given .0 .0) (at-n .n .given .0 .1 .0) (at-n .n .given .0 .1 .1 .0)) (sym (at-n .n .given .1) ∙ at-judge .judge .ensures .0 .same) false (sym (c .if1 .left) ∙ c .before .same-class .ensures), (at-judge .judge .ensures .1, after.part-image (entry .args .bytes .now) (entry .args .class .now) (entry .args .frame) (entry .args .rows .now) (entry .args .image .now) (judged.Broken (at-n .n .given .0 .0) (at-n .n .given .0 .1 .0) (at-n .n .given .0 .1 .1 .0)) (sym (at-n .n .given .1) ∙ at-judge .judge .ensures .0 .same) false (sym (c .if1 .left) ∙ c .before .same-class .ensures)))
+    let entry = at-judge .before .before .before .before .before .before in (
+      after.part-shown (entry .args .bytes .now) (entry .args .class .now) (entry .args .frame) (entry .args .rows .now)
+          (entry .args .image .now) (judged.Broken (at-n .n .given .0 .0) (at-n .n .given .0 .1 .0) (at-n .n .given .0 .1 .1 .0))
+          (sym (at-n .n .given .1) ∙ at-judge .judge .ensures .0 .same) false (sym (c .if1 .left) ∙ c .before .same-class .ensures),
+      (
+        at-judge .judge .ensures .1,
+        after.part-image (entry .args .bytes .now) (entry .args .class .now) (entry .args .frame)
+            (entry .args .rows .now) (entry .args .image .now)
+            (judged.Broken (at-n .n .given .0 .0) (at-n .n .given .0 .1 .0) (at-n .n .given .0 .1 .1 .0))
+            (sym (at-n .n .given .1) ∙ at-judge .judge .ensures .0 .same) false (sym (c .if1 .left) ∙ c .before .same-class .ensures),
+      ),
+    )
 
 same-length-6 : tie.Need-same-length-6
 same-length-6 c = search needs
@@ -167,8 +232,17 @@ returns-6 c =
     let at-judge = at-n2 .before .before .before .before in
     let entry = at-judge .before .before .before .before .before .before in
     let e = sym (at-n2 .n2 .given .1) ∙ at-judge .judge .ensures .0 .same in
-    let q = sym (at-if2 .if2 .taken) ∙ at-same-class2 .same-class2 .ensures in
-    (ap showFile.Shown (c .before .before .show-table .ensures .0) ∙ after.same-shown (entry .args .bytes .now) (entry .args .class .now) (entry .args .frame) (entry .args .rows .now) (entry .args .image .now) (at-n2 .n2 .given .0 .0) e q, (at-judge .judge .ensures .1, c .before .before .show-table .ensures .1 ∙ (ap (imageBy (pictureOf (nodesOf (entry .args .bytes .now)) (entry .args .frame)) (entry .args .image .now)) (c .before .before .show-table .ensures .0) ∙ after.same-image (entry .args .bytes .now) (entry .args .class .now) (entry .args .frame) (entry .args .rows .now) (entry .args .image .now) (at-n2 .n2 .given .0 .0) e q)))
+    let q = sym (at-if2 .if2 .taken) ∙ at-same-class2 .same-class2 .ensures in (
+      ap showFile.Shown (c .before .before .show-table .ensures .0) ∙ after.same-shown (entry .args .bytes .now)
+          (entry .args .class .now) (entry .args .frame) (entry .args .rows .now) (entry .args .image .now) (at-n2 .n2 .given .0 .0) e q,
+      (
+        at-judge .judge .ensures .1,
+        c .before .before .show-table .ensures .1
+            ∙ (ap (imageBy (pictureOf (nodesOf (entry .args .bytes .now)) (entry .args .frame)) (entry .args .image .now))
+            (c .before .before .show-table .ensures .0) ∙ after.same-image (entry .args .bytes .now) (entry .args .class .now)
+            (entry .args .frame) (entry .args .rows .now) (entry .args .image .now) (at-n2 .n2 .given .0 .0) e q),
+      ),
+    )
 
 same-length-8 : tie.Need-same-length-8
 same-length-8 c = search needs
@@ -179,8 +253,15 @@ returns-7 c =
     let at-judge = at-n2 .before .before .before .before in
     let entry = at-judge .before .before .before .before .before .before in
     let e = sym (at-n2 .n2 .given .1) ∙ at-judge .judge .ensures .0 .same in
-    let q = sym (c .if2 .left) ∙ c .before .same-class2 .ensures in
-    (after.other-shown (entry .args .bytes .now) (entry .args .class .now) (entry .args .frame) (entry .args .rows .now) (entry .args .image .now) (at-n2 .n2 .given .0 .0) e q, (at-judge .judge .ensures .1, after.other-image (entry .args .bytes .now) (entry .args .class .now) (entry .args .frame) (entry .args .rows .now) (entry .args .image .now) (at-n2 .n2 .given .0 .0) e q))
+    let q = sym (c .if2 .left) ∙ c .before .same-class2 .ensures in (
+      after.other-shown (entry .args .bytes .now) (entry .args .class .now) (entry .args .frame) (entry .args .rows .now)
+          (entry .args .image .now) (at-n2 .n2 .given .0 .0) e q,
+      (
+        at-judge .judge .ensures .1,
+        after.other-image (entry .args .bytes .now)
+            (entry .args .class .now) (entry .args .frame) (entry .args .rows .now) (entry .args .image .now) (at-n2 .n2 .given .0 .0) e q,
+      ),
+    )
 
 pub show-part-spec : {M : Type 1} → statement M
 show-part-spec =

@@ -23,7 +23,8 @@ part-result-end c = search needs
 
 returns : tie.Need-returns
 returns c =
-    let e : c .before .args .k * c .before .args .size + c .before .args .size - c .before .args .k * c .before .args .size ≡ c .before .args .size = omega arith in
+    let e : c .before .args .k * c .before .args .size + c .before .args .size - c .before .args .k * c .before .args .size
+    ≡ c .before .args .size = omega arith in
     record { inside = search needs; block = refl; place = omega arith; bytes = rw e }
 
 pub block-spec : {M : Type 1} → statement M

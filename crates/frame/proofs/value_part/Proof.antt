@@ -59,7 +59,8 @@ returns c =
     let entry = at-wider .before .before .before .before in
     let a = at-wider .wider .ensures ∙ node-laws.number _ _ (entry .pre .0) _ (entry .pre .1) 3 (omega arith) in
     let b = c .before .wider2 .ensures ∙ node-laws.number _ _ (entry .pre .0) _ (entry .pre .1) 4 (omega arith) in
-    laws.part-range _ _ _ _ _ _ a b refl (omega arith) refl (omega (arith, at-wider .wider .ensures, c .before .wider2 .ensures, node-laws.value-within _ _ (entry .pre .0) _ (entry .pre .1)))
+    laws.part-range _ _ _ _ _ _ a b refl (omega arith) refl
+    (omega (arith, at-wider .wider .ensures, c .before .wider2 .ensures, node-laws.value-within _ _ (entry .pre .0) _ (entry .pre .1)))
 
 pub value-part-spec : {M : Type 1} → statement M
 value-part-spec =

@@ -13,7 +13,8 @@ use Rattle.ids.proofs.are_unique_marks.Tie as tie
 
 abbrev Inv-loop : tie.InvT-loop
 Inv-loop bytes rows from to marks₀ at₀ marks at =
-    (length marks ≡ 65536) × (laws.fresh marks (idsOf (nodesOf bytes) (members (nodesOf bytes) at to)) ≡ uniqueIds (nodesOf bytes) (members (nodesOf bytes) from to))
+    (length marks ≡ 65536) × (laws.fresh marks (idsOf (nodesOf bytes) (members (nodesOf bytes) at to))
+    ≡ uniqueIds (nodesOf bytes) (members (nodesOf bytes) from to))
 
 abbrev μ-loop : tie.MeasureT-loop
 μ-loop bytes rows from to marks₀ at₀ marks at = to - at
@@ -34,7 +35,8 @@ array-read-if1 c = search needs
 returns : tie.Need-returns Inv-loop μ-loop
 returns c =
     let at-loop = c .before .before .before in
-    sym (laws.fresh-marked _ _ _ _ _ (c .before .id-of .ensures .0) (c .before .before .loop-test .taken) (c .if1 .taken)) ∙ at-loop .loop .inv .1
+    sym (laws.fresh-marked _ _ _ _ _ (c .before .id-of .ensures .0) (c .before .before .loop-test .taken) (c .if1 .taken))
+    ∙ at-loop .loop .inv .1
 
 array-write-marks : tie.Need-array-write-marks Inv-loop μ-loop
 array-write-marks c = search needs
@@ -48,8 +50,11 @@ loop-less c = search needs
 loop-again : tie.Need-loop-again Inv-loop μ-loop
 loop-again c =
     let at-loop-test = c .before .before .before in
-    let at-loop = at-loop-test .before in
-    (omega (arith, length-set (at-loop .loop .marks) (c .before .before .id-of .result) 1, at-loop .loop .inv .0), rw (c .next .ensures .0) (laws.fresh-later _ _ _ _ _ (c .before .before .id-of .ensures .0) (at-loop-test .loop-test .taken) (omega (arith, c .before .before .id-of .ensures .1, at-loop .loop .inv .0)) (c .before .if1 .left) ∙ at-loop .loop .inv .1))
+    let at-loop = at-loop-test .before in (
+      omega (arith, length-set (at-loop .loop .marks) (c .before .before .id-of .result) 1, at-loop .loop .inv .0),
+      rw (c .next .ensures .0) (laws.fresh-later _ _ _ _ _ (c .before .before .id-of .ensures .0) (at-loop-test .loop-test .taken)
+          (omega (arith, c .before .before .id-of .ensures .1, at-loop .loop .inv .0)) (c .before .if1 .left) ∙ at-loop .loop .inv .1),
+    )
 
 returns-2 : tie.Need-returns-2 Inv-loop μ-loop
 returns-2 c =

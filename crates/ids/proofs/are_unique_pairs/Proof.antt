@@ -32,7 +32,8 @@ returns c =
     let at-next = c .before .before .before in
     let at-loop-test = at-next .before in
     let at-loop = at-loop-test .before in
-    sym (laws.unique-twice _ _ _ _ _ (c .before .before .id-of .ensures .0) (at-next .next .ensures .0) (at-loop-test .loop-test .taken) (sym (c .before .is-among .ensures) ∙ c .if1 .taken)) ∙ at-loop .loop .inv
+    sym (laws.unique-twice _ _ _ _ _ (c .before .before .id-of .ensures .0) (at-next .next .ensures .0) (at-loop-test .loop-test .taken)
+    (sym (c .before .is-among .ensures) ∙ c .if1 .taken)) ∙ at-loop .loop .inv
 
 loop-less : tie.Need-loop-less Inv-loop μ-loop
 loop-less c = search needs
@@ -42,7 +43,8 @@ loop-again c =
     let at-next = c .before .before .before in
     let at-loop-test = at-next .before in
     let at-loop = at-loop-test .before in
-    sym (laws.unique-later _ _ _ _ _ (c .before .before .id-of .ensures .0) (at-next .next .ensures .0) (at-loop-test .loop-test .taken) (sym (c .before .is-among .ensures) ∙ c .if1 .left)) ∙ at-loop .loop .inv
+    sym (laws.unique-later _ _ _ _ _ (c .before .before .id-of .ensures .0) (at-next .next .ensures .0) (at-loop-test .loop-test .taken)
+    (sym (c .before .is-among .ensures) ∙ c .if1 .left)) ∙ at-loop .loop .inv
 
 returns-2 : tie.Need-returns-2 Inv-loop μ-loop
 returns-2 c =

@@ -25,7 +25,8 @@ id-of-requires c κs = search needs
 returns : tie.Need-returns Inv-loop μ-loop
 returns c =
     let at-loop = c .before .before .before in
-    sym (laws.among-here _ _ _ _ (c .before .before .loop-test .taken) (sym (c .before .id-of .ensures .0) ∙ c .if1 .taken)) ∙ at-loop .loop .inv
+    sym (laws.among-here _ _ _ _ (c .before .before .loop-test .taken) (sym (c .before .id-of .ensures .0) ∙ c .if1 .taken))
+    ∙ at-loop .loop .inv
 
 next-requires : tie.Need-next-requires Inv-loop μ-loop
 next-requires c κs = search needs
@@ -37,7 +38,9 @@ loop-again : tie.Need-loop-again Inv-loop μ-loop
 loop-again c =
     let at-loop-test = c .before .before .before in
     let at-loop = at-loop-test .before in
-    rw (c .next .ensures .0) (sym (laws.among-later _ _ _ _ (at-loop-test .loop-test .taken) (λ e. c .before .if1 .left (c .before .before .id-of .ensures .0 ∙ e))) ∙ at-loop .loop .inv)
+    rw (c .next .ensures .0) (sym
+    (laws.among-later _ _ _ _ (at-loop-test .loop-test .taken) (λ e. c .before .if1 .left (c .before .before .id-of .ensures .0 ∙ e)))
+    ∙ at-loop .loop .inv)
 
 returns-2 : tie.Need-returns-2 Inv-loop μ-loop
 returns-2 c =

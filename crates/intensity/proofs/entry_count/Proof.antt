@@ -15,8 +15,10 @@ returns c =
     (sym (laws.count-zero _ (sym (c .before .u16-at .ensures .0) ∙ c .if1 .taken)), omega arith)
 
 returns-2 : tie.Need-returns-2
-returns-2 c =
-    (sym (laws.count-some _ _ (c .before .u16-at .ensures .0) (ne-eqb _ _ (c .if1 .left))), (omega (arith, c .if1 .left), omega (arith, c .before .u16-at .ensures .1)))
+returns-2 c = (
+  sym (laws.count-some _ _ (c .before .u16-at .ensures .0) (ne-eqb _ _ (c .if1 .left))),
+  (omega (arith, c .if1 .left), omega (arith, c .before .u16-at .ensures .1)),
+)
 
 pub entry-count-spec : {M : Type 1} → statement M
 entry-count-spec = tie.close (tie.spec u16-at-requires returns returns-2)

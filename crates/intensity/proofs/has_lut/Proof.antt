@@ -17,7 +17,7 @@ enum-told c = search needs
 returns : tie.Need-returns
 unfolding hasLut
 returns c =
-    rw (node-laws.lacked (c .enum-told .given .1) (c .before .before .find-vr-item .ensures .0))
+    rw (node-laws.had-none (c .enum-told .given .1) (c .before .before .find-vr-item .ensures .0))
 
 find-vr-item-requires-2 : tie.Need-find-vr-item-requires-2
 find-vr-item-requires-2 c κs = search needs
@@ -33,7 +33,10 @@ unfolding hasLut
 returns-2 c =
     let at-d = c .before .before .before .before in
     let at-find-vr-item = at-d .before .before in
-    rw (node-laws.had (at-d .d .given .1) (at-find-vr-item .find-vr-item .ensures .0), node-laws.lacked (c .enum-told2 .given .1) (c .before .before .find-vr-item2 .ensures .0))
+    rw (
+      node-laws.had (at-d .d .given .1) (at-find-vr-item .find-vr-item .ensures .0),
+      node-laws.had-none (c .enum-told2 .given .1) (c .before .before .find-vr-item2 .ensures .0),
+    )
 
 value-requires : tie.Need-value-requires
 value-requires c κs =
@@ -58,7 +61,12 @@ returns-3 c =
     let at-find-vr-item2 = at-t .before .before in
     let at-d = at-find-vr-item2 .before .before in
     let at-find-vr-item = at-d .before .before in
-    rw (node-laws.had (at-d .d .given .1) (at-find-vr-item .find-vr-item .ensures .0), node-laws.had (at-t .t .given .1) (at-find-vr-item2 .find-vr-item2 .ensures .0), ← c .before .before .value .ensures, ← c .before .value2 .ensures) (c .is-lut .ensures)
+    rw (
+      node-laws.had (at-d .d .given .1) (at-find-vr-item .find-vr-item .ensures .0),
+      node-laws.had (at-t .t .given .1) (at-find-vr-item2 .find-vr-item2 .ensures .0),
+      ← c .before .before .value .ensures,
+      ← c .before .value2 .ensures,
+    ) (c .is-lut .ensures)
 
 pub has-lut-spec : {M : Type 1} → statement M
 has-lut-spec =

@@ -18,7 +18,12 @@ returns : tie.Need-returns
 unfolding isLut
 returns c =
     let at-if1 = c .before .before .before in
-    rw (eq-eqb _ _ (at-if1 .if1 .taken), ← c .before .before .u16-at .ensures .0, eq-eqb _ _ (c .before .if2 .taken), ← c .entry-count .ensures .0)
+    rw (
+      eq-eqb _ _ (at-if1 .if1 .taken),
+      ← c .before .before .u16-at .ensures .0,
+      eq-eqb _ _ (c .before .if2 .taken),
+      ← c .entry-count .ensures .0,
+    )
 
 returns-2 : tie.Need-returns-2
 unfolding isLut

@@ -21,7 +21,8 @@ returns : tie.Need-returns
 returns c =
     let at-if1 = c .before .before .before in
     let at-next-linear = at-if1 .before in
-    sym (laws.luts-more _ _ _ _ (at-next-linear .next-linear .ensures) _ _ (at-if1 .if1 .taken) (c .before .before .next .ensures .0) (c .before .next-linear2 .ensures) (c .if2 .taken))
+    sym (laws.luts-more _ _ _ _ (at-next-linear .next-linear .ensures) _ _ (at-if1 .if1 .taken) (c .before .before .next .ensures .0)
+    (c .before .next-linear2 .ensures) (c .if2 .taken))
 
 returns-2 : tie.Need-returns-2
 returns-2 c =
@@ -29,7 +30,9 @@ returns-2 c =
     let at-next = at-next-linear2 .before in
     let at-if1 = at-next .before in
     let at-next-linear = at-if1 .before in
-    sym (rw (laws.only _ _ _ _ (at-next-linear .next-linear .ensures) _ _ (at-if1 .if1 .taken) (at-next .next .ensures .0) (at-next-linear2 .next-linear2 .ensures) (c .before .before .if2 .left)) (laws.luts-yes _ _ (sym (c .before .has-lut .ensures) ∙ c .if3 .taken)))
+    sym (rw (laws.only _ _ _ _ (at-next-linear .next-linear .ensures) _ _ (at-if1 .if1 .taken) (at-next .next .ensures .0)
+    (at-next-linear2 .next-linear2 .ensures) (c .before .before .if2 .left))
+    (laws.luts-yes _ _ (sym (c .before .has-lut .ensures) ∙ c .if3 .taken)))
 
 returns-3 : tie.Need-returns-3
 returns-3 c =
@@ -37,7 +40,9 @@ returns-3 c =
     let at-next = at-next-linear2 .before in
     let at-if1 = at-next .before in
     let at-next-linear = at-if1 .before in
-    sym (rw (laws.only _ _ _ _ (at-next-linear .next-linear .ensures) _ _ (at-if1 .if1 .taken) (at-next .next .ensures .0) (at-next-linear2 .next-linear2 .ensures) (c .before .before .if2 .left)) (laws.luts-no _ _ (sym (c .before .has-lut .ensures) ∙ c .if3 .left)))
+    sym (rw (laws.only _ _ _ _ (at-next-linear .next-linear .ensures) _ _ (at-if1 .if1 .taken) (at-next .next .ensures .0)
+    (at-next-linear2 .next-linear2 .ensures) (c .before .before .if2 .left))
+    (laws.luts-no _ _ (sym (c .before .has-lut .ensures) ∙ c .if3 .left)))
 
 returns-4 : tie.Need-returns-4
 returns-4 c =

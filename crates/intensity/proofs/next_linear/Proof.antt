@@ -43,7 +43,9 @@ loop-again : tie.Need-loop-again Inv-loop μ-loop
 loop-again c =
     let at-loop-test = c .before .before .before in
     let at-loop = at-loop-test .before in
-    rw (c .next .ensures .0) (sym (laws.linear-later _ _ _ (at-loop-test .loop-test .taken) (sym (c .before .before .is-linear .ensures) ∙ c .before .if1 .left)) ∙ at-loop .loop .inv)
+    rw (c .next .ensures .0)
+    (sym (laws.linear-later _ _ _ (at-loop-test .loop-test .taken) (sym (c .before .before .is-linear .ensures) ∙ c .before .if1 .left))
+    ∙ at-loop .loop .inv)
 
 returns-2 : tie.Need-returns-2 Inv-loop μ-loop
 returns-2 c =

@@ -28,21 +28,31 @@ is-cs-item-requires c κs =
 returns : tie.Need-returns
 unfolding relationOf
 returns c =
-    rw (← element-laws.one-item-not _ _ (node-laws.lacked (c .enum-told .given .1) (c .before .before .the-item .ensures .0)))
+    rw (← element-laws.one-item-not _ _ (node-laws.had-none (c .enum-told .given .1) (c .before .before .the-item .ensures .0)))
 
 returns-2 : tie.Need-returns-2
 unfolding relationOf isLog
 returns-2 c =
     let at-j = c .before .before .before .before in
     let at-the-item = at-j .before .before in
-    rw (← element-laws.one-item-is _ _ _ (node-laws.had (at-j .j .given .1) (at-the-item .the-item .ensures .0)), node-laws.had (at-j .j .given .1) (at-the-item .the-item .ensures .0), ← c .before .is-cs-item .ensures, c .if1 .taken)
+    rw (
+      ← element-laws.one-item-is _ _ _ (node-laws.had (at-j .j .given .1) (at-the-item .the-item .ensures .0)),
+      node-laws.had (at-j .j .given .1) (at-the-item .the-item .ensures .0),
+      ← c .before .is-cs-item .ensures,
+      c .if1 .taken,
+    )
 
 returns-3 : tie.Need-returns-3
 unfolding relationOf isLog
 returns-3 c =
     let at-j = c .before .before .before .before in
     let at-the-item = at-j .before .before in
-    rw (← element-laws.one-item-is _ _ _ (node-laws.had (at-j .j .given .1) (at-the-item .the-item .ensures .0)), node-laws.had (at-j .j .given .1) (at-the-item .the-item .ensures .0), ← c .before .is-cs-item .ensures, c .if1 .left)
+    rw (
+      ← element-laws.one-item-is _ _ _ (node-laws.had (at-j .j .given .1) (at-the-item .the-item .ensures .0)),
+      node-laws.had (at-j .j .given .1) (at-the-item .the-item .ensures .0),
+      ← c .before .is-cs-item .ensures,
+      c .if1 .left,
+    )
 
 pub relation-of-spec : {M : Type 1} → statement M
 relation-of-spec =

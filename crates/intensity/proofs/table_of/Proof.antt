@@ -24,7 +24,12 @@ unfolding tableOf isLutGroup hasLinear lutsOf
 returns c =
     let at-if1 = c .before .before .before in
     let at-vr = at-if1 .before in
-    rw (← at-vr .vr .ensures, eq-eqb _ _ (at-if1 .if1 .taken), ← c .before .before .next .ensures .0, members-some _ _ _ (c .before .if2 .taken)) (c .luts-of .ensures)
+    rw (
+      ← at-vr .vr .ensures,
+      eq-eqb _ _ (at-if1 .if1 .taken),
+      ← c .before .before .next .ensures .0,
+      members-some _ _ _ (c .before .if2 .taken),
+    ) (c .luts-of .ensures)
 
 returns-2 : tie.Need-returns-2
 unfolding tableOf isLutGroup

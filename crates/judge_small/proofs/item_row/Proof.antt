@@ -36,7 +36,10 @@ returns-3 : tie.Need-returns-3
 returns-3 c =
     let at-if1 = c .before .before .before in
     let entry = at-if1 .before .before .before in
-    rw (ne-eqb (entry .args .frame) 0 (at-if1 .if1 .left), node-laws.lacked (c .enum-told .given .1) (c .before .before .item-at .ensures .0))
+    rw (
+      ne-eqb (entry .args .frame) 0 (at-if1 .if1 .left),
+      node-laws.had-none (c .enum-told .given .1) (c .before .before .item-at .ensures .0),
+    )
 
 pub item-row-spec : {M : Type 1} → statement M
 item-row-spec =

@@ -26,12 +26,14 @@ returns : tie.Need-returns
 returns c =
     let at-row-buffer = c .before .before .before .before in
     let entry = at-row-buffer .before .before in
-    laws.not-broken (nodesOf (entry .args .bytes .now)) (c .before .before .judge .result) (c .match .keys2) ∙ laws.roomy-located _ _ (omega (arith, at-row-buffer .row-buffer .ensures, entry .pre)) _ (c .before .before .judge .ensures .0 .same)
+    laws.not-broken (nodesOf (entry .args .bytes .now)) (c .before .before .judge .result) (c .match .keys2) ∙ laws.roomy-located _ _
+    (omega (arith, at-row-buffer .row-buffer .ensures, entry .pre)) _ (c .before .before .judge .ensures .0 .same)
 
 mul-end : tie.Need-mul-end
 mul-end c =
     let at-judge = c .before .before .before .before in
-    let t = laws.after-broken _ _ _ _ _ _ (sym (c .before .answer .given .1) ∙ at-judge .judge .ensures .0 .same) (at-judge .judge .ensures .1) in
+    let t = laws.after-broken _ _ _ _ _ _ (sym (c .before .answer .given .1) ∙ at-judge .judge .ensures .0 .same)
+    (at-judge .judge .ensures .1) in
     omega (arith, t .1 .size, t .1 .few, length-take-le (7 * c .before .answer .given .0 .0) (at-judge .judge .last .1 .0) (t .0))
 
 array-share-prefix-rows : tie.Need-array-share-prefix-rows
@@ -42,12 +44,14 @@ array-share-prefix-rows c =
 slice-aggregate-broken-at : tie.Need-slice-aggregate-broken-at
 slice-aggregate-broken-at c =
     let at-judge = c .before .before .before .before .before in
-    sym (length-take-le _ _ (laws.after-broken _ _ _ _ _ _ (sym (c .before .before .answer .given .1) ∙ at-judge .judge .ensures .0 .same) (at-judge .judge .ensures .1) .0))
+    sym (length-take-le _ _ (laws.after-broken _ _ _ _ _ _ (sym (c .before .before .answer .given .1) ∙ at-judge .judge .ensures .0 .same)
+    (at-judge .judge .ensures .1) .0))
 
 broken-at-requires : tie.Need-broken-at-requires
 broken-at-requires c κs =
     let at-judge = c .before .before .before .before .before in
-    laws.after-broken _ _ _ _ _ _ (sym (c .before .before .answer .given .1) ∙ at-judge .judge .ensures .0 .same) (at-judge .judge .ensures .1) .1
+    laws.after-broken _ _ _ _ _ _ (sym (c .before .before .answer .given .1) ∙ at-judge .judge .ensures .0 .same)
+    (at-judge .judge .ensures .1) .1
 
 returns-2 : tie.Need-returns-2
 returns-2 c =
@@ -55,7 +59,8 @@ returns-2 c =
     let at-judge = at-answer .before .before .before in
     let at-row-buffer = at-judge .before .before in
     let entry = at-row-buffer .before .before in
-    c .broken-at .ensures ∙ laws.roomy-located _ _ (omega (arith, at-row-buffer .row-buffer .ensures, entry .pre)) _ (sym (at-answer .answer .given .1) ∙ at-judge .judge .ensures .0 .same)
+    c .broken-at .ensures ∙ laws.roomy-located _ _ (omega (arith, at-row-buffer .row-buffer .ensures, entry .pre)) _
+    (sym (at-answer .answer .given .1) ∙ at-judge .judge .ensures .0 .same)
 
 pub judge-located-spec : {M : Type 1} → statement M
 judge-located-spec =

@@ -40,8 +40,10 @@ returns-2 c =
 returns-3 : tie.Need-returns-3
 unfolding linearFor
 returns-3 c =
-    let at-group-for = c .before .before .before .before in
-    (rw (steps-laws.said foundOf (c .before .before .g .given .1) (at-group-for .group-for .ensures .0)) (c .linear-on .ensures .0), c .linear-on .ensures .1)
+    let at-group-for = c .before .before .before .before in (
+      rw (steps-laws.said foundOf (c .before .before .g .given .1) (at-group-for .group-for .ensures .0)) (c .linear-on .ensures .0),
+      c .linear-on .ensures .1,
+    )
 
 pub linear-for-spec : {M : Type 1} → statement M
 linear-for-spec =

@@ -21,14 +21,28 @@ next-linear-requires c κs = search needs
 returns : tie.Need-returns
 returns c =
     let at-if1 = c .before .before .before in
-    let at-vr = at-if1 .before in
-    (rw (← at-vr .vr .ensures, eq-eqb _ _ (at-if1 .if1 .taken), ← c .before .before .next .ensures .0, laws.first-here _ _ _ _ (c .before .next-linear .ensures) (c .if2 .taken)), omega (arith, c .before .before .next .ensures .1, c .if2 .taken))
+    let at-vr = at-if1 .before in (
+      rw (
+        ← at-vr .vr .ensures,
+        eq-eqb _ _ (at-if1 .if1 .taken),
+        ← c .before .before .next .ensures .0,
+        laws.first-here _ _ _ _ (c .before .next-linear .ensures) (c .if2 .taken),
+      ),
+      omega (arith, c .before .before .next .ensures .1, c .if2 .taken),
+    )
 
 returns-2 : tie.Need-returns-2
 returns-2 c =
     let at-if1 = c .before .before .before in
-    let at-vr = at-if1 .before in
-    (rw (← at-vr .vr .ensures, eq-eqb _ _ (at-if1 .if1 .taken), ← c .before .before .next .ensures .0, laws.first-none _ _ _ _ (c .before .next-linear .ensures) (c .if2 .left)), tt)
+    let at-vr = at-if1 .before in (
+      rw (
+        ← at-vr .vr .ensures,
+        eq-eqb _ _ (at-if1 .if1 .taken),
+        ← c .before .before .next .ensures .0,
+        laws.first-none _ _ _ _ (c .before .next-linear .ensures) (c .if2 .left),
+      ),
+      tt,
+    )
 
 returns-3 : tie.Need-returns-3
 returns-3 c =

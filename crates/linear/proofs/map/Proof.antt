@@ -21,7 +21,8 @@ enum-told c = search needs
 returns : tie.Need-returns
 returns c =
     let entry = c .before .before .before .before .before .before in
-    absurd (maps.no-geometry _ _ _ _ (entry .pre .1 .1) (steps-laws.said sizedOf (c .enum-told .given .1) (c .before .before .geometry-of .ensures .0)))
+    absurd (maps.no-geometry _ _ _ _ (entry .pre .1 .1)
+    (steps-laws.said sizedOf (c .enum-told .given .1) (c .before .before .geometry-of .ensures .0)))
 
 pixel-element-requires : tie.Need-pixel-element-requires
 pixel-element-requires c κs = search needs
@@ -35,7 +36,8 @@ enum-told-2 c = search needs
 returns-2 : tie.Need-returns-2
 returns-2 c =
     let entry = c .before .before .before .before .before .before .before .before .before .before in
-    absurd (maps.no-pixels _ _ _ _ (entry .pre .1 .1) (steps-laws.said (valueIn (nodesOf (entry .args .bytes .now))) (c .enum-told2 .given .1) (c .before .before .pixel-element .ensures .0)))
+    absurd (maps.no-pixels _ _ _ _ (entry .pre .1 .1) (steps-laws.said (valueIn (nodesOf (entry .args .bytes .now)))
+    (c .enum-told2 .given .1) (c .before .before .pixel-element .ensures .0)))
 
 find-vr-item-requires : tie.Need-find-vr-item-requires
 find-vr-item-requires c κs = search needs
@@ -49,7 +51,8 @@ enum-told-3 c = search needs
 returns-3 : tie.Need-returns-3
 returns-3 c =
     let entry = c .before .before .before .before .before .before .before .before .before .before .before .before .before .before in
-    absurd (maps.no-descriptor _ _ _ _ (entry .pre .1 .1) (node-laws.lacked (c .enum-told3 .given .1) (c .before .before .find-vr-item .ensures .0)))
+    absurd (maps.no-descriptor _ _ _ _ (entry .pre .1 .1)
+    (node-laws.had-none (c .enum-told3 .given .1) (c .before .before .find-vr-item .ensures .0)))
 
 find-vr-item-requires-2 : tie.Need-find-vr-item-requires-2
 find-vr-item-requires-2 c κs = search needs
@@ -65,7 +68,8 @@ returns-4 c =
     let at-d = c .before .before .before .before in
     let at-find-vr-item = at-d .before .before in
     let entry = at-find-vr-item .before .before .before .before .before .before .before .before .before .before .before .before in
-    absurd (maps.no-data _ _ _ _ (entry .pre .1 .1) _ (node-laws.had (at-d .d .given .1) (at-find-vr-item .find-vr-item .ensures .0)) (node-laws.lacked (c .enum-told4 .given .1) (c .before .before .find-vr-item2 .ensures .0)))
+    absurd (maps.no-data _ _ _ _ (entry .pre .1 .1) _ (node-laws.had (at-d .d .given .1) (at-find-vr-item .find-vr-item .ensures .0))
+    (node-laws.had-none (c .enum-told4 .given .1) (c .before .before .find-vr-item2 .ensures .0)))
 
 value-requires : tie.Need-value-requires
 value-requires c κs =
@@ -100,7 +104,11 @@ map-cells-requires c κs =
     let at-g = at-pixel-element .before .before in
     let at-geometry-of = at-g .before .before in
     let entry = at-geometry-of .before .before .before .before in
-    rw (at-value .value .ensures, c .before .before .value2 .ensures, c .before .value3 .ensures) (maps.ready _ _ _ _ (entry .pre .1 .1) _ _ _ _ (steps-laws.said sizedOf (at-g .g .given .1) (at-geometry-of .geometry-of .ensures .0)) (steps-laws.said (valueIn (nodesOf (entry .args .bytes .now))) (at-p .p .given .1) (at-pixel-element .pixel-element .ensures .0)) (node-laws.had (at-d .d .given .1) (at-find-vr-item .find-vr-item .ensures .0)) (node-laws.had (at-t .t .given .1) (at-find-vr-item2 .find-vr-item2 .ensures .0)) (entry .args .values .now) refl)
+    rw (at-value .value .ensures, c .before .before .value2 .ensures, c .before .value3 .ensures) (maps.ready _ _ _ _ (entry .pre .1 .1) _ _
+    _ _ (steps-laws.said sizedOf (at-g .g .given .1) (at-geometry-of .geometry-of .ensures .0))
+    (steps-laws.said (valueIn (nodesOf (entry .args .bytes .now))) (at-p .p .given .1) (at-pixel-element .pixel-element .ensures .0))
+    (node-laws.had (at-d .d .given .1) (at-find-vr-item .find-vr-item .ensures .0))
+    (node-laws.had (at-t .t .given .1) (at-find-vr-item2 .find-vr-item2 .ensures .0)) (entry .args .values .now) refl)
 
 same-length : tie.Need-same-length
 same-length c = search needs
@@ -119,7 +127,12 @@ returns-5 c =
     let at-g = at-pixel-element .before .before in
     let at-geometry-of = at-g .before .before in
     let entry = at-geometry-of .before .before .before .before in
-    c .before .before .map-cells .ensures ∙ rw (at-value .value .ensures, at-value2 .value2 .ensures, at-value3 .value3 .ensures) (maps.leaves _ _ _ _ (entry .pre .1 .1) _ _ _ _ (steps-laws.said sizedOf (at-g .g .given .1) (at-geometry-of .geometry-of .ensures .0)) (steps-laws.said (valueIn (nodesOf (entry .args .bytes .now))) (at-p .p .given .1) (at-pixel-element .pixel-element .ensures .0)) (node-laws.had (at-d .d .given .1) (at-find-vr-item .find-vr-item .ensures .0)) (node-laws.had (at-t .t .given .1) (at-find-vr-item2 .find-vr-item2 .ensures .0)) (entry .args .values .now) refl)
+    c .before .before .map-cells .ensures ∙ rw (at-value .value .ensures, at-value2 .value2 .ensures, at-value3 .value3 .ensures)
+    (maps.leaves _ _ _ _ (entry .pre .1 .1) _ _ _ _
+    (steps-laws.said sizedOf (at-g .g .given .1) (at-geometry-of .geometry-of .ensures .0))
+    (steps-laws.said (valueIn (nodesOf (entry .args .bytes .now))) (at-p .p .given .1) (at-pixel-element .pixel-element .ensures .0))
+    (node-laws.had (at-d .d .given .1) (at-find-vr-item .find-vr-item .ensures .0))
+    (node-laws.had (at-t .t .given .1) (at-find-vr-item2 .find-vr-item2 .ensures .0)) (entry .args .values .now) refl)
 
 pub map-spec : {M : Type 1} → statement M
 map-spec =

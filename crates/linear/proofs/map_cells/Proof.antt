@@ -33,7 +33,10 @@ sub-first c =
 mul-first : tie.Need-mul-first Inv-loop μ-loop
 mul-first c =
     let entry = c .before .before .before .before .before in
-    omega (arith, native-run (entry .args .g) (entry .args .pixels .now) (entry .args .frame) (entry .pre .shape .width) (entry .pre .inside) .1)
+    omega (
+      arith,
+      native-run (entry .args .g) (entry .args .pixels .now) (entry .args .frame) (entry .pre .shape .width) (entry .pre .inside) .1,
+    )
 
 power-requires : tie.Need-power-requires Inv-loop μ-loop
 power-requires c κs =
@@ -63,7 +66,11 @@ loop-holds c =
 add-sample : tie.Need-add-sample Inv-loop μ-loop
 add-sample c =
     let entry = c .before .before .before .before .before .before .before .before .before .before in
-    omega (arith, native-run (entry .args .g) (entry .args .pixels .now) (entry .args .frame) (entry .pre .shape .width) (entry .pre .inside) .0 (c .before .loop .i) (c .loop-test .taken) .1)
+    omega (
+      arith,
+      native-run (entry .args .g) (entry .args .pixels .now) (entry .args .frame) (entry .pre .shape .width)
+          (entry .pre .inside) .0 (c .before .loop .i) (c .loop-test .taken) .1,
+    )
 
 sample-requires : tie.Need-sample-requires Inv-loop μ-loop
 sample-requires c κs =
@@ -72,7 +79,8 @@ sample-requires c κs =
     record {
       width = entry .pre .shape .width;
       kept = ap (λ (x : ℕ). x - 1) (at-power .power .ensures);
-      inside = native-run (entry .args .g) (entry .args .pixels .now) (entry .args .frame) (entry .pre .shape .width) (entry .pre .inside) .0 (c .before .loop .i) (c .loop-test .taken) .0;
+      inside = native-run (entry .args .g) (entry .args .pixels .now) (entry .args .frame) (entry .pre .shape .width)
+          (entry .pre .inside) .0 (c .before .loop .i) (c .loop-test .taken) .0;
     }
 
 place-requires : tie.Need-place-requires Inv-loop μ-loop
@@ -115,8 +123,17 @@ loop-again c =
     let at-loop = at-loop-test .before in
     let at-entry-count = at-loop .before in
     let at-u16-at = at-entry-count .before in
-    let entry-2 = at-u16-at .before .before .before .before .before .before .before in
-    (omega (arith, at-loop-test .loop-test .taken), rw (at-loop .loop .inv .1, laws.cell-entry (entry-2 .args .g) (entry-2 .args .pixels .now) (entry-2 .args .frame) (entry-2 .args .descriptor .now) (entry-2 .args .entries .now) (at-loop .loop .i) _ _ _ _ _ (c .before .before .sample .ensures .0) (at-u16-at .u16-at .ensures .0) (at-entry-count .entry-count .ensures .0) (c .before .place .ensures .0) (c .entry .ensures)) (painted-more _ _ _))
+    let entry-2 = at-u16-at .before .before .before .before .before .before .before in (
+      omega (arith, at-loop-test .loop-test .taken),
+      rw (
+        at-loop .loop .inv .1,
+        laws.cell-entry (entry-2 .args .g) (entry-2 .args .pixels .now) (entry-2 .args .frame)
+            (entry-2 .args .descriptor .now) (entry-2 .args .entries .now) (at-loop .loop .i) _ _ _ _ _
+            (c .before .before .sample .ensures .0)
+            (at-u16-at .u16-at .ensures .0) (at-entry-count .entry-count .ensures .0) (c .before .place .ensures .0) (c .entry .ensures),
+      )
+          (painted-more _ _ _),
+    )
 
 same-length : tie.Need-same-length Inv-loop μ-loop
 same-length c =

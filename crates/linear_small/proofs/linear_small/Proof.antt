@@ -30,30 +30,35 @@ returns c =
     let at-linear = c .before .before .before .before in
     let at-row-buffer = at-linear .before .before .before in
     let entry = at-row-buffer .before .before .before in
-    let t = laws.roomy-mapped _ _ _ _ (omega (arith, at-row-buffer .row-buffer .ensures, entry .pre)) _ _ (at-linear .linear .ensures .0 .same) (at-linear .linear .ensures .1 .1) in
+    let t = laws.roomy-mapped _ _ _ _ (omega (arith, at-row-buffer .row-buffer .ensures, entry .pre)) _ _
+    (at-linear .linear .ensures .0 .same) (at-linear .linear .ensures .1 .1) in
     let e = laws.not-mapped (nodesOf (entry .args .bytes .now)) (at-linear .linear .result) (c .match .keys2) ∙ t .0 in
     (e, (t .1, laws.fits _ _ _ _ e))
 
 mul-end : tie.Need-mul-end
 mul-end c =
     let at-linear = c .before .before .before .before .before .before in
-    let t = laws.after-mapping _ _ _ _ _ _ (sym (c .before .answer .given .1) ∙ at-linear .linear .ensures .0 .same) (at-linear .linear .ensures .1 .0) in
+    let t = laws.after-mapping _ _ _ _ _ _ (sym (c .before .answer .given .1) ∙ at-linear .linear .ensures .0 .same)
+    (at-linear .linear .ensures .1 .0) in
     omega (arith, t .1 .size, t .1 .few, length-take-le (7 * c .before .answer .given .0 .0) (at-linear .linear .last .1 .1 .0) (t .0))
 
 array-share-prefix-rows : tie.Need-array-share-prefix-rows
 array-share-prefix-rows c =
     let at-linear = c .before .before .before .before .before .before in
-    laws.after-mapping _ _ _ _ _ _ (sym (c .before .answer .given .1) ∙ at-linear .linear .ensures .0 .same) (at-linear .linear .ensures .1 .0) .0
+    laws.after-mapping _ _ _ _ _ _ (sym (c .before .answer .given .1) ∙ at-linear .linear .ensures .0 .same)
+    (at-linear .linear .ensures .1 .0) .0
 
 slice-aggregate-with-size : tie.Need-slice-aggregate-with-size
 slice-aggregate-with-size c =
     let at-linear = c .before .before .before .before .before .before .before in
-    sym (length-take-le _ _ (laws.after-mapping _ _ _ _ _ _ (sym (c .before .before .answer .given .1) ∙ at-linear .linear .ensures .0 .same) (at-linear .linear .ensures .1 .0) .0))
+    sym (length-take-le _ _ (laws.after-mapping _ _ _ _ _ _
+    (sym (c .before .before .answer .given .1) ∙ at-linear .linear .ensures .0 .same) (at-linear .linear .ensures .1 .0) .0))
 
 with-size-requires : tie.Need-with-size-requires
 with-size-requires c κs =
     let at-linear = c .before .before .before .before .before .before .before in
-    laws.after-mapping _ _ _ _ _ _ (sym (c .before .before .answer .given .1) ∙ at-linear .linear .ensures .0 .same) (at-linear .linear .ensures .1 .0) .1
+    laws.after-mapping _ _ _ _ _ _ (sym (c .before .before .answer .given .1) ∙ at-linear .linear .ensures .0 .same)
+    (at-linear .linear .ensures .1 .0) .1
 
 same-length-2 : tie.Need-same-length-2
 same-length-2 c = search needs
@@ -64,7 +69,8 @@ returns-2 c =
     let at-linear = at-answer .before .before .before .before .before in
     let at-row-buffer = at-linear .before .before .before in
     let entry = at-row-buffer .before .before .before in
-    let t = laws.roomy-mapped _ _ _ _ (omega (arith, at-row-buffer .row-buffer .ensures, entry .pre)) _ _ (sym (at-answer .answer .given .1) ∙ at-linear .linear .ensures .0 .same) (at-linear .linear .ensures .1 .1) in
+    let t = laws.roomy-mapped _ _ _ _ (omega (arith, at-row-buffer .row-buffer .ensures, entry .pre)) _ _
+    (sym (at-answer .answer .given .1) ∙ at-linear .linear .ensures .0 .same) (at-linear .linear .ensures .1 .1) in
     let e = c .with-size .ensures ∙ t .0 in
     (e, (t .1, laws.fits _ _ _ _ e))
 

@@ -60,8 +60,18 @@ shade-requires : tie.Need-shade-requires Inv-loop μ-loop
 shade-requires c κs =
     let at-power2 = c .before .before .before in
     let at-power = at-power2 .before in
-    let entry = at-power .before .before in
-    (entry .pre .0, omega (arith, at-power .power .ensures .1 .1, at-power2 .power2 .ensures .1 .1, c .before .before .power3 .ensures .1 .1, c .loop-test .taken, power-small (entry .args .stored - 1) 15 (omega arith), at-power .power .ensures .0))
+    let entry = at-power .before .before in (
+      entry .pre .0,
+      omega (
+        arith,
+        at-power .power .ensures .1 .1,
+        at-power2 .power2 .ensures .1 .1,
+        c .before .before .power3 .ensures .1 .1,
+        c .loop-test .taken,
+        power-small (entry .args .stored - 1) 15 (omega arith),
+        at-power .power .ensures .0,
+      ),
+    )
 
 slice-write-table : tie.Need-slice-write-table Inv-loop μ-loop
 slice-write-table c =
@@ -88,9 +98,15 @@ loop-again c =
     let i = c .before .before .loop .i in
     let e : c .shade .result ≡ shadeAt (a .window) (a .stored) (a .inverse) i =
     c .shade .ensures
-    ∙ ap (λ (h : ℕ). number (shaded (a .inverse) (levelOf (a .window) (pos (i + h) -ℤ pos (at-power2 .power2 .result - 1))))) (at-power .power .ensures .0)
-    ∙ ap (λ (l : ℕ). number (shaded (a .inverse) (levelOf (a .window) (pos (i + 2 ^ (a .stored - 1)) -ℤ pos (l - 1))))) (at-power2 .power2 .ensures .0) in
-    (omega (arith, c .before .loop-test .taken), rw e (filled-more (shadeAt (a .window) (a .stored) (a .inverse)) i (c .before .before .loop .table) (c .before .before .loop .inv .1) (omega (arith, at-power3 .power3 .ensures .1 .1, c .before .loop-test .taken))))
+    ∙ ap (λ (h : ℕ). number (shaded (a .inverse) (levelOf (a .window) (pos (i + h) -ℤ pos (at-power2 .power2 .result - 1)))))
+    (at-power .power .ensures .0)
+    ∙ ap (λ (l : ℕ). number (shaded (a .inverse) (levelOf (a .window) (pos (i + 2 ^ (a .stored - 1)) -ℤ pos (l - 1)))))
+    (at-power2 .power2 .ensures .0) in (
+      omega (arith, c .before .loop-test .taken),
+      rw e (filled-more (shadeAt (a .window) (a .stored) (a .inverse)) i
+          (c .before .before .loop .table) (c .before .before .loop .inv .1)
+          (omega (arith, at-power3 .power3 .ensures .1 .1, c .before .loop-test .taken))),
+    )
 
 same-length : tie.Need-same-length Inv-loop μ-loop
 same-length c =
@@ -101,7 +117,8 @@ returns : tie.Need-returns Inv-loop μ-loop
 returns c =
     let entry = c .before .before .before .before .before .before in
     let a = entry .args in
-    subst (λ (k : ℕ). Filled (shadeAt (a .window) (a .stored) (a .inverse)) k (c .before .loop .table)) (omega (arith, c .before .before .power3 .ensures .0, c .before .loop .inv .0, c .loop-test .left)) (c .before .loop .inv .1)
+    subst (λ (k : ℕ). Filled (shadeAt (a .window) (a .stored) (a .inverse)) k (c .before .loop .table))
+    (omega (arith, c .before .before .power3 .ensures .0, c .before .loop .inv .0, c .loop-test .left)) (c .before .loop .inv .1)
 
 pub fill-spec : {M : Type 1} → statement M
 fill-spec =

@@ -58,7 +58,12 @@ add-place : tie.Need-add-place Inv-loop μ-loop
 add-place c =
     let at-power2 = c .before .before .before in
     let entry = at-power2 .before .before .before .before .before .before in
-    omega (arith, c .sample .ensures .1, power-most (entry .args .g .stored) (entry .pre .0 .row .shape .stored-most), at-power2 .power2 .ensures)
+    omega (
+      arith,
+      c .sample .ensures .1,
+      power-most (entry .args .g .stored) (entry .pre .0 .row .shape .stored-most),
+      at-power2 .power2 .ensures,
+    )
 
 add-wider : tie.Need-add-wider Inv-loop μ-loop
 add-wider c =
@@ -86,21 +91,38 @@ sub-place c =
     let at-loop = at-loop-test .before in
     let at-power2 = at-loop .before in
     let entry = at-power2 .before .before .before .before .before .before in
-    omega (arith, c .wider .ensures, at-power2 .power2 .ensures, entry .pre .0 .masked (at-loop .loop .c) (at-loop-test .loop-test .taken) .1)
+    omega
+    (arith, c .wider .ensures, at-power2 .power2 .ensures, entry .pre .0 .masked (at-loop .loop .c) (at-loop-test .loop-test .taken) .1)
 
 add-shade : tie.Need-add-shade Inv-loop μ-loop
 add-shade c =
     let at-power2 = c .before .before .before .before .before in
     let at-power = at-power2 .before in
     let entry = at-power .before .before .before .before .before in
-    omega (arith, c .before .before .sample .ensures .1, power-most (entry .args .g .stored) (entry .pre .0 .row .shape .stored-most), at-power .power .ensures, at-power2 .power2 .ensures, half-low (entry .args .g .stored) (entry .pre .0 .row .shape .stored-some))
+    omega (
+      arith,
+      c .before .before .sample .ensures .1,
+      power-most (entry .args .g .stored) (entry .pre .0 .row .shape .stored-most),
+      at-power .power .ensures,
+      at-power2 .power2 .ensures,
+      half-low (entry .args .g .stored) (entry .pre .0 .row .shape .stored-some),
+    )
 
 shade-requires : tie.Need-shade-requires Inv-loop μ-loop
 shade-requires c κs =
     let at-power2 = c .before .before .before .before .before in
     let at-power = at-power2 .before in
-    let entry = at-power .before .before .before .before .before in
-    (entry .pre .1, omega (arith, c .before .before .sample .ensures .1, power-most (entry .args .g .stored) (entry .pre .0 .row .shape .stored-most), at-power .power .ensures, at-power2 .power2 .ensures, half-low (entry .args .g .stored) (entry .pre .0 .row .shape .stored-some)))
+    let entry = at-power .before .before .before .before .before in (
+      entry .pre .1,
+      omega (
+        arith,
+        c .before .before .sample .ensures .1,
+        power-most (entry .args .g .stored) (entry .pre .0 .row .shape .stored-most),
+        at-power .power .ensures,
+        at-power2 .power2 .ensures,
+        half-low (entry .args .g .stored) (entry .pre .0 .row .shape .stored-some),
+      ),
+    )
 
 slice-write-levels : tie.Need-slice-write-levels Inv-loop μ-loop
 slice-write-levels c =
@@ -129,9 +151,15 @@ loop-again c =
     let at-power = at-power2 .before in
     let entry = at-power .before .before .before .before .before in
     let a = entry .args in
-    let e : c .shade .result ≡ shadeAt (a .window) (a .g .stored) (a .inverse) (maskPlace (a .g) (a .line .now) (a .masks .now) (a .s) (at-loop .loop .c)) =
-    c .shade .ensures ∙ shade-at (a .window) (a .g .stored) (a .inverse) _ (at-power .power .result) (at-power2 .power2 .result) _ (at-power .power .ensures) (at-power2 .power2 .ensures) (mask-place (a .g) (a .line .now) (a .masks .now) (a .s) (at-loop .loop .c) _ _ _ (at-sample .sample .ensures .0) (at-power2 .power2 .ensures) (c .before .wider .ensures)) in
-    (omega (arith, at-loop-test .loop-test .taken), rw (at-loop .loop .inv .1, e) (painted-more (λ i. shadeAt (a .window) (a .g .stored) (a .inverse) (maskPlace (a .g) (a .line .now) (a .masks .now) (a .s) i)) _ _))
+    let e : c .shade .result
+    ≡ shadeAt (a .window) (a .g .stored) (a .inverse) (maskPlace (a .g) (a .line .now) (a .masks .now) (a .s) (at-loop .loop .c)) =
+    c .shade .ensures ∙ shade-at (a .window) (a .g .stored) (a .inverse) _ (at-power .power .result) (at-power2 .power2 .result) _
+    (at-power .power .ensures) (at-power2 .power2 .ensures) (mask-place (a .g) (a .line .now) (a .masks .now) (a .s) (at-loop .loop .c)
+    _ _ _ (at-sample .sample .ensures .0) (at-power2 .power2 .ensures) (c .before .wider .ensures)) in (
+      omega (arith, at-loop-test .loop-test .taken),
+      rw (at-loop .loop .inv .1, e) (painted-more
+          (λ i. shadeAt (a .window) (a .g .stored) (a .inverse) (maskPlace (a .g) (a .line .now) (a .masks .now) (a .s) i)) _ _),
+    )
 
 same-length : tie.Need-same-length Inv-loop μ-loop
 same-length c =

@@ -56,28 +56,49 @@ sample-requires c κs =
     record {
       width = entry .pre .0 .shape .width;
       kept = ap (λ (x : ℕ). x - 1) (c .before .before .power2 .ensures);
-      inside = omega (arith, run-at 0 (entry .args .g .columns) (entry .args .g .width) (length (entry .args .line .now)) (c .before .loop .c) (width-some _ (entry .pre .0 .shape .width)) (entry .pre .0 .inside) (c .loop-test .taken) .0);
+      inside = omega (
+        arith,
+        run-at 0 (entry .args .g .columns) (entry .args .g .width) (length (entry .args .line .now))
+            (c .before .loop .c) (width-some _ (entry .pre .0 .shape .width)) (entry .pre .0 .inside) (c .loop-test .taken) .0,
+      );
     }
 
 add-place : tie.Need-add-place Inv-loop μ-loop
 add-place c =
     let at-power2 = c .before .before .before in
     let entry = at-power2 .before .before .before .before .before in
-    omega (arith, c .sample .ensures .1, power-most (entry .args .g .stored) (entry .pre .0 .shape .stored-most), at-power2 .power2 .ensures)
+    omega
+    (arith, c .sample .ensures .1, power-most (entry .args .g .stored) (entry .pre .0 .shape .stored-most), at-power2 .power2 .ensures)
 
 add-shade : tie.Need-add-shade Inv-loop μ-loop
 add-shade c =
     let at-power2 = c .before .before .before in
     let at-power = at-power2 .before in
     let entry = at-power .before .before .before .before in
-    omega (arith, c .sample .ensures .1, power-most (entry .args .g .stored) (entry .pre .0 .shape .stored-most), at-power .power .ensures, at-power2 .power2 .ensures, half-low (entry .args .g .stored) (entry .pre .0 .shape .stored-some))
+    omega (
+      arith,
+      c .sample .ensures .1,
+      power-most (entry .args .g .stored) (entry .pre .0 .shape .stored-most),
+      at-power .power .ensures,
+      at-power2 .power2 .ensures,
+      half-low (entry .args .g .stored) (entry .pre .0 .shape .stored-some),
+    )
 
 shade-requires : tie.Need-shade-requires Inv-loop μ-loop
 shade-requires c κs =
     let at-power2 = c .before .before .before in
     let at-power = at-power2 .before in
-    let entry = at-power .before .before .before .before in
-    (entry .pre .1 .0, omega (arith, c .sample .ensures .1, power-most (entry .args .g .stored) (entry .pre .0 .shape .stored-most), at-power .power .ensures, at-power2 .power2 .ensures, half-low (entry .args .g .stored) (entry .pre .0 .shape .stored-some)))
+    let entry = at-power .before .before .before .before in (
+      entry .pre .1 .0,
+      omega (
+        arith,
+        c .sample .ensures .1,
+        power-most (entry .args .g .stored) (entry .pre .0 .shape .stored-most),
+        at-power .power .ensures,
+        at-power2 .power2 .ensures,
+        half-low (entry .args .g .stored) (entry .pre .0 .shape .stored-some),
+      ),
+    )
 
 slice-write-levels : tie.Need-slice-write-levels Inv-loop μ-loop
 slice-write-levels c =
@@ -101,8 +122,13 @@ loop-again c =
     let entry = at-power .before .before .before .before in
     let a = entry .args in
     let e : c .shade .result ≡ shadeAt (a .window) (a .g .stored) (a .inverse) (plainPlace (a .g) (a .line .now) (at-loop .loop .c)) =
-    c .shade .ensures ∙ shade-at (a .window) (a .g .stored) (a .inverse) _ (at-power .power .result) (at-power2 .power2 .result) _ (at-power .power .ensures) (at-power2 .power2 .ensures) (plain-place (a .g) (a .line .now) (at-loop .loop .c) _ _ _ (c .before .sample .ensures .0) (at-power2 .power2 .ensures) (at-power .power .ensures)) in
-    (omega (arith, c .before .before .loop-test .taken), rw (at-loop .loop .inv .1, e) (painted-more (λ i. shadeAt (a .window) (a .g .stored) (a .inverse) (plainPlace (a .g) (a .line .now) i)) _ _))
+    c .shade .ensures ∙ shade-at (a .window) (a .g .stored) (a .inverse) _ (at-power .power .result) (at-power2 .power2 .result) _
+    (at-power .power .ensures) (at-power2 .power2 .ensures) (plain-place (a .g) (a .line .now) (at-loop .loop .c) _ _ _
+    (c .before .sample .ensures .0) (at-power2 .power2 .ensures) (at-power .power .ensures)) in (
+      omega (arith, c .before .before .loop-test .taken),
+      rw (at-loop .loop .inv .1, e)
+          (painted-more (λ i. shadeAt (a .window) (a .g .stored) (a .inverse) (plainPlace (a .g) (a .line .now) i)) _ _),
+    )
 
 same-length : tie.Need-same-length Inv-loop μ-loop
 same-length c =

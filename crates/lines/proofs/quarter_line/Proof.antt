@@ -30,8 +30,11 @@ weights-requires c κs =
 
 frame-line-requires : tie.Need-frame-line-requires
 frame-line-requires c κs =
-    let entry = c .before .before .before .before .before .before .before in
-    (laws.fits (entry .args .g) (entry .args .pixels) (entry .args .frame) (entry .args .row) (entry .pre .0 .shape) (entry .pre .0 .inside), entry .pre .0 .lies)
+    let entry = c .before .before .before .before .before .before .before in (
+      laws.fits (entry .args .g) (entry .args .pixels) (entry .args .frame) (entry .args .row) (entry .pre .0 .shape)
+          (entry .pre .0 .inside),
+      entry .pre .0 .lies,
+    )
 
 add-copy : tie.Need-add-copy
 add-copy c =
@@ -40,8 +43,10 @@ add-copy c =
 
 copy-requires : tie.Need-copy-requires
 copy-requires c κs =
-    let entry = c .before .before .before .before .before .before .before .before .before .before in
-    (omega (arith, entry .pre .0 .shape .columns-most, entry .pre .1 .1 .1 .1 .0), omega (arith, entry .pre .0 .shape .columns-most, entry .pre .1 .1 .1 .0))
+    let entry = c .before .before .before .before .before .before .before .before .before .before in (
+      omega (arith, entry .pre .0 .shape .columns-most, entry .pre .1 .1 .1 .1 .0),
+      omega (arith, entry .pre .0 .shape .columns-most, entry .pre .1 .1 .1 .0),
+    )
 
 add-moved : tie.Need-add-moved
 add-moved c =
@@ -55,8 +60,13 @@ moved-requires c κs =
 
 average-row-requires : tie.Need-average-row-requires
 average-row-requires c κs =
-    let entry = c .before .before .before .before .before .before .before .before .before .before .before .before .before .before .before in
-    (entry .pre .0 .shape, (entry .pre .1 .0 .taken, (c .before .moved .ensures .1, omega (arith, entry .pre .1 .1 .1 .1 .0, entry .pre .0 .shape .columns-most))))
+    let entry = c .before .before .before .before .before .before .before .before .before .before .before .before .before .before .before in (
+      entry .pre .0 .shape,
+      (
+        entry .pre .1 .0 .taken,
+        (c .before .moved .ensures .1, omega (arith, entry .pre .1 .1 .1 .1 .0, entry .pre .0 .shape .columns-most)),
+      ),
+    )
 
 blend-all-requires : tie.Need-blend-all-requires
 blend-all-requires c κs =
@@ -67,7 +77,16 @@ blend-all-requires c κs =
     let at-frame-line = at-copy .before .before .before in
     let at-weights = at-frame-line .before in
     let entry = at-weights .before .before .before .before .before .before .before in
-    rw (at-weights .weights .ensures, at-copy .copy .ensures) (laws.line-blends (entry .args .g) (entry .pre .0 .shape) (entry .args .pixels) (entry .args .frame) (entry .args .row) _ (at-frame-line .frame-line .ensures) (entry .args .shades) (entry .args .table .now) (entry .args .levels .now) (usValues (entry .args .masks .now)) (entry .args .down) (entry .args .right) (entry .pre .1 .0 .right-most) _ _ (averaged-copy (entry .args .pixels .now) (entry .args .g) (usValues (entry .args .masks .now)) (shifted (entry .args .down / 4) (entry .args .g .rows) (entry .args .row)) (entry .args .lower .now) (entry .args .upper .now) (omega (arith, entry .pre .0 .shape .columns-most, entry .pre .1 .1 .1 .0)) (entry .pre .1 .1 .1 .1 .1)) (rw (at-moved .moved .ensures .0) at (at-average-row .average-row .ensures)) (entry .pre .1 .0 .taken .some) (entry .pre .1 .0 .taken .few) (rw (painted-length _ _ _) (omega (arith, entry .pre .0 .shape .columns-most, entry .pre .1 .1 .1 .0))) (omega (arith, entry .pre .1 .1 .1 .1 .0, entry .pre .0 .shape .columns-most, at-lower .lower .given)))
+    rw (at-weights .weights .ensures, at-copy .copy .ensures) (laws.line-blends (entry .args .g) (entry .pre .0 .shape)
+    (entry .args .pixels) (entry .args .frame) (entry .args .row) _ (at-frame-line .frame-line .ensures) (entry .args .shades)
+    (entry .args .table .now) (entry .args .levels .now) (usValues (entry .args .masks .now)) (entry .args .down) (entry .args .right)
+    (entry .pre .1 .0 .right-most) _ _ (averaged-copy (entry .args .pixels .now) (entry .args .g) (usValues (entry .args .masks .now))
+    (shifted (entry .args .down / 4) (entry .args .g .rows) (entry .args .row)) (entry .args .lower .now) (entry .args .upper .now)
+    (omega (arith, entry .pre .0 .shape .columns-most, entry .pre .1 .1 .1 .0)) (entry .pre .1 .1 .1 .1 .1))
+    (rw (at-moved .moved .ensures .0) at (at-average-row .average-row .ensures)) (entry .pre .1 .0 .taken .some)
+    (entry .pre .1 .0 .taken .few)
+    (rw (painted-length _ _ _) (omega (arith, entry .pre .0 .shape .columns-most, entry .pre .1 .1 .1 .0)))
+    (omega (arith, entry .pre .1 .1 .1 .1 .0, entry .pre .0 .shape .columns-most, at-lower .lower .given)))
 
 masked-row-requires : tie.Need-masked-row-requires
 masked-row-requires c κs =
@@ -78,8 +97,20 @@ masked-row-requires c κs =
     let at-copy = at-moved .before .before .before in
     let at-frame-line = at-copy .before .before .before in
     let at-weights = at-frame-line .before in
-    let entry = at-weights .before .before .before .before .before .before .before in
-    (laws.line-masks (entry .args .g) (entry .pre .0 .shape) (entry .args .pixels) (entry .args .frame) (entry .args .row) _ (at-frame-line .frame-line .ensures) (entry .args .shades) (entry .args .table .now) (entry .args .levels .now) (usValues (entry .args .masks .now)) (entry .args .down) (entry .args .right) (entry .pre .1 .0 .right-most) _ _ (averaged-copy (entry .args .pixels .now) (entry .args .g) (usValues (entry .args .masks .now)) (shifted (entry .args .down / 4) (entry .args .g .rows) (entry .args .row)) (entry .args .lower .now) (entry .args .upper .now) (omega (arith, entry .pre .0 .shape .columns-most, entry .pre .1 .1 .1 .0)) (entry .pre .1 .1 .1 .1 .1)) (rw (at-moved .moved .ensures .0) at (at-average-row .average-row .ensures)) (entry .pre .1 .0 .taken .some) (entry .pre .1 .0 .taken .few) (rw (painted-length _ _ _) (omega (arith, entry .pre .0 .shape .columns-most, entry .pre .1 .1 .1 .0))) (omega (arith, entry .pre .1 .1 .1 .1 .0, entry .pre .0 .shape .columns-most, at-lower .lower .given)) _ (rw (at-weights .weights .ensures, at-copy .copy .ensures) at (at-blend-all .blend-all .ensures)) (entry .pre .0 .room), omega (arith, entry .pre .1 .1 .0 .shades (c .before .before .if1 .taken) .size))
+    let entry = at-weights .before .before .before .before .before .before .before in (
+      laws.line-masks (entry .args .g) (entry .pre .0 .shape) (entry .args .pixels) (entry .args .frame) (entry .args .row) _
+          (at-frame-line .frame-line .ensures) (entry .args .shades) (entry .args .table .now) (entry .args .levels .now)
+          (usValues (entry .args .masks .now)) (entry .args .down) (entry .args .right) (entry .pre .1 .0 .right-most) _ _
+          (averaged-copy (entry .args .pixels .now) (entry .args .g) (usValues (entry .args .masks .now))
+          (shifted (entry .args .down / 4) (entry .args .g .rows) (entry .args .row)) (entry .args .lower .now) (entry .args .upper .now)
+          (omega (arith, entry .pre .0 .shape .columns-most, entry .pre .1 .1 .1 .0)) (entry .pre .1 .1 .1 .1 .1))
+          (rw (at-moved .moved .ensures .0) at (at-average-row .average-row .ensures)) (entry .pre .1 .0 .taken .some)
+          (entry .pre .1 .0 .taken .few)
+          (rw (painted-length _ _ _) (omega (arith, entry .pre .0 .shape .columns-most, entry .pre .1 .1 .1 .0)))
+          (omega (arith, entry .pre .1 .1 .1 .1 .0, entry .pre .0 .shape .columns-most, at-lower .lower .given)) _
+          (rw (at-weights .weights .ensures, at-copy .copy .ensures) at (at-blend-all .blend-all .ensures)) (entry .pre .0 .room),
+      omega (arith, entry .pre .1 .1 .0 .shades (c .before .before .if1 .taken) .size),
+    )
 
 masked-by-window-requires : tie.Need-masked-by-window-requires
 masked-by-window-requires c κs =
@@ -90,8 +121,20 @@ masked-by-window-requires c κs =
     let at-copy = at-moved .before .before .before in
     let at-frame-line = at-copy .before .before .before in
     let at-weights = at-frame-line .before in
-    let entry = at-weights .before .before .before .before .before .before .before in
-    (laws.line-masks (entry .args .g) (entry .pre .0 .shape) (entry .args .pixels) (entry .args .frame) (entry .args .row) _ (at-frame-line .frame-line .ensures) (entry .args .shades) (entry .args .table .now) (entry .args .levels .now) (usValues (entry .args .masks .now)) (entry .args .down) (entry .args .right) (entry .pre .1 .0 .right-most) _ _ (averaged-copy (entry .args .pixels .now) (entry .args .g) (usValues (entry .args .masks .now)) (shifted (entry .args .down / 4) (entry .args .g .rows) (entry .args .row)) (entry .args .lower .now) (entry .args .upper .now) (omega (arith, entry .pre .0 .shape .columns-most, entry .pre .1 .1 .1 .0)) (entry .pre .1 .1 .1 .1 .1)) (rw (at-moved .moved .ensures .0) at (at-average-row .average-row .ensures)) (entry .pre .1 .0 .taken .some) (entry .pre .1 .0 .taken .few) (rw (painted-length _ _ _) (omega (arith, entry .pre .0 .shape .columns-most, entry .pre .1 .1 .1 .0))) (omega (arith, entry .pre .1 .1 .1 .1 .0, entry .pre .0 .shape .columns-most, at-lower .lower .given)) _ (rw (at-weights .weights .ensures, at-copy .copy .ensures) at (at-blend-all .blend-all .ensures)) (entry .pre .0 .room), entry .pre .1 .1 .0 .drawable)
+    let entry = at-weights .before .before .before .before .before .before .before in (
+      laws.line-masks (entry .args .g) (entry .pre .0 .shape) (entry .args .pixels) (entry .args .frame) (entry .args .row) _
+          (at-frame-line .frame-line .ensures) (entry .args .shades) (entry .args .table .now) (entry .args .levels .now)
+          (usValues (entry .args .masks .now)) (entry .args .down) (entry .args .right) (entry .pre .1 .0 .right-most) _ _
+          (averaged-copy (entry .args .pixels .now) (entry .args .g) (usValues (entry .args .masks .now))
+          (shifted (entry .args .down / 4) (entry .args .g .rows) (entry .args .row)) (entry .args .lower .now) (entry .args .upper .now)
+          (omega (arith, entry .pre .0 .shape .columns-most, entry .pre .1 .1 .1 .0)) (entry .pre .1 .1 .1 .1 .1))
+          (rw (at-moved .moved .ensures .0) at (at-average-row .average-row .ensures)) (entry .pre .1 .0 .taken .some)
+          (entry .pre .1 .0 .taken .few)
+          (rw (painted-length _ _ _) (omega (arith, entry .pre .0 .shape .columns-most, entry .pre .1 .1 .1 .0)))
+          (omega (arith, entry .pre .1 .1 .1 .1 .0, entry .pre .0 .shape .columns-most, at-lower .lower .given)) _
+          (rw (at-weights .weights .ensures, at-copy .copy .ensures) at (at-blend-all .blend-all .ensures)) (entry .pre .0 .room),
+      entry .pre .1 .1 .0 .drawable,
+    )
 
 same-length : tie.Need-same-length
 same-length c =
@@ -115,8 +158,23 @@ returns c =
     let at-copy = at-moved .before .before .before in
     let at-frame-line = at-copy .before .before .before in
     let at-weights = at-frame-line .before in
-    let entry = at-weights .before .before .before .before .before .before .before in
-    (c .before .before .masked-row .ensures ∙ laws.quarter-by-table (entry .args .g) (entry .pre .0 .shape) (entry .args .pixels) (entry .args .frame) (entry .args .row) _ (at-frame-line .frame-line .ensures) (entry .args .shades) (entry .args .table .now) (entry .args .levels .now) (usValues (entry .args .masks .now)) (entry .args .down) (entry .args .right) (entry .pre .1 .0 .right-most) _ _ (averaged-copy (entry .args .pixels .now) (entry .args .g) (usValues (entry .args .masks .now)) (shifted (entry .args .down / 4) (entry .args .g .rows) (entry .args .row)) (entry .args .lower .now) (entry .args .upper .now) (omega (arith, entry .pre .0 .shape .columns-most, entry .pre .1 .1 .1 .0)) (entry .pre .1 .1 .1 .1 .1)) (rw (at-moved .moved .ensures .0) at (at-average-row .average-row .ensures)) (entry .pre .1 .0 .taken .some) (entry .pre .1 .0 .taken .few) (rw (painted-length _ _ _) (omega (arith, entry .pre .0 .shape .columns-most, entry .pre .1 .1 .1 .0))) (omega (arith, entry .pre .1 .1 .1 .1 .0, entry .pre .0 .shape .columns-most, at-lower .lower .given)) _ (rw (at-weights .weights .ensures, at-copy .copy .ensures) at (at-blend-all .blend-all .ensures)) (entry .pre .1 .1 .0 .shades (at-if1 .if1 .taken)), next-row (entry .args .pixels .now) (entry .args .g) (usValues (entry .args .masks .now)) (entry .args .down / 4) (entry .args .row) _ (rw (at-moved .moved .ensures .0) at (at-average-row .average-row .ensures)))
+    let entry = at-weights .before .before .before .before .before .before .before in (
+      c .before .before .masked-row .ensures ∙ laws.quarter-by-table (entry .args .g) (entry .pre .0 .shape) (entry .args .pixels)
+          (entry .args .frame) (entry .args .row) _ (at-frame-line .frame-line .ensures) (entry .args .shades) (entry .args .table .now)
+          (entry .args .levels .now) (usValues (entry .args .masks .now)) (entry .args .down) (entry .args .right)
+          (entry .pre .1 .0 .right-most) _ _ (averaged-copy (entry .args .pixels .now) (entry .args .g) (usValues (entry .args .masks .now))
+          (shifted (entry .args .down / 4) (entry .args .g .rows) (entry .args .row)) (entry .args .lower .now) (entry .args .upper .now)
+          (omega (arith, entry .pre .0 .shape .columns-most, entry .pre .1 .1 .1 .0)) (entry .pre .1 .1 .1 .1 .1))
+          (rw (at-moved .moved .ensures .0) at (at-average-row .average-row .ensures)) (entry .pre .1 .0 .taken .some)
+          (entry .pre .1 .0 .taken .few)
+          (rw (painted-length _ _ _) (omega (arith, entry .pre .0 .shape .columns-most, entry .pre .1 .1 .1 .0)))
+          (omega (arith, entry .pre .1 .1 .1 .1 .0, entry .pre .0 .shape .columns-most, at-lower .lower .given)) _
+          (rw (at-weights .weights .ensures, at-copy .copy .ensures) at (at-blend-all .blend-all .ensures))
+          (entry .pre .1 .1 .0 .shades (at-if1 .if1 .taken)),
+      next-row (entry .args .pixels .now) (entry .args .g)
+          (usValues (entry .args .masks .now)) (entry .args .down / 4) (entry .args .row) _
+          (rw (at-moved .moved .ensures .0) at (at-average-row .average-row .ensures)),
+    )
 
 same-length-4 : tie.Need-same-length-4
 same-length-4 c =
@@ -139,8 +197,22 @@ returns-2 c =
     let at-copy = at-moved .before .before .before in
     let at-frame-line = at-copy .before .before .before in
     let at-weights = at-frame-line .before in
-    let entry = at-weights .before .before .before .before .before .before .before in
-    (c .before .before .masked-by-window .ensures ∙ laws.quarter-by-window (entry .args .g) (entry .pre .0 .shape) (entry .args .pixels) (entry .args .frame) (entry .args .row) _ (at-frame-line .frame-line .ensures) (entry .args .shades) (entry .args .table .now) (entry .args .levels .now) (usValues (entry .args .masks .now)) (entry .args .down) (entry .args .right) (entry .pre .1 .0 .right-most) _ _ (averaged-copy (entry .args .pixels .now) (entry .args .g) (usValues (entry .args .masks .now)) (shifted (entry .args .down / 4) (entry .args .g .rows) (entry .args .row)) (entry .args .lower .now) (entry .args .upper .now) (omega (arith, entry .pre .0 .shape .columns-most, entry .pre .1 .1 .1 .0)) (entry .pre .1 .1 .1 .1 .1)) (rw (at-moved .moved .ensures .0) at (at-average-row .average-row .ensures)) (entry .pre .1 .0 .taken .some) (entry .pre .1 .0 .taken .few) (rw (painted-length _ _ _) (omega (arith, entry .pre .0 .shape .columns-most, entry .pre .1 .1 .1 .0))) (omega (arith, entry .pre .1 .1 .1 .1 .0, entry .pre .0 .shape .columns-most, at-lower .lower .given)) _ (rw (at-weights .weights .ensures, at-copy .copy .ensures) at (at-blend-all .blend-all .ensures)), next-row (entry .args .pixels .now) (entry .args .g) (usValues (entry .args .masks .now)) (entry .args .down / 4) (entry .args .row) _ (rw (at-moved .moved .ensures .0) at (at-average-row .average-row .ensures)))
+    let entry = at-weights .before .before .before .before .before .before .before in (
+      c .before .before .masked-by-window .ensures ∙ laws.quarter-by-window (entry .args .g) (entry .pre .0 .shape) (entry .args .pixels)
+          (entry .args .frame) (entry .args .row) _ (at-frame-line .frame-line .ensures) (entry .args .shades) (entry .args .table .now)
+          (entry .args .levels .now) (usValues (entry .args .masks .now)) (entry .args .down) (entry .args .right)
+          (entry .pre .1 .0 .right-most) _ _ (averaged-copy (entry .args .pixels .now) (entry .args .g) (usValues (entry .args .masks .now))
+          (shifted (entry .args .down / 4) (entry .args .g .rows) (entry .args .row)) (entry .args .lower .now) (entry .args .upper .now)
+          (omega (arith, entry .pre .0 .shape .columns-most, entry .pre .1 .1 .1 .0)) (entry .pre .1 .1 .1 .1 .1))
+          (rw (at-moved .moved .ensures .0) at (at-average-row .average-row .ensures)) (entry .pre .1 .0 .taken .some)
+          (entry .pre .1 .0 .taken .few)
+          (rw (painted-length _ _ _) (omega (arith, entry .pre .0 .shape .columns-most, entry .pre .1 .1 .1 .0)))
+          (omega (arith, entry .pre .1 .1 .1 .1 .0, entry .pre .0 .shape .columns-most, at-lower .lower .given)) _
+          (rw (at-weights .weights .ensures, at-copy .copy .ensures) at (at-blend-all .blend-all .ensures)),
+      next-row
+          (entry .args .pixels .now) (entry .args .g) (usValues (entry .args .masks .now)) (entry .args .down / 4) (entry .args .row) _
+          (rw (at-moved .moved .ensures .0) at (at-average-row .average-row .ensures)),
+    )
 
 pub quarter-line-spec : {M : Type 1} → statement M
 quarter-line-spec =

@@ -12,8 +12,11 @@ use Rattle.lines.proofs.whole_line.Tie as tie
 
 frame-line-requires : tie.Need-frame-line-requires
 frame-line-requires c κs =
-    let entry = c .before .before .before .before .before in
-    (laws.fits (entry .args .g) (entry .args .pixels) (entry .args .frame) (entry .args .row) (entry .pre .0 .shape) (entry .pre .0 .inside), entry .pre .0 .lies)
+    let entry = c .before .before .before .before .before in (
+      laws.fits (entry .args .g) (entry .args .pixels) (entry .args .frame) (entry .args .row) (entry .pre .0 .shape)
+          (entry .pre .0 .inside),
+      entry .pre .0 .lies,
+    )
 
 moved-requires : tie.Need-moved-requires
 moved-requires c κs =
@@ -22,8 +25,13 @@ moved-requires c κs =
 
 mask-row-requires : tie.Need-mask-row-requires
 mask-row-requires c κs =
-    let entry = c .before .before .before .before .before .before .before .before in
-    (entry .pre .0 .shape, (entry .pre .1 .0 .taken, (c .before .moved .ensures .1, omega (arith, entry .pre .1 .1 .1 .1 .1 .1, entry .pre .0 .shape .columns-most))))
+    let entry = c .before .before .before .before .before .before .before .before in (
+      entry .pre .0 .shape,
+      (
+        entry .pre .1 .0 .taken,
+        (c .before .moved .ensures .1, omega (arith, entry .pre .1 .1 .1 .1 .1 .1, entry .pre .0 .shape .columns-most)),
+      ),
+    )
 
 draw-row-requires : tie.Need-draw-row-requires
 draw-row-requires c κs =
@@ -33,12 +41,17 @@ draw-row-requires c κs =
     let at-frame-line = at-moved .before in
     let entry = at-frame-line .before .before .before .before .before .before in
     record {
-      row = laws.line-row (entry .args .g) (entry .pre .0 .shape) (entry .args .pixels) (entry .args .frame) (entry .args .row) _ (at-frame-line .frame-line .ensures);
+      row = laws.line-row (entry .args .g) (entry .pre .0 .shape) (entry .args .pixels) (entry .args .frame) (entry .args .row) _
+          (at-frame-line .frame-line .ensures);
       some = omega (arith, usValues-length (entry .args .masks .now), entry .pre .1 .0 .taken .some);
       few = omega (arith, usValues-length (entry .args .masks .now), entry .pre .1 .0 .taken .few);
       most = omega (arith, entry .pre .1 .0 .right-most, div-add-mod' (entry .args .right) 4);
       shades = omega (arith, entry .pre .1 .1 .0 .shades (entry .pre .1 .1 .1 .0) .size);
-      summed = λ k l. (omega (arith, at-sums .sums .given, entry .pre .1 .1 .1 .1 .1 .1, entry .pre .0 .shape .columns-most), spread-most (entry .args .pixels .now) (entry .args .g) (usValues (entry .args .masks .now)) (at-moved .moved .result) _ _ (sym (usValues-length (entry .args .masks .now))) (at-mask-row .mask-row .ensures) k l);
+      summed = λ k l. (
+        omega (arith, at-sums .sums .given, entry .pre .1 .1 .1 .1 .1 .1, entry .pre .0 .shape .columns-most),
+        spread-most (entry .args .pixels .now) (entry .args .g) (usValues (entry .args .masks .now)) (at-moved .moved .result) _ _
+            (sym (usValues-length (entry .args .masks .now))) (at-mask-row .mask-row .ensures) k l,
+      );
       room = omega (arith, entry .pre .0 .room);
     }
 
@@ -54,7 +67,12 @@ returns c =
     let at-moved = at-mask-row .before .before in
     let at-frame-line = at-moved .before in
     let entry = at-frame-line .before .before .before .before .before .before in
-    c .before .before .draw-row .ensures ∙ laws.whole-by-table (entry .args .g) (entry .pre .0 .shape) (entry .args .pixels) (entry .args .frame) (entry .args .row) _ (at-frame-line .frame-line .ensures) (entry .args .shades) (entry .args .table .now) (entry .args .levels .now) (usValues (entry .args .masks .now)) (entry .args .down) (entry .args .right) (entry .pre .1 .0 .right-most) (entry .pre .1 .1 .0 .shades (entry .pre .1 .1 .1 .0)) _ _ (entry .pre .1 .1 .1 .1 .0) (entry .pre .1 .1 .1 .1 .1 .0) (omega (arith, entry .pre .1 .0 .right-most, div-add-mod' (entry .args .right) 4)) (sym (usValues-length (entry .args .masks .now))) (rw (← at-moved .moved .ensures .0) (at-mask-row .mask-row .ensures))
+    c .before .before .draw-row .ensures ∙ laws.whole-by-table (entry .args .g) (entry .pre .0 .shape) (entry .args .pixels)
+    (entry .args .frame) (entry .args .row) _ (at-frame-line .frame-line .ensures) (entry .args .shades) (entry .args .table .now)
+    (entry .args .levels .now) (usValues (entry .args .masks .now)) (entry .args .down) (entry .args .right)
+    (entry .pre .1 .0 .right-most) (entry .pre .1 .1 .0 .shades (entry .pre .1 .1 .1 .0)) _ _ (entry .pre .1 .1 .1 .1 .0)
+    (entry .pre .1 .1 .1 .1 .1 .0) (omega (arith, entry .pre .1 .0 .right-most, div-add-mod' (entry .args .right) 4))
+    (sym (usValues-length (entry .args .masks .now))) (rw (← at-moved .moved .ensures .0) (at-mask-row .mask-row .ensures))
 
 pub whole-line-spec : {M : Type 1} → statement M
 whole-line-spec =

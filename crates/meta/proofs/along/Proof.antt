@@ -20,7 +20,8 @@ abbrev μ-loop : tie.MeasureT-loop
 
 loop-holds : tie.Need-loop-holds Inv-loop μ-loop
 loop-holds c =
-    heads.begun (c .before .before .args .file .now) (c .before .before .args .end) (c .before .before .args .none .now) (c .before .before .pre .0) (c .before .before .pre .1 .0)
+    heads.begun (c .before .before .args .file .now) (c .before .before .args .end) (c .before .before .args .none .now)
+    (c .before .before .pre .0) (c .before .before .pre .1 .0)
 
 header-requires : tie.Need-header-requires Inv-loop μ-loop
 header-requires c κs =
@@ -41,7 +42,9 @@ returns : tie.Need-returns Inv-loop μ-loop
 returns c =
     let at-loop = c .before .before .before in
     let entry = at-loop .before .before .before in
-    let there = level.stands (heads.from (entry .args .file .now) (entry .args .end)) (at-loop .loop .here) (λ (x : Cursor). elementAt (entry .args .file .now) x (at-loop .loop .least) 8) (at-loop .loop .inv .0) (c .before .before .header .ensures) (c .enum-told .given .1) in
+    let there = level.stands (heads.from (entry .args .file .now) (entry .args .end)) (at-loop .loop .here)
+    (λ (x : Cursor). elementAt (entry .args .file .now) x (at-loop .loop .least) 8) (at-loop .loop .inv .0)
+    (c .before .before .header .ensures) (c .enum-told .given .1) in
     (heads.refuses (entry .args .file .now) (entry .args .end) (entry .args .none .now) (at-loop .loop .inv) (there .0) (there .1), tt)
 
 enum-told-2 : tie.Need-enum-told-2 Inv-loop μ-loop
@@ -57,8 +60,12 @@ returns-2 : tie.Need-returns-2 Inv-loop μ-loop
 returns-2 c =
     let at-loop = c .before .before .before in
     let entry = at-loop .before .before .before in
-    let there = level.stands (heads.from (entry .args .file .now) (entry .args .end)) (at-loop .loop .here) (λ (x : Cursor). elementAt (entry .args .file .now) x (at-loop .loop .least) 8) (at-loop .loop .inv .0) (c .before .before .header .ensures) (c .enum-told2 .given .1) in
-    (heads.ended (entry .args .file .now) (entry .args .end) (entry .args .none .now) (at-loop .loop .inv) (there .0), at-loop .loop .inv .1 .1 .1)
+    let there = level.stands (heads.from (entry .args .file .now) (entry .args .end)) (at-loop .loop .here)
+    (λ (x : Cursor). elementAt (entry .args .file .now) x (at-loop .loop .least) 8) (at-loop .loop .inv .0)
+    (c .before .before .header .ensures) (c .enum-told2 .given .1) in (
+      heads.ended (entry .args .file .now) (entry .args .end) (entry .args .none .now) (at-loop .loop .inv) (there .0),
+      at-loop .loop .inv .1 .1 .1,
+    )
 
 enum-known-tag : tie.Need-enum-known-tag Inv-loop μ-loop
 enum-known-tag c =
@@ -69,7 +76,9 @@ add-past c =
     let at-header = c .before .before .before .before in
     let at-loop = at-header .before in
     let entry = at-loop .before .before .before in
-    let there = level.stands (heads.from (entry .args .file .now) (entry .args .end)) (at-loop .loop .here) (λ (x : Cursor). elementAt (entry .args .file .now) x (at-loop .loop .least) 8) (at-loop .loop .inv .0) (at-header .header .ensures) (c .before .before .tag .given .1) in
+    let there = level.stands (heads.from (entry .args .file .now) (entry .args .end)) (at-loop .loop .here)
+    (λ (x : Cursor). elementAt (entry .args .file .now) x (at-loop .loop .least) 8) (at-loop .loop .inv .0) (at-header .header .ensures)
+    (c .before .before .tag .given .1) in
     omega (arith, at-loop .loop .inv .1 .0 .count, at-loop .loop .inv .1 .0 .few, there .1, entry .pre, entry .good)
 
 past-requires : tie.Need-past-requires Inv-loop μ-loop
@@ -77,13 +86,16 @@ past-requires c κs =
     let at-header = c .before .before .before .before in
     let at-loop = at-header .before in
     let entry = at-loop .before .before .before in
-    let there = level.stands (heads.from (entry .args .file .now) (entry .args .end)) (at-loop .loop .here) (λ (x : Cursor). elementAt (entry .args .file .now) x (at-loop .loop .least) 8) (at-loop .loop .inv .0) (at-header .header .ensures) (c .before .before .tag .given .1) in (
+    let there = level.stands (heads.from (entry .args .file .now) (entry .args .end)) (at-loop .loop .here)
+    (λ (x : Cursor). elementAt (entry .args .file .now) x (at-loop .loop .least) 8) (at-loop .loop .inv .0) (at-header .header .ensures)
+    (c .before .before .tag .given .1) in (
       record {
         start = there .1 .1 .0;
         stop = omega (arith, there .1, entry .pre);
         small = λ h. absurd (omega (arith, h, at-loop .loop .inv .1 .0 .kept, entry .pre));
         deep = omega arith;
-        count = omega (arith, at-loop .loop .inv .1 .0 .count, at-loop .loop .inv .1 .0 .few, at-loop .loop .inv .1 .0 .low, there .1, entry .pre);
+        count = omega
+            (arith, at-loop .loop .inv .1 .0 .count, at-loop .loop .inv .1 .0 .few, at-loop .loop .inv .1 .0 .low, there .1, entry .pre);
       },
       at-loop .loop .inv .1 .0 .kept ∙ entry .pre .1 .1,
     )
@@ -105,8 +117,13 @@ returns-3 c =
     let at-header = at-tag .before .before in
     let at-loop = at-header .before in
     let entry = at-loop .before .before .before in
-    let there = level.stands (heads.from (entry .args .file .now) (entry .args .end)) (at-loop .loop .here) (λ (x : Cursor). elementAt (entry .args .file .now) x (at-loop .loop .least) 8) (at-loop .loop .inv .0) (at-header .header .ensures) (at-tag .tag .given .1) in
-    (heads.fails (entry .args .file .now) (entry .args .end) (entry .args .none .now) (at-loop .loop .inv) (there .0) (there .1) (level.walked (c .enum-told3 .given .1) (at-past .past .ensures)), tt)
+    let there = level.stands (heads.from (entry .args .file .now) (entry .args .end)) (at-loop .loop .here)
+    (λ (x : Cursor). elementAt (entry .args .file .now) x (at-loop .loop .least) 8) (at-loop .loop .inv .0) (at-header .header .ensures)
+    (at-tag .tag .given .1) in (
+      heads.fails (entry .args .file .now) (entry .args .end) (entry .args .none .now) (at-loop .loop .inv) (there .0) (there .1)
+          (level.walked (c .enum-told3 .given .1) (at-past .past .ensures)),
+      tt,
+    )
 
 enum-known-stop : tie.Need-enum-known-stop Inv-loop μ-loop
 enum-known-stop c =
@@ -119,7 +136,9 @@ note-requires c κs =
     let at-header = at-tag .before .before in
     let at-loop = at-header .before in
     let entry = at-loop .before .before .before in
-    let there = level.stands (heads.from (entry .args .file .now) (entry .args .end)) (at-loop .loop .here) (λ (x : Cursor). elementAt (entry .args .file .now) x (at-loop .loop .least) 8) (at-loop .loop .inv .0) (at-header .header .ensures) (at-tag .tag .given .1) in
+    let there = level.stands (heads.from (entry .args .file .now) (entry .args .end)) (at-loop .loop .here)
+    (λ (x : Cursor). elementAt (entry .args .file .now) x (at-loop .loop .least) 8) (at-loop .loop .inv .0) (at-header .header .ensures)
+    (at-tag .tag .given .1) in
     let d = level.below _ (level.walked (c .before .stop .given .1) (at-past .past .ensures)) in
     omega (arith, d .within, there .1)
 
@@ -133,7 +152,9 @@ add-least c =
     let at-header = at-tag .before .before in
     let at-loop = at-header .before in
     let entry = at-loop .before .before .before in
-    let there = level.stands (heads.from (entry .args .file .now) (entry .args .end)) (at-loop .loop .here) (λ (x : Cursor). elementAt (entry .args .file .now) x (at-loop .loop .least) 8) (at-loop .loop .inv .0) (at-header .header .ensures) (at-tag .tag .given .1) in
+    let there = level.stands (heads.from (entry .args .file .now) (entry .args .end)) (at-loop .loop .here)
+    (λ (x : Cursor). elementAt (entry .args .file .now) x (at-loop .loop .least) 8) (at-loop .loop .inv .0) (at-header .header .ensures)
+    (at-tag .tag .given .1) in
     omega (arith, there .1)
 
 loop-less : tie.Need-loop-less Inv-loop μ-loop
@@ -144,9 +165,19 @@ loop-less c =
     let at-header = at-tag .before .before in
     let at-loop = at-header .before in
     let entry = at-loop .before .before .before in
-    let there = level.stands (heads.from (entry .args .file .now) (entry .args .end)) (at-loop .loop .here) (λ (x : Cursor). elementAt (entry .args .file .now) x (at-loop .loop .least) 8) (at-loop .loop .inv .0) (at-header .header .ensures) (at-tag .tag .given .1) in
+    let there = level.stands (heads.from (entry .args .file .now) (entry .args .end)) (at-loop .loop .here)
+    (λ (x : Cursor). elementAt (entry .args .file .now) x (at-loop .loop .least) 8) (at-loop .loop .inv .0) (at-header .header .ensures)
+    (at-tag .tag .given .1) in
     let d = level.below _ (level.walked (at-stop .stop .given .1) (at-past .past .ensures)) in
-    omega (arith, there .1, d .within, at-loop .loop .inv .1 .0 .high, ap (λ (x : Cursor). x .end) (c .moved .ensures), ap (λ (x : Cursor). x .at) (c .moved .ensures), ap (λ (x : Cursor). x .end) (at-loop .loop .inv .0))
+    omega (
+      arith,
+      there .1,
+      d .within,
+      at-loop .loop .inv .1 .0 .high,
+      ap (λ (x : Cursor). x .end) (c .moved .ensures),
+      ap (λ (x : Cursor). x .at) (c .moved .ensures),
+      ap (λ (x : Cursor). x .end) (at-loop .loop .inv .0),
+    )
 
 loop-again : tie.Need-loop-again Inv-loop μ-loop
 loop-again c =
@@ -156,8 +187,12 @@ loop-again c =
     let at-header = at-tag .before .before in
     let at-loop = at-header .before in
     let entry = at-loop .before .before .before in
-    let there = level.stands (heads.from (entry .args .file .now) (entry .args .end)) (at-loop .loop .here) (λ (x : Cursor). elementAt (entry .args .file .now) x (at-loop .loop .least) 8) (at-loop .loop .inv .0) (at-header .header .ensures) (at-tag .tag .given .1) in
-    heads.goes-on (entry .args .file .now) (entry .args .end) (entry .args .none .now) (at-loop .loop .inv) (there .0) (there .1) (entry .pre .1 .0) (entry .pre .1 .1) (at-past .past .kept .1 .1 .1 .0) (level.walked (at-stop .stop .given .1) (at-past .past .ensures)) (c .before .note .ensures) (c .moved .ensures)
+    let there = level.stands (heads.from (entry .args .file .now) (entry .args .end)) (at-loop .loop .here)
+    (λ (x : Cursor). elementAt (entry .args .file .now) x (at-loop .loop .least) 8) (at-loop .loop .inv .0) (at-header .header .ensures)
+    (at-tag .tag .given .1) in
+    heads.goes-on (entry .args .file .now) (entry .args .end) (entry .args .none .now) (at-loop .loop .inv) (there .0) (there .1)
+    (entry .pre .1 .0) (entry .pre .1 .1) (at-past .past .kept .1 .1 .1 .0)
+    (level.walked (at-stop .stop .given .1) (at-past .past .ensures)) (c .before .note .ensures) (c .moved .ensures)
 
 pub along-spec : {M : Type 1} → statement M
 along-spec =

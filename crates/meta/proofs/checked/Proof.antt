@@ -44,7 +44,14 @@ returns c =
     let at-if1 = at-is-single2 .before .before in
     let at-is-single = at-if1 .before in
     let entry = at-is-single .before .before .before in (
-      rw (← at-is-single .is-single .ensures, at-if1 .if1 .taken, ← at-is-single2 .is-single2 .ensures, at-if2 .if2 .taken, ← c .before .is-uid .ensures, c .if3 .taken) (ap (λ (x : ℕ). Good x (entry .args .a) (entry .args .b)) (entry .pre .0 .0)),
+      rw (
+        ← at-is-single .is-single .ensures,
+        at-if1 .if1 .taken,
+        ← at-is-single2 .is-single2 .ensures,
+        at-if2 .if2 .taken,
+        ← c .before .is-uid .ensures,
+        c .if3 .taken,
+      ) (ap (λ (x : ℕ). Good x (entry .args .a) (entry .args .b)) (entry .pre .0 .0)),
       omega (arith, entry .pre),
     )
 
@@ -53,8 +60,17 @@ returns-2 c =
     let at-if2 = c .before .before .before in
     let at-is-single2 = at-if2 .before in
     let at-if1 = at-is-single2 .before .before in
-    let at-is-single = at-if1 .before in
-    (rw (← at-is-single .is-single .ensures, at-if1 .if1 .taken, ← at-is-single2 .is-single2 .ensures, at-if2 .if2 .taken, ← c .before .is-uid .ensures, c .if3 .left), tt)
+    let at-is-single = at-if1 .before in (
+      rw (
+        ← at-is-single .is-single .ensures,
+        at-if1 .if1 .taken,
+        ← at-is-single2 .is-single2 .ensures,
+        at-if2 .if2 .taken,
+        ← c .before .is-uid .ensures,
+        c .if3 .left,
+      ),
+      tt,
+    )
 
 returns-3 : tie.Need-returns-3
 returns-3 c =
@@ -66,4 +82,5 @@ returns-4 : tie.Need-returns-4
 returns-4 c = (rw (← c .before .is-single .ensures, c .if1 .left), tt)
 
 pub checked-spec : {M : Type 1} → statement M
-checked-spec = tie.close (tie.spec sub-is-single part-is-single-start part-is-single-end is-single-requires sub-syntax part-syntax-start part-syntax-end is-single-requires-2 slice-aggregate-is-uid is-uid-requires returns returns-2 returns-3 returns-4)
+checked-spec = tie.close (tie.spec sub-is-single part-is-single-start part-is-single-end is-single-requires sub-syntax part-syntax-start
+    part-syntax-end is-single-requires-2 slice-aggregate-is-uid is-uid-requires returns returns-2 returns-3 returns-4)

@@ -18,7 +18,8 @@ tag-at-requires c κs = search needs
 returns-2 : tie.Need-returns-2
 returns-2 c =
     let entry = c .before .before .before .before in
-    sym (tests.other-tag (entry .args .file .now) (omega (arith, c .before .before .if1 .left)) (λ e. c .if2 .taken (c .before .tag-at .ensures .0 ∙ e)))
+    sym (tests.other-tag (entry .args .file .now) (omega (arith, c .before .before .if1 .left))
+    (λ e. c .if2 .taken (c .before .tag-at .ensures .0 ∙ e)))
 
 add-vr-at : tie.Need-add-vr-at
 add-vr-at c = search needs
@@ -31,7 +32,8 @@ returns-3 c =
     let at-tag-at = c .before .before .before in
     let at-if1 = at-tag-at .before in
     let entry = at-if1 .before .before in
-    sym (tests.other-vr (entry .args .file .now) (omega (arith, at-if1 .if1 .left)) (sym (at-tag-at .tag-at .ensures .0) ∙ c .before .before .if2 .left) (λ e. c .if3 .taken (c .before .vr-at .ensures .0 ∙ e)))
+    sym (tests.other-vr (entry .args .file .now) (omega (arith, at-if1 .if1 .left))
+    (sym (at-tag-at .tag-at .ensures .0) ∙ c .before .before .if2 .left) (λ e. c .if3 .taken (c .before .vr-at .ensures .0 ∙ e)))
 
 add-u16-at : tie.Need-add-u16-at
 add-u16-at c = search needs
@@ -45,7 +47,9 @@ returns-4 c =
     let at-tag-at = at-if2 .before in
     let at-if1 = at-tag-at .before in
     let entry = at-if1 .before .before in
-    rw (c .u16-at .ensures .0) (tests.of-length (entry .args .file .now) (omega (arith, at-if1 .if1 .left)) (sym (at-tag-at .tag-at .ensures .0) ∙ at-if2 .if2 .left) (sym (c .before .before .vr-at .ensures .0) ∙ c .before .if3 .left))
+    rw (c .u16-at .ensures .0) (tests.of-length (entry .args .file .now) (omega (arith, at-if1 .if1 .left))
+    (sym (at-tag-at .tag-at .ensures .0) ∙ at-if2 .if2 .left) (sym (c .before .before .vr-at .ensures .0) ∙ c .before .if3 .left))
 
 pub has-group-length-spec : {M : Type 1} → statement M
-has-group-length-spec = tie.close (tie.spec add-if1 returns tag-at-requires returns-2 add-vr-at vr-at-requires returns-3 add-u16-at u16-at-requires returns-4)
+has-group-length-spec = tie.close
+    (tie.spec add-if1 returns tag-at-requires returns-2 add-vr-at vr-at-requires returns-3 add-u16-at u16-at-requires returns-4)

@@ -57,7 +57,8 @@ names-requires c κs =
     let at-u32-at = at-if1 .before in
     let entry = at-u32-at .before .before in
     let ends = tests.ends (entry .args .file .now) (at-u32-at .u32-at .result) (at-u32-at .u32-at .ensures .0) in
-    let w = subst (λ (x : Elements). ElementsWithin (length (entry .args .file .now)) x) (c .before .before .found .given .1) (at-along .along .ensures .1) in
+    let w = subst (λ (x : Elements). ElementsWithin (length (entry .args .file .now)) x) (c .before .before .found .given .1)
+    (at-along .along .ensures .1) in
     ((ends, omega (arith, at-if1 .if1 .left)), (w .class-in, w .syntax-in))
 
 returns-2 : tie.Need-returns-2
@@ -66,8 +67,11 @@ returns-2 c =
     let at-if1 = at-along .before .before in
     let at-u32-at = at-if1 .before in
     let entry = at-u32-at .before .before in
-    let ends = tests.ends (entry .args .file .now) (at-u32-at .u32-at .result) (at-u32-at .u32-at .ensures .0) in
-    (tests.walked (entry .args .file .now) (144 + at-u32-at .u32-at .result) ends (omega (arith, at-if1 .if1 .left)) elements.Refused (sym (c .enum-told .given .1) ∙ at-along .along .ensures .0), tt)
+    let ends = tests.ends (entry .args .file .now) (at-u32-at .u32-at .result) (at-u32-at .u32-at .ensures .0) in (
+      tests.walked (entry .args .file .now) (144 + at-u32-at .u32-at .result) ends (omega (arith, at-if1 .if1 .left)) elements.Refused
+          (sym (c .enum-told .given .1) ∙ at-along .along .ensures .0),
+      tt,
+    )
 
 returns-3 : tie.Need-returns-3
 returns-3 c =
@@ -77,8 +81,12 @@ returns-3 c =
     let at-u32-at = at-if1 .before in
     let entry = at-u32-at .before .before in
     let f = at-found .found .given .0 .0 in
-    let ends = tests.ends (entry .args .file .now) (at-u32-at .u32-at .result) (at-u32-at .u32-at .ensures .0) in
-    (c .names .ensures .0 ∙ tests.only-these (entry .args .file .now) f (c .before .if2 .taken) ∙ tests.walked (entry .args .file .now) (144 + at-u32-at .u32-at .result) ends (omega (arith, at-if1 .if1 .left)) (elements.Good f) (sym (at-found .found .given .1) ∙ at-along .along .ensures .0), c .names .ensures .1)
+    let ends = tests.ends (entry .args .file .now) (at-u32-at .u32-at .result) (at-u32-at .u32-at .ensures .0) in (
+      c .names .ensures .0 ∙ tests.only-these (entry .args .file .now) f (c .before .if2 .taken) ∙ tests.walked (entry .args .file .now)
+          (144 + at-u32-at .u32-at .result) ends (omega (arith, at-if1 .if1 .left)) (elements.Good f)
+          (sym (at-found .found .given .1) ∙ at-along .along .ensures .0),
+      c .names .ensures .1,
+    )
 
 returns-4 : tie.Need-returns-4
 returns-4 c =
@@ -87,8 +95,12 @@ returns-4 c =
     let at-u32-at = at-if1 .before in
     let entry = at-u32-at .before .before in
     let f = c .before .before .found .given .0 .0 in
-    let ends = tests.ends (entry .args .file .now) (at-u32-at .u32-at .result) (at-u32-at .u32-at .ensures .0) in
-    (tests.not-only (entry .args .file .now) f (c .if2 .left) ∙ tests.walked (entry .args .file .now) (144 + at-u32-at .u32-at .result) ends (omega (arith, at-if1 .if1 .left)) (elements.Good f) (sym (c .before .before .found .given .1) ∙ at-along .along .ensures .0), tt)
+    let ends = tests.ends (entry .args .file .now) (at-u32-at .u32-at .result) (at-u32-at .u32-at .ensures .0) in (
+      tests.not-only (entry .args .file .now) f (c .if2 .left) ∙ tests.walked (entry .args .file .now) (144 + at-u32-at .u32-at .result)
+          ends (omega (arith, at-if1 .if1 .left)) (elements.Good f)
+          (sym (c .before .before .found .given .1) ∙ at-along .along .ensures .0),
+      tt,
+    )
 
 pub headed-spec : {M : Type 1} → statement M
 headed-spec =

@@ -52,8 +52,13 @@ unfolding headerBy taggedAt
 returns-5 c =
     let at-vr-form = c .before .before .before in
     let at-vr-at = at-vr-form .before in
-    let at-tag-at = at-vr-at .before .before .before .before in
-    (rw (← at-tag-at .tag-at .ensures .0, ← c .before .u16-at .ensures .0, ← at-vr-at .vr-at .ensures .0, ← at-vr-form .vr-form .ensures) (search checks depth 40 fits 4000), search needs)
+    let at-tag-at = at-vr-at .before .before .before .before in (
+      rw
+          (← at-tag-at .tag-at .ensures .0, ← c .before .u16-at .ensures .0, ← at-vr-at .vr-at .ensures .0, ← at-vr-form .vr-form .ensures)
+          (search checks depth 40 fits 4000),
+      search needs,
+    )
 
 pub header-spec : {M : Type 1} → statement M
-header-spec = tie.close (tie.spec returns sub-if2 returns-2 tag-at-requires returns-3 returns-4 add-vr-at vr-at-requires vr-form-requires add-u16-at u16-at-requires typed-requires returns-5)
+header-spec = tie.close (tie.spec returns sub-if2 returns-2 tag-at-requires returns-3 returns-4 add-vr-at vr-at-requires vr-form-requires
+    add-u16-at u16-at-requires typed-requires returns-5)

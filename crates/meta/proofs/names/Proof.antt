@@ -23,8 +23,13 @@ checked-requires : tie.Need-checked-requires
 checked-requires c κs =
     let at-class = c .before .before .before .before in
     let entry = at-class .before .before .before in
-    let size = length (entry .args .file .now) in
-    (entry .pre .0, (subst (λ (x : Uid). UidWithin size x) (at-class .class .given .1) (entry .pre .1 .0), subst (λ (x : Uid). UidWithin size x) (c .before .syntax .given .1) (entry .pre .1 .1)))
+    let size = length (entry .args .file .now) in (
+      entry .pre .0,
+      (
+        subst (λ (x : Uid). UidWithin size x) (at-class .class .given .1) (entry .pre .1 .0),
+        subst (λ (x : Uid). UidWithin size x) (c .before .syntax .given .1) (entry .pre .1 .1),
+      ),
+    )
 
 returns : tie.Need-returns
 returns c = (rw (c .enum-told .given .1), tt)

@@ -21,8 +21,11 @@ returns : tie.Need-returns
 unfolding metaOf
 returns c =
     let at-if1 = c .before .before .before in
-    let at-is-marked = at-if1 .before in
-    (rw (← at-is-marked .is-marked .ensures, at-if1 .if1 .taken, ← c .before .before .has-group-length .ensures, c .before .if2 .taken) (c .headed .ensures .0), c .headed .ensures .1)
+    let at-is-marked = at-if1 .before in (
+      rw (← at-is-marked .is-marked .ensures, at-if1 .if1 .taken, ← c .before .before .has-group-length .ensures, c .before .if2 .taken)
+          (c .headed .ensures .0),
+      c .headed .ensures .1,
+    )
 
 returns-2 : tie.Need-returns-2
 unfolding metaOf

@@ -17,8 +17,12 @@ returns c =
 returns-2 : tie.Need-returns-2
 unfolding uidAt
 returns-2 c =
-    let size = ne-eqb (c .before .before .args .stop - c .before .before .args .start) 0 (λ z. c .if2 .left (omega (arith, z, c .before .before .pre))) in
-    (rw (eq-eqb (c .before .before .args .vr) 0x5549 (c .before .if1 .taken), size) (ap (λ (x : ℕ). At (c .before .before .args .start) x) (omega (arith, c .before .before .pre))), omega (arith, c .before .before .pre))
+    let size = ne-eqb (c .before .before .args .stop - c .before .before .args .start) 0
+    (λ z. c .if2 .left (omega (arith, z, c .before .before .pre))) in (
+      rw (eq-eqb (c .before .before .args .vr) 0x5549 (c .before .if1 .taken), size)
+          (ap (λ (x : ℕ). At (c .before .before .args .start) x) (omega (arith, c .before .before .pre))),
+      omega (arith, c .before .before .pre),
+    )
 
 returns-3 : tie.Need-returns-3
 unfolding uidAt

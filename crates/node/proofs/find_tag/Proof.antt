@@ -1,5 +1,5 @@
--- What is left to find among the members is what was to be found among all of them; and since tags never descend, nothing is left once one is
--- above the tag that is sought.
+-- What is left to find among the members is what was to be found among all of them; and since tags never descend, nothing is left once one
+-- is above the tag that is sought.
 use borrow.Author.Needs.{needs}
 use mathlib.Core.Path.{_≡_, refl, sym, _∙_}
 use Prim.Native.Nat.{ℕ, _-_}
@@ -40,8 +40,11 @@ returns-2 c =
     let at-loop-test = c .before .before .before in
     let at-loop = at-loop-test .before in
     let inside = at-loop-test .loop-test .taken in
-    let inv = at-loop .loop .inv in
-    (sym (find-past _ _ _ _ (inv .1 .0) inside (inv .1 .1) (omega (arith, c .before .before .tag .ensures, c .before .if1 .taken, c .if2 .left))) ∙ inv .0, tt)
+    let inv = at-loop .loop .inv in (
+      sym (find-past _ _ _ _ (inv .1 .0) inside (inv .1 .1)
+          (omega (arith, c .before .before .tag .ensures, c .before .if1 .taken, c .if2 .left))) ∙ inv .0,
+      tt,
+    )
 
 next-requires : tie.Need-next-requires Inv-loop μ-loop
 next-requires c κs =

@@ -25,7 +25,8 @@ returns c =
     let p = start .pre in
     let ns = nodesOf (a .bytes .now) in (
       c .first-is .ensures .0 ∙ ap (firstIs ns (a .wanted)) (c .before .reach .ensures)
-          ∙ sym (halves.find-first ns (a .wanted) 0 (members ns (a .up) (a .to)) (halves.container-ascends _ _ (p .0) (a .up) (a .to) (p .1))),
+          ∙ sym (halves.find-first ns (a .wanted) 0 (members ns (a .up) (a .to))
+          (halves.container-ascends _ _ (p .0) (a .up) (a .to) (p .1))),
       c .first-is .ensures .1,
     )
 

@@ -49,8 +49,11 @@ tag-requires c κs =
     let earlier = c .before .before .before .before .before in
     let start = earlier in
     let p = start .pre in
-    let up = c .member-above in
-    (p .0, halves.member-known _ _ (p .0) (start .args .up) (start .args .to) (p .1) _ (up .result) (up .ensures) (omega (arith, c .before .loop-test .taken, c .before .before .loop .inv)))
+    let up = c .member-above in (
+      p .0,
+      halves.member-known _ _ (p .0) (start .args .up) (start .args .to) (p .1) _ (up .result) (up .ensures)
+          (omega (arith, c .before .loop-test .taken, c .before .before .loop .inv)),
+    )
 
 next-requires : tie.Need-next-requires Inv-loop μ-loop
 next-requires c κs =
@@ -59,8 +62,11 @@ next-requires c κs =
     let earlier = at-loop .before .before .before in
     let start = earlier in
     let p = start .pre in
-    let up = c .before .before .member-above in
-    (p .0, halves.member-known _ _ (p .0) (start .args .up) (start .args .to) (p .1) _ (up .result) (up .ensures) (omega (arith, at-loop-test .loop-test .taken, at-loop .loop .inv)))
+    let up = c .before .before .member-above in (
+      p .0,
+      halves.member-known _ _ (p .0) (start .args .up) (start .args .to) (p .1) _ (up .result) (up .ensures)
+          (omega (arith, at-loop-test .loop-test .taken, at-loop .loop .inv)),
+    )
 
 loop-less : tie.Need-loop-less Inv-loop μ-loop
 loop-less c =
@@ -79,7 +85,8 @@ loop-again c =
     let inv = at-loop .loop .inv in
     let inside = at-loop-test .loop-test .taken in
     let up = at-member-above .member-above in
-    let s = halves.first-side _ _ (p .0) (start .args .up) (start .args .to) (p .1) _ (up .result) (up .ensures) (omega (arith, inside, inv)) (start .args .wanted) in
+    let s = halves.first-side _ _ (p .0) (start .args .up) (start .args .to) (p .1) _ (up .result) (up .ensures)
+    (omega (arith, inside, inv)) (start .args .wanted) in
     let r = s .right (omega (arith, c .before .before .tag .ensures, c .before .if1 .taken)) in
     omega (arith, inv, up .ensures .after, c .next .ensures .0, r)
 
@@ -98,7 +105,8 @@ loop-again-2 c =
     let inv = at-loop .loop .inv in
     let inside = at-loop-test .loop-test .taken in
     let up = c .before .before .member-above in
-    let s = halves.first-side _ _ (p .0) (start .args .up) (start .args .to) (p .1) _ (up .result) (up .ensures) (omega (arith, inside, inv)) (start .args .wanted) in
+    let s = halves.first-side _ _ (p .0) (start .args .up) (start .args .to) (p .1) _ (up .result) (up .ensures)
+    (omega (arith, inside, inv)) (start .args .wanted) in
     let r = s .left (omega (arith, c .before .tag .ensures, c .if1 .left)) in
     omega (arith, inv, inside, up .ensures .low, r)
 

@@ -34,7 +34,8 @@ sub-m c =
     let p = start .pre in
     let h = p .1 in
     let inv = c .before .before .loop .inv in
-    let n = halves.step-up _ _ (p .0) (start .args .up) (h .to) (h .within) (start .args .i) (c .before .before .loop .m) (inv .0) (inv .1 .0) (inv .1 .1) (h .high) (λ e. c .if1 .left (c .before .parent .ensures ∙ e)) in
+    let n = halves.step-up _ _ (p .0) (start .args .up) (h .to) (h .within) (start .args .i) (c .before .before .loop .m) (inv .0)
+    (inv .1 .0) (inv .1 .1) (h .high) (λ e. c .if1 .left (c .before .parent .ensures ∙ e)) in
     omega (arith, c .before .parent .ensures, n .1 .0)
 
 loop-less : tie.Need-loop-less Inv-loop μ-loop
@@ -44,7 +45,8 @@ loop-less c =
     let p = start .pre in
     let h = p .1 in
     let inv = c .before .before .loop .inv in
-    let n = halves.step-up _ _ (p .0) (start .args .up) (h .to) (h .within) (start .args .i) (c .before .before .loop .m) (inv .0) (inv .1 .0) (inv .1 .1) (h .high) (λ e. c .if1 .left (c .before .parent .ensures ∙ e)) in
+    let n = halves.step-up _ _ (p .0) (start .args .up) (h .to) (h .within) (start .args .i) (c .before .before .loop .m) (inv .0)
+    (inv .1 .0) (inv .1 .1) (h .high) (λ e. c .if1 .left (c .before .parent .ensures ∙ e)) in
     omega (arith, c .before .parent .ensures, n .1)
 
 loop-again : tie.Need-loop-again Inv-loop μ-loop
@@ -54,7 +56,8 @@ loop-again c =
     let p = start .pre in
     let h = p .1 in
     let inv = c .before .before .loop .inv in
-    let n = halves.step-up _ _ (p .0) (start .args .up) (h .to) (h .within) (start .args .i) (c .before .before .loop .m) (inv .0) (inv .1 .0) (inv .1 .1) (h .high) (λ e. c .if1 .left (c .before .parent .ensures ∙ e)) in
+    let n = halves.step-up _ _ (p .0) (start .args .up) (h .to) (h .within) (start .args .i) (c .before .before .loop .m) (inv .0)
+    (inv .1 .0) (inv .1 .1) (h .high) (λ e. c .if1 .left (c .before .parent .ensures ∙ e)) in
     let e : c .before .parent .result - 1 ≡ n .0 = omega (arith, c .before .parent .ensures, n .1 .0) in
     rw e (n .1 .1 .0, (omega (arith, n .1, inv), n .1 .1 .1 .1))
 

@@ -27,13 +27,20 @@ wider-requires c κs = search needs
 add-result-2 : tie.Need-add-result-2
 add-result-2 c =
     let entry = c .before .before .before .before in
-    let e = c .wider .ensures ∙ laws.descendants-is (entry .args .bytes .now) (entry .args .rows .now) (entry .pre .0) (entry .args .i) (entry .pre .1) in
-    omega (arith, e, laws.next-within (entry .args .bytes .now) (entry .args .rows .now) (entry .pre .0) (entry .args .i) (entry .pre .1), entry .pre .0 .few)
+    let e = c .wider .ensures
+    ∙ laws.descendants-is (entry .args .bytes .now) (entry .args .rows .now) (entry .pre .0) (entry .args .i) (entry .pre .1) in
+    omega (
+      arith,
+      e,
+      laws.next-within (entry .args .bytes .now) (entry .args .rows .now) (entry .pre .0) (entry .args .i) (entry .pre .1),
+      entry .pre .0 .few,
+    )
 
 returns : tie.Need-returns
 returns c =
     let entry = c .before .before .before .before in
-    let e = c .wider .ensures ∙ laws.descendants-is (entry .args .bytes .now) (entry .args .rows .now) (entry .pre .0) (entry .args .i) (entry .pre .1) in
+    let e = c .wider .ensures
+    ∙ laws.descendants-is (entry .args .bytes .now) (entry .args .rows .now) (entry .pre .0) (entry .args .i) (entry .pre .1) in
     omega (arith, e, laws.next-within (entry .args .bytes .now) (entry .args .rows .now) (entry .pre .0) (entry .args .i) (entry .pre .1))
 
 pub next-spec : {M : Type 1} → statement M

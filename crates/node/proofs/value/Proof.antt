@@ -31,7 +31,8 @@ returns : tie.Need-returns
 returns c =
     let entry = c .before .before .before .before .before .before in
     laws.value-none (entry .args .bytes .now) (entry .args .rows .now) (entry .pre .0) (entry .args .i) (entry .pre .1)
-    (inl (sym (laws.vr-is (entry .args .bytes .now) (entry .args .rows .now) (entry .pre .0) (entry .args .i) (entry .pre .1)) ∙ sym (c .before .before .wider .ensures) ∙ c .before .if1 .taken))
+    (inl (sym (laws.vr-is (entry .args .bytes .now) (entry .args .rows .now) (entry .pre .0) (entry .args .i) (entry .pre .1))
+    ∙ sym (c .before .before .wider .ensures) ∙ c .before .if1 .taken))
 
 slice-aggregate-result-2 : tie.Need-slice-aggregate-result-2
 slice-aggregate-result-2 c = search needs
@@ -41,7 +42,8 @@ returns-2 c =
     let at-wider = c .before .before .before in
     let entry = at-wider .before .before .before .before in
     laws.value-none (entry .args .bytes .now) (entry .args .rows .now) (entry .pre .0) (entry .args .i) (entry .pre .1)
-    (inr (sym (laws.vr-is (entry .args .bytes .now) (entry .args .rows .now) (entry .pre .0) (entry .args .i) (entry .pre .1)) ∙ sym (at-wider .wider .ensures) ∙ c .before .if2 .taken))
+    (inr (sym (laws.vr-is (entry .args .bytes .now) (entry .args .rows .now) (entry .pre .0) (entry .args .i) (entry .pre .1))
+    ∙ sym (at-wider .wider .ensures) ∙ c .before .if2 .taken))
 
 mul-wider-3 : tie.Need-mul-wider-3
 mul-wider-3 c = search needs
@@ -76,7 +78,12 @@ wider-requires-3 c κs = search needs
 add-end : tie.Need-add-end
 add-end c =
     let entry = c .before .before .before .before .before .before .before .before .before .before in
-    omega (arith, c .before .before .wider2 .ensures, c .wider3 .ensures, laws.value-within (entry .args .bytes .now) (entry .args .rows .now) (entry .pre .0) (entry .args .i) (entry .pre .1))
+    omega (
+      arith,
+      c .before .before .wider2 .ensures,
+      c .wider3 .ensures,
+      laws.value-within (entry .args .bytes .now) (entry .args .rows .now) (entry .pre .0) (entry .args .i) (entry .pre .1),
+    )
 
 sub-result : tie.Need-sub-result
 sub-result c = search needs
@@ -87,7 +94,12 @@ part-result-start c = search needs
 part-result-end : tie.Need-part-result-end
 part-result-end c =
     let entry = c .before .before .before .before .before .before .before .before .before .before in
-    omega (arith, c .before .before .wider2 .ensures, c .wider3 .ensures, laws.value-within (entry .args .bytes .now) (entry .args .rows .now) (entry .pre .0) (entry .args .i) (entry .pre .1))
+    omega (
+      arith,
+      c .before .before .wider2 .ensures,
+      c .wider3 .ensures,
+      laws.value-within (entry .args .bytes .now) (entry .args .rows .now) (entry .pre .0) (entry .args .i) (entry .pre .1),
+    )
 
 returns-3 : tie.Need-returns-3
 returns-3 c =
@@ -99,9 +111,11 @@ returns-3 c =
     let s = entry .args .bytes .now in
     let rows = entry .args .rows .now in
     let v = laws.vr-is s rows (entry .pre .0) (entry .args .i) (entry .pre .1) in
-    let e : getD rows (7 * entry .args .i + 3) 0 + getD rows (7 * entry .args .i + 4) 0 - getD rows (7 * entry .args .i + 3) 0 ≡ getD rows (7 * entry .args .i + 4) 0 = omega arith in
+    let e : getD rows (7 * entry .args .i + 3) 0 + getD rows (7 * entry .args .i + 4) 0 - getD rows (7 * entry .args .i + 3) 0
+    ≡ getD rows (7 * entry .args .i + 4) 0 = omega arith in
     rw (at-wide2 .wider2 .ensures, c .before .wider3 .ensures, e)
-    (laws.value-part s rows (entry .pre .0) (entry .args .i) (entry .pre .1) (λ q. at-if1 .if1 .left (at-wider .wider .ensures ∙ v ∙ q)) (λ q. at-if2 .if2 .left (at-wider .wider .ensures ∙ v ∙ q)))
+    (laws.value-part s rows (entry .pre .0) (entry .args .i) (entry .pre .1) (λ q. at-if1 .if1 .left (at-wider .wider .ensures ∙ v ∙ q))
+    (λ q. at-if2 .if2 .left (at-wider .wider .ensures ∙ v ∙ q)))
 
 pub value-spec : {M : Type 1} → statement M
 value-spec =

@@ -13,7 +13,9 @@ use Rattle.painting.proofs.paint_blended.Tie as tie
 
 abbrev Inv-loop : tie.InvT-loop
 Inv-loop pixels g frame masks down right shades table upper₀ lower₀ image₀ rows columns row₀ upper lower image row =
-    (row ≤ g .rows) × ((length upper ≡ length upper₀) × ((length lower ≡ length lower₀) × (Averaged pixels g (usValues masks) (shifted (down / 4) (g .rows) row) lower × (image ≡ painted (quarterShade (shadesOf shades (g .stored)) g pixels frame (usValues masks) down right) (row * g .columns) image₀))))
+    (row ≤ g .rows) × ((length upper ≡ length upper₀) × ((length lower ≡ length lower₀)
+    × (Averaged pixels g (usValues masks) (shifted (down / 4) (g .rows) row) lower × (image
+    ≡ painted (quarterShade (shadesOf shades (g .stored)) g pixels frame (usValues masks) down right) (row * g .columns) image₀))))
 
 abbrev μ-loop : tie.MeasureT-loop
 μ-loop pixels g frame masks down right shades table upper₀ lower₀ image₀ rows columns row₀ upper lower image row =
@@ -26,32 +28,72 @@ loop-holds c =
 
 mul-at : tie.Need-mul-at Inv-loop μ-loop
 mul-at c =
-    omega (arith, row-end (c .before .before .before .before .before .before .before .before .args .g) (c .before .loop .row) (c .loop-test .taken), c .before .before .before .before .before .before .before .before .pre .0 .room)
+    omega (
+      arith,
+      row-end (c .before .before .before .before .before .before .before .before .args .g) (c .before .loop .row) (c .loop-test .taken),
+      c .before .before .before .before .before .before .before .before .pre .0 .room,
+    )
 
 sub-quarter-line : tie.Need-sub-quarter-line Inv-loop μ-loop
 sub-quarter-line c =
     let at-loop = c .before .before .before in
     let entry = at-loop .before .before .before .before .before .before .before in
-    omega (arith, row-end (entry .args .g) (at-loop .loop .row) (c .before .before .loop-test .taken), entry .pre .0 .room, ap length (at-loop .loop .inv .1 .1 .1 .1) ∙ painted-length _ _ _)
+    omega (
+      arith,
+      row-end (entry .args .g) (at-loop .loop .row) (c .before .before .loop-test .taken),
+      entry .pre .0 .room,
+      ap length (at-loop .loop .inv .1 .1 .1 .1) ∙ painted-length _ _ _,
+    )
 
 part-quarter-line-start : tie.Need-part-quarter-line-start Inv-loop μ-loop
 part-quarter-line-start c =
     let at-loop = c .before .before .before in
     let entry = at-loop .before .before .before .before .before .before .before in
-    omega (arith, row-end (entry .args .g) (at-loop .loop .row) (c .before .before .loop-test .taken), entry .pre .0 .room, ap length (at-loop .loop .inv .1 .1 .1 .1) ∙ painted-length _ _ _)
+    omega (
+      arith,
+      row-end (entry .args .g) (at-loop .loop .row) (c .before .before .loop-test .taken),
+      entry .pre .0 .room,
+      ap length (at-loop .loop .inv .1 .1 .1 .1) ∙ painted-length _ _ _,
+    )
 
 part-quarter-line-end : tie.Need-part-quarter-line-end Inv-loop μ-loop
 part-quarter-line-end c =
     let at-loop = c .before .before .before in
     let entry = at-loop .before .before .before .before .before .before .before in
-    omega (arith, row-end (entry .args .g) (at-loop .loop .row) (c .before .before .loop-test .taken), entry .pre .0 .room, ap length (at-loop .loop .inv .1 .1 .1 .1) ∙ painted-length _ _ _)
+    omega (
+      arith,
+      row-end (entry .args .g) (at-loop .loop .row) (c .before .before .loop-test .taken),
+      entry .pre .0 .room,
+      ap length (at-loop .loop .inv .1 .1 .1 .1) ∙ painted-length _ _ _,
+    )
 
 quarter-line-requires : tie.Need-quarter-line-requires Inv-loop μ-loop
 quarter-line-requires c κs =
     let at-loop-test = c .before .before .before in
     let at-loop = at-loop-test .before in
-    let entry = at-loop .before .before .before .before .before .before .before in
-    (record { shape = entry .pre .0 .shape; inside = entry .pre .0 .inside; lies = at-loop-test .loop-test .taken; room = simp (length-take, length-drop) (omega (arith, row-end (entry .args .g) (at-loop .loop .row) (at-loop-test .loop-test .taken), entry .pre .0 .room, ap length (at-loop .loop .inv .1 .1 .1 .1) ∙ painted-length _ _ _)) }, (entry .pre .1 .0, (entry .pre .1 .1 .0, (omega (arith, at-loop .loop .inv .1 .0, entry .pre .1 .1 .1 .0), (omega (arith, at-loop .loop .inv .1 .1 .0, entry .pre .1 .1 .1 .1 .0), at-loop .loop .inv .1 .1 .1 .0)))))
+    let entry = at-loop .before .before .before .before .before .before .before in (
+      record {
+        shape = entry .pre .0 .shape;
+        inside = entry .pre .0 .inside;
+        lies = at-loop-test .loop-test .taken;
+        room = simp (length-take, length-drop) (omega (
+          arith,
+          row-end (entry .args .g) (at-loop .loop .row) (at-loop-test .loop-test .taken),
+          entry .pre .0 .room,
+          ap length (at-loop .loop .inv .1 .1 .1 .1) ∙ painted-length _ _ _,
+        ));
+      },
+      (
+        entry .pre .1 .0,
+        (
+          entry .pre .1 .1 .0,
+          (
+            omega (arith, at-loop .loop .inv .1 .0, entry .pre .1 .1 .1 .0),
+            (omega (arith, at-loop .loop .inv .1 .1 .0, entry .pre .1 .1 .1 .1 .0), at-loop .loop .inv .1 .1 .1 .0),
+          ),
+        ),
+      ),
+    )
 
 add-row : tie.Need-add-row Inv-loop μ-loop
 add-row c =
@@ -71,8 +113,25 @@ loop-again c =
     let at-quarter-line = at-upper .before in
     let at-loop-test = at-quarter-line .before .before .before .before in
     let at-loop = at-loop-test .before in
-    let entry = at-loop .before .before .before .before .before .before .before in
-    (omega (arith, at-loop-test .loop-test .taken), (at-upper .upper .given ∙ at-loop .loop .inv .1 .0, (at-lower .lower .given ∙ at-loop .loop .inv .1 .1 .0, (at-quarter-line .quarter-line .ensures .1, next-line (quarterShade (shadesOf (entry .args .shades) ((entry .args .g) .stored)) (entry .args .g) (entry .args .pixels .now) (entry .args .frame) (usValues (entry .args .masks .now)) (entry .args .down) (entry .args .right)) (at-loop .loop .row) (entry .args .g .columns) (entry .args .image .now) (at-loop .loop .image) (at-quarter-line .quarter-line .last .1 .1 .1 .1 .1 .1 .1 .1 .1 .1 .1 .0) (omega (arith, row-end (entry .args .g) (at-loop .loop .row) (at-loop-test .loop-test .taken), entry .pre .0 .room)) (at-loop .loop .inv .1 .1 .1 .1) (at-quarter-line .quarter-line .ensures .0)))))
+    let entry = at-loop .before .before .before .before .before .before .before in (
+      omega (arith, at-loop-test .loop-test .taken),
+      (
+        at-upper .upper .given ∙ at-loop .loop .inv .1 .0,
+        (
+          at-lower .lower .given ∙ at-loop .loop .inv .1 .1 .0,
+          (
+            at-quarter-line .quarter-line .ensures .1,
+            next-line
+                (quarterShade (shadesOf (entry .args .shades) ((entry .args .g) .stored)) (entry .args .g) (entry .args .pixels .now)
+                (entry .args .frame) (usValues (entry .args .masks .now)) (entry .args .down) (entry .args .right)) (at-loop .loop .row)
+                (entry .args .g .columns) (entry .args .image .now) (at-loop .loop .image)
+                (at-quarter-line .quarter-line .last .1 .1 .1 .1 .1 .1 .1 .1 .1 .1 .1 .0)
+                (omega (arith, row-end (entry .args .g) (at-loop .loop .row) (at-loop-test .loop-test .taken), entry .pre .0 .room))
+                (at-loop .loop .inv .1 .1 .1 .1) (at-quarter-line .quarter-line .ensures .0),
+          ),
+        ),
+      ),
+    )
 
 same-length : tie.Need-same-length Inv-loop μ-loop
 same-length c =

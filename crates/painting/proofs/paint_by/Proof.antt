@@ -6,8 +6,13 @@ use Rattle.painting.proofs.paint_by.Tie as tie
 paint-whole-requires : tie.Need-paint-whole-requires
 paint-whole-requires c κs =
     let at-if1 = c .before .before .before in
-    let entry = at-if1 .before .before .before .before .before .before in
-    (entry .pre .0, (entry .pre .1 .0, (entry .pre .1 .1 .0, (entry .pre .1 .1 .1 .0, (at-if1 .if1 .taken, (c .before .before .if2 .taken, entry .pre .1 .1 .1 .1))))))
+    let entry = at-if1 .before .before .before .before .before .before in (
+      entry .pre .0,
+      (
+        entry .pre .1 .0,
+        (entry .pre .1 .1 .0, (entry .pre .1 .1 .1 .0, (at-if1 .if1 .taken, (c .before .before .if2 .taken, entry .pre .1 .1 .1 .1)))),
+      ),
+    )
 
 paint-quarters-requires : tie.Need-paint-quarters-requires
 paint-quarters-requires c κs =

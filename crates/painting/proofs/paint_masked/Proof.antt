@@ -26,8 +26,17 @@ slice-aggregate-paint-by c =
 paint-by-requires : tie.Need-paint-by-requires
 paint-by-requires c κs =
     let at-offset-of = c .before .before .before in
-    let entry = at-offset-of .before .before .before .before .before in
-    (entry .pre .0, (record { taken = entry .pre .1 .0; down-most = at-offset-of .offset-of .ensures .most; right-most = c .before .before .offset-of2 .ensures .most }, (entry .pre .1 .1 .1 .0, (entry .pre .1 .1 .1 .1, search needs))))
+    let entry = at-offset-of .before .before .before .before .before in (
+      entry .pre .0,
+      (
+        record {
+          taken = entry .pre .1 .0;
+          down-most = at-offset-of .offset-of .ensures .most;
+          right-most = c .before .before .offset-of2 .ensures .most;
+        },
+        (entry .pre .1 .1 .1 .0, (entry .pre .1 .1 .1 .1, search needs)),
+      ),
+    )
 
 same-length : tie.Need-same-length
 same-length c =
@@ -39,7 +48,10 @@ returns c =
     let at-offset-of2 = at-paint-by .before .before .before in
     let at-offset-of = at-offset-of2 .before in
     let entry = at-offset-of .before .before .before .before .before in
-    at-paint-by .paint-by .ensures ∙ painted-same _ _ (samplesOf (entry .args .g)) (entry .args .image .now) (λ i l. offset-shade (shadesOf (entry .args .shades) (entry .args .g .stored)) (entry .args .g) (entry .args .pixels .now) (entry .args .frame) (usValues (entry .args .masks .now)) (entry .args .moves) (at-offset-of .offset-of .result) (at-offset-of2 .offset-of2 .result) i (at-offset-of .offset-of .ensures) (at-offset-of2 .offset-of2 .ensures))
+    at-paint-by .paint-by .ensures ∙ painted-same _ _ (samplesOf (entry .args .g)) (entry .args .image .now) (λ i l.
+    offset-shade (shadesOf (entry .args .shades) (entry .args .g .stored)) (entry .args .g) (entry .args .pixels .now)
+    (entry .args .frame) (usValues (entry .args .masks .now)) (entry .args .moves) (at-offset-of .offset-of .result)
+    (at-offset-of2 .offset-of2 .result) i (at-offset-of .offset-of .ensures) (at-offset-of2 .offset-of2 .ensures))
 
 pub paint-masked-spec : {M : Type 1} → statement M
 paint-masked-spec =

@@ -30,22 +30,49 @@ mul-at c =
 sub-native-line : tie.Need-sub-native-line Inv-loop μ-loop
 sub-native-line c =
     let entry = c .before .before .before .before .before in
-    omega (arith, row-end (entry .args .g) (c .before .loop .row) (c .loop-test .taken), entry .pre .0 .room, ap length (c .before .loop .inv .1) ∙ painted-length _ _ _)
+    omega (
+      arith,
+      row-end (entry .args .g) (c .before .loop .row) (c .loop-test .taken),
+      entry .pre .0 .room,
+      ap length (c .before .loop .inv .1) ∙ painted-length _ _ _,
+    )
 
 part-native-line-start : tie.Need-part-native-line-start Inv-loop μ-loop
 part-native-line-start c =
     let entry = c .before .before .before .before .before in
-    omega (arith, row-end (entry .args .g) (c .before .loop .row) (c .loop-test .taken), entry .pre .0 .room, ap length (c .before .loop .inv .1) ∙ painted-length _ _ _)
+    omega (
+      arith,
+      row-end (entry .args .g) (c .before .loop .row) (c .loop-test .taken),
+      entry .pre .0 .room,
+      ap length (c .before .loop .inv .1) ∙ painted-length _ _ _,
+    )
 
 part-native-line-end : tie.Need-part-native-line-end Inv-loop μ-loop
 part-native-line-end c =
     let entry = c .before .before .before .before .before in
-    omega (arith, row-end (entry .args .g) (c .before .loop .row) (c .loop-test .taken), entry .pre .0 .room, ap length (c .before .loop .inv .1) ∙ painted-length _ _ _)
+    omega (
+      arith,
+      row-end (entry .args .g) (c .before .loop .row) (c .loop-test .taken),
+      entry .pre .0 .room,
+      ap length (c .before .loop .inv .1) ∙ painted-length _ _ _,
+    )
 
 native-line-requires : tie.Need-native-line-requires Inv-loop μ-loop
 native-line-requires c κs =
-    let entry = c .before .before .before .before .before .before in
-    (record { shape = entry .pre .0 .shape; inside = entry .pre .0 .inside; lies = c .before .loop-test .taken; room = simp (length-take, length-drop) (omega (arith, row-end (entry .args .g) (c .before .before .loop .row) (c .before .loop-test .taken), entry .pre .0 .room, ap length (c .before .before .loop .inv .1) ∙ painted-length _ _ _)) }, entry .pre .1)
+    let entry = c .before .before .before .before .before .before in (
+      record {
+        shape = entry .pre .0 .shape;
+        inside = entry .pre .0 .inside;
+        lies = c .before .loop-test .taken;
+        room = simp (length-take, length-drop) (omega (
+          arith,
+          row-end (entry .args .g) (c .before .before .loop .row) (c .before .loop-test .taken),
+          entry .pre .0 .room,
+          ap length (c .before .before .loop .inv .1) ∙ painted-length _ _ _,
+        ));
+      },
+      entry .pre .1,
+    )
 
 add-row : tie.Need-add-row Inv-loop μ-loop
 add-row c =
@@ -62,8 +89,14 @@ loop-again : tie.Need-loop-again Inv-loop μ-loop
 loop-again c =
     let at-loop-test = c .before .before .before .before in
     let at-loop = at-loop-test .before in
-    let entry = at-loop .before .before .before .before in
-    (omega (arith, at-loop-test .loop-test .taken), next-line (nativeShade (shadesOf (entry .args .shades) ((entry .args .g) .stored)) (entry .args .g) (entry .args .pixels .now) (entry .args .frame)) (at-loop .loop .row) (entry .args .g .columns) (entry .args .image .now) (at-loop .loop .image) (c .before .before .native-line .last .1 .1 .1 .1 .1 .1 .0) (omega (arith, row-end (entry .args .g) (at-loop .loop .row) (at-loop-test .loop-test .taken), entry .pre .0 .room)) (at-loop .loop .inv .1) (c .before .before .native-line .ensures))
+    let entry = at-loop .before .before .before .before in (
+      omega (arith, at-loop-test .loop-test .taken),
+      next-line (nativeShade (shadesOf (entry .args .shades) ((entry .args .g) .stored))
+          (entry .args .g) (entry .args .pixels .now) (entry .args .frame)) (at-loop .loop .row) (entry .args .g .columns)
+          (entry .args .image .now) (at-loop .loop .image) (c .before .before .native-line .last .1 .1 .1 .1 .1 .1 .0)
+          (omega (arith, row-end (entry .args .g) (at-loop .loop .row) (at-loop-test .loop-test .taken), entry .pre .0 .room))
+          (at-loop .loop .inv .1) (c .before .before .native-line .ensures),
+    )
 
 same-length : tie.Need-same-length Inv-loop μ-loop
 same-length c =

@@ -9,8 +9,10 @@ use Rattle.painting.proofs.paint_quarters.Tie as tie
 
 moved-requires : tie.Need-moved-requires
 moved-requires c κs =
-    let entry = c .before .before .before .before .before in
-    (entry .pre .0 .shape .rows-some, (entry .pre .0 .shape .rows-most, omega (arith, entry .pre .1 .0 .down-most, div-add-mod' (entry .args .down) 4)))
+    let entry = c .before .before .before .before .before in (
+      entry .pre .0 .shape .rows-some,
+      (entry .pre .0 .shape .rows-most, omega (arith, entry .pre .1 .0 .down-most, div-add-mod' (entry .args .down) 4)),
+    )
 
 slice-aggregate-average-row : tie.Need-slice-aggregate-average-row
 slice-aggregate-average-row c =
@@ -18,8 +20,13 @@ slice-aggregate-average-row c =
 
 average-row-requires : tie.Need-average-row-requires
 average-row-requires c κs =
-    let entry = c .before .before .before .before .before .before .before in
-    (entry .pre .0 .shape, (entry .pre .1 .0 .taken, (c .before .moved .ensures .1, omega (arith, entry .pre .0 .shape .columns-most, length-replicate {A = ℕ} 65664 0))))
+    let entry = c .before .before .before .before .before .before .before in (
+      entry .pre .0 .shape,
+      (
+        entry .pre .1 .0 .taken,
+        (c .before .moved .ensures .1, omega (arith, entry .pre .0 .shape .columns-most, length-replicate {A = ℕ} 65664 0)),
+      ),
+    )
 
 slice-aggregate-paint-blended : tie.Need-slice-aggregate-paint-blended
 slice-aggregate-paint-blended c =
@@ -29,8 +36,16 @@ paint-blended-requires : tie.Need-paint-blended-requires
 paint-blended-requires c κs =
     let at-average-row = c .before .before .before .before in
     let at-moved = at-average-row .before .before in
-    let entry = at-moved .before .before .before .before .before .before in
-    (entry .pre .0, (entry .pre .1 .0, (entry .pre .1 .1 .0, (entry .pre .1 .1 .1, (search needs, rw (at-moved .moved .ensures .0) at (at-average-row .average-row .ensures))))))
+    let entry = at-moved .before .before .before .before .before .before in (
+      entry .pre .0,
+      (
+        entry .pre .1 .0,
+        (
+          entry .pre .1 .1 .0,
+          (entry .pre .1 .1 .1, (search needs, rw (at-moved .moved .ensures .0) at (at-average-row .average-row .ensures))),
+        ),
+      ),
+    )
 
 same-length : tie.Need-same-length
 same-length c =

@@ -13,7 +13,8 @@ use Rattle.painting.proofs.paint_whole.Tie as tie
 
 abbrev Inv-loop : tie.InvT-loop
 Inv-loop pixels g frame masks down right shades table sums₀ image₀ rows columns row₀ sums image row =
-    (row ≤ g .rows) × ((length sums ≡ length sums₀) × (image ≡ painted (quarterShade (shadesOf shades (g .stored)) g pixels frame (usValues masks) down right) (row * g .columns) image₀))
+    (row ≤ g .rows) × ((length sums ≡ length sums₀) × (image
+    ≡ painted (quarterShade (shadesOf shades (g .stored)) g pixels frame (usValues masks) down right) (row * g .columns) image₀))
 
 abbrev μ-loop : tie.MeasureT-loop
 μ-loop pixels g frame masks down right shades table sums₀ image₀ rows columns row₀ sums image row =
@@ -31,23 +32,62 @@ mul-at c =
 sub-whole-line : tie.Need-sub-whole-line Inv-loop μ-loop
 sub-whole-line c =
     let entry = c .before .before .before .before .before .before .before .before in
-    omega (arith, row-end (entry .args .g) (c .before .before .loop .row) (c .before .loop-test .taken), entry .pre .0 .room, ap length (c .before .before .loop .inv .1 .1) ∙ painted-length _ _ _)
+    omega (
+      arith,
+      row-end (entry .args .g) (c .before .before .loop .row) (c .before .loop-test .taken),
+      entry .pre .0 .room,
+      ap length (c .before .before .loop .inv .1 .1) ∙ painted-length _ _ _,
+    )
 
 part-whole-line-start : tie.Need-part-whole-line-start Inv-loop μ-loop
 part-whole-line-start c =
     let entry = c .before .before .before .before .before .before .before .before in
-    omega (arith, row-end (entry .args .g) (c .before .before .loop .row) (c .before .loop-test .taken), entry .pre .0 .room, ap length (c .before .before .loop .inv .1 .1) ∙ painted-length _ _ _)
+    omega (
+      arith,
+      row-end (entry .args .g) (c .before .before .loop .row) (c .before .loop-test .taken),
+      entry .pre .0 .room,
+      ap length (c .before .before .loop .inv .1 .1) ∙ painted-length _ _ _,
+    )
 
 part-whole-line-end : tie.Need-part-whole-line-end Inv-loop μ-loop
 part-whole-line-end c =
     let entry = c .before .before .before .before .before .before .before .before in
-    omega (arith, row-end (entry .args .g) (c .before .before .loop .row) (c .before .loop-test .taken), entry .pre .0 .room, ap length (c .before .before .loop .inv .1 .1) ∙ painted-length _ _ _)
+    omega (
+      arith,
+      row-end (entry .args .g) (c .before .before .loop .row) (c .before .loop-test .taken),
+      entry .pre .0 .room,
+      ap length (c .before .before .loop .inv .1 .1) ∙ painted-length _ _ _,
+    )
 
 whole-line-requires : tie.Need-whole-line-requires Inv-loop μ-loop
 whole-line-requires c κs =
     let at-loop = c .before .before .before in
-    let entry = at-loop .before .before .before .before .before .before in
-    (record { shape = entry .pre .0 .shape; inside = entry .pre .0 .inside; lies = c .before .before .loop-test .taken; room = simp (length-take, length-drop) (omega (arith, row-end (entry .args .g) (at-loop .loop .row) (c .before .before .loop-test .taken), entry .pre .0 .room, ap length (at-loop .loop .inv .1 .1) ∙ painted-length _ _ _)) }, (entry .pre .1 .0, (entry .pre .1 .1 .0, (entry .pre .1 .1 .1 .0, (entry .pre .1 .1 .1 .1 .0, (entry .pre .1 .1 .1 .1 .1 .0, omega (arith, at-loop .loop .inv .1 .0, entry .pre .1 .1 .1 .1 .1 .1)))))))
+    let entry = at-loop .before .before .before .before .before .before in (
+      record {
+        shape = entry .pre .0 .shape;
+        inside = entry .pre .0 .inside;
+        lies = c .before .before .loop-test .taken;
+        room = simp (length-take, length-drop) (omega (
+          arith,
+          row-end (entry .args .g) (at-loop .loop .row) (c .before .before .loop-test .taken),
+          entry .pre .0 .room,
+          ap length (at-loop .loop .inv .1 .1) ∙ painted-length _ _ _,
+        ));
+      },
+      (
+        entry .pre .1 .0,
+        (
+          entry .pre .1 .1 .0,
+          (
+            entry .pre .1 .1 .1 .0,
+            (
+              entry .pre .1 .1 .1 .1 .0,
+              (entry .pre .1 .1 .1 .1 .1 .0, omega (arith, at-loop .loop .inv .1 .0, entry .pre .1 .1 .1 .1 .1 .1)),
+            ),
+          ),
+        ),
+      ),
+    )
 
 add-row : tie.Need-add-row Inv-loop μ-loop
 add-row c =
@@ -66,8 +106,19 @@ loop-again c =
     let at-whole-line = at-sums .before in
     let at-loop-test = at-whole-line .before .before .before in
     let at-loop = at-loop-test .before in
-    let entry = at-loop .before .before .before .before .before .before in
-    (omega (arith, at-loop-test .loop-test .taken), (at-sums .sums .given ∙ at-loop .loop .inv .1 .0, next-line (quarterShade (shadesOf (entry .args .shades) ((entry .args .g) .stored)) (entry .args .g) (entry .args .pixels .now) (entry .args .frame) (usValues (entry .args .masks .now)) (entry .args .down) (entry .args .right)) (at-loop .loop .row) (entry .args .g .columns) (entry .args .image .now) (at-loop .loop .image) (at-whole-line .whole-line .last .1 .1 .1 .1 .1 .1 .1 .1 .1 .1 .0) (omega (arith, row-end (entry .args .g) (at-loop .loop .row) (at-loop-test .loop-test .taken), entry .pre .0 .room)) (at-loop .loop .inv .1 .1) (at-whole-line .whole-line .ensures)))
+    let entry = at-loop .before .before .before .before .before .before in (
+      omega (arith, at-loop-test .loop-test .taken),
+      (
+        at-sums .sums .given ∙ at-loop .loop .inv .1 .0,
+        next-line
+            (quarterShade (shadesOf (entry .args .shades) ((entry .args .g) .stored)) (entry .args .g) (entry .args .pixels .now)
+            (entry .args .frame) (usValues (entry .args .masks .now)) (entry .args .down) (entry .args .right)) (at-loop .loop .row)
+            (entry .args .g .columns) (entry .args .image .now) (at-loop .loop .image)
+            (at-whole-line .whole-line .last .1 .1 .1 .1 .1 .1 .1 .1 .1 .1 .0)
+            (omega (arith, row-end (entry .args .g) (at-loop .loop .row) (at-loop-test .loop-test .taken), entry .pre .0 .room))
+            (at-loop .loop .inv .1 .1) (at-whole-line .whole-line .ensures),
+      ),
+    )
 
 same-length : tie.Need-same-length Inv-loop μ-loop
 same-length c =

@@ -36,7 +36,11 @@ loop-holds c =
 add-sample : tie.Need-add-sample Inv-loop μ-loop
 add-sample c =
     let entry = c .before .before .before .before .before in
-    omega (arith, run-at (entry .args .from) (entry .args .g .columns) (entry .args .g .width) (length (entry .args .pixels .now)) (c .before .loop .c) (width-some _ (entry .pre .0 .shape .width)) (entry .pre .0 .inside) (c .loop-test .taken) .1)
+    omega (
+      arith,
+      run-at (entry .args .from) (entry .args .g .columns) (entry .args .g .width) (length (entry .args .pixels .now))
+          (c .before .loop .c) (width-some _ (entry .pre .0 .shape .width)) (entry .pre .0 .inside) (c .loop-test .taken) .1,
+    )
 
 sample-requires : tie.Need-sample-requires Inv-loop μ-loop
 sample-requires c κs =
@@ -44,7 +48,8 @@ sample-requires c κs =
     record {
       width = entry .pre .0 .shape .width;
       kept = ap (λ (x : ℕ). x - 1) (c .before .before .power .ensures);
-      inside = run-at (entry .args .from) (entry .args .g .columns) (entry .args .g .width) (length (entry .args .pixels .now)) (c .before .loop .c) (width-some _ (entry .pre .0 .shape .width)) (entry .pre .0 .inside) (c .loop-test .taken) .0;
+      inside = run-at (entry .args .from) (entry .args .g .columns) (entry .args .g .width) (length (entry .args .pixels .now))
+          (c .before .loop .c) (width-some _ (entry .pre .0 .shape .width)) (entry .pre .0 .inside) (c .loop-test .taken) .0;
     }
 
 cast-sums : tie.Need-cast-sums Inv-loop μ-loop
@@ -61,20 +66,35 @@ slice-read-sums : tie.Need-slice-read-sums Inv-loop μ-loop
 slice-read-sums c =
     let at-loop = c .before .before .before in
     let entry = at-loop .before .before .before .before in
-    omega (arith, ap length (at-loop .loop .inv .1) ∙ painted-length _ _ _, entry .pre .1 (at-loop .loop .c) (c .before .before .loop-test .taken) .0)
+    omega (
+      arith,
+      ap length (at-loop .loop .inv .1) ∙ painted-length _ _ _,
+      entry .pre .1 (at-loop .loop .c) (c .before .before .loop-test .taken) .0,
+    )
 
 add-sums : tie.Need-add-sums Inv-loop μ-loop
 add-sums c =
     let at-loop = c .before .before .before in
     let at-power = at-loop .before in
     let entry = at-power .before .before .before in
-    omega (arith, ap (λ (s : List ℕ). getD s (at-loop .loop .c) 0) (at-loop .loop .inv .1) ∙ painted-beyond _ _ _ _ (omega arith), entry .pre .1 (at-loop .loop .c) (c .before .before .loop-test .taken) .1, c .before .sample .ensures .1, power-most (entry .args .g .stored) (entry .pre .0 .shape .stored-most), at-power .power .ensures)
+    omega (
+      arith,
+      ap (λ (s : List ℕ). getD s (at-loop .loop .c) 0) (at-loop .loop .inv .1) ∙ painted-beyond _ _ _ _ (omega arith),
+      entry .pre .1 (at-loop .loop .c) (c .before .before .loop-test .taken) .1,
+      c .before .sample .ensures .1,
+      power-most (entry .args .g .stored) (entry .pre .0 .shape .stored-most),
+      at-power .power .ensures,
+    )
 
 slice-write-sums : tie.Need-slice-write-sums Inv-loop μ-loop
 slice-write-sums c =
     let at-loop = c .before .before .before in
     let entry = at-loop .before .before .before .before in
-    omega (arith, ap length (at-loop .loop .inv .1) ∙ painted-length _ _ _, entry .pre .1 (at-loop .loop .c) (c .before .before .loop-test .taken) .0)
+    omega (
+      arith,
+      ap length (at-loop .loop .inv .1) ∙ painted-length _ _ _,
+      entry .pre .1 (at-loop .loop .c) (c .before .before .loop-test .taken) .0,
+    )
 
 add-c : tie.Need-add-c Inv-loop μ-loop
 add-c c =
@@ -85,8 +105,14 @@ loop-less c =
     omega arith
 
 loop-again : tie.Need-loop-again Inv-loop μ-loop
-loop-again c =
-    (omega arith, rw (c .before .before .before .loop .inv .1, c .before .sample .ensures .0) (added-more (λ c'. cellAt (c .before .before .before .before .before .before .before .args .g) (c .before .before .before .before .before .before .before .args .pixels .now) (c .before .before .before .before .before .before .before .args .from + c')) (c .before .before .before .loop .c) (c .before .before .before .before .before .before .before .args .sums .now)))
+loop-again c = (
+  omega arith,
+  rw (c .before .before .before .loop .inv .1, c .before .sample .ensures .0) (added-more (λ c'.
+      cellAt (c .before .before .before .before .before .before .before .args .g)
+      (c .before .before .before .before .before .before .before .args .pixels .now)
+      (c .before .before .before .before .before .before .before .args .from + c')) (c .before .before .before .loop .c)
+      (c .before .before .before .before .before .before .before .args .sums .now)),
+)
 
 same-length : tie.Need-same-length Inv-loop μ-loop
 same-length c =

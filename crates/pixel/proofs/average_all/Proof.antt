@@ -55,15 +55,38 @@ wider-requires c κs =
 average-requires : tie.Need-average-requires Inv-loop μ-loop
 average-requires c κs =
     let at-loop = c .before .before .before in
-    let entry = at-loop .before .before in
-    (entry .pre .0, (entry .pre .1 .0, (omega (arith, c .wider .ensures, ap (λ (s : List ℕ). getD s (at-loop .loop .j) 0) (at-loop .loop .inv .1) ∙ painted-beyond _ _ _ _ (omega arith), entry .pre .1 .1 .1 (at-loop .loop .j) (c .before .before .loop-test .taken)), refl)))
+    let entry = at-loop .before .before in (
+      entry .pre .0,
+      (
+        entry .pre .1 .0,
+        (
+          omega (
+            arith,
+            c .wider .ensures,
+            ap (λ (s : List ℕ). getD s (at-loop .loop .j) 0) (at-loop .loop .inv .1) ∙ painted-beyond _ _ _ _ (omega arith),
+            entry .pre .1 .1 .1 (at-loop .loop .j) (c .before .before .loop-test .taken),
+          ),
+          refl,
+        ),
+      ),
+    )
 
 cast-sums : tie.Need-cast-sums Inv-loop μ-loop
 cast-sums c =
     let at-loop-test = c .before .before .before in
     let at-loop = at-loop-test .before in
     let entry = at-loop .before .before in
-    omega (arith, c .average .ensures, average-fits (c .before .wider .result) (entry .args .n) (entry .pre .0) (entry .pre .1 .0) (omega (arith, c .before .wider .ensures, ap (λ (s : List ℕ). getD s (at-loop .loop .j) 0) (at-loop .loop .inv .1) ∙ painted-beyond _ _ _ _ (omega arith), entry .pre .1 .1 .1 (at-loop .loop .j) (at-loop-test .loop-test .taken))))
+    omega (
+      arith,
+      c .average .ensures,
+      average-fits (c .before .wider .result) (entry .args .n) (entry .pre .0) (entry .pre .1 .0)
+          (omega (
+            arith,
+            c .before .wider .ensures,
+            ap (λ (s : List ℕ). getD s (at-loop .loop .j) 0) (at-loop .loop .inv .1) ∙ painted-beyond _ _ _ _ (omega arith),
+            entry .pre .1 .1 .1 (at-loop .loop .j) (at-loop-test .loop-test .taken),
+          )),
+    )
 
 mul-sums : tie.Need-mul-sums Inv-loop μ-loop
 mul-sums c =
@@ -87,8 +110,11 @@ loop-less c =
 loop-again : tie.Need-loop-again Inv-loop μ-loop
 loop-again c =
     let at-loop = c .before .before .before .before in
-    let entry = at-loop .before .before in
-    (omega arith, rw (c .average .ensures, c .before .wider .ensures, at-loop .loop .inv .1) (changed-more (λ x. averageOf x (entry .args .n)) (at-loop .loop .j) (entry .args .sums .now)))
+    let entry = at-loop .before .before in (
+      omega arith,
+      rw (c .average .ensures, c .before .wider .ensures, at-loop .loop .inv .1)
+          (changed-more (λ x. averageOf x (entry .args .n)) (at-loop .loop .j) (entry .args .sums .now)),
+    )
 
 same-length : tie.Need-same-length Inv-loop μ-loop
 same-length c =

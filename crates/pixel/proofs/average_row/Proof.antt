@@ -17,8 +17,18 @@ add-average-all c = search needs
 average-all-requires : tie.Need-average-all-requires
 average-all-requires c κs =
     let at-mask-row = c .before .before .before in
-    let entry = at-mask-row .before .before .before .before .before in
-    (omega (arith, usValues-length (entry .args .masks .now), entry .pre .1 .0 .some), (omega (arith, usValues-length (entry .args .masks .now), entry .pre .1 .0 .few), (search needs, spread-fits (entry .args .pixels .now) (entry .args .g) (usValues (entry .args .masks .now)) (entry .args .row) _ (entry .pre .1 .0 .few) (entry .pre .0 .stored-most) (at-mask-row .mask-row .ensures))))
+    let entry = at-mask-row .before .before .before .before .before in (
+      omega (arith, usValues-length (entry .args .masks .now), entry .pre .1 .0 .some),
+      (
+        omega (arith, usValues-length (entry .args .masks .now), entry .pre .1 .0 .few),
+        (
+          search needs,
+          spread-fits
+              (entry .args .pixels .now) (entry .args .g) (usValues (entry .args .masks .now)) (entry .args .row) _ (entry .pre .1 .0 .few)
+              (entry .pre .0 .stored-most) (at-mask-row .mask-row .ensures),
+        ),
+      ),
+    )
 
 same-length : tie.Need-same-length
 same-length c = search needs
@@ -28,7 +38,9 @@ returns c =
     let at-cells = c .before .before .before .before .before in
     let at-mask-row = at-cells .before in
     let entry = at-mask-row .before .before .before .before .before in
-    rw (c .before .before .average-all .ensures) (averaged (entry .args .pixels .now) (entry .args .g) (usValues (entry .args .masks .now)) (entry .args .row) _ _ (sym (usValues-length (entry .args .masks .now))) (omega (arith, at-cells .cells .given, entry .pre .1 .1 .1)) (at-mask-row .mask-row .ensures))
+    rw (c .before .before .average-all .ensures) (averaged (entry .args .pixels .now) (entry .args .g) (usValues (entry .args .masks .now))
+    (entry .args .row) _ _ (sym (usValues-length (entry .args .masks .now)))
+    (omega (arith, at-cells .cells .given, entry .pre .1 .1 .1)) (at-mask-row .mask-row .ensures))
 
 pub average-row-spec : {M : Type 1} → statement M
 average-row-spec =

@@ -37,7 +37,12 @@ mul-t11 c =
 slice-read-t13 : tie.Need-slice-read-t13 Inv-loop μ-loop
 slice-read-t13 c =
     let entry = c .before .before .before .before .before in
-    omega (arith, ap length (c .before .before .loop .inv .1) ∙ from-length _ _ _ _, entry .pre .above .at (entry .args .s + c .before .before .loop .c) (omega (arith, entry .pre .most, c .before .loop-test .taken)) .0)
+    omega (
+      arith,
+      ap length (c .before .before .loop .inv .1) ∙ from-length _ _ _ _,
+      entry .pre .above .at
+          (entry .args .s + c .before .before .loop .c) (omega (arith, entry .pre .most, c .before .loop-test .taken)) .0,
+    )
 
 add-t14 : tie.Need-add-t14 Inv-loop μ-loop
 add-t14 c =
@@ -53,7 +58,12 @@ slice-read-t17 : tie.Need-slice-read-t17 Inv-loop μ-loop
 slice-read-t17 c =
     let at-loop = c .before .before .before in
     let entry = at-loop .before .before .before in
-    omega (arith, ap length (at-loop .loop .inv .1) ∙ from-length _ _ _ _, entry .pre .above .at (entry .args .s + at-loop .loop .c + 1) (omega (arith, entry .pre .most, c .before .before .loop-test .taken)) .0)
+    omega (
+      arith,
+      ap length (at-loop .loop .inv .1) ∙ from-length _ _ _ _,
+      entry .pre .above .at (entry .args .s + at-loop .loop .c + 1)
+          (omega (arith, entry .pre .most, c .before .before .loop-test .taken)) .0,
+    )
 
 mul-t19 : tie.Need-mul-t19 Inv-loop μ-loop
 mul-t19 c =
@@ -90,8 +100,14 @@ blended-requires : tie.Need-blended-requires Inv-loop μ-loop
 blended-requires c κs =
     let at-loop-test = c .before .before .before .before in
     let at-loop = at-loop-test .before in
-    let entry = at-loop .before .before .before in
-    (subst (Cells 65535) (sym (block-now (entry .args .upper .now) (entry .args .lower .now) (entry .args .w) (entry .args .s) (at-loop .loop .c) (at-loop .loop .upper) (at-loop .loop .inv .1))) (cells-more (2 ^ entry .args .g .stored - 1) 65535 _ (omega (arith, power-most (entry .args .g .stored) (entry .pre .shape .stored-most))) (block-cells (entry .args .g) (entry .args .upper .now) (entry .args .lower .now) (entry .pre .above) (entry .pre .below) (entry .args .s + at-loop .loop .c) (omega (arith, entry .pre .most, at-loop-test .loop-test .taken)))), entry .pre .weights)
+    let entry = at-loop .before .before .before in (
+      subst (Cells 65535) (sym (block-now (entry .args .upper .now) (entry .args .lower .now) (entry .args .w) (entry .args .s)
+          (at-loop .loop .c) (at-loop .loop .upper) (at-loop .loop .inv .1))) (cells-more (2 ^ entry .args .g .stored - 1) 65535 _
+          (omega (arith, power-most (entry .args .g .stored) (entry .pre .shape .stored-most))) (block-cells (entry .args .g)
+          (entry .args .upper .now) (entry .args .lower .now) (entry .pre .above) (entry .pre .below) (entry .args .s + at-loop .loop .c)
+          (omega (arith, entry .pre .most, at-loop-test .loop-test .taken)))),
+      entry .pre .weights,
+    )
 
 mul-upper : tie.Need-mul-upper Inv-loop μ-loop
 mul-upper c =
@@ -104,7 +120,11 @@ slice-write-upper c =
     let at-loop-test = c .before .before .before .before .before in
     let at-loop = at-loop-test .before in
     let entry = at-loop .before .before .before in
-    omega (arith, ap length (at-loop .loop .inv .1) ∙ from-length _ _ _ _, entry .pre .above .at (entry .args .s + at-loop .loop .c) (omega (arith, entry .pre .most, at-loop-test .loop-test .taken)) .0)
+    omega (
+      arith,
+      ap length (at-loop .loop .inv .1) ∙ from-length _ _ _ _,
+      entry .pre .above .at (entry .args .s + at-loop .loop .c) (omega (arith, entry .pre .most, at-loop-test .loop-test .taken)) .0,
+    )
 
 add-c : tie.Need-add-c Inv-loop μ-loop
 add-c c =
@@ -122,8 +142,18 @@ loop-again c =
     let at-loop-test = c .before .before .before .before .before in
     let at-loop = at-loop-test .before in
     let entry = at-loop .before .before .before in
-    let e : c .blended .result ≡ blendsAt (entry .args .upper .now) (entry .args .lower .now) (entry .args .w) (entry .args .s) (at-loop .loop .c) = c .blended .ensures ∙ ap (λ (b : List (List ℕ)). blendOf b (entry .args .w)) (block-now (entry .args .upper .now) (entry .args .lower .now) (entry .args .w) (entry .args .s) (at-loop .loop .c) (at-loop .loop .upper) (at-loop .loop .inv .1)) in
-    (omega (arith, at-loop-test .loop-test .taken), ap (λ (x : ℕ). set (at-loop .loop .upper) (entry .args .s + at-loop .loop .c) x) e ∙ (ap (λ (u : List ℕ). set u (entry .args .s + at-loop .loop .c) (blendsAt (entry .args .upper .now) (entry .args .lower .now) (entry .args .w) (entry .args .s) (at-loop .loop .c))) (at-loop .loop .inv .1) ∙ from-more (blendsAt (entry .args .upper .now) (entry .args .lower .now) (entry .args .w) (entry .args .s)) (entry .args .s) (at-loop .loop .c) (entry .args .upper .now)))
+    let e : c .blended .result ≡ blendsAt (entry .args .upper .now) (entry .args .lower .now) (entry .args .w) (entry .args .s)
+    (at-loop .loop .c) = c .blended .ensures ∙ ap (λ (b : List (List ℕ)). blendOf b (entry .args .w)) (block-now
+    (entry .args .upper .now) (entry .args .lower .now) (entry .args .w) (entry .args .s) (at-loop .loop .c) (at-loop .loop .upper)
+    (at-loop .loop .inv .1)) in (
+      omega (arith, at-loop-test .loop-test .taken),
+      ap (λ (x : ℕ). set (at-loop .loop .upper) (entry .args .s + at-loop .loop .c) x) e
+          ∙ (ap (λ (u : List ℕ). set u (entry .args .s + at-loop .loop .c)
+          (blendsAt (entry .args .upper .now) (entry .args .lower .now) (entry .args .w) (entry .args .s) (at-loop .loop .c)))
+          (at-loop .loop .inv .1)
+          ∙ from-more (blendsAt (entry .args .upper .now) (entry .args .lower .now) (entry .args .w) (entry .args .s))
+          (entry .args .s) (at-loop .loop .c) (entry .args .upper .now)),
+    )
 
 same-length : tie.Need-same-length Inv-loop μ-loop
 same-length c =

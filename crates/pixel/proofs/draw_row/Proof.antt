@@ -74,8 +74,22 @@ wider-requires c κs =
 average-requires : tie.Need-average-requires Inv-loop μ-loop
 average-requires c κs =
     let at-loop = c .before .before .before in
-    let entry = at-loop .before .before .before .before .before .before in
-    (entry .pre .some, (entry .pre .few, (omega (arith, c .wider .ensures, entry .pre .summed (at-loop .loop .c + entry .args .s) (omega (arith, entry .pre .most, c .before .before .loop-test .taken)) .1, sum-fits (entry .args .n) (entry .args .g .stored) (entry .pre .few) (entry .pre .row .shape .stored-most)), refl)))
+    let entry = at-loop .before .before .before .before .before .before in (
+      entry .pre .some,
+      (
+        entry .pre .few,
+        (
+          omega (
+            arith,
+            c .wider .ensures,
+            entry .pre .summed (at-loop .loop .c + entry .args .s)
+                (omega (arith, entry .pre .most, c .before .before .loop-test .taken)) .1,
+            sum-fits (entry .args .n) (entry .args .g .stored) (entry .pre .few) (entry .pre .row .shape .stored-most),
+          ),
+          refl,
+        ),
+      ),
+    )
 
 sample-requires : tie.Need-sample-requires Inv-loop μ-loop
 sample-requires c κs =
@@ -93,7 +107,8 @@ add-levels : tie.Need-add-levels Inv-loop μ-loop
 add-levels c =
     let at-power = c .before .before .before .before .before .before in
     let entry = at-power .before .before .before .before .before in
-    omega (arith, c .sample .ensures .1, power-most (entry .args .g .stored) (entry .pre .row .shape .stored-most), at-power .power .ensures)
+    omega
+    (arith, c .sample .ensures .1, power-most (entry .args .g .stored) (entry .pre .row .shape .stored-most), at-power .power .ensures)
 
 sub-levels : tie.Need-sub-levels Inv-loop μ-loop
 sub-levels c =
@@ -101,13 +116,26 @@ sub-levels c =
     let at-loop = at-loop-test .before in
     let at-power = at-loop .before in
     let entry = at-power .before .before .before .before .before in
-    omega (arith, c .before .average .ensures, at-power .power .ensures, average-most (c .before .before .wider .result) (entry .args .n) (entry .pre .some) (entry .pre .few) (2 ^ entry .args .g .stored - 1) (rw (c .before .before .wider .ensures) (entry .pre .summed (at-loop .loop .c + entry .args .s) (omega (arith, entry .pre .most, at-loop-test .loop-test .taken)) .1)))
+    omega (
+      arith,
+      c .before .average .ensures,
+      at-power .power .ensures,
+      average-most (c .before .before .wider .result) (entry .args .n)
+          (entry .pre .some) (entry .pre .few) (2 ^ entry .args .g .stored - 1) (rw (c .before .before .wider .ensures)
+          (entry .pre .summed (at-loop .loop .c + entry .args .s) (omega (arith, entry .pre .most, at-loop-test .loop-test .taken)) .1)),
+    )
 
 shared-slice-read-levels : tie.Need-shared-slice-read-levels Inv-loop μ-loop
 shared-slice-read-levels c =
     let at-power = c .before .before .before .before .before .before .before in
     let entry = at-power .before .before .before .before .before in
-    omega (arith, c .before .sample .ensures .1, power-most (entry .args .g .stored) (entry .pre .row .shape .stored-most), at-power .power .ensures, entry .pre .shades)
+    omega (
+      arith,
+      c .before .sample .ensures .1,
+      power-most (entry .args .g .stored) (entry .pre .row .shape .stored-most),
+      at-power .power .ensures,
+      entry .pre .shades,
+    )
 
 slice-write-levels : tie.Need-slice-write-levels Inv-loop μ-loop
 slice-write-levels c =
@@ -133,8 +161,17 @@ loop-again c =
     let at-loop-test = at-wider .before .before in
     let at-loop = at-loop-test .before in
     let at-power = at-loop .before in
-    let entry = at-power .before .before .before .before .before in
-    (omega (arith, at-loop-test .loop-test .taken), rw (at-loop .loop .inv .1, row-shade (entry .args .g) (entry .args .line .now) (entry .args .table .now) (entry .args .sums .now) (entry .args .n) (entry .args .s) (at-loop .loop .c) (c .before .sample .result) (at-power .power .result) (c .before .before .average .result) (c .before .sample .ensures .0) (at-power .power .ensures) (c .before .before .average .ensures ∙ ap (λ (x : ℕ). averageOf x (entry .args .n)) (at-wider .wider .ensures))) (painted-more _ _ _))
+    let entry = at-power .before .before .before .before .before in (
+      omega (arith, at-loop-test .loop-test .taken),
+      rw (
+        at-loop .loop .inv .1,
+        row-shade (entry .args .g) (entry .args .line .now) (entry .args .table .now) (entry .args .sums .now)
+            (entry .args .n) (entry .args .s) (at-loop .loop .c) (c .before .sample .result) (at-power .power .result)
+            (c .before .before .average .result) (c .before .sample .ensures .0) (at-power .power .ensures)
+            (c .before .before .average .ensures ∙ ap (λ (x : ℕ). averageOf x (entry .args .n)) (at-wider .wider .ensures)),
+      )
+          (painted-more _ _ _),
+    )
 
 same-length : tie.Need-same-length Inv-loop μ-loop
 same-length c =

@@ -35,7 +35,10 @@ returns c =
     let at-sums = c .before .before .before .before .before in
     let at-sum-row = at-sums .before in
     let entry = at-sum-row .before .before .before .before .before in
-    spread-row (entry .args .pixels .now) (entry .args .g) (usValues (entry .args .masks .now)) (entry .args .row) (at-sum-row .sum-row .last .1 .1 .1 .1 .0) (entry .args .sums .now) _ _ (entry .pre .0 .columns-some) (omega (arith, simp (length-take, length-drop) at (at-sums .sums .given .0), entry .pre .1 .1 .1)) (omega (arith, entry .pre .1 .1 .1)) (at-sum-row .sum-row .ensures) (c .before .before .spread .ensures)
+    spread-row (entry .args .pixels .now) (entry .args .g) (usValues (entry .args .masks .now)) (entry .args .row)
+    (at-sum-row .sum-row .last .1 .1 .1 .1 .0) (entry .args .sums .now) _ _ (entry .pre .0 .columns-some)
+    (omega (arith, simp (length-take, length-drop) at (at-sums .sums .given .0), entry .pre .1 .1 .1))
+    (omega (arith, entry .pre .1 .1 .1)) (at-sum-row .sum-row .ensures) (c .before .before .spread .ensures)
 
 pub mask-row-spec : {M : Type 1} → statement M
 mask-row-spec =

@@ -46,7 +46,12 @@ add-levels : tie.Need-add-levels Inv-loop μ-loop
 add-levels c =
     let at-power = c .before .before .before in
     let entry = at-power .before .before .before .before .before in
-    omega (arith, c .sample .ensures .1, power-most (entry .args .g .stored) (entry .pre .0 .row .shape .stored-most), at-power .power .ensures)
+    omega (
+      arith,
+      c .sample .ensures .1,
+      power-most (entry .args .g .stored) (entry .pre .0 .row .shape .stored-most),
+      at-power .power .ensures,
+    )
 
 add-wider : tie.Need-add-wider Inv-loop μ-loop
 add-wider c =
@@ -81,7 +86,13 @@ shared-slice-read-levels c =
     let at-sample = c .before .before .before in
     let at-power = at-sample .before .before .before in
     let entry = at-power .before .before .before .before .before in
-    omega (arith, at-sample .sample .ensures .1, power-most (entry .args .g .stored) (entry .pre .0 .row .shape .stored-most), at-power .power .ensures, entry .pre .1)
+    omega (
+      arith,
+      at-sample .sample .ensures .1,
+      power-most (entry .args .g .stored) (entry .pre .0 .row .shape .stored-most),
+      at-power .power .ensures,
+      entry .pre .1,
+    )
 
 slice-write-levels : tie.Need-slice-write-levels Inv-loop μ-loop
 slice-write-levels c =
@@ -107,8 +118,18 @@ loop-again c =
     let at-loop-test = at-sample .before in
     let at-loop = at-loop-test .before in
     let at-power = at-loop .before in
-    let entry = at-power .before .before .before .before .before in
-    (omega (arith, at-loop-test .loop-test .taken), rw (at-loop .loop .inv .1, mask-place (entry .args .g) (entry .args .line .now) (entry .args .masks .now) (entry .args .s) (at-loop .loop .c) _ _ _ (at-sample .sample .ensures .0) (at-power .power .ensures) (c .before .wider .ensures)) (painted-more (λ j. getD (entry .args .table .now) (maskPlace (entry .args .g) (entry .args .line .now) (entry .args .masks .now) (entry .args .s) j) 0) _ _))
+    let entry = at-power .before .before .before .before .before in (
+      omega (arith, at-loop-test .loop-test .taken),
+      rw (
+        at-loop .loop .inv .1,
+        mask-place (entry .args .g) (entry .args .line .now) (entry .args .masks .now) (entry .args .s)
+            (at-loop .loop .c) _ _ _ (at-sample .sample .ensures .0) (at-power .power .ensures) (c .before .wider .ensures),
+      )
+          (painted-more (λ j.
+          getD (entry .args .table .now) (maskPlace (entry .args .g) (entry .args .line .now) (entry .args .masks .now) (entry .args .s) j)
+          0)
+          _ _),
+    )
 
 same-length : tie.Need-same-length Inv-loop μ-loop
 same-length c =

@@ -41,7 +41,12 @@ power-requires-2 c κs =
 sub-middle : tie.Need-sub-middle Inv-loop μ-loop
 sub-middle c =
     let entry = c .before .before .before .before .before .before in
-    omega (arith, c .before .before .power .ensures, c .power2 .ensures, half-low (entry .args .g .stored) (entry .pre .0 .shape .stored-some))
+    omega (
+      arith,
+      c .before .before .power .ensures,
+      c .power2 .ensures,
+      half-low (entry .args .g .stored) (entry .pre .0 .shape .stored-some),
+    )
 
 loop-holds : tie.Need-loop-holds Inv-loop μ-loop
 unfolding painted
@@ -68,7 +73,13 @@ shared-slice-read-levels : tie.Need-shared-slice-read-levels Inv-loop μ-loop
 shared-slice-read-levels c =
     let at-power = c .before .before .before .before .before .before in
     let entry = at-power .before .before .before .before in
-    omega (arith, c .before .sample .ensures .1, power-most (entry .args .g .stored) (entry .pre .0 .shape .stored-most), at-power .power .ensures, entry .pre .1 .0)
+    omega (
+      arith,
+      c .before .sample .ensures .1,
+      power-most (entry .args .g .stored) (entry .pre .0 .shape .stored-most),
+      at-power .power .ensures,
+      entry .pre .1 .0,
+    )
 
 slice-write-levels : tie.Need-slice-write-levels Inv-loop μ-loop
 slice-write-levels c =
@@ -89,8 +100,15 @@ loop-again c =
     let at-loop = c .before .before .before in
     let at-power2 = at-loop .before in
     let at-power = at-power2 .before .before in
-    let entry = at-power .before .before .before .before in
-    (omega (arith, c .before .before .loop-test .taken), rw (at-loop .loop .inv .1, plain-place (entry .args .g) (entry .args .line .now) (at-loop .loop .c) _ _ _ (c .before .sample .ensures .0) (at-power .power .ensures) (at-power2 .power2 .ensures)) (painted-more (λ j. getD (entry .args .table .now) (plainPlace (entry .args .g) (entry .args .line .now) j) 0) _ _))
+    let entry = at-power .before .before .before .before in (
+      omega (arith, c .before .before .loop-test .taken),
+      rw (
+        at-loop .loop .inv .1,
+        plain-place (entry .args .g) (entry .args .line .now) (at-loop .loop .c) _ _ _
+            (c .before .sample .ensures .0) (at-power .power .ensures) (at-power2 .power2 .ensures),
+      )
+          (painted-more (λ j. getD (entry .args .table .now) (plainPlace (entry .args .g) (entry .args .line .now) j) 0) _ _),
+    )
 
 same-length : tie.Need-same-length Inv-loop μ-loop
 same-length c =

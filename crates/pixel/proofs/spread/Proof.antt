@@ -35,7 +35,8 @@ returns : tie.Need-returns
 returns c =
     let at-fill = c .before .before .before .before .before .before in
     let entry = at-fill .before .before .before .before .before in
-    rw (c .before .before .fill2 .ensures, at-fill .fill .ensures) (spread-at (entry .args .columns) (entry .args .sums .now) (entry .pre .0) (entry .pre .1))
+    rw (c .before .before .fill2 .ensures, at-fill .fill .ensures)
+    (spread-at (entry .args .columns) (entry .args .sums .now) (entry .pre .0) (entry .pre .1))
 
 pub spread-spec : {M : Type 1} → statement M
 spread-spec =

@@ -26,8 +26,22 @@ cover-items-requires c κs =
     let entry = at-mask-items .before .before .before .before .before in
     let p = entry .pre in
     let ns = nodesOf (entry .args .bytes .now) in
-    let m = at-mask-items .mask-items .ensures in
-    (p .0, (m .inner, (record { few = p .1 .0 .few; marks = p .1 .0 .marks; frames = omega (arith, at-which .which .given, p .1 .0 .frames) }, (at-clear .clear .ensures, record { each = λ f low high q. p .1 .1 .each f low high (steps-laws.among-items ns f (p .1 .1 .each f low high) ∙ (ap (firstHolding ns f) (sym (m .ahead)) ∙ q)) }))))
+    let m = at-mask-items .mask-items .ensures in (
+      p .0,
+      (
+        m .inner,
+        (
+          record { few = p .1 .0 .few; marks = p .1 .0 .marks; frames = omega (arith, at-which .which .given, p .1 .0 .frames) },
+          (
+            at-clear .clear .ensures,
+            record {
+              each = λ f low high q. p .1 .1 .each f low high
+                  (steps-laws.among-items ns f (p .1 .1 .each f low high) ∙ (ap (firstHolding ns f) (sym (m .ahead)) ∙ q));
+            },
+          ),
+        ),
+      ),
+    )
 
 same-length : tie.Need-same-length
 same-length c = search needs
@@ -44,7 +58,8 @@ returns c =
     let ns = nodesOf (entry .args .bytes .now) in
     let m = at-mask-items .mask-items .ensures in
     record {
-      each = λ f low high. steps-laws.among-items ns f (p .1 .1 .each f low high) ∙ (ap (firstHolding ns f) (sym (m .ahead)) ∙ items.left-all _ _ _ _ (at-cover-items .cover-items .ensures) f low high);
+      each = λ f low high. steps-laws.among-items ns f (p .1 .1 .each f low high)
+          ∙ (ap (firstHolding ns f) (sym (m .ahead)) ∙ items.left-all _ _ _ _ (at-cover-items .cover-items .ensures) f low high);
       below = at-cover-items .cover-items .ensures .below;
     }
 

@@ -37,8 +37,14 @@ loop-less c =
     omega (arith, c .loop-test .taken)
 
 loop-again : tie.Need-loop-again Inv-loop μ-loop
-loop-again c =
-    (omega (arith, c .loop-test .taken), (length-set (c .before .loop .cells) (c .before .loop .i) 0 ∙ c .before .loop .inv .1 .0, tables.zero-more (c .before .loop .cells) (c .before .loop .i) (omega (arith, c .loop-test .taken, c .before .loop .inv .1 .0, c .before .before .pre)) (c .before .loop .inv .1 .1)))
+loop-again c = (
+  omega (arith, c .loop-test .taken),
+  (
+    length-set (c .before .loop .cells) (c .before .loop .i) 0 ∙ c .before .loop .inv .1 .0,
+    tables.zero-more (c .before .loop .cells) (c .before .loop .i)
+        (omega (arith, c .loop-test .taken, c .before .loop .inv .1 .0, c .before .before .pre)) (c .before .loop .inv .1 .1),
+  ),
+)
 
 same-length : tie.Need-same-length Inv-loop μ-loop
 same-length c =

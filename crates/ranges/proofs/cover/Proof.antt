@@ -13,7 +13,9 @@ use Rattle.ranges.proofs.cover.Tie as tie
 
 abbrev Inv-loop : tie.InvT-loop
 Inv-loop n item reach which₀ end far₀ frame₀ which far frame =
-    (1 ≤ frame) × ((frame ≤ end) × ((far ≡ farOf reach (frame - 1)) × ((length which ≡ length which₀) × (((i : ℕ) → 1 ≤ i → i < frame → getD which i 0 ≡ takenBy (getD which₀ i 0) (leb i (farOf reach i)) item) × ((i : ℕ) → frame ≤ i → getD which i 0 ≡ getD which₀ i 0)))))
+    (1 ≤ frame) × ((frame ≤ end) × ((far ≡ farOf reach (frame - 1)) × ((length which ≡ length which₀)
+    × (((i : ℕ) → 1 ≤ i → i < frame → getD which i 0 ≡ takenBy (getD which₀ i 0) (leb i (farOf reach i)) item)
+    × ((i : ℕ) → frame ≤ i → getD which i 0 ≡ getD which₀ i 0)))))
 
 abbrev μ-loop : tie.MeasureT-loop
 μ-loop n item reach which₀ end far₀ frame₀ which far frame =
@@ -89,9 +91,31 @@ loop-again c =
     let at-loop = at-loop-test .before in
     let entry = at-loop .before .before .before .before in
     let f = at-loop .loop .frame in
-    let far : c .before .before .larger .result ≡ farOf (entry .args .reach .now) f = c .before .before .larger .ensures ∙ (ap (λ (x : ℕ). max x (getD (entry .args .reach .now) f 0)) (at-loop .loop .inv .1 .1 .0) ∙ reaching.far-next (entry .args .reach .now) f (at-loop .loop .inv .0)) in
-    let e : f + 1 - 1 ≡ f = omega arith in
-    (omega arith, (omega (arith, at-loop-test .loop-test .taken), (far ∙ ap (farOf (entry .args .reach .now)) (sym e), (length-set (at-loop .loop .which) (at-loop .loop .frame) (c .taken .result) ∙ at-loop .loop .inv .1 .1 .1 .0, (tables.done-more (λ i. leb i (farOf (entry .args .reach .now) i)) (entry .args .item) f (entry .args .which .now) (at-loop .loop .which) (c .taken .result) (omega (arith, at-loop-test .loop-test .taken, entry .pre .frames, at-loop .loop .inv .1 .1 .1 .0)) (c .taken .ensures ∙ ap (λ (x : ℕ). takenBy (getD (at-loop .loop .which) f 0) (leb f x) (entry .args .item)) far) (at-loop .loop .inv .1 .1 .1 .1 .1 f (omega arith)) (at-loop .loop .inv .1 .1 .1 .1 .0), tables.rest-more (λ i. leb i (farOf (entry .args .reach .now) i)) (entry .args .item) f (entry .args .which .now) (at-loop .loop .which) (c .taken .result) (at-loop .loop .inv .1 .1 .1 .1 .1))))))
+    let far : c .before .before .larger .result ≡ farOf (entry .args .reach .now) f = c .before .before .larger .ensures
+    ∙ (ap (λ (x : ℕ). max x (getD (entry .args .reach .now) f 0)) (at-loop .loop .inv .1 .1 .0)
+    ∙ reaching.far-next (entry .args .reach .now) f (at-loop .loop .inv .0)) in
+    let e : f + 1 - 1 ≡ f = omega arith in (
+      omega arith,
+      (
+        omega (arith, at-loop-test .loop-test .taken),
+        (
+          far ∙ ap (farOf (entry .args .reach .now)) (sym e),
+          (
+            length-set (at-loop .loop .which) (at-loop .loop .frame) (c .taken .result) ∙ at-loop .loop .inv .1 .1 .1 .0,
+            (
+              tables.done-more (λ i. leb i (farOf (entry .args .reach .now) i)) (entry .args .item) f (entry .args .which .now)
+                  (at-loop .loop .which) (c .taken .result)
+                  (omega (arith, at-loop-test .loop-test .taken, entry .pre .frames, at-loop .loop .inv .1 .1 .1 .0))
+                  (c .taken .ensures ∙ ap (λ (x : ℕ). takenBy (getD (at-loop .loop .which) f 0) (leb f x) (entry .args .item)) far)
+                  (at-loop .loop .inv .1 .1 .1 .1 .1 f (omega arith)) (at-loop .loop .inv .1 .1 .1 .1 .0),
+              tables.rest-more
+                  (λ i. leb i (farOf (entry .args .reach .now) i)) (entry .args .item) f (entry .args .which .now) (at-loop .loop .which)
+                  (c .taken .result) (at-loop .loop .inv .1 .1 .1 .1 .1),
+            ),
+          ),
+        ),
+      ),
+    )
 
 same-length : tie.Need-same-length Inv-loop μ-loop
 same-length c =

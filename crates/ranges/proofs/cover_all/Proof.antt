@@ -21,7 +21,8 @@ same-length-2 c = search needs
 returns : tie.Need-returns
 returns c =
     let entry = c .before .before .before .before .before .before .before in
-    items.covered-all _ _ _ _ _ (entry .pre .few) (getD-set-same (entry .args .reach .now) 0 65535 0 (omega (arith, entry .pre .marks))) (c .before .before .cover .ensures)
+    items.covered-all _ _ _ _ _ (entry .pre .few) (getD-set-same (entry .args .reach .now) 0 65535 0 (omega (arith, entry .pre .marks)))
+    (c .before .before .cover .ensures)
 
 pub cover-all-spec : {M : Type 1} → statement M
 cover-all-spec =

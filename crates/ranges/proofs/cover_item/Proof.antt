@@ -47,7 +47,9 @@ returns c =
     let at-enum-told = at-cover-all .before .before .before in
     let at-find-item = at-enum-told .before .before in
     let entry = at-find-item .before .before .before .before .before in
-    items.tried-by (λ f. true) (λ f. rangeHolds (nodesOf (entry .args .bytes .now)) f (entry .args .j)) _ _ _ _ (λ f. rw (node-laws.lacked (at-enum-told .enum-told .given .1) (at-find-item .find-item .ensures .0))) (at-cover-all .cover-all .ensures)
+    items.tried-by (λ f. true) (λ f. rangeHolds (nodesOf (entry .args .bytes .now)) f (entry .args .j)) _ _ _ _
+    (λ f. rw (node-laws.had-none (at-enum-told .enum-told .given .1) (at-find-item .find-item .ensures .0)))
+    (at-cover-all .cover-all .ensures)
 
 same-length-3 : tie.Need-same-length-3
 same-length-3 c = search needs
@@ -62,7 +64,9 @@ returns-2 c =
     let at-i = at-cover-range .before .before .before .before in
     let at-find-item = at-i .before .before in
     let entry = at-find-item .before .before .before .before .before in
-    items.tried-same (λ f. rangeHas (nodesOf (entry .args .bytes .now)) f (num.Is (at-i .i .given .0 .0))) (λ f. rangeHolds (nodesOf (entry .args .bytes .now)) f (entry .args .j)) _ _ _ _ (λ f. rw (node-laws.had (at-i .i .given .1) (at-find-item .find-item .ensures .0))) (at-cover-range .cover-range .ensures)
+    items.tried-same (λ f. rangeHas (nodesOf (entry .args .bytes .now)) f (num.Is (at-i .i .given .0 .0)))
+    (λ f. rangeHolds (nodesOf (entry .args .bytes .now)) f (entry .args .j)) _ _ _ _
+    (λ f. rw (node-laws.had (at-i .i .given .1) (at-find-item .find-item .ensures .0))) (at-cover-range .cover-range .ensures)
 
 pub cover-item-spec : {M : Type 1} → statement M
 cover-item-spec =

@@ -12,7 +12,8 @@ use Rattle.ranges.proofs.cover_items.Tie as tie
 
 abbrev Inv-loop : tie.InvT-loop
 Inv-loop bytes rows from to n reach₀ which₀ at₀ reach which at =
-    (length reach ≡ length reach₀) × ((length which ≡ length which₀) × Left (nodesOf bytes) n (members (nodesOf bytes) from to) (members (nodesOf bytes) at to) which)
+    (length reach ≡ length reach₀)
+    × ((length which ≡ length which₀) × Left (nodesOf bytes) n (members (nodesOf bytes) from to) (members (nodesOf bytes) at to) which)
 
 abbrev μ-loop : tie.MeasureT-loop
 μ-loop bytes rows from to n reach₀ which₀ at₀ reach which at =
@@ -26,8 +27,17 @@ loop-holds c =
 cover-item-requires : tie.Need-cover-item-requires Inv-loop μ-loop
 cover-item-requires c κs =
     let at-loop = c .before .before .before in
-    let entry = at-loop .before .before .before .before .before in
-    (entry .pre .0, (omega (arith, c .before .before .loop-test .taken, entry .pre .1 .0), record { few = entry .pre .1 .1 .0 .few; marks = omega (arith, at-loop .loop .inv .0, entry .pre .1 .1 .0 .marks); frames = omega (arith, at-loop .loop .inv .1 .0, entry .pre .1 .1 .0 .frames) }))
+    let entry = at-loop .before .before .before .before .before in (
+      entry .pre .0,
+      (
+        omega (arith, c .before .before .loop-test .taken, entry .pre .1 .0),
+        record {
+          few = entry .pre .1 .1 .0 .few;
+          marks = omega (arith, at-loop .loop .inv .0, entry .pre .1 .1 .0 .marks);
+          frames = omega (arith, at-loop .loop .inv .1 .0, entry .pre .1 .1 .0 .frames);
+        },
+      ),
+    )
 
 next-requires : tie.Need-next-requires Inv-loop μ-loop
 next-requires c κs =
@@ -45,8 +55,14 @@ loop-again c =
     let at-cover-item = at-reach .before in
     let at-loop-test = at-cover-item .before .before .before in
     let at-loop = at-loop-test .before in
-    let entry = at-loop .before .before .before .before .before in
-    (at-reach .reach .given ∙ at-loop .loop .inv .0, (c .before .before .which .given ∙ at-loop .loop .inv .1 .0, items.left-next _ _ _ _ _ (at-loop .loop .at) (entry .args .to) _ (at-loop-test .loop-test .taken) (entry .pre .1 .0) (c .next .ensures .0) (entry .pre .1 .1 .1 .1) (at-loop .loop .inv .1 .1) (at-cover-item .cover-item .ensures)))
+    let entry = at-loop .before .before .before .before .before in (
+      at-reach .reach .given ∙ at-loop .loop .inv .0,
+      (
+        c .before .before .which .given ∙ at-loop .loop .inv .1 .0,
+        items.left-next _ _ _ _ _ (at-loop .loop .at) (entry .args .to) _ (at-loop-test .loop-test .taken) (entry .pre .1 .0)
+            (c .next .ensures .0) (entry .pre .1 .1 .1 .1) (at-loop .loop .inv .1 .1) (at-cover-item .cover-item .ensures),
+      ),
+    )
 
 same-length : tie.Need-same-length Inv-loop μ-loop
 same-length c =

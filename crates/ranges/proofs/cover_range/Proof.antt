@@ -21,8 +21,11 @@ cover-pairs-requires c κs =
     let at-if1 = c .before .before .before in
     let at-has-pairs = at-if1 .before in
     let entry = at-has-pairs .before .before .before .before .before in
-    let a = entry .args in
-    (rw (c .before .before .value .ensures) (steps-laws.pairs-whole (nodesOf (a .bytes .now)) (a .i) (sym (at-has-pairs .has-pairs .ensures) ∙ at-if1 .if1 .taken)), entry .pre .1 .1)
+    let a = entry .args in (
+      rw (c .before .before .value .ensures)
+          (steps-laws.pairs-whole (nodesOf (a .bytes .now)) (a .i) (sym (at-has-pairs .has-pairs .ensures) ∙ at-if1 .if1 .taken)),
+      entry .pre .1 .1,
+    )
 
 same-length : tie.Need-same-length
 same-length c = search needs
@@ -39,13 +42,16 @@ returns c =
     let entry = at-has-pairs .before .before .before .before .before in
     let a = entry .args in
     let ns = nodesOf (a .bytes .now) in
-    items.tried-by (λ f. inPairs f (usValues (at-value .value .result .now))) (λ f. rangeHas ns f (num.Is (a .i))) _ _ _ _ (λ f. rw (← at-has-pairs .has-pairs .ensures, at-if1 .if1 .taken, ← at-value .value .ensures)) (at-cover-pairs .cover-pairs .ensures)
+    items.tried-by (λ f. inPairs f (usValues (at-value .value .result .now))) (λ f. rangeHas ns f (num.Is (a .i))) _ _ _ _
+    (λ f. rw (← at-has-pairs .has-pairs .ensures, at-if1 .if1 .taken, ← at-value .value .ensures))
+    (at-cover-pairs .cover-pairs .ensures)
 
 returns-2 : tie.Need-returns-2
 returns-2 c =
     let entry = c .before .before .before .before .before .before in
     let a = entry .args in
-    items.tried-none (λ f. rangeHas (nodesOf (a .bytes .now)) f (num.Is (a .i))) _ _ _ (λ f. rw (← c .before .has-pairs .ensures, c .if1 .left))
+    items.tried-none (λ f. rangeHas (nodesOf (a .bytes .now)) f (num.Is (a .i))) _ _ _
+    (λ f. rw (← c .before .has-pairs .ensures, c .if1 .left))
 
 pub cover-range-spec : {M : Type 1} → statement M
 cover-range-spec =

@@ -13,7 +13,8 @@ use Rattle.ranges.proofs.mark.Tie as tie
 
 abbrev Inv-loop : tie.InvT-loop
 Inv-loop v reach₀ pairs k₀ reach k =
-    (k ≤ pairs) × ((pairs ≡ length v / 4) × ((length reach ≡ length reach₀) × ((i : ℕ) → max (getD reach i 0) (markOf i (drop (2 * k) (usValues v))) ≡ max (getD reach₀ i 0) (markOf i (usValues v)))))
+    (k ≤ pairs) × ((pairs ≡ length v / 4) × ((length reach ≡ length reach₀)
+    × ((i : ℕ) → max (getD reach i 0) (markOf i (drop (2 * k) (usValues v))) ≡ max (getD reach₀ i 0) (markOf i (usValues v)))))
 
 abbrev μ-loop : tie.MeasureT-loop
 μ-loop v reach₀ pairs k₀ reach k =
@@ -89,8 +90,23 @@ loop-again c =
     let at-us-value = c .before .before .before in
     let at-loop-test = at-us-value .before in
     let at-loop = at-loop-test .before in
-    let entry = at-loop .before .before .before in
-    (omega (arith, at-loop-test .loop-test .taken), (at-loop .loop .inv .1 .0, (length-set (at-loop .loop .reach) (at-us-value .us-value .result) (c .larger .result) ∙ at-loop .loop .inv .1 .1 .0, λ i. tables.mark-more (entry .args .v .now) (at-loop .loop .k) (at-us-value .us-value .result) (c .before .before .us-value2 .result) (at-us-value .us-value .ensures .0) (c .before .before .us-value2 .ensures .0) (omega (arith, at-loop-test .loop-test .taken, at-loop .loop .inv .1 .0, entry .pre .0)) (at-loop .loop .reach) (c .larger .result) i (omega (arith, at-us-value .us-value .ensures .1, at-loop .loop .inv .1 .1 .0, entry .pre .1)) (c .larger .ensures) ∙ at-loop .loop .inv .1 .1 .1 i)))
+    let entry = at-loop .before .before .before in (
+      omega (arith, at-loop-test .loop-test .taken),
+      (
+        at-loop .loop .inv .1 .0,
+        (
+          length-set (at-loop .loop .reach) (at-us-value .us-value .result) (c .larger .result) ∙ at-loop .loop .inv .1 .1 .0,
+          λ i.
+              tables.mark-more (entry .args .v .now) (at-loop .loop .k) (at-us-value .us-value .result)
+              (c .before .before .us-value2 .result)
+              (at-us-value .us-value .ensures .0) (c .before .before .us-value2 .ensures .0)
+              (omega (arith, at-loop-test .loop-test .taken, at-loop .loop .inv .1 .0, entry .pre .0)) (at-loop .loop .reach)
+              (c .larger .result)
+              i (omega (arith, at-us-value .us-value .ensures .1, at-loop .loop .inv .1 .1 .0, entry .pre .1)) (c .larger .ensures)
+              ∙ at-loop .loop .inv .1 .1 .1 i,
+        ),
+      ),
+    )
 
 same-length : tie.Need-same-length Inv-loop μ-loop
 same-length c =
@@ -99,7 +115,12 @@ same-length c =
 returns : tie.Need-returns Inv-loop μ-loop
 returns c =
     let entry = c .before .before .before .before in
-    record { each = λ i. sym (max-zero (getD (c .before .loop .reach) i 0)) ∙ (ap (max (getD (c .before .loop .reach) i 0)) (sym (tables.marks-end i (entry .args .v .now) (c .before .loop .k) (omega (arith, c .loop-test .left, c .before .loop .inv .0, c .before .loop .inv .1 .0, entry .pre .0)))) ∙ c .before .loop .inv .1 .1 .1 i) }
+    record {
+      each = λ i. sym (max-zero (getD (c .before .loop .reach) i 0))
+          ∙ (ap (max (getD (c .before .loop .reach) i 0)) (sym (tables.marks-end i (entry .args .v .now) (c .before .loop .k)
+          (omega (arith, c .loop-test .left, c .before .loop .inv .0, c .before .loop .inv .1 .0, entry .pre .0))))
+          ∙ c .before .loop .inv .1 .1 .1 i);
+    }
 
 pub mark-spec : {M : Type 1} → statement M
 mark-spec =

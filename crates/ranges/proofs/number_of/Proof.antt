@@ -34,8 +34,10 @@ returns-2 c = (sym (c .enum-told2 .given .1), omega arith)
 
 returns-3 : tie.Need-returns-3
 returns-3 c =
-    let entry = c .before .before .before in
-    (names.found-at (c .before .r .given .0 .0) ∙ sym (c .before .r .given .1), omega (arith, steps-laws.found-within 134217728 (c .before .r .given .1) (entry .pre)))
+    let entry = c .before .before .before in (
+      names.found-at (c .before .r .given .0 .0) ∙ sym (c .before .r .given .1),
+      omega (arith, steps-laws.found-within 134217728 (c .before .r .given .1) (entry .pre)),
+    )
 
 pub number-of-spec : {M : Type 1} → statement M
 number-of-spec =

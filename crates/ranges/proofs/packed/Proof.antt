@@ -18,7 +18,8 @@ add-result c = search needs
 
 returns : tie.Need-returns
 returns c =
-    names.told-both (c .before .before .args .t) (c .before .number-of .result) (c .number-for .result) (c .before .number-of .ensures .0) (c .number-for .ensures .0) (c .number-for .ensures .1)
+    names.told-both (c .before .before .args .t) (c .before .number-of .result) (c .number-for .result) (c .before .number-of .ensures .0)
+    (c .number-for .ensures .0) (c .number-for .ensures .1)
 
 pub packed-spec : {M : Type 1} → statement M
 packed-spec =

@@ -16,8 +16,13 @@ tell-items-requires c κs =
     let at-keys = c .before .before .before in
     let at-clear = at-keys .before in
     let at-mask-items = at-clear .before .before in
-    let entry = at-mask-items .before .before .before .before .before in
-    (entry .pre .0, (at-mask-items .mask-items .ensures .inner, (omega (arith, at-keys .keys .given, entry .pre .1 .0), (entry .pre .1 .1, names.known-none _ _ _ (at-clear .clear .ensures)))))
+    let entry = at-mask-items .before .before .before .before .before in (
+      entry .pre .0,
+      (
+        at-mask-items .mask-items .ensures .inner,
+        (omega (arith, at-keys .keys .given, entry .pre .1 .0), (entry .pre .1 .1, names.known-none _ _ _ (at-clear .clear .ensures))),
+      ),
+    )
 
 same-length : tie.Need-same-length
 same-length c = search needs

@@ -31,7 +31,8 @@ told-by-requires c κs =
 packed-requires : tie.Need-packed-requires Inv-loop μ-loop
 packed-requires c κs =
     let entry = c .before .before .before .before .before .before .before .before in
-    names.found-fewer (length (nodesOf (entry .args .bytes .now))) 134217728 (c .told-by .result .shared) (entry .pre .0 .few) (c .told-by .ensures .names .below)
+    names.found-fewer (length (nodesOf (entry .args .bytes .now))) 134217728 (c .told-by .result .shared) (entry .pre .0 .few)
+    (c .told-by .ensures .names .below)
 
 mul-answers : tie.Need-mul-answers Inv-loop μ-loop
 mul-answers c =
@@ -96,8 +97,21 @@ loop-again : tie.Need-loop-again Inv-loop μ-loop
 loop-again c =
     let at-loop-test = c .before .before .before .before in
     let at-loop = at-loop-test .before in
-    let entry = at-loop .before .before .before .before .before in
-    (omega (arith, at-loop-test .loop-test .taken), (length-set (at-loop .loop .keys) (at-loop .loop .i) (at-loop .loop .at + 1) ∙ at-loop .loop .inv .1 .0, (length-set (at-loop .loop .answers) (at-loop .loop .i) (c .before .packed .result) ∙ at-loop .loop .inv .1 .1 .0, names.known-more _ (at-loop .loop .keys) (at-loop .loop .answers) (at-loop .loop .i) (at-loop .loop .at) (c .before .packed .result) _ (omega (arith, at-loop .loop .inv .1 .0, at-loop-test .loop-test .taken, entry .pre .1 .1 .0)) (omega (arith, at-loop .loop .inv .1 .1 .0, at-loop-test .loop-test .taken, entry .pre .1 .1 .1 .0)) (at-loop .loop .inv .1 .1 .1) (c .before .packed .ensures) (c .before .before .told-by .ensures))))
+    let entry = at-loop .before .before .before .before .before in (
+      omega (arith, at-loop-test .loop-test .taken),
+      (
+        length-set (at-loop .loop .keys) (at-loop .loop .i) (at-loop .loop .at + 1) ∙ at-loop .loop .inv .1 .0,
+        (
+          length-set (at-loop .loop .answers) (at-loop .loop .i) (c .before .packed .result) ∙ at-loop .loop .inv .1 .1 .0,
+          names.known-more _ (at-loop .loop .keys) (at-loop .loop .answers) (at-loop .loop .i) (at-loop .loop .at)
+              (c .before .packed .result)
+              _ (omega (arith, at-loop .loop .inv .1 .0, at-loop-test .loop-test .taken, entry .pre .1 .1 .0))
+              (omega (arith, at-loop .loop .inv .1 .1 .0, at-loop-test .loop-test .taken, entry .pre .1 .1 .1 .0))
+              (at-loop .loop .inv .1 .1 .1)
+              (c .before .packed .ensures) (c .before .before .told-by .ensures),
+        ),
+      ),
+    )
 
 same-length-3 : tie.Need-same-length-3 Inv-loop μ-loop
 same-length-3 c =

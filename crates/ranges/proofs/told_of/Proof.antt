@@ -58,7 +58,8 @@ returns c =
     let at-loop-test = c .before .before .before .before in
     let at-loop = at-loop-test .before in
     let entry = at-loop .before .before .before .before .before in
-    subst (IsTold (nodesOf (entry .args .bytes .now)) (entry .args .j)) (sym (c .told-in .ensures)) (entry .pre .1 .1 .1 .1 .each (at-loop .loop .i) (entry .args .j) (at-loop-test .loop-test .taken) (c .before .before .if1 .taken))
+    subst (IsTold (nodesOf (entry .args .bytes .now)) (entry .args .j)) (sym (c .told-in .ensures))
+    (entry .pre .1 .1 .1 .1 .each (at-loop .loop .i) (entry .args .j) (at-loop-test .loop-test .taken) (c .before .before .if1 .taken))
 
 add-i : tie.Need-add-i Inv-loop μ-loop
 add-i c =

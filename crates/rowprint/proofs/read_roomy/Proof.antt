@@ -18,8 +18,17 @@ returns : tie.Need-returns
 returns c =
     let entry = c .before .before .before .before .before .before in
     let a = entry .args in
-    let e = c .before .before .read .ensures in
-    (e .0 .same, (e .1, (subst (λ (r : ReadAnswer). Held r (c .before .before .read .last .1 .0)) (sym (e .0 .same)) (held (readingOf (a .bytes .now)) (a .rows .now) (c .before .before .read .last .1 .0) (search needs)), subst Roomy (sym (e .0 .same)) (roomy (a .bytes .now) (a .rows .now) (entry .pre)))))
+    let e = c .before .before .read .ensures in (
+      e .0 .same,
+      (
+        e .1,
+        (
+          subst (λ (r : ReadAnswer). Held r (c .before .before .read .last .1 .0)) (sym (e .0 .same))
+              (held (readingOf (a .bytes .now)) (a .rows .now) (c .before .before .read .last .1 .0) (search needs)),
+          subst Roomy (sym (e .0 .same)) (roomy (a .bytes .now) (a .rows .now) (entry .pre)),
+        ),
+      ),
+    )
 
 pub read-roomy-spec : {M : Type 1} → statement M
 read-roomy-spec = tie.close (tie.spec read-requires same-length returns)

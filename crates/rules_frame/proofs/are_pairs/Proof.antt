@@ -21,13 +21,25 @@ returns c =
     let at-if1 = c .before .before .before in
     let at-count-values2 = at-if1 .before in
     let at-count-values = at-count-values2 .before in
-    rw (← at-count-values .count-values .ensures .0, ← at-count-values2 .count-values2 .ensures .0, eq-eqb _ _ (at-if1 .if1 .taken), ← c .before .before .all-decimals .ensures, c .before .if2 .taken) (c .all-widths .ensures)
+    rw (
+      ← at-count-values .count-values .ensures .0,
+      ← at-count-values2 .count-values2 .ensures .0,
+      eq-eqb _ _ (at-if1 .if1 .taken),
+      ← c .before .before .all-decimals .ensures,
+      c .before .if2 .taken,
+    ) (c .all-widths .ensures)
 
 returns-2 : tie.Need-returns-2
 returns-2 c =
     let at-count-values2 = c .before .before .before in
     let at-count-values = at-count-values2 .before in
-    rw (← at-count-values .count-values .ensures .0, ← at-count-values2 .count-values2 .ensures .0, eq-eqb _ _ (c .before .before .if1 .taken), ← c .before .all-decimals .ensures, c .if2 .left)
+    rw (
+      ← at-count-values .count-values .ensures .0,
+      ← at-count-values2 .count-values2 .ensures .0,
+      eq-eqb _ _ (c .before .before .if1 .taken),
+      ← c .before .all-decimals .ensures,
+      c .if2 .left,
+    )
 
 returns-3 : tie.Need-returns-3
 returns-3 c =

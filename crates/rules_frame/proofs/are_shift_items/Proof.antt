@@ -12,7 +12,8 @@ use Rattle.rules_frame.proofs.are_shift_items.Tie as tie
 
 abbrev Inv-loop : tie.InvT-loop
 Inv-loop bytes rows from to j₀ j =
-    every (isShiftItem (nodesOf bytes)) (members (nodesOf bytes) j to) ≡ every (isShiftItem (nodesOf bytes)) (members (nodesOf bytes) from to)
+    every (isShiftItem (nodesOf bytes)) (members (nodesOf bytes) j to)
+    ≡ every (isShiftItem (nodesOf bytes)) (members (nodesOf bytes) from to)
 
 abbrev μ-loop : tie.MeasureT-loop
 μ-loop bytes rows from to j₀ j = to - j
@@ -39,12 +40,15 @@ loop-again : tie.Need-loop-again Inv-loop μ-loop
 loop-again c =
     let at-loop-test = c .before .before .before in
     let at-loop = at-loop-test .before in
-    rw (c .next .ensures .0) (sym (every-later _ _ _ _ (at-loop-test .loop-test .taken) (sym (c .before .before .is-shift-item .ensures) ∙ c .before .if1 .taken)) ∙ at-loop .loop .inv)
+    rw (c .next .ensures .0) (sym
+    (every-later _ _ _ _ (at-loop-test .loop-test .taken) (sym (c .before .before .is-shift-item .ensures) ∙ c .before .if1 .taken))
+    ∙ at-loop .loop .inv)
 
 returns : tie.Need-returns Inv-loop μ-loop
 returns c =
     let at-loop = c .before .before .before in
-    sym (every-no _ _ _ _ (c .before .before .loop-test .taken) (sym (c .before .is-shift-item .ensures) ∙ c .if1 .left)) ∙ at-loop .loop .inv
+    sym (every-no _ _ _ _ (c .before .before .loop-test .taken) (sym (c .before .is-shift-item .ensures) ∙ c .if1 .left))
+    ∙ at-loop .loop .inv
 
 returns-2 : tie.Need-returns-2 Inv-loop μ-loop
 returns-2 c =

@@ -27,14 +27,15 @@ returns : tie.Need-returns
 unfolding groupIn
 returns c =
     let at-group-tag = c .before .before .before in
-    rw (← at-group-tag .group-tag .ensures, node-laws.lacked (c .enum-told .given .1) (c .before .before .find-item .ensures .0))
+    rw (← at-group-tag .group-tag .ensures, node-laws.had-none (c .enum-told .given .1) (c .before .before .find-item .ensures .0))
 
 returns-2 : tie.Need-returns-2
 unfolding groupIn
 returns-2 c =
     let at-find-item = c .before .before .before .before in
     let at-group-tag = at-find-item .before in
-    rw (← at-group-tag .group-tag .ensures, node-laws.had (c .before .before .g .given .1) (at-find-item .find-item .ensures .0)) (c .group-fits .ensures)
+    rw (← at-group-tag .group-tag .ensures, node-laws.had (c .before .before .g .given .1) (at-find-item .find-item .ensures .0))
+    (c .group-fits .ensures)
 
 pub group-in-spec : {M : Type 1} → statement M
 group-in-spec =

@@ -17,7 +17,7 @@ enum-told c = search needs
 returns : tie.Need-returns
 unfolding hasWindow
 returns c =
-    rw (node-laws.lacked (c .enum-told .given .1) (c .before .before .find-vr-item .ensures .0))
+    rw (node-laws.had-none (c .enum-told .given .1) (c .before .before .find-vr-item .ensures .0))
 
 find-vr-item-requires-2 : tie.Need-find-vr-item-requires-2
 find-vr-item-requires-2 c κs = search needs
@@ -33,7 +33,10 @@ unfolding hasWindow
 returns-2 c =
     let at-c = c .before .before .before .before in
     let at-find-vr-item = at-c .before .before in
-    rw (node-laws.had (at-c .c .given .1) (at-find-vr-item .find-vr-item .ensures .0), node-laws.lacked (c .enum-told2 .given .1) (c .before .before .find-vr-item2 .ensures .0))
+    rw (
+      node-laws.had (at-c .c .given .1) (at-find-vr-item .find-vr-item .ensures .0),
+      node-laws.had-none (c .enum-told2 .given .1) (c .before .before .find-vr-item2 .ensures .0),
+    )
 
 function-in-requires : tie.Need-function-in-requires
 function-in-requires c κs = search needs
@@ -63,7 +66,13 @@ returns-3 c =
     let at-find-vr-item2 = at-w .before .before in
     let at-c = at-find-vr-item2 .before .before in
     let at-find-vr-item = at-c .before .before in
-    rw (node-laws.had (at-c .c .given .1) (at-find-vr-item .find-vr-item .ensures .0), node-laws.had (at-w .w .given .1) (at-find-vr-item2 .find-vr-item2 .ensures .0), ← at-function-in .function-in .ensures, ← c .before .before .value .ensures, ← c .before .value2 .ensures) (c .is-window .ensures)
+    rw (
+      node-laws.had (at-c .c .given .1) (at-find-vr-item .find-vr-item .ensures .0),
+      node-laws.had (at-w .w .given .1) (at-find-vr-item2 .find-vr-item2 .ensures .0),
+      ← at-function-in .function-in .ensures,
+      ← c .before .before .value .ensures,
+      ← c .before .value2 .ensures,
+    ) (c .is-window .ensures)
 
 pub has-window-spec : {M : Type 1} → statement M
 has-window-spec =

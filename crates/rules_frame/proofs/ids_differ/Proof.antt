@@ -27,7 +27,10 @@ returns-2 c =
     let start = earlier in
     let a = start .args in
     let ns = nodesOf (a .bytes .now) in
-    rw (members-next ns (a .from) (a .to) (start .pre .1 .0), members-end ns (nextNode ns (a .from)) (a .to) (omega (arith, c .before .next .ensures .0, c .if1 .left)))
+    rw (
+      members-next ns (a .from) (a .to) (start .pre .1 .0),
+      members-end ns (nextNode ns (a .from)) (a .to) (omega (arith, c .before .next .ensures .0, c .if1 .left)),
+    )
 
 pub ids-differ-spec : {M : Type 1} → statement M
 ids-differ-spec = tie.close (tie.spec next-requires are-unique-ids-requires returns returns-2)

@@ -36,7 +36,12 @@ returns c =
     let at-tag = c .before .before .before in
     let at-if1 = at-tag .before in
     let at-vr = at-if1 .before in
-    rw (← at-vr .vr .ensures, eq-eqb _ _ (at-if1 .if1 .taken), ← at-tag .tag .ensures, laws.lacked (c .enum-told .given .1) (c .before .before .first-is .ensures .0))
+    rw (
+      ← at-vr .vr .ensures,
+      eq-eqb _ _ (at-if1 .if1 .taken),
+      ← at-tag .tag .ensures,
+      laws.had-none (c .enum-told .given .1) (c .before .before .first-is .ensures .0),
+    )
 
 returns-2 : tie.Need-returns-2
 unfolding isRepeated
@@ -45,7 +50,13 @@ returns-2 c =
     let at-tag = at-first-is .before in
     let at-if1 = at-tag .before in
     let at-vr = at-if1 .before in
-    rw (← at-vr .vr .ensures, eq-eqb _ _ (at-if1 .if1 .taken), ← at-tag .tag .ensures, laws.had (c .before .before .i .given .1) (at-first-is .first-is .ensures .0), ← c .vr2 .ensures)
+    rw (
+      ← at-vr .vr .ensures,
+      eq-eqb _ _ (at-if1 .if1 .taken),
+      ← at-tag .tag .ensures,
+      laws.had (c .before .before .i .given .1) (at-first-is .first-is .ensures .0),
+      ← c .vr2 .ensures,
+    )
 
 returns-3 : tie.Need-returns-3
 unfolding isRepeated

@@ -28,7 +28,14 @@ returns c =
     let at-next = at-if2 .before in
     let at-if1 = at-next .before in
     let at-vr = at-if1 .before in
-    rw (← at-vr .vr .ensures, eq-eqb _ _ (at-if1 .if1 .taken), ← at-next .next .ensures .0, members-some _ _ _ (at-if2 .if2 .taken), ← c .before .before .are-shift-items .ensures, c .before .if3 .taken) (c .ids-differ .ensures)
+    rw (
+      ← at-vr .vr .ensures,
+      eq-eqb _ _ (at-if1 .if1 .taken),
+      ← at-next .next .ensures .0,
+      members-some _ _ _ (at-if2 .if2 .taken),
+      ← c .before .before .are-shift-items .ensures,
+      c .before .if3 .taken,
+    ) (c .ids-differ .ensures)
 
 returns-2 : tie.Need-returns-2
 unfolding isShiftGroup
@@ -36,7 +43,14 @@ returns-2 c =
     let at-next = c .before .before .before in
     let at-if1 = at-next .before in
     let at-vr = at-if1 .before in
-    rw (← at-vr .vr .ensures, eq-eqb _ _ (at-if1 .if1 .taken), ← at-next .next .ensures .0, members-some _ _ _ (c .before .before .if2 .taken), ← c .before .are-shift-items .ensures, c .if3 .left)
+    rw (
+      ← at-vr .vr .ensures,
+      eq-eqb _ _ (at-if1 .if1 .taken),
+      ← at-next .next .ensures .0,
+      members-some _ _ _ (c .before .before .if2 .taken),
+      ← c .before .are-shift-items .ensures,
+      c .if3 .left,
+    )
 
 returns-3 : tie.Need-returns-3
 unfolding isShiftGroup

@@ -31,7 +31,11 @@ unfolding isShiftItem
 returns c =
     let at-if1 = c .before .before .before in
     let at-has-id = at-if1 .before in
-    rw (← at-has-id .has-id .ensures, at-if1 .if1 .taken, node-laws.lacked (c .enum-told .given .1) (c .before .before .find-vr-item .ensures .0))
+    rw (
+      ← at-has-id .has-id .ensures,
+      at-if1 .if1 .taken,
+      node-laws.had-none (c .enum-told .given .1) (c .before .before .find-vr-item .ensures .0),
+    )
 
 returns-2 : tie.Need-returns-2
 unfolding isShiftItem
@@ -40,7 +44,12 @@ returns-2 c =
     let at-find-vr-item = at-k .before .before in
     let at-if1 = at-find-vr-item .before in
     let at-has-id = at-if1 .before in
-    rw (← at-has-id .has-id .ensures, at-if1 .if1 .taken, node-laws.had (at-k .k .given .1) (at-find-vr-item .find-vr-item .ensures .0), ← c .before .value .ensures) (c .is-frame-shift .ensures)
+    rw (
+      ← at-has-id .has-id .ensures,
+      at-if1 .if1 .taken,
+      node-laws.had (at-k .k .given .1) (at-find-vr-item .find-vr-item .ensures .0),
+      ← c .before .value .ensures,
+    ) (c .is-frame-shift .ensures)
 
 returns-3 : tie.Need-returns-3
 unfolding isShiftItem

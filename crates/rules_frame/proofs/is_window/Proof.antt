@@ -18,7 +18,8 @@ returns : tie.Need-returns
 unfolding isWindow
 returns c =
     let at-is-function = c .before .before .before in
-    rw (sym (at-is-function .is-function .ensures) ∙ c .before .before .if1 .taken, ← c .before .least-width .ensures) (c .are-pairs .ensures)
+    rw (sym (at-is-function .is-function .ensures) ∙ c .before .before .if1 .taken, ← c .before .least-width .ensures)
+    (c .are-pairs .ensures)
 
 returns-2 : tie.Need-returns-2
 unfolding isWindow

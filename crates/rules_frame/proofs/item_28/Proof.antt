@@ -25,7 +25,7 @@ unfolding item28
 returns c =
     let at-if1 = c .before .before .before in
     let entry = at-if1 .before .before .before in
-    rw (← entry .pre .1 .1, at-if1 .if1 .taken, node-laws.lacked (c .enum-told .given .1) (c .before .before .find-item .ensures .0))
+    rw (← entry .pre .1 .1, at-if1 .if1 .taken, node-laws.had-none (c .enum-told .given .1) (c .before .before .find-item .ensures .0))
 
 returns-2 : tie.Need-returns-2
 unfolding item28
@@ -33,7 +33,8 @@ returns-2 c =
     let at-find-item = c .before .before .before .before in
     let at-if1 = at-find-item .before in
     let entry = at-if1 .before .before .before in
-    rw (← entry .pre .1 .1, at-if1 .if1 .taken, node-laws.had (c .before .before .g .given .1) (at-find-item .find-item .ensures .0)) (c .is-one-item .ensures)
+    rw (← entry .pre .1 .1, at-if1 .if1 .taken, node-laws.had (c .before .before .g .given .1) (at-find-item .find-item .ensures .0))
+    (c .is-one-item .ensures)
 
 returns-3 : tie.Need-returns-3
 unfolding item28

@@ -19,7 +19,12 @@ returns : tie.Need-returns
 unfolding itemGrades sharedPart
 returns c =
     let entry = c .before .before .before .before .before in
-    rw (← ap (λ (p : SharedPart). p .relation) (entry .pre .1 .1), ← ap (λ (p : SharedPart). p .table) (entry .pre .1 .1), ← c .before .before .relation-in .ensures, ← c .before .table-in .ensures) (c .do-agree .ensures)
+    rw (
+      ← ap (λ (p : SharedPart). p .relation) (entry .pre .1 .1),
+      ← ap (λ (p : SharedPart). p .table) (entry .pre .1 .1),
+      ← c .before .before .relation-in .ensures,
+      ← c .before .table-in .ensures,
+    ) (c .do-agree .ensures)
 
 pub item-39-spec : {M : Type 1} → statement M
 item-39-spec =

@@ -35,7 +35,8 @@ unfolding itemBy sharedOk
 returns-3 c =
     let entry = c .before .before .before .before .before in
     rw (ne-eqb _ _ (c .before .before .if1 .left), ne-eqb _ _ (c .before .if2 .left))
-    (c .group-in .ensures ∙ ap (λ (b : Bool). groupIn (nodesOf (entry .args .bytes .now)) (entry .args .rule) (entry .args .item) b) (rw (ne-eqb _ _ (c .before .before .if1 .left), ne-eqb _ _ (c .before .if2 .left)) at (entry .pre .1 .1 .1)))
+    (c .group-in .ensures ∙ ap (λ (b : Bool). groupIn (nodesOf (entry .args .bytes .now)) (entry .args .rule) (entry .args .item) b)
+    (rw (ne-eqb _ _ (c .before .before .if1 .left), ne-eqb _ _ (c .before .if2 .left)) at (entry .pre .1 .1 .1)))
 
 pub item-by-spec : {M : Type 1} → statement M
 item-by-spec =

@@ -10,14 +10,21 @@ use Rattle.rules_frame.proofs.item_rule.Tie as tie
 
 item-39-requires : tie.Need-item-39-requires
 item-39-requires c κs =
-    let entry = c .before .before .before in
-    (entry .pre .0, (entry .pre .1 .1 .0, entry .pre .1 .1 .1 ∙ ap (λ (k : ℕ). sharedPart (nodesOf (entry .args .bytes .now)) k (entry .args .shared)) (c .if1 .taken)))
+    let entry = c .before .before .before in (
+      entry .pre .0,
+      (
+        entry .pre .1 .1 .0,
+        entry .pre .1 .1 .1 ∙ ap (λ (k : ℕ). sharedPart (nodesOf (entry .args .bytes .now)) k (entry .args .shared)) (c .if1 .taken),
+      ),
+    )
 
 item-by-requires : tie.Need-item-by-requires
 unfolding sharedPart
 item-by-requires c κs =
-    let entry = c .before .before .before in
-    (entry .pre .0, (entry .pre .1 .0, (entry .pre .1 .1 .0, ap (λ (p : SharedPart). p .ok) (rw (ne-eqb _ _ (c .if1 .left)) at (entry .pre .1 .1 .1)))))
+    let entry = c .before .before .before in (
+      entry .pre .0,
+      (entry .pre .1 .0, (entry .pre .1 .1 .0, ap (λ (p : SharedPart). p .ok) (rw (ne-eqb _ _ (c .if1 .left)) at (entry .pre .1 .1 .1)))),
+    )
 
 returns : tie.Need-returns
 unfolding itemRule

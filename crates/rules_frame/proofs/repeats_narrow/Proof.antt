@@ -90,7 +90,11 @@ loop-again c =
     let at-loop-test = at-if1 .before in
     let at-loop = at-loop-test .before in
     let inv = at-loop .loop .inv in
-    rw (c .next3 .ensures .0) (inv .0, ahead-pass _ _ _ _ _ _ (inv .1) (at-loop-test .loop-test .taken) (omega (arith, at-if1 .if1 .left)) (omega (arith, at-tag .tag .ensures, c .before .before .tag2 .ensures, c .before .if2 .taken)))
+    rw (c .next3 .ensures .0) (
+      inv .0,
+      ahead-pass _ _ _ _ _ _ (inv .1) (at-loop-test .loop-test .taken) (omega (arith, at-if1 .if1 .left))
+          (omega (arith, at-tag .tag .ensures, c .before .before .tag2 .ensures, c .before .if2 .taken)),
+    )
 
 is-repeated-requires : tie.Need-is-repeated-requires Inv-loop μ-loop
 is-repeated-requires c κs =
@@ -113,7 +117,8 @@ returns-2 c =
     let p = start .pre in
     let inside-j = at-loop-test .loop-test .taken in
     let inv = at-loop .loop .inv in
-    let from = ahead-at _ _ _ _ _ _ (inv .1) inside-j (omega (arith, at-if1 .if1 .left)) (omega (arith, at-tag .tag .ensures, at-tag2 .tag2 .ensures, c .before .before .if2 .left)) in
+    let from = ahead-at _ _ _ _ _ _ (inv .1) inside-j (omega (arith, at-if1 .if1 .left))
+    (omega (arith, at-tag .tag .ensures, at-tag2 .tag2 .ensures, c .before .before .if2 .left)) in
     let here = ahead-here _ _ _ _ _ _ inside-j (inv .1) _ from (inside-ascends _ _ (p .0) (start .args .shared) (p .1 .0)) in
     sym (some-here _ _ _ _ inside-j (here ∙ sym (c .before .is-repeated .ensures) ∙ c .if3 .taken)) ∙ inv .0
 
@@ -143,7 +148,8 @@ loop-again-2 c =
     let p = start .pre in
     let inside-j = at-loop-test .loop-test .taken in
     let inv = at-loop .loop .inv in
-    let from = ahead-at _ _ _ _ _ _ (inv .1) inside-j (omega (arith, at-if1 .if1 .left)) (omega (arith, at-tag .tag .ensures, at-tag2 .tag2 .ensures, at-if2 .if2 .left)) in
+    let from = ahead-at _ _ _ _ _ _ (inv .1) inside-j (omega (arith, at-if1 .if1 .left))
+    (omega (arith, at-tag .tag .ensures, at-tag2 .tag2 .ensures, at-if2 .if2 .left)) in
     let here = ahead-here _ _ _ _ _ _ inside-j (inv .1) _ from (inside-ascends _ _ (p .0) (start .args .shared) (p .1 .0)) in
     rw (c .next4 .ensures .0) (
       sym (some-later _ _ _ _ inside-j (here ∙ sym (c .before .before .is-repeated .ensures) ∙ c .before .if3 .left)) ∙ inv .0,

@@ -85,8 +85,12 @@ returns c =
     let p = start .pre in
     let inside-j = at-loop-test .loop-test .taken in
     let inv = at-loop .loop .inv in
-    let from = c .before .reach .ensures ∙ ap (λ (t : ℕ). fromTag (nodesOf (a .bytes .now)) (c .before .before .tag .result) (members (nodesOf (a .bytes .now)) (a .shared + 1) t)) (at-next2 .next2 .ensures .0) ∙ ap (λ (t : ℕ). fromTag (nodesOf (a .bytes .now)) t (inside (nodesOf (a .bytes .now)) (a .shared))) (c .before .before .tag .ensures) in
-    let none = ahead-none _ _ _ _ _ _ inside-j (inv .1) (c .before .reach .result) from (c .if1 .taken) (inside-ascends _ _ (p .0) (a .shared) (p .1 .0)) in
+    let from = c .before .reach .ensures ∙ ap (λ (t : ℕ).
+    fromTag (nodesOf (a .bytes .now)) (c .before .before .tag .result) (members (nodesOf (a .bytes .now)) (a .shared + 1) t))
+    (at-next2 .next2 .ensures .0) ∙ ap (λ (t : ℕ). fromTag (nodesOf (a .bytes .now)) t (inside (nodesOf (a .bytes .now)) (a .shared)))
+    (c .before .before .tag .ensures) in
+    let none = ahead-none _ _ _ _ _ _ inside-j (inv .1) (c .before .reach .result) from (c .if1 .taken)
+    (inside-ascends _ _ (p .0) (a .shared) (p .1 .0)) in
     sym none ∙ inv .0
 
 is-repeated-requires : tie.Need-is-repeated-requires Inv-loop μ-loop
@@ -111,7 +115,10 @@ returns-2 c =
     let p = start .pre in
     let inside-j = at-loop-test .loop-test .taken in
     let inv = at-loop .loop .inv in
-    let from = at-reach .reach .ensures ∙ ap (λ (t : ℕ). fromTag (nodesOf (a .bytes .now)) (at-tag .tag .result) (members (nodesOf (a .bytes .now)) (a .shared + 1) t)) (at-next2 .next2 .ensures .0) ∙ ap (λ (t : ℕ). fromTag (nodesOf (a .bytes .now)) t (inside (nodesOf (a .bytes .now)) (a .shared))) (at-tag .tag .ensures) in
+    let from = at-reach .reach .ensures ∙ ap
+    (λ (t : ℕ). fromTag (nodesOf (a .bytes .now)) (at-tag .tag .result) (members (nodesOf (a .bytes .now)) (a .shared + 1) t))
+    (at-next2 .next2 .ensures .0)
+    ∙ ap (λ (t : ℕ). fromTag (nodesOf (a .bytes .now)) t (inside (nodesOf (a .bytes .now)) (a .shared))) (at-tag .tag .ensures) in
     let here = ahead-here _ _ _ _ _ _ inside-j (inv .1) (at-reach .reach .result) from (inside-ascends _ _ (p .0) (a .shared) (p .1 .0)) in
     sym (some-here _ _ _ _ inside-j (here ∙ sym (c .before .is-repeated .ensures) ∙ c .if2 .taken)) ∙ inv .0
 
@@ -141,7 +148,10 @@ loop-again c =
     let p = start .pre in
     let inside-j = at-loop-test .loop-test .taken in
     let inv = at-loop .loop .inv in
-    let from = at-reach .reach .ensures ∙ ap (λ (t : ℕ). fromTag (nodesOf (a .bytes .now)) (at-tag .tag .result) (members (nodesOf (a .bytes .now)) (a .shared + 1) t)) (at-next2 .next2 .ensures .0) ∙ ap (λ (t : ℕ). fromTag (nodesOf (a .bytes .now)) t (inside (nodesOf (a .bytes .now)) (a .shared))) (at-tag .tag .ensures) in
+    let from = at-reach .reach .ensures ∙ ap
+    (λ (t : ℕ). fromTag (nodesOf (a .bytes .now)) (at-tag .tag .result) (members (nodesOf (a .bytes .now)) (a .shared + 1) t))
+    (at-next2 .next2 .ensures .0)
+    ∙ ap (λ (t : ℕ). fromTag (nodesOf (a .bytes .now)) t (inside (nodesOf (a .bytes .now)) (a .shared))) (at-tag .tag .ensures) in
     let here = ahead-here _ _ _ _ _ _ inside-j (inv .1) (at-reach .reach .result) from (inside-ascends _ _ (p .0) (a .shared) (p .1 .0)) in
     rw (c .next3 .ensures .0) (
       sym (some-later _ _ _ _ inside-j (here ∙ sym (c .before .before .is-repeated .ensures) ∙ c .before .if2 .left)) ∙ inv .0,

@@ -11,7 +11,8 @@ use Rattle.rules_mask.proofs.all_fit.Tie as tie
 
 abbrev Inv-loop : tie.InvT-loop
 Inv-loop bytes rows question from to at₀ at =
-    every (itemFits (nodesOf bytes) question) (members (nodesOf bytes) at to) ≡ every (itemFits (nodesOf bytes) question) (members (nodesOf bytes) from to)
+    every (itemFits (nodesOf bytes) question) (members (nodesOf bytes) at to)
+    ≡ every (itemFits (nodesOf bytes) question) (members (nodesOf bytes) from to)
 
 abbrev μ-loop : tie.MeasureT-loop
 μ-loop bytes rows question from to at₀ at = to - at
@@ -32,12 +33,14 @@ loop-again : tie.Need-loop-again Inv-loop μ-loop
 loop-again c =
     let at-loop-test = c .before .before .before in
     let at-loop = at-loop-test .before in
-    sym (laws.every-next _ _ _ _ _ (c .next .ensures .0) (at-loop-test .loop-test .taken) (sym (c .before .before .item-fits .ensures) ∙ c .before .if1 .taken)) ∙ at-loop .loop .inv
+    sym (laws.every-next _ _ _ _ _ (c .next .ensures .0) (at-loop-test .loop-test .taken)
+    (sym (c .before .before .item-fits .ensures) ∙ c .before .if1 .taken)) ∙ at-loop .loop .inv
 
 returns : tie.Need-returns Inv-loop μ-loop
 returns c =
     let at-loop = c .before .before .before in
-    sym (laws.every-not _ _ _ _ (c .before .before .loop-test .taken) (sym (c .before .item-fits .ensures) ∙ c .if1 .left)) ∙ at-loop .loop .inv
+    sym (laws.every-not _ _ _ _ (c .before .before .loop-test .taken) (sym (c .before .item-fits .ensures) ∙ c .if1 .left))
+    ∙ at-loop .loop .inv
 
 returns-2 : tie.Need-returns-2 Inv-loop μ-loop
 returns-2 c =

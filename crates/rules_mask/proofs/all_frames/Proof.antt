@@ -34,13 +34,17 @@ loop-less c = search needs
 
 loop-again : tie.Need-loop-again Inv-loop μ-loop
 loop-again c =
-    let at-loop = c .before .before .before .before in
-    ((search needs, search needs), sym (laws.frames-next _ _ _ _ (c .before .before .us-value .ensures .0) (omega arith) (sym (c .before .is-frame .ensures) ∙ c .if1 .taken)) ∙ at-loop .loop .inv .1)
+    let at-loop = c .before .before .before .before in (
+      (search needs, search needs),
+      sym (laws.frames-next _ _ _ _ (c .before .before .us-value .ensures .0) (omega arith)
+          (sym (c .before .is-frame .ensures) ∙ c .if1 .taken)) ∙ at-loop .loop .inv .1,
+    )
 
 returns : tie.Need-returns Inv-loop μ-loop
 returns c =
     let at-loop = c .before .before .before .before in
-    sym (laws.frames-not _ _ _ _ (c .before .before .us-value .ensures .0) (omega arith) (sym (c .before .is-frame .ensures) ∙ c .if1 .left)) ∙ at-loop .loop .inv .1
+    sym (laws.frames-not _ _ _ _ (c .before .before .us-value .ensures .0) (omega arith)
+    (sym (c .before .is-frame .ensures) ∙ c .if1 .left)) ∙ at-loop .loop .inv .1
 
 returns-2 : tie.Need-returns-2 Inv-loop μ-loop
 returns-2 c =

@@ -13,7 +13,8 @@ use Rattle.rules_mask.proofs.any_shift.Tie as tie
 
 abbrev Inv-loop : tie.InvT-loop
 Inv-loop bytes rows shared shared-has end at₀ at =
-    (some (hasShiftGroup (nodesOf bytes) shared) (members (nodesOf bytes) at end) ≡ anyShift (nodesOf bytes) shared) × (end ≤ length (nodesOf bytes))
+    (some (hasShiftGroup (nodesOf bytes) shared) (members (nodesOf bytes) at end) ≡ anyShift (nodesOf bytes) shared)
+    × (end ≤ length (nodesOf bytes))
 
 abbrev μ-loop : tie.MeasureT-loop
 μ-loop bytes rows shared shared-has end at₀ at = end - at
@@ -36,7 +37,9 @@ returns : tie.Need-returns Inv-loop μ-loop
 returns c =
     let at-loop = c .before .before .before in
     let at-shift-in = at-loop .before .before in
-    sym (laws.some-here _ _ _ _ (c .before .before .loop-test .taken) (laws.shift-found _ _ _ _ _ _ (at-shift-in .shift-in .ensures) (c .before .shift-in2 .ensures) (c .if1 .taken))) ∙ at-loop .loop .inv .0
+    sym (laws.some-here _ _ _ _ (c .before .before .loop-test .taken)
+    (laws.shift-found _ _ _ _ _ _ (at-shift-in .shift-in .ensures) (c .before .shift-in2 .ensures) (c .if1 .taken)))
+    ∙ at-loop .loop .inv .0
 
 next-requires : tie.Need-next-requires Inv-loop μ-loop
 next-requires c κs =
@@ -51,8 +54,12 @@ loop-again : tie.Need-loop-again Inv-loop μ-loop
 loop-again c =
     let at-loop-test = c .before .before .before in
     let at-loop = at-loop-test .before in
-    let at-shift-in = at-loop .before .before in
-    (sym (laws.some-next _ _ _ _ _ (c .next .ensures .0) (at-loop-test .loop-test .taken) (laws.shift-found _ _ _ _ _ _ (at-shift-in .shift-in .ensures) (c .before .before .shift-in2 .ensures) (c .before .if1 .left))) ∙ at-loop .loop .inv .0, at-loop .loop .inv .1)
+    let at-shift-in = at-loop .before .before in (
+      sym (laws.some-next _ _ _ _ _ (c .next .ensures .0) (at-loop-test .loop-test .taken)
+          (laws.shift-found _ _ _ _ _ _ (at-shift-in .shift-in .ensures) (c .before .before .shift-in2 .ensures) (c .before .if1 .left)))
+          ∙ at-loop .loop .inv .0,
+      at-loop .loop .inv .1,
+    )
 
 returns-2 : tie.Need-returns-2 Inv-loop μ-loop
 returns-2 c =

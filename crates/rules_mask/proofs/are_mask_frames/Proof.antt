@@ -16,19 +16,24 @@ unfolding areMaskFrames
 returns c =
     let at-if1 = c .before .before .before in
     let entry = at-if1 .before .before in
-    sym (laws.both (eq-eqb _ _ (at-if1 .if1 .taken)) (laws.both (laws.both (laws.at-least _ (sym (usValues-length (entry .args .v .now))) (c .before .before .if2 .taken)) (laws.at-most _ (sym (usValues-length (entry .args .v .now))) (c .before .if3 .taken))) (sym (c .all-frames .ensures))))
+    sym (laws.both (eq-eqb _ _ (at-if1 .if1 .taken)) (laws.both (laws.both
+    (laws.at-least _ (sym (usValues-length (entry .args .v .now))) (c .before .before .if2 .taken))
+    (laws.at-most _ (sym (usValues-length (entry .args .v .now))) (c .before .if3 .taken))) (sym (c .all-frames .ensures))))
 
 returns-2 : tie.Need-returns-2
 unfolding areMaskFrames
 returns-2 c =
     let entry = c .before .before .before .before in
-    sym (laws.both (eq-eqb _ _ (c .before .before .if1 .taken)) (laws.not-first _ (laws.both (laws.at-least _ (sym (usValues-length (entry .args .v .now))) (c .before .if2 .taken)) (laws.over _ (sym (usValues-length (entry .args .v .now))) (c .if3 .left)))))
+    sym (laws.both (eq-eqb _ _ (c .before .before .if1 .taken)) (laws.not-first _ (laws.both
+    (laws.at-least _ (sym (usValues-length (entry .args .v .now))) (c .before .if2 .taken))
+    (laws.over _ (sym (usValues-length (entry .args .v .now))) (c .if3 .left)))))
 
 returns-3 : tie.Need-returns-3
 unfolding areMaskFrames
 returns-3 c =
     let entry = c .before .before .before in
-    sym (laws.both (eq-eqb _ _ (c .before .if1 .taken)) (laws.not-first _ (laws.not-first _ (laws.under _ (sym (usValues-length (entry .args .v .now))) (c .if2 .left)))))
+    sym (laws.both (eq-eqb _ _ (c .before .if1 .taken))
+    (laws.not-first _ (laws.not-first _ (laws.under _ (sym (usValues-length (entry .args .v .now))) (c .if2 .left)))))
 
 returns-4 : tie.Need-returns-4
 unfolding areMaskFrames

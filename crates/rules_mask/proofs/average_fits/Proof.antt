@@ -31,7 +31,7 @@ contrast-fits-requires c κs = search needs
 returns : tie.Need-returns
 unfolding averageFits
 returns c =
-    rw (node-laws.lacked (c .enum-told .given .1) (c .before .before .find-vr-item .ensures .0))
+    rw (node-laws.had-none (c .enum-told .given .1) (c .before .before .find-vr-item .ensures .0))
 
 returns-2 : tie.Need-returns-2
 unfolding averageFits
@@ -39,14 +39,16 @@ returns-2 c =
     let at-value = c .before .before .before in
     let at-k = at-value .before .before in
     let at-find-vr-item = at-k .before .before in
-    rw (node-laws.had (at-k .k .given .1) (at-find-vr-item .find-vr-item .ensures .0), ← at-value .value .ensures) (sym (laws.both (sym (c .before .before .are-mask-frames .ensures) ∙ c .before .if1 .taken) (sym (c .contrast-fits .ensures))))
+    rw (node-laws.had (at-k .k .given .1) (at-find-vr-item .find-vr-item .ensures .0), ← at-value .value .ensures)
+    (sym (laws.both (sym (c .before .before .are-mask-frames .ensures) ∙ c .before .if1 .taken) (sym (c .contrast-fits .ensures))))
 
 returns-3 : tie.Need-returns-3
 unfolding averageFits
 returns-3 c =
     let at-k = c .before .before .before .before in
     let at-find-vr-item = at-k .before .before in
-    rw (node-laws.had (at-k .k .given .1) (at-find-vr-item .find-vr-item .ensures .0), ← c .before .before .value .ensures) (sym (laws.not-first _ (sym (c .before .are-mask-frames .ensures) ∙ c .if1 .left)))
+    rw (node-laws.had (at-k .k .given .1) (at-find-vr-item .find-vr-item .ensures .0), ← c .before .before .value .ensures)
+    (sym (laws.not-first _ (sym (c .before .are-mask-frames .ensures) ∙ c .if1 .left)))
 
 pub average-fits-spec : {M : Type 1} → statement M
 average-fits-spec =

@@ -28,20 +28,26 @@ returns c =
     let at-count-items = at-if2 .before in
     let at-if1 = at-count-items .before in
     let at-vr = at-if1 .before in
-    sym (laws.both (laws.same _ (at-vr .vr .ensures) (at-if1 .if1 .taken)) (laws.both (laws.both (laws.at-least _ (at-count-items .count-items .ensures) (at-if2 .if2 .taken)) (laws.at-most _ (at-count-items .count-items .ensures) (c .before .before .if3 .taken))) (laws.every-inside _ _ _ _ _ (c .before .next .ensures .0) (c .all-fit .ensures))))
+    sym (laws.both (laws.same _ (at-vr .vr .ensures) (at-if1 .if1 .taken)) (laws.both (laws.both
+    (laws.at-least _ (at-count-items .count-items .ensures) (at-if2 .if2 .taken))
+    (laws.at-most _ (at-count-items .count-items .ensures) (c .before .before .if3 .taken)))
+    (laws.every-inside _ _ _ _ _ (c .before .next .ensures .0) (c .all-fit .ensures))))
 
 returns-2 : tie.Need-returns-2
 unfolding isMask
 returns-2 c =
     let at-if1 = c .before .before .before in
     let at-vr = at-if1 .before in
-    sym (laws.both (laws.same _ (at-vr .vr .ensures) (at-if1 .if1 .taken)) (laws.not-first _ (laws.both (laws.at-least _ (c .before .before .count-items .ensures) (c .before .if2 .taken)) (laws.over _ (c .before .before .count-items .ensures) (c .if3 .left)))))
+    sym (laws.both (laws.same _ (at-vr .vr .ensures) (at-if1 .if1 .taken)) (laws.not-first _ (laws.both
+    (laws.at-least _ (c .before .before .count-items .ensures) (c .before .if2 .taken))
+    (laws.over _ (c .before .before .count-items .ensures) (c .if3 .left)))))
 
 returns-3 : tie.Need-returns-3
 unfolding isMask
 returns-3 c =
     let at-vr = c .before .before .before in
-    sym (laws.both (laws.same _ (at-vr .vr .ensures) (c .before .before .if1 .taken)) (laws.not-first _ (laws.not-first _ (laws.under _ (c .before .count-items .ensures) (c .if2 .left)))))
+    sym (laws.both (laws.same _ (at-vr .vr .ensures) (c .before .before .if1 .taken))
+    (laws.not-first _ (laws.not-first _ (laws.under _ (c .before .count-items .ensures) (c .if2 .left)))))
 
 returns-4 : tie.Need-returns-4
 unfolding isMask

@@ -30,7 +30,11 @@ returns c =
     let at-value = c .before .before .before in
     let at-if1 = at-value .before in
     let at-vr = at-if1 .before in
-    rw (laws.same _ (at-vr .vr .ensures) (at-if1 .if1 .taken), ← at-value .value .ensures, sym (c .before .before .ss-of .ensures .0) ∙ c .enum-told .given .1)
+    rw (
+      laws.same _ (at-vr .vr .ensures) (at-if1 .if1 .taken),
+      ← at-value .value .ensures,
+      sym (c .before .before .ss-of .ensures .0) ∙ c .enum-told .given .1,
+    )
 
 returns-2 : tie.Need-returns-2
 unfolding isOffset
@@ -38,7 +42,11 @@ returns-2 c =
     let at-value = c .before .before .before in
     let at-if1 = at-value .before in
     let at-vr = at-if1 .before in
-    rw (laws.same _ (at-vr .vr .ensures) (at-if1 .if1 .taken), ← at-value .value .ensures, sym (c .before .before .ss-of .ensures .0) ∙ c .enum-told2 .given .1)
+    rw (
+      laws.same _ (at-vr .vr .ensures) (at-if1 .if1 .taken),
+      ← at-value .value .ensures,
+      sym (c .before .before .ss-of .ensures .0) ∙ c .enum-told2 .given .1,
+    )
 
 returns-3 : tie.Need-returns-3
 unfolding isOffset
@@ -46,7 +54,11 @@ returns-3 c =
     let at-value = c .before .before .before in
     let at-if1 = at-value .before in
     let at-vr = at-if1 .before in
-    rw (laws.same _ (at-vr .vr .ensures) (at-if1 .if1 .taken), ← at-value .value .ensures, sym (c .before .before .ss-of .ensures .0) ∙ c .enum-told3 .given .1)
+    rw (
+      laws.same _ (at-vr .vr .ensures) (at-if1 .if1 .taken),
+      ← at-value .value .ensures,
+      sym (c .before .before .ss-of .ensures .0) ∙ c .enum-told3 .given .1,
+    )
 
 returns-4 : tie.Need-returns-4
 unfolding isOffset

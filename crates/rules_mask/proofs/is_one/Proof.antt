@@ -28,7 +28,11 @@ returns c =
     let at-value = c .before .before .before in
     let at-if1 = at-value .before in
     let at-vr = at-if1 .before in
-    rw (laws.same _ (at-vr .vr .ensures) (at-if1 .if1 .taken), ← at-value .value .ensures, node-laws.lacked (c .enum-told .given .1) (c .before .before .us-of .ensures .0))
+    rw (
+      laws.same _ (at-vr .vr .ensures) (at-if1 .if1 .taken),
+      ← at-value .value .ensures,
+      node-laws.had-none (c .enum-told .given .1) (c .before .before .us-of .ensures .0),
+    )
 
 returns-2 : tie.Need-returns-2
 unfolding isOne ofVr
@@ -37,7 +41,11 @@ returns-2 c =
     let at-value = at-us-of .before in
     let at-if1 = at-value .before in
     let at-vr = at-if1 .before in
-    rw (laws.same _ (at-vr .vr .ensures) (at-if1 .if1 .taken), ← at-value .value .ensures, node-laws.had (c .before .x .given .1) (at-us-of .us-of .ensures .0))
+    rw (
+      laws.same _ (at-vr .vr .ensures) (at-if1 .if1 .taken),
+      ← at-value .value .ensures,
+      node-laws.had (c .before .x .given .1) (at-us-of .us-of .ensures .0),
+    )
 
 returns-3 : tie.Need-returns-3
 unfolding isOne ofVr

@@ -35,7 +35,8 @@ unfolding isOperation operationIs
 returns-2 c =
     let at-if1 = c .before .before .before in
     let at-is-cs-item = at-if1 .before in
-    sym (laws.other-one (sym (at-is-cs-item .is-cs-item .ensures) ∙ at-if1 .if1 .left) (laws.one _ (sym (c .before .is-cs-item2 .ensures) ∙ c .if2 .taken)))
+    sym (laws.other-one (sym (at-is-cs-item .is-cs-item .ensures) ∙ at-if1 .if1 .left)
+    (laws.one _ (sym (c .before .is-cs-item2 .ensures) ∙ c .if2 .taken)))
 
 returns-3 : tie.Need-returns-3
 unfolding isOperation operationIs
@@ -43,7 +44,8 @@ returns-3 c =
     let at-is-cs-item2 = c .before .before .before in
     let at-if1 = at-is-cs-item2 .before .before in
     let at-is-cs-item = at-if1 .before in
-    sym (laws.other-one (sym (at-is-cs-item .is-cs-item .ensures) ∙ at-if1 .if1 .left) (laws.other-one (sym (at-is-cs-item2 .is-cs-item2 .ensures) ∙ c .before .before .if2 .left) (sym (c .is-cs-item3 .ensures))))
+    sym (laws.other-one (sym (at-is-cs-item .is-cs-item .ensures) ∙ at-if1 .if1 .left)
+    (laws.other-one (sym (at-is-cs-item2 .is-cs-item2 .ensures) ∙ c .before .before .if2 .left) (sym (c .is-cs-item3 .ensures))))
 
 pub is-operation-spec : {M : Type 1} → statement M
 is-operation-spec =

@@ -26,20 +26,26 @@ returns c =
     let at-if1 = at-value .before in
     let at-vr = at-if1 .before in
     let entry = at-vr .before .before .before in
-    sym (laws.both (laws.same _ (at-vr .vr .ensures) (at-if1 .if1 .taken)) (laws.both (laws.both (laws.at-least _ (ap (λ (l : List ℕ). length l) (at-value .value .ensures)) (c .before .before .if2 .taken)) (laws.same _ (ap (λ (l : List ℕ). length l % 4) (at-value .value .ensures)) (c .before .if3 .taken))) (sym (c .pairs-fit .ensures ∙ ap (λ (l : List ℕ). pairsFit (entry .args .n) (usValues l)) (at-value .value .ensures)))))
+    sym (laws.both (laws.same _ (at-vr .vr .ensures) (at-if1 .if1 .taken)) (laws.both (laws.both
+    (laws.at-least _ (ap (λ (l : List ℕ). length l) (at-value .value .ensures)) (c .before .before .if2 .taken))
+    (laws.same _ (ap (λ (l : List ℕ). length l % 4) (at-value .value .ensures)) (c .before .if3 .taken)))
+    (sym (c .pairs-fit .ensures ∙ ap (λ (l : List ℕ). pairsFit (entry .args .n) (usValues l)) (at-value .value .ensures)))))
 
 returns-2 : tie.Need-returns-2
 unfolding isRange
 returns-2 c =
     let at-if1 = c .before .before .before in
     let at-vr = at-if1 .before in
-    sym (laws.both (laws.same _ (at-vr .vr .ensures) (at-if1 .if1 .taken)) (laws.not-first _ (laws.both (laws.at-least _ (ap (λ (l : List ℕ). length l) (c .before .before .value .ensures)) (c .before .if2 .taken)) (laws.different _ (ap (λ (l : List ℕ). length l % 4) (c .before .before .value .ensures)) (c .if3 .left)))))
+    sym (laws.both (laws.same _ (at-vr .vr .ensures) (at-if1 .if1 .taken)) (laws.not-first _ (laws.both
+    (laws.at-least _ (ap (λ (l : List ℕ). length l) (c .before .before .value .ensures)) (c .before .if2 .taken))
+    (laws.different _ (ap (λ (l : List ℕ). length l % 4) (c .before .before .value .ensures)) (c .if3 .left)))))
 
 returns-3 : tie.Need-returns-3
 unfolding isRange
 returns-3 c =
     let at-vr = c .before .before .before in
-    sym (laws.both (laws.same _ (at-vr .vr .ensures) (c .before .before .if1 .taken)) (laws.not-first _ (laws.not-first _ (laws.under _ (ap (λ (l : List ℕ). length l) (c .before .value .ensures)) (c .if2 .left)))))
+    sym (laws.both (laws.same _ (at-vr .vr .ensures) (c .before .before .if1 .taken))
+    (laws.not-first _ (laws.not-first _ (laws.under _ (ap (λ (l : List ℕ). length l) (c .before .value .ensures)) (c .if2 .left)))))
 
 returns-4 : tie.Need-returns-4
 unfolding isRange

@@ -19,7 +19,8 @@ returns : tie.Need-returns
 unfolding isShiftAt
 returns c =
     let at-vr = c .before .before .before in
-    rw (← c .before .value .ensures) (sym (laws.both (laws.same _ (at-vr .vr .ensures) (c .before .before .if1 .taken)) (sym (c .is-shift .ensures))))
+    rw (← c .before .value .ensures)
+    (sym (laws.both (laws.same _ (at-vr .vr .ensures) (c .before .before .if1 .taken)) (sym (c .is-shift .ensures))))
 
 returns-2 : tie.Need-returns-2
 unfolding isShiftAt

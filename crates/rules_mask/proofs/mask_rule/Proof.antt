@@ -60,7 +60,9 @@ returns-6 : tie.Need-returns-6
 unfolding ruleAt ruleList
 returns-6 c =
     let entry = c .before .before .before .before in
-    c .rule-36 .ensures ∙ sym (ap (λ (r : ℕ). ruleAt (nodesOf (entry .args .bytes .now)) r 0) (laws.last-rule (entry .args .rule) (entry .pre .1 .0) (entry .pre .1 .1) (c .before .match .rest .0 .0 .0 .0 .1) (c .before .match .rest .0 .0 .0 .1) (c .before .match .rest .0 .0 .1) (c .before .match .rest .0 .1) (c .before .match .rest .1)))
+    c .rule-36 .ensures ∙ sym (ap (λ (r : ℕ). ruleAt (nodesOf (entry .args .bytes .now)) r 0) (laws.last-rule (entry .args .rule)
+    (entry .pre .1 .0) (entry .pre .1 .1) (c .before .match .rest .0 .0 .0 .0 .1) (c .before .match .rest .0 .0 .0 .1)
+    (c .before .match .rest .0 .0 .1) (c .before .match .rest .0 .1) (c .before .match .rest .1)))
 
 pub mask-rule-spec : {M : Type 1} → statement M
 mask-rule-spec =

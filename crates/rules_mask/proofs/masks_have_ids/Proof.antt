@@ -19,7 +19,8 @@ returns : tie.Need-returns
 unfolding masksHaveIds
 returns c =
     let at-mask-items = c .before .before .before in
-    rw (← at-mask-items .mask-items .ensures .ahead) (sym (laws.both (sym (c .before .before .all-fit .ensures) ∙ c .before .if1 .taken) (sym (c .are-unique-ids .ensures))))
+    rw (← at-mask-items .mask-items .ensures .ahead)
+    (sym (laws.both (sym (c .before .before .all-fit .ensures) ∙ c .before .if1 .taken) (sym (c .are-unique-ids .ensures))))
 
 returns-2 : tie.Need-returns-2
 unfolding masksHaveIds

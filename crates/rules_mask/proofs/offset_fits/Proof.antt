@@ -34,7 +34,8 @@ unfolding offsetFits operationIs
 returns c =
     let at-if1 = c .before .before .before in
     let at-is-cs-item = at-if1 .before in
-    sym (laws.then _ (sym (at-is-cs-item .is-cs-item .ensures) ∙ at-if1 .if1 .taken) (sym (rw (node-laws.lacked (c .enum-told .given .1) (c .before .before .find-item .ensures .0)))))
+    sym (laws.then _ (sym (at-is-cs-item .is-cs-item .ensures) ∙ at-if1 .if1 .taken)
+    (sym (rw (node-laws.had-none (c .enum-told .given .1) (c .before .before .find-item .ensures .0)))))
 
 returns-2 : tie.Need-returns-2
 unfolding offsetFits operationIs
@@ -42,7 +43,8 @@ returns-2 c =
     let at-find-item = c .before .before .before .before in
     let at-if1 = at-find-item .before in
     let at-is-cs-item = at-if1 .before in
-    sym (laws.then _ (sym (at-is-cs-item .is-cs-item .ensures) ∙ at-if1 .if1 .taken) (sym (rw (node-laws.had (c .before .before .i .given .1) (at-find-item .find-item .ensures .0)) (c .is-offset .ensures))))
+    sym (laws.then _ (sym (at-is-cs-item .is-cs-item .ensures) ∙ at-if1 .if1 .taken)
+    (sym (rw (node-laws.had (c .before .before .i .given .1) (at-find-item .find-item .ensures .0)) (c .is-offset .ensures))))
 
 returns-3 : tie.Need-returns-3
 unfolding offsetFits operationIs

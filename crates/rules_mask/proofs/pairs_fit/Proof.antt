@@ -47,14 +47,18 @@ loop-less c = search needs
 loop-again : tie.Need-loop-again Inv-loop μ-loop
 loop-again c =
     let at-us-value = c .before .before .before in
-    let at-loop = at-us-value .before .before in
-    ((search needs, search needs), sym (laws.pairs-next _ _ _ _ _ (at-us-value .us-value .ensures .0) (c .before .before .us-value2 .ensures .0) (omega arith) (sym (c .before .pair-fits .ensures) ∙ c .if1 .taken)) ∙ at-loop .loop .inv .1)
+    let at-loop = at-us-value .before .before in (
+      (search needs, search needs),
+      sym (laws.pairs-next _ _ _ _ _ (at-us-value .us-value .ensures .0) (c .before .before .us-value2 .ensures .0) (omega arith)
+          (sym (c .before .pair-fits .ensures) ∙ c .if1 .taken)) ∙ at-loop .loop .inv .1,
+    )
 
 returns : tie.Need-returns Inv-loop μ-loop
 returns c =
     let at-us-value = c .before .before .before in
     let at-loop = at-us-value .before .before in
-    sym (laws.pairs-not _ _ _ _ _ (at-us-value .us-value .ensures .0) (c .before .before .us-value2 .ensures .0) (omega arith) (sym (c .before .pair-fits .ensures) ∙ c .if1 .left)) ∙ at-loop .loop .inv .1
+    sym (laws.pairs-not _ _ _ _ _ (at-us-value .us-value .ensures .0) (c .before .before .us-value2 .ensures .0) (omega arith)
+    (sym (c .before .pair-fits .ensures) ∙ c .if1 .left)) ∙ at-loop .loop .inv .1
 
 returns-2 : tie.Need-returns-2 Inv-loop μ-loop
 returns-2 c =

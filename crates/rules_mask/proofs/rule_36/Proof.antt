@@ -28,21 +28,23 @@ masks-have-ids-requires c κs = search needs
 returns : tie.Need-returns
 unfolding rule36
 returns c =
-    rw (node-laws.lacked (c .enum-told .given .1) (c .before .before .shared-item .ensures .0))
+    rw (node-laws.had-none (c .enum-told .given .1) (c .before .before .shared-item .ensures .0))
 
 returns-2 : tie.Need-returns-2
 unfolding rule36
 returns-2 c =
     let at-shared = c .before .before .before .before in
     let at-shared-item = at-shared .before .before in
-    rw (node-laws.had (at-shared .shared .given .1) (at-shared-item .shared-item .ensures .0)) (sym (laws.then _ (sym (c .before .before .any-shift .ensures) ∙ c .before .if1 .taken) (sym (c .masks-have-ids .ensures))))
+    rw (node-laws.had (at-shared .shared .given .1) (at-shared-item .shared-item .ensures .0))
+    (sym (laws.then _ (sym (c .before .before .any-shift .ensures) ∙ c .before .if1 .taken) (sym (c .masks-have-ids .ensures))))
 
 returns-3 : tie.Need-returns-3
 unfolding rule36
 returns-3 c =
     let at-shared = c .before .before .before in
     let at-shared-item = at-shared .before .before in
-    rw (node-laws.had (at-shared .shared .given .1) (at-shared-item .shared-item .ensures .0)) (sym (laws.otherwise _ (sym (c .before .any-shift .ensures) ∙ c .if1 .left) refl))
+    rw (node-laws.had (at-shared .shared .given .1) (at-shared-item .shared-item .ensures .0))
+    (sym (laws.otherwise _ (sym (c .before .any-shift .ensures) ∙ c .if1 .left) refl))
 
 pub rule-36-spec : {M : Type 1} → statement M
 rule-36-spec =

@@ -32,14 +32,17 @@ is-filled-requires c κs =
 returns : tie.Need-returns
 unfolding shiftIn
 returns c =
-    rw (node-laws.lacked (c .enum-told .given .1) (c .before .before .find-item .ensures .0))
+    rw (node-laws.had-none (c .enum-told .given .1) (c .before .before .find-item .ensures .0))
 
 returns-2 : tie.Need-returns-2
 unfolding shiftIn ofVr
 returns-2 c =
     let at-g = c .before .before .before .before in
     let at-find-item = at-g .before .before in
-    rw (node-laws.had (at-g .g .given .1) (at-find-item .find-item .ensures .0), laws.same _ (c .before .before .vr .ensures) (c .before .if1 .taken)) (c .is-filled .ensures)
+    rw (
+      node-laws.had (at-g .g .given .1) (at-find-item .find-item .ensures .0),
+      laws.same _ (c .before .before .vr .ensures) (c .before .if1 .taken),
+    ) (c .is-filled .ensures)
 
 returns-3 : tie.Need-returns-3
 unfolding shiftIn ofVr

@@ -23,7 +23,8 @@ unfolding hasExposure
 returns-2 c =
     let at-if1 = c .before .before .before in
     let at-has-root = at-if1 .before in
-    rw (← at-has-root .has-root .ensures, at-if1 .if1 .left, ← c .before .before .has-root2 .ensures, c .before .if2 .taken) (c .has-root3 .ensures)
+    rw (← at-has-root .has-root .ensures, at-if1 .if1 .left, ← c .before .before .has-root2 .ensures, c .before .if2 .taken)
+    (c .has-root3 .ensures)
 
 returns-3 : tie.Need-returns-3
 unfolding hasExposure

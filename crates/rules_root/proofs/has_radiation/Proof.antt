@@ -29,7 +29,14 @@ returns c =
     let at-has-root2 = at-if2 .before in
     let at-if1 = at-has-root2 .before in
     let at-has-root = at-if1 .before in
-    rw (← at-has-root .has-root .ensures, at-if1 .if1 .taken, ← at-has-root2 .has-root2 .ensures, at-if2 .if2 .taken, ← c .before .is-cs-root .ensures, c .if3 .taken)
+    rw (
+      ← at-has-root .has-root .ensures,
+      at-if1 .if1 .taken,
+      ← at-has-root2 .has-root2 .ensures,
+      at-if2 .if2 .taken,
+      ← c .before .is-cs-root .ensures,
+      c .if3 .taken,
+    )
 
 returns-2 : tie.Need-returns-2
 unfolding hasRadiation
@@ -39,7 +46,14 @@ returns-2 c =
     let at-has-root2 = at-if2 .before in
     let at-if1 = at-has-root2 .before in
     let at-has-root = at-if1 .before in
-    rw (← at-has-root .has-root .ensures, at-if1 .if1 .taken, ← at-has-root2 .has-root2 .ensures, at-if2 .if2 .taken, ← at-is-cs-root .is-cs-root .ensures, c .before .before .if3 .left) (c .is-cs-root2 .ensures)
+    rw (
+      ← at-has-root .has-root .ensures,
+      at-if1 .if1 .taken,
+      ← at-has-root2 .has-root2 .ensures,
+      at-if2 .if2 .taken,
+      ← at-is-cs-root .is-cs-root .ensures,
+      c .before .before .if3 .left,
+    ) (c .is-cs-root2 .ensures)
 
 returns-3 : tie.Need-returns-3
 unfolding hasRadiation

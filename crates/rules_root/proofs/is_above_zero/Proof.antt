@@ -15,7 +15,7 @@ enum-known-n c = search needs
 
 returns : tie.Need-returns
 returns c =
-    rw (node-laws.lacked (c .enum-told .given .1) (c .before .before .us-root .ensures .0))
+    rw (node-laws.had-none (c .enum-told .given .1) (c .before .before .us-root .ensures .0))
 
 returns-2 : tie.Need-returns-2
 returns-2 c =

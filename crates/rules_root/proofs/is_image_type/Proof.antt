@@ -40,7 +40,14 @@ returns c =
     let at-is-word-at = at-if2 .before in
     let at-if1 = at-is-word-at .before .before in
     let at-count-values = at-if1 .before in
-    rw (← at-count-values .count-values .ensures .0, le-leb 4 _ (at-if1 .if1 .taken), ← at-is-word-at .is-word-at .ensures, at-if2 .if2 .taken, ← c .before .is-word-at2 .ensures, c .if3 .taken)
+    rw (
+      ← at-count-values .count-values .ensures .0,
+      le-leb 4 _ (at-if1 .if1 .taken),
+      ← at-is-word-at .is-word-at .ensures,
+      at-if2 .if2 .taken,
+      ← c .before .is-word-at2 .ensures,
+      c .if3 .taken,
+    )
 
 returns-2 : tie.Need-returns-2
 unfolding isImageType
@@ -51,7 +58,16 @@ returns-2 c =
     let at-is-word-at = at-if2 .before in
     let at-if1 = at-is-word-at .before .before in
     let at-count-values = at-if1 .before in
-    rw (← at-count-values .count-values .ensures .0, le-leb 4 _ (at-if1 .if1 .taken), ← at-is-word-at .is-word-at .ensures, at-if2 .if2 .taken, ← at-is-word-at2 .is-word-at2 .ensures, at-if3 .if3 .left, ← c .before .is-word-at3 .ensures, c .if4 .taken)
+    rw (
+      ← at-count-values .count-values .ensures .0,
+      le-leb 4 _ (at-if1 .if1 .taken),
+      ← at-is-word-at .is-word-at .ensures,
+      at-if2 .if2 .taken,
+      ← at-is-word-at2 .is-word-at2 .ensures,
+      at-if3 .if3 .left,
+      ← c .before .is-word-at3 .ensures,
+      c .if4 .taken,
+    )
 
 returns-3 : tie.Need-returns-3
 unfolding isImageType
@@ -63,14 +79,31 @@ returns-3 c =
     let at-is-word-at = at-if2 .before in
     let at-if1 = at-is-word-at .before .before in
     let at-count-values = at-if1 .before in
-    rw (← at-count-values .count-values .ensures .0, le-leb 4 _ (at-if1 .if1 .taken), ← at-is-word-at .is-word-at .ensures, at-if2 .if2 .taken, ← at-is-word-at2 .is-word-at2 .ensures, at-if3 .if3 .left, ← at-is-word-at3 .is-word-at3 .ensures, c .before .before .if4 .left, ← c .is-word-at4 .ensures, and-true)
+    rw (
+      ← at-count-values .count-values .ensures .0,
+      le-leb 4 _ (at-if1 .if1 .taken),
+      ← at-is-word-at .is-word-at .ensures,
+      at-if2 .if2 .taken,
+      ← at-is-word-at2 .is-word-at2 .ensures,
+      at-if3 .if3 .left,
+      ← at-is-word-at3 .is-word-at3 .ensures,
+      c .before .before .if4 .left,
+      ← c .is-word-at4 .ensures,
+      and-true,
+    )
 
 returns-4 : tie.Need-returns-4
 unfolding isImageType
 returns-4 c =
     let at-if1 = c .before .before .before in
     let at-count-values = at-if1 .before in
-    rw (← at-count-values .count-values .ensures .0, le-leb 4 _ (at-if1 .if1 .taken), ← c .before .is-word-at .ensures, c .if2 .left, and-false)
+    rw (
+      ← at-count-values .count-values .ensures .0,
+      le-leb 4 _ (at-if1 .if1 .taken),
+      ← c .before .is-word-at .ensures,
+      c .if2 .left,
+      and-false,
+    )
 
 returns-5 : tie.Need-returns-5
 unfolding isImageType

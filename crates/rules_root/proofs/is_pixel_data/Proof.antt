@@ -36,7 +36,13 @@ returns c =
     let at-is-pixel-vr = c .before .before .before in
     let at-vr = at-is-pixel-vr .before in
     let entry = at-vr .before .before .before in
-    rw (← at-vr .vr .ensures, ← at-is-pixel-vr .is-pixel-vr .ensures, c .before .before .if1 .taken, ← c .before .value .ensures, mul-assoc (entry .args .frames * entry .args .height) (entry .args .width) (entry .args .allocated / 8)) (c .is-padded .ensures)
+    rw (
+      ← at-vr .vr .ensures,
+      ← at-is-pixel-vr .is-pixel-vr .ensures,
+      c .before .before .if1 .taken,
+      ← c .before .value .ensures,
+      mul-assoc (entry .args .frames * entry .args .height) (entry .args .width) (entry .args .allocated / 8),
+    ) (c .is-padded .ensures)
 
 returns-2 : tie.Need-returns-2
 unfolding isPixelData

@@ -17,7 +17,7 @@ enum-told c = search needs
 returns : tie.Need-returns
 unfolding rule12
 returns c =
-    rw (node-laws.lacked (c .enum-told .given .1) (c .before .before .us-root .ensures .0))
+    rw (node-laws.had-none (c .enum-told .given .1) (c .before .before .us-root .ensures .0))
 
 us-root-requires-2 : tie.Need-us-root-requires-2
 us-root-requires-2 c κs = search needs
@@ -33,7 +33,10 @@ unfolding rule12
 returns-2 c =
     let at-allocated = c .before .before .before .before in
     let at-us-root = at-allocated .before .before in
-    rw (node-laws.had (at-allocated .allocated .given .1) (at-us-root .us-root .ensures .0), node-laws.lacked (c .enum-told2 .given .1) (c .before .before .us-root2 .ensures .0))
+    rw (
+      node-laws.had (at-allocated .allocated .given .1) (at-us-root .us-root .ensures .0),
+      node-laws.had-none (c .enum-told2 .given .1) (c .before .before .us-root2 .ensures .0),
+    )
 
 bits-fit-requires : tie.Need-bits-fit-requires
 bits-fit-requires c κs = search needs
@@ -44,7 +47,10 @@ returns-3 c =
     let at-us-root2 = c .before .before .before .before in
     let at-allocated = at-us-root2 .before .before in
     let at-us-root = at-allocated .before .before in
-    rw (node-laws.had (at-allocated .allocated .given .1) (at-us-root .us-root .ensures .0), node-laws.had (c .before .before .stored .given .1) (at-us-root2 .us-root2 .ensures .0)) (c .bits-fit .ensures)
+    rw (
+      node-laws.had (at-allocated .allocated .given .1) (at-us-root .us-root .ensures .0),
+      node-laws.had (c .before .before .stored .given .1) (at-us-root2 .us-root2 .ensures .0),
+    ) (c .bits-fit .ensures)
 
 pub rule-12-spec : {M : Type 1} → statement M
 rule-12-spec =

@@ -18,7 +18,7 @@ enum-told c = search needs
 returns : tie.Need-returns
 unfolding rule13
 returns c =
-    rw (node-laws.lacked (c .enum-told .given .1) (c .before .before .us-root .ensures .0))
+    rw (node-laws.had-none (c .enum-told .given .1) (c .before .before .us-root .ensures .0))
 
 us-root-requires-2 : tie.Need-us-root-requires-2
 us-root-requires-2 c κs = search needs
@@ -34,7 +34,10 @@ unfolding rule13
 returns-2 c =
     let at-high = c .before .before .before .before in
     let at-us-root = at-high .before .before in
-    rw (node-laws.had (at-high .high .given .1) (at-us-root .us-root .ensures .0), node-laws.lacked (c .enum-told2 .given .1) (c .before .before .us-root2 .ensures .0))
+    rw (
+      node-laws.had (at-high .high .given .1) (at-us-root .us-root .ensures .0),
+      node-laws.had-none (c .enum-told2 .given .1) (c .before .before .us-root2 .ensures .0),
+    )
 
 add-result : tie.Need-add-result
 add-result c =
@@ -48,7 +51,10 @@ returns-3 c =
     let at-us-root2 = c .before .before .before in
     let at-high = at-us-root2 .before .before in
     let at-us-root = at-high .before .before in
-    rw (node-laws.had (at-high .high .given .1) (at-us-root .us-root .ensures .0), node-laws.had (c .before .stored .given .1) (at-us-root2 .us-root2 .ensures .0))
+    rw (
+      node-laws.had (at-high .high .given .1) (at-us-root .us-root .ensures .0),
+      node-laws.had (c .before .stored .given .1) (at-us-root2 .us-root2 .ensures .0),
+    )
 
 pub rule-13-spec : {M : Type 1} → statement M
 rule-13-spec =

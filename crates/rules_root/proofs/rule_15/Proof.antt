@@ -18,7 +18,7 @@ enum-known-n c = search needs
 returns : tie.Need-returns
 unfolding rule15
 returns c =
-    rw (node-laws.lacked (c .enum-told .given .1) (c .before .before .frame-count .ensures .0))
+    rw (node-laws.had-none (c .enum-told .given .1) (c .before .before .frame-count .ensures .0))
 
 returns-2 : tie.Need-returns-2
 unfolding rule15

@@ -40,7 +40,8 @@ returns-3 c =
     let at-is-cs-root2 = c .before .before .before in
     let at-if1 = at-is-cs-root2 .before .before in
     let at-is-cs-root = at-if1 .before in
-    rw (← at-is-cs-root .is-cs-root .ensures, at-if1 .if1 .left, ← at-is-cs-root2 .is-cs-root2 .ensures, c .before .before .if2 .left) (c .is-cs-root3 .ensures)
+    rw (← at-is-cs-root .is-cs-root .ensures, at-if1 .if1 .left, ← at-is-cs-root2 .is-cs-root2 .ensures, c .before .before .if2 .left)
+    (c .is-cs-root3 .ensures)
 
 pub rule-16-spec : {M : Type 1} → statement M
 rule-16-spec =

@@ -27,7 +27,8 @@ unfolding rule19
 returns c =
     let at-if1 = c .before .before .before in
     let at-lossy-is = at-if1 .before in
-    rw (← at-lossy-is .lossy-is .ensures, at-if1 .if1 .taken, ← c .before .before .has-root .ensures, c .before .if2 .taken) (c .has-root2 .ensures)
+    rw (← at-lossy-is .lossy-is .ensures, at-if1 .if1 .taken, ← c .before .before .has-root .ensures, c .before .if2 .taken)
+    (c .has-root2 .ensures)
 
 returns-2 : tie.Need-returns-2
 unfolding rule19
@@ -40,7 +41,8 @@ unfolding rule19
 returns-3 c =
     let at-if1 = c .before .before .before in
     let at-lossy-is = at-if1 .before in
-    rw (← at-lossy-is .lossy-is .ensures, at-if1 .if1 .left, ← c .before .before .is-absent-root .ensures, c .before .if3 .taken) (c .is-absent-root2 .ensures)
+    rw (← at-lossy-is .lossy-is .ensures, at-if1 .if1 .left, ← c .before .before .is-absent-root .ensures, c .before .if3 .taken)
+    (c .is-absent-root2 .ensures)
 
 returns-4 : tie.Need-returns-4
 unfolding rule19

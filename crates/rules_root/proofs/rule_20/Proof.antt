@@ -34,7 +34,11 @@ unfolding rule20
 returns c =
     let at-if1 = c .before .before .before in
     let at-planes-are = at-if1 .before in
-    rw (← at-planes-are .planes-are .ensures, at-if1 .if1 .taken, node-laws.lacked (c .enum-told .given .1) (c .before .before .find-root .ensures .0))
+    rw (
+      ← at-planes-are .planes-are .ensures,
+      at-if1 .if1 .taken,
+      node-laws.had-none (c .enum-told .given .1) (c .before .before .find-root .ensures .0),
+    )
 
 returns-2 : tie.Need-returns-2
 unfolding rule20
@@ -42,7 +46,11 @@ returns-2 c =
     let at-find-root = c .before .before .before .before in
     let at-if1 = at-find-root .before in
     let at-planes-are = at-if1 .before in
-    rw (← at-planes-are .planes-are .ensures, at-if1 .if1 .taken, node-laws.had (c .before .before .i .given .1) (at-find-root .find-root .ensures .0)) (c .is-one-item .ensures)
+    rw (
+      ← at-planes-are .planes-are .ensures,
+      at-if1 .if1 .taken,
+      node-laws.had (c .before .before .i .given .1) (at-find-root .find-root .ensures .0),
+    ) (c .is-one-item .ensures)
 
 returns-3 : tie.Need-returns-3
 unfolding rule20

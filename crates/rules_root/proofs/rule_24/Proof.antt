@@ -22,7 +22,8 @@ returns c =
     let at-is-xrf = c .before .before .before in
     let at-if1 = at-is-xrf .before in
     let at-is-original = at-if1 .before in
-    rw (← at-is-original .is-original .ensures, at-if1 .if1 .taken, ← at-is-xrf .is-xrf .ensures, c .before .before .if2 .taken) (c .is-cs-root .ensures)
+    rw (← at-is-original .is-original .ensures, at-if1 .if1 .taken, ← at-is-xrf .is-xrf .ensures, c .before .before .if2 .taken)
+    (c .is-cs-root .ensures)
 
 returns-2 : tie.Need-returns-2
 unfolding rule24

@@ -17,7 +17,7 @@ enum-told c = search needs
 returns : tie.Need-returns
 unfolding rule26
 returns c =
-    rw (node-laws.lacked (c .enum-told .given .1) (c .before .before .find-vr-root .ensures .0))
+    rw (node-laws.had-none (c .enum-told .given .1) (c .before .before .find-vr-root .ensures .0))
 
 frame-count-requires : tie.Need-frame-count-requires
 frame-count-requires c κs = search needs
@@ -33,7 +33,10 @@ unfolding rule26
 returns-2 c =
     let at-groups = c .before .before .before .before in
     let at-find-vr-root = at-groups .before .before in
-    rw (node-laws.had (at-groups .groups .given .1) (at-find-vr-root .find-vr-root .ensures .0), node-laws.lacked (c .enum-told2 .given .1) (c .before .before .frame-count .ensures .0))
+    rw (
+      node-laws.had (at-groups .groups .given .1) (at-find-vr-root .find-vr-root .ensures .0),
+      node-laws.had-none (c .enum-told2 .given .1) (c .before .before .frame-count .ensures .0),
+    )
 
 count-items-requires : tie.Need-count-items-requires
 count-items-requires c κs =
@@ -48,7 +51,11 @@ returns-3 c =
     let at-frame-count = c .before .before .before .before in
     let at-groups = at-frame-count .before .before in
     let at-find-vr-root = at-groups .before .before in
-    rw (node-laws.had (at-groups .groups .given .1) (at-find-vr-root .find-vr-root .ensures .0), node-laws.had (c .before .before .frames .given .1) (at-frame-count .frame-count .ensures .0), c .count-items .ensures)
+    rw (
+      node-laws.had (at-groups .groups .given .1) (at-find-vr-root .find-vr-root .ensures .0),
+      node-laws.had (c .before .before .frames .given .1) (at-frame-count .frame-count .ensures .0),
+      c .count-items .ensures,
+    )
 
 pub rule-26-spec : {M : Type 1} → statement M
 rule-26-spec =

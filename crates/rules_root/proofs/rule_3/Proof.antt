@@ -26,14 +26,15 @@ is-image-type-requires c κs = search needs
 returns : tie.Need-returns
 unfolding rule3
 returns c =
-    rw (node-laws.lacked (c .enum-told .given .1) (c .before .before .find-vr-root .ensures .0))
+    rw (node-laws.had-none (c .enum-told .given .1) (c .before .before .find-vr-root .ensures .0))
 
 returns-2 : tie.Need-returns-2
 unfolding rule3
 returns-2 c =
     let at-i = c .before .before .before in
     let at-find-vr-root = at-i .before .before in
-    rw (node-laws.had (at-i .i .given .1) (at-find-vr-root .find-vr-root .ensures .0), ← c .before .value .ensures) (c .is-image-type .ensures)
+    rw (node-laws.had (at-i .i .given .1) (at-find-vr-root .find-vr-root .ensures .0), ← c .before .value .ensures)
+    (c .is-image-type .ensures)
 
 pub rule-3-spec : {M : Type 1} → statement M
 rule-3-spec =

@@ -22,7 +22,7 @@ unfolding rule38
 returns c =
     let entry = c .before .before .before .before .before in
     laws.rule38-holds (nodesOf (now (entry .args .bytes)))
-    (rw (node-laws.lacked (c .enum-told .given .1) (c .before .before .frame-count .ensures .0)))
+    (rw (node-laws.had-none (c .enum-told .given .1) (c .before .before .frame-count .ensures .0)))
 
 us-root-requires : tie.Need-us-root-requires
 us-root-requires c κs = search needs
@@ -40,7 +40,10 @@ returns-2 c =
     let at-frame-count = at-frames .before .before in
     let entry = at-frame-count .before .before .before in
     laws.rule38-holds (nodesOf (now (entry .args .bytes)))
-    (rw (node-laws.had (at-frames .frames .given .1) (at-frame-count .frame-count .ensures .0), node-laws.lacked (c .enum-told2 .given .1) (c .before .before .us-root .ensures .0)))
+    (rw (
+      node-laws.had (at-frames .frames .given .1) (at-frame-count .frame-count .ensures .0),
+      node-laws.had-none (c .enum-told2 .given .1) (c .before .before .us-root .ensures .0),
+    ))
 
 us-root-requires-2 : tie.Need-us-root-requires-2
 us-root-requires-2 c κs = search needs
@@ -60,7 +63,11 @@ returns-3 c =
     let at-frame-count = at-frames .before .before in
     let entry = at-frame-count .before .before .before in
     laws.rule38-holds (nodesOf (now (entry .args .bytes)))
-    (rw (node-laws.had (at-frames .frames .given .1) (at-frame-count .frame-count .ensures .0), node-laws.had (at-height .height .given .1) (at-us-root .us-root .ensures .0), node-laws.lacked (c .enum-told3 .given .1) (c .before .before .us-root2 .ensures .0)))
+    (rw (
+      node-laws.had (at-frames .frames .given .1) (at-frame-count .frame-count .ensures .0),
+      node-laws.had (at-height .height .given .1) (at-us-root .us-root .ensures .0),
+      node-laws.had-none (c .enum-told3 .given .1) (c .before .before .us-root2 .ensures .0),
+    ))
 
 us-root-requires-3 : tie.Need-us-root-requires-3
 us-root-requires-3 c κs = search needs
@@ -82,7 +89,12 @@ returns-4 c =
     let at-frame-count = at-frames .before .before in
     let entry = at-frame-count .before .before .before in
     laws.rule38-holds (nodesOf (now (entry .args .bytes)))
-    (rw (node-laws.had (at-frames .frames .given .1) (at-frame-count .frame-count .ensures .0), node-laws.had (at-height .height .given .1) (at-us-root .us-root .ensures .0), node-laws.had (at-width .width .given .1) (at-us-root2 .us-root2 .ensures .0), node-laws.lacked (c .enum-told4 .given .1) (c .before .before .us-root3 .ensures .0)))
+    (rw (
+      node-laws.had (at-frames .frames .given .1) (at-frame-count .frame-count .ensures .0),
+      node-laws.had (at-height .height .given .1) (at-us-root .us-root .ensures .0),
+      node-laws.had (at-width .width .given .1) (at-us-root2 .us-root2 .ensures .0),
+      node-laws.had-none (c .enum-told4 .given .1) (c .before .before .us-root3 .ensures .0),
+    ))
 
 find-root-requires : tie.Need-find-root-requires
 find-root-requires c κs = search needs
@@ -106,7 +118,13 @@ returns-5 c =
     let at-frame-count = at-frames .before .before in
     let entry = at-frame-count .before .before .before in
     laws.rule38-holds (nodesOf (now (entry .args .bytes)))
-    (rw (node-laws.had (at-frames .frames .given .1) (at-frame-count .frame-count .ensures .0), node-laws.had (at-height .height .given .1) (at-us-root .us-root .ensures .0), node-laws.had (at-width .width .given .1) (at-us-root2 .us-root2 .ensures .0), node-laws.had (at-allocated .allocated .given .1) (at-us-root3 .us-root3 .ensures .0), node-laws.lacked (c .enum-told5 .given .1) (c .before .before .find-root .ensures .0)))
+    (rw (
+      node-laws.had (at-frames .frames .given .1) (at-frame-count .frame-count .ensures .0),
+      node-laws.had (at-height .height .given .1) (at-us-root .us-root .ensures .0),
+      node-laws.had (at-width .width .given .1) (at-us-root2 .us-root2 .ensures .0),
+      node-laws.had (at-allocated .allocated .given .1) (at-us-root3 .us-root3 .ensures .0),
+      node-laws.had-none (c .enum-told5 .given .1) (c .before .before .find-root .ensures .0),
+    ))
 
 is-pixel-data-requires : tie.Need-is-pixel-data-requires
 is-pixel-data-requires c κs =
@@ -119,8 +137,22 @@ is-pixel-data-requires c κs =
     let at-us-root = at-height .before .before in
     let at-frames = at-us-root .before .before in
     let at-frame-count = at-frames .before .before in
-    let entry = at-frame-count .before .before .before in
-    (entry .pre, (node-laws.within _ (c .before .i .given .1) (at-find-root .find-root .ensures .1), (node-laws.within 100000000000 (at-frames .frames .given .1) (at-frame-count .frame-count .ensures .1), (node-laws.within 65536 (at-height .height .given .1) (at-us-root .us-root .ensures .1), (node-laws.within 65536 (at-width .width .given .1) (at-us-root2 .us-root2 .ensures .1), node-laws.within 65536 (at-allocated .allocated .given .1) (at-us-root3 .us-root3 .ensures .1))))))
+    let entry = at-frame-count .before .before .before in (
+      entry .pre,
+      (
+        node-laws.within _ (c .before .i .given .1) (at-find-root .find-root .ensures .1),
+        (
+          node-laws.within 100000000000 (at-frames .frames .given .1) (at-frame-count .frame-count .ensures .1),
+          (
+            node-laws.within 65536 (at-height .height .given .1) (at-us-root .us-root .ensures .1),
+            (
+              node-laws.within 65536 (at-width .width .given .1) (at-us-root2 .us-root2 .ensures .1),
+              node-laws.within 65536 (at-allocated .allocated .given .1) (at-us-root3 .us-root3 .ensures .1),
+            ),
+          ),
+        ),
+      ),
+    )
 
 returns-6 : tie.Need-returns-6
 unfolding rule38
@@ -136,7 +168,13 @@ returns-6 c =
     let at-frame-count = at-frames .before .before in
     let entry = at-frame-count .before .before .before in
     laws.rule38-holds (nodesOf (now (entry .args .bytes)))
-    (rw (node-laws.had (at-frames .frames .given .1) (at-frame-count .frame-count .ensures .0), node-laws.had (at-height .height .given .1) (at-us-root .us-root .ensures .0), node-laws.had (at-width .width .given .1) (at-us-root2 .us-root2 .ensures .0), node-laws.had (at-allocated .allocated .given .1) (at-us-root3 .us-root3 .ensures .0), node-laws.had (c .before .before .i .given .1) (at-find-root .find-root .ensures .0)) (c .is-pixel-data .ensures))
+    (rw (
+      node-laws.had (at-frames .frames .given .1) (at-frame-count .frame-count .ensures .0),
+      node-laws.had (at-height .height .given .1) (at-us-root .us-root .ensures .0),
+      node-laws.had (at-width .width .given .1) (at-us-root2 .us-root2 .ensures .0),
+      node-laws.had (at-allocated .allocated .given .1) (at-us-root3 .us-root3 .ensures .0),
+      node-laws.had (c .before .before .i .given .1) (at-find-root .find-root .ensures .0),
+    ) (c .is-pixel-data .ensures))
 
 pub rule-38-spec : {M : Type 1} → statement M
 rule-38-spec =

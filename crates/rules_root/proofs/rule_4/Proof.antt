@@ -40,7 +40,8 @@ returns-3 c =
     let at-planes-are2 = c .before .before .before in
     let at-if1 = at-planes-are2 .before .before in
     let at-planes-are = at-if1 .before in
-    rw (← at-planes-are .planes-are .ensures, at-if1 .if1 .left, ← at-planes-are2 .planes-are2 .ensures, c .before .before .if2 .left) (c .planes-are3 .ensures)
+    rw (← at-planes-are .planes-are .ensures, at-if1 .if1 .left, ← at-planes-are2 .planes-are2 .ensures, c .before .before .if2 .left)
+    (c .planes-are3 .ensures)
 
 pub rule-4-spec : {M : Type 1} → statement M
 rule-4-spec =

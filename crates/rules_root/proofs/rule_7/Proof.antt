@@ -34,7 +34,11 @@ unfolding rule7
 returns c =
     let at-if1 = c .before .before .before in
     let at-planes-are = at-if1 .before in
-    rw (← at-planes-are .planes-are .ensures, at-if1 .if1 .taken, node-laws.lacked (c .enum-told .given .1) (c .before .before .find-vr-root .ensures .0))
+    rw (
+      ← at-planes-are .planes-are .ensures,
+      at-if1 .if1 .taken,
+      node-laws.had-none (c .enum-told .given .1) (c .before .before .find-vr-root .ensures .0),
+    )
 
 returns-2 : tie.Need-returns-2
 unfolding rule7
@@ -43,7 +47,13 @@ returns-2 c =
     let at-find-vr-root = at-i .before .before in
     let at-if1 = at-find-vr-root .before in
     let at-planes-are = at-if1 .before in
-    rw (← at-planes-are .planes-are .ensures, at-if1 .if1 .taken, node-laws.had (at-i .i .given .1) (at-find-vr-root .find-vr-root .ensures .0), ← c .before .value .ensures) (c .is-other-plane .ensures)
+    rw (
+      ← at-planes-are .planes-are .ensures,
+      at-if1 .if1 .taken,
+      node-laws.had (at-i .i .given .1) (at-find-vr-root .find-vr-root .ensures .0),
+      ← c .before .value .ensures,
+    )
+    (c .is-other-plane .ensures)
 
 returns-3 : tie.Need-returns-3
 unfolding rule7

@@ -15,7 +15,8 @@ use Rattle.searches.proofs.both_items.Tie as tie
 abbrev Inv-loop : tie.InvT-loop
 Inv-loop bytes rows shared own end at₀ sum₀ at sum =
     (end ≤ length (nodesOf bytes))
-    × (sum + overBoth (nodesOf bytes) shared (members (nodesOf bytes) at end) ≡ overBoth (nodesOf bytes) shared (frameItems (nodesOf bytes)))
+    × (sum + overBoth (nodesOf bytes) shared (members (nodesOf bytes) at end)
+    ≡ overBoth (nodesOf bytes) shared (frameItems (nodesOf bytes)))
 
 abbrev μ-loop : tie.MeasureT-loop
 μ-loop bytes rows shared own end at₀ sum₀ at sum =
@@ -49,7 +50,14 @@ add-sum c =
     let entry = at-count-items .before .before .before in
     let a = entry .args in
     let ns = nodesOf (a .bytes .now) in
-    omega (arith, c .before .before .loop .inv .1, both-next ns (c .before .before .loop .at) (at-frame-items .frame-items .result .end) (a .shared) (c .before .loop-test .taken), at-count-items .count-items .ensures, c .count-items2 .ensures, both-fits (a .bytes .now) (entry .pre .0 .few) (a .shared))
+    omega (
+      arith,
+      c .before .before .loop .inv .1,
+      both-next ns (c .before .before .loop .at) (at-frame-items .frame-items .result .end) (a .shared) (c .before .loop-test .taken),
+      at-count-items .count-items .ensures,
+      c .count-items2 .ensures,
+      both-fits (a .bytes .now) (entry .pre .0 .few) (a .shared),
+    )
 
 add-sum-2 : tie.Need-add-sum-2 Inv-loop μ-loop
 add-sum-2 c =
@@ -58,7 +66,14 @@ add-sum-2 c =
     let entry = at-count-items .before .before .before in
     let a = entry .args in
     let ns = nodesOf (a .bytes .now) in
-    omega (arith, c .before .before .loop .inv .1, both-next ns (c .before .before .loop .at) (at-frame-items .frame-items .result .end) (a .shared) (c .before .loop-test .taken), at-count-items .count-items .ensures, c .count-items2 .ensures, both-fits (a .bytes .now) (entry .pre .0 .few) (a .shared))
+    omega (
+      arith,
+      c .before .before .loop .inv .1,
+      both-next ns (c .before .before .loop .at) (at-frame-items .frame-items .result .end) (a .shared) (c .before .loop-test .taken),
+      at-count-items .count-items .ensures,
+      c .count-items2 .ensures,
+      both-fits (a .bytes .now) (entry .pre .0 .few) (a .shared),
+    )
 
 next-requires : tie.Need-next-requires Inv-loop μ-loop
 next-requires c κs =
@@ -77,15 +92,28 @@ loop-again c =
     let entry = at-count-items .before .before .before in
     let a = entry .args in
     let ns = nodesOf (a .bytes .now) in
-    let f = ap (λ (k : ℕ). overBoth ns (a .shared) (members ns k (at-frame-items .frame-items .result .end))) (c .next .ensures .0) in
-    (at-loop .loop .inv .0, omega (arith, at-loop .loop .inv .1, both-next ns (at-loop .loop .at) (at-frame-items .frame-items .result .end) (a .shared) (c .before .before .loop-test .taken), at-count-items .count-items .ensures, c .before .count-items2 .ensures, f))
+    let f = ap (λ (k : ℕ). overBoth ns (a .shared) (members ns k (at-frame-items .frame-items .result .end))) (c .next .ensures .0) in (
+      at-loop .loop .inv .0,
+      omega (
+        arith,
+        at-loop .loop .inv .1,
+        both-next ns (at-loop .loop .at) (at-frame-items .frame-items .result .end) (a .shared) (c .before .before .loop-test .taken),
+        at-count-items .count-items .ensures,
+        c .before .count-items2 .ensures,
+        f,
+      ),
+    )
 
 returns : tie.Need-returns Inv-loop μ-loop
 returns c =
     let entry = c .before .before .before .before .before .before in
     let a = entry .args in
     let ns = nodesOf (a .bytes .now) in
-    omega (arith, c .before .loop .inv .1, both-end ns (c .before .loop .at) (c .before .before .frame-items .result .end) (a .shared) (c .loop-test .left))
+    omega (
+      arith,
+      c .before .loop .inv .1,
+      both-end ns (c .before .loop .at) (c .before .before .frame-items .result .end) (a .shared) (c .loop-test .left),
+    )
 
 pub both-items-spec : {M : Type 1} → statement M
 both-items-spec =

@@ -34,11 +34,16 @@ add-result : tie.Need-add-result
 add-result c =
     let at-s = c .before .before .before in
     let entry = at-s .before .before .before .before .before in
-    omega (arith, c .before .both-items .ensures, both-fits (entry .args .bytes .now) (entry .pre .few) (at-s .s .given .0 .0), c .groups-over .ensures .1)
+    omega (
+      arith,
+      c .before .both-items .ensures,
+      both-fits (entry .args .bytes .now) (entry .pre .few) (at-s .s .given .0 .0),
+      c .groups-over .ensures .1,
+    )
 
 returns : tie.Need-returns
 returns c =
-    (rw (node-laws.lacked (c .enum-told .given .1) (c .before .before .shared-item .ensures .0)), omega arith)
+    (rw (node-laws.had-none (c .enum-told .given .1) (c .before .before .shared-item .ensures .0)), omega arith)
 
 returns-2 : tie.Need-returns-2
 returns-2 c =
@@ -46,8 +51,14 @@ returns-2 c =
     let at-shared-item = at-s .before .before in
     let entry = at-shared-item .before .before .before in
     let ns = nodesOf (entry .args .bytes .now) in (
-      rw (node-laws.had (at-s .s .given .1) (at-shared-item .shared-item .ensures .0)) (omega (arith, frames-are ns (at-s .s .given .0 .0) (frameItems ns), c .before .both-items .ensures, c .groups-over .ensures .0)),
-      omega (arith, c .before .both-items .ensures, both-fits (entry .args .bytes .now) (entry .pre .few) (at-s .s .given .0 .0), c .groups-over .ensures .1),
+      rw (node-laws.had (at-s .s .given .1) (at-shared-item .shared-item .ensures .0))
+          (omega (arith, frames-are ns (at-s .s .given .0 .0) (frameItems ns), c .before .both-items .ensures, c .groups-over .ensures .0)),
+      omega (
+        arith,
+        c .before .both-items .ensures,
+        both-fits (entry .args .bytes .now) (entry .pre .few) (at-s .s .given .0 .0),
+        c .groups-over .ensures .1,
+      ),
     )
 
 pub frames-sum-spec : {M : Type 1} → statement M

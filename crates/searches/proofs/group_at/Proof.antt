@@ -20,8 +20,10 @@ add-result c =
     let entry = at-look-item .before .before .before .before in
     let a = entry .args in
     let ns = nodesOf (a .bytes .now) in
-    let fits = group-fits (a .bytes .now) (entry .pre .0 .few) (a .group) (a .always) (a .reads .now) (a .shared) (a .item) (entry .pre .1 .1 .1) in
-    let sum = group-lacks ns (a .group) (a .reads .now) (a .shared) (a .item) (a .always) (node-laws.lacked (c .before .enum-told .given .1) (at-look-item .look-item .ensures .finds)) in
+    let fits = group-fits (a .bytes .now) (entry .pre .0 .few) (a .group) (a .always) (a .reads .now) (a .shared) (a .item)
+    (entry .pre .1 .1 .1) in
+    let sum = group-lacks ns (a .group) (a .reads .now) (a .shared) (a .item) (a .always)
+    (node-laws.had-none (c .before .enum-told .given .1) (at-look-item .look-item .ensures .finds)) in
     omega (arith, sum, fits, at-look-item .look-item .ensures .counts, entry .pre .1 .1 .0 .looked, entry .pre .1 .1 .0 .read)
 
 add-result-2 : tie.Need-add-result-2
@@ -30,8 +32,10 @@ add-result-2 c =
     let entry = at-look-item .before .before .before .before in
     let a = entry .args in
     let ns = nodesOf (a .bytes .now) in
-    let fits = group-fits (a .bytes .now) (entry .pre .0 .few) (a .group) (a .always) (a .reads .now) (a .shared) (a .item) (entry .pre .1 .1 .1) in
-    let sum = group-lacks ns (a .group) (a .reads .now) (a .shared) (a .item) (a .always) (node-laws.lacked (c .before .before .enum-told .given .1) (at-look-item .look-item .ensures .finds)) in
+    let fits = group-fits (a .bytes .now) (entry .pre .0 .few) (a .group) (a .always) (a .reads .now) (a .shared) (a .item)
+    (entry .pre .1 .1 .1) in
+    let sum = group-lacks ns (a .group) (a .reads .now) (a .shared) (a .item) (a .always)
+    (node-laws.had-none (c .before .before .enum-told .given .1) (at-look-item .look-item .ensures .finds)) in
     omega (arith, sum, fits, at-look-item .look-item .ensures .counts, entry .pre .1 .1 .0 .looked, entry .pre .1 .1 .0 .read)
 
 enum-known-found : tie.Need-enum-known-found
@@ -40,8 +44,10 @@ enum-known-found c = search needs
 look-group-requires : tie.Need-look-group-requires
 look-group-requires c κs =
     let at-look-item = c .before .before .before in
-    let entry = at-look-item .before .before .before .before in
-    (entry .pre .0, (node-laws.within _ (c .before .found .given .1) (at-look-item .look-item .ensures .within), omega (arith, entry .pre .1 .1 .1)))
+    let entry = at-look-item .before .before .before .before in (
+      entry .pre .0,
+      (node-laws.within _ (c .before .found .given .1) (at-look-item .look-item .ensures .within), omega (arith, entry .pre .1 .1 .1)),
+    )
 
 add-result-3 : tie.Need-add-result-3
 add-result-3 c =
@@ -50,8 +56,10 @@ add-result-3 c =
     let entry = at-look-item .before .before .before .before in
     let a = entry .args in
     let ns = nodesOf (a .bytes .now) in
-    let fits = group-fits (a .bytes .now) (entry .pre .0 .few) (a .group) (a .always) (a .reads .now) (a .shared) (a .item) (entry .pre .1 .1 .1) in
-    let sum = group-both ns (a .group) (a .reads .now) (a .shared) (a .item) (a .always) (c .before .if1 .taken) (at-found .found .given .0 .0) (node-laws.had (at-found .found .given .1) (at-look-item .look-item .ensures .finds)) in
+    let fits = group-fits (a .bytes .now) (entry .pre .0 .few) (a .group) (a .always) (a .reads .now) (a .shared) (a .item)
+    (entry .pre .1 .1 .1) in
+    let sum = group-both ns (a .group) (a .reads .now) (a .shared) (a .item) (a .always) (c .before .if1 .taken)
+    (at-found .found .given .0 .0) (node-laws.had (at-found .found .given .1) (at-look-item .look-item .ensures .finds)) in
     omega (arith, sum, fits, at-look-item .look-item .ensures .counts, entry .pre .1 .1 .0 .looked, c .before .before .look-group .ensures)
 
 add-result-4 : tie.Need-add-result-4
@@ -61,8 +69,10 @@ add-result-4 c =
     let entry = at-look-item .before .before .before .before in
     let a = entry .args in
     let ns = nodesOf (a .bytes .now) in
-    let fits = group-fits (a .bytes .now) (entry .pre .0 .few) (a .group) (a .always) (a .reads .now) (a .shared) (a .item) (entry .pre .1 .1 .1) in
-    let sum = group-both ns (a .group) (a .reads .now) (a .shared) (a .item) (a .always) (c .before .if1 .taken) (at-found .found .given .0 .0) (node-laws.had (at-found .found .given .1) (at-look-item .look-item .ensures .finds)) in
+    let fits = group-fits (a .bytes .now) (entry .pre .0 .few) (a .group) (a .always) (a .reads .now) (a .shared) (a .item)
+    (entry .pre .1 .1 .1) in
+    let sum = group-both ns (a .group) (a .reads .now) (a .shared) (a .item) (a .always) (c .before .if1 .taken)
+    (at-found .found .given .0 .0) (node-laws.had (at-found .found .given .1) (at-look-item .look-item .ensures .finds)) in
     omega (arith, sum, fits, at-look-item .look-item .ensures .counts, entry .pre .1 .1 .0 .looked, c .before .before .look-group .ensures)
 
 add-result-5 : tie.Need-add-result-5
@@ -72,8 +82,10 @@ add-result-5 c =
     let entry = at-look-item .before .before .before .before in
     let a = entry .args in
     let ns = nodesOf (a .bytes .now) in
-    let fits = group-fits (a .bytes .now) (entry .pre .0 .few) (a .group) (a .always) (a .reads .now) (a .shared) (a .item) (entry .pre .1 .1 .1) in
-    let sum = group-own ns (a .group) (a .reads .now) (a .shared) (a .item) (a .always) (c .if1 .left) (at-found .found .given .0 .0) (node-laws.had (at-found .found .given .1) (at-look-item .look-item .ensures .finds)) in
+    let fits = group-fits (a .bytes .now) (entry .pre .0 .few) (a .group) (a .always) (a .reads .now) (a .shared) (a .item)
+    (entry .pre .1 .1 .1) in
+    let sum = group-own ns (a .group) (a .reads .now) (a .shared) (a .item) (a .always) (c .if1 .left) (at-found .found .given .0 .0)
+    (node-laws.had (at-found .found .given .1) (at-look-item .look-item .ensures .finds)) in
     omega (arith, sum, fits, at-look-item .look-item .ensures .counts, entry .pre .1 .1 .0 .looked, c .before .look-group .ensures)
 
 returns : tie.Need-returns
@@ -82,8 +94,10 @@ returns c =
     let entry = at-look-item .before .before .before .before in
     let a = entry .args in
     let ns = nodesOf (a .bytes .now) in
-    let fits = group-fits (a .bytes .now) (entry .pre .0 .few) (a .group) (a .always) (a .reads .now) (a .shared) (a .item) (entry .pre .1 .1 .1) in
-    let sum = group-lacks ns (a .group) (a .reads .now) (a .shared) (a .item) (a .always) (node-laws.lacked (c .before .before .enum-told .given .1) (at-look-item .look-item .ensures .finds)) in
+    let fits = group-fits (a .bytes .now) (entry .pre .0 .few) (a .group) (a .always) (a .reads .now) (a .shared) (a .item)
+    (entry .pre .1 .1 .1) in
+    let sum = group-lacks ns (a .group) (a .reads .now) (a .shared) (a .item) (a .always)
+    (node-laws.had-none (c .before .before .enum-told .given .1) (at-look-item .look-item .ensures .finds)) in
     omega (arith, sum, fits, at-look-item .look-item .ensures .counts, entry .pre .1 .1 .0 .looked, entry .pre .1 .1 .0 .read)
 
 returns-2 : tie.Need-returns-2
@@ -93,8 +107,10 @@ returns-2 c =
     let entry = at-look-item .before .before .before .before in
     let a = entry .args in
     let ns = nodesOf (a .bytes .now) in
-    let fits = group-fits (a .bytes .now) (entry .pre .0 .few) (a .group) (a .always) (a .reads .now) (a .shared) (a .item) (entry .pre .1 .1 .1) in
-    let sum = group-both ns (a .group) (a .reads .now) (a .shared) (a .item) (a .always) (c .before .if1 .taken) (at-found .found .given .0 .0) (node-laws.had (at-found .found .given .1) (at-look-item .look-item .ensures .finds)) in
+    let fits = group-fits (a .bytes .now) (entry .pre .0 .few) (a .group) (a .always) (a .reads .now) (a .shared) (a .item)
+    (entry .pre .1 .1 .1) in
+    let sum = group-both ns (a .group) (a .reads .now) (a .shared) (a .item) (a .always) (c .before .if1 .taken)
+    (at-found .found .given .0 .0) (node-laws.had (at-found .found .given .1) (at-look-item .look-item .ensures .finds)) in
     omega (arith, sum, fits, at-look-item .look-item .ensures .counts, entry .pre .1 .1 .0 .looked, c .before .before .look-group .ensures)
 
 returns-3 : tie.Need-returns-3
@@ -104,8 +120,10 @@ returns-3 c =
     let entry = at-look-item .before .before .before .before in
     let a = entry .args in
     let ns = nodesOf (a .bytes .now) in
-    let fits = group-fits (a .bytes .now) (entry .pre .0 .few) (a .group) (a .always) (a .reads .now) (a .shared) (a .item) (entry .pre .1 .1 .1) in
-    let sum = group-own ns (a .group) (a .reads .now) (a .shared) (a .item) (a .always) (c .if1 .left) (at-found .found .given .0 .0) (node-laws.had (at-found .found .given .1) (at-look-item .look-item .ensures .finds)) in
+    let fits = group-fits (a .bytes .now) (entry .pre .0 .few) (a .group) (a .always) (a .reads .now) (a .shared) (a .item)
+    (entry .pre .1 .1 .1) in
+    let sum = group-own ns (a .group) (a .reads .now) (a .shared) (a .item) (a .always) (c .if1 .left) (at-found .found .given .0 .0)
+    (node-laws.had (at-found .found .given .1) (at-look-item .look-item .ensures .finds)) in
     omega (arith, sum, fits, at-look-item .look-item .ensures .counts, entry .pre .1 .1 .0 .looked, c .before .look-group .ensures)
 
 pub group-at-spec : {M : Type 1} → statement M

@@ -52,7 +52,13 @@ add-result-3 : tie.Need-add-result-3
 add-result-3 c =
     let at-over-frames2 = c .before .before .before .before in
     let at-over-frames = at-over-frames2 .before .before in
-    omega (arith, at-over-frames .over-frames .ensures .1, at-over-frames2 .over-frames2 .ensures .1, c .before .before .over-frames3 .ensures .1, c .over-frames4 .ensures .1)
+    omega (
+      arith,
+      at-over-frames .over-frames .ensures .1,
+      at-over-frames2 .over-frames2 .ensures .1,
+      c .before .before .over-frames3 .ensures .1,
+      c .over-frames4 .ensures .1,
+    )
 
 slice-aggregate-over-frames-5 : tie.Need-slice-aggregate-over-frames-5
 slice-aggregate-over-frames-5 c = search needs
@@ -65,7 +71,14 @@ add-result-4 c =
     let at-over-frames3 = c .before .before .before .before in
     let at-over-frames2 = at-over-frames3 .before .before in
     let at-over-frames = at-over-frames2 .before .before in
-    omega (arith, at-over-frames .over-frames .ensures .1, at-over-frames2 .over-frames2 .ensures .1, at-over-frames3 .over-frames3 .ensures .1, c .before .before .over-frames4 .ensures .1, c .over-frames5 .ensures .1)
+    omega (
+      arith,
+      at-over-frames .over-frames .ensures .1,
+      at-over-frames2 .over-frames2 .ensures .1,
+      at-over-frames3 .over-frames3 .ensures .1,
+      c .before .before .over-frames4 .ensures .1,
+      c .over-frames5 .ensures .1,
+    )
 
 slice-aggregate-over-frames-6 : tie.Need-slice-aggregate-over-frames-6
 slice-aggregate-over-frames-6 c = search needs
@@ -79,7 +92,15 @@ add-result-5 c =
     let at-over-frames3 = at-over-frames4 .before .before in
     let at-over-frames2 = at-over-frames3 .before .before in
     let at-over-frames = at-over-frames2 .before .before in
-    omega (arith, at-over-frames .over-frames .ensures .1, at-over-frames2 .over-frames2 .ensures .1, at-over-frames3 .over-frames3 .ensures .1, at-over-frames4 .over-frames4 .ensures .1, c .before .before .over-frames5 .ensures .1, c .over-frames6 .ensures .1)
+    omega (
+      arith,
+      at-over-frames .over-frames .ensures .1,
+      at-over-frames2 .over-frames2 .ensures .1,
+      at-over-frames3 .over-frames3 .ensures .1,
+      at-over-frames4 .over-frames4 .ensures .1,
+      c .before .before .over-frames5 .ensures .1,
+      c .over-frames6 .ensures .1,
+    )
 
 slice-aggregate-over-frames-7 : tie.Need-slice-aggregate-over-frames-7
 slice-aggregate-over-frames-7 c = search needs
@@ -96,7 +117,16 @@ add-result-6 c =
     let at-over-frames3 = at-over-frames4 .before .before in
     let at-over-frames2 = at-over-frames3 .before .before in
     let at-over-frames = at-over-frames2 .before .before in
-    omega (arith, at-over-frames .over-frames .ensures .1, at-over-frames2 .over-frames2 .ensures .1, at-over-frames3 .over-frames3 .ensures .1, at-over-frames4 .over-frames4 .ensures .1, at-over-frames5 .over-frames5 .ensures .1, c .before .before .over-frames6 .ensures .1, c .over-frames7 .ensures .1)
+    omega (
+      arith,
+      at-over-frames .over-frames .ensures .1,
+      at-over-frames2 .over-frames2 .ensures .1,
+      at-over-frames3 .over-frames3 .ensures .1,
+      at-over-frames4 .over-frames4 .ensures .1,
+      at-over-frames5 .over-frames5 .ensures .1,
+      c .before .before .over-frames6 .ensures .1,
+      c .over-frames7 .ensures .1,
+    )
 
 returns : tie.Need-returns
 unfolding overGroups frameSearches
@@ -105,8 +135,28 @@ returns c =
     let at-over-frames4 = at-over-frames5 .before .before in
     let at-over-frames3 = at-over-frames4 .before .before in
     let at-over-frames2 = at-over-frames3 .before .before in
-    let at-over-frames = at-over-frames2 .before .before in
-    (omega (arith, at-over-frames .over-frames .ensures .0, at-over-frames2 .over-frames2 .ensures .0, at-over-frames3 .over-frames3 .ensures .0, at-over-frames4 .over-frames4 .ensures .0, at-over-frames5 .over-frames5 .ensures .0, c .before .before .over-frames6 .ensures .0, c .over-frames7 .ensures .0), omega (arith, at-over-frames .over-frames .ensures .1, at-over-frames2 .over-frames2 .ensures .1, at-over-frames3 .over-frames3 .ensures .1, at-over-frames4 .over-frames4 .ensures .1, at-over-frames5 .over-frames5 .ensures .1, c .before .before .over-frames6 .ensures .1, c .over-frames7 .ensures .1))
+    let at-over-frames = at-over-frames2 .before .before in (
+      omega (
+        arith,
+        at-over-frames .over-frames .ensures .0,
+        at-over-frames2 .over-frames2 .ensures .0,
+        at-over-frames3 .over-frames3 .ensures .0,
+        at-over-frames4 .over-frames4 .ensures .0,
+        at-over-frames5 .over-frames5 .ensures .0,
+        c .before .before .over-frames6 .ensures .0,
+        c .over-frames7 .ensures .0,
+      ),
+      omega (
+        arith,
+        at-over-frames .over-frames .ensures .1,
+        at-over-frames2 .over-frames2 .ensures .1,
+        at-over-frames3 .over-frames3 .ensures .1,
+        at-over-frames4 .over-frames4 .ensures .1,
+        at-over-frames5 .over-frames5 .ensures .1,
+        c .before .before .over-frames6 .ensures .1,
+        c .over-frames7 .ensures .1,
+      ),
+    )
 
 pub groups-over-spec : {M : Type 1} → statement M
 groups-over-spec =

@@ -16,7 +16,8 @@ use Rattle.searches.proofs.look.Tie as tie
 abbrev Inv-loop : tie.InvT-loop
 Inv-loop bytes rows from to wanted count₀ i₀ count i =
     (find (nodesOf bytes) wanted (members (nodesOf bytes) i to) ≡ find (nodesOf bytes) wanted (members (nodesOf bytes) from to))
-    × ((count + lookedAt (nodesOf bytes) wanted (members (nodesOf bytes) i to) ≡ lookedAt (nodesOf bytes) wanted (members (nodesOf bytes) from to))
+    × ((count + lookedAt (nodesOf bytes) wanted (members (nodesOf bytes) i to)
+    ≡ lookedAt (nodesOf bytes) wanted (members (nodesOf bytes) from to))
     × ((least : ℕ) × Ascends (nodesOf bytes) least (members (nodesOf bytes) i to)))
 
 abbrev μ-loop : tie.MeasureT-loop
@@ -37,7 +38,14 @@ add-count c =
     let entry = c .before .before .before .before .before in
     let a = entry .args in
     let ns = nodesOf (a .bytes .now) in
-    omega (arith, c .before .before .loop .inv .1 .0, looked-few ns (a .wanted) (members ns (a .from) (a .to)), members-few ns (a .from) (a .to), entry .pre .1 .0, entry .pre .0 .few)
+    omega (
+      arith,
+      c .before .before .loop .inv .1 .0,
+      looked-few ns (a .wanted) (members ns (a .from) (a .to)),
+      members-few ns (a .from) (a .to),
+      entry .pre .1 .0,
+      entry .pre .0 .few,
+    )
 
 returns : tie.Need-returns Inv-loop μ-loop
 returns c =
@@ -48,7 +56,12 @@ returns c =
     let inv = at-loop .loop .inv in
     record {
       finds = sym (find-here _ _ _ _ inside (sym (c .before .before .tag .ensures) ∙ c .if2 .taken)) ∙ inv .0;
-      counts = omega (arith, inv .1 .0, looked-here (nodesOf (entry .args .bytes .now)) (entry .args .wanted) (at-loop .loop .i) (entry .args .to) (inv .1 .1 .0) (inv .1 .1 .1) inside (omega (arith, c .before .before .tag .ensures, c .before .if1 .taken)));
+      counts = omega (
+        arith,
+        inv .1 .0,
+        looked-here (nodesOf (entry .args .bytes .now)) (entry .args .wanted) (at-loop .loop .i)
+            (entry .args .to) (inv .1 .1 .0) (inv .1 .1 .1) inside (omega (arith, c .before .before .tag .ensures, c .before .if1 .taken)),
+      );
       within = inside;
     }
 
@@ -60,8 +73,14 @@ returns-2 c =
     let inside = at-loop-test .loop-test .taken in
     let inv = at-loop .loop .inv in
     record {
-      finds = sym (find-past _ _ _ _ (inv .1 .1 .0) inside (inv .1 .1 .1) (omega (arith, c .before .before .tag .ensures, c .before .if1 .taken, c .if2 .left))) ∙ inv .0;
-      counts = omega (arith, inv .1 .0, looked-here (nodesOf (entry .args .bytes .now)) (entry .args .wanted) (at-loop .loop .i) (entry .args .to) (inv .1 .1 .0) (inv .1 .1 .1) inside (omega (arith, c .before .before .tag .ensures, c .before .if1 .taken)));
+      finds = sym (find-past _ _ _ _ (inv .1 .1 .0) inside (inv .1 .1 .1)
+          (omega (arith, c .before .before .tag .ensures, c .before .if1 .taken, c .if2 .left))) ∙ inv .0;
+      counts = omega (
+        arith,
+        inv .1 .0,
+        looked-here (nodesOf (entry .args .bytes .now)) (entry .args .wanted) (at-loop .loop .i)
+            (entry .args .to) (inv .1 .1 .0) (inv .1 .1 .1) inside (omega (arith, c .before .before .tag .ensures, c .before .if1 .taken)),
+      );
       within = tt;
     }
 
@@ -84,7 +103,12 @@ loop-again c =
     rw (c .next .ensures .0) (
       sym (find-later _ _ _ _ inside (λ e. omega (arith, c .before .if1 .left, c .before .before .tag .ensures ∙ e))) ∙ inv .0,
       (
-        omega (arith, inv .1 .0, looked-later (nodesOf (entry .args .bytes .now)) (entry .args .wanted) (at-loop .loop .i) (entry .args .to) inside (omega (arith, c .before .before .tag .ensures, c .before .if1 .left))),
+        omega (
+          arith,
+          inv .1 .0,
+          looked-later (nodesOf (entry .args .bytes .now)) (entry .args .wanted) (at-loop .loop .i) (entry .args .to)
+              inside (omega (arith, c .before .before .tag .ensures, c .before .if1 .left)),
+        ),
         (nodeAt (nodesOf (entry .args .bytes .now)) (at-loop .loop .i) .tag, ascends-next _ _ _ (inv .1 .1 .0) inside (inv .1 .1 .1)),
       ),
     )
@@ -95,7 +119,11 @@ returns-3 c =
     let inv = c .before .loop .inv in
     record {
       finds = sym (find-end _ _ _ _ (c .loop-test .left)) ∙ inv .0;
-      counts = omega (arith, inv .1 .0, looked-end (nodesOf (entry .args .bytes .now)) (entry .args .wanted) (c .before .loop .i) (entry .args .to) (c .loop-test .left));
+      counts = omega (
+        arith,
+        inv .1 .0,
+        looked-end (nodesOf (entry .args .bytes .now)) (entry .args .wanted) (c .before .loop .i) (entry .args .to) (c .loop-test .left),
+      );
       within = tt;
     }
 

@@ -13,7 +13,8 @@ use Rattle.searches.proofs.look_all.Tie as tie
 abbrev Inv-loop : tie.InvT-loop
 Inv-loop bytes rows from to wanted sum₀ k₀ sum k =
     (k ≤ length wanted)
-    × (sum + allLooked (nodesOf bytes) (drop k wanted) (members (nodesOf bytes) from to) ≡ allLooked (nodesOf bytes) wanted (members (nodesOf bytes) from to))
+    × (sum + allLooked (nodesOf bytes) (drop k wanted) (members (nodesOf bytes) from to)
+    ≡ allLooked (nodesOf bytes) wanted (members (nodesOf bytes) from to))
 
 abbrev μ-loop : tie.MeasureT-loop
 μ-loop bytes rows from to wanted sum₀ k₀ sum k =
@@ -43,7 +44,13 @@ add-sum c =
     let entry = at-loop .before .before .before .before in
     let a = entry .args in
     let ns = nodesOf (a .bytes .now) in
-    omega (arith, at-loop .loop .inv .1, all-next ns (a .wanted .now) (members ns (a .from) (a .to)) (at-loop .loop .k) (at-loop-test .loop-test .taken), c .before .look .ensures .counts, all-fits (a .bytes .now) (entry .pre .0 .few) (a .wanted .now) (a .from) (a .to) (entry .pre .1 .1 .1) (entry .pre .1 .0))
+    omega (
+      arith,
+      at-loop .loop .inv .1,
+      all-next ns (a .wanted .now) (members ns (a .from) (a .to)) (at-loop .loop .k) (at-loop-test .loop-test .taken),
+      c .before .look .ensures .counts,
+      all-fits (a .bytes .now) (entry .pre .0 .few) (a .wanted .now) (a .from) (a .to) (entry .pre .1 .1 .1) (entry .pre .1 .0),
+    )
 
 add-k : tie.Need-add-k Inv-loop μ-loop
 add-k c =
@@ -59,15 +66,27 @@ loop-again c =
     let at-loop = at-loop-test .before in
     let entry = at-loop .before .before .before .before in
     let a = entry .args in
-    let ns = nodesOf (a .bytes .now) in
-    (omega (arith, at-loop-test .loop-test .taken), omega (arith, at-loop .loop .inv .1, all-next ns (a .wanted .now) (members ns (a .from) (a .to)) (at-loop .loop .k) (at-loop-test .loop-test .taken), c .before .look .ensures .counts))
+    let ns = nodesOf (a .bytes .now) in (
+      omega (arith, at-loop-test .loop-test .taken),
+      omega (
+        arith,
+        at-loop .loop .inv .1,
+        all-next ns (a .wanted .now) (members ns (a .from) (a .to)) (at-loop .loop .k) (at-loop-test .loop-test .taken),
+        c .before .look .ensures .counts,
+      ),
+    )
 
 returns : tie.Need-returns Inv-loop μ-loop
 returns c =
     let entry = c .before .before .before .before .before in
     let a = entry .args in
     let ns = nodesOf (a .bytes .now) in
-    omega (arith, c .before .loop .inv .1, all-end ns (a .wanted .now) (members ns (a .from) (a .to)) (c .before .loop .k) (omega (arith, c .before .loop .inv .0, c .loop-test .left)))
+    omega (
+      arith,
+      c .before .loop .inv .1,
+      all-end ns (a .wanted .now) (members ns (a .from) (a .to)) (c .before .loop .k)
+          (omega (arith, c .before .loop .inv .0, c .loop-test .left)),
+    )
 
 pub look-all-spec : {M : Type 1} → statement M
 look-all-spec =

@@ -15,7 +15,8 @@ use Rattle.searches.proofs.look_along.Tie as tie
 abbrev Inv-loop : tie.InvT-loop
 Inv-loop bytes rows from to wanted sum₀ k₀ i₀ sum k i =
     (k ≤ length wanted)
-    × ((sum + allLooked (nodesOf bytes) (drop k wanted) (members (nodesOf bytes) i to) ≡ allLooked (nodesOf bytes) wanted (members (nodesOf bytes) from to))
+    × ((sum + allLooked (nodesOf bytes) (drop k wanted) (members (nodesOf bytes) i to)
+    ≡ allLooked (nodesOf bytes) wanted (members (nodesOf bytes) from to))
     × ((least : ℕ) × Ascends (nodesOf bytes) least (members (nodesOf bytes) i to)))
 
 abbrev μ-loop : tie.MeasureT-loop
@@ -45,8 +46,15 @@ add-sum c =
     let p = start .pre in
     let ns = nodesOf (a .bytes .now) in
     let l = c .before .before .loop in
-    let step = all-step ns (l .i) (a .to) (l .inv .1 .1 .0) (l .inv .1 .1 .1) (c .before .loop-test .taken) (drop (l .k) (a .wanted .now)) 0 (rises-drop (l .k) (a .wanted .now) 0 (p .1 .1 .1 .1)) in
-    omega (arith, l .inv .1 .0, step, length-drop (l .k) (a .wanted .now), all-fits (a .bytes .now) (p .0 .few) (a .wanted .now) (a .from) (a .to) (p .1 .1 .1 .0) (p .1 .0))
+    let step = all-step ns (l .i) (a .to) (l .inv .1 .1 .0) (l .inv .1 .1 .1) (c .before .loop-test .taken) (drop (l .k) (a .wanted .now)) 0
+    (rises-drop (l .k) (a .wanted .now) 0 (p .1 .1 .1 .1)) in
+    omega (
+      arith,
+      l .inv .1 .0,
+      step,
+      length-drop (l .k) (a .wanted .now),
+      all-fits (a .bytes .now) (p .0 .few) (a .wanted .now) (a .from) (a .to) (p .1 .1 .1 .0) (p .1 .0),
+    )
 
 tag-requires : tie.Need-tag-requires Inv-loop μ-loop
 tag-requires c κs =
@@ -84,12 +92,16 @@ loop-again c =
     let inside = at-loop-test .loop-test .taken in
     let on = c .before .first-above in
     let ahead = members ns (nextNode ns (l .i)) (a .to) in
-    let step = all-step ns (l .i) (a .to) (l .inv .1 .1 .0) (l .inv .1 .1 .1) inside (drop (l .k) (a .wanted .now)) 0 (rises-drop (l .k) (a .wanted .now) 0 (p .1 .1 .1 .1)) in
+    let step = all-step ns (l .i) (a .to) (l .inv .1 .1 .0) (l .inv .1 .1 .1) inside (drop (l .k) (a .wanted .now)) 0
+    (rises-drop (l .k) (a .wanted .now) 0 (p .1 .1 .1 .1)) in
     let rest = on .ensures .1 ∙ ap (λ (t : ℕ). above t (drop (l .k) (a .wanted .now))) (c .before .before .tag .ensures) in
     let e = ap (λ (tags : List ℕ). allLooked ns tags ahead) rest in
     rw (c .next .ensures .0) (
       on .ensures .0,
-      (omega (arith, l .inv .1 .0, step, length-drop (l .k) (a .wanted .now), e), (nodeAt ns (l .i) .tag, ascends-next ns (l .i) (a .to) (l .inv .1 .1 .0) inside (l .inv .1 .1 .1))),
+      (
+        omega (arith, l .inv .1 .0, step, length-drop (l .k) (a .wanted .now), e),
+        (nodeAt ns (l .i) .tag, ascends-next ns (l .i) (a .to) (l .inv .1 .1 .0) inside (l .inv .1 .1 .1)),
+      ),
     )
 
 returns-2 : tie.Need-returns-2 Inv-loop μ-loop

@@ -12,7 +12,8 @@ use Rattle.searches.proofs.look_each.Tie as tie
 
 abbrev Inv-loop : tie.InvT-loop
 Inv-loop bytes rows from to wanted sum₀ j₀ sum j =
-    sum + readInEach (nodesOf bytes) wanted (members (nodesOf bytes) j to) ≡ readInEach (nodesOf bytes) wanted (members (nodesOf bytes) from to)
+    sum + readInEach (nodesOf bytes) wanted (members (nodesOf bytes) j to)
+    ≡ readInEach (nodesOf bytes) wanted (members (nodesOf bytes) from to)
 
 abbrev μ-loop : tie.MeasureT-loop
 μ-loop bytes rows from to wanted sum₀ j₀ sum j =
@@ -35,8 +36,18 @@ add-look-all c =
 look-all-requires : tie.Need-look-all-requires Inv-loop μ-loop
 look-all-requires c κs =
     let entry = c .before .before .before .before .before .before in
-    let n = c .next .ensures in
-    (entry .pre .0, (n .1, (rw (n .0) (inside-ascends _ _ (entry .pre .0) (c .before .before .loop .j) (omega (arith, c .before .loop-test .taken, entry .pre .1 .0))), entry .pre .1 .1)))
+    let n = c .next .ensures in (
+      entry .pre .0,
+      (
+        n .1,
+        (
+          rw (n .0)
+              (inside-ascends _ _ (entry .pre .0) (c .before .before .loop .j)
+              (omega (arith, c .before .loop-test .taken, entry .pre .1 .0))),
+          entry .pre .1 .1,
+        ),
+      ),
+    )
 
 add-sum : tie.Need-add-sum Inv-loop μ-loop
 add-sum c =
@@ -45,7 +56,14 @@ add-sum c =
     let a = entry .args in
     let ns = nodesOf (a .bytes .now) in
     let e = ap (λ (k : ℕ). allLooked ns (a .wanted .now) (members ns (at-loop .loop .j + 1) k)) (c .before .next .ensures .0) in
-    omega (arith, at-loop .loop .inv, each-next ns (at-loop .loop .j) (a .to) (a .wanted .now) (c .before .before .loop-test .taken), c .look-all .ensures, e, each-fits (a .bytes .now) (entry .pre .0 .few) (a .wanted .now) (a .from) (a .to) (entry .pre .1 .1) (entry .pre .1 .0))
+    omega (
+      arith,
+      at-loop .loop .inv,
+      each-next ns (at-loop .loop .j) (a .to) (a .wanted .now) (c .before .before .loop-test .taken),
+      c .look-all .ensures,
+      e,
+      each-fits (a .bytes .now) (entry .pre .0 .few) (a .wanted .now) (a .from) (a .to) (entry .pre .1 .1) (entry .pre .1 .0),
+    )
 
 loop-less : tie.Need-loop-less Inv-loop μ-loop
 loop-less c =
@@ -59,13 +77,21 @@ loop-again c =
     let ns = nodesOf (a .bytes .now) in
     let e = ap (λ (k : ℕ). allLooked ns (a .wanted .now) (members ns (at-loop .loop .j + 1) k)) (c .before .next .ensures .0) in
     let f = ap (λ (k : ℕ). readInEach ns (a .wanted .now) (members ns k (a .to))) (c .before .next .ensures .0) in
-    omega (arith, at-loop .loop .inv, each-next ns (at-loop .loop .j) (a .to) (a .wanted .now) (c .before .before .loop-test .taken), c .look-all .ensures, e, f)
+    omega (
+      arith,
+      at-loop .loop .inv,
+      each-next ns (at-loop .loop .j) (a .to) (a .wanted .now) (c .before .before .loop-test .taken),
+      c .look-all .ensures,
+      e,
+      f,
+    )
 
 returns : tie.Need-returns Inv-loop μ-loop
 returns c =
     let entry = c .before .before .before .before .before in
     let a = entry .args in
-    omega (arith, c .before .loop .inv, each-end (nodesOf (a .bytes .now)) (c .before .loop .j) (a .to) (a .wanted .now) (c .loop-test .left))
+    omega
+    (arith, c .before .loop .inv, each-end (nodesOf (a .bytes .now)) (c .before .loop .j) (a .to) (a .wanted .now) (c .loop-test .left))
 
 pub look-each-spec : {M : Type 1} → statement M
 look-each-spec =

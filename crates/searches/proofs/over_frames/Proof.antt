@@ -42,8 +42,10 @@ loop-holds c =
 group-at-requires : tie.Need-group-at-requires Inv-loop μ-loop
 group-at-requires c κs =
     let at-shared-group = c .before .before .before in
-    let entry = at-shared-group .before .before .before .before in
-    (entry .pre .0, (omega (arith, c .loop-test .taken, c .before .loop .inv .0), (at-shared-group .shared-group .ensures, entry .pre .1 .1)))
+    let entry = at-shared-group .before .before .before .before in (
+      entry .pre .0,
+      (omega (arith, c .loop-test .taken, c .before .loop .inv .0), (at-shared-group .shared-group .ensures, entry .pre .1 .1)),
+    )
 
 add-sum : tie.Need-add-sum Inv-loop μ-loop
 add-sum c =
@@ -51,7 +53,14 @@ add-sum c =
     let entry = at-frame-items .before .before .before .before .before in
     let a = entry .args in
     let ns = nodesOf (a .bytes .now) in
-    omega (arith, c .before .before .loop .inv .1, over-next ns (c .before .before .loop .at) (at-frame-items .frame-items .result .end) (a .group) (a .always) (a .reads .now) (a .shared) (c .before .loop-test .taken), c .group-at .ensures, over-fits (a .bytes .now) (entry .pre .0 .few) (a .group) (a .always) (a .reads .now) (a .shared) (entry .pre .1 .1))
+    omega (
+      arith,
+      c .before .before .loop .inv .1,
+      over-next ns (c .before .before .loop .at) (at-frame-items .frame-items .result .end)
+          (a .group) (a .always) (a .reads .now) (a .shared) (c .before .loop-test .taken),
+      c .group-at .ensures,
+      over-fits (a .bytes .now) (entry .pre .0 .few) (a .group) (a .always) (a .reads .now) (a .shared) (entry .pre .1 .1),
+    )
 
 next-requires : tie.Need-next-requires Inv-loop μ-loop
 next-requires c κs =
@@ -69,16 +78,34 @@ loop-again c =
     let entry = at-frame-items .before .before .before .before .before in
     let a = entry .args in
     let ns = nodesOf (a .bytes .now) in
-    let f = ap (λ (k : ℕ). overGroup ns (a .group) (a .always) (a .reads .now) (a .shared) (members ns k (at-frame-items .frame-items .result .end))) (c .next .ensures .0) in
-    (at-loop .loop .inv .0, omega (arith, at-loop .loop .inv .1, over-next ns (at-loop .loop .at) (at-frame-items .frame-items .result .end) (a .group) (a .always) (a .reads .now) (a .shared) (c .before .before .loop-test .taken), c .before .group-at .ensures, f))
+    let f = ap (λ (k : ℕ).
+    overGroup ns (a .group) (a .always) (a .reads .now) (a .shared) (members ns k (at-frame-items .frame-items .result .end)))
+    (c .next .ensures .0) in (
+      at-loop .loop .inv .0,
+      omega (
+        arith,
+        at-loop .loop .inv .1,
+        over-next ns (at-loop .loop .at) (at-frame-items .frame-items .result .end)
+            (a .group) (a .always) (a .reads .now) (a .shared) (c .before .before .loop-test .taken),
+        c .before .group-at .ensures,
+        f,
+      ),
+    )
 
 returns : tie.Need-returns Inv-loop μ-loop
 returns c =
     let entry = c .before .before .before .before .before .before .before in
     let a = entry .args in
     let ns = nodesOf (a .bytes .now) in
-    let left = over-end ns (c .before .loop .at) (c .before .before .frame-items .result .end) (a .group) (a .always) (a .reads .now) (a .shared) (c .loop-test .left) in
-    (omega (arith, c .before .loop .inv .1, left), omega (arith, c .before .loop .inv .1, over-fits (a .bytes .now) (entry .pre .0 .few) (a .group) (a .always) (a .reads .now) (a .shared) (entry .pre .1 .1)))
+    let left = over-end ns (c .before .loop .at) (c .before .before .frame-items .result .end) (a .group) (a .always) (a .reads .now)
+    (a .shared) (c .loop-test .left) in (
+      omega (arith, c .before .loop .inv .1, left),
+      omega (
+        arith,
+        c .before .loop .inv .1,
+        over-fits (a .bytes .now) (entry .pre .0 .few) (a .group) (a .always) (a .reads .now) (a .shared) (entry .pre .1 .1),
+      ),
+    )
 
 pub over-frames-spec : {M : Type 1} → statement M
 over-frames-spec =

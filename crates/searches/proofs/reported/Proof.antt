@@ -20,7 +20,8 @@ mul-end c =
 slice-aggregate-sum : tie.Need-slice-aggregate-sum
 slice-aggregate-sum c =
     let entry = c .before .before .before .before .before .before in
-    sym (length-take-le _ _ (left-accepted (entry .args .bytes .now) (entry .args .rows .now) (c .before .before .answer .given .1) (entry .pre) .0))
+    sym (length-take-le _ _
+    (left-accepted (entry .args .bytes .now) (entry .args .rows .now) (c .before .before .answer .given .1) (entry .pre) .0))
 
 sum-requires : tie.Need-sum-requires
 sum-requires c κs =

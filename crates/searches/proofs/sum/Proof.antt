@@ -21,8 +21,13 @@ slice-aggregate-look-along c = search needs
 look-along-requires : tie.Need-look-along-requires
 unfolding rootOrder
 look-along-requires c κs =
-    let entry = c .before .before .before .before .before in
-    (entry .pre, (omega (arith, c .before .count .ensures .0), (rw (c .before .count .ensures .0) (root-ascends _ _ (entry .pre)), (omega arith, root-rises))))
+    let entry = c .before .before .before .before .before in (
+      entry .pre,
+      (
+        omega (arith, c .before .count .ensures .0),
+        (rw (c .before .count .ensures .0) (root-ascends _ _ (entry .pre)), (omega arith, root-rises)),
+      ),
+    )
 
 slice-aggregate-look-each : tie.Need-slice-aggregate-look-each
 slice-aggregate-look-each c = search needs
@@ -38,7 +43,12 @@ add-result c =
     let entry = at-mask-items .before .before .before in
     let s = entry .args .bytes .now in
     let m = at-mask-items .mask-items in
-    omega (arith, root-fits s (entry .pre .few) (c .before .before .look-along .result) (at-count .count .result) (omega (arith, at-count .count .ensures .0)) (c .before .before .look-along .ensures), masks-fit s (entry .pre .few) (c .look-each .result) (m .result .at) (m .result .end) (m .ensures .inner) (c .look-each .ensures))
+    omega (
+      arith,
+      root-fits s (entry .pre .few) (c .before .before .look-along .result) (at-count .count .result)
+          (omega (arith, at-count .count .ensures .0)) (c .before .before .look-along .ensures),
+      masks-fit s (entry .pre .few) (c .look-each .result) (m .result .at) (m .result .end) (m .ensures .inner) (c .look-each .ensures),
+    )
 
 frames-sum-requires : tie.Need-frames-sum-requires
 frames-sum-requires c κs = search needs
@@ -52,7 +62,14 @@ add-result-2 c =
     let entry = at-mask-items .before .before .before in
     let s = entry .args .bytes .now in
     let m = at-mask-items .mask-items in
-    omega (arith, root-fits s (entry .pre .few) (at-look-along .look-along .result) (at-count .count .result) (omega (arith, at-count .count .ensures .0)) (at-look-along .look-along .ensures), masks-fit s (entry .pre .few) (c .before .look-each .result) (m .result .at) (m .result .end) (m .ensures .inner) (c .before .look-each .ensures), c .frames-sum .ensures .1)
+    omega (
+      arith,
+      root-fits s (entry .pre .few) (at-look-along .look-along .result) (at-count .count .result)
+          (omega (arith, at-count .count .ensures .0)) (at-look-along .look-along .ensures),
+      masks-fit s (entry .pre .few)
+          (c .before .look-each .result) (m .result .at) (m .result .end) (m .ensures .inner) (c .before .look-each .ensures),
+      c .frames-sum .ensures .1,
+    )
 
 returns : tie.Need-returns
 unfolding rootOrder maskTags maskSearches searchesOf
@@ -63,7 +80,14 @@ returns c =
     let entry = at-mask-items .before .before .before in
     let ns = nodesOf (entry .args .bytes .now) in
     let m = at-mask-items .mask-items in
-    omega (arith, at-look-along .look-along .ensures, root-sum ns (at-count .count .result) (at-count .count .ensures .0), c .before .look-each .ensures, masks-sum ns (members ns (m .result .at) (m .result .end)) (m .ensures .ahead), c .frames-sum .ensures .0)
+    omega (
+      arith,
+      at-look-along .look-along .ensures,
+      root-sum ns (at-count .count .result) (at-count .count .ensures .0),
+      c .before .look-each .ensures,
+      masks-sum ns (members ns (m .result .at) (m .result .end)) (m .ensures .ahead),
+      c .frames-sum .ensures .0,
+    )
 
 pub sum-spec : {M : Type 1} → statement M
 sum-spec =

@@ -14,8 +14,18 @@ slice-aggregate-apply-all c = search needs
 
 apply-all-requires : tie.Need-apply-all-requires
 apply-all-requires c κs =
-    let entry = c .before .before .before .before .before .before .before .before in
-    (entry .pre .0, (record { few = omega (arith, scenes.few-frames (entry .args .bytes .now) (entry .args .n) (entry .pre .1 .0)); marks = omega (arith, entry .pre .1 .1 .1 .1 .1 .1 .1 .above); frames = omega (arith, scenes.few-frames (entry .args .bytes .now) (entry .args .n) (entry .pre .1 .0), length-replicate {A = ℕ} 65536 0) }, counted.answering (entry .args .bytes .now) (entry .args .n) (entry .pre .1 .0)))
+    let entry = c .before .before .before .before .before .before .before .before in (
+      entry .pre .0,
+      (
+        record {
+          few = omega (arith, scenes.few-frames (entry .args .bytes .now) (entry .args .n) (entry .pre .1 .0));
+          marks = omega (arith, entry .pre .1 .1 .1 .1 .1 .1 .1 .above);
+          frames = omega
+              (arith, scenes.few-frames (entry .args .bytes .now) (entry .args .n) (entry .pre .1 .0), length-replicate {A = ℕ} 65536 0);
+        },
+        counted.answering (entry .args .bytes .now) (entry .args .n) (entry .pre .1 .0),
+      ),
+    )
 
 slice-aggregate-tell-all : tie.Need-slice-aggregate-tell-all
 slice-aggregate-tell-all c = search needs
@@ -45,8 +55,47 @@ count-frames-requires c κs =
     let at-which2 = at-tell-all .before .before .before in
     let at-upper = at-which2 .before .before in
     let at-apply-all = at-upper .before in
-    let entry = at-apply-all .before .before .before .before .before .before .before .before .before in
-    (entry .pre .0, (entry .pre .1 .0, (entry .pre .1 .1 .0, (entry .pre .1 .1 .1 .0, (entry .pre .1 .1 .1 .1 .0, (entry .pre .1 .1 .1 .1 .1 .0, (entry .pre .1 .1 .1 .1 .1 .1 .0, (record { shades = entry .pre .1 .1 .1 .1 .1 .1 .1 .shades; above = omega (arith, at-upper .upper .given, entry .pre .1 .1 .1 .1 .1 .1 .1 .above); below = entry .pre .1 .1 .1 .1 .1 .1 .1 .below; wide = entry .pre .1 .1 .1 .1 .1 .1 .1 .wide }, record { applied = at-apply-all .apply-all .ensures; size = omega (arith, at-which2 .which2 .given, length-replicate {A = ℕ} 65536 0, scenes.few-frames (entry .args .bytes .now) (entry .args .n) (entry .pre .1 .0)); known = at-tell-all .tell-all .ensures; key-room = omega (arith, at-keys2 .keys2 .given, length-replicate {A = ℕ} 16 0); answer-room = omega (arith, at-answers2 .answers2 .given, length-replicate {A = ℕ} 16 0) }))))))))
+    let entry = at-apply-all .before .before .before .before .before .before .before .before .before in (
+      entry .pre .0,
+      (
+        entry .pre .1 .0,
+        (
+          entry .pre .1 .1 .0,
+          (
+            entry .pre .1 .1 .1 .0,
+            (
+              entry .pre .1 .1 .1 .1 .0,
+              (
+                entry .pre .1 .1 .1 .1 .1 .0,
+                (
+                  entry .pre .1 .1 .1 .1 .1 .1 .0,
+                  (
+                    record {
+                      shades = entry .pre .1 .1 .1 .1 .1 .1 .1 .shades;
+                      above = omega (arith, at-upper .upper .given, entry .pre .1 .1 .1 .1 .1 .1 .1 .above);
+                      below = entry .pre .1 .1 .1 .1 .1 .1 .1 .below;
+                      wide = entry .pre .1 .1 .1 .1 .1 .1 .1 .wide;
+                    },
+                    record {
+                      applied = at-apply-all .apply-all .ensures;
+                      size = omega (
+                        arith,
+                        at-which2 .which2 .given,
+                        length-replicate {A = ℕ} 65536 0,
+                        scenes.few-frames (entry .args .bytes .now) (entry .args .n) (entry .pre .1 .0),
+                      );
+                      known = at-tell-all .tell-all .ensures;
+                      key-room = omega (arith, at-keys2 .keys2 .given, length-replicate {A = ℕ} 16 0);
+                      answer-room = omega (arith, at-answers2 .answers2 .given, length-replicate {A = ℕ} 16 0);
+                    },
+                  ),
+                ),
+              ),
+            ),
+          ),
+        ),
+      ),
+    )
 
 same-length : tie.Need-same-length
 same-length c = search needs

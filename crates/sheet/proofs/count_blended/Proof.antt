@@ -7,21 +7,42 @@ use Rattle.sheet.proofs.count_blended.Tie as tie
 
 moved-requires : tie.Need-moved-requires
 moved-requires c κs =
-    let entry = c .before .before .before .before .before .before in
-    (entry .pre .0 .shape .rows-some, (entry .pre .0 .shape .rows-most, omega (arith, entry .pre .1 .0 .down-most, div-add-mod' (entry .args .down) 4)))
+    let entry = c .before .before .before .before .before .before in (
+      entry .pre .0 .shape .rows-some,
+      (entry .pre .0 .shape .rows-most, omega (arith, entry .pre .1 .0 .down-most, div-add-mod' (entry .args .down) 4)),
+    )
 
 average-row-requires : tie.Need-average-row-requires
 average-row-requires c κs =
-    let entry = c .before .before .before .before .before .before .before .before in
-    (entry .pre .0 .shape, (entry .pre .1 .0 .taken, (c .before .moved .ensures .1, omega (arith, entry .pre .1 .1 .1 .1 .0, entry .pre .0 .shape .columns-most))))
+    let entry = c .before .before .before .before .before .before .before .before in (
+      entry .pre .0 .shape,
+      (
+        entry .pre .1 .0 .taken,
+        (c .before .moved .ensures .1, omega (arith, entry .pre .1 .1 .1 .1 .0, entry .pre .0 .shape .columns-most)),
+      ),
+    )
 
 count-quarters-requires : tie.Need-count-quarters-requires
 count-quarters-requires c κs =
     let at-lower = c .before .before .before .before in
     let at-average-row = at-lower .before in
     let at-moved = at-average-row .before .before in
-    let entry = at-moved .before .before .before .before .before .before .before in
-    (entry .pre .0, (entry .pre .1 .0, (entry .pre .1 .1 .0, (entry .pre .1 .1 .1 .0, (omega (arith, at-lower .lower .given, entry .pre .1 .1 .1 .1 .0), (rw (← at-moved .moved .ensures .0) (at-average-row .average-row .ensures), entry .pre .1 .1 .1 .1 .1))))))
+    let entry = at-moved .before .before .before .before .before .before .before in (
+      entry .pre .0,
+      (
+        entry .pre .1 .0,
+        (
+          entry .pre .1 .1 .0,
+          (
+            entry .pre .1 .1 .1 .0,
+            (
+              omega (arith, at-lower .lower .given, entry .pre .1 .1 .1 .1 .0),
+              (rw (← at-moved .moved .ensures .0) (at-average-row .average-row .ensures), entry .pre .1 .1 .1 .1 .1),
+            ),
+          ),
+        ),
+      ),
+    )
 
 same-length : tie.Need-same-length
 same-length c =

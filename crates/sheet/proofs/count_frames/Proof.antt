@@ -17,8 +17,14 @@ use Rattle.sheet.proofs.count_frames.Statement.{statement}
 use Rattle.sheet.proofs.count_frames.Tie as tie
 
 abbrev Inv-loop : tie.InvT-loop
-Inv-loop bytes rows c n a b which keys answers table₀ upper₀ lower₀ line₀ items₀ sofar₀ end frame₀ table upper lower line items sofar frame =
-    (a ≤ frame) × ((frame ≤ b + 1) × (Along (nodesOf bytes) (drop (frame - 1) (frameItems (nodesOf bytes))) items × ((tallied (levelsOf (nodesOf bytes) frame (b + 1 - frame)) (sofar .counts) ≡ countsOf (levelsOf (nodesOf bytes) a (b + 1 - a))) × ((sofar .natives + nativesOf (nodesOf bytes) frame (b + 1 - frame) ≡ nativesOf (nodesOf bytes) a (b + 1 - a)) × (Room (sofar .counts) ((b + 1 - frame) * imageSize (nodesOf bytes)) × (IsHeld (c .g .stored) (c .inverse) (sofar .held) table × ((length table ≡ length table₀) × ((length upper ≡ length upper₀) × ((length lower ≡ length lower₀) × ((length line ≡ length line₀)))))))))))
+Inv-loop bytes rows c n a b which keys answers table₀ upper₀ lower₀ line₀ items₀ sofar₀ end frame₀ table upper lower line items sofar
+    frame =
+    (a ≤ frame) × ((frame ≤ b + 1) × (Along (nodesOf bytes) (drop (frame - 1) (frameItems (nodesOf bytes))) items
+    × ((tallied (levelsOf (nodesOf bytes) frame (b + 1 - frame)) (sofar .counts) ≡ countsOf (levelsOf (nodesOf bytes) a (b + 1 - a)))
+    × ((sofar .natives + nativesOf (nodesOf bytes) frame (b + 1 - frame) ≡ nativesOf (nodesOf bytes) a (b + 1 - a))
+    × (Room (sofar .counts) ((b + 1 - frame) * imageSize (nodesOf bytes)) × (IsHeld (c .g .stored) (c .inverse) (sofar .held) table
+    × ((length table ≡ length table₀)
+    × ((length upper ≡ length upper₀) × ((length lower ≡ length lower₀) × ((length line ≡ length line₀)))))))))))
 
 abbrev μ-loop : tie.MeasureT-loop
 μ-loop bytes rows c n a b which keys answers table₀ upper₀ lower₀ line₀ items₀ sofar₀ end frame₀ table upper lower line items sofar frame =
@@ -27,17 +33,44 @@ abbrev μ-loop : tie.MeasureT-loop
 nothing-requires : tie.Need-nothing-requires Inv-loop μ-loop
 nothing-requires c κs =
     let entry = c .before .before .before .before .before .before .before .before .before .before in
-    based (entry .args .bytes .now) (entry .args .n) (entry .args .a) (entry .pre .1 .0) (entry .pre .1 .1 .1 .1 .0) (omega (arith, entry .pre .1 .1 .1 .1 .1 .0, entry .pre .1 .1 .1 .1 .1 .1 .0)) (entry .args .c) (entry .pre .1 .1 .0) .shape .stored-most
+    based (entry .args .bytes .now) (entry .args .n) (entry .args .a) (entry .pre .1 .0) (entry .pre .1 .1 .1 .1 .0)
+    (omega (arith, entry .pre .1 .1 .1 .1 .1 .0, entry .pre .1 .1 .1 .1 .1 .1 .0)) (entry .args .c)
+    (entry .pre .1 .1 .0) .shape .stored-most
 
 add-end : tie.Need-add-end Inv-loop μ-loop
 add-end c =
     let entry = c .before .before .before .before .before .before .before .before .before .before .before in
-    record { fits = omega (arith, entry .pre .1 .1 .1 .1 .1 .1 .0, few-frames (entry .args .bytes .now) (entry .args .n) (entry .pre .1 .0)) }
+    record {
+      fits = omega (arith, entry .pre .1 .1 .1 .1 .1 .1 .0, few-frames (entry .args .bytes .now) (entry .args .n) (entry .pre .1 .0));
+    }
 
 loop-holds : tie.Need-loop-holds Inv-loop μ-loop
 loop-holds c =
-    let entry = c .before .before .before .before .before .before .before .before .before .before .before in
-    (omega arith, (omega (arith, entry .pre .1 .1 .1 .1 .1 .0), (entry .pre .1 .1 .1 .0, (ap (tallied (levelsOf (nodesOf (entry .args .bytes .now)) (entry .args .a) (entry .args .b + 1 - entry .args .a))) (c .nothing .ensures .counts-are) ∙ counts-are (levelsOf (nodesOf (entry .args .bytes .now)) (entry .args .a) (entry .args .b + 1 - entry .args .a)), (omega (arith, c .nothing .ensures .natives-are), (room-start _ _ (c .nothing .ensures .counts-are) (cells-few (entry .args .bytes .now) (entry .args .n) (entry .pre .1 .0) (omega (arith, entry .pre .1 .1 .1 .1 .0, entry .pre .1 .1 .1 .1 .1 .0, entry .pre .1 .1 .1 .1 .1 .1 .0)) (entry .args .c) (entry .pre .1 .1 .0) (entry .args .b + 1 - entry .args .a) (omega (arith, entry .pre .1 .1 .1 .1 .1 .1 .0, entry .pre .1 .1 .1 .1 .0))), (c .nothing .ensures .held-is _, (refl, (refl, (refl, refl))))))))))
+    let entry = c .before .before .before .before .before .before .before .before .before .before .before in (
+      omega arith,
+      (
+        omega (arith, entry .pre .1 .1 .1 .1 .1 .0),
+        (
+          entry .pre .1 .1 .1 .0,
+          (
+            ap (tallied (levelsOf (nodesOf (entry .args .bytes .now)) (entry .args .a) (entry .args .b + 1 - entry .args .a)))
+                (c .nothing .ensures .counts-are)
+                ∙ counts-are (levelsOf (nodesOf (entry .args .bytes .now)) (entry .args .a) (entry .args .b + 1 - entry .args .a)),
+            (
+              omega (arith, c .nothing .ensures .natives-are),
+              (
+                room-start _ _ (c .nothing .ensures .counts-are) (cells-few (entry .args .bytes .now) (entry .args .n) (entry .pre .1 .0)
+                    (omega (arith, entry .pre .1 .1 .1 .1 .0, entry .pre .1 .1 .1 .1 .1 .0, entry .pre .1 .1 .1 .1 .1 .1 .0))
+                    (entry .args .c)
+                    (entry .pre .1 .1 .0) (entry .args .b + 1 - entry .args .a)
+                    (omega (arith, entry .pre .1 .1 .1 .1 .1 .1 .0, entry .pre .1 .1 .1 .1 .0))),
+                (c .nothing .ensures .held-is _, (refl, (refl, (refl, refl)))),
+              ),
+            ),
+          ),
+        ),
+      ),
+    )
 
 item-here-requires : tie.Need-item-here-requires Inv-loop μ-loop
 item-here-requires c κs =
@@ -46,16 +79,70 @@ item-here-requires c κs =
 
 plan-at-requires : tie.Need-plan-at-requires Inv-loop μ-loop
 plan-at-requires c κs =
-    let entry = c .before .before .before .before .before .before .before .before .before .before .before .before .before .before in
-    (entry .pre .0, (entry .pre .1 .0, (entry .pre .1 .1 .0, (c .item-here .ensures, (omega (arith, c .before .before .loop .inv .0, entry .pre .1 .1 .1 .1 .0), (omega (arith, c .before .loop-test .taken, entry .pre .1 .1 .1 .1 .1 .1 .0), entry .pre .1 .1 .1 .1 .1 .1 .1 .1))))))
+    let entry = c .before .before .before .before .before .before .before .before .before .before .before .before .before .before in (
+      entry .pre .0,
+      (
+        entry .pre .1 .0,
+        (
+          entry .pre .1 .1 .0,
+          (
+            c .item-here .ensures,
+            (
+              omega (arith, c .before .before .loop .inv .0, entry .pre .1 .1 .1 .1 .0),
+              (omega (arith, c .before .loop-test .taken, entry .pre .1 .1 .1 .1 .1 .1 .0), entry .pre .1 .1 .1 .1 .1 .1 .1 .1),
+            ),
+          ),
+        ),
+      ),
+    )
 
 count-picture-requires : tie.Need-count-picture-requires Inv-loop μ-loop
 count-picture-requires c κs =
     let at-plan-at = c .before .before .before .before in
     let at-loop-test = at-plan-at .before .before in
     let at-loop = at-loop-test .before in
-    let entry = at-loop .before .before .before .before .before .before .before .before .before .before .before .before in
-    (entry .pre .0, (entry .pre .1 .0, (entry .pre .1 .1 .0, (at-plan-at .plan-at .ensures, (omega (arith, at-loop .loop .inv .0, entry .pre .1 .1 .1 .1 .0), (omega (arith, at-loop-test .loop-test .taken, entry .pre .1 .1 .1 .1 .1 .1 .0), (record { shades = at-loop .loop .inv .1 .1 .1 .1 .1 .1 .1 .0 ∙ entry .pre .1 .1 .1 .1 .1 .1 .1 .0 .shades; above = omega (arith, at-loop .loop .inv .1 .1 .1 .1 .1 .1 .1 .1 .0, entry .pre .1 .1 .1 .1 .1 .1 .1 .0 .above); below = omega (arith, at-loop .loop .inv .1 .1 .1 .1 .1 .1 .1 .1 .1 .0, entry .pre .1 .1 .1 .1 .1 .1 .1 .0 .below); wide = omega (arith, at-loop .loop .inv .1 .1 .1 .1 .1 .1 .1 .1 .1 .1, entry .pre .1 .1 .1 .1 .1 .1 .1 .0 .wide) }, (at-loop .loop .inv .1 .1 .1 .1 .1 .1 .0, (omega (arith, at-loop .loop .inv .1 .1 .1 .1 .0, frames.natives-few (nodesOf (entry .args .bytes .now)) (entry .args .a) (entry .args .b + 1 - entry .args .a), few-frames (entry .args .bytes .now) (entry .args .n) (entry .pre .1 .0), entry .pre .1 .1 .1 .1 .1 .1 .0, entry .pre .1 .1 .1 .1 .0), frames.room-one (at-loop .loop .frame) (entry .args .b + 1) (imageSize (nodesOf (entry .args .bytes .now))) (at-loop .loop .sofar .counts) (at-loop-test .loop-test .taken) (at-loop .loop .inv .1 .1 .1 .1 .1 .0))))))))))
+    let entry = at-loop .before .before .before .before .before .before .before .before .before .before .before .before in (
+      entry .pre .0,
+      (
+        entry .pre .1 .0,
+        (
+          entry .pre .1 .1 .0,
+          (
+            at-plan-at .plan-at .ensures,
+            (
+              omega (arith, at-loop .loop .inv .0, entry .pre .1 .1 .1 .1 .0),
+              (
+                omega (arith, at-loop-test .loop-test .taken, entry .pre .1 .1 .1 .1 .1 .1 .0),
+                (
+                  record {
+                    shades = at-loop .loop .inv .1 .1 .1 .1 .1 .1 .1 .0 ∙ entry .pre .1 .1 .1 .1 .1 .1 .1 .0 .shades;
+                    above = omega (arith, at-loop .loop .inv .1 .1 .1 .1 .1 .1 .1 .1 .0, entry .pre .1 .1 .1 .1 .1 .1 .1 .0 .above);
+                    below = omega (arith, at-loop .loop .inv .1 .1 .1 .1 .1 .1 .1 .1 .1 .0, entry .pre .1 .1 .1 .1 .1 .1 .1 .0 .below);
+                    wide = omega (arith, at-loop .loop .inv .1 .1 .1 .1 .1 .1 .1 .1 .1 .1, entry .pre .1 .1 .1 .1 .1 .1 .1 .0 .wide);
+                  },
+                  (
+                    at-loop .loop .inv .1 .1 .1 .1 .1 .1 .0,
+                    (
+                      omega (
+                        arith,
+                        at-loop .loop .inv .1 .1 .1 .1 .0,
+                        frames.natives-few (nodesOf (entry .args .bytes .now)) (entry .args .a) (entry .args .b + 1 - entry .args .a),
+                        few-frames (entry .args .bytes .now) (entry .args .n) (entry .pre .1 .0),
+                        entry .pre .1 .1 .1 .1 .1 .1 .0,
+                        entry .pre .1 .1 .1 .1 .0,
+                      ),
+                      frames.room-one (at-loop .loop .frame) (entry .args .b + 1)
+                          (imageSize (nodesOf (entry .args .bytes .now))) (at-loop .loop .sofar .counts) (at-loop-test .loop-test .taken)
+                          (at-loop .loop .inv .1 .1 .1 .1 .1 .0),
+                    ),
+                  ),
+                ),
+              ),
+            ),
+          ),
+        ),
+      ),
+    )
 
 advance-requires : tie.Need-advance-requires Inv-loop μ-loop
 advance-requires c κs =
@@ -67,7 +154,14 @@ add-frame : tie.Need-add-frame Inv-loop μ-loop
 add-frame c =
     let at-loop-test = c .before .before .before .before .before .before .before .before .before .before .before .before .before .before .before .before in
     let entry = at-loop-test .before .before .before .before .before .before .before .before .before .before .before .before .before in
-    record { fits = omega (arith, at-loop-test .loop-test .taken, entry .pre .1 .1 .1 .1 .1 .1 .0, few-frames (entry .args .bytes .now) (entry .args .n) (entry .pre .1 .0)) }
+    record {
+      fits = omega (
+        arith,
+        at-loop-test .loop-test .taken,
+        entry .pre .1 .1 .1 .1 .1 .1 .0,
+        few-frames (entry .args .bytes .now) (entry .args .n) (entry .pre .1 .0),
+      );
+    }
 
 loop-less : tie.Need-loop-less Inv-loop μ-loop
 loop-less c =
@@ -83,8 +177,46 @@ loop-again c =
     let at-loop-test = at-count-picture .before .before .before .before .before .before .before in
     let at-loop = at-loop-test .before in
     let entry = at-loop .before .before .before .before .before .before .before .before .before .before .before .before in
-    let m = frames.picture-cells (entry .args .bytes .now) (entry .args .n) (at-loop .loop .frame) (entry .pre .1 .0) (omega (arith, at-loop .loop .inv .0, entry .pre .1 .1 .1 .1 .0)) (omega (arith, at-loop-test .loop-test .taken, entry .pre .1 .1 .1 .1 .1 .1 .0)) in
-    (omega (arith, at-loop .loop .inv .0), (omega (arith, at-loop-test .loop-test .taken), (along-more (nodesOf (entry .args .bytes .now)) 1 (at-loop .loop .frame) (omega (arith, at-loop .loop .inv .0, entry .pre .1 .1 .1 .1 .0)) (at-loop .loop .inv .1 .1 .0) (c .advance .ensures), (frames.frames-more (nodesOf (entry .args .bytes .now)) (at-loop .loop .frame) (entry .args .b + 1) (at-loop .loop .sofar .counts) _ (at-loop-test .loop-test .taken) (at-count-picture .count-picture .ensures .0) ∙ at-loop .loop .inv .1 .1 .1 .0, (frames.natives-more (nodesOf (entry .args .bytes .now)) (at-loop .loop .frame) (entry .args .b + 1) (at-loop .loop .sofar .natives) _ (at-loop-test .loop-test .taken) (at-count-picture .count-picture .ensures .1 .0) ∙ at-loop .loop .inv .1 .1 .1 .1 .0, (frames.room-rest (at-loop .loop .frame) (entry .args .b + 1) (imageSize (nodesOf (entry .args .bytes .now))) (pictureOf (nodesOf (entry .args .bytes .now)) (at-loop .loop .frame) .samples) (at-loop .loop .sofar .counts) _ (at-loop-test .loop-test .taken) m (at-count-picture .count-picture .ensures .0) (at-loop .loop .inv .1 .1 .1 .1 .1 .0), (at-count-picture .count-picture .ensures .1 .1, (at-table .table .given ∙ at-loop .loop .inv .1 .1 .1 .1 .1 .1 .1 .0, (at-upper .upper .given ∙ at-loop .loop .inv .1 .1 .1 .1 .1 .1 .1 .1 .0, (at-lower .lower .given ∙ at-loop .loop .inv .1 .1 .1 .1 .1 .1 .1 .1 .1 .0, c .before .before .line .given ∙ at-loop .loop .inv .1 .1 .1 .1 .1 .1 .1 .1 .1 .1))))))))))
+    let m = frames.picture-cells (entry .args .bytes .now) (entry .args .n) (at-loop .loop .frame) (entry .pre .1 .0)
+    (omega (arith, at-loop .loop .inv .0, entry .pre .1 .1 .1 .1 .0))
+    (omega (arith, at-loop-test .loop-test .taken, entry .pre .1 .1 .1 .1 .1 .1 .0)) in (
+      omega (arith, at-loop .loop .inv .0),
+      (
+        omega (arith, at-loop-test .loop-test .taken),
+        (
+          along-more (nodesOf (entry .args .bytes .now)) 1 (at-loop .loop .frame)
+              (omega (arith, at-loop .loop .inv .0, entry .pre .1 .1 .1 .1 .0)) (at-loop .loop .inv .1 .1 .0) (c .advance .ensures),
+          (
+            frames.frames-more (nodesOf (entry .args .bytes .now)) (at-loop .loop .frame) (entry .args .b + 1)
+                (at-loop .loop .sofar .counts) _
+                (at-loop-test .loop-test .taken) (at-count-picture .count-picture .ensures .0) ∙ at-loop .loop .inv .1 .1 .1 .0,
+            (
+              frames.natives-more (nodesOf (entry .args .bytes .now)) (at-loop .loop .frame) (entry .args .b + 1)
+                  (at-loop .loop .sofar .natives)
+                  _ (at-loop-test .loop-test .taken) (at-count-picture .count-picture .ensures .1 .0) ∙ at-loop .loop .inv .1 .1 .1 .1 .0,
+              (
+                frames.room-rest (at-loop .loop .frame) (entry .args .b + 1) (imageSize (nodesOf (entry .args .bytes .now)))
+                    (pictureOf (nodesOf (entry .args .bytes .now)) (at-loop .loop .frame) .samples) (at-loop .loop .sofar .counts) _
+                    (at-loop-test .loop-test .taken) m (at-count-picture .count-picture .ensures .0) (at-loop .loop .inv .1 .1 .1 .1 .1 .0),
+                (
+                  at-count-picture .count-picture .ensures .1 .1,
+                  (
+                    at-table .table .given ∙ at-loop .loop .inv .1 .1 .1 .1 .1 .1 .1 .0,
+                    (
+                      at-upper .upper .given ∙ at-loop .loop .inv .1 .1 .1 .1 .1 .1 .1 .1 .0,
+                      (
+                        at-lower .lower .given ∙ at-loop .loop .inv .1 .1 .1 .1 .1 .1 .1 .1 .1 .0,
+                        c .before .before .line .given ∙ at-loop .loop .inv .1 .1 .1 .1 .1 .1 .1 .1 .1 .1,
+                      ),
+                    ),
+                  ),
+                ),
+              ),
+            ),
+          ),
+        ),
+      ),
+    )
 
 same-length : tie.Need-same-length Inv-loop μ-loop
 same-length c =
@@ -104,8 +236,12 @@ same-length-4 c =
 
 returns : tie.Need-returns Inv-loop μ-loop
 returns c =
-    let entry = c .before .before .before .before .before .before .before .before .before .before .before .before .before in
-    (sym (frames.frames-none (nodesOf (entry .args .bytes .now)) (c .before .loop .frame) (entry .args .b + 1) (c .before .loop .sofar .counts) (c .loop-test .left)) ∙ c .before .loop .inv .1 .1 .1 .0, sym (frames.natives-none (nodesOf (entry .args .bytes .now)) (c .before .loop .frame) (entry .args .b + 1) (c .before .loop .sofar .natives) (c .loop-test .left)) ∙ c .before .loop .inv .1 .1 .1 .1 .0)
+    let entry = c .before .before .before .before .before .before .before .before .before .before .before .before .before in (
+      sym (frames.frames-none (nodesOf (entry .args .bytes .now)) (c .before .loop .frame) (entry .args .b + 1)
+          (c .before .loop .sofar .counts) (c .loop-test .left)) ∙ c .before .loop .inv .1 .1 .1 .0,
+      sym (frames.natives-none (nodesOf (entry .args .bytes .now)) (c .before .loop .frame) (entry .args .b + 1)
+          (c .before .loop .sofar .natives) (c .loop-test .left)) ∙ c .before .loop .inv .1 .1 .1 .1 .0,
+    )
 
 pub count-frames-spec : {M : Type 1} → statement M
 count-frames-spec =

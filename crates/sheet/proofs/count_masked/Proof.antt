@@ -7,8 +7,16 @@ count-whole-requires : tie.Need-count-whole-requires
 count-whole-requires c κs =
     let at-if2 = c .before .before .before in
     let at-if1 = at-if2 .before in
-    let entry = at-if1 .before .before .before .before .before .before .before in
-    (entry .pre .0, (entry .pre .1 .0, (entry .pre .1 .1 .0, (at-if1 .if1 .taken, (at-if2 .if2 .taken, (c .before .before .if3 .taken, (entry .pre .1 .1 .1 .0, entry .pre .1 .1 .1 .1 .1)))))))
+    let entry = at-if1 .before .before .before .before .before .before .before in (
+      entry .pre .0,
+      (
+        entry .pre .1 .0,
+        (
+          entry .pre .1 .1 .0,
+          (at-if1 .if1 .taken, (at-if2 .if2 .taken, (c .before .before .if3 .taken, (entry .pre .1 .1 .1 .0, entry .pre .1 .1 .1 .1 .1)))),
+        ),
+      ),
+    )
 
 same-length : tie.Need-same-length
 same-length c =

@@ -17,21 +17,71 @@ use Rattle.sheet.proofs.count_picture.Tie as tie
 mul-cells : tie.Need-mul-cells
 mul-cells c =
     let entry = c .before .before .before .before .before .before .before .before in
-    let b = scenes.based (entry .args .bytes .now) (entry .args .n) (entry .args .frame) (entry .pre .1 .0) (entry .pre .1 .1 .1 .1 .0) (entry .pre .1 .1 .1 .1 .1 .0) (entry .args .c) (entry .pre .1 .1 .0) in
-    omega (arith, cells-fit 0 (entry .args .c .g .rows) (entry .args .c .g .columns) 0 (omega arith) (b .shape .rows-most) (b .shape .columns-most) (omega arith))
+    let b = scenes.based (entry .args .bytes .now) (entry .args .n) (entry .args .frame) (entry .pre .1 .0) (entry .pre .1 .1 .1 .1 .0)
+    (entry .pre .1 .1 .1 .1 .1 .0) (entry .args .c) (entry .pre .1 .1 .0) in
+    omega (
+      arith,
+      cells-fit 0 (entry .args .c .g .rows) (entry .args .c .g .columns) 0 (omega arith) (b .shape .rows-most)
+          (b .shape .columns-most) (omega arith),
+    )
 
 shades-for-requires : tie.Need-shades-for-requires
 shades-for-requires c κs =
     let entry = c .before .before .before .before .before .before .before .before .before .before .before .before in
-    let b = scenes.based (entry .args .bytes .now) (entry .args .n) (entry .args .frame) (entry .pre .1 .0) (entry .pre .1 .1 .1 .1 .0) (entry .pre .1 .1 .1 .1 .1 .0) (entry .args .c) (entry .pre .1 .1 .0) in
-    (entry .pre .1 .1 .1 .0 .drawable, (b .shape .stored-some, (b .shape .stored-most, (entry .pre .1 .1 .1 .1 .1 .1 .0 .shades, (omega (arith, cells-fit 0 (entry .args .c .g .rows) (entry .args .c .g .columns) 0 (omega arith) (b .shape .rows-most) (b .shape .columns-most) (omega arith)), entry .pre .1 .1 .1 .1 .1 .1 .1 .0)))))
+    let b = scenes.based (entry .args .bytes .now) (entry .args .n) (entry .args .frame) (entry .pre .1 .0) (entry .pre .1 .1 .1 .1 .0)
+    (entry .pre .1 .1 .1 .1 .1 .0) (entry .args .c) (entry .pre .1 .1 .0) in (
+      entry .pre .1 .1 .1 .0 .drawable,
+      (
+        b .shape .stored-some,
+        (
+          b .shape .stored-most,
+          (
+            entry .pre .1 .1 .1 .1 .1 .1 .0 .shades,
+            (
+              omega (
+                arith,
+                cells-fit 0 (entry .args .c .g .rows) (entry .args .c .g .columns) 0 (omega arith) (b .shape .rows-most)
+                    (b .shape .columns-most) (omega arith),
+              ),
+              entry .pre .1 .1 .1 .1 .1 .1 .1 .0,
+            ),
+          ),
+        ),
+      ),
+    )
 
 count-frame-requires : tie.Need-count-frame-requires
 count-frame-requires c κs =
     let at-shades-for = c .before .before .before .before .before .before .before in
     let entry = at-shades-for .before .before .before .before .before .before .before .before .before .before .before .before .before in
-    let b = scenes.based (entry .args .bytes .now) (entry .args .n) (entry .args .frame) (entry .pre .1 .0) (entry .pre .1 .1 .1 .1 .0) (entry .pre .1 .1 .1 .1 .1 .0) (entry .args .c) (entry .pre .1 .1 .0) in
-    (entry .pre .0, (scenes.is-pixels (entry .args .bytes .now) (entry .args .n) (entry .args .frame) (entry .pre .1 .0) (entry .pre .1 .1 .1 .1 .0) (entry .pre .1 .1 .1 .1 .1 .0) (entry .args .c) (entry .pre .1 .1 .0), (record { shape = b .shape; inside = b .inside; wide = entry .pre .1 .1 .1 .1 .1 .1 .0 .wide }, (scenes.ready (entry .args .bytes .now) (entry .args .n) (entry .args .frame) (entry .pre .1 .0) (entry .pre .1 .1 .1 .1 .0) (entry .pre .1 .1 .1 .1 .1 .0) (entry .args .c) (entry .pre .1 .1 .0) (entry .args .own) (entry .pre .1 .1 .1 .0), (at-shades-for .shades-for .ensures .1 .shaded, (entry .pre .1 .1 .1 .1 .1 .1 .0 .above, (entry .pre .1 .1 .1 .1 .1 .1 .0 .below, counted.room-for (entry .args .bytes .now) (entry .args .n) (entry .args .frame) (entry .pre .1 .0) (entry .pre .1 .1 .1 .1 .0) (entry .pre .1 .1 .1 .1 .1 .0) (entry .args .c) (entry .pre .1 .1 .0) (entry .args .sofar .counts) (entry .pre .1 .1 .1 .1 .1 .1 .1 .1 .1))))))))
+    let b = scenes.based (entry .args .bytes .now) (entry .args .n) (entry .args .frame) (entry .pre .1 .0) (entry .pre .1 .1 .1 .1 .0)
+    (entry .pre .1 .1 .1 .1 .1 .0) (entry .args .c) (entry .pre .1 .1 .0) in (
+      entry .pre .0,
+      (
+        scenes.is-pixels (entry .args .bytes .now) (entry .args .n) (entry .args .frame) (entry .pre .1 .0) (entry .pre .1 .1 .1 .1 .0)
+            (entry .pre .1 .1 .1 .1 .1 .0) (entry .args .c) (entry .pre .1 .1 .0),
+        (
+          record { shape = b .shape; inside = b .inside; wide = entry .pre .1 .1 .1 .1 .1 .1 .0 .wide },
+          (
+            scenes.ready (entry .args .bytes .now) (entry .args .n) (entry .args .frame) (entry .pre .1 .0) (entry .pre .1 .1 .1 .1 .0)
+                (entry .pre .1 .1 .1 .1 .1 .0) (entry .args .c) (entry .pre .1 .1 .0) (entry .args .own) (entry .pre .1 .1 .1 .0),
+            (
+              at-shades-for .shades-for .ensures .1 .shaded,
+              (
+                entry .pre .1 .1 .1 .1 .1 .1 .0 .above,
+                (
+                  entry .pre .1 .1 .1 .1 .1 .1 .0 .below,
+                  counted.room-for (entry .args .bytes .now) (entry .args .n) (entry .args .frame) (entry .pre .1 .0)
+                      (entry .pre .1 .1 .1 .1 .0)
+                      (entry .pre .1 .1 .1 .1 .1 .0) (entry .args .c) (entry .pre .1 .1 .0) (entry .args .sofar .counts)
+                      (entry .pre .1 .1 .1 .1 .1 .1 .1 .1 .1),
+                ),
+              ),
+            ),
+          ),
+        ),
+      ),
+    )
 
 native-number-requires : tie.Need-native-number-requires
 native-number-requires c κs =
@@ -63,8 +113,16 @@ returns c =
     let at-count-frame = c .before .before .before .before .before .before .before in
     let at-shades-for = at-count-frame .before .before .before .before .before .before .before .before in
     let entry = at-shades-for .before .before .before .before .before .before .before .before .before .before .before .before .before in
-    let d = counted.picture (entry .args .bytes .now) (entry .args .n) (entry .args .frame) (entry .pre .1 .0) (entry .pre .1 .1 .1 .1 .0) (entry .pre .1 .1 .1 .1 .1 .0) (entry .args .c) (entry .pre .1 .1 .0) (entry .args .own) (entry .pre .1 .1 .1 .0) (at-shades-for .shades-for .result .shades) (at-shades-for .shades-for .ensures .0) (at-shades-for .shades-for .ensures .1 .inverse-is) in
-    (at-count-frame .count-frame .ensures ∙ ap (λ (l : List ℕ). tallied l (entry .args .sofar .counts)) (sym (d .cells)), (ap (λ (x : ℕ). x + entry .args .sofar .natives) (c .native-number .ensures ∙ ap (λ (m : Bool). cond m 0 1) (d .masked-is)), at-shades-for .shades-for .ensures .1))
+    let d = counted.picture (entry .args .bytes .now) (entry .args .n) (entry .args .frame) (entry .pre .1 .0) (entry .pre .1 .1 .1 .1 .0)
+    (entry .pre .1 .1 .1 .1 .1 .0) (entry .args .c) (entry .pre .1 .1 .0) (entry .args .own) (entry .pre .1 .1 .1 .0)
+    (at-shades-for .shades-for .result .shades) (at-shades-for .shades-for .ensures .0)
+    (at-shades-for .shades-for .ensures .1 .inverse-is) in (
+      at-count-frame .count-frame .ensures ∙ ap (λ (l : List ℕ). tallied l (entry .args .sofar .counts)) (sym (d .cells)),
+      (
+        ap (λ (x : ℕ). x + entry .args .sofar .natives) (c .native-number .ensures ∙ ap (λ (m : Bool). cond m 0 1) (d .masked-is)),
+        at-shades-for .shades-for .ensures .1,
+      ),
+    )
 
 pub count-picture-spec : {M : Type 1} → statement M
 count-picture-spec =

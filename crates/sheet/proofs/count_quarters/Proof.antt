@@ -15,7 +15,10 @@ use Rattle.sheet.proofs.count_quarters.Tie as tie
 
 abbrev Inv-loop : tie.InvT-loop
 Inv-loop pixels g frame masks down right shades table upper₀ lower₀ line₀ height columns now₀ row₀ upper lower line now row =
-    (row ≤ g .rows) × ((length upper ≡ length upper₀) × ((length lower ≡ length lower₀) × (Averaged pixels g (usValues masks) (shifted (down / 4) (g .rows) row) lower × ((length line ≡ length line₀) × (now ≡ tallied (upTo (quarterShade (shadesOf shades (g .stored)) g pixels frame (usValues masks) down right) (row * g .columns)) now₀)))))
+    (row ≤ g .rows) × ((length upper ≡ length upper₀) × ((length lower ≡ length lower₀)
+    × (Averaged pixels g (usValues masks) (shifted (down / 4) (g .rows) row) lower × ((length line ≡ length line₀)
+    × (now ≡ tallied (upTo (quarterShade (shadesOf shades (g .stored)) g pixels frame (usValues masks) down right) (row * g .columns))
+    now₀)))))
 
 abbrev μ-loop : tie.MeasureT-loop
 μ-loop pixels g frame masks down right shades table upper₀ lower₀ line₀ height columns now₀ row₀ upper lower line now row =
@@ -23,29 +26,69 @@ abbrev μ-loop : tie.MeasureT-loop
 
 loop-holds : tie.Need-loop-holds Inv-loop μ-loop
 loop-holds c =
-    let entry = c .before .before .before .before .before .before in
-    (omega arith, (refl, (refl, (entry .pre .1 .1 .1 .1 .1 .0, ((refl, runs.no-line (quarterShade (shadesOf (entry .args .shades) (entry .args .g .stored)) (entry .args .g) (entry .args .pixels .now) (entry .args .frame) (usValues (entry .args .masks .now)) (entry .args .down) (entry .args .right)) (entry .args .g .columns) (entry .args .counts)))))))
+    let entry = c .before .before .before .before .before .before in (
+      omega arith,
+      (
+        refl,
+        (
+          refl,
+          (
+            entry .pre .1 .1 .1 .1 .1 .0,
+            ((
+              refl,
+              runs.no-line (quarterShade
+                  (shadesOf (entry .args .shades) (entry .args .g .stored)) (entry .args .g) (entry .args .pixels .now) (entry .args .frame)
+                  (usValues (entry .args .masks .now)) (entry .args .down) (entry .args .right)) (entry .args .g .columns)
+                  (entry .args .counts),
+            )),
+          ),
+        ),
+      ),
+    )
 
 quarter-line-requires : tie.Need-quarter-line-requires Inv-loop μ-loop
 quarter-line-requires c κs =
     let at-loop-test = c .before .before .before in
     let at-loop = at-loop-test .before in
-    let entry = at-loop .before .before .before .before .before .before .before in
-    (record { shape = entry .pre .0 .shape; inside = entry .pre .0 .inside; lies = at-loop-test .loop-test .taken; room = omega (arith, at-loop .loop .inv .1 .1 .1 .1 .0, entry .pre .0 .wide, entry .pre .0 .shape .columns-most) }, (entry .pre .1 .0, (entry .pre .1 .1 .0, (omega (arith, at-loop .loop .inv .1 .0, entry .pre .1 .1 .1 .0), (omega (arith, at-loop .loop .inv .1 .1 .0, entry .pre .1 .1 .1 .1 .0), at-loop .loop .inv .1 .1 .1 .0)))))
+    let entry = at-loop .before .before .before .before .before .before .before in (
+      record {
+        shape = entry .pre .0 .shape;
+        inside = entry .pre .0 .inside;
+        lies = at-loop-test .loop-test .taken;
+        room = omega (arith, at-loop .loop .inv .1 .1 .1 .1 .0, entry .pre .0 .wide, entry .pre .0 .shape .columns-most);
+      },
+      (
+        entry .pre .1 .0,
+        (
+          entry .pre .1 .1 .0,
+          (
+            omega (arith, at-loop .loop .inv .1 .0, entry .pre .1 .1 .1 .0),
+            (omega (arith, at-loop .loop .inv .1 .1 .0, entry .pre .1 .1 .1 .1 .0), at-loop .loop .inv .1 .1 .1 .0),
+          ),
+        ),
+      ),
+    )
 
 slice-reshare-prefix-tally : tie.Need-slice-reshare-prefix-tally Inv-loop μ-loop
 slice-reshare-prefix-tally c =
     let at-quarter-line = c .before .before .before .before .before .before in
     let at-loop = at-quarter-line .before .before .before .before .before in
     let entry = at-loop .before .before .before .before .before .before .before in
-    omega (arith, runs.line-length _ _ _ (at-quarter-line .quarter-line .ensures .0), at-loop .loop .inv .1 .1 .1 .1 .0, entry .pre .0 .wide, entry .pre .0 .shape .columns-most)
+    omega (
+      arith,
+      runs.line-length _ _ _ (at-quarter-line .quarter-line .ensures .0),
+      at-loop .loop .inv .1 .1 .1 .1 .0,
+      entry .pre .0 .wide,
+      entry .pre .0 .shape .columns-most,
+    )
 
 slice-aggregate-tally : tie.Need-slice-aggregate-tally Inv-loop μ-loop
 slice-aggregate-tally c =
     let at-quarter-line = c .before .before .before .before .before .before .before in
     let at-loop = at-quarter-line .before .before .before .before .before in
     let entry = at-loop .before .before .before .before .before .before .before in
-    sym (ap length (runs.line-list _ _ _ (at-quarter-line .quarter-line .ensures .0) (omega (arith, at-loop .loop .inv .1 .1 .1 .1 .0, entry .pre .0 .wide, entry .pre .0 .shape .columns-most))) ∙ upTo-length _ _)
+    sym (ap length (runs.line-list _ _ _ (at-quarter-line .quarter-line .ensures .0)
+    (omega (arith, at-loop .loop .inv .1 .1 .1 .1 .0, entry .pre .0 .wide, entry .pre .0 .shape .columns-most))) ∙ upTo-length _ _)
 
 tally-requires : tie.Need-tally-requires Inv-loop μ-loop
 tally-requires c κs =
@@ -53,7 +96,12 @@ tally-requires c κs =
     let at-loop-test = at-quarter-line .before .before .before .before in
     let at-loop = at-loop-test .before in
     let entry = at-loop .before .before .before .before .before .before .before in
-    runs.line-room (quarterShade (shadesOf (entry .args .shades) (entry .args .g .stored)) (entry .args .g) (entry .args .pixels .now) (entry .args .frame) (usValues (entry .args .masks .now)) (entry .args .down) (entry .args .right)) (at-loop .loop .row) (entry .args .g .rows) (entry .args .g .columns) _ (entry .args .counts) (at-loop .loop .now) (at-loop .loop .inv .1 .1 .1 .1 .1) (entry .pre .1 .1 .1 .1 .1 .1) (at-loop-test .loop-test .taken) (ap length (runs.line-list _ _ _ (at-quarter-line .quarter-line .ensures .0) (omega (arith, at-loop .loop .inv .1 .1 .1 .1 .0, entry .pre .0 .wide, entry .pre .0 .shape .columns-most))) ∙ upTo-length _ _)
+    runs.line-room (quarterShade (shadesOf (entry .args .shades) (entry .args .g .stored)) (entry .args .g) (entry .args .pixels .now)
+    (entry .args .frame) (usValues (entry .args .masks .now)) (entry .args .down) (entry .args .right)) (at-loop .loop .row)
+    (entry .args .g .rows) (entry .args .g .columns) _ (entry .args .counts) (at-loop .loop .now) (at-loop .loop .inv .1 .1 .1 .1 .1)
+    (entry .pre .1 .1 .1 .1 .1 .1) (at-loop-test .loop-test .taken)
+    (ap length (runs.line-list _ _ _ (at-quarter-line .quarter-line .ensures .0)
+    (omega (arith, at-loop .loop .inv .1 .1 .1 .1 .0, entry .pre .0 .wide, entry .pre .0 .shape .columns-most))) ∙ upTo-length _ _)
 
 add-row : tie.Need-add-row Inv-loop μ-loop
 add-row c =
@@ -73,8 +121,28 @@ loop-again c =
     let at-quarter-line = at-upper .before in
     let at-loop-test = at-quarter-line .before .before .before .before in
     let at-loop = at-loop-test .before in
-    let entry = at-loop .before .before .before .before .before .before .before in
-    (omega (arith, at-loop-test .loop-test .taken), (at-upper .upper .given ∙ at-loop .loop .inv .1 .0, (at-lower .lower .given ∙ at-loop .loop .inv .1 .1 .0, (at-quarter-line .quarter-line .ensures .1, ((runs.line-length _ _ _ (at-quarter-line .quarter-line .ensures .0) ∙ at-loop .loop .inv .1 .1 .1 .1 .0, runs.line-more (quarterShade (shadesOf (entry .args .shades) (entry .args .g .stored)) (entry .args .g) (entry .args .pixels .now) (entry .args .frame) (usValues (entry .args .masks .now)) (entry .args .down) (entry .args .right)) (at-loop .loop .row) (entry .args .g .columns) (entry .args .counts) (at-loop .loop .now) _ _ (at-loop .loop .inv .1 .1 .1 .1 .1) (runs.line-list _ _ _ (at-quarter-line .quarter-line .ensures .0) (omega (arith, at-loop .loop .inv .1 .1 .1 .1 .0, entry .pre .0 .wide, entry .pre .0 .shape .columns-most))) (c .tally .ensures)))))))
+    let entry = at-loop .before .before .before .before .before .before .before in (
+      omega (arith, at-loop-test .loop-test .taken),
+      (
+        at-upper .upper .given ∙ at-loop .loop .inv .1 .0,
+        (
+          at-lower .lower .given ∙ at-loop .loop .inv .1 .1 .0,
+          (
+            at-quarter-line .quarter-line .ensures .1,
+            ((
+              runs.line-length _ _ _ (at-quarter-line .quarter-line .ensures .0) ∙ at-loop .loop .inv .1 .1 .1 .1 .0,
+              runs.line-more
+                  (quarterShade (shadesOf (entry .args .shades) (entry .args .g .stored)) (entry .args .g) (entry .args .pixels .now)
+                  (entry .args .frame) (usValues (entry .args .masks .now)) (entry .args .down) (entry .args .right)) (at-loop .loop .row)
+                  (entry .args .g .columns) (entry .args .counts) (at-loop .loop .now) _ _ (at-loop .loop .inv .1 .1 .1 .1 .1)
+                  (runs.line-list _ _ _ (at-quarter-line .quarter-line .ensures .0)
+                  (omega (arith, at-loop .loop .inv .1 .1 .1 .1 .0, entry .pre .0 .wide, entry .pre .0 .shape .columns-most)))
+                  (c .tally .ensures),
+            )),
+          ),
+        ),
+      ),
+    )
 
 same-length : tie.Need-same-length Inv-loop μ-loop
 same-length c =

@@ -30,7 +30,11 @@ array-read-if1 c =
 
 returns : tie.Need-returns Inv-loop μ-loop
 returns c =
-    record { most = c .before .before .loop .inv .0; none-below = c .before .before .loop .inv .1; found = inl (omega (arith, c .if1 .taken)) }
+    record {
+      most = c .before .before .loop .inv .0;
+      none-below = c .before .before .loop .inv .1;
+      found = inl (omega (arith, c .if1 .taken));
+    }
 
 add-y : tie.Need-add-y Inv-loop μ-loop
 add-y c =
@@ -42,12 +46,19 @@ loop-less c =
 
 loop-again : tie.Need-loop-again Inv-loop μ-loop
 loop-again c =
-    let entry = c .before .before .before in
-    (omega (arith, c .before .loop-test .taken), none-more (λ z. getD (entry .args .t1) z 0) (c .before .before .loop .y) (c .before .before .loop .inv .1) (omega (arith, c .if1 .left)))
+    let entry = c .before .before .before in (
+      omega (arith, c .before .loop-test .taken),
+      none-more (λ z. getD (entry .args .t1) z 0) (c .before .before .loop .y)
+          (c .before .before .loop .inv .1) (omega (arith, c .if1 .left)),
+    )
 
 returns-2 : tie.Need-returns-2 Inv-loop μ-loop
 returns-2 c =
-    record { most = c .before .loop .inv .0; none-below = c .before .loop .inv .1; found = inr (omega (arith, c .before .loop .inv .0, c .loop-test .left)) }
+    record {
+      most = c .before .loop .inv .0;
+      none-below = c .before .loop .inv .1;
+      found = inr (omega (arith, c .before .loop .inv .0, c .loop-test .left));
+    }
 
 pub first-drawn-spec : {M : Type 1} → statement M
 first-drawn-spec =

@@ -43,8 +43,15 @@ loop-less c =
 
 loop-again : tie.Need-loop-again Inv-loop μ-loop
 loop-again c =
-    let entry = c .before .before .before .before .before .before in
-    (omega (arith, c .before .before .loop .inv .0), (omega (arith, c .before .loop-test .taken), along-more (nodesOf (entry .args .bytes .now)) 1 (c .before .before .loop .frame) (c .before .before .loop .inv .0) (c .before .before .loop .inv .1 .1) (c .advance .ensures)))
+    let entry = c .before .before .before .before .before .before in (
+      omega (arith, c .before .before .loop .inv .0),
+      (
+        omega (arith, c .before .loop-test .taken),
+        along-more
+            (nodesOf (entry .args .bytes .now)) 1 (c .before .before .loop .frame) (c .before .before .loop .inv .0)
+            (c .before .before .loop .inv .1 .1) (c .advance .ensures),
+      ),
+    )
 
 returns : tie.Need-returns Inv-loop μ-loop
 returns c =

@@ -30,7 +30,11 @@ array-read-if1 c =
 
 returns : tie.Need-returns Inv-loop μ-loop
 returns c =
-    record { most = c .before .before .loop .inv .0; none-above = c .before .before .loop .inv .1; found = inl (omega (arith, c .if1 .taken)) }
+    record {
+      most = c .before .before .loop .inv .0;
+      none-above = c .before .before .loop .inv .1;
+      found = inl (omega (arith, c .if1 .taken));
+    }
 
 sub-y : tie.Need-sub-y Inv-loop μ-loop
 sub-y c =
@@ -42,8 +46,11 @@ loop-less c =
 
 loop-again : tie.Need-loop-again Inv-loop μ-loop
 loop-again c =
-    let entry = c .before .before .before in
-    (omega (arith, c .before .before .loop .inv .0), none-less (λ z. getD (entry .args .t1) z 0) (c .before .before .loop .y) (c .before .loop-test .taken) (c .before .before .loop .inv .1) (omega (arith, c .if1 .left)))
+    let entry = c .before .before .before in (
+      omega (arith, c .before .before .loop .inv .0),
+      none-less (λ z. getD (entry .args .t1) z 0) (c .before .before .loop .y)
+          (c .before .loop-test .taken) (c .before .before .loop .inv .1) (omega (arith, c .if1 .left)),
+    )
 
 returns-2 : tie.Need-returns-2 Inv-loop μ-loop
 returns-2 c =

@@ -11,7 +11,16 @@ full-window-requires c κs =
 
 returns : tie.Need-returns
 returns c =
-    record { counts-are = refl; natives-are = refl; held-is = λ table. record { shaded = record { drawable = c .full-window .ensures .1; shades = λ h. absurd (false-is-true h) }; inverse-is = refl; spent-few = omega arith } }
+    record {
+      counts-are = refl;
+      natives-are = refl;
+      held-is = λ table.
+          record {
+            shaded = record { drawable = c .full-window .ensures .1; shades = λ h. absurd (false-is-true h) };
+            inverse-is = refl;
+            spent-few = omega arith;
+          };
+    }
 
 pub nothing-spec : {M : Type 1} → statement M
 nothing-spec =

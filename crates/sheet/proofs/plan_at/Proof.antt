@@ -19,14 +19,48 @@ applying-at-requires c κs =
 told-here-requires : tie.Need-told-here-requires
 told-here-requires c κs =
     let entry = c .before .before .before .before .before .before in
-    let q = entry .pre .1 .1 .1 .1 .1 .1 in
-    (entry .pre .0, (subst (λ (x : Applying). ApplyingBelow (length (nodesOf (entry .args .bytes .now))) x) (sym (c .applying-at .ensures)) (frames.item-below (length (nodesOf (entry .args .bytes .now))) (getD (entry .args .which .now) (entry .args .frame) 0) (q .applied .below (entry .args .frame) (entry .pre .1 .1 .1 .1 .0) (entry .pre .1 .1 .1 .1 .1 .0))), (q .key-room, (q .answer-room, q .known))))
+    let q = entry .pre .1 .1 .1 .1 .1 .1 in (
+      entry .pre .0,
+      (
+        subst (λ (x : Applying). ApplyingBelow (length (nodesOf (entry .args .bytes .now))) x) (sym (c .applying-at .ensures))
+            (frames.item-below (length (nodesOf (entry .args .bytes .now))) (getD (entry .args .which .now) (entry .args .frame) 0)
+            (q .applied .below (entry .args .frame) (entry .pre .1 .1 .1 .1 .0) (entry .pre .1 .1 .1 .1 .1 .0))),
+        (q .key-room, (q .answer-room, q .known)),
+      ),
+    )
 
 plan-of-requires : tie.Need-plan-of-requires
 plan-of-requires c κs =
     let entry = c .before .before .before .before .before .before .before in
-    let q = entry .pre .1 .1 .1 .1 .1 .1 in
-    (entry .pre .0, (entry .pre .1 .0, (entry .pre .1 .1 .0, (entry .pre .1 .1 .1 .0, (entry .pre .1 .1 .1 .1 .0, (entry .pre .1 .1 .1 .1 .1 .0, record { is = q .applied .each (entry .args .frame) (entry .pre .1 .1 .1 .1 .0) (entry .pre .1 .1 .1 .1 .1 .0) ∙ ap some (sym (c .before .applying-at .ensures)); below = subst (λ (x : Applying). ApplyingBelow (length (nodesOf (entry .args .bytes .now))) x) (sym (c .before .applying-at .ensures)) (frames.item-below (length (nodesOf (entry .args .bytes .now))) (getD (entry .args .which .now) (entry .args .frame) 0) (q .applied .below (entry .args .frame) (entry .pre .1 .1 .1 .1 .0) (entry .pre .1 .1 .1 .1 .1 .0))); tells = c .told-here .ensures }))))))
+    let q = entry .pre .1 .1 .1 .1 .1 .1 in (
+      entry .pre .0,
+      (
+        entry .pre .1 .0,
+        (
+          entry .pre .1 .1 .0,
+          (
+            entry .pre .1 .1 .1 .0,
+            (
+              entry .pre .1 .1 .1 .1 .0,
+              (
+                entry .pre .1 .1 .1 .1 .1 .0,
+                record {
+                  is = q .applied .each (entry .args .frame) (entry .pre .1 .1 .1 .1 .0) (entry .pre .1 .1 .1 .1 .1 .0)
+                      ∙ ap some (sym (c .before .applying-at .ensures));
+                  below = subst
+                      (λ (x : Applying). ApplyingBelow (length (nodesOf (entry .args .bytes .now))) x)
+                      (sym (c .before .applying-at .ensures))
+                      (frames.item-below (length (nodesOf (entry .args .bytes .now)))
+                      (getD (entry .args .which .now) (entry .args .frame) 0)
+                      (q .applied .below (entry .args .frame) (entry .pre .1 .1 .1 .1 .0) (entry .pre .1 .1 .1 .1 .1 .0)));
+                  tells = c .told-here .ensures;
+                },
+              ),
+            ),
+          ),
+        ),
+      ),
+    )
 
 returns : tie.Need-returns
 returns c = search needs

@@ -22,7 +22,8 @@ returns c =
     let at-if1 = c .before .before .before in
     let at-same-signed = at-if1 .before in
     let entry = at-same-signed .before in
-    λ h. windows-same (entry .args .a) (entry .args .b) (at-same-signed .same-signed .ensures (at-if1 .if1 .taken)) (c .before .before .same-signed2 .ensures (c .before .if2 .taken)) (c .same-function .ensures h)
+    λ h. windows-same (entry .args .a) (entry .args .b) (at-same-signed .same-signed .ensures (at-if1 .if1 .taken))
+    (c .before .before .same-signed2 .ensures (c .before .if2 .taken)) (c .same-function .ensures h)
 
 returns-2 : tie.Need-returns-2
 returns-2 c =

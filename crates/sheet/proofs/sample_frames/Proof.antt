@@ -36,8 +36,33 @@ count-all-requires : tie.Need-count-all-requires
 count-all-requires c κs =
     let at-items-from = c .before .before .before .before in
     let at-scene-of = at-items-from .before in
-    let entry = at-scene-of .before .before .before in
-    (entry .pre .0, (entry .pre .1 .0, (at-scene-of .scene-of .ensures, (at-items-from .items-from .ensures, (entry .pre .1 .1 .0, (entry .pre .1 .1 .1 .0, (entry .pre .1 .1 .1 .1, record { shades = length-replicate {A = ℕ} 131072 0; above = omega (arith, length-replicate {A = ℕ} 65664 0); below = omega (arith, length-replicate {A = ℕ} 65664 0); wide = omega (arith, length-replicate {A = ℕ} 65535 0) })))))))
+    let entry = at-scene-of .before .before .before in (
+      entry .pre .0,
+      (
+        entry .pre .1 .0,
+        (
+          at-scene-of .scene-of .ensures,
+          (
+            at-items-from .items-from .ensures,
+            (
+              entry .pre .1 .1 .0,
+              (
+                entry .pre .1 .1 .1 .0,
+                (
+                  entry .pre .1 .1 .1 .1,
+                  record {
+                    shades = length-replicate {A = ℕ} 131072 0;
+                    above = omega (arith, length-replicate {A = ℕ} 65664 0);
+                    below = omega (arith, length-replicate {A = ℕ} 65664 0);
+                    wide = omega (arith, length-replicate {A = ℕ} 65535 0);
+                  },
+                ),
+              ),
+            ),
+          ),
+        ),
+      ),
+    )
 
 first-drawn-requires : tie.Need-first-drawn-requires
 first-drawn-requires c κs =
@@ -52,13 +77,18 @@ weighted-requires c κs =
     let at-count-all = c .before .before .before .before .before .before .before in
     let at-scene-of = at-count-all .before .before .before .before .before .before in
     let entry = at-scene-of .before .before .before in
-    sampling.few-counts (entry .args .bytes .now) (entry .args .n) (entry .args .a) (entry .args .b) (entry .pre .1 .0) (entry .pre .1 .1 .0) (entry .pre .1 .1 .1 .0) (entry .pre .1 .1 .1 .1) _ (at-scene-of .scene-of .ensures) _ (at-count-all .count-all .ensures .0)
+    sampling.few-counts (entry .args .bytes .now) (entry .args .n) (entry .args .a) (entry .args .b) (entry .pre .1 .0)
+    (entry .pre .1 .1 .0) (entry .pre .1 .1 .1 .0) (entry .pre .1 .1 .1 .1) _ (at-scene-of .scene-of .ensures) _
+    (at-count-all .count-all .ensures .0)
 
 returns : tie.Need-returns
 returns c =
     let at-count-all = c .before .before .before .before .before .before .before .before in
     let entry = at-count-all .before .before .before .before .before .before .before .before .before in
-    sampling.made (entry .args .bytes .now) (entry .args .n) (entry .args .a) (entry .args .b) (entry .pre .1 .0) (entry .pre .1 .1 .0) (entry .pre .1 .1 .1 .0) (entry .pre .1 .1 .1 .1) _ _ _ _ _ (at-count-all .count-all .ensures .0) (at-count-all .count-all .ensures .1) (c .before .before .first-drawn .ensures) (c .before .last-drawn .ensures) (c .weighted .ensures)
+    sampling.made (entry .args .bytes .now) (entry .args .n) (entry .args .a) (entry .args .b) (entry .pre .1 .0) (entry .pre .1 .1 .0)
+    (entry .pre .1 .1 .1 .0) (entry .pre .1 .1 .1 .1) _ _ _ _ _ (at-count-all .count-all .ensures .0)
+    (at-count-all .count-all .ensures .1) (c .before .before .first-drawn .ensures) (c .before .last-drawn .ensures)
+    (c .weighted .ensures)
 
 pub sample-frames-spec : {M : Type 1} → statement M
 sample-frames-spec =

@@ -25,13 +25,25 @@ same-length c =
 
 returns : tie.Need-returns
 returns c =
-    let entry = c .before .before .before .before .before .before .before in
-    (refl, record { shaded = record { drawable = entry .pre .0; shades = λ h. c .before .before .fill .ensures }; inverse-is = refl; spent-few = omega arith })
+    let entry = c .before .before .before .before .before .before .before in (
+      refl,
+      record {
+        shaded = record { drawable = entry .pre .0; shades = λ h. c .before .before .fill .ensures };
+        inverse-is = refl;
+        spent-few = omega arith;
+      },
+    )
 
 returns-2 : tie.Need-returns-2
 returns-2 c =
-    let entry = c .before .before .before in
-    (refl, record { shaded = record { drawable = entry .pre .0; shades = λ h. absurd (false-is-true h) }; inverse-is = refl; spent-few = omega (arith, c .if1 .left, c .before .power .ensures .1 .1) })
+    let entry = c .before .before .before in (
+      refl,
+      record {
+        shaded = record { drawable = entry .pre .0; shades = λ h. absurd (false-is-true h) };
+        inverse-is = refl;
+        spent-few = omega (arith, c .if1 .left, c .before .power .ensures .1 .1);
+      },
+    )
 
 pub shades-by-spec : {M : Type 1} → statement M
 shades-by-spec =

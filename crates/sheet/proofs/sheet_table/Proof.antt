@@ -15,7 +15,8 @@ refused-requires c κs =
 returns : tie.Need-returns
 returns c =
     let entry = c .before .before .before .before in
-    c .refused .ensures ∙ answers.wrong-order (nodesOf (entry .args .bytes .now)) (entry .args .first) (entry .args .last) (entry .args .count) (c .before .if1 .taken)
+    c .refused .ensures ∙ answers.wrong-order (nodesOf (entry .args .bytes .now)) (entry .args .first) (entry .args .last)
+    (entry .args .count) (c .before .if1 .taken)
 
 frame-count-requires : tie.Need-frame-count-requires
 frame-count-requires c κs =
@@ -38,7 +39,9 @@ returns-2 c =
     let at-frame-count = c .before .before .before in
     let at-if1 = at-frame-count .before in
     let entry = at-if1 .before .before .before in
-    c .refused2 .ensures ∙ answers.no-frames (nodesOf (entry .args .bytes .now)) (entry .args .first) (entry .args .last) (entry .args .count) (omega (arith, at-if1 .if1 .left)) (node-laws.lacked (c .before .enum-told .given .1) (at-frame-count .frame-count .ensures .0))
+    c .refused2 .ensures ∙ answers.no-frames (nodesOf (entry .args .bytes .now)) (entry .args .first) (entry .args .last)
+    (entry .args .count) (omega (arith, at-if1 .if1 .left))
+    (node-laws.had-none (c .before .enum-told .given .1) (at-frame-count .frame-count .ensures .0))
 
 refused-requires-3 : tie.Need-refused-requires-3
 refused-requires-3 c κs =
@@ -50,7 +53,9 @@ returns-3 c =
     let at-frame-count = at-n .before .before in
     let at-if1 = at-frame-count .before in
     let entry = at-if1 .before .before .before in
-    c .refused3 .ensures ∙ answers.below-frames (nodesOf (entry .args .bytes .now)) (entry .args .first) (entry .args .last) (entry .args .count) (omega (arith, at-if1 .if1 .left)) _ (node-laws.had (at-n .n .given .1) (at-frame-count .frame-count .ensures .0)) (c .before .if2 .taken)
+    c .refused3 .ensures ∙ answers.below-frames (nodesOf (entry .args .bytes .now)) (entry .args .first) (entry .args .last)
+    (entry .args .count) (omega (arith, at-if1 .if1 .left)) _
+    (node-laws.had (at-n .n .given .1) (at-frame-count .frame-count .ensures .0)) (c .before .if2 .taken)
 
 refused-requires-4 : tie.Need-refused-requires-4
 refused-requires-4 c κs =
@@ -62,15 +67,27 @@ returns-4 c =
     let at-frame-count = at-n .before .before in
     let at-if1 = at-frame-count .before in
     let entry = at-if1 .before .before .before in
-    c .refused4 .ensures ∙ answers.above-frames (nodesOf (entry .args .bytes .now)) (entry .args .first) (entry .args .last) (entry .args .count) (omega (arith, at-if1 .if1 .left)) _ (node-laws.had (at-n .n .given .1) (at-frame-count .frame-count .ensures .0)) (c .before .if3 .taken)
+    c .refused4 .ensures ∙ answers.above-frames (nodesOf (entry .args .bytes .now)) (entry .args .first) (entry .args .last)
+    (entry .args .count) (omega (arith, at-if1 .if1 .left)) _
+    (node-laws.had (at-n .n .given .1) (at-frame-count .frame-count .ensures .0)) (c .before .if3 .taken)
 
 sample-frames-requires : tie.Need-sample-frames-requires
 sample-frames-requires c κs =
     let at-n = c .before .before .before in
     let at-frame-count = at-n .before .before in
     let at-if1 = at-frame-count .before in
-    let entry = at-if1 .before .before .before in
-    (entry .pre .0, (record { bytes = entry .pre .1 .0; sound = entry .pre .1 .1; frames = node-laws.had (at-n .n .given .1) (at-frame-count .frame-count .ensures .0); some-frame = omega (arith, at-if1 .if1 .left, c .before .if2 .left, c .if3 .left) }, (omega (arith, c .before .if2 .left), (omega (arith, at-if1 .if1 .left), omega (arith, c .if3 .left)))))
+    let entry = at-if1 .before .before .before in (
+      entry .pre .0,
+      (
+        record {
+          bytes = entry .pre .1 .0;
+          sound = entry .pre .1 .1;
+          frames = node-laws.had (at-n .n .given .1) (at-frame-count .frame-count .ensures .0);
+          some-frame = omega (arith, at-if1 .if1 .left, c .before .if2 .left, c .if3 .left);
+        },
+        (omega (arith, c .before .if2 .left), (omega (arith, at-if1 .if1 .left), omega (arith, c .if3 .left))),
+      ),
+    )
 
 returns-5 : tie.Need-returns-5
 returns-5 c =
@@ -78,7 +95,9 @@ returns-5 c =
     let at-frame-count = at-n .before .before in
     let at-if1 = at-frame-count .before in
     let entry = at-if1 .before .before .before in
-    answers.is-done (nodesOf (entry .args .bytes .now)) (entry .args .first) (entry .args .last) (entry .args .count) (omega (arith, at-if1 .if1 .left)) _ (node-laws.had (at-n .n .given .1) (at-frame-count .frame-count .ensures .0)) (omega (arith, c .before .before .if2 .left)) (omega (arith, c .before .if3 .left)) _ (c .sample-frames .ensures)
+    answers.is-done (nodesOf (entry .args .bytes .now)) (entry .args .first) (entry .args .last) (entry .args .count)
+    (omega (arith, at-if1 .if1 .left)) _ (node-laws.had (at-n .n .given .1) (at-frame-count .frame-count .ensures .0))
+    (omega (arith, c .before .before .if2 .left)) (omega (arith, c .before .if3 .left)) _ (c .sample-frames .ensures)
 
 pub sheet-table-spec : {M : Type 1} → statement M
 sheet-table-spec =

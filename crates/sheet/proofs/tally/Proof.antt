@@ -11,7 +11,8 @@ use Rattle.sheet.proofs.tally.Tie as tie
 
 abbrev Inv-loop : tie.InvT-loop
 Inv-loop line now₀ i₀ i-end now i =
-    (i ≤ i-end) × ((i-end ≡ length line) × ((tallied (drop i line) now ≡ tallied line now₀) × ((y : ℕ) → getD now y 0 + (length line - i) < 2 ^ 64)))
+    (i ≤ i-end) × ((i-end ≡ length line)
+    × ((tallied (drop i line) now ≡ tallied line now₀) × ((y : ℕ) → getD now y 0 + (length line - i) < 2 ^ 64)))
 
 abbrev μ-loop : tie.MeasureT-loop
 μ-loop line now₀ i₀ i-end now i =
@@ -58,8 +59,18 @@ loop-again : tie.Need-loop-again Inv-loop μ-loop
 loop-again c =
     let at-loop = c .before .before .before in
     let entry = at-loop .before .before in
-    let h : at-loop .loop .i < length (entry .args .line .now) = omega arith in
-    (omega arith, (refl, (rw (c .wide .ensures .0) (sym (tallied-next (entry .args .line .now) (at-loop .loop .now) (at-loop .loop .i) h) ∙ at-loop .loop .inv .1 .1 .0), room-next (at-loop .loop .now) (c .wide .result) (length (entry .args .line .now)) (at-loop .loop .i) h (at-loop .loop .inv .1 .1 .1))))
+    let h : at-loop .loop .i < length (entry .args .line .now) = omega arith in (
+      omega arith,
+      (
+        refl,
+        (
+          rw (c .wide .ensures .0)
+              (sym (tallied-next (entry .args .line .now) (at-loop .loop .now) (at-loop .loop .i) h) ∙ at-loop .loop .inv .1 .1 .0),
+          room-next (at-loop .loop .now) (c .wide .result) (length (entry .args .line .now)) (at-loop .loop .i) h
+              (at-loop .loop .inv .1 .1 .1),
+        ),
+      ),
+    )
 
 returns : tie.Need-returns Inv-loop μ-loop
 returns c =

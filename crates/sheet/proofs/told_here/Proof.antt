@@ -21,18 +21,25 @@ nothing-told-requires c κs = search needs
 returns : tie.Need-returns
 returns c =
     let entry = c .before .before .before .before .before .before .before in
-    subst (λ (x : Applying). ToldBy (nodesOf (entry .args .bytes .now)) x (c .nothing-told .result)) (sym (c .before .enum-told .given .1)) tt
+    subst (λ (x : Applying). ToldBy (nodesOf (entry .args .bytes .now)) x (c .nothing-told .result)) (sym (c .before .enum-told .given .1))
+    tt
 
 told-of-requires : tie.Need-told-of-requires
 told-of-requires c κs =
     let entry = c .before .before .before .before .before .before .before in
-    let p = entry .pre in
-    (p .0, (subst (λ (x : Applying). ApplyingBelow (length (nodesOf (entry .args .bytes .now))) x) (c .before .applies .given .1) (p .1 .0), p .1 .1))
+    let p = entry .pre in (
+      p .0,
+      (
+        subst (λ (x : Applying). ApplyingBelow (length (nodesOf (entry .args .bytes .now))) x) (c .before .applies .given .1) (p .1 .0),
+        p .1 .1,
+      ),
+    )
 
 returns-2 : tie.Need-returns-2
 returns-2 c =
     let entry = c .before .before .before .before .before .before .before .before in
-    subst (λ (x : Applying). ToldBy (nodesOf (entry .args .bytes .now)) x (c .told-of .result)) (sym (c .before .before .applies .given .1)) (c .told-of .ensures)
+    subst (λ (x : Applying). ToldBy (nodesOf (entry .args .bytes .now)) x (c .told-of .result)) (sym (c .before .before .applies .given .1))
+    (c .told-of .ensures)
 
 pub told-here-spec : {M : Type 1} → statement M
 told-here-spec =

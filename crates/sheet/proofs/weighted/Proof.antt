@@ -33,11 +33,25 @@ array-read-sum c =
 
 mul-sum-2 : tie.Need-mul-sum-2 Inv-loop μ-loop
 mul-sum-2 c =
-    omega (arith, mul-le-mul {n₁ = c .before .loop .y} {m₁ = getD (c .before .before .args .t1) (c .before .loop .y) 0} {n₂ = 255} {m₂ = 281474976710656} (omega (arith, c .loop-test .taken)) (c .before .before .pre .below (c .before .loop .y)))
+    omega (
+      arith,
+      mul-le-mul {n₁ = c .before .loop .y} {m₁ = getD (c .before .before .args .t1) (c .before .loop .y) 0} {n₂ = 255}
+          {m₂ = 281474976710656} (omega (arith, c .loop-test .taken)) (c .before .before .pre .below (c .before .loop .y)),
+    )
 
 add-sum : tie.Need-add-sum Inv-loop μ-loop
 add-sum c =
-    omega (arith, c .before .loop .inv .1, c .loop-test .taken, total-most (λ i. i * getD (c .before .before .args .t1) i 0) (c .before .loop .y) 71776119061217280 (λ i h. mul-le-mul {n₁ = i} {m₁ = getD (c .before .before .args .t1) i 0} {n₂ = 255} {m₂ = 281474976710656} (omega (arith, h, c .loop-test .taken)) (c .before .before .pre .below i)), mul-le-mul {n₁ = c .before .loop .y} {m₁ = getD (c .before .before .args .t1) (c .before .loop .y) 0} {n₂ = 255} {m₂ = 281474976710656} (omega (arith, c .loop-test .taken)) (c .before .before .pre .below (c .before .loop .y)))
+    omega (
+      arith,
+      c .before .loop .inv .1,
+      c .loop-test .taken,
+      total-most (λ i. i * getD (c .before .before .args .t1) i 0)
+          (c .before .loop .y) 71776119061217280 (λ i h. mul-le-mul {n₁ = i} {m₁ = getD (c .before .before .args .t1) i 0} {n₂ = 255}
+          {m₂ = 281474976710656} (omega (arith, h, c .loop-test .taken)) (c .before .before .pre .below i)),
+      mul-le-mul
+          {n₁ = c .before .loop .y} {m₁ = getD (c .before .before .args .t1) (c .before .loop .y) 0} {n₂ = 255} {m₂ = 281474976710656}
+          (omega (arith, c .loop-test .taken)) (c .before .before .pre .below (c .before .loop .y)),
+    )
 
 add-y : tie.Need-add-y Inv-loop μ-loop
 add-y c =
@@ -48,8 +62,11 @@ loop-less c =
     omega (arith, c .loop-test .taken)
 
 loop-again : tie.Need-loop-again Inv-loop μ-loop
-loop-again c =
-    (omega (arith, c .loop-test .taken), ap (λ (s : ℕ). s + c .before .loop .y * getD (c .before .before .args .t1) (c .before .loop .y) 0) (c .before .loop .inv .1) ∙ total-more (λ i. i * getD (c .before .before .args .t1) i 0) (c .before .loop .y))
+loop-again c = (
+  omega (arith, c .loop-test .taken),
+  ap (λ (s : ℕ). s + c .before .loop .y * getD (c .before .before .args .t1) (c .before .loop .y) 0) (c .before .loop .inv .1)
+      ∙ total-more (λ i. i * getD (c .before .before .args .t1) i 0) (c .before .loop .y),
+)
 
 returns : tie.Need-returns Inv-loop μ-loop
 returns c =

@@ -59,26 +59,33 @@ mul-end : tie.Need-mul-end
 mul-end c =
     let at-judge = c .before .before .before .before .before in
     let entry = at-judge .before .before .before .before in
-    let t = laws.after-judging (entry .args .bytes .now) (entry .args .rows .now) (at-judge .judge .last .1 .0) (c .before .count2 .given .0 .0) (sym (c .before .count2 .given .1) ∙ at-judge .judge .ensures .0 .same) (at-judge .judge .ensures .1) .0 in
+    let t = laws.after-judging (entry .args .bytes .now) (entry .args .rows .now) (at-judge .judge .last .1 .0)
+    (c .before .count2 .given .0 .0) (sym (c .before .count2 .given .1) ∙ at-judge .judge .ensures .0 .same)
+    (at-judge .judge .ensures .1) .0 in
     omega (arith, t .1 .size, t .1 .few, length-take-le (7 * c .before .count2 .given .0 .0) (at-judge .judge .last .1 .0) (t .0))
 
 slice-reshare-prefix-table : tie.Need-slice-reshare-prefix-table
 slice-reshare-prefix-table c =
     let at-judge = c .before .before .before .before .before in
     let entry = at-judge .before .before .before .before in
-    laws.after-judging (entry .args .bytes .now) (entry .args .rows .now) (at-judge .judge .last .1 .0) (c .before .count2 .given .0 .0) (sym (c .before .count2 .given .1) ∙ at-judge .judge .ensures .0 .same) (at-judge .judge .ensures .1) .0 .0
+    laws.after-judging (entry .args .bytes .now) (entry .args .rows .now) (at-judge .judge .last .1 .0) (c .before .count2 .given .0 .0)
+    (sym (c .before .count2 .given .1) ∙ at-judge .judge .ensures .0 .same) (at-judge .judge .ensures .1) .0 .0
 
 slice-aggregate-table : tie.Need-slice-aggregate-table
 slice-aggregate-table c =
     let at-judge = c .before .before .before .before .before .before in
     let entry = at-judge .before .before .before .before in
-    sym (length-take-le _ _ (laws.after-judging (entry .args .bytes .now) (entry .args .rows .now) (at-judge .judge .last .1 .0) (c .before .before .count2 .given .0 .0) (sym (c .before .before .count2 .given .1) ∙ at-judge .judge .ensures .0 .same) (at-judge .judge .ensures .1) .0 .0))
+    sym (length-take-le _ _ (laws.after-judging (entry .args .bytes .now) (entry .args .rows .now) (at-judge .judge .last .1 .0)
+    (c .before .before .count2 .given .0 .0) (sym (c .before .before .count2 .given .1) ∙ at-judge .judge .ensures .0 .same)
+    (at-judge .judge .ensures .1) .0 .0))
 
 last-frame-requires : tie.Need-last-frame-requires
 last-frame-requires c κs =
     let at-judge = c .before .before .before .before .before .before in
     let entry = at-judge .before .before .before .before in
-    laws.after-judging (entry .args .bytes .now) (entry .args .rows .now) (at-judge .judge .last .1 .0) (c .before .before .count2 .given .0 .0) (sym (c .before .before .count2 .given .1) ∙ at-judge .judge .ensures .0 .same) (at-judge .judge .ensures .1) .0 .1
+    laws.after-judging (entry .args .bytes .now) (entry .args .rows .now) (at-judge .judge .last .1 .0)
+    (c .before .before .count2 .given .0 .0) (sym (c .before .before .count2 .given .1) ∙ at-judge .judge .ensures .0 .same)
+    (at-judge .judge .ensures .1) .0 .1
 
 sheet-table-requires : tie.Need-sheet-table-requires
 sheet-table-requires c κs =
@@ -86,7 +93,9 @@ sheet-table-requires c κs =
     let at-judge = at-count2 .before .before .before .before in
     let at-shared-slice-known = at-judge .before .before .before in
     let entry = at-shared-slice-known .before in
-    let t = laws.after-judging (entry .args .bytes .now) (entry .args .rows .now) (at-judge .judge .last .1 .0) (at-count2 .count2 .given .0 .0) (sym (at-count2 .count2 .given .1) ∙ at-judge .judge .ensures .0 .same) (at-judge .judge .ensures .1) in
+    let t = laws.after-judging (entry .args .bytes .now) (entry .args .rows .now) (at-judge .judge .last .1 .0)
+    (at-count2 .count2 .given .0 .0) (sym (at-count2 .count2 .given .1) ∙ at-judge .judge .ensures .0 .same)
+    (at-judge .judge .ensures .1) in
     (t .0 .1, (λ i. omega (arith, at-shared-slice-known .shared-slice-known .given i), t .1))
 
 same-length : tie.Need-same-length
@@ -96,8 +105,12 @@ same-length c =
 returns : tie.Need-returns
 returns c =
     let at-judge = c .before .before .before .before .before in
-    let entry = at-judge .before .before .before .before in
-    (promised (c .refused .ensures ∙ answers.sheet-by (entry .args .bytes .now) 1 (numberOf (framesOf (nodesOf (entry .args .bytes .now)))) (entry .args .rows .now) (judged.TooLarge) (sym (c .before .enum-told .given .1) ∙ at-judge .judge .ensures .0 .same)), at-judge .judge .ensures .1)
+    let entry = at-judge .before .before .before .before in (
+      promised (c .refused .ensures ∙ answers.sheet-by (entry .args .bytes .now) 1
+          (numberOf (framesOf (nodesOf (entry .args .bytes .now)))) (entry .args .rows .now) (judged.TooLarge)
+          (sym (c .before .enum-told .given .1) ∙ at-judge .judge .ensures .0 .same)),
+      at-judge .judge .ensures .1,
+    )
 
 same-length-2 : tie.Need-same-length-2
 same-length-2 c =
@@ -106,8 +119,13 @@ same-length-2 c =
 returns-2 : tie.Need-returns-2
 returns-2 c =
     let at-judge = c .before .before .before .before .before .before in
-    let entry = at-judge .before .before .before .before in
-    (promised (c .refused2 .ensures ∙ answers.sheet-by (entry .args .bytes .now) 1 (numberOf (framesOf (nodesOf (entry .args .bytes .now)))) (entry .args .rows .now) (judged.Refused (c .before .before .code .given .0 .0) (c .before .before .code .given .0 .1 .0)) (sym (c .before .before .code .given .1) ∙ at-judge .judge .ensures .0 .same)), at-judge .judge .ensures .1)
+    let entry = at-judge .before .before .before .before in (
+      promised (c .refused2 .ensures ∙ answers.sheet-by (entry .args .bytes .now) 1
+          (numberOf (framesOf (nodesOf (entry .args .bytes .now)))) (entry .args .rows .now)
+          (judged.Refused (c .before .before .code .given .0 .0) (c .before .before .code .given .0 .1 .0))
+          (sym (c .before .before .code .given .1) ∙ at-judge .judge .ensures .0 .same)),
+      at-judge .judge .ensures .1,
+    )
 
 same-length-3 : tie.Need-same-length-3
 same-length-3 c =
@@ -116,8 +134,12 @@ same-length-3 c =
 returns-3 : tie.Need-returns-3
 returns-3 c =
     let at-judge = c .before .before .before .before .before in
-    let entry = at-judge .before .before .before .before in
-    (promised (c .refused3 .ensures ∙ answers.sheet-by (entry .args .bytes .now) 1 (numberOf (framesOf (nodesOf (entry .args .bytes .now)))) (entry .args .rows .now) (judged.NoRoom) (sym (c .before .enum-told2 .given .1) ∙ at-judge .judge .ensures .0 .same)), at-judge .judge .ensures .1)
+    let entry = at-judge .before .before .before .before in (
+      promised (c .refused3 .ensures ∙ answers.sheet-by (entry .args .bytes .now) 1
+          (numberOf (framesOf (nodesOf (entry .args .bytes .now)))) (entry .args .rows .now) (judged.NoRoom)
+          (sym (c .before .enum-told2 .given .1) ∙ at-judge .judge .ensures .0 .same)),
+      at-judge .judge .ensures .1,
+    )
 
 same-length-4 : tie.Need-same-length-4
 same-length-4 c =
@@ -126,8 +148,13 @@ same-length-4 c =
 returns-4 : tie.Need-returns-4
 returns-4 c =
     let at-judge = c .before .before .before .before .before .before in
-    let entry = at-judge .before .before .before .before in
-    (promised (c .refused4 .ensures ∙ answers.sheet-by (entry .args .bytes .now) 1 (numberOf (framesOf (nodesOf (entry .args .bytes .now)))) (entry .args .rows .now) (judged.Broken (c .before .before .count .given .0 .0) (c .before .before .count .given .0 .1 .0) (c .before .before .count .given .0 .1 .1 .0)) (sym (c .before .before .count .given .1) ∙ at-judge .judge .ensures .0 .same)), at-judge .judge .ensures .1)
+    let entry = at-judge .before .before .before .before in (
+      promised (c .refused4 .ensures ∙ answers.sheet-by (entry .args .bytes .now) 1
+          (numberOf (framesOf (nodesOf (entry .args .bytes .now)))) (entry .args .rows .now) (judged.Broken
+          (c .before .before .count .given .0 .0) (c .before .before .count .given .0 .1 .0) (c .before .before .count .given .0 .1 .1 .0))
+          (sym (c .before .before .count .given .1) ∙ at-judge .judge .ensures .0 .same)),
+      at-judge .judge .ensures .1,
+    )
 
 same-length-5 : tie.Need-same-length-5
 same-length-5 c =
@@ -137,8 +164,13 @@ returns-5 : tie.Need-returns-5
 returns-5 c =
     let at-count2 = c .before .before .before .before in
     let at-judge = at-count2 .before .before .before .before in
-    let entry = at-judge .before .before .before .before in
-    (promised (c .sheet-table .ensures ∙ (ap (λ (b : ℕ). withSheet (nodesOf (entry .args .bytes .now)) 1 b (acceptedAnswer (nodesOf (entry .args .bytes .now)) 1 b (at-count2 .count2 .given .0 .0))) (c .before .last-frame .ensures) ∙ answers.sheet-by (entry .args .bytes .now) 1 (numberOf (framesOf (nodesOf (entry .args .bytes .now)))) (entry .args .rows .now) (judged.Accepted (at-count2 .count2 .given .0 .0)) (sym (at-count2 .count2 .given .1) ∙ at-judge .judge .ensures .0 .same))), at-judge .judge .ensures .1)
+    let entry = at-judge .before .before .before .before in (
+      promised (c .sheet-table .ensures ∙ (ap (λ (b : ℕ). withSheet (nodesOf (entry .args .bytes .now)) 1 b
+          (acceptedAnswer (nodesOf (entry .args .bytes .now)) 1 b (at-count2 .count2 .given .0 .0))) (c .before .last-frame .ensures)
+          ∙ answers.sheet-by (entry .args .bytes .now) 1 (numberOf (framesOf (nodesOf (entry .args .bytes .now)))) (entry .args .rows .now)
+          (judged.Accepted (at-count2 .count2 .given .0 .0)) (sym (at-count2 .count2 .given .1) ∙ at-judge .judge .ensures .0 .same))),
+      at-judge .judge .ensures .1,
+    )
 
 pub whole-spec : {M : Type 1} → statement M
 whole-spec =

@@ -23,8 +23,13 @@ returns : tie.Need-returns
 returns c =
     let at-row-buffer = c .before .before .before in
     let entry = at-row-buffer .before .before in
-    let e = c .before .whole .ensures .0 .same ∙ roomy-sheet _ _ _ _ (omega (arith, at-row-buffer .row-buffer .ensures, entry .pre)) in
-    (e, (λ h. never-eight _ _ _ (ap (λ (r : Sampled). fieldsOf (r .answer) .code) (sym e) ∙ h), ap (λ (r : Sampled). length (r .sheet .counts)) (c .before .whole .ensures .0 .same) ∙ counts-many _ _ _ _))
+    let e = c .before .whole .ensures .0 .same ∙ roomy-sheet _ _ _ _ (omega (arith, at-row-buffer .row-buffer .ensures, entry .pre)) in (
+      e,
+      (
+        λ h. never-eight _ _ _ (ap (λ (r : Sampled). fieldsOf (r .answer) .code) (sym e) ∙ h),
+        ap (λ (r : Sampled). length (r .sheet .counts)) (c .before .whole .ensures .0 .same) ∙ counts-many _ _ _ _,
+      ),
+    )
 
 pub sheet-small-spec : {M : Type 1} → statement M
 sheet-small-spec =

@@ -17,7 +17,8 @@ float-from-bits-result c =
 returns : tie.Need-returns
 unfolding ofBits div
 returns c =
-    sym (nan-of (ofBits binary32 (c .before .args .bits)) (sym (nanBits-is binary32 (c .before .args .bits)) ∙ nanBits-above binary32 (c .before .args .bits) ∙ lt-ltb _ _ (c .if1 .taken)))
+    sym (nan-of (ofBits binary32 (c .before .args .bits))
+    (sym (nanBits-is binary32 (c .before .args .bits)) ∙ nanBits-above binary32 (c .before .args .bits) ∙ lt-ltb _ _ (c .if1 .taken)))
 
 returns-2 : tie.Need-returns-2
 returns-2 c = search needs

@@ -16,7 +16,8 @@ is-number-requires-2 c κs = search needs
 returns : tie.Need-returns
 returns c =
     let at-short-moves-of = c .before .before .before in
-    rw (shift-numbers, ← at-short-moves-of .short-moves-of .ensures .0, ← c .before .before .is-number .ensures, c .before .if1 .taken) (c .is-number2 .ensures)
+    rw (shift-numbers, ← at-short-moves-of .short-moves-of .ensures .0, ← c .before .before .is-number .ensures, c .before .if1 .taken)
+    (c .is-number2 .ensures)
 
 returns-2 : tie.Need-returns-2
 returns-2 c =

@@ -29,8 +29,10 @@ enum-told-2 c = search needs
 returns : tie.Need-returns
 returns c =
     let at-short-size = c .before .before .before in
-    let at-if1 = at-short-size .before in
-    (sym (short-minus _ (at-if1 .if1 .taken) ∙ ap minus (sym (at-short-size .short-size .ensures .0) ∙ c .before .n .given .1)), below-is 257 _ _ (c .before .n .given .1) (at-short-size .short-size .ensures .1))
+    let at-if1 = at-short-size .before in (
+      sym (short-minus _ (at-if1 .if1 .taken) ∙ ap minus (sym (at-short-size .short-size .ensures .0) ∙ c .before .n .given .1)),
+      below-is 257 _ _ (c .before .n .given .1) (at-short-size .short-size .ensures .1),
+    )
 
 returns-2 : tie.Need-returns-2
 returns-2 c =
@@ -40,8 +42,10 @@ returns-2 c =
 returns-3 : tie.Need-returns-3
 returns-3 c =
     let at-short-size2 = c .before .before .before in
-    let at-if1 = at-short-size2 .before in
-    (sym (short-plus _ (at-if1 .if1 .left) ∙ ap plus (sym (at-short-size2 .short-size2 .ensures .0) ∙ c .before .n2 .given .1)), below-is 257 _ _ (c .before .n2 .given .1) (at-short-size2 .short-size2 .ensures .1))
+    let at-if1 = at-short-size2 .before in (
+      sym (short-plus _ (at-if1 .if1 .left) ∙ ap plus (sym (at-short-size2 .short-size2 .ensures .0) ∙ c .before .n2 .given .1)),
+      below-is 257 _ _ (c .before .n2 .given .1) (at-short-size2 .short-size2 .ensures .1),
+    )
 
 returns-4 : tie.Need-returns-4
 returns-4 c =

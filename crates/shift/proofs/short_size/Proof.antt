@@ -13,7 +13,12 @@ truncating-f32-to-u64-requires c κs =
 
 cast-nearest-u32-to-f32 : tie.Need-cast-nearest-u32-to-f32
 cast-nearest-u32-to-f32 c =
-    omega (arith, c .truncating-f32-to-u64 .ensures, cut-low (fourTimes (c .before .before .args .y)) (four-times _ (c .before .before .good .0 .1) (low _ (c .before .before .pre) (c .before .if1 .taken)) .0))
+    omega (
+      arith,
+      c .truncating-f32-to-u64 .ensures,
+      cut-low (fourTimes (c .before .before .args .y))
+          (four-times _ (c .before .before .good .0 .1) (low _ (c .before .before .pre) (c .before .if1 .taken)) .0),
+    )
 
 nearest-u32-to-f32-requires : tie.Need-nearest-u32-to-f32-requires
 nearest-u32-to-f32-requires c κs = search needs
@@ -22,15 +27,23 @@ returns : tie.Need-returns
 returns c =
     let at-if1 = c .before .before .before in
     let entry = at-if1 .before in (
-      size-by (entry .args .y) (entry .good .0 .1) (low _ (entry .pre) (at-if1 .if1 .taken)) _ _ true (c .before .before .truncating-f32-to-u64 .ensures) (c .before .nearest-u32-to-f32 .ensures) (c .if2 .taken),
-      omega (arith, c .before .before .truncating-f32-to-u64 .ensures, cut-low (fourTimes (entry .args .y)) (four-times _ (entry .good .0 .1) (low _ (entry .pre) (at-if1 .if1 .taken)) .0)),
+      size-by (entry .args .y) (entry .good .0 .1) (low _ (entry .pre) (at-if1 .if1 .taken)) _ _ true
+          (c .before .before .truncating-f32-to-u64 .ensures) (c .before .nearest-u32-to-f32 .ensures) (c .if2 .taken),
+      omega (
+        arith,
+        c .before .before .truncating-f32-to-u64 .ensures,
+        cut-low (fourTimes (entry .args .y)) (four-times _ (entry .good .0 .1) (low _ (entry .pre) (at-if1 .if1 .taken)) .0),
+      ),
     )
 
 returns-2 : tie.Need-returns-2
 returns-2 c =
     let at-if1 = c .before .before .before in
-    let entry = at-if1 .before in
-    (size-by (entry .args .y) (entry .good .0 .1) (low _ (entry .pre) (at-if1 .if1 .taken)) _ _ false (c .before .before .truncating-f32-to-u64 .ensures) (c .before .nearest-u32-to-f32 .ensures) (c .if2 .left), tt)
+    let entry = at-if1 .before in (
+      size-by (entry .args .y) (entry .good .0 .1) (low _ (entry .pre) (at-if1 .if1 .taken)) _ _ false
+          (c .before .before .truncating-f32-to-u64 .ensures) (c .before .nearest-u32-to-f32 .ensures) (c .if2 .left),
+      tt,
+    )
 
 returns-3 : tie.Need-returns-3
 returns-3 c =

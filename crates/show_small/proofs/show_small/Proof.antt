@@ -30,14 +30,16 @@ returns c =
     let at-show = c .before .before .before .before in
     let at-row-buffer = at-show .before .before .before in
     let entry = at-row-buffer .before .before .before in
-    let t = laws.roomy-shown _ _ _ _ (omega (arith, at-row-buffer .row-buffer .ensures, entry .pre)) _ _ (at-show .show .ensures .0 .same) (at-show .show .ensures .1 .1) in
+    let t = laws.roomy-shown _ _ _ _ (omega (arith, at-row-buffer .row-buffer .ensures, entry .pre)) _ _ (at-show .show .ensures .0 .same)
+    (at-show .show .ensures .1 .1) in
     let e = laws.not-drawn (nodesOf (entry .args .bytes .now)) (at-show .show .result) (c .match .keys2) ∙ t .0 in
     (e, (t .1, laws.fits _ _ _ _ e))
 
 mul-end : tie.Need-mul-end
 mul-end c =
     let at-show = c .before .before .before .before .before .before in
-    let t = laws.after-showing _ _ _ _ _ _ _ (sym (c .before .answer .given .1) ∙ at-show .show .ensures .0 .same) (at-show .show .ensures .1 .0) in
+    let t = laws.after-showing _ _ _ _ _ _ _ (sym (c .before .answer .given .1) ∙ at-show .show .ensures .0 .same)
+    (at-show .show .ensures .1 .0) in
     omega (arith, t .1 .size, t .1 .few, length-take-le (7 * c .before .answer .given .0 .0) (at-show .show .last .1 .1 .0) (t .0))
 
 array-share-prefix-rows : tie.Need-array-share-prefix-rows
@@ -48,12 +50,14 @@ array-share-prefix-rows c =
 slice-aggregate-with-size : tie.Need-slice-aggregate-with-size
 slice-aggregate-with-size c =
     let at-show = c .before .before .before .before .before .before .before in
-    sym (length-take-le _ _ (laws.after-showing _ _ _ _ _ _ _ (sym (c .before .before .answer .given .1) ∙ at-show .show .ensures .0 .same) (at-show .show .ensures .1 .0) .0))
+    sym (length-take-le _ _ (laws.after-showing _ _ _ _ _ _ _ (sym (c .before .before .answer .given .1) ∙ at-show .show .ensures .0 .same)
+    (at-show .show .ensures .1 .0) .0))
 
 with-size-requires : tie.Need-with-size-requires
 with-size-requires c κs =
     let at-show = c .before .before .before .before .before .before .before in
-    laws.after-showing _ _ _ _ _ _ _ (sym (c .before .before .answer .given .1) ∙ at-show .show .ensures .0 .same) (at-show .show .ensures .1 .0) .1
+    laws.after-showing _ _ _ _ _ _ _ (sym (c .before .before .answer .given .1) ∙ at-show .show .ensures .0 .same)
+    (at-show .show .ensures .1 .0) .1
 
 same-length-2 : tie.Need-same-length-2
 same-length-2 c = search needs
@@ -64,7 +68,8 @@ returns-2 c =
     let at-show = at-answer .before .before .before .before .before in
     let at-row-buffer = at-show .before .before .before in
     let entry = at-row-buffer .before .before .before in
-    let t = laws.roomy-shown _ _ _ _ (omega (arith, at-row-buffer .row-buffer .ensures, entry .pre)) _ _ (sym (at-answer .answer .given .1) ∙ at-show .show .ensures .0 .same) (at-show .show .ensures .1 .1) in
+    let t = laws.roomy-shown _ _ _ _ (omega (arith, at-row-buffer .row-buffer .ensures, entry .pre)) _ _
+    (sym (at-answer .answer .given .1) ∙ at-show .show .ensures .0 .same) (at-show .show .ensures .1 .1) in
     let e = c .with-size .ensures ∙ t .0 in
     (e, (t .1, laws.fits _ _ _ _ e))
 

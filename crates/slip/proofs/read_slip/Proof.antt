@@ -17,7 +17,8 @@ returns : tie.Need-returns
 unfolding readOf
 returns c =
     let at-if1 = c .before .before .before in
-    promised (simp (le-leb _ _ (at-if1 .if1 .taken), sym (c .before .before .is-marked .ensures) ∙ c .before .if2 .taken) (c .read-version .ensures))
+    promised (simp (le-leb _ _ (at-if1 .if1 .taken), sym (c .before .before .is-marked .ensures) ∙ c .before .if2 .taken)
+    (c .read-version .ensures))
 
 returns-2 : tie.Need-returns-2
 unfolding readOf

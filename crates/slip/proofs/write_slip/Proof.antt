@@ -30,14 +30,16 @@ returns c =
     let at-rows = at-if2 .before .before in
     let at-if1 = at-rows .before .before in
     let at-is-possible = at-if1 .before in
-    simp (sym (at-is-possible .is-possible .ensures) ∙ at-if1 .if1 .taken, at-rows .rows .given .1, le-leb _ _ (at-if2 .if2 .taken)) (promised refl, c .before .before .put-slip .ensures)
+    simp (sym (at-is-possible .is-possible .ensures) ∙ at-if1 .if1 .taken, at-rows .rows .given .1, le-leb _ _ (at-if2 .if2 .taken))
+    (promised refl, c .before .before .put-slip .ensures)
 
 returns-2 : tie.Need-returns-2
 unfolding writable writeOf slipBuffer
 returns-2 c =
     let at-if1 = c .before .before .before .before in
     let at-is-possible = at-if1 .before in
-    simp (sym (at-is-possible .is-possible .ensures) ∙ at-if1 .if1 .taken, c .before .before .rows .given .1, lt-leb _ _ (c .if2 .left)) (promised refl, refl)
+    simp (sym (at-is-possible .is-possible .ensures) ∙ at-if1 .if1 .taken, c .before .before .rows .given .1, lt-leb _ _ (c .if2 .left))
+    (promised refl, refl)
 
 returns-3 : tie.Need-returns-3
 unfolding writable writeOf slipBuffer

@@ -25,28 +25,49 @@ value-requires c κs =
 returns : tie.Need-returns
 unfolding averageFrames
 returns c =
-    (rw (node-laws.lacked (c .enum-told .given .1) (c .before .before .find-vr-item .ensures .0)), tt)
+    (rw (node-laws.had-none (c .enum-told .given .1) (c .before .before .find-vr-item .ensures .0)), tt)
 
 returns-2 : tie.Need-returns-2
 unfolding averageFrames
 returns-2 c =
     let at-k = c .before .before .before .before in
-    let at-find-vr-item = at-k .before .before in
-    (rw (node-laws.had (at-k .k .given .1) (at-find-vr-item .find-vr-item .ensures .0), ← c .before .before .value .ensures, eq-eqb _ _ (c .before .if1 .taken), laws.values-some _ (c .if2 .taken)), node-laws.within _ (at-k .k .given .1) (at-find-vr-item .find-vr-item .ensures .1))
+    let at-find-vr-item = at-k .before .before in (
+      rw (
+        node-laws.had (at-k .k .given .1) (at-find-vr-item .find-vr-item .ensures .0),
+        ← c .before .before .value .ensures,
+        eq-eqb _ _ (c .before .if1 .taken),
+        laws.values-some _ (c .if2 .taken),
+      ),
+      node-laws.within _ (at-k .k .given .1) (at-find-vr-item .find-vr-item .ensures .1),
+    )
 
 returns-3 : tie.Need-returns-3
 unfolding averageFrames
 returns-3 c =
     let at-k = c .before .before .before .before in
-    let at-find-vr-item = at-k .before .before in
-    (rw (node-laws.had (at-k .k .given .1) (at-find-vr-item .find-vr-item .ensures .0), ← c .before .before .value .ensures, eq-eqb _ _ (c .before .if1 .taken), laws.values-none _ (c .if2 .left)), tt)
+    let at-find-vr-item = at-k .before .before in (
+      rw (
+        node-laws.had (at-k .k .given .1) (at-find-vr-item .find-vr-item .ensures .0),
+        ← c .before .before .value .ensures,
+        eq-eqb _ _ (c .before .if1 .taken),
+        laws.values-none _ (c .if2 .left),
+      ),
+      tt,
+    )
 
 returns-4 : tie.Need-returns-4
 unfolding averageFrames
 returns-4 c =
     let at-k = c .before .before .before in
-    let at-find-vr-item = at-k .before .before in
-    (rw (node-laws.had (at-k .k .given .1) (at-find-vr-item .find-vr-item .ensures .0), ← c .before .value .ensures, ne-eqb _ _ (c .if1 .left)), tt)
+    let at-find-vr-item = at-k .before .before in (
+      rw (
+        node-laws.had (at-k .k .given .1) (at-find-vr-item .find-vr-item .ensures .0),
+        ← c .before .value .ensures,
+        ne-eqb _ _ (c .if1 .left),
+      ),
+      tt,
+    )
 
 pub average-element-spec : {M : Type 1} → statement M
-average-element-spec = tie.close (tie.spec find-vr-item-requires enum-told enum-known-k value-requires returns returns-2 returns-3 returns-4)
+average-element-spec = tie.close
+    (tie.spec find-vr-item-requires enum-told enum-known-k value-requires returns returns-2 returns-3 returns-4)

@@ -25,19 +25,29 @@ frame-shift-requires c κs = search needs
 
 returns : tie.Need-returns
 returns c =
-    rw (node-laws.lacked (c .enum-told .given .1) (c .before .before .find-vr-item .ensures .0))
+    rw (node-laws.had-none (c .enum-told .given .1) (c .before .before .find-vr-item .ensures .0))
 
 returns-2 : tie.Need-returns-2
 returns-2 c =
     let at-x = c .before .before .before .before in
     let at-find-vr-item = at-x .before .before in
-    rw (node-laws.had (at-x .x .given .1) (at-find-vr-item .find-vr-item .ensures .0), ← c .before .before .value .ensures, eq-eqb _ _ (c .before .if1 .taken), ← c .frame-shift .ensures)
+    rw (
+      node-laws.had (at-x .x .given .1) (at-find-vr-item .find-vr-item .ensures .0),
+      ← c .before .before .value .ensures,
+      eq-eqb _ _ (c .before .if1 .taken),
+      ← c .frame-shift .ensures,
+    )
 
 returns-3 : tie.Need-returns-3
 returns-3 c =
     let at-x = c .before .before .before in
     let at-find-vr-item = at-x .before .before in
-    rw (node-laws.had (at-x .x .given .1) (at-find-vr-item .find-vr-item .ensures .0), ← c .before .value .ensures, ne-eqb _ _ (c .if1 .left))
+    rw (
+      node-laws.had (at-x .x .given .1) (at-find-vr-item .find-vr-item .ensures .0),
+      ← c .before .value .ensures,
+      ne-eqb _ _ (c .if1 .left),
+    )
 
 pub frame-shift-in-spec : {M : Type 1} → statement M
-frame-shift-in-spec = tie.close (tie.spec find-vr-item-requires enum-told enum-known-x value-requires frame-shift-requires returns returns-2 returns-3)
+frame-shift-in-spec = tie.close
+    (tie.spec find-vr-item-requires enum-told enum-known-x value-requires frame-shift-requires returns returns-2 returns-3)

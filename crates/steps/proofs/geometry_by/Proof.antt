@@ -5,8 +5,16 @@ use Rattle.steps.proofs.geometry_by.Statement.{statement}
 use Rattle.steps.proofs.geometry_by.Tie as tie
 
 returns : tie.Need-returns
-returns c =
-    (rw (le-leb _ _ (c .before .if1 .taken), eq-eqb _ _ (c .if2 .taken)), record { rows = c .before .before .pre .0; columns = c .before .before .pre .1 .0; some-bytes = omega arith; width = omega arith; stored = c .before .before .pre .1 .1 .1 })
+returns c = (
+  rw (le-leb _ _ (c .before .if1 .taken), eq-eqb _ _ (c .if2 .taken)),
+  record {
+    rows = c .before .before .pre .0;
+    columns = c .before .before .pre .1 .0;
+    some-bytes = omega arith;
+    width = omega arith;
+    stored = c .before .before .pre .1 .1 .1;
+  },
+)
 
 returns-2 : tie.Need-returns-2
 returns-2 c =

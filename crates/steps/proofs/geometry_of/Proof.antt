@@ -17,7 +17,7 @@ enum-told c = search needs
 returns : tie.Need-returns
 unfolding geometryOf
 returns c =
-    (rw (node-laws.lacked (c .enum-told .given .1) (c .before .before .us-root .ensures .0)), tt)
+    (rw (node-laws.had-none (c .enum-told .given .1) (c .before .before .us-root .ensures .0)), tt)
 
 us-root-requires-2 : tie.Need-us-root-requires-2
 us-root-requires-2 c κs = search needs
@@ -32,8 +32,13 @@ returns-2 : tie.Need-returns-2
 unfolding geometryOf
 returns-2 c =
     let at-r = c .before .before .before .before in
-    let at-us-root = at-r .before .before in
-    (rw (node-laws.had (at-r .r .given .1) (at-us-root .us-root .ensures .0), node-laws.lacked (c .enum-told2 .given .1) (c .before .before .us-root2 .ensures .0)), tt)
+    let at-us-root = at-r .before .before in (
+      rw (
+        node-laws.had (at-r .r .given .1) (at-us-root .us-root .ensures .0),
+        node-laws.had-none (c .enum-told2 .given .1) (c .before .before .us-root2 .ensures .0),
+      ),
+      tt,
+    )
 
 us-root-requires-3 : tie.Need-us-root-requires-3
 us-root-requires-3 c κs = search needs
@@ -50,8 +55,14 @@ returns-3 c =
     let at-c = c .before .before .before .before in
     let at-us-root2 = at-c .before .before in
     let at-r = at-us-root2 .before .before in
-    let at-us-root = at-r .before .before in
-    (rw (node-laws.had (at-r .r .given .1) (at-us-root .us-root .ensures .0), node-laws.had (at-c .c .given .1) (at-us-root2 .us-root2 .ensures .0), node-laws.lacked (c .enum-told3 .given .1) (c .before .before .us-root3 .ensures .0)), tt)
+    let at-us-root = at-r .before .before in (
+      rw (
+        node-laws.had (at-r .r .given .1) (at-us-root .us-root .ensures .0),
+        node-laws.had (at-c .c .given .1) (at-us-root2 .us-root2 .ensures .0),
+        node-laws.had-none (c .enum-told3 .given .1) (c .before .before .us-root3 .ensures .0),
+      ),
+      tt,
+    )
 
 us-root-requires-4 : tie.Need-us-root-requires-4
 us-root-requires-4 c κs = search needs
@@ -70,8 +81,15 @@ returns-4 c =
     let at-c = at-us-root3 .before .before in
     let at-us-root2 = at-c .before .before in
     let at-r = at-us-root2 .before .before in
-    let at-us-root = at-r .before .before in
-    (rw (node-laws.had (at-r .r .given .1) (at-us-root .us-root .ensures .0), node-laws.had (at-c .c .given .1) (at-us-root2 .us-root2 .ensures .0), node-laws.had (at-a .a .given .1) (at-us-root3 .us-root3 .ensures .0), node-laws.lacked (c .enum-told4 .given .1) (c .before .before .us-root4 .ensures .0)), tt)
+    let at-us-root = at-r .before .before in (
+      rw (
+        node-laws.had (at-r .r .given .1) (at-us-root .us-root .ensures .0),
+        node-laws.had (at-c .c .given .1) (at-us-root2 .us-root2 .ensures .0),
+        node-laws.had (at-a .a .given .1) (at-us-root3 .us-root3 .ensures .0),
+        node-laws.had-none (c .enum-told4 .given .1) (c .before .before .us-root4 .ensures .0),
+      ),
+      tt,
+    )
 
 geometry-by-requires : tie.Need-geometry-by-requires
 geometry-by-requires c κs =
@@ -81,8 +99,16 @@ geometry-by-requires c κs =
     let at-c = at-us-root3 .before .before in
     let at-us-root2 = at-c .before .before in
     let at-r = at-us-root2 .before .before in
-    let at-us-root = at-r .before .before in
-    (node-laws.within _ (at-r .r .given .1) (at-us-root .us-root .ensures .1), (node-laws.within _ (at-c .c .given .1) (at-us-root2 .us-root2 .ensures .1), (node-laws.within _ (at-a .a .given .1) (at-us-root3 .us-root3 .ensures .1), node-laws.within _ (c .before .b .given .1) (at-us-root4 .us-root4 .ensures .1))))
+    let at-us-root = at-r .before .before in (
+      node-laws.within _ (at-r .r .given .1) (at-us-root .us-root .ensures .1),
+      (
+        node-laws.within _ (at-c .c .given .1) (at-us-root2 .us-root2 .ensures .1),
+        (
+          node-laws.within _ (at-a .a .given .1) (at-us-root3 .us-root3 .ensures .1),
+          node-laws.within _ (c .before .b .given .1) (at-us-root4 .us-root4 .ensures .1),
+        ),
+      ),
+    )
 
 returns-5 : tie.Need-returns-5
 unfolding geometryOf
@@ -93,8 +119,17 @@ returns-5 c =
     let at-c = at-us-root3 .before .before in
     let at-us-root2 = at-c .before .before in
     let at-r = at-us-root2 .before .before in
-    let at-us-root = at-r .before .before in
-    (rw (node-laws.had (at-r .r .given .1) (at-us-root .us-root .ensures .0), node-laws.had (at-c .c .given .1) (at-us-root2 .us-root2 .ensures .0), node-laws.had (at-a .a .given .1) (at-us-root3 .us-root3 .ensures .0), node-laws.had (c .before .before .b .given .1) (at-us-root4 .us-root4 .ensures .0)) (c .geometry-by .ensures .0), c .geometry-by .ensures .1)
+    let at-us-root = at-r .before .before in (
+      rw (
+        node-laws.had (at-r .r .given .1) (at-us-root .us-root .ensures .0),
+        node-laws.had (at-c .c .given .1) (at-us-root2 .us-root2 .ensures .0),
+        node-laws.had (at-a .a .given .1) (at-us-root3 .us-root3 .ensures .0),
+        node-laws.had (c .before .before .b .given .1) (at-us-root4 .us-root4 .ensures .0),
+      ) (c .geometry-by .ensures .0),
+      c .geometry-by .ensures .1,
+    )
 
 pub geometry-of-spec : {M : Type 1} → statement M
-geometry-of-spec = tie.close (tie.spec us-root-requires enum-known-r enum-told returns us-root-requires-2 enum-known-c enum-told-2 returns-2 us-root-requires-3 enum-known-a enum-told-3 returns-3 us-root-requires-4 enum-known-b enum-told-4 returns-4 geometry-by-requires returns-5)
+geometry-of-spec = tie.close (tie.spec us-root-requires enum-known-r enum-told returns us-root-requires-2 enum-known-c enum-told-2 returns-2
+    us-root-requires-3 enum-known-a enum-told-3 returns-3 us-root-requires-4 enum-known-b enum-told-4 returns-4 geometry-by-requires
+    returns-5)

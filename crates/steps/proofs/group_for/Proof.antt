@@ -29,23 +29,34 @@ returns : tie.Need-returns
 unfolding groupFor
 returns c =
     let entry = c .before .before .before .before in
-    (rw (node-laws.lacked (c .enum-told .given .1) (entry .pre .1 .0)), tt)
+    (rw (node-laws.had-none (c .enum-told .given .1) (entry .pre .1 .0)), tt)
 
 returns-2 : tie.Need-returns-2
 unfolding groupFor
 returns-2 c =
     let at-find-item = c .before .before .before in
     let at-item = at-find-item .before .before in
-    let entry = at-item .before .before .before .before in
-    (rw (node-laws.had (at-item .item .given .1) (entry .pre .1 .0), node-laws.lacked (c .before .enum-told2 .given .1) (at-find-item .find-item .ensures .0)) (c .shared-group .ensures .0), c .shared-group .ensures .1)
+    let entry = at-item .before .before .before .before in (
+      rw (
+        node-laws.had (at-item .item .given .1) (entry .pre .1 .0),
+        node-laws.had-none (c .before .enum-told2 .given .1) (at-find-item .find-item .ensures .0),
+      ) (c .shared-group .ensures .0),
+      c .shared-group .ensures .1,
+    )
 
 returns-3 : tie.Need-returns-3
 unfolding groupFor
 returns-3 c =
     let at-find-item = c .before .before .before in
     let at-item = at-find-item .before .before in
-    let entry = at-item .before .before .before .before in
-    (rw (node-laws.had (at-item .item .given .1) (entry .pre .1 .0), node-laws.had (c .before .g .given .1) (at-find-item .find-item .ensures .0)), node-laws.within _ (c .before .g .given .1) (at-find-item .find-item .ensures .1))
+    let entry = at-item .before .before .before .before in (
+      rw (
+        node-laws.had (at-item .item .given .1) (entry .pre .1 .0),
+        node-laws.had (c .before .g .given .1) (at-find-item .find-item .ensures .0),
+      ),
+      node-laws.within _ (c .before .g .given .1) (at-find-item .find-item .ensures .1),
+    )
 
 pub group-for-spec : {M : Type 1} → statement M
-group-for-spec = tie.close (tie.spec enum-told enum-known-item find-item-requires enum-told-2 shared-group-requires enum-known-g returns returns-2 returns-3)
+group-for-spec = tie.close
+    (tie.spec enum-told enum-known-item find-item-requires enum-told-2 shared-group-requires enum-known-g returns returns-2 returns-3)

@@ -43,7 +43,8 @@ returns : tie.Need-returns Inv-loop μ-loop
 returns c =
     let at-us-value = c .before .before .before in
     let at-loop = at-us-value .before .before in
-    sym (laws.pairs-here _ _ _ _ _ (at-us-value .us-value .ensures .0) (c .before .before .us-value2 .ensures .0) (omega arith) (sym (c .before .in-pair .ensures) ∙ c .if1 .taken)) ∙ at-loop .loop .inv .1
+    sym (laws.pairs-here _ _ _ _ _ (at-us-value .us-value .ensures .0) (c .before .before .us-value2 .ensures .0) (omega arith)
+    (sym (c .before .in-pair .ensures) ∙ c .if1 .taken)) ∙ at-loop .loop .inv .1
 
 add-k : tie.Need-add-k Inv-loop μ-loop
 add-k c = search needs
@@ -54,8 +55,11 @@ loop-less c = search needs
 loop-again : tie.Need-loop-again Inv-loop μ-loop
 loop-again c =
     let at-us-value = c .before .before .before in
-    let at-loop = at-us-value .before .before in
-    ((search needs, search needs), sym (laws.pairs-next _ _ _ _ _ (at-us-value .us-value .ensures .0) (c .before .before .us-value2 .ensures .0) (omega arith) (sym (c .before .in-pair .ensures) ∙ c .if1 .left)) ∙ at-loop .loop .inv .1)
+    let at-loop = at-us-value .before .before in (
+      (search needs, search needs),
+      sym (laws.pairs-next _ _ _ _ _ (at-us-value .us-value .ensures .0) (c .before .before .us-value2 .ensures .0) (omega arith)
+          (sym (c .before .in-pair .ensures) ∙ c .if1 .left)) ∙ at-loop .loop .inv .1,
+    )
 
 returns-2 : tie.Need-returns-2 Inv-loop μ-loop
 returns-2 c =
@@ -63,4 +67,5 @@ returns-2 c =
     sym (laws.pairs-end (entry .args .frame) (entry .args .v .now) (c .before .loop .k) (omega arith)) ∙ c .before .loop .inv .1
 
 pub in-pairs-spec : {M : Type 1} → statement M
-in-pairs-spec = tie.close (tie.spec Inv-loop μ-loop loop-holds mul-us-value us-value-requires mul-us-value-2 add-us-value us-value-requires-2 in-pair-requires returns add-k loop-less loop-again returns-2)
+in-pairs-spec = tie.close (tie.spec Inv-loop μ-loop loop-holds mul-us-value us-value-requires mul-us-value-2 add-us-value
+    us-value-requires-2 in-pair-requires returns add-k loop-less loop-again returns-2)

@@ -19,14 +19,22 @@ returns c =
     let at-if2 = c .before .before .before in
     let at-is-single = at-if2 .before in
     let at-if1 = at-is-single .before in
-    rw (le-leb _ _ (at-if1 .if1 .taken), sym (at-is-single .is-single .ensures) ∙ at-if2 .if2 .taken, sym (c .before .is-word .ensures) ∙ c .if3 .taken)
+    rw (
+      le-leb _ _ (at-if1 .if1 .taken),
+      sym (at-is-single .is-single .ensures) ∙ at-if2 .if2 .taken,
+      sym (c .before .is-word .ensures) ∙ c .if3 .taken,
+    )
 
 returns-2 : tie.Need-returns-2
 returns-2 c =
     let at-if2 = c .before .before .before in
     let at-is-single = at-if2 .before in
     let at-if1 = at-is-single .before in
-    rw (le-leb _ _ (at-if1 .if1 .taken), sym (at-is-single .is-single .ensures) ∙ at-if2 .if2 .taken, sym (c .before .is-word .ensures) ∙ c .if3 .left)
+    rw (
+      le-leb _ _ (at-if1 .if1 .taken),
+      sym (at-is-single .is-single .ensures) ∙ at-if2 .if2 .taken,
+      sym (c .before .is-word .ensures) ∙ c .if3 .left,
+    )
 
 returns-3 : tie.Need-returns-3
 returns-3 c =

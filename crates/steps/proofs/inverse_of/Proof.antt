@@ -26,7 +26,7 @@ inverse-by-requires c κs = search needs
 returns : tie.Need-returns
 unfolding inverseOf
 returns c =
-    rw (node-laws.lacked (c .enum-told .given .1) (c .before .before .find-vr-root .ensures .0))
+    rw (node-laws.had-none (c .enum-told .given .1) (c .before .before .find-vr-root .ensures .0))
 
 returns-2 : tie.Need-returns-2
 unfolding inverseOf

@@ -17,7 +17,13 @@ returns : tie.Need-returns
 returns c =
     let at-if1 = c .before .before .before in
     let at-vr = at-if1 .before in
-    rw (← at-vr .vr .ensures, eq-eqb _ _ (at-if1 .if1 .taken), ← c .before .before .value .ensures, eq-eqb _ _ (c .before .if2 .taken), ← c .item-shift .ensures)
+    rw (
+      ← at-vr .vr .ensures,
+      eq-eqb _ _ (at-if1 .if1 .taken),
+      ← c .before .before .value .ensures,
+      eq-eqb _ _ (c .before .if2 .taken),
+      ← c .item-shift .ensures,
+    )
 
 returns-2 : tie.Need-returns-2
 returns-2 c =

@@ -21,8 +21,11 @@ returns : tie.Need-returns
 returns c =
     let entry = c .before .before .before .before in
     let a = entry .args in
-    let ns = nodesOf (a .bytes .now) in
-    (laws.found-given ns (a .frame) (entry .pre .1) (c .first-holding .result) (c .first-holding .ensures .0 ∙ ap (λ (l : List ℕ). firstHolding ns (a .frame) l) (c .before .mask-items .ensures .ahead)), c .first-holding .ensures .1)
+    let ns = nodesOf (a .bytes .now) in (
+      laws.found-given ns (a .frame) (entry .pre .1) (c .first-holding .result)
+          (c .first-holding .ensures .0 ∙ ap (λ (l : List ℕ). firstHolding ns (a .frame) l) (c .before .mask-items .ensures .ahead)),
+      c .first-holding .ensures .1,
+    )
 
 pub mask-item-spec : {M : Type 1} → statement M
 mask-item-spec = tie.close (tie.spec mask-items-requires first-holding-requires returns)

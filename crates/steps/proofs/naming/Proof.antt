@@ -33,8 +33,11 @@ enum-told c = search needs
 returns : tie.Need-returns Inv-loop μ-loop
 returns c =
     let at-loop-test = c .before .before .before in
-    let at-loop = at-loop-test .before in
-    (sym (laws.naming-lacks _ _ _ _ (at-loop-test .loop-test .taken) (node-laws.lacked (c .enum-told .given .1) (c .before .before .us-item .ensures .0))) ∙ at-loop .loop .inv, tt)
+    let at-loop = at-loop-test .before in (
+      sym (laws.naming-lacks _ _ _ _ (at-loop-test .loop-test .taken)
+          (node-laws.had-none (c .enum-told .given .1) (c .before .before .us-item .ensures .0))) ∙ at-loop .loop .inv,
+      tt,
+    )
 
 enum-known-x : tie.Need-enum-known-x Inv-loop μ-loop
 enum-known-x c = search needs
@@ -44,8 +47,11 @@ returns-2 c =
     let at-us-item = c .before .before .before .before in
     let at-loop-test = at-us-item .before in
     let at-loop = at-loop-test .before in
-    let entry = at-loop .before .before .before in
-    (sym (laws.naming-here _ _ _ _ _ (at-loop-test .loop-test .taken) (node-laws.had (c .before .before .x .given .1) (at-us-item .us-item .ensures .0)) (c .if1 .taken)) ∙ at-loop .loop .inv, omega (arith, at-loop-test .loop-test .taken, entry .pre .1))
+    let entry = at-loop .before .before .before in (
+      sym (laws.naming-here _ _ _ _ _ (at-loop-test .loop-test .taken)
+          (node-laws.had (c .before .before .x .given .1) (at-us-item .us-item .ensures .0)) (c .if1 .taken)) ∙ at-loop .loop .inv,
+      omega (arith, at-loop-test .loop-test .taken, entry .pre .1),
+    )
 
 next-requires : tie.Need-next-requires Inv-loop μ-loop
 next-requires c κs =
@@ -62,11 +68,14 @@ loop-again c =
     let at-us-item = at-x .before .before in
     let at-loop-test = at-us-item .before in
     let at-loop = at-loop-test .before in
-    sym (laws.naming-next _ _ _ _ _ (at-loop-test .loop-test .taken) (node-laws.had (at-x .x .given .1) (at-us-item .us-item .ensures .0)) _ (c .next .ensures .0) (c .before .if1 .left)) ∙ at-loop .loop .inv
+    sym (laws.naming-next _ _ _ _ _ (at-loop-test .loop-test .taken)
+    (node-laws.had (at-x .x .given .1) (at-us-item .us-item .ensures .0)) _ (c .next .ensures .0) (c .before .if1 .left))
+    ∙ at-loop .loop .inv
 
 returns-3 : tie.Need-returns-3 Inv-loop μ-loop
 returns-3 c =
     (sym (laws.naming-end _ _ _ _ (c .loop-test .left)) ∙ c .before .loop .inv, tt)
 
 pub naming-spec : {M : Type 1} → statement M
-naming-spec = tie.close (tie.spec Inv-loop μ-loop loop-holds us-item-requires enum-told returns enum-known-x returns-2 next-requires loop-less loop-again returns-3)
+naming-spec = tie.close (tie.spec Inv-loop μ-loop loop-holds us-item-requires enum-told returns enum-known-x returns-2 next-requires
+    loop-less loop-again returns-3)

@@ -32,22 +32,32 @@ returns : tie.Need-returns
 unfolding groupFor
 returns c =
     let entry = c .before .before .before .before in
-    (rw (node-laws.lacked (c .enum-told .given .1) (entry .pre .1 .1 .0)), tt)
+    (rw (node-laws.had-none (c .enum-told .given .1) (entry .pre .1 .1 .0)), tt)
 
 returns-2 : tie.Need-returns-2
 unfolding groupFor
 returns-2 c =
     let at-item = c .before .before .before .before in
-    let entry = at-item .before .before .before .before in
-    (rw (node-laws.had (at-item .item .given .1) (entry .pre .1 .1 .0), node-laws.lacked (c .enum-told2 .given .1) (c .before .before .find-item .ensures .0)) (entry .pre .1 .1 .1 .1 .is), entry .pre .1 .1 .1 .1 .below)
+    let entry = at-item .before .before .before .before in (
+      rw (
+        node-laws.had (at-item .item .given .1) (entry .pre .1 .1 .0),
+        node-laws.had-none (c .enum-told2 .given .1) (c .before .before .find-item .ensures .0),
+      ) (entry .pre .1 .1 .1 .1 .is),
+      entry .pre .1 .1 .1 .1 .below,
+    )
 
 returns-3 : tie.Need-returns-3
 unfolding groupFor
 returns-3 c =
     let at-find-item = c .before .before .before .before in
     let at-item = at-find-item .before .before in
-    let entry = at-item .before .before .before .before in
-    (rw (node-laws.had (at-item .item .given .1) (entry .pre .1 .1 .0), node-laws.had (c .before .before .g .given .1) (at-find-item .find-item .ensures .0)) (c .own-in .ensures .0), c .own-in .ensures .1)
+    let entry = at-item .before .before .before .before in (
+      rw (
+        node-laws.had (at-item .item .given .1) (entry .pre .1 .1 .0),
+        node-laws.had (c .before .before .g .given .1) (at-find-item .find-item .ensures .0),
+      ) (c .own-in .ensures .0),
+      c .own-in .ensures .1,
+    )
 
 pub naming-for-spec : {M : Type 1} → statement M
 naming-for-spec =

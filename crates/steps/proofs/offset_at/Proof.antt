@@ -16,8 +16,11 @@ ss-of-requires c κs = search needs
 
 returns : tie.Need-returns
 returns c =
-    let at-vr = c .before .before .before in
-    (rw (← at-vr .vr .ensures, eq-eqb _ _ (c .before .before .if1 .taken), ← c .before .value .ensures) (laws.signed-said (c .ss-of .ensures .0)), c .ss-of .ensures .1)
+    let at-vr = c .before .before .before in (
+      rw (← at-vr .vr .ensures, eq-eqb _ _ (c .before .before .if1 .taken), ← c .before .value .ensures)
+          (laws.signed-said (c .ss-of .ensures .0)),
+      c .ss-of .ensures .1,
+    )
 
 returns-2 : tie.Need-returns-2
 returns-2 c =

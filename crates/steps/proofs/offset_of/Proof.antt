@@ -24,13 +24,15 @@ offset-at-requires c κs =
 returns : tie.Need-returns
 unfolding offsetOf
 returns c =
-    (rw (node-laws.lacked (c .enum-told .given .1) (c .before .before .find-item .ensures .0)), omega arith)
+    (rw (node-laws.had-none (c .enum-told .given .1) (c .before .before .find-item .ensures .0)), omega arith)
 
 returns-2 : tie.Need-returns-2
 unfolding offsetOf
 returns-2 c =
-    let at-find-item = c .before .before .before .before in
-    (rw (node-laws.had (c .before .before .k .given .1) (at-find-item .find-item .ensures .0)) (c .offset-at .ensures .0), c .offset-at .ensures .1)
+    let at-find-item = c .before .before .before .before in (
+      rw (node-laws.had (c .before .before .k .given .1) (at-find-item .find-item .ensures .0)) (c .offset-at .ensures .0),
+      c .offset-at .ensures .1,
+    )
 
 pub offset-of-spec : {M : Type 1} → statement M
 offset-of-spec = tie.close (tie.spec find-item-requires enum-told enum-known-k offset-at-requires returns returns-2)

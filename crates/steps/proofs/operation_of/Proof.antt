@@ -42,7 +42,14 @@ returns-3 c =
     let at-is-cs-item2 = at-if2 .before in
     let at-if1 = at-is-cs-item2 .before .before in
     let at-is-cs-item = at-if1 .before in
-    rw (← at-is-cs-item .is-cs-item .ensures, at-if1 .if1 .left, ← at-is-cs-item2 .is-cs-item2 .ensures, at-if2 .if2 .left, ← c .before .is-cs-item3 .ensures, c .if3 .taken)
+    rw (
+      ← at-is-cs-item .is-cs-item .ensures,
+      at-if1 .if1 .left,
+      ← at-is-cs-item2 .is-cs-item2 .ensures,
+      at-if2 .if2 .left,
+      ← c .before .is-cs-item3 .ensures,
+      c .if3 .taken,
+    )
 
 returns-4 : tie.Need-returns-4
 unfolding operationOf operationIs
@@ -51,7 +58,14 @@ returns-4 c =
     let at-is-cs-item2 = at-if2 .before in
     let at-if1 = at-is-cs-item2 .before .before in
     let at-is-cs-item = at-if1 .before in
-    rw (← at-is-cs-item .is-cs-item .ensures, at-if1 .if1 .left, ← at-is-cs-item2 .is-cs-item2 .ensures, at-if2 .if2 .left, ← c .before .is-cs-item3 .ensures, c .if3 .left)
+    rw (
+      ← at-is-cs-item .is-cs-item .ensures,
+      at-if1 .if1 .left,
+      ← at-is-cs-item2 .is-cs-item2 .ensures,
+      at-if2 .if2 .left,
+      ← c .before .is-cs-item3 .ensures,
+      c .if3 .left,
+    )
 
 pub operation-of-spec : {M : Type 1} → statement M
 operation-of-spec =

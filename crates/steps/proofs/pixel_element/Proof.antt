@@ -24,28 +24,44 @@ vr-requires c κs =
 returns : tie.Need-returns
 unfolding pixelsOf
 returns c =
-    (rw (node-laws.lacked (c .enum-told .given .1) (c .before .before .find-root .ensures .0)), tt)
+    (rw (node-laws.had-none (c .enum-told .given .1) (c .before .before .find-root .ensures .0)), tt)
 
 returns-2 : tie.Need-returns-2
 unfolding pixelsOf
 returns-2 c =
     let at-p = c .before .before .before in
-    let at-find-root = at-p .before .before in
-    (rw (node-laws.had (at-p .p .given .1) (at-find-root .find-root .ensures .0), ← c .before .vr .ensures, eq-eqb _ _ (c .if1 .taken)), node-laws.within _ (at-p .p .given .1) (at-find-root .find-root .ensures .1))
+    let at-find-root = at-p .before .before in (
+      rw (node-laws.had (at-p .p .given .1) (at-find-root .find-root .ensures .0), ← c .before .vr .ensures, eq-eqb _ _ (c .if1 .taken)),
+      node-laws.within _ (at-p .p .given .1) (at-find-root .find-root .ensures .1),
+    )
 
 returns-3 : tie.Need-returns-3
 unfolding pixelsOf
 returns-3 c =
     let at-p = c .before .before .before .before in
-    let at-find-root = at-p .before .before in
-    (rw (node-laws.had (at-p .p .given .1) (at-find-root .find-root .ensures .0), ← c .before .before .vr .ensures, ne-eqb _ _ (c .before .if1 .left), eq-eqb _ _ (c .if2 .taken)), node-laws.within _ (at-p .p .given .1) (at-find-root .find-root .ensures .1))
+    let at-find-root = at-p .before .before in (
+      rw (
+        node-laws.had (at-p .p .given .1) (at-find-root .find-root .ensures .0),
+        ← c .before .before .vr .ensures,
+        ne-eqb _ _ (c .before .if1 .left),
+        eq-eqb _ _ (c .if2 .taken),
+      ),
+      node-laws.within _ (at-p .p .given .1) (at-find-root .find-root .ensures .1),
+    )
 
 returns-4 : tie.Need-returns-4
 unfolding pixelsOf
 returns-4 c =
     let at-p = c .before .before .before .before in
-    let at-find-root = at-p .before .before in
-    (rw (node-laws.had (at-p .p .given .1) (at-find-root .find-root .ensures .0), ← c .before .before .vr .ensures, ne-eqb _ _ (c .before .if1 .left), ne-eqb _ _ (c .if2 .left)), tt)
+    let at-find-root = at-p .before .before in (
+      rw (
+        node-laws.had (at-p .p .given .1) (at-find-root .find-root .ensures .0),
+        ← c .before .before .vr .ensures,
+        ne-eqb _ _ (c .before .if1 .left),
+        ne-eqb _ _ (c .if2 .left),
+      ),
+      tt,
+    )
 
 pub pixel-element-spec : {M : Type 1} → statement M
 pixel-element-spec = tie.close (tie.spec find-root-requires enum-told enum-known-p vr-requires returns returns-2 returns-3 returns-4)

@@ -16,19 +16,32 @@ in-pairs-requires : tie.Need-in-pairs-requires
 in-pairs-requires c κs =
     let entry = c .before .before .before .before .before in
     let a = entry .args in
-    rw (c .value .ensures) (laws.pairs-whole (nodesOf (a .bytes .now)) (a .i) (sym (c .before .before .has-pairs .ensures) ∙ c .before .if1 .taken))
+    rw (c .value .ensures)
+    (laws.pairs-whole (nodesOf (a .bytes .now)) (a .i) (sym (c .before .before .has-pairs .ensures) ∙ c .before .if1 .taken))
 
 returns : tie.Need-returns
 returns c =
     let at-if1 = c .before .before .before in
     let at-has-pairs = at-if1 .before in
-    rw (← at-has-pairs .has-pairs .ensures, at-if1 .if1 .taken, ← c .before .before .value .ensures, ← c .before .in-pairs .ensures, c .if2 .taken)
+    rw (
+      ← at-has-pairs .has-pairs .ensures,
+      at-if1 .if1 .taken,
+      ← c .before .before .value .ensures,
+      ← c .before .in-pairs .ensures,
+      c .if2 .taken,
+    )
 
 returns-2 : tie.Need-returns-2
 returns-2 c =
     let at-if1 = c .before .before .before in
     let at-has-pairs = at-if1 .before in
-    rw (← at-has-pairs .has-pairs .ensures, at-if1 .if1 .taken, ← c .before .before .value .ensures, ← c .before .in-pairs .ensures, c .if2 .left)
+    rw (
+      ← at-has-pairs .has-pairs .ensures,
+      at-if1 .if1 .taken,
+      ← c .before .before .value .ensures,
+      ← c .before .in-pairs .ensures,
+      c .if2 .left,
+    )
 
 returns-3 : tie.Need-returns-3
 returns-3 c =

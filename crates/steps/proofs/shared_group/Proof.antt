@@ -27,20 +27,31 @@ enum-known-g c = search needs
 
 returns : tie.Need-returns
 returns c =
-    (rw (node-laws.lacked (c .enum-told .given .1) (c .before .before .shared-item .ensures .0)), tt)
+    (rw (node-laws.had-none (c .enum-told .given .1) (c .before .before .shared-item .ensures .0)), tt)
 
 returns-2 : tie.Need-returns-2
 returns-2 c =
     let at-s = c .before .before .before .before in
-    let at-shared-item = at-s .before .before in
-    (rw (node-laws.had (at-s .s .given .1) (at-shared-item .shared-item .ensures .0), node-laws.lacked (c .enum-told2 .given .1) (c .before .before .find-item .ensures .0)), tt)
+    let at-shared-item = at-s .before .before in (
+      rw (
+        node-laws.had (at-s .s .given .1) (at-shared-item .shared-item .ensures .0),
+        node-laws.had-none (c .enum-told2 .given .1) (c .before .before .find-item .ensures .0),
+      ),
+      tt,
+    )
 
 returns-3 : tie.Need-returns-3
 returns-3 c =
     let at-find-item = c .before .before .before in
     let at-s = at-find-item .before .before in
-    let at-shared-item = at-s .before .before in
-    (rw (node-laws.had (at-s .s .given .1) (at-shared-item .shared-item .ensures .0), node-laws.had (c .before .g .given .1) (at-find-item .find-item .ensures .0)), node-laws.within _ (c .before .g .given .1) (at-find-item .find-item .ensures .1))
+    let at-shared-item = at-s .before .before in (
+      rw (
+        node-laws.had (at-s .s .given .1) (at-shared-item .shared-item .ensures .0),
+        node-laws.had (c .before .g .given .1) (at-find-item .find-item .ensures .0),
+      ),
+      node-laws.within _ (c .before .g .given .1) (at-find-item .find-item .ensures .1),
+    )
 
 pub shared-group-spec : {M : Type 1} → statement M
-shared-group-spec = tie.close (tie.spec shared-item-requires enum-told enum-known-s find-item-requires enum-told-2 enum-known-g returns returns-2 returns-3)
+shared-group-spec = tie.close
+    (tie.spec shared-item-requires enum-told enum-known-s find-item-requires enum-told-2 enum-known-g returns returns-2 returns-3)

@@ -17,8 +17,11 @@ own-requires c κs = search needs
 
 returns : tie.Need-returns
 returns c =
-    let entry = c .before .before .before .before in
-    (c .own .ensures .0 ∙ ap (λ (o : Option Num). then o (ownIn (nodesOf (entry .args .bytes .now)) (entry .args .j))) (c .before .shared-group .ensures .0), c .own .ensures .1)
+    let entry = c .before .before .before .before in (
+      c .own .ensures .0 ∙ ap (λ (o : Option Num). then o (ownIn (nodesOf (entry .args .bytes .now)) (entry .args .j)))
+          (c .before .shared-group .ensures .0),
+      c .own .ensures .1,
+    )
 
 pub shared-naming-spec : {M : Type 1} → statement M
 shared-naming-spec = tie.close (tie.spec shared-group-requires own-requires returns)

@@ -43,4 +43,5 @@ returns-3 c =
     rw (laws.said foundOf (c .enum-told2 .given .1) (c .before .before .shared-group .ensures .0))
 
 pub shared-window-spec : {M : Type 1} → statement M
-shared-window-spec = tie.close (tie.spec shared-group-requires enum-known-g window-at-requires enum-told full-window-requires enum-told-2 returns returns-2 returns-3)
+shared-window-spec = tie.close
+    (tie.spec shared-group-requires enum-known-g window-at-requires enum-told full-window-requires enum-told-2 returns returns-2 returns-3)

@@ -8,8 +8,13 @@ shared-naming-requires c κs = search needs
 
 shift-by-requires : tie.Need-shift-by-requires
 shift-by-requires c κs =
-    let entry = c .before .before .before in
-    (entry .pre .0, (entry .pre .1 .0, (entry .pre .1 .1 .0, (entry .pre .1 .1 .1, record { is = c .shared-naming .ensures .0; below = c .shared-naming .ensures .1 }))))
+    let entry = c .before .before .before in (
+      entry .pre .0,
+      (
+        entry .pre .1 .0,
+        (entry .pre .1 .1 .0, (entry .pre .1 .1 .1, record { is = c .shared-naming .ensures .0; below = c .shared-naming .ensures .1 })),
+      ),
+    )
 
 returns : tie.Need-returns
 returns c =

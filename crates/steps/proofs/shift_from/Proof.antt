@@ -33,4 +33,5 @@ returns-3 : tie.Need-returns-3
 returns-3 c = search needs
 
 pub shift-from-spec : {M : Type 1} → statement M
-shift-from-spec = tie.close (tie.spec enum-known-named frame-shift-in-requires enum-told item-shift-in-requires enum-told-2 returns returns-2 returns-3)
+shift-from-spec = tie.close
+    (tie.spec enum-known-named frame-shift-in-requires enum-told item-shift-in-requires enum-told-2 returns returns-2 returns-3)

@@ -40,14 +40,16 @@ returns c =
     let at-d = c .before .before .before in
     let at-offset-of = at-d .before .before in
     let entry = at-offset-of .before .before .before in
-    rw (laws.said signedOf (at-d .d .given .1) (at-offset-of .offset-of .ensures .0), ← c .before .less .ensures, ← entry .pre .1 .1 .1) (c .among-frames .ensures)
+    rw (laws.said signedOf (at-d .d .given .1) (at-offset-of .offset-of .ensures .0), ← c .before .less .ensures, ← entry .pre .1 .1 .1)
+    (c .among-frames .ensures)
 
 returns-2 : tie.Need-returns-2
 unfolding tidFrame
 returns-2 c =
     let at-offset-of = c .before .before .before .before in
     let entry = at-offset-of .before .before .before in
-    rw (laws.said signedOf (c .before .before .d2 .given .1) (at-offset-of .offset-of .ensures .0), ← entry .pre .1 .1 .1) (c .among-frames2 .ensures)
+    rw (laws.said signedOf (c .before .before .d2 .given .1) (at-offset-of .offset-of .ensures .0), ← entry .pre .1 .1 .1)
+    (c .among-frames2 .ensures)
 
 returns-3 : tie.Need-returns-3
 unfolding tidFrame
@@ -55,4 +57,5 @@ returns-3 c =
     rw (laws.said signedOf (c .enum-told .given .1) (c .before .before .offset-of .ensures .0))
 
 pub tid-frame-spec : {M : Type 1} → statement M
-tid-frame-spec = tie.close (tie.spec offset-of-requires enum-known-d less-requires among-frames-requires enum-known-d-2 add-among-frames among-frames-requires-2 enum-told returns returns-2 returns-3)
+tid-frame-spec = tie.close (tie.spec offset-of-requires enum-known-d less-requires among-frames-requires enum-known-d-2 add-among-frames
+    among-frames-requires-2 enum-told returns returns-2 returns-3)

@@ -11,7 +11,10 @@ shared-naming-requires c κs = search needs
 
 returns : tie.Need-returns
 returns c =
-    record { operation-is = c .before .operation-of .ensures; names = record { is = c .shared-naming .ensures .0; below = c .shared-naming .ensures .1 } }
+    record {
+      operation-is = c .before .operation-of .ensures;
+      names = record { is = c .shared-naming .ensures .0; below = c .shared-naming .ensures .1 };
+    }
 
 pub told-by-spec : {M : Type 1} → statement M
 told-by-spec = tie.close (tie.spec operation-of-requires shared-naming-requires returns)

@@ -32,14 +32,17 @@ returns : tie.Need-returns
 unfolding windowFor groupFor
 returns c =
     let entry = c .before .before .before .before in
-    rw (node-laws.lacked (c .enum-told .given .1) (entry .pre .1 .0))
+    rw (node-laws.had-none (c .enum-told .given .1) (entry .pre .1 .0))
 
 returns-2 : tie.Need-returns-2
 unfolding windowFor groupFor
 returns-2 c =
     let at-item = c .before .before .before .before in
     let entry = at-item .before .before .before .before in
-    rw (node-laws.had (at-item .item .given .1) (entry .pre .1 .0), node-laws.lacked (c .enum-told2 .given .1) (c .before .before .find-item .ensures .0)) (entry .pre .1 .1 .1)
+    rw (
+      node-laws.had (at-item .item .given .1) (entry .pre .1 .0),
+      node-laws.had-none (c .enum-told2 .given .1) (c .before .before .find-item .ensures .0),
+    ) (entry .pre .1 .1 .1)
 
 returns-3 : tie.Need-returns-3
 unfolding windowFor groupFor
@@ -47,7 +50,11 @@ returns-3 c =
     let at-find-item = c .before .before .before .before in
     let at-item = at-find-item .before .before in
     let entry = at-item .before .before .before .before in
-    rw (node-laws.had (at-item .item .given .1) (entry .pre .1 .0), node-laws.had (c .before .before .g .given .1) (at-find-item .find-item .ensures .0)) (c .window-at .ensures)
+    rw (
+      node-laws.had (at-item .item .given .1) (entry .pre .1 .0),
+      node-laws.had (c .before .before .g .given .1) (at-find-item .find-item .ensures .0),
+    ) (c .window-at .ensures)
 
 pub window-by-spec : {M : Type 1} → statement M
-window-by-spec = tie.close (tie.spec enum-told enum-known-item find-item-requires enum-told-2 enum-known-g window-at-requires returns returns-2 returns-3)
+window-by-spec = tie.close
+    (tie.spec enum-told enum-known-item find-item-requires enum-told-2 enum-known-g window-at-requires returns returns-2 returns-3)

@@ -17,7 +17,7 @@ enum-told c = search needs
 returns : tie.Need-returns
 unfolding windowIn
 returns c =
-    rw (node-laws.lacked (c .enum-told .given .1) (c .before .before .find-vr-item .ensures .0))
+    rw (node-laws.had-none (c .enum-told .given .1) (c .before .before .find-vr-item .ensures .0))
 
 find-vr-item-requires-2 : tie.Need-find-vr-item-requires-2
 find-vr-item-requires-2 c κs = search needs
@@ -33,7 +33,10 @@ unfolding windowIn
 returns-2 c =
     let at-c = c .before .before .before .before in
     let at-find-vr-item = at-c .before .before in
-    rw (node-laws.had (at-c .c .given .1) (at-find-vr-item .find-vr-item .ensures .0), node-laws.lacked (c .enum-told2 .given .1) (c .before .before .find-vr-item2 .ensures .0))
+    rw (
+      node-laws.had (at-c .c .given .1) (at-find-vr-item .find-vr-item .ensures .0),
+      node-laws.had-none (c .enum-told2 .given .1) (c .before .before .find-vr-item2 .ensures .0),
+    )
 
 value-requires : tie.Need-value-requires
 value-requires c κs =
@@ -71,7 +74,15 @@ returns-3 c =
     let at-find-vr-item2 = at-w .before .before in
     let at-c = at-find-vr-item2 .before .before in
     let at-find-vr-item = at-c .before .before in
-    rw (node-laws.had (at-c .c .given .1) (at-find-vr-item .find-vr-item .ensures .0), node-laws.had (at-w .w .given .1) (at-find-vr-item2 .find-vr-item2 .ensures .0), ← at-value .value .ensures, ← at-value2 .value2 .ensures, ← at-first-decimal .first-decimal .ensures, ← c .before .before .first-decimal2 .ensures, ← c .before .function-in .ensures) (c .window-of .ensures)
+    rw (
+      node-laws.had (at-c .c .given .1) (at-find-vr-item .find-vr-item .ensures .0),
+      node-laws.had (at-w .w .given .1) (at-find-vr-item2 .find-vr-item2 .ensures .0),
+      ← at-value .value .ensures,
+      ← at-value2 .value2 .ensures,
+      ← at-first-decimal .first-decimal .ensures,
+      ← c .before .before .first-decimal2 .ensures,
+      ← c .before .function-in .ensures,
+    ) (c .window-of .ensures)
 
 pub window-in-spec : {M : Type 1} → statement M
 window-in-spec =

@@ -18,7 +18,11 @@ returns c =
     let at-is-number2 = c .before .before .before in
     let at-if1 = at-is-number2 .before in
     let at-is-number = at-if1 .before in
-    rw (sym (at-is-number .is-number .ensures) ∙ at-if1 .if1 .taken, sym (at-is-number2 .is-number2 .ensures) ∙ c .before .before .if2 .taken, sym (c .before .is-function .ensures) ∙ c .if3 .taken)
+    rw (
+      sym (at-is-number .is-number .ensures) ∙ at-if1 .if1 .taken,
+      sym (at-is-number2 .is-number2 .ensures) ∙ c .before .before .if2 .taken,
+      sym (c .before .is-function .ensures) ∙ c .if3 .taken,
+    )
 
 returns-2 : tie.Need-returns-2
 returns-2 c = search needs

@@ -34,7 +34,8 @@ array-share-prefix-rows c =
 slice-aggregate-print-steps : tie.Need-slice-aggregate-print-steps
 slice-aggregate-print-steps c =
     let at-read = c .before .before .before .before .before in
-    sym (length-take-le _ _ (after-reading _ _ _ _ (sym (c .before .before .n .given .1) ∙ at-read .read .ensures .0 .same) (at-read .read .ensures .1) .0))
+    sym (length-take-le _ _
+    (after-reading _ _ _ _ (sym (c .before .before .n .given .1) ∙ at-read .read .ensures .0 .same) (at-read .read .ensures .1) .0))
 
 print-steps-requires : tie.Need-print-steps-requires
 print-steps-requires c κs =

@@ -60,15 +60,23 @@ loop-less c =
     let at-value-end = c .before .before .before .before in
     let at-loop = at-value-end .before in
     let entry = at-loop .before .before in
-    omega (arith, parts.part-start (entry .args .v .now) (at-loop .loop .from) (at-value-end .value-end .result) (at-value-end .value-end .ensures), c .if2 .taken)
+    omega (
+      arith,
+      parts.part-start (entry .args .v .now) (at-loop .loop .from) (at-value-end .value-end .result) (at-value-end .value-end .ensures),
+      c .if2 .taken,
+    )
 
 loop-again : tie.Need-loop-again Inv-loop μ-loop
 loop-again c =
     let at-value-end = c .before .before .before .before in
     let at-loop = at-value-end .before in
     let entry = at-loop .before .before in
-    let h = parts.part-test (entry .args .v .now) (at-loop .loop .from) (at-value-end .value-end .result) (at-value-end .value-end .ensures) test (c .before .before .is-decimal .result) true (c .before .before .is-decimal .ensures) (c .before .if1 .taken) in
-    (sym (parts.all-more (entry .args .v .now) (at-loop .loop .from) (at-value-end .value-end .result) (at-value-end .value-end .ensures) test (c .if2 .taken) h) ∙ at-loop .loop .inv .0, omega (arith, c .if2 .taken))
+    let h = parts.part-test (entry .args .v .now) (at-loop .loop .from) (at-value-end .value-end .result) (at-value-end .value-end .ensures)
+    test (c .before .before .is-decimal .result) true (c .before .before .is-decimal .ensures) (c .before .if1 .taken) in (
+      sym (parts.all-more (entry .args .v .now) (at-loop .loop .from) (at-value-end .value-end .result)
+          (at-value-end .value-end .ensures) test (c .if2 .taken) h) ∙ at-loop .loop .inv .0,
+      omega (arith, c .if2 .taken),
+    )
 
 returns : tie.Need-returns Inv-loop μ-loop
 unfolding allDecimals
@@ -76,8 +84,10 @@ returns c =
     let at-value-end = c .before .before .before .before in
     let at-loop = at-value-end .before in
     let entry = at-loop .before .before in
-    let h = parts.part-test (entry .args .v .now) (at-loop .loop .from) (at-value-end .value-end .result) (at-value-end .value-end .ensures) test (c .before .before .is-decimal .result) true (c .before .before .is-decimal .ensures) (c .before .if1 .taken) in
-    sym h ∙ sym (parts.all-last (entry .args .v .now) (at-loop .loop .from) (at-value-end .value-end .result) (at-value-end .value-end .ensures) test (c .if2 .left)) ∙ at-loop .loop .inv .0
+    let h = parts.part-test (entry .args .v .now) (at-loop .loop .from) (at-value-end .value-end .result) (at-value-end .value-end .ensures)
+    test (c .before .before .is-decimal .result) true (c .before .before .is-decimal .ensures) (c .before .if1 .taken) in
+    sym h ∙ sym (parts.all-last (entry .args .v .now) (at-loop .loop .from) (at-value-end .value-end .result)
+    (at-value-end .value-end .ensures) test (c .if2 .left)) ∙ at-loop .loop .inv .0
 
 returns-2 : tie.Need-returns-2 Inv-loop μ-loop
 unfolding allDecimals
@@ -85,8 +95,11 @@ returns-2 c =
     let at-value-end = c .before .before .before in
     let at-loop = at-value-end .before in
     let entry = at-loop .before .before in
-    let h = parts.part-test (entry .args .v .now) (at-loop .loop .from) (at-value-end .value-end .result) (at-value-end .value-end .ensures) test (c .before .is-decimal .result) false (c .before .is-decimal .ensures) (c .if1 .left) in
-    sym (parts.all-no (entry .args .v .now) (at-loop .loop .from) (at-value-end .value-end .result) (at-value-end .value-end .ensures) test (parts.part-within (entry .args .v .now) (at-loop .loop .from) (at-value-end .value-end .result) (at-value-end .value-end .ensures) (at-loop .loop .inv .1)) h) ∙ at-loop .loop .inv .0
+    let h = parts.part-test (entry .args .v .now) (at-loop .loop .from) (at-value-end .value-end .result) (at-value-end .value-end .ensures)
+    test (c .before .is-decimal .result) false (c .before .is-decimal .ensures) (c .if1 .left) in
+    sym (parts.all-no (entry .args .v .now) (at-loop .loop .from) (at-value-end .value-end .result) (at-value-end .value-end .ensures)
+    test (parts.part-within (entry .args .v .now) (at-loop .loop .from) (at-value-end .value-end .result)
+    (at-value-end .value-end .ensures) (at-loop .loop .inv .1)) h) ∙ at-loop .loop .inv .0
 
 pub all-decimals-spec : {M : Type 1} → statement M
 all-decimals-spec =

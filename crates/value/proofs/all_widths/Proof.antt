@@ -60,15 +60,24 @@ loop-less c =
     let at-value-end = c .before .before .before .before in
     let at-loop = at-value-end .before in
     let entry = at-loop .before .before in
-    omega (arith, parts.part-start (entry .args .v .now) (at-loop .loop .from) (at-value-end .value-end .result) (at-value-end .value-end .ensures), c .if2 .taken)
+    omega (
+      arith,
+      parts.part-start (entry .args .v .now) (at-loop .loop .from) (at-value-end .value-end .result) (at-value-end .value-end .ensures),
+      c .if2 .taken,
+    )
 
 loop-again : tie.Need-loop-again Inv-loop μ-loop
 loop-again c =
     let at-value-end = c .before .before .before .before in
     let at-loop = at-value-end .before in
     let entry = at-loop .before .before in
-    let h = parts.part-test (entry .args .v .now) (at-loop .loop .from) (at-value-end .value-end .result) (at-value-end .value-end .ensures) (test (entry .args .least)) (c .before .before .is-width .result) true (c .before .before .is-width .ensures) (c .before .if1 .taken) in
-    (sym (parts.all-more (entry .args .v .now) (at-loop .loop .from) (at-value-end .value-end .result) (at-value-end .value-end .ensures) (test (entry .args .least)) (c .if2 .taken) h) ∙ at-loop .loop .inv .0, omega (arith, c .if2 .taken))
+    let h = parts.part-test (entry .args .v .now) (at-loop .loop .from) (at-value-end .value-end .result) (at-value-end .value-end .ensures)
+    (test (entry .args .least)) (c .before .before .is-width .result) true (c .before .before .is-width .ensures)
+    (c .before .if1 .taken) in (
+      sym (parts.all-more (entry .args .v .now) (at-loop .loop .from) (at-value-end .value-end .result)
+          (at-value-end .value-end .ensures) (test (entry .args .least)) (c .if2 .taken) h) ∙ at-loop .loop .inv .0,
+      omega (arith, c .if2 .taken),
+    )
 
 returns : tie.Need-returns Inv-loop μ-loop
 unfolding allWidths
@@ -76,8 +85,11 @@ returns c =
     let at-value-end = c .before .before .before .before in
     let at-loop = at-value-end .before in
     let entry = at-loop .before .before in
-    let h = parts.part-test (entry .args .v .now) (at-loop .loop .from) (at-value-end .value-end .result) (at-value-end .value-end .ensures) (test (entry .args .least)) (c .before .before .is-width .result) true (c .before .before .is-width .ensures) (c .before .if1 .taken) in
-    sym h ∙ sym (parts.all-last (entry .args .v .now) (at-loop .loop .from) (at-value-end .value-end .result) (at-value-end .value-end .ensures) (test (entry .args .least)) (c .if2 .left)) ∙ at-loop .loop .inv .0
+    let h = parts.part-test (entry .args .v .now) (at-loop .loop .from) (at-value-end .value-end .result) (at-value-end .value-end .ensures)
+    (test (entry .args .least)) (c .before .before .is-width .result) true (c .before .before .is-width .ensures)
+    (c .before .if1 .taken) in
+    sym h ∙ sym (parts.all-last (entry .args .v .now) (at-loop .loop .from) (at-value-end .value-end .result)
+    (at-value-end .value-end .ensures) (test (entry .args .least)) (c .if2 .left)) ∙ at-loop .loop .inv .0
 
 returns-2 : tie.Need-returns-2 Inv-loop μ-loop
 unfolding allWidths
@@ -85,8 +97,11 @@ returns-2 c =
     let at-value-end = c .before .before .before in
     let at-loop = at-value-end .before in
     let entry = at-loop .before .before in
-    let h = parts.part-test (entry .args .v .now) (at-loop .loop .from) (at-value-end .value-end .result) (at-value-end .value-end .ensures) (test (entry .args .least)) (c .before .is-width .result) false (c .before .is-width .ensures) (c .if1 .left) in
-    sym (parts.all-no (entry .args .v .now) (at-loop .loop .from) (at-value-end .value-end .result) (at-value-end .value-end .ensures) (test (entry .args .least)) (parts.part-within (entry .args .v .now) (at-loop .loop .from) (at-value-end .value-end .result) (at-value-end .value-end .ensures) (at-loop .loop .inv .1)) h) ∙ at-loop .loop .inv .0
+    let h = parts.part-test (entry .args .v .now) (at-loop .loop .from) (at-value-end .value-end .result) (at-value-end .value-end .ensures)
+    (test (entry .args .least)) (c .before .is-width .result) false (c .before .is-width .ensures) (c .if1 .left) in
+    sym (parts.all-no (entry .args .v .now) (at-loop .loop .from) (at-value-end .value-end .result) (at-value-end .value-end .ensures)
+    (test (entry .args .least)) (parts.part-within (entry .args .v .now) (at-loop .loop .from) (at-value-end .value-end .result)
+    (at-value-end .value-end .ensures) (at-loop .loop .inv .1)) h) ∙ at-loop .loop .inv .0
 
 pub all-widths-spec : {M : Type 1} → statement M
 all-widths-spec =

@@ -21,7 +21,10 @@ unfolding decimalOf
 returns c =
     let entry = c .before .before .before .before in
     let v = entry .args .v .now in
-    let e : c .signed-size .result ≡ decimalOf v = c .signed-size .ensures ∙ rw (c .before .before .trimmed .ensures, le-leb (length (trimmed v)) 16 (rw (c .before .before .trimmed .ensures) at (c .before .if1 .taken))) in
+    let e : c .signed-size .result ≡ decimalOf v = c .signed-size .ensures ∙ rw (
+      c .before .before .trimmed .ensures,
+      le-leb (length (trimmed v)) 16 (rw (c .before .before .trimmed .ensures) at (c .before .if1 .taken)),
+    ) in
     (e, subst (SizeBelow sizeLimit) (sym e) (laws.decimalOf-below v))
 
 returns-2 : tie.Need-returns-2

@@ -1,4 +1,5 @@
--- Reading stops at the limit, at the end or at the first byte that is no digit, and the bound leaves room for each digit that may still come.
+-- Reading stops at the limit, at the end or at the first byte that is no digit, and the bound leaves room for each digit that may still
+-- come.
 use mathlib.Core.Path.{_≡_, refl, sym, _∙_}
 use Prim.Native.Nat.{_+_, _-_, _*_, _^_, _≤_}
 use native.Mathlib.Omega.{arith}
@@ -47,7 +48,8 @@ returns-2 c =
     let l = at-loop .loop in
     let w = c .before .wide .ensures .0 in
     runs.read-at (entry .args .limit) (entry .args .start) (entry .args .s .now) (l .left) (l .number) (l .i) (l .inv .0)
-    (runs.below-digits (entry .args .s .now) (l .i) (l .left) (l .number) (l .i) (at-loop-test .loop-test .taken) (omega (arith, w, c .if2 .taken))) (omega arith) (omega arith)
+    (runs.below-digits (entry .args .s .now) (l .i) (l .left) (l .number) (l .i) (at-loop-test .loop-test .taken)
+    (omega (arith, w, c .if2 .taken))) (omega arith) (omega arith)
 
 returns-3 : tie.Need-returns-3 Inv-loop μ-loop
 returns-3 c =
@@ -57,7 +59,8 @@ returns-3 c =
     let l = at-loop .loop in
     let w = c .before .before .wide .ensures .0 in
     runs.read-at (entry .args .limit) (entry .args .start) (entry .args .s .now) (l .left) (l .number) (l .i) (l .inv .0)
-    (runs.above-digits (entry .args .s .now) (l .i) (l .left) (l .number) (l .i) (at-loop-test .loop-test .taken) (omega (arith, w, c .before .if2 .left)) (omega (arith, w, c .if3 .taken))) (omega arith) (omega arith)
+    (runs.above-digits (entry .args .s .now) (l .i) (l .left) (l .number) (l .i) (at-loop-test .loop-test .taken)
+    (omega (arith, w, c .before .if2 .left)) (omega (arith, w, c .if3 .taken))) (omega arith) (omega arith)
 
 mul-number : tie.Need-mul-number Inv-loop μ-loop
 mul-number c =
@@ -92,9 +95,11 @@ loop-again c =
     let entry = at-loop .before .before in
     let l = at-loop .loop in
     let w = c .before .before .wide .ensures .0 in (
-      rw w (sym (runs.next-digit (entry .args .s .now) (l .i) (l .left) (l .number) (l .i) (at-loop-test .loop-test .taken) (at-if1 .if1 .left) (omega (arith, w, c .before .if2 .left)) (omega (arith, w, c .if3 .left))) ∙ l .inv .0),
+      rw w (sym (runs.next-digit (entry .args .s .now) (l .i) (l .left) (l .number) (l .i) (at-loop-test .loop-test .taken)
+          (at-if1 .if1 .left) (omega (arith, w, c .before .if2 .left)) (omega (arith, w, c .if3 .left))) ∙ l .inv .0),
       (
-        runs.next-size (l .number) (c .before .before .wide .result - 0x30) (l .left) 10000000000000000 (at-if1 .if1 .left) (omega (arith, c .if3 .left)) (l .inv .1 .0),
+        runs.next-size (l .number) (c .before .before .wide .result - 0x30) (l .left) 10000000000000000 (at-if1 .if1 .left)
+            (omega (arith, c .if3 .left)) (l .inv .1 .0),
         (omega (arith, at-if1 .if1 .left), omega arith),
       ),
     )

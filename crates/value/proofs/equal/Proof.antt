@@ -54,8 +54,11 @@ loop-again : tie.Need-loop-again Inv-loop μ-loop
 loop-again c =
     let at-loop-test = c .before .before .before in
     let at-loop = at-loop-test .before in
-    let at-if1 = at-loop .before in
-    (sym (lists.equal-next _ _ _ (at-loop-test .loop-test .taken) (omega (arith, at-if1 .if1 .left)) (c .if2 .left)) ∙ at-loop .loop .inv .0, omega arith)
+    let at-if1 = at-loop .before in (
+      sym (lists.equal-next _ _ _ (at-loop-test .loop-test .taken) (omega (arith, at-if1 .if1 .left)) (c .if2 .left))
+          ∙ at-loop .loop .inv .0,
+      omega arith,
+    )
 
 returns-3 : tie.Need-returns-3 Inv-loop μ-loop
 returns-3 c =

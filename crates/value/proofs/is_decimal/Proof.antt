@@ -1,4 +1,4 @@
--- Numbers of either sign have the form; only `Lacks` does not.
+-- Numbers of either sign have the form; only `None` does not.
 use borrow.Author.Needs.{needs}
 use Rattle.value.proofs.is_decimal.Statement.{statement}
 use Rattle.value.proofs.is_decimal.Tie as tie

@@ -25,7 +25,13 @@ returns c =
     let at-if1 = c .before .before .before in
     let at-is-single = at-if1 .before in
     let entry = at-is-single .before .before in
-    let e : c .signed-whole .result ≡ isOf (entry .args .v .now) = rw (c .signed-whole .ensures, c .before .trimmed .ensures, c .before .before .value-of .ensures, ← at-is-single .is-single .ensures, at-if1 .if1 .taken) in
+    let e : c .signed-whole .result ≡ isOf (entry .args .v .now) = rw (
+      c .signed-whole .ensures,
+      c .before .trimmed .ensures,
+      c .before .before .value-of .ensures,
+      ← at-is-single .is-single .ensures,
+      at-if1 .if1 .taken,
+    ) in
     (e, subst (SizeBelow 100000000000) (sym e) (laws.isOf-below (entry .args .v .now)))
 
 returns-2 : tie.Need-returns-2

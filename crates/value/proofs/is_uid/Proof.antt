@@ -21,7 +21,13 @@ unfolding isUid
 returns c =
     let at-if1 = c .before .before .before in
     let at-is-single = at-if1 .before in
-    rw (c .equal .ensures, c .before .trim-end .ensures, c .before .before .value-of .ensures, ← at-is-single .is-single .ensures, at-if1 .if1 .taken)
+    rw (
+      c .equal .ensures,
+      c .before .trim-end .ensures,
+      c .before .before .value-of .ensures,
+      ← at-is-single .is-single .ensures,
+      at-if1 .if1 .taken,
+    )
 
 returns-2 : tie.Need-returns-2
 unfolding isUid

@@ -44,12 +44,14 @@ loop-again c =
 returns-2 : tie.Need-returns-2 Inv-loop μ-loop
 returns-2 c =
     let l = c .before .before .loop in
-    sym (ap ifSmall (sym (l .inv .0) ∙ powers.times-one (l .n) (l .left) (c .before .loop-test .left)) ∙ powers.within-is (l .n) (c .if2 .taken))
+    sym (ap ifSmall (sym (l .inv .0) ∙ powers.times-one (l .n) (l .left) (c .before .loop-test .left))
+    ∙ powers.within-is (l .n) (c .if2 .taken))
 
 returns-3 : tie.Need-returns-3 Inv-loop μ-loop
 returns-3 c =
     let l = c .before .before .loop in
-    sym (ap ifSmall (sym (l .inv .0) ∙ powers.times-one (l .n) (l .left) (c .before .loop-test .left)) ∙ powers.within-large (l .n) (c .if2 .left))
+    sym (ap ifSmall (sym (l .inv .0) ∙ powers.times-one (l .n) (l .left) (c .before .loop-test .left))
+    ∙ powers.within-large (l .n) (c .if2 .left))
 
 pub multiplied-spec : {M : Type 1} → statement M
 multiplied-spec =

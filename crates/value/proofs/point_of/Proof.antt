@@ -27,15 +27,19 @@ add-end-of c = search needs
 
 end-of-requires : tie.Need-end-of-requires
 end-of-requires c κs =
-    let entry = c .before .before .before in
-    (forms.number-fits (entry .args .whole) (entry .args .s .now) (c .before .digits .result) (c .before .digits .ensures) (entry .pre .1), omega (arith, c .before .digits .ensures .few))
+    let entry = c .before .before .before in (
+      forms.number-fits (entry .args .whole) (entry .args .s .now) (c .before .digits .result) (c .before .digits .ensures) (entry .pre .1),
+      omega (arith, c .before .digits .ensures .few),
+    )
 
 returns : tie.Need-returns
 returns c =
     let entry = c .before .before .before .before in
     c .end-of .ensures
-    ∙ ap (λ (l : List ℕ). endOf (entry .args .before + c .before .before .digits .result .count) (c .before .before .digits .result .number) (c .before .before .digits .result .count) l) (lists.to-end (entry .args .s .now) (c .before .before .digits .result .count))
-    ∙ sym (forms.point-is (entry .args .before) (entry .args .whole) (entry .args .s .now) (c .before .before .digits .result) (c .before .before .digits .ensures))
+    ∙ ap (λ (l : List ℕ). endOf (entry .args .before + c .before .before .digits .result .count) (c .before .before .digits .result .number)
+    (c .before .before .digits .result .count) l) (lists.to-end (entry .args .s .now) (c .before .before .digits .result .count))
+    ∙ sym (forms.point-is (entry .args .before) (entry .args .whole) (entry .args .s .now) (c .before .before .digits .result)
+    (c .before .before .digits .ensures))
 
 pub point-of-spec : {M : Type 1} → statement M
 point-of-spec =

@@ -26,8 +26,11 @@ part-end-of-end c = search needs
 
 end-of-requires : tie.Need-end-of-requires
 end-of-requires c κs =
-    let entry = c .before .before .before .before in
-    (forms.number-fits 0 (entry .args .s .now) (c .before .before .digits .result) (c .before .before .digits .ensures) (forms.run-fits _ (entry .pre)), omega arith)
+    let entry = c .before .before .before .before in (
+      forms.number-fits 0 (entry .args .s .now) (c .before .before .digits .result) (c .before .before .digits .ensures)
+          (forms.run-fits _ (entry .pre)),
+      omega arith,
+    )
 
 shared-slice-read-if2 : tie.Need-shared-slice-read-if2
 shared-slice-read-if2 c = search needs
@@ -49,8 +52,12 @@ point-of-requires c κs =
     let at-if1 = c .before .before .before in
     let at-digits = at-if1 .before in
     let entry = at-digits .before .before in
-    let e = ap length (lists.to-end (entry .args .s .now) (at-digits .digits .result .count + 1)) ∙ length-drop (at-digits .digits .result .count + 1) (entry .args .s .now) in
-    (omega (arith, e, entry .pre), forms.point-fits (entry .args .s .now) (at-digits .digits .result) (at-digits .digits .ensures) (entry .pre) _ (omega (arith, e, at-if1 .if1 .left, at-digits .digits .ensures .within)))
+    let e = ap length (lists.to-end (entry .args .s .now) (at-digits .digits .result .count + 1))
+    ∙ length-drop (at-digits .digits .result .count + 1) (entry .args .s .now) in (
+      omega (arith, e, entry .pre),
+      forms.point-fits (entry .args .s .now) (at-digits .digits .result) (at-digits .digits .ensures)
+          (entry .pre) _ (omega (arith, e, at-if1 .if1 .left, at-digits .digits .ensures .within)),
+    )
 
 sub-end-of-2 : tie.Need-sub-end-of-2
 sub-end-of-2 c = search needs
@@ -64,15 +71,18 @@ part-end-of-end-2 c = search needs
 end-of-requires-2 : tie.Need-end-of-requires-2
 end-of-requires-2 c κs =
     let at-digits = c .before .before .before .before in
-    let entry = at-digits .before .before in
-    (forms.number-fits 0 (entry .args .s .now) (at-digits .digits .result) (at-digits .digits .ensures) (forms.run-fits _ (entry .pre)), omega arith)
+    let entry = at-digits .before .before in (
+      forms.number-fits 0 (entry .args .s .now) (at-digits .digits .result) (at-digits .digits .ensures) (forms.run-fits _ (entry .pre)),
+      omega arith,
+    )
 
 returns : tie.Need-returns
 returns c =
     let at-digits = c .before .before .before in
     let entry = at-digits .before .before in
     c .end-of .ensures
-    ∙ ap (λ (l : List ℕ). endOf (at-digits .digits .result .count) (at-digits .digits .result .number) 0 l) (lists.to-end (entry .args .s .now) (at-digits .digits .result .count))
+    ∙ ap (λ (l : List ℕ). endOf (at-digits .digits .result .count) (at-digits .digits .result .number) 0 l)
+    (lists.to-end (entry .args .s .now) (at-digits .digits .result .count))
     ∙ sym (forms.size-end (entry .args .s .now) (at-digits .digits .result) (at-digits .digits .ensures) (c .before .before .if1 .taken))
 
 returns-2 : tie.Need-returns-2
@@ -81,8 +91,10 @@ returns-2 c =
     let at-digits = at-if1 .before in
     let entry = at-digits .before .before in
     c .point-of .ensures
-    ∙ ap (λ (l : List ℕ). pointBy (at-digits .digits .result .count) (runOf (at-digits .digits .result .number) l)) (lists.to-end (entry .args .s .now) (at-digits .digits .result .count + 1))
-    ∙ sym (forms.size-point (entry .args .s .now) (at-digits .digits .result) (at-digits .digits .ensures) (at-if1 .if1 .left) (c .before .before .if2 .taken))
+    ∙ ap (λ (l : List ℕ). pointBy (at-digits .digits .result .count) (runOf (at-digits .digits .result .number) l))
+    (lists.to-end (entry .args .s .now) (at-digits .digits .result .count + 1))
+    ∙ sym (forms.size-point (entry .args .s .now) (at-digits .digits .result) (at-digits .digits .ensures) (at-if1 .if1 .left)
+    (c .before .before .if2 .taken))
 
 returns-3 : tie.Need-returns-3
 returns-3 c =
@@ -90,8 +102,10 @@ returns-3 c =
     let at-digits = at-if1 .before in
     let entry = at-digits .before .before in
     c .end-of2 .ensures
-    ∙ ap (λ (l : List ℕ). endOf (at-digits .digits .result .count) (at-digits .digits .result .number) 0 l) (lists.to-end (entry .args .s .now) (at-digits .digits .result .count))
-    ∙ sym (forms.size-other (entry .args .s .now) (at-digits .digits .result) (at-digits .digits .ensures) (at-if1 .if1 .left) (c .before .before .if2 .left))
+    ∙ ap (λ (l : List ℕ). endOf (at-digits .digits .result .count) (at-digits .digits .result .number) 0 l)
+    (lists.to-end (entry .args .s .now) (at-digits .digits .result .count))
+    ∙ sym (forms.size-other (entry .args .s .now) (at-digits .digits .result) (at-digits .digits .ensures) (at-if1 .if1 .left)
+    (c .before .before .if2 .left))
 
 pub size-of-spec : {M : Type 1} → statement M
 size-of-spec =

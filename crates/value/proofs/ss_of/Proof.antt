@@ -14,13 +14,17 @@ sub-t8 c = search needs
 
 returns : tie.Need-returns
 unfolding ssOf
-returns c =
-    (rw (eq-eqb _ _ (c .before .before .if1 .taken), ← c .before .u16-at .ensures .0, lt-ltb _ _ (c .if2 .taken)), omega (arith, c .if2 .taken))
+returns c = (
+  rw (eq-eqb _ _ (c .before .before .if1 .taken), ← c .before .u16-at .ensures .0, lt-ltb _ _ (c .if2 .taken)),
+  omega (arith, c .if2 .taken),
+)
 
 returns-2 : tie.Need-returns-2
 unfolding ssOf
-returns-2 c =
-    (rw (eq-eqb _ _ (c .before .before .if1 .taken), ← c .before .u16-at .ensures .0, le-ltb _ _ (c .if2 .left)), omega (arith, c .if2 .left))
+returns-2 c = (
+  rw (eq-eqb _ _ (c .before .before .if1 .taken), ← c .before .u16-at .ensures .0, le-ltb _ _ (c .if2 .left)),
+  omega (arith, c .if2 .left),
+)
 
 returns-3 : tie.Need-returns-3
 unfolding ssOf

@@ -52,8 +52,10 @@ loop-less c =
 
 loop-again : tie.Need-loop-again Inv-loop μ-loop
 loop-again c =
-    let at-loop = c .before .before .before in
-    (sym (lists.end-next _ _ _ (c .before .before .loop-test .taken) (at-loop .loop .inv .1) (c .if1 .left)) ∙ at-loop .loop .inv .0, omega arith)
+    let at-loop = c .before .before .before in (
+      sym (lists.end-next _ _ _ (c .before .before .loop-test .taken) (at-loop .loop .inv .1) (c .if1 .left)) ∙ at-loop .loop .inv .0,
+      omega arith,
+    )
 
 slice-aggregate-result-2 : tie.Need-slice-aggregate-result-2 Inv-loop μ-loop
 slice-aggregate-result-2 c =

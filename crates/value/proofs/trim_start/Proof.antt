@@ -42,7 +42,8 @@ returns c =
     let at-loop-test = c .before .before .before in
     let at-loop = at-loop-test .before in
     let entry = at-loop .before in
-    lists.to-end (entry .args .v .now) (at-loop .loop .i) ∙ sym (lists.start-no _ _ _ (at-loop-test .loop-test .taken) (c .before .if1 .taken)) ∙ at-loop .loop .inv
+    lists.to-end (entry .args .v .now) (at-loop .loop .i)
+    ∙ sym (lists.start-no _ _ _ (at-loop-test .loop-test .taken) (c .before .if1 .taken)) ∙ at-loop .loop .inv
 
 add-i : tie.Need-add-i Inv-loop μ-loop
 add-i c =

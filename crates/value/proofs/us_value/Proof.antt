@@ -12,8 +12,10 @@ u16-at-requires : tie.Need-u16-at-requires
 u16-at-requires c κs = search needs
 
 returns : tie.Need-returns
-returns c =
-    (c .u16-at .ensures .0 ∙ sym (laws.usValues-at (c .before .before .args .v .now) (c .before .before .args .k) (c .before .before .pre)), c .u16-at .ensures .1)
+returns c = (
+  c .u16-at .ensures .0 ∙ sym (laws.usValues-at (c .before .before .args .v .now) (c .before .before .args .k) (c .before .before .pre)),
+  c .u16-at .ensures .1,
+)
 
 pub us-value-spec : {M : Type 1} → statement M
 us-value-spec = tie.close (tie.spec mul-u16-at u16-at-requires returns)

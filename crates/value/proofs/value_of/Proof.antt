@@ -43,8 +43,11 @@ loop-again : tie.Need-loop-again Inv-loop μ-loop
 loop-again c =
     let at-loop = c .before .before .before in
     let entry = at-loop .before .before in
-    let e = c .before .value-end .ensures in
-    (sym (parts.later-value (entry .args .v .now) (at-loop .loop .from) (c .before .value-end .result) e (at-loop .loop .left) (c .before .before .loop-test .taken) (c .if1 .taken)) ∙ at-loop .loop .inv .0, omega arith)
+    let e = c .before .value-end .ensures in (
+      sym (parts.later-value (entry .args .v .now) (at-loop .loop .from) (c .before .value-end .result) e (at-loop .loop .left)
+          (c .before .before .loop-test .taken) (c .if1 .taken)) ∙ at-loop .loop .inv .0,
+      omega arith,
+    )
 
 slice-aggregate-result : tie.Need-slice-aggregate-result Inv-loop μ-loop
 slice-aggregate-result c =
@@ -56,7 +59,8 @@ returns c =
     let at-loop = at-loop-test .before in
     let entry = at-loop .before .before in
     let e = c .before .before .value-end .ensures in
-    sym (parts.no-later (entry .args .v .now) (at-loop .loop .from) (c .before .before .value-end .result) e (at-loop .loop .left) (at-loop-test .loop-test .taken) (c .before .if1 .left)) ∙ at-loop .loop .inv .0
+    sym (parts.no-later (entry .args .v .now) (at-loop .loop .from) (c .before .before .value-end .result) e (at-loop .loop .left)
+    (at-loop-test .loop-test .taken) (c .before .if1 .left)) ∙ at-loop .loop .inv .0
 
 value-end-requires-2 : tie.Need-value-end-requires-2 Inv-loop μ-loop
 value-end-requires-2 c κs =
@@ -75,7 +79,8 @@ part-result-start c =
 part-result-end : tie.Need-part-result-end Inv-loop μ-loop
 part-result-end c =
     let entry = c .before .before .before .before in
-    parts.part-within (entry .args .v .now) (c .before .before .loop .from) (c .value-end2 .result) (c .value-end2 .ensures) (c .before .before .loop .inv .1)
+    parts.part-within (entry .args .v .now) (c .before .before .loop .from) (c .value-end2 .result) (c .value-end2 .ensures)
+    (c .before .before .loop .inv .1)
 
 returns-2 : tie.Need-returns-2 Inv-loop μ-loop
 returns-2 c =

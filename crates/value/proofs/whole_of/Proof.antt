@@ -13,17 +13,20 @@ digits-requires c κs =
 returns : tie.Need-returns
 returns c =
     let entry = c .before .before .before .before in
-    sym (forms.whole-none (entry .args .limit) (entry .args .s .now) (c .before .before .digits .result) (c .before .before .digits .ensures) (c .before .if1 .taken) (c .if2 .taken))
+    sym (forms.whole-none (entry .args .limit) (entry .args .s .now) (c .before .before .digits .result)
+    (c .before .before .digits .ensures) (c .before .if1 .taken) (c .if2 .taken))
 
 returns-2 : tie.Need-returns-2
 returns-2 c =
     let entry = c .before .before .before .before in
-    sym (forms.whole-is (entry .args .limit) (entry .args .s .now) (c .before .before .digits .result) (c .before .before .digits .ensures) (c .before .if1 .taken) (c .if2 .left))
+    sym (forms.whole-is (entry .args .limit) (entry .args .s .now) (c .before .before .digits .result) (c .before .before .digits .ensures)
+    (c .before .if1 .taken) (c .if2 .left))
 
 returns-3 : tie.Need-returns-3
 returns-3 c =
     let entry = c .before .before .before in
-    sym (forms.whole-more (entry .args .limit) (entry .args .s .now) (c .before .digits .result) (c .before .digits .ensures) (c .if1 .left))
+    sym (forms.whole-more (entry .args .limit) (entry .args .s .now) (c .before .digits .result) (c .before .digits .ensures)
+    (c .if1 .left))
 
 pub whole-of-spec : {M : Type 1} → statement M
 whole-of-spec = tie.close (tie.spec digits-requires returns returns-2 returns-3)

@@ -30,7 +30,8 @@ unfolding fieldsFit
 returns-3 c =
     let at-if1 = c .before .before .before in
     let at-is-plain = at-if1 .before in
-    simp (sym (at-is-plain .is-plain .ensures) ∙ at-if1 .if1 .left, sym (c .before .before .is-refusal .ensures) ∙ c .before .if2 .left) (c .is-breach .ensures)
+    simp (sym (at-is-plain .is-plain .ensures) ∙ at-if1 .if1 .left, sym (c .before .before .is-refusal .ensures) ∙ c .before .if2 .left)
+    (c .is-breach .ensures)
 
 pub fields-fit-spec : {M : Type 1} → statement M
 fields-fit-spec =

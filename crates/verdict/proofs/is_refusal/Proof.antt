@@ -8,13 +8,23 @@ returns c =
     let at-if3 = c .before .before .before in
     let at-if2 = at-if3 .before .before in
     let at-if1 = at-if2 .before .before in
-    simp (le-leb _ _ (at-if1 .if1 .taken), le-leb _ _ (at-if2 .if2 .taken), eq-eqb _ _ (at-if3 .if3 .taken), eq-eqb _ _ (c .before .if4 .taken))
+    simp (
+      le-leb _ _ (at-if1 .if1 .taken),
+      le-leb _ _ (at-if2 .if2 .taken),
+      eq-eqb _ _ (at-if3 .if3 .taken),
+      eq-eqb _ _ (c .before .if4 .taken),
+    )
 
 returns-2 : tie.Need-returns-2
 returns-2 c =
     let at-if2 = c .before .before .before .before in
     let at-if1 = at-if2 .before .before in
-    simp (le-leb _ _ (at-if1 .if1 .taken), le-leb _ _ (at-if2 .if2 .taken), eq-eqb _ _ (c .before .before .if3 .taken), ne-eqb _ _ (c .if4 .left))
+    simp (
+      le-leb _ _ (at-if1 .if1 .taken),
+      le-leb _ _ (at-if2 .if2 .taken),
+      eq-eqb _ _ (c .before .before .if3 .taken),
+      ne-eqb _ _ (c .if4 .left),
+    )
 
 returns-3 : tie.Need-returns-3
 returns-3 c =

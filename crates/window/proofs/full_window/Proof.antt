@@ -17,8 +17,14 @@ mul-full c = search needs
 
 returns : tie.Need-returns
 unfolding fullWindow
-returns c =
-    (rw (c .power .ensures .0), record { ruled = record { number = refl; function = refl; wide = le-leb unit (unit * c .power .result) (omega arith) }; near = omega arith; narrow = omega arith })
+returns c = (
+  rw (c .power .ensures .0),
+  record {
+    ruled = record { number = refl; function = refl; wide = le-leb unit (unit * c .power .result) (omega arith) };
+    near = omega arith;
+    narrow = omega arith;
+  },
+)
 
 pub full-window-spec : {M : Type 1} → statement M
 full-window-spec = tie.close (tie.spec power-requires mul-full returns)

@@ -88,8 +88,12 @@ returns-2 c =
     let s = sizes (a .window) (entry .pre .0) in
     let u = 2 * unit * a .plus + 2 * at-below .below .result + at-above .above .result in
     let n = 2 * unit * a .minus + 2 * c .before .before .above2 .result in
-    let e = c .ramp .ensures .0 ∙ ap (λ (w : ℕ). rampOf (at-taken-off .taken-off .result) (u - n) w) (at-above .above .ensures) ∙ ap (λ (o : ℕ). rampOf o (u - n) (above (a .window .width))) (at-taken-off .taken-off .ensures .0) in
-    (ap (λ (y : ℕ). some (pos y)) e ∙ sym (window-ramp (a .window) (s .widths) (gap (a .plus) (a .minus)) u n (omega arith) (omega arith) (c .before .if1 .left)), c .ramp .ensures .1)
+    let e = c .ramp .ensures .0 ∙ ap (λ (w : ℕ). rampOf (at-taken-off .taken-off .result) (u - n) w) (at-above .above .ensures)
+    ∙ ap (λ (o : ℕ). rampOf o (u - n) (above (a .window .width))) (at-taken-off .taken-off .ensures .0) in (
+      ap (λ (y : ℕ). some (pos y)) e
+          ∙ sym (window-ramp (a .window) (s .widths) (gap (a .plus) (a .minus)) u n (omega arith) (omega arith) (c .before .if1 .left)),
+      c .ramp .ensures .1,
+    )
 
 pub level-spec : {M : Type 1} → statement M
 level-spec =

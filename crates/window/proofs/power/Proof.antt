@@ -36,8 +36,15 @@ loop-again c =
 
 returns : tie.Need-returns Inv-loop μ-loop
 returns c =
-    let e : c .before .loop .r ≡ 2 ^ (c .before .before .args .n) = c .before .loop .inv .1 ∙ ap (λ (k : ℕ). 2 ^ k) (omega arith) in
-    (e, omega (arith, e, one-le-pow (c .before .before .args .n) 2 (omega arith), power-small (c .before .before .args .n) 17 (c .before .before .pre)))
+    let e : c .before .loop .r ≡ 2 ^ (c .before .before .args .n) = c .before .loop .inv .1 ∙ ap (λ (k : ℕ). 2 ^ k) (omega arith) in (
+      e,
+      omega (
+        arith,
+        e,
+        one-le-pow (c .before .before .args .n) 2 (omega arith),
+        power-small (c .before .before .args .n) 17 (c .before .before .pre),
+      ),
+    )
 
 pub power-spec : {M : Type 1} → statement M
 power-spec =

@@ -40,14 +40,18 @@ div-result c = search needs
 
 returns : tie.Need-returns
 unfolding rampOf
-returns c =
-    (rw (lt-ltb (2 * c .before .args .w) (c .before .args .up - c .before .args .down + 2 * c .before .args .e) (c .if1 .taken)), omega arith)
+returns c = (
+  rw (lt-ltb (2 * c .before .args .w) (c .before .args .up - c .before .args .down + 2 * c .before .args .e) (c .if1 .taken)),
+  omega arith,
+)
 
 returns-2 : tie.Need-returns-2
 unfolding rampOf
 returns-2 c =
-    let some : 0 < c .before .args .up - c .before .args .down = omega arith in
-    (rw (le-ltb (2 * c .before .args .w) (c .before .args .up - c .before .args .down + 2 * c .before .args .e) (c .if1 .left)), quotient-small (c .before .args .e) (c .before .args .up - c .before .args .down) (c .before .args .w) some (c .if1 .left))
+    let some : 0 < c .before .args .up - c .before .args .down = omega arith in (
+      rw (le-ltb (2 * c .before .args .w) (c .before .args .up - c .before .args .down + 2 * c .before .args .e) (c .if1 .left)),
+      quotient-small (c .before .args .e) (c .before .args .up - c .before .args .down) (c .before .args .w) some (c .if1 .left),
+    )
 
 pub ramp-spec : {M : Type 1} → statement M
 ramp-spec =

@@ -16,7 +16,8 @@ judge-file-counted-requires c κs = search needs
 judge-file-numbers-requires : tie.Need-judge-file-numbers-requires
 judge-file-numbers-requires c κs =
     let entry = c .before .before .before .before .before .before in
-    subst (λ (a : CountedFile). Fits32 (judgeFields (a .answer))) (sym (c .before .before .judge-file-counted .ensures .0 .same)) (judge-inside (entry .args .file .now) (entry .args .rows .now))
+    subst (λ (a : CountedFile). Fits32 (judgeFields (a .answer))) (sym (c .before .before .judge-file-counted .ensures .0 .same))
+    (judge-inside (entry .args .file .now) (entry .args .rows .now))
 
 with-searches-requires : tie.Need-with-searches-requires
 with-searches-requires c κs = search needs

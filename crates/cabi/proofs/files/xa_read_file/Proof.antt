@@ -49,40 +49,55 @@ same-length c = search needs
 
 returns : tie.Need-returns
 returns c =
-    let at-read-file = c .before .before .before .before .before .before in
-    (c .read-numbers .ensures ∙ ap (λ (a : ReadFileAnswer). hosted (readFields a)) (sym (c .before .before .answer .given .1) ∙ at-read-file .read-file .ensures .0 .same), at-read-file .read-file .ensures .1)
+    let at-read-file = c .before .before .before .before .before .before in (
+      c .read-numbers .ensures ∙ ap (λ (a : ReadFileAnswer). hosted (readFields a))
+          (sym (c .before .before .answer .given .1) ∙ at-read-file .read-file .ensures .0 .same),
+      at-read-file .read-file .ensures .1,
+    )
 
 same-length-2 : tie.Need-same-length-2
 same-length-2 c = search needs
 
 returns-2 : tie.Need-returns-2
 returns-2 c =
-    let at-read-file = c .before .before .before .before .before in
-    (rw (c .code-alone .ensures) (ap (λ (a : ReadFileAnswer). hosted (readFields a)) (sym (c .before .enum-told .given .1) ∙ at-read-file .read-file .ensures .0 .same)), at-read-file .read-file .ensures .1)
+    let at-read-file = c .before .before .before .before .before in (
+      rw (c .code-alone .ensures) (ap (λ (a : ReadFileAnswer). hosted (readFields a))
+          (sym (c .before .enum-told .given .1) ∙ at-read-file .read-file .ensures .0 .same)),
+      at-read-file .read-file .ensures .1,
+    )
 
 same-length-3 : tie.Need-same-length-3
 same-length-3 c = search needs
 
 returns-3 : tie.Need-returns-3
 returns-3 c =
-    let at-read-file = c .before .before .before .before .before in
-    (rw (c .code-alone2 .ensures) (ap (λ (a : ReadFileAnswer). hosted (readFields a)) (sym (c .before .enum-told2 .given .1) ∙ at-read-file .read-file .ensures .0 .same)), at-read-file .read-file .ensures .1)
+    let at-read-file = c .before .before .before .before .before in (
+      rw (c .code-alone2 .ensures) (ap (λ (a : ReadFileAnswer). hosted (readFields a))
+          (sym (c .before .enum-told2 .given .1) ∙ at-read-file .read-file .ensures .0 .same)),
+      at-read-file .read-file .ensures .1,
+    )
 
 same-length-4 : tie.Need-same-length-4
 same-length-4 c = search needs
 
 returns-4 : tie.Need-returns-4
 returns-4 c =
-    let at-read-file = c .before .before .before .before .before in
-    (rw (c .code-alone3 .ensures) (ap (λ (a : ReadFileAnswer). hosted (readFields a)) (sym (c .before .enum-told3 .given .1) ∙ at-read-file .read-file .ensures .0 .same)), at-read-file .read-file .ensures .1)
+    let at-read-file = c .before .before .before .before .before in (
+      rw (c .code-alone3 .ensures) (ap (λ (a : ReadFileAnswer). hosted (readFields a))
+          (sym (c .before .enum-told3 .given .1) ∙ at-read-file .read-file .ensures .0 .same)),
+      at-read-file .read-file .ensures .1,
+    )
 
 same-length-5 : tie.Need-same-length-5
 same-length-5 c = search needs
 
 returns-5 : tie.Need-returns-5
 returns-5 c =
-    let at-read-file = c .before .before .before .before .before in
-    (rw (c .code-alone4 .ensures) (ap (λ (a : ReadFileAnswer). hosted (readFields a)) (sym (c .before .enum-told4 .given .1) ∙ at-read-file .read-file .ensures .0 .same)), at-read-file .read-file .ensures .1)
+    let at-read-file = c .before .before .before .before .before in (
+      rw (c .code-alone4 .ensures) (ap (λ (a : ReadFileAnswer). hosted (readFields a))
+          (sym (c .before .enum-told4 .given .1) ∙ at-read-file .read-file .ensures .0 .same)),
+      at-read-file .read-file .ensures .1,
+    )
 
 pub xa-read-file-spec : {M : Type 1} → statement M
 xa-read-file-spec =

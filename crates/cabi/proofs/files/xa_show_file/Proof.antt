@@ -18,7 +18,8 @@ show-numbers-requires : tie.Need-show-numbers-requires
 show-numbers-requires c κs =
     let at-show-file = c .before .before .before .before .before .before .before in
     let entry = at-show-file .before .before .before .before .before .before in
-    show-inside (entry .args .file .now) (entry .args .frame) (entry .args .rows .now) (entry .args .image .now) (at-show-file .show-file .ensures .0 .same) (c .before .answer .given .1)
+    show-inside (entry .args .file .now) (entry .args .frame) (entry .args .rows .now) (entry .args .image .now)
+    (at-show-file .show-file .ensures .0 .same) (c .before .answer .given .1)
 
 enum-told : tie.Need-enum-told
 enum-told c = search needs
@@ -52,8 +53,11 @@ same-length-2 c = search needs
 
 returns : tie.Need-returns
 returns c =
-    let at-show-file = c .before .before .before .before .before .before .before .before in
-    (c .show-numbers .ensures ∙ ap (λ (a : ShowFileAnswer). hosted (showFields a)) (sym (c .before .before .answer .given .1) ∙ at-show-file .show-file .ensures .0 .same), at-show-file .show-file .ensures .1)
+    let at-show-file = c .before .before .before .before .before .before .before .before in (
+      c .show-numbers .ensures ∙ ap (λ (a : ShowFileAnswer). hosted (showFields a))
+          (sym (c .before .before .answer .given .1) ∙ at-show-file .show-file .ensures .0 .same),
+      at-show-file .show-file .ensures .1,
+    )
 
 same-length-3 : tie.Need-same-length-3
 same-length-3 c = search needs
@@ -63,8 +67,11 @@ same-length-4 c = search needs
 
 returns-2 : tie.Need-returns-2
 returns-2 c =
-    let at-show-file = c .before .before .before .before .before .before .before in
-    (rw (c .code-alone .ensures) (ap (λ (a : ShowFileAnswer). hosted (showFields a)) (sym (c .before .enum-told .given .1) ∙ at-show-file .show-file .ensures .0 .same)), at-show-file .show-file .ensures .1)
+    let at-show-file = c .before .before .before .before .before .before .before in (
+      rw (c .code-alone .ensures) (ap (λ (a : ShowFileAnswer). hosted (showFields a))
+          (sym (c .before .enum-told .given .1) ∙ at-show-file .show-file .ensures .0 .same)),
+      at-show-file .show-file .ensures .1,
+    )
 
 same-length-5 : tie.Need-same-length-5
 same-length-5 c = search needs
@@ -74,8 +81,11 @@ same-length-6 c = search needs
 
 returns-3 : tie.Need-returns-3
 returns-3 c =
-    let at-show-file = c .before .before .before .before .before .before .before in
-    (rw (c .code-alone2 .ensures) (ap (λ (a : ShowFileAnswer). hosted (showFields a)) (sym (c .before .enum-told2 .given .1) ∙ at-show-file .show-file .ensures .0 .same)), at-show-file .show-file .ensures .1)
+    let at-show-file = c .before .before .before .before .before .before .before in (
+      rw (c .code-alone2 .ensures) (ap (λ (a : ShowFileAnswer). hosted (showFields a))
+          (sym (c .before .enum-told2 .given .1) ∙ at-show-file .show-file .ensures .0 .same)),
+      at-show-file .show-file .ensures .1,
+    )
 
 same-length-7 : tie.Need-same-length-7
 same-length-7 c = search needs
@@ -85,8 +95,11 @@ same-length-8 c = search needs
 
 returns-4 : tie.Need-returns-4
 returns-4 c =
-    let at-show-file = c .before .before .before .before .before .before .before in
-    (rw (c .code-alone3 .ensures) (ap (λ (a : ShowFileAnswer). hosted (showFields a)) (sym (c .before .enum-told3 .given .1) ∙ at-show-file .show-file .ensures .0 .same)), at-show-file .show-file .ensures .1)
+    let at-show-file = c .before .before .before .before .before .before .before in (
+      rw (c .code-alone3 .ensures) (ap (λ (a : ShowFileAnswer). hosted (showFields a))
+          (sym (c .before .enum-told3 .given .1) ∙ at-show-file .show-file .ensures .0 .same)),
+      at-show-file .show-file .ensures .1,
+    )
 
 same-length-9 : tie.Need-same-length-9
 same-length-9 c = search needs
@@ -96,8 +109,11 @@ same-length-10 c = search needs
 
 returns-5 : tie.Need-returns-5
 returns-5 c =
-    let at-show-file = c .before .before .before .before .before .before .before in
-    (rw (c .code-alone4 .ensures) (ap (λ (a : ShowFileAnswer). hosted (showFields a)) (sym (c .before .enum-told4 .given .1) ∙ at-show-file .show-file .ensures .0 .same)), at-show-file .show-file .ensures .1)
+    let at-show-file = c .before .before .before .before .before .before .before in (
+      rw (c .code-alone4 .ensures) (ap (λ (a : ShowFileAnswer). hosted (showFields a))
+          (sym (c .before .enum-told4 .given .1) ∙ at-show-file .show-file .ensures .0 .same)),
+      at-show-file .show-file .ensures .1,
+    )
 
 pub xa-show-file-spec : {M : Type 1} → statement M
 xa-show-file-spec =

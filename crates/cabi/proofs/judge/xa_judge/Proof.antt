@@ -16,7 +16,8 @@ judge-counted-requires c κs = search needs
 judge-numbers-requires : tie.Need-judge-numbers-requires
 judge-numbers-requires c κs =
     let entry = c .before .before .before .before .before .before in
-    subst (λ (a : Counted). Fits32 (fieldsOf (a .answer))) (sym (c .before .before .judge-counted .ensures .0 .same)) (judge-fits (entry .args .bytes .now) (entry .args .rows .now))
+    subst (λ (a : Counted). Fits32 (fieldsOf (a .answer))) (sym (c .before .before .judge-counted .ensures .0 .same))
+    (judge-fits (entry .args .bytes .now) (entry .args .rows .now))
 
 with-searches-requires : tie.Need-with-searches-requires
 with-searches-requires c κs = search needs

@@ -73,8 +73,11 @@ same-length-2 c = search needs
 
 returns : tie.Need-returns
 returns c =
-    let at-linear = c .before .before .before .before .before .before .before .before in
-    (c .done-with .ensures ∙ ap (λ (a : LinearAnswer). hosted (fieldsOf a)) (sym (c .before .before .n .given .1) ∙ at-linear .linear .ensures .0 .same), at-linear .linear .ensures .1)
+    let at-linear = c .before .before .before .before .before .before .before .before in (
+      c .done-with .ensures
+          ∙ ap (λ (a : LinearAnswer). hosted (fieldsOf a)) (sym (c .before .before .n .given .1) ∙ at-linear .linear .ensures .0 .same),
+      at-linear .linear .ensures .1,
+    )
 
 same-length-3 : tie.Need-same-length-3
 same-length-3 c = search needs
@@ -84,8 +87,11 @@ same-length-4 c = search needs
 
 returns-2 : tie.Need-returns-2
 returns-2 c =
-    let at-linear = c .before .before .before .before .before .before .before .before in
-    (c .broken-at .ensures ∙ ap (λ (a : LinearAnswer). hosted (fieldsOf a)) (sym (c .before .before .n2 .given .1) ∙ at-linear .linear .ensures .0 .same), at-linear .linear .ensures .1)
+    let at-linear = c .before .before .before .before .before .before .before .before in (
+      c .broken-at .ensures
+          ∙ ap (λ (a : LinearAnswer). hosted (fieldsOf a)) (sym (c .before .before .n2 .given .1) ∙ at-linear .linear .ensures .0 .same),
+      at-linear .linear .ensures .1,
+    )
 
 same-length-5 : tie.Need-same-length-5
 same-length-5 c = search needs
@@ -95,8 +101,11 @@ same-length-6 c = search needs
 
 returns-3 : tie.Need-returns-3
 returns-3 c =
-    let at-linear = c .before .before .before .before .before .before .before .before in
-    (c .refused-at .ensures ∙ ap (λ (a : LinearAnswer). hosted (fieldsOf a)) (sym (c .before .before .code .given .1) ∙ at-linear .linear .ensures .0 .same), at-linear .linear .ensures .1)
+    let at-linear = c .before .before .before .before .before .before .before .before in (
+      c .refused-at .ensures
+          ∙ ap (λ (a : LinearAnswer). hosted (fieldsOf a)) (sym (c .before .before .code .given .1) ∙ at-linear .linear .ensures .0 .same),
+      at-linear .linear .ensures .1,
+    )
 
 same-length-7 : tie.Need-same-length-7
 same-length-7 c = search needs
@@ -106,8 +115,11 @@ same-length-8 c = search needs
 
 returns-4 : tie.Need-returns-4
 returns-4 c =
-    let at-linear = c .before .before .before .before .before .before .before in
-    (c .code-alone .ensures ∙ ap (λ (a : LinearAnswer). hosted (fieldsOf a)) (sym (c .before .enum-told .given .1) ∙ at-linear .linear .ensures .0 .same), at-linear .linear .ensures .1)
+    let at-linear = c .before .before .before .before .before .before .before in (
+      c .code-alone .ensures
+          ∙ ap (λ (a : LinearAnswer). hosted (fieldsOf a)) (sym (c .before .enum-told .given .1) ∙ at-linear .linear .ensures .0 .same),
+      at-linear .linear .ensures .1,
+    )
 
 same-length-9 : tie.Need-same-length-9
 same-length-9 c = search needs
@@ -117,8 +129,11 @@ same-length-10 c = search needs
 
 returns-5 : tie.Need-returns-5
 returns-5 c =
-    let at-linear = c .before .before .before .before .before .before .before in
-    (c .code-alone2 .ensures ∙ ap (λ (a : LinearAnswer). hosted (fieldsOf a)) (sym (c .before .enum-told2 .given .1) ∙ at-linear .linear .ensures .0 .same), at-linear .linear .ensures .1)
+    let at-linear = c .before .before .before .before .before .before .before in (
+      c .code-alone2 .ensures
+          ∙ ap (λ (a : LinearAnswer). hosted (fieldsOf a)) (sym (c .before .enum-told2 .given .1) ∙ at-linear .linear .ensures .0 .same),
+      at-linear .linear .ensures .1,
+    )
 
 same-length-11 : tie.Need-same-length-11
 same-length-11 c = search needs
@@ -128,8 +143,11 @@ same-length-12 c = search needs
 
 returns-6 : tie.Need-returns-6
 returns-6 c =
-    let at-linear = c .before .before .before .before .before .before .before in
-    (c .code-alone3 .ensures ∙ ap (λ (a : LinearAnswer). hosted (fieldsOf a)) (sym (c .before .enum-told3 .given .1) ∙ at-linear .linear .ensures .0 .same), at-linear .linear .ensures .1)
+    let at-linear = c .before .before .before .before .before .before .before in (
+      c .code-alone3 .ensures
+          ∙ ap (λ (a : LinearAnswer). hosted (fieldsOf a)) (sym (c .before .enum-told3 .given .1) ∙ at-linear .linear .ensures .0 .same),
+      at-linear .linear .ensures .1,
+    )
 
 same-length-13 : tie.Need-same-length-13
 same-length-13 c = search needs
@@ -139,8 +157,11 @@ same-length-14 c = search needs
 
 returns-7 : tie.Need-returns-7
 returns-7 c =
-    let at-linear = c .before .before .before .before .before .before .before in
-    (c .code-alone4 .ensures ∙ ap (λ (a : LinearAnswer). hosted (fieldsOf a)) (sym (c .before .enum-told4 .given .1) ∙ at-linear .linear .ensures .0 .same), at-linear .linear .ensures .1)
+    let at-linear = c .before .before .before .before .before .before .before in (
+      c .code-alone4 .ensures
+          ∙ ap (λ (a : LinearAnswer). hosted (fieldsOf a)) (sym (c .before .enum-told4 .given .1) ∙ at-linear .linear .ensures .0 .same),
+      at-linear .linear .ensures .1,
+    )
 
 same-length-15 : tie.Need-same-length-15
 same-length-15 c = search needs
@@ -150,8 +171,11 @@ same-length-16 c = search needs
 
 returns-8 : tie.Need-returns-8
 returns-8 c =
-    let at-linear = c .before .before .before .before .before .before .before in
-    (c .code-alone5 .ensures ∙ ap (λ (a : LinearAnswer). hosted (fieldsOf a)) (sym (c .before .enum-told5 .given .1) ∙ at-linear .linear .ensures .0 .same), at-linear .linear .ensures .1)
+    let at-linear = c .before .before .before .before .before .before .before in (
+      c .code-alone5 .ensures
+          ∙ ap (λ (a : LinearAnswer). hosted (fieldsOf a)) (sym (c .before .enum-told5 .given .1) ∙ at-linear .linear .ensures .0 .same),
+      at-linear .linear .ensures .1,
+    )
 
 pub xa-linear-spec : {M : Type 1} → statement M
 xa-linear-spec =

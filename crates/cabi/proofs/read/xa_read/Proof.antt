@@ -14,7 +14,8 @@ read-requires c κs = search needs
 read-numbers-requires : tie.Need-read-numbers-requires
 read-numbers-requires c κs =
     let entry = c .before .before .before .before .before .before in
-    subst (λ (a : ReadAnswer). Fits32 (fieldsOf a)) (sym (c .before .before .read .ensures .0 .same)) (read-fits (entry .args .bytes .now) (entry .args .rows .now))
+    subst (λ (a : ReadAnswer). Fits32 (fieldsOf a)) (sym (c .before .before .read .ensures .0 .same))
+    (read-fits (entry .args .bytes .now) (entry .args .rows .now))
 
 same-length : tie.Need-same-length
 same-length c = search needs

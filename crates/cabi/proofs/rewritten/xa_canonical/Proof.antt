@@ -22,13 +22,25 @@ cast-t16 : tie.Need-cast-t16
 cast-t16 c =
     let at-write-canonical = c .before .before .before .before .before .before .before in
     let at-byte-bounds = at-write-canonical .before .before .before in
-    record { fits = omega (arith, canonical-narrow _ _ _ (at-byte-bounds .byte-bounds .ensures) (at-write-canonical .write-canonical .ensures .0 .same) (c .before .n .given .1) .rows) }
+    record {
+      fits = omega (
+        arith,
+        canonical-narrow _ _ _ (at-byte-bounds .byte-bounds .ensures)
+            (at-write-canonical .write-canonical .ensures .0 .same) (c .before .n .given .1) .rows,
+      );
+    }
 
 cast-t17 : tie.Need-cast-t17
 cast-t17 c =
     let at-write-canonical = c .before .before .before .before .before .before .before in
     let at-byte-bounds = at-write-canonical .before .before .before in
-    record { fits = omega (arith, canonical-narrow _ _ _ (at-byte-bounds .byte-bounds .ensures) (at-write-canonical .write-canonical .ensures .0 .same) (c .before .n .given .1) .size) }
+    record {
+      fits = omega (
+        arith,
+        canonical-narrow _ _ _ (at-byte-bounds .byte-bounds .ensures)
+            (at-write-canonical .write-canonical .ensures .0 .same) (c .before .n .given .1) .size,
+      );
+    }
 
 enum-known-size : tie.Need-enum-known-size
 enum-known-size c = search needs
@@ -37,7 +49,13 @@ cast-t18 : tie.Need-cast-t18
 cast-t18 c =
     let at-write-canonical = c .before .before .before .before .before .before .before in
     let at-byte-bounds = at-write-canonical .before .before .before in
-    record { fits = omega (arith, canonical-narrow _ _ _ (at-byte-bounds .byte-bounds .ensures) (at-write-canonical .write-canonical .ensures .0 .same) (c .before .size .given .1) .size) }
+    record {
+      fits = omega (
+        arith,
+        canonical-narrow _ _ _ (at-byte-bounds .byte-bounds .ensures)
+            (at-write-canonical .write-canonical .ensures .0 .same) (c .before .size .given .1) .size,
+      );
+    }
 
 enum-known-code : tie.Need-enum-known-code
 enum-known-code c = search needs
@@ -46,13 +64,25 @@ cast-t19 : tie.Need-cast-t19
 cast-t19 c =
     let at-write-canonical = c .before .before .before .before .before .before .before in
     let at-byte-bounds = at-write-canonical .before .before .before in
-    record { fits = omega (arith, canonical-narrow _ _ _ (at-byte-bounds .byte-bounds .ensures) (at-write-canonical .write-canonical .ensures .0 .same) (c .before .code .given .1) .code) }
+    record {
+      fits = omega (
+        arith,
+        canonical-narrow _ _ _ (at-byte-bounds .byte-bounds .ensures)
+            (at-write-canonical .write-canonical .ensures .0 .same) (c .before .code .given .1) .code,
+      );
+    }
 
 cast-t20 : tie.Need-cast-t20
 cast-t20 c =
     let at-write-canonical = c .before .before .before .before .before .before .before in
     let at-byte-bounds = at-write-canonical .before .before .before in
-    record { fits = omega (arith, canonical-narrow _ _ _ (at-byte-bounds .byte-bounds .ensures) (at-write-canonical .write-canonical .ensures .0 .same) (c .before .code .given .1) .offset) }
+    record {
+      fits = omega (
+        arith,
+        canonical-narrow _ _ _ (at-byte-bounds .byte-bounds .ensures)
+            (at-write-canonical .write-canonical .ensures .0 .same) (c .before .code .given .1) .offset,
+      );
+    }
 
 enum-told : tie.Need-enum-told
 enum-told c = search needs
@@ -68,8 +98,11 @@ same-length-2 c = search needs
 
 returns : tie.Need-returns
 returns c =
-    let at-write-canonical = c .before .before .before .before .before .before .before in
-    (ap (λ (a : CanonicalAnswer). rewrittenOf (fieldsOf a)) (sym (c .before .n .given .1) ∙ at-write-canonical .write-canonical .ensures .0 .same), at-write-canonical .write-canonical .ensures .1)
+    let at-write-canonical = c .before .before .before .before .before .before .before in (
+      ap (λ (a : CanonicalAnswer). rewrittenOf (fieldsOf a))
+          (sym (c .before .n .given .1) ∙ at-write-canonical .write-canonical .ensures .0 .same),
+      at-write-canonical .write-canonical .ensures .1,
+    )
 
 same-length-3 : tie.Need-same-length-3
 same-length-3 c = search needs
@@ -79,8 +112,11 @@ same-length-4 c = search needs
 
 returns-2 : tie.Need-returns-2
 returns-2 c =
-    let at-write-canonical = c .before .before .before .before .before .before .before in
-    (ap (λ (a : CanonicalAnswer). rewrittenOf (fieldsOf a)) (sym (c .before .size .given .1) ∙ at-write-canonical .write-canonical .ensures .0 .same), at-write-canonical .write-canonical .ensures .1)
+    let at-write-canonical = c .before .before .before .before .before .before .before in (
+      ap (λ (a : CanonicalAnswer). rewrittenOf (fieldsOf a))
+          (sym (c .before .size .given .1) ∙ at-write-canonical .write-canonical .ensures .0 .same),
+      at-write-canonical .write-canonical .ensures .1,
+    )
 
 same-length-5 : tie.Need-same-length-5
 same-length-5 c = search needs
@@ -90,8 +126,11 @@ same-length-6 c = search needs
 
 returns-3 : tie.Need-returns-3
 returns-3 c =
-    let at-write-canonical = c .before .before .before .before .before .before .before in
-    (ap (λ (a : CanonicalAnswer). rewrittenOf (fieldsOf a)) (sym (c .before .code .given .1) ∙ at-write-canonical .write-canonical .ensures .0 .same), at-write-canonical .write-canonical .ensures .1)
+    let at-write-canonical = c .before .before .before .before .before .before .before in (
+      ap (λ (a : CanonicalAnswer). rewrittenOf (fieldsOf a))
+          (sym (c .before .code .given .1) ∙ at-write-canonical .write-canonical .ensures .0 .same),
+      at-write-canonical .write-canonical .ensures .1,
+    )
 
 same-length-7 : tie.Need-same-length-7
 same-length-7 c = search needs
@@ -101,8 +140,11 @@ same-length-8 c = search needs
 
 returns-4 : tie.Need-returns-4
 returns-4 c =
-    let at-write-canonical = c .before .before .before .before .before .before in
-    (ap (λ (a : CanonicalAnswer). rewrittenOf (fieldsOf a)) (sym (c .enum-told .given .1) ∙ at-write-canonical .write-canonical .ensures .0 .same), at-write-canonical .write-canonical .ensures .1)
+    let at-write-canonical = c .before .before .before .before .before .before in (
+      ap (λ (a : CanonicalAnswer). rewrittenOf (fieldsOf a))
+          (sym (c .enum-told .given .1) ∙ at-write-canonical .write-canonical .ensures .0 .same),
+      at-write-canonical .write-canonical .ensures .1,
+    )
 
 same-length-9 : tie.Need-same-length-9
 same-length-9 c = search needs
@@ -112,8 +154,11 @@ same-length-10 c = search needs
 
 returns-5 : tie.Need-returns-5
 returns-5 c =
-    let at-write-canonical = c .before .before .before .before .before .before in
-    (ap (λ (a : CanonicalAnswer). rewrittenOf (fieldsOf a)) (sym (c .enum-told2 .given .1) ∙ at-write-canonical .write-canonical .ensures .0 .same), at-write-canonical .write-canonical .ensures .1)
+    let at-write-canonical = c .before .before .before .before .before .before in (
+      ap (λ (a : CanonicalAnswer). rewrittenOf (fieldsOf a))
+          (sym (c .enum-told2 .given .1) ∙ at-write-canonical .write-canonical .ensures .0 .same),
+      at-write-canonical .write-canonical .ensures .1,
+    )
 
 pub xa-canonical-spec : {M : Type 1} → statement M
 xa-canonical-spec =

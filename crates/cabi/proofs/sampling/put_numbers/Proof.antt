@@ -46,8 +46,10 @@ loop-less c =
 
 loop-again : tie.Need-loop-again Inv-loop μ-loop
 loop-again c =
-    let entry = c .before .before .before .before in
-    (omega (arith, c .before .loop-test .taken), rw (c .before .before .loop .inv .1, c .number-at .ensures) (painted-more (λ i. getD (numbersIn (entry .args .t)) i 0) _ _))
+    let entry = c .before .before .before .before in (
+      omega (arith, c .before .loop-test .taken),
+      rw (c .before .before .loop .inv .1, c .number-at .ensures) (painted-more (λ i. getD (numbersIn (entry .args .t)) i 0) _ _),
+    )
 
 same-length : tie.Need-same-length Inv-loop μ-loop
 same-length c =

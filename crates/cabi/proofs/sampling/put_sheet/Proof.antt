@@ -20,12 +20,16 @@ same-length c =
 returns : tie.Need-returns
 returns c =
     let at-if1 = c .before .before .before .before in
-    let entry = at-if1 .before .before in
-    (sym (le-leb 260 (length (entry .args .buffer .now)) (at-if1 .if1 .taken)), c .before .before .put-numbers .ensures ∙ sheet-put (entry .args .t) (entry .args .buffer .now) (entry .pre) (at-if1 .if1 .taken))
+    let entry = at-if1 .before .before in (
+      sym (le-leb 260 (length (entry .args .buffer .now)) (at-if1 .if1 .taken)),
+      c .before .before .put-numbers .ensures ∙ sheet-put (entry .args .t) (entry .args .buffer .now) (entry .pre) (at-if1 .if1 .taken),
+    )
 
 returns-2 : tie.Need-returns-2
-returns-2 c =
-    (sym (lt-leb 260 (length (c .before .before .args .buffer .now)) (omega (arith, c .if1 .left))), sheet-kept (c .before .before .args .t) (c .before .before .args .buffer .now) (omega (arith, c .if1 .left)))
+returns-2 c = (
+  sym (lt-leb 260 (length (c .before .before .args .buffer .now)) (omega (arith, c .if1 .left))),
+  sheet-kept (c .before .before .args .t) (c .before .before .args .buffer .now) (omega (arith, c .if1 .left)),
+)
 
 pub put-sheet-spec : {M : Type 1} → statement M
 put-sheet-spec =

@@ -37,8 +37,17 @@ returns : tie.Need-returns
 returns c =
     let at-put-sheet = c .before .before .before in
     let at-sheet = at-put-sheet .before .before .before .before .before in
-    let entry = at-sheet .before .before .before .before .before in
-    (c .sheet-answer .ensures ∙ (ap (λ (x : Bool). hosted (sheetFields x (at-sheet .sheet .result .answer))) (at-put-sheet .put-sheet .ensures .0) ∙ ap (λ (r : Sampled). hosted (sheetFields (holdsSheet (entry .args .buffer .now)) (r .answer))) (at-sheet .sheet .ensures .0 .same)), (at-sheet .sheet .ensures .1, at-put-sheet .put-sheet .ensures .1 ∙ ap (λ (r : Sampled). sheetAfter (r .sheet) (entry .args .buffer .now)) (at-sheet .sheet .ensures .0 .same)))
+    let entry = at-sheet .before .before .before .before .before in (
+      c .sheet-answer .ensures
+          ∙ (ap (λ (x : Bool). hosted (sheetFields x (at-sheet .sheet .result .answer))) (at-put-sheet .put-sheet .ensures .0)
+          ∙ ap (λ (r : Sampled). hosted (sheetFields (holdsSheet (entry .args .buffer .now)) (r .answer)))
+          (at-sheet .sheet .ensures .0 .same)),
+      (
+        at-sheet .sheet .ensures .1,
+        at-put-sheet .put-sheet .ensures .1
+            ∙ ap (λ (r : Sampled). sheetAfter (r .sheet) (entry .args .buffer .now)) (at-sheet .sheet .ensures .0 .same),
+      ),
+    )
 
 pub xa-sheet-spec : {M : Type 1} → statement M
 xa-sheet-spec =

@@ -15,7 +15,8 @@ show-numbers-requires : tie.Need-show-numbers-requires
 show-numbers-requires c κs =
     let at-show = c .before .before .before .before in
     let entry = at-show .before .before .before .before .before .before in
-    subst (λ (a : ShowAnswer). Fits32 (fieldsOf a)) (sym (at-show .show .ensures .0 .same)) (show-narrow (entry .args .bytes .now) (entry .args .frame) (entry .args .rows .now) (entry .args .image .now))
+    subst (λ (a : ShowAnswer). Fits32 (fieldsOf a)) (sym (at-show .show .ensures .0 .same))
+    (show-narrow (entry .args .bytes .now) (entry .args .frame) (entry .args .rows .now) (entry .args .image .now))
 
 same-length : tie.Need-same-length
 same-length c = search needs

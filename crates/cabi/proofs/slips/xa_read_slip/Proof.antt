@@ -31,7 +31,8 @@ cast-t6 c =
 returns : tie.Need-returns
 returns c =
     let at-read-slip = c .before .before .before .before in
-    c .slip-of .ensures ∙ ap (λ (a : SlipAnswer). slipOf (readFields a)) (sym (c .before .before .v .given .1) ∙ at-read-slip .read-slip .ensures .same)
+    c .slip-of .ensures
+    ∙ ap (λ (a : SlipAnswer). slipOf (readFields a)) (sym (c .before .before .v .given .1) ∙ at-read-slip .read-slip .ensures .same)
 
 returns-2 : tie.Need-returns-2
 returns-2 c =

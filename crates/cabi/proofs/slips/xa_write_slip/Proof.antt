@@ -32,7 +32,10 @@ returns : tie.Need-returns
 returns c =
     let at-write-slip = c .before .before .before .before in
     let at-verdict-in = at-write-slip .before .before in
-    rw (← at-verdict-in .verdict-in .ensures) (ap (λ (a : WriteAnswer). writeFields a .code) (sym (c .enum-told .given .1) ∙ at-write-slip .write-slip .ensures .0 .same), at-write-slip .write-slip .ensures .1)
+    rw (← at-verdict-in .verdict-in .ensures) (
+      ap (λ (a : WriteAnswer). writeFields a .code) (sym (c .enum-told .given .1) ∙ at-write-slip .write-slip .ensures .0 .same),
+      at-write-slip .write-slip .ensures .1,
+    )
 
 same-length-2 : tie.Need-same-length-2
 same-length-2 c = search needs
@@ -41,7 +44,10 @@ returns-2 : tie.Need-returns-2
 returns-2 c =
     let at-write-slip = c .before .before .before .before .before in
     let at-verdict-in = at-write-slip .before .before in
-    rw (← at-verdict-in .verdict-in .ensures) (ap (λ (a : WriteAnswer). writeFields a .code) (sym (c .before .code .given .1) ∙ at-write-slip .write-slip .ensures .0 .same), at-write-slip .write-slip .ensures .1)
+    rw (← at-verdict-in .verdict-in .ensures) (
+      ap (λ (a : WriteAnswer). writeFields a .code) (sym (c .before .code .given .1) ∙ at-write-slip .write-slip .ensures .0 .same),
+      at-write-slip .write-slip .ensures .1,
+    )
 
 pub xa-write-slip-spec : {M : Type 1} → statement M
 xa-write-slip-spec =

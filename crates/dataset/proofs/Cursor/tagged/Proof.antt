@@ -44,8 +44,11 @@ returns-3 : tie.Need-returns-3
 unfolding taggedAt
 returns-3 c =
     let at-vr-form = c .before .before .before in
-    let at-vr-at = at-vr-form .before in
-    (rw (← c .before .u16-at .ensures .0, ← at-vr-at .vr-at .ensures .0, ← at-vr-form .vr-form .ensures) (search checks depth 40 fits 4000), search needs)
+    let at-vr-at = at-vr-form .before in (
+      rw (← c .before .u16-at .ensures .0, ← at-vr-at .vr-at .ensures .0, ← at-vr-form .vr-form .ensures)
+          (search checks depth 40 fits 4000),
+      search needs,
+    )
 
 pub tagged-spec : {M : Type 1} → statement M
 tagged-spec =

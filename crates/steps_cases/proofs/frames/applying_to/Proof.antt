@@ -30,7 +30,11 @@ add-first-holding c =
     let at-m = c .before .before .before in
     let at-find-root = at-m .before .before in
     let entry = at-find-root .before .before .before in
-    omega (arith, node-laws.within (length (nodesOf (entry .args .bytes .now))) (at-m .m .given .1) (at-find-root .find-root .ensures .1), entry .pre .few)
+    omega (
+      arith,
+      node-laws.within (length (nodesOf (entry .args .bytes .now))) (at-m .m .given .1) (at-find-root .find-root .ensures .1),
+      entry .pre .few,
+    )
 
 next-requires : tie.Need-next-requires
 next-requires c κs =
@@ -52,7 +56,7 @@ if-read-requires c κs =
 returns : tie.Need-returns
 unfolding applyingTo
 returns c =
-    (rw (node-laws.lacked (c .enum-told .given .1) (c .before .before .find-root .ensures .0)), tt)
+    (rw (node-laws.had-none (c .enum-told .given .1) (c .before .before .find-root .ensures .0)), tt)
 
 returns-2 : tie.Need-returns-2
 unfolding applyingTo
@@ -60,8 +64,15 @@ returns-2 c =
     let at-if1 = c .before .before .before in
     let at-vr = at-if1 .before in
     let at-m = at-vr .before .before in
-    let at-find-root = at-m .before .before in
-    (rw (node-laws.had (at-m .m .given .1) (at-find-root .find-root .ensures .0), ← at-vr .vr .ensures, eq-eqb _ _ (at-if1 .if1 .taken), ← c .before .before .next .ensures .0) (c .if-read .ensures .0 ∙ c .before .first-holding .ensures .0), c .if-read .ensures .1)
+    let at-find-root = at-m .before .before in (
+      rw (
+        node-laws.had (at-m .m .given .1) (at-find-root .find-root .ensures .0),
+        ← at-vr .vr .ensures,
+        eq-eqb _ _ (at-if1 .if1 .taken),
+        ← c .before .before .next .ensures .0,
+      ) (c .if-read .ensures .0 ∙ c .before .first-holding .ensures .0),
+      c .if-read .ensures .1,
+    )
 
 returns-3 : tie.Need-returns-3
 unfolding applyingTo
@@ -71,4 +82,5 @@ returns-3 c =
     (rw (node-laws.had (at-m .m .given .1) (at-find-root .find-root .ensures .0), ← c .before .vr .ensures, ne-eqb _ _ (c .if1 .left)), tt)
 
 pub applying-to-spec : {M : Type 1} → statement M
-applying-to-spec = tie.close (tie.spec find-root-requires enum-told enum-known-m vr-requires add-first-holding next-requires first-holding-requires if-read-requires returns returns-2 returns-3)
+applying-to-spec = tie.close (tie.spec find-root-requires enum-told enum-known-m vr-requires add-first-holding next-requires
+    first-holding-requires if-read-requires returns returns-2 returns-3)

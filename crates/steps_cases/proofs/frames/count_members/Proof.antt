@@ -35,14 +35,25 @@ loop-again c =
     let a = entry .args in
     let ns = nodesOf (a .bytes .now) in
     let e = ap (λ (l : List ℕ). length l) (members-next ns (c .before .before .loop .at) (a .to) (c .before .loop-test .taken)) in
-    let f = ap (λ (k : ℕ). length (members ns k (a .to))) (c .next .ensures .0) in
-    (omega (arith, c .before .before .loop .inv .0, e, f), (omega (arith, c .before .before .loop .inv .1, c .next .ensures .0), omega (arith, c .before .before .loop .inv .1, c .before .loop-test .taken)))
+    let f = ap (λ (k : ℕ). length (members ns k (a .to))) (c .next .ensures .0) in (
+      omega (arith, c .before .before .loop .inv .0, e, f),
+      (
+        omega (arith, c .before .before .loop .inv .1, c .next .ensures .0),
+        omega (arith, c .before .before .loop .inv .1, c .before .loop-test .taken),
+      ),
+    )
 
 returns : tie.Need-returns Inv-loop μ-loop
 returns c =
     let entry = c .before .before .before .before in
-    let a = entry .args in
-    (omega (arith, c .before .loop .inv .0, ap (λ (l : List ℕ). length l) (members-end (nodesOf (a .bytes .now)) (c .before .loop .at) (a .to) (c .loop-test .left))), c .before .loop .inv .1 .1)
+    let a = entry .args in (
+      omega (
+        arith,
+        c .before .loop .inv .0,
+        ap (λ (l : List ℕ). length l) (members-end (nodesOf (a .bytes .now)) (c .before .loop .at) (a .to) (c .loop-test .left)),
+      ),
+      c .before .loop .inv .1 .1,
+    )
 
 pub count-members-spec : {M : Type 1} → statement M
 count-members-spec =

@@ -34,14 +34,18 @@ enum-told-4 c = search needs
 returns-2 : tie.Need-returns-2
 returns-2 c =
     let at-found = c .before .before .before .before in
-    let entry = at-found .before .before .before .before in
-    (rw (at-found .found .given .1, laws.said holdsOf (c .enum-told2 .given .1) (c .before .before .range-holds .ensures)), subst (ApplyingBelow (length (nodesOf (entry .args .bytes .now)))) (at-found .found .given .1) (entry .pre .1))
+    let entry = at-found .before .before .before .before in (
+      rw (at-found .found .given .1, laws.said holdsOf (c .enum-told2 .given .1) (c .before .before .range-holds .ensures)),
+      subst (ApplyingBelow (length (nodesOf (entry .args .bytes .now)))) (at-found .found .given .1) (entry .pre .1),
+    )
 
 returns-3 : tie.Need-returns-3
 returns-3 c =
     let at-found = c .before .before .before .before in
-    let entry = at-found .before .before .before .before in
-    (rw (at-found .found .given .1, laws.said holdsOf (c .enum-told3 .given .1) (c .before .before .range-holds .ensures)), subst (ApplyingBelow (length (nodesOf (entry .args .bytes .now)))) (at-found .found .given .1) (entry .pre .1))
+    let entry = at-found .before .before .before .before in (
+      rw (at-found .found .given .1, laws.said holdsOf (c .enum-told3 .given .1) (c .before .before .range-holds .ensures)),
+      subst (ApplyingBelow (length (nodesOf (entry .args .bytes .now)))) (at-found .found .given .1) (entry .pre .1),
+    )
 
 returns-4 : tie.Need-returns-4
 returns-4 c =

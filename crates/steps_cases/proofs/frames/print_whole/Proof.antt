@@ -47,7 +47,12 @@ is-frame-requires c κs =
     let at-size = c .before .before .before .before .before in
     let entry = at-size .before .before .before .before in
     let s = subst SizedSmall (at-size .size .given .1) (entry .pre .1 .1 .0) in
-    record { rows = omega (arith, s .rows); columns = omega (arith, s .columns); width = s .width; number = omega (arith, entry .pre .1 .1 .1) }
+    record {
+      rows = omega (arith, s .rows);
+      columns = omega (arith, s .columns);
+      width = s .width;
+      number = omega (arith, entry .pre .1 .1 .1);
+    }
 
 slice-aggregate-write-all-3 : tie.Need-slice-aggregate-write-all-3
 slice-aggregate-write-all-3 c = search needs
