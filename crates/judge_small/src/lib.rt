@@ -1,4 +1,4 @@
-// Judging a data set of at most 65,536 bytes with a row buffer of its own, for the programs that judge.
+// Judging a data set of at most 65,536 bytes with its own row buffer, for the programs that judge.
 use conformance::JudgeAnswer;
 use room::row_buffer;
 use value::Num;

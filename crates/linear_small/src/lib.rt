@@ -1,4 +1,4 @@
-// Mapping a frame of a data set of at most 65,536 bytes with a row buffer of its own, for the program that maps.
+// Mapping a frame of a data set of at most 65,536 bytes with its own row buffer, for the program that maps.
 use element::tags;
 use linear::LinearAnswer;
 use room::row_buffer;

@@ -1,4 +1,4 @@
-// Drawing a frame of a data set of at most 65,536 bytes with a row buffer of its own, for the programs that draw.
+// Drawing a frame of a data set of at most 65,536 bytes with its own row buffer, for the programs that draw.
 use display::ShowAnswer;
 use element::tags;
 use room::row_buffer;
