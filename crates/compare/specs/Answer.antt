@@ -15,7 +15,7 @@ use Rattle.compare.specs.declared.CompareAnswer.{CompareAnswer}
 use Rattle.compare.specs.declared.CompareAnswer.the-variants as answer
 use Rattle.compare.specs.Differences.{isOff, howMany, firstOff}
 
--- The answer by which places are off, for an object with n rows.
+-- The answer for an object with n rows, by which of `size` places are off.
 unfoldable pub comparedBy : ℕ → (ℕ → Bool) → ℕ → CompareAnswer
 comparedBy n off size = cond (eqb (howMany off size) 0) (answer.Same n) (answer.Differs n (firstOff off size) (howMany off size))
 

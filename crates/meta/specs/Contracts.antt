@@ -10,7 +10,7 @@ use Rattle.meta.specs.declared.Meta.{Meta}
 use Rattle.meta.specs.declared.Meta.the-variants.{Good, NoMark, BadHead, OtherSyntax}
 use Rattle.meta.specs.Meta.{nothing, foundIn}
 
--- A UID's value lies within the first n bytes.
+-- A UID's value lies within the first `size` bytes.
 abbrev pub UidWithin : ℕ → Uid → Type 0
 UidWithin size None = Unit {0}
 UidWithin size (At a b) = (a ≤ b) × (b ≤ size)

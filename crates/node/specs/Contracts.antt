@@ -38,7 +38,7 @@ unfoldable pub firstIs : List Node → ℕ → List ℕ → Num
 firstIs ns tag [] = None
 firstIs ns tag (k ∷ ks) = cond (eqb (nodeAt ns k .tag) tag) (Is k) None
 
--- The same among the members from `from` up to `to`, if the answer says where that is.
+-- If the answer names a node, the members from it on are those from `from` up to `to` whose tags are not below the given tag.
 abbrev pub Nearby : List Node → ℕ → ℕ → ℕ → Num → Type 0
 Nearby ns tag from to (Is n) = members ns n to ≡ fromTag ns tag (members ns from to)
 Nearby ns tag from to None = Unit {0}

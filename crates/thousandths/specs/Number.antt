@@ -19,8 +19,8 @@ decimals = 3
 abbrev pub unit : ℕ
 unit = 10 ^ decimals
 
--- Up to 6 digits, then optionally a point and up to 3 digits, at least one digit in all. After the point: the digits before it made
--- `whole`, and decimals that were not written are zeros.
+-- Up to 6 digits, then optionally a point and up to 3 digits, at least one digit in all. After the point: `whole` is how many digits are
+-- before it, and decimals that were not written are zeros.
 abbrev pub pointOn : ℕ → Digits → List ℕ → Num
 pointOn whole d [] = cond (eqb (whole + d .count) 0) num.None (num.Is (d .number * 10 ^ (decimals - d .count)))
 pointOn whole d (c ∷ s) = num.None
