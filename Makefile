@@ -1,5 +1,5 @@
-# Installs the library for hosts and the desk tool with its completions and man pages, from what is built. Neither rt nor a prover is needed for
-# that; man pages are made where help2man is installed.
+# Installs the library for hosts, and the desk tool with its completions and man pages, from what is already built. It needs neither rt nor a
+# prover; man pages are made if help2man is installed.
 #
 #     make install                        under /usr/local
 #     make install PREFIX=/usr DESTDIR=/tmp/root
@@ -9,7 +9,7 @@ DESTDIR ?=
 INSTALL ?= install
 
 name := luuxidgaan
-# A host that was made for one version runs with every later library of that version.
+# A host that was built for one version runs with every later library of that version.
 version := $(shell sed -n 's/^\#define XA_VERSION \([0-9]*\)$$/\1/p' include/$(name).h)
 archive := target/staticlib/libcabi.a
 tool := host/target/release/luux
@@ -33,7 +33,7 @@ $(archive):
 $(tool):
 	@echo "$@ is missing: ./luux --version builds it" >&2; exit 1
 
-# Only the calls of the header can be seen from outside.
+# Exports only the calls of the header.
 $(built)/exported: Makefile
 	@mkdir -p $(built)
 	@echo '{ global: xa_*; local: *; };' > $@
@@ -42,7 +42,7 @@ $(built)/$(shared): $(archive) $(built)/exported
 	$(CC) -shared -o $@ -Wl,-soname,$(shared) -Wl,--version-script=$(built)/exported -Wl,-z,relro,-z,now \
 	    -Wl,--whole-archive $(archive) -Wl,--no-whole-archive
 
-# Made each time, since it names the prefix.
+# Made every time, since it names the prefix.
 $(built)/$(name).pc: always
 	@mkdir -p $(built)
 	@printf '%s\n' 'prefix=$(PREFIX)' 'includedir=$${prefix}/include' 'libdir=$${prefix}/lib' '' 'Name: $(name)' \
@@ -54,7 +54,7 @@ $(built)/completions/done: $(tool)
 	@for shell in bash zsh fish; do $(tool) completions $$shell > $(built)/completions/$$shell || exit 1; done
 	@echo > $@
 
-# Made anew where help2man was missing the last time.
+# Made again if help2man was missing the last time.
 $(built)/man/done: $(tool) host/man $(if $(wildcard $(built)/man/man1/luux.1),,always)
 	@rm -rf $(built)/man && mkdir -p $(built)/man/man1
 	@if command -v help2man > /dev/null; then host/man $(CURDIR)/$(tool) $(built)/man; \

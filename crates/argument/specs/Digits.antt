@@ -1,5 +1,5 @@
--- A number in plain decimal digits, at least one, below 2^64. The first byte that is no digit, or that makes the number too
--- large, says why there is none.
+-- A number in plain decimal digits, at least one, below 2^64. The first byte that is not a digit, or that makes the number too large,
+-- decides why there is no number.
 use Prim.Native.Nat.{ℕ, _+_, _-_, _*_}
 use mathlib.Core.Bool.{cond, _&&_}
 use mathlib.Core.List.{List, [], _∷_}

@@ -1,4 +1,4 @@
-// A number in plain decimal digits, as an argument of a program has it.
+// A number in plain decimal digits, from an argument of a program.
 ghost use mathlib.Core.Path.{_≡_};
 ghost use Prim.Native.Nat.{_<_};
 ghost use Rattle.argument.specs.Digits.{moreOf, withByte, argumentOf};
@@ -9,7 +9,7 @@ pub enum Decimal {
     NotNumber,
 }
 
-// The number with a digit more.
+// The number with one more digit.
 fn more(n: u64, d: u64) -> Decimal
     requires { ⌜ d < 10 ⌝ }
     ensures { λ r. ⌜ r ≡ moreOf n d ⌝ }
@@ -21,7 +21,7 @@ fn more(n: u64, d: u64) -> Decimal
     }
 }
 
-// What was read, with a byte more: a number stays one if the byte is a digit.
+// What was read, with one more byte: it is still a number if the byte is a digit.
 fn with_byte(before: Decimal, c: u8) -> Decimal
     ensures { λ r. ⌜ r ≡ withByte before c ⌝ }
 {
@@ -37,7 +37,7 @@ fn with_byte(before: Decimal, c: u8) -> Decimal
     more(n, (c - b'0') as u64)
 }
 
-// The number that the text is, or why it is none.
+// The number in the text, or why it is none.
 pub fn read_decimal(text: &[u8]) -> Decimal
     ensures { λ r. ⌜ r ≡ argumentOf (now (text .entry)) ⌝ }
 {

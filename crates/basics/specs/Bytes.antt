@@ -1,5 +1,5 @@
--- Numbers in a data set's bytes, by their offset. Byte forms follow PS3.5.
--- A byte past the end counts as 0; no definition above reads one.
+-- Numbers in a data set's bytes, by their offset. Byte forms follow PS3.5. A byte past the end counts as 0; no definition that uses this
+-- reads one.
 use Prim.Native.Nat.{ℕ, zero, suc, _+_, _*_, _/_, _%_}
 use mathlib.Core.List.{List, [], _∷_}
 use lib.ListN.{getD}

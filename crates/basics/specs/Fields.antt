@@ -1,10 +1,10 @@
 -- The fields of an answer (document 01, "What is handed back"): the numbers that the paper gives for each code, whatever the call. Each
--- answer enum has one definition `fieldsOf`, from its cases to these numbers, and what a public call promises of its answer is `Answers`
--- with that definition.
+-- answer enum has one definition `fieldsOf`, from its cases to these numbers, and a public call promises its answer by `Answers` with
+-- that definition.
 use mathlib.Core.Path.{_≡_}
 use Prim.Native.Nat.{ℕ}
 
--- Code, place, row count, rule and frame; masked is 1, native 0.
+-- Code, offset (the paper's place), row count, rule and frame; masked is 1, native 0.
 pub record Fields : Type 0 where
   pub code : ℕ
   pub offset : ℕ
@@ -19,7 +19,7 @@ pub record Fields : Type 0 where
 abbrev pub codeAlone : ℕ → Fields
 codeAlone code = record { code = code; offset = 0; rows = 0; rule = 0; frame = 0; masked = 0 }
 
--- A code and a place.
+-- A code and an offset.
 abbrev pub placed : ℕ → ℕ → Fields
 placed code offset = record { code = code; offset = offset; rows = 0; rule = 0; frame = 0; masked = 0 }
 
@@ -37,7 +37,7 @@ broken rows rule frame = record { code = 9; offset = 0; rows = rows; rule = rule
 
 -- ---- What a call promises
 
--- The answer r is the one that a definition gives, and its fields, in the paper's numbers, are those of that one.
+-- The answer r is the one that a definition gives, and its fields are that answer's, in the paper's numbers.
 pub record Answers {A F : Type 0} (fieldsOf : A → F) (r expected : A) : Type 0 where
   pub same : r ≡ expected
   pub fields : fieldsOf r ≡ fieldsOf expected

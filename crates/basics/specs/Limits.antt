@@ -5,6 +5,6 @@ use Prim.Native.Nat.{ℕ}
 abbrev pub largest : ℕ
 largest = 1073741824
 
--- The most rows that it has: a row takes 8 bytes or more.
+-- The most rows that it can have: a row takes at least 8 bytes.
 abbrev pub mostRows : ℕ
 mostRows = 134217728

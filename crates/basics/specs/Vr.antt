@@ -118,6 +118,6 @@ unfoldable pub listed : List ℕ → ℕ → Bool
 listed [] vr = false
 listed (k ∷ ks) vr = eqb vr k || listed ks vr
 
--- The form of a VR's header: 2 with a 32-bit length, 1 with a 16-bit length, 0 where the VR is not listed.
+-- The form of a VR's header: 2 with a 32-bit length, 1 with a 16-bit length, 0 if the VR is not listed.
 unfoldable pub formOf : ℕ → ℕ
 formOf vr = cond (listed longVrs vr) 2 (cond (listed shortVrs vr) 1 0)

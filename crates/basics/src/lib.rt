@@ -1,5 +1,5 @@
-// What every crate above stands on: numbers in bytes, VRs, and how large a data set may be. specs/ says what each is, and what an
-// answer is. No call of this crate is public: each is given bytes that are there.
+// The base of every other crate: numbers in bytes, VRs, and how large a data set may be. specs/ defines each, and the fields of an
+// answer. No function of this crate is a public call: each requires that the bytes it reads exist.
 ghost use mathlib.Core.Path.{_≡_};
 ghost use Prim.Native.Nat.{_+_, _≤_, _<_};
 ghost use lib.ListN.{length};
@@ -12,7 +12,7 @@ pub mod vrs;
 // The most bytes that a data set may have.
 pub const LARGEST: usize = 1_073_741_824;
 
-// The most rows that it has.
+// The most rows that it can have.
 pub const MOST_ROWS: usize = 134_217_728;
 
 pub fn wide(x: u8) -> usize
@@ -55,8 +55,8 @@ pub fn vr_at(s: &[u8], p: usize) -> usize
     256 * wide(s[p]) + wide(s[p + 1])
 }
 
-// The forms of the VRs with a first letter: two bits for each second letter, from 64 on, lowest first. This compiles to a
-// table, where a `match` over the VRs would be a tree of tests.
+// The forms of the VRs with a first letter: two bits for each second letter, from 64 on, lowest first. This compiles to a table; a
+// `match` over the VRs would become a tree of tests.
 fn forms_after(first: usize) -> u64
     ensures { λ r. ⌜ FormsAfter first r ⌝ }
 {
@@ -76,8 +76,8 @@ fn forms_after(first: usize) -> u64
     }
 }
 
-// The form of a VR: 2 with a 32-bit length, 1 with a 16-bit length, 0 where it is not listed. SQ is told first, since the
-// readers ask for it again.
+// The form of a VR: 2 with a 32-bit length, 1 with a 16-bit length, 0 if it is not listed. SQ is tested first, since the readers test for
+// it again.
 pub fn vr_form(vr: usize) -> usize
     ensures { λ r. ⌜ r ≡ formOf vr ⌝ }
 {

@@ -1,4 +1,4 @@
-// The VRs that are told by name, by their letters.
+// The VRs that code names, by their letters.
 pub const CS: usize = 0x4353;
 
 pub const DS: usize = 0x4453;

@@ -1,5 +1,5 @@
--- What a host is handed for each answer: the fields of the answer in 32 bits each, and of judging the sum of its searches in 64, which
--- every `fieldsOf` gives in the papers' numbers.
+-- What a host gets for each answer: the fields that `fieldsOf` gives, in the papers' numbers, in 32 bits each; for judging also the sum
+-- of its searches, in 64 bits.
 use Prim.Native.Nat.{ℕ, _<_}
 use mathlib.Core.Bool.{Bool, cond}
 use mathlib.Core.List.{List, _++_}
@@ -25,7 +25,7 @@ use Rattle.cabi.specs.declared.comparing.Compared.{Compared}
 use Rattle.cabi.specs.declared.rewritten.Rewritten.{Rewritten}
 use Rattle.cabi.specs.declared.slips.Slip.{Slip}
 
--- The version of the calls for hosts: one more each time that a host which was made for the last one has to be made anew.
+-- The version of the calls for hosts: one more each time that a host built for the last version must be rebuilt.
 abbrev pub version : ℕ
 version = 1
 
@@ -41,7 +41,7 @@ hosted a = record {
   searches = 0;
 }
 
--- The same with the sum of its searches, which judging names, of a data set and of a file. No other call names it.
+-- The same with the sum of its searches, which judging names, for a data set and for a file. No other call names it.
 abbrev pub withSearches : ℕ → Answer → Answer
 withSearches searches a = record {
   code = a .code;
@@ -82,8 +82,8 @@ rewrittenOf a = record { code = a .answer .code; offset = a .answer .offset; row
 abbrev pub sheetSize : ℕ
 sheetSize = 260
 
--- The fields of `xa_sheet`'s answer. `room` says whether the buffer holds a sheet: only in C can it be too small, and where the sheet was
--- else done the answer is 11.
+-- The fields of `xa_sheet`'s answer. `room` says whether the buffer holds a sheet: only in C can it be too small, and then the answer is
+-- 11 if the sheet would otherwise be done.
 abbrev pub sheetFields : Bool → SheetAnswer → Fields
 sheetFields room (sampled.Done n) = cond room (fieldsOf (sampled.Done n)) (codeAlone 11)
 sheetFields room (sampled.Broken n rule frame) = fieldsOf (sampled.Broken n rule frame)
@@ -93,8 +93,8 @@ sheetFields room sampled.NoRoom = fieldsOf sampled.NoRoom
 sheetFields room sampled.WrongOrder = fieldsOf sampled.WrongOrder
 sheetFields room sampled.NoFrame = fieldsOf sampled.NoFrame
 
--- Whether a buffer holds a sheet; and what it holds afterwards: the sheet, or zeros, and untouched beyond; a buffer that is too
--- small is left alone.
+-- Whether a buffer has room for a sheet, and what it holds afterwards: the sheet, or zeros, and untouched beyond them. A buffer that is
+-- too small is left alone.
 abbrev pub holdsSheet : List ℕ → Bool
 holdsSheet buffer = leb sheetSize (length buffer)
 
@@ -114,15 +114,15 @@ pub record CompareFits32 (a : comparing.Compared) : Type 0 where
 
 -- ---- Slips
 
--- The row count that a host hands over: any flag but 0 says that it is known.
+-- The row count that a host hands over: any flag but 0 means that it is known.
 abbrev pub countIn : ℕ → ℕ → RowCount
 countIn flag rows = cond (eqb flag 0) NotKnown (Known rows)
 
--- The verdict that an answer holds; whether it was masked and the sum of its searches play no part.
+-- The verdict in an answer; `masked` and `searches` are ignored.
 unfoldable pub verdictIn : Answer → ℕ → Verdict
 verdictIn a flag = record { code = a .code; rule = a .rule; frame = a .frame; offset = a .offset; rows = countIn flag (a .rows) }
 
--- The row count that a host is handed: 1 and the number, or 0 and a number that no verdict has.
+-- The row count that a host gets: 1 and the number, or 0 and a number that no verdict has.
 abbrev pub knownNumber : RowCount → ℕ
 knownNumber (Known n) = 1
 knownNumber NotKnown = 0
@@ -143,7 +143,7 @@ verdictAnswer v = record {
   searches = 0;
 }
 
--- The answer of `xa_read_slip`: 0 and the verdict, or the refusal's code, all else being 0.
+-- The answer of `xa_read_slip`: 0 and the verdict, or the refusal's code, with all other fields 0.
 abbrev pub slipBy : ℕ → Option Verdict → Slip
 slipBy code (some v) = record { code = code; known = knownNumber (v .rows); verdict = verdictAnswer v }
 slipBy code none = record { code = code; known = 0; verdict = hosted (codeAlone 0) }

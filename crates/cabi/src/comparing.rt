@@ -12,8 +12,8 @@ ghost use Rattle.dataset.specs.Answer.{bufferOf};
 ghost use Rattle.compare.specs.Answer.{compareOf, plain, fieldsOf};
 ghost use Rattle.cabi.specs.Host.{comparedOf};
 
-// What `xa_compare` answers with: with code 0 whether all cells are within the tolerance, and else the first that is not and how many
-// are not.
+// What `xa_compare` answers: with code 0 whether all cells are within the tolerance and, if not, the first that is not and how many are
+// not.
 #[repr(C)]
 pub struct Compared {
     pub answer: Answer,
@@ -22,7 +22,7 @@ pub struct Compared {
     pub count: u32,
 }
 
-// A refusal of which nothing but the code is named.
+// A refusal that names nothing but its code.
 fn refused_alone(code: u32) -> Compared
     ensures { λ r. ⌜ r ≡ comparedOf (plain (codeAlone code)) ⌝ }
 {
@@ -34,8 +34,8 @@ fn refused_alone(code: u32) -> Compared
     }
 }
 
-// Reads a data set into rows of seven numbers, judges it and compares cells with a frame of it. With codes 1 to 8 the row buffer stays
-// as it was.
+// Reads a data set into rows of seven numbers, judges it and compares cells with a frame of it. Codes 1 to 8 leave the row buffer as it
+// was.
 #[no_mangle]
 pub extern "C" fn xa_compare(
     bytes: &[u8],

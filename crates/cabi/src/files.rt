@@ -37,7 +37,7 @@ pub extern "C" fn xa_data_set(file: &[u8]) -> Part
     }
 }
 
-// Reads a file's data set into rows of seven numbers. With codes 1 to 8 and 15 to 17 the buffer stays as it was.
+// Reads a file's data set into rows of seven numbers. Codes 1 to 8 and 15 to 17 leave the buffer as it was.
 #[no_mangle]
 pub extern "C" fn xa_read_file(file: &[u8], rows: &mut [u32]) -> Answer
     ensures { λ r. ⌜ r ≡ hosted (readFields (readFileOf (now (file .entry)) (now (rows .entry)))) ⌝ }
@@ -66,8 +66,8 @@ fn judge_file_numbers(answer: JudgeFileAnswer) -> Answer
     }
 }
 
-// Reads a file's data set into rows of seven numbers and judges it; with code 0 the sum of its searches is named too. With codes 1 to 8 and
-// 15 to 17 the buffer stays as it was.
+// Reads a file's data set into rows of seven numbers and judges it; with code 0 the sum of its searches is named too. Codes 1 to 8 and 15
+// to 17 leave the buffer as it was.
 #[no_mangle]
 pub extern "C" fn xa_judge_file(file: &[u8], rows: &mut [u32]) -> Answer
     ensures { λ r. ⌜ r ≡ reported (countedFields (countedFileOf (now (file .entry)) (now (rows .entry)))) ⌝ }
@@ -79,8 +79,8 @@ pub extern "C" fn xa_judge_file(file: &[u8], rows: &mut [u32]) -> Answer
     with_searches(numbers, counted.searches)
 }
 
-// Judges a file's data set and draws a frame of it, a byte for each sample. With codes 1 to 8 and 15 to 17 the row buffer stays as it
-// was, with every code but 0 the image buffer.
+// Judges a file's data set and draws a frame of it, a byte for each sample. Codes 1 to 8 and 15 to 17 leave the row buffer as it was,
+// every code but 0 the image buffer.
 #[no_mangle]
 pub extern "C" fn xa_show_file(
     file: &[u8],

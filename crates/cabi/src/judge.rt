@@ -28,8 +28,8 @@ pub fn judge_numbers(answer: JudgeAnswer) -> Answer
     }
 }
 
-// Reads a data set into rows of seven numbers and judges it; with code 0 the sum of its searches is named too. With codes 1 to 8 the
-// buffer stays as it was.
+// Reads a data set into rows of seven numbers and judges it; with code 0 the sum of its searches is named too. Codes 1 to 8 leave the
+// buffer as it was.
 #[no_mangle]
 pub extern "C" fn xa_judge(bytes: &[u8], rows: &mut [u32]) -> Answer
     ensures { λ r. ⌜ r ≡ reported (counted.fieldsOf (countedOf (now (bytes .entry)) (now (rows .entry)))) ⌝ }

@@ -1,5 +1,5 @@
-// The library's calls for hosts in C and whatever calls C; include/luuxidgaan.h declares them. None has a `requires`:
-// any bytes and any buffers may be handed in.
+// The library's calls for hosts in C, or in any language that can call C; include/luuxidgaan.h declares them. None has a `requires`: they
+// take any bytes and any buffers.
 mod comparing;
 mod files;
 mod judge;
@@ -34,7 +34,7 @@ pub use slips::Slip;
 pub use slips::xa_read_slip;
 pub use slips::xa_write_slip;
 
-// What every call answers with. Fields that a code does not name are 0; the definitions `fieldsOf` say which code names which.
+// What every call answers. Fields that a code does not name are 0; the definitions `fieldsOf` say which code names which.
 #[repr(C)]
 pub struct Answer {
     pub code: u32,
@@ -54,7 +54,7 @@ pub extern "C" fn xa_version() -> u32
     1
 }
 
-// Answers by what their code names. The code alone.
+// Answers, by what their code names. The code alone.
 fn code_alone(code: u32) -> Answer
     ensures { λ r. ⌜ r ≡ hosted (codeAlone code) ⌝ }
 {

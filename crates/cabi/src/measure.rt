@@ -12,8 +12,8 @@ ghost use Rattle.linear.specs.Answer.{linearOf, valuesOf, fieldsOf};
 ghost use Rattle.squareroot.specs.SquareRoot.{rootLevel, rootEntry};
 ghost use Rattle.cabi.specs.Host.{hosted};
 
-// Reads a data set into rows of seven numbers, judges it and maps a frame of it by its TO_LINEAR item, a number for each
-// sample. With codes 1 to 8 the row buffer stays as it was, with every code but 0 the values buffer.
+// Reads a data set into rows of seven numbers, judges it and maps a frame of it by its TO_LINEAR item, a number for each sample. Codes 1
+// to 8 leave the row buffer as it was, every code but 0 the values buffer.
 #[no_mangle]
 pub extern "C" fn xa_linear(
     bytes: &[u8],
@@ -37,7 +37,7 @@ pub extern "C" fn xa_linear(
     }
 }
 
-// The level of a 14-bit cell, of a larger number its lowest 14 bits.
+// The level of a 14-bit cell: the lowest 14 bits of a number.
 #[no_mangle]
 pub extern "C" fn xa_root_level(cell: u64) -> u8
     ensures { λ r. ⌜ r ≡ rootLevel cell ⌝ }

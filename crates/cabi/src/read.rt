@@ -22,7 +22,7 @@ pub fn read_numbers(answer: ReadAnswer) -> Answer
     }
 }
 
-// Reads a data set into rows of seven numbers. With codes 1 to 8 the buffer stays as it was.
+// Reads a data set into rows of seven numbers. Codes 1 to 8 leave the buffer as it was.
 #[no_mangle]
 pub extern "C" fn xa_read(bytes: &[u8], rows: &mut [u32]) -> Answer
     ensures { λ r. ⌜ r ≡ hosted (fieldsOf (answerOf (readingOf (now (bytes .entry))) (now (rows .entry)))) ⌝ }

@@ -6,7 +6,7 @@ ghost use Rattle.dataset.specs.Answer.{bufferOf};
 ghost use Rattle.canonical.specs.Answer.{canonicalOf, targetOf, fieldsOf};
 ghost use Rattle.cabi.specs.Host.{rewrittenOf};
 
-// What `xa_canonical` answers with. Fields that a code does not name are 0.
+// What `xa_canonical` answers. Fields that a code does not name are 0.
 #[repr(C)]
 pub struct Rewritten {
     pub code: u32,
@@ -15,8 +15,8 @@ pub struct Rewritten {
     pub length: u32,
 }
 
-// Reads a data set into rows of seven numbers and writes its canonical form. With codes 1 to 8 the row buffer stays as it was, with
-// every code but 0 the target.
+// Reads a data set into rows of seven numbers and writes its canonical form. Codes 1 to 8 leave the row buffer as it was, every code but
+// 0 the target.
 #[no_mangle]
 pub extern "C" fn xa_canonical(bytes: &[u8], rows: &mut [u32], target: &mut [u8]) -> Rewritten
     ensures { λ r. ⌜ r ≡ rewrittenOf (fieldsOf (canonicalOf (now (bytes .entry)) (now (rows .entry)) (now (target .entry)))) ⌝ }

@@ -29,7 +29,7 @@ fn put_numbers(t: Numbers, buffer: &mut [u64])
     }
 }
 
-// The same, where the buffer may be too small; answers whether it was not.
+// The same for a buffer that may be too small; answers whether it was large enough.
 fn put_sheet(t: Numbers, buffer: &mut [u64]) -> bool
     requires { ⌜ length (t .counts) ≡ 256 ⌝ }
     ensures { λ r. ⌜ r ≡ holdsSheet (now (buffer .entry)) ⌝ }
@@ -43,7 +43,7 @@ fn put_sheet(t: Numbers, buffer: &mut [u64]) -> bool
     }
 }
 
-// What a host is handed for an answer; `room` says whether the buffer holds a sheet.
+// What a host gets for an answer; `room` says whether the buffer has room for a sheet.
 fn sheet_answer(answer: SheetAnswer, room: bool) -> Answer
     requires { ⌜ Fits32 (fieldsOf answer) ⌝ }
     ensures { λ r. ⌜ r ≡ hosted (sheetFields room answer) ⌝ }
@@ -59,9 +59,8 @@ fn sheet_answer(answer: SheetAnswer, room: bool) -> Answer
     }
 }
 
-// Reads a data set into rows of seven numbers, judges it and counts the grey levels of its frames `first` to `last`. A buffer for
-// under 260 numbers is left alone; any other gets the sheet, or with every code but 0 zeros. With codes 1 to 8 the row buffer
-// stays as it was.
+// Reads a data set into rows of seven numbers, judges it and counts the grey levels of its frames `first` to `last`. A buffer for fewer
+// than 260 numbers is left alone; any other gets the sheet, or zeros with every code but 0. Codes 1 to 8 leave the row buffer as it was.
 #[no_mangle]
 pub extern "C" fn xa_sheet(
     bytes: &[u8],

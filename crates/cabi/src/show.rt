@@ -42,8 +42,8 @@ pub fn show_numbers(answer: ShowAnswer) -> Answer
     }
 }
 
-// Reads a data set into rows of seven numbers, judges it and draws a frame of it, a byte for each sample. With codes 1 to 8
-// the row buffer stays as it was, with every code but 0 the image buffer.
+// Reads a data set into rows of seven numbers, judges it and draws a frame of it, a byte for each sample. Codes 1 to 8 leave the row
+// buffer as it was, every code but 0 the image buffer.
 #[no_mangle]
 pub extern "C" fn xa_show(bytes: &[u8], frame: u64, rows: &mut [u32], image: &mut [u8]) -> Answer
     ensures { λ r. ⌜ r ≡ hosted (fieldsOf (showOf (now (bytes .entry)) frame (now (rows .entry)) (now (image .entry)))) ⌝ }

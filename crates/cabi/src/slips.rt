@@ -9,11 +9,11 @@ ghost use Prim.Native.Nat.{_<_};
 ghost use Rattle.slip.specs.Slip.{readOf, readFields, writeOf, writeFields, slipBuffer};
 ghost use Rattle.cabi.specs.Host.{countIn, verdictIn, knownNumber, rowsNumber, slipOf, verdictAnswer, Narrow};
 
-// The row count of a verdict that does not know it: no verdict has as many rows.
+// The row count of a verdict that does not know it: no verdict has that many rows.
 const NOT_KNOWN: u32 = 4_294_967_295;
 
-// What `xa_read_slip` answers: code 0 and the verdict, with whether its row count is known (`rows_known` in C); or a refusal's
-// code, all else being 0.
+// What `xa_read_slip` answers: code 0 and the verdict, and whether its row count is known (`rows_known` in C); or a refusal's code, with
+// all other fields 0.
 #[repr(C)]
 pub struct Slip {
     pub code: u32,
@@ -44,8 +44,8 @@ fn verdict_in(verdict: Answer, known: u32) -> Verdict
     }
 }
 
-// Writes the slip of the verdict that an answer holds over the first 17 bytes of the buffer, and answers the code: 0, 14
-// or 11. A refusal leaves the buffer as it was.
+// Writes the slip of the verdict in an answer over the first 17 bytes of the buffer, and answers the code: 0, 14 or 11. A refusal leaves
+// the buffer as it was.
 #[no_mangle]
 pub extern "C" fn xa_write_slip(verdict: Answer, known: u32, slip: &mut [u8]) -> u32
     ensures { λ r. ⌜ r ≡ writeFields (writeOf (verdictIn verdict known) (now (slip .entry))) .code ⌝ }

@@ -1,5 +1,5 @@
--- What `write_canonical` answers and what its target then holds (document 02, Q-10): as reading for codes 1 to 8, then 21 where the target
--- is shorter than what is written, then 0; and the paper's numbers for each case of the answer.
+-- What `write_canonical` answers and what its target then holds (document 02, Q-10): as for reading up to code 8, then 21 if the target
+-- is shorter than the canonical form, then 0; and the paper's numbers for each case of the answer.
 use Prim.Native.Nat.{ℕ}
 use mathlib.Core.Bool.{cond}
 use mathlib.Core.List.{List, _++_}
@@ -37,7 +37,7 @@ targetBy w target canonical.NoRoom = target
 unfoldable pub targetOf : List ℕ → List ℕ → List ℕ → List ℕ
 targetOf s rows target = targetBy (writtenOf (nodesOf s)) target (canonicalOf s rows target)
 
--- The papers' numbers of each case: those of an answer, and the length of the canonical form.
+-- The papers' numbers for each case: those of an answer, and the length of the canonical form.
 pub record Rewritten : Type 0 where
   pub answer : Fields
   pub size : ℕ

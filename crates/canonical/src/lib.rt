@@ -1,4 +1,4 @@
-// The canonical form of a data set: defined lengths throughout and no end marks. specs/Written.antt says what is written;
+// The canonical form of a data set: defined lengths throughout and no delimiters. specs/Written.antt says what is written;
 // `write_canonical`, at the end, is the public call.
 ghost use mathlib.Core.Path.{_≡_};
 ghost use Prim.Native.Nat.{_+_, _-_, _≤_, _<_};
@@ -52,7 +52,7 @@ fn head_size(vr: usize) -> usize
     if basics::vr_form(vr) == 2 { 12 } else { 8 }
 }
 
-// What stands after the tag in a header of `head` bytes.
+// What follows the tag in a header of `head` bytes.
 fn put_length(target: &mut [u8], at: usize, vr: usize, head: usize, size: usize)
     requires { ⌜ (head ≡ headSize vr) × (at + head ≤ length (now target) + 4) ⌝ }
     ensures { λ _. ⌜ Put (now (target .entry)) (now (target .exit)) at (lengthOf vr size) ⌝ }
@@ -114,8 +114,8 @@ fn span(bytes: &[u8], rows: &[u32], from: usize, to: usize) -> usize
     sum
 }
 
-// Whether a target of so many bytes is too short. The canonical form is never longer than the data set, so that its length is added up
-// only for a target that is shorter than the data set.
+// Whether a target of `room` bytes is too short. The canonical form is never longer than the data set, so its length is added up only for
+// a target that is shorter than the data set.
 fn lacks_room(bytes: &[u8], rows: &[u32], room: usize) -> bool
     requires { ⌜ Sized (now bytes) (now rows) ⌝ }
     ensures { λ r. ⌜ r ≡ ltb room (writtenSize (nodesOf (now (bytes .entry)))) ⌝ }
@@ -170,7 +170,7 @@ fn put_members(
 
 // ---- The call
 
-// Each byte is below 256: known where one is read, and so stated here for callers that read none.
+// Each byte is below 256. That is known where a byte is read; it is stated here for callers that read none.
 pub fn byte_bounds(bytes: &[u8])
     ensures { λ _. ⌜ Bytes (now (bytes .entry)) ⌝ }
 {
@@ -179,7 +179,7 @@ pub fn byte_bounds(bytes: &[u8])
     }
 }
 
-// The answer of `write_canonical`: the number of rows and of bytes written; the number of bytes that are to be written, code 21; code and
+// The answer of `write_canonical`: the number of rows and of bytes written; the number of bytes that would be written, code 21; code and
 // offset; code 7; code 8.
 pub enum CanonicalAnswer {
     Done(usize, usize),

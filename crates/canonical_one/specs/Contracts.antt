@@ -1,11 +1,11 @@
--- What is known of an answer before it is printed.
+-- What is known about an answer before it is printed.
 use Prim.Native.Nat.{ℕ, _≤_}
 use mathlib.Core.List.{List}
 use lib.ListN.{length}
 use Rattle.canonical.specs.declared.CanonicalAnswer.{CanonicalAnswer}
 use Rattle.canonical.specs.declared.CanonicalAnswer.the-variants.{Done, NoTargetRoom, Refused, TooLarge, NoRoom}
 
--- The bytes that the answer says are written are in the target.
+-- The target holds the bytes that the answer counts.
 abbrev pub Held : CanonicalAnswer → List ℕ → Type 0
 Held (Done n size) target = size ≤ length target
 Held (NoTargetRoom size) target = Unit {0}

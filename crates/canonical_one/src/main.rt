@@ -1,5 +1,5 @@
-// Writes the canonical form of the data set on standard input to standard output. A refusal is said on standard error, and so is that
-// the input is too long.
+// Writes the canonical form of the data set on standard input to standard output. A refusal goes to standard error, and so does the
+// message that the input is too long.
 use canonical::CanonicalAnswer;
 use room::input;
 use room::row_buffer;

@@ -1,20 +1,20 @@
 -- One way to write it (document 02, Q-10).
 --
--- Take a data set that reads well, and its canonical form: written with defined lengths throughout and no end marks, as
--- crates/canonical/specs/Written.antt has it. Reading the canonical form gives as many rows, with the same tags, VRs, depths, rows below
--- and, SQ aside, element values in the same order, and the same seventh numbers. It is never longer than the data set, and its own
--- canonical form is itself. With the same buffers and frame number, the judge answers the same for both, code 8 included, and reports the
--- same sum of its searches, `show` gives the same answer and picture, `sheet` the same answer and numbers, and `compare` the same answer.
+-- Take a data set that reads well, and its canonical form: written with defined lengths throughout and no delimiters, as
+-- crates/canonical/specs/Written.antt defines it. Reading the canonical form gives equally many rows, with the same tags, VRs, depths,
+-- rows below and, SQ aside, element values in the same order, and the same seventh numbers. It is never longer than the data set, and its
+-- own canonical form is itself. With the same buffers and frame number, the judge answers the same for both, code 8 included, and reports
+-- the same sum of its searches, `show` gives the same answer and picture, `sheet` the same answer and numbers, and `compare` the same
+-- answer.
 --
--- Two data sets that agree in tags, VRs, depths, rows below and element values have the same canonical form. The other way round, two that
--- read well and have the same canonical form agree in them, and are judged and drawn alike: so duplicates are found by their canonical
--- bytes.
+-- Two data sets that agree in tags, VRs, depths, rows below and element values have the same canonical form. Conversely, two that read
+-- well and have the same canonical form agree in them, and are judged and drawn alike: so duplicates are found by their canonical bytes.
 --
--- The call refuses with 7, 1 to 6 and 8 as reading does. Once the rows are read it answers 21 exactly where the target is shorter than the
--- canonical form, and else 0; both name that length. A refusal leaves the target as it was; done writes the canonical form and nothing
+-- The call refuses with 7, 1 to 6 and 8 as reading does. Once the rows are read it answers 21 exactly when the target is shorter than the
+-- canonical form, otherwise 0; both name that length. A refusal leaves the target as it was; code 0 writes the canonical form and nothing
 -- beyond it.
 --
--- Canonical.antt in proofs/ proves it. That the code computes these answers is in the contracts of `write_canonical` and `xa_canonical`.
+-- Proved in proofs/Canonical. The contracts of `write_canonical` and `xa_canonical` say that the code computes these answers.
 use mathlib.Core.Path.{_≡_}
 use Prim.Native.Nat.{ℕ, _≤_, _<_}
 use mathlib.Core.List.{List, _++_}
@@ -51,7 +51,7 @@ rowOf s i = rowAt (rowsOf s) i
 abbrev pub valueOf : List ℕ → ℕ → List ℕ
 valueOf s i = take (rowOf s i .size) (drop (rowOf s i .offset) s)
 
--- Row i has the same tag, VR, depth and rows below in both, and if it is of an element that is not SQ, the same value. An item's VR is 0.
+-- Row i has the same tag, VR, depth and rows below in both, and the same value if it is an element that is not SQ. An item's VR is 0.
 pub record AgreeAt (s t : List ℕ) (i : ℕ) : Type 0 where
   pub tag : rowOf s i .tag ≡ rowOf t i .tag
   pub vr : rowOf s i .vr ≡ rowOf t i .vr
@@ -59,12 +59,12 @@ pub record AgreeAt (s t : List ℕ) (i : ℕ) : Type 0 where
   pub below : rowOf s i .descendants ≡ rowOf t i .descendants
   pub value : (rowOf s i .vr ≡ SQ → ⊥) → (rowOf s i .vr ≡ 0 → ⊥) → valueOf s i ≡ valueOf t i
 
--- As many rows, which agree one by one.
+-- Equally many rows, which agree one by one.
 pub record Agree (s t : List ℕ) : Type 0 where
   pub count : length (rowsOf s) ≡ length (rowsOf t)
   pub each : (i : ℕ) → i < length (rowsOf s) → AgreeAt s t i
 
--- Judged, drawn, sampled and compared alike, with whatever buffers, frame numbers, cells and tolerance.
+-- Judged, drawn, sampled and compared alike, with any buffers, frame numbers, cells and tolerance.
 pub record Alike (s t : List ℕ) : Type 0 where
   pub judged : (rows : List ℕ) → judgeOf s rows ≡ judgeOf t rows
   pub searches : (rows : List ℕ) → reportedOf s rows ≡ reportedOf t rows

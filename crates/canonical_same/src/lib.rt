@@ -1,1 +1,1 @@
-// The claims about the canonical form, among them that judging and drawing are the same before and after it: specs/Canonical.antt.
+// The theorem about the canonical form, which says that judging and drawing are the same before and after it: specs/Canonical.antt.

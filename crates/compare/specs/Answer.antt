@@ -1,5 +1,5 @@
--- What `compare` answers (document 02, Q-12): as `show` up to code 10, then 22 where the number of cells is not Rows × Columns,
--- then 23 for a tolerance over 255, then 0 with yes, or with no, the first cell that is off, and how many are.
+-- What `compare` answers (document 02, Q-12): as `show` up to code 10, then 22 if the number of cells is not Rows × Columns, then 23 for
+-- a tolerance over 255, then 0 with yes, or with no, the first cell that is off and how many are off.
 use Prim.Native.Nat.{ℕ}
 use mathlib.Core.Bool.{Bool, cond}
 use mathlib.Core.List.{List}
@@ -15,7 +15,7 @@ use Rattle.compare.specs.declared.CompareAnswer.{CompareAnswer}
 use Rattle.compare.specs.declared.CompareAnswer.the-variants as answer
 use Rattle.compare.specs.Differences.{isOff, howMany, firstOff}
 
--- The answer by the places that are off, among so many, for an object with n rows.
+-- The answer for an object with n rows, by which of `size` places are off.
 unfoldable pub comparedBy : ℕ → (ℕ → Bool) → ℕ → CompareAnswer
 comparedBy n off size = cond (eqb (howMany off size) 0) (answer.Same n) (answer.Differs n (firstOff off size) (howMany off size))
 
@@ -39,7 +39,8 @@ answerFor ns f cells t judged.NoRoom = answer.NoRoom
 unfoldable pub compareOf : List ℕ → ℕ → List ℕ → ℕ → List ℕ → CompareAnswer
 compareOf s f cells t buffer = answerFor (nodesOf s) f cells t (judgeOf s buffer)
 
--- The papers' numbers of each case: those of an answer, then yes (1) or no (0), the place of the first cell that is off, and how many are.
+-- The papers' numbers for each case: those of an answer, then yes (1) or no (0), the place of the first cell that is off, and how many
+-- are off.
 pub record Compared : Type 0 where
   pub answer : Fields
   pub same : ℕ

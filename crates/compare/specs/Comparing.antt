@@ -1,9 +1,8 @@
--- What is promised of comparing. `compare` answers code 0 exactly when the object is accepted, the number is that of one of its
--- frames, there are Rows × Columns cells, the tolerance is at most 255, and there is room for the rows. It then says yes exactly
--- when every cell is within t of the picture that the steps give. Otherwise it names the place, from 0, of a cell that is not within
--- t, every cell before that place is, and the count it names is that of all cells that are not. Our own picture passes at t = 0:
--- whatever `show` hands back with code 0, for any accepted object and any of its frames, `compare` takes. And what passes at t
--- passes at every larger t up to 255. The proof stands in proofs/Comparing.
+-- What `compare` promises. `compare` answers code 0 exactly when the object is accepted, the number is one of its frames, there are Rows
+-- × Columns cells, the tolerance is at most 255, and there is room for the rows. It then says yes exactly when every cell is within t of
+-- the picture that the steps give. Otherwise it names the place, counted from 0, of the first cell that is not within t, and counts all
+-- cells that are not. Our own picture passes at t = 0: `compare` accepts whatever `show` hands back with code 0, for any accepted object
+-- and any of its frames. And what passes at t passes at every larger t up to 255. Proved in proofs/Comparing.
 use mathlib.Core.Path.{_≡_}
 use mathlib.Core.List.{List}
 use Prim.Native.Nat.{ℕ, _+_, _*_, _≤_, _<_}
@@ -39,7 +38,7 @@ pub record Names (s : List ℕ) (f : ℕ) (cells : List ℕ) (t first count : �
   pub some : 1 ≤ count
 
 pub record Promise (s : List ℕ) (f : ℕ) (cells : List ℕ) (t : ℕ) (buffer : List ℕ) : Type 0 where
-  -- What can be compared is,
+  -- What can be compared is compared,
   pub done : Comparable s f cells t buffer → fieldsOf (compareOf s f cells t buffer) .answer .code ≡ 0
   -- and nothing else is.
   pub nothing-else : fieldsOf (compareOf s f cells t buffer) .answer .code ≡ 0 → Comparable s f cells t buffer

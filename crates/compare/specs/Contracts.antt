@@ -1,4 +1,4 @@
--- What the comparing functions ask and say. No paragraph of a paper stands here.
+-- What the comparing functions require and promise. None of this is in the papers.
 use mathlib.Core.Path.{_≡_}
 use mathlib.Core.Bool.{Bool, cond, not}
 use mathlib.Core.List.{List}
@@ -32,12 +32,12 @@ met t f cells n = along (offBy t f cells) 0 n nothing
 
 -- ---- What is compared
 
--- So many cells, and a tolerance that is one.
+-- As many cells as the frame has, and a tolerance of at most 255.
 pub record Against (cells : List ℕ) (t n : ℕ) : Type 0 where
   pub size : length cells ≡ n
   pub most : t ≤ 255
 
--- A line's part of the cells, and no more places that are off than cells before it.
+-- A line's part of the cells, and no more places off than there are cells before it.
 pub record LineOf (line cells : List ℕ) (at t : ℕ) (d : Differing) : Type 0 where
   pub inside : at + length line ≤ length cells
   pub most : t ≤ 255

@@ -1,5 +1,5 @@
--- Where another workstation's picture differs from ours (document 02, Q-12): which cells are not within t of ours, how many they
--- are, and the first of them.
+-- Where another workstation's picture differs from ours (document 02, Q-12): which cells are not within t of ours, how many there are,
+-- and which is the first.
 use Prim.Native.Nat.{ℕ, zero, suc, _+_}
 use mathlib.Core.Bool.{Bool, cond, not, _&&_}
 use mathlib.Core.List.{List}
@@ -19,7 +19,7 @@ unfoldable pub howMany : (ℕ → Bool) → ℕ → ℕ
 howMany off zero = 0
 howMany off (suc n) = cond (off n) 1 0 + howMany off n
 
--- The first of them: the last place where it is off and none before it is, and else the first of those before. 0 where none is.
+-- The first of them: the last place if it is off and none before it is, otherwise the first of those before; 0 if none is off.
 unfoldable pub firstOff : (ℕ → Bool) → ℕ → ℕ
 firstOff off zero = 0
 firstOff off (suc n) = cond (off n && eqb (howMany off n) 0) n (firstOff off n)

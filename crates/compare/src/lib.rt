@@ -35,8 +35,8 @@ use value::Num;
 // The largest tolerance.
 const MOST: usize = 255;
 
-// The answer of `compare`: yes, with the number of rows; no, with the number of rows, the first cell that is off and how many
-// are; code 9, with the number of rows, rule and frame; code and offset of a refusal; codes 7, 8, 10, 22 and 23.
+// The answer of `compare`: yes, with the number of rows; no, with the number of rows, the first cell that is off and how many are off;
+// code 9, with the number of rows, rule and frame; code and offset of a refusal; codes 7, 8, 10, 22 and 23.
 pub enum CompareAnswer {
     Same(usize),
     Differs(usize, usize, usize),
@@ -49,7 +49,7 @@ pub enum CompareAnswer {
     WrongTolerance,
 }
 
-// How many cells were off so far, and the first of them; 0 where none was.
+// How many cells were off so far, and the first of them; 0 if none was.
 pub struct Differing {
     pub first: usize,
     pub count: usize,
@@ -57,7 +57,7 @@ pub struct Differing {
 
 // ---- A line against its cells
 
-// Two levels are not within the tolerance of each other.
+// Whether two levels are not within the tolerance of each other.
 fn is_off(ours: usize, theirs: usize, tolerance: usize) -> bool
     requires { ⌜ (ours < 256) × ((theirs < 256) × (tolerance ≤ 255)) ⌝ }
     ensures { λ r. ⌜ r ≡ not (within tolerance ours theirs) ⌝ }
@@ -451,7 +451,7 @@ fn compare_frame(
     }
 }
 
-// The same, with all rooms made here and the table of levels filled.
+// The same, with all buffers made here and the table of levels filled.
 fn compare_planned(
     bytes: &[u8],
     rows: &[u32],
@@ -519,7 +519,7 @@ fn compare_picture(
 
 // ---- The call
 
-// Compares a frame of an accepted object with so many rows: codes 10, 22 and 23, or yes or no.
+// Compares a frame of an accepted object whose number of rows is given: codes 10, 22 and 23, or yes or no.
 fn compare_table(
     bytes: &[u8],
     rows: &[u32],

@@ -1,6 +1,6 @@
 // Compares another workstation's picture with one frame of a data set. Its arguments are the frame's number, the tolerance and the length
-// of the data set; standard input has the data set and, after so many bytes, the cells, one byte each. It prints yes, or no with the first
-// cell that is off and how many are; or the refusal, in a line.
+// of the data set; standard input has the data set and, after that many bytes, the cells, one byte each. It prints yes; or no with the
+// first cell that is off and how many are off; or the refusal, in a line.
 use argument::Decimal;
 use compare::CompareAnswer;
 use printing::print_broken;
@@ -13,7 +13,7 @@ ghost use lib.ListN.{length};
 // The most bytes of data set and cells together: no frame of such a data set has more cells than it has bytes.
 const MOST_INPUT: usize = 131_072;
 
-// One byte more than is taken, so that an input that is too long is seen to be.
+// One byte more than is taken, to detect an input that is too long.
 fn input() -> [u8; 131_073]
     ensures { λ r. ⌜ 131073 ≡ length r ⌝ }
 {
@@ -58,7 +58,7 @@ fn compare_parts(bytes: &[u8], frame: u64, cells: &[u8], tolerance: u64)
     print_answer(compare_small::compare_small(bytes, frame, cells, tolerance));
 }
 
-// Parts the input at the data set's end.
+// Splits the input at the data set's end.
 fn compare_input(input: &[u8], frame: u64, tolerance: u64, size: usize) {
     if room::MOST < size {
         io::write_all(1, b"too long: a data set of at most 65536 bytes\n");

@@ -1,4 +1,4 @@
-// Comparing with a frame of a data set of at most 65,536 bytes with a row buffer of its own, for the program that compares.
+// Comparing with a frame of a data set of at most 65,536 bytes with its own row buffer, for the program that compares.
 use compare::CompareAnswer;
 use room::row_buffer;
 ghost use mathlib.Core.Path.{_≡_};

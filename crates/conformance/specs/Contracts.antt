@@ -1,4 +1,4 @@
--- How the judge's loops ask the rules. No paragraph of document 01 stands here.
+-- How the judge's loops ask the rules. None of this is in document 01.
 use mathlib.Core.Path.{_≡_}
 use Prim.Native.Nat.{ℕ, _+_, _-_, _≤_}
 use mathlib.Core.List.{List}
@@ -14,16 +14,16 @@ use Rattle.element.specs.Frames.{frameItems}
 use Rattle.rules_frame.specs.declared.SharedPart.{SharedPart}
 use Rattle.rules_frame.specs.Contracts.{sharedPart}
 
--- What a rule comes to that asks nothing of a shared item.
+-- The result for a rule that asks nothing of the shared item.
 abbrev pub noPart : SharedPart
 noPart = record { ok = true; relation = 1; table = 1 }
 
--- What a rule that is asked at each frame comes to in the shared item; of any other rule nothing is asked there.
+-- The part of a per-frame rule in the shared item; any other rule asks nothing there.
 abbrev pub okFor : List Node → ℕ → Num → SharedPart
 okFor ns rule None = noPart
 okFor ns rule (Is s) = cond (perFrame rule) (sharedPart ns rule s) noPart
 
--- The number after the last rule's.
+-- The number after that of the last rule.
 abbrev pub endRule : ℕ
 endRule = lastRule + 1
 
@@ -31,7 +31,7 @@ endRule = lastRule + 1
 abbrev pub endFrame : ℕ → ℕ → ℕ
 endFrame n rule = cond (perFrame rule) (n + 1) 1
 
--- There is such a rule; it is asked at frame 0 if it is asked once, and else the items are those from the frame's own on.
+-- There is such a rule. If it is asked once, that is at frame 0; otherwise the items are those from the frame's own on.
 pub record Asked (ns : List Node) (rule frame : ℕ) (items : Items) : Type 0 where
   pub low : 1 ≤ rule
   pub high : rule ≤ lastRule

@@ -1,10 +1,9 @@
 -- Demand 2, as one statement over bytes and buffers. Take any data set that passes the size limit and the reading checks, and a row
--- buffer with room for its rows. Then `judge` answers code 0 exactly when every rule holds at every frame at which it is asked.
--- Otherwise it answers code 9: the rule that it names is broken at the frame that it names, every earlier rule holds at all its
--- frames, and that rule holds at every lower frame. Either way it names the number of rows, the row buffer holds the rows of
--- that reading and is untouched beyond them, and the answer can be written on a slip. And whatever verdict can be written on a slip
--- and is read back is that verdict, with its row count. A rule that is asked at each frame is asked at frames 1 to N, any other once,
--- at frame 0. The proof stands in proofs/Demand2.
+-- buffer with room for its rows. Then `judge` answers code 0 exactly when every rule holds at every frame at which it is asked. Otherwise
+-- it answers code 9: the rule that it names is broken at the frame that it names, every earlier rule holds at all its frames, and that
+-- rule holds at every lower frame. Either way it names the number of rows, the row buffer holds the rows of that reading and is untouched
+-- beyond them, and the answer can be written on a slip. And every verdict that can be written on a slip is read back as that verdict,
+-- with its row count. A rule that is asked at each frame is asked at frames 1 to N, any other once, at frame 0. Proved in proofs/Demand2.
 use mathlib.Core.Path.{_≡_}
 use mathlib.Core.Bool.{true, false}
 use mathlib.Core.List.{List, _++_}
@@ -21,7 +20,7 @@ use Rattle.slip.specs.Slip.{slipOf, readOf}
 use Rattle.rules.specs.All.{ruleAt}
 use Rattle.conformance.specs.Judging.{firstFrame, frameCount, judgeOf, fieldsOf, verdictOf}
 
--- The rule holds at the frames from f up to, and without, e.
+-- The rule holds at the frames from f up to but not including e.
 abbrev pub HoldsAt : List Node → ℕ → ℕ → ℕ → Type 0
 HoldsAt ns rule f e = (g : ℕ) → f ≤ g → g < e → ruleAt ns rule g ≡ true
 
@@ -29,7 +28,7 @@ HoldsAt ns rule f e = (g : ℕ) → f ≤ g → g < e → ruleAt ns rule g ≡ t
 abbrev pub Holds : List Node → ℕ → Type 0
 Holds ns rule = HoldsAt ns rule (firstFrame rule) (firstFrame rule + frameCount ns rule)
 
--- Every rule from q up to, and without, r holds at all its frames.
+-- Every rule from q up to but not including r holds at all its frames.
 abbrev pub AllHold : List Node → ℕ → ℕ → Type 0
 AllHold ns q r = (p : ℕ) → q ≤ p → p < r → Holds ns p
 
@@ -47,7 +46,7 @@ pub record Broke (ns : List Node) (rule frame : ℕ) : Type 0 where
   pub lower : HoldsAt ns rule (firstFrame rule) frame
   pub earlier : AllHold ns 1 rule
 
--- What `judge` says of a data set that reads as these rows, with room for them.
+-- What `judge` says about a data set that reads as these rows, with room for them.
 pub record Judged (s buffer : List ℕ) (rows : List Row) : Type 0 where
   -- Code 0 exactly when every rule holds,
   pub accepted : fieldsOf (judgeOf s buffer) .code ≡ 0 → Sound (nodesOf s)

@@ -34,7 +34,7 @@ firstFrame rule = cond (perFrame rule) 1 0
 unfoldable pub frameCount : List Node → ℕ → ℕ
 frameCount ns rule = cond (perFrame rule) (numberOf (framesOf ns)) 1
 
--- At `left` frames from f on: the lowest at which the rule is broken; `otherwise` where it is broken at none.
+-- At `left` frames from f on: the lowest at which the rule is broken; `otherwise` if there is none.
 unfoldable pub lowest : List Node → ℕ → ℕ → ℕ → Finding → Finding
 lowest ns rule zero f otherwise = otherwise
 lowest ns rule (suc left) f otherwise =
@@ -65,7 +65,7 @@ answerFor f read.NoRoom = judged.NoRoom
 unfoldable pub judgeOf : List ℕ → List ℕ → JudgeAnswer
 judgeOf s buffer = answerFor (findingOf (nodesOf s)) (answerOf (readingOf s) buffer)
 
--- The paper's numbers of each case.
+-- The paper's numbers for each case.
 abbrev pub fieldsOf : JudgeAnswer → Fields
 fieldsOf (judged.Accepted n) = counted n
 fieldsOf (judged.Broken n rule frame) = broken n rule frame

@@ -1,4 +1,4 @@
-// The judge: reads a data set afresh, and finds the first broken rule and at that rule the lowest frame.
+// The judge: reads a data set afresh, and finds the first broken rule and the lowest frame that breaks it.
 ghost use mathlib.Core.Path.{_≡_};
 ghost use Prim.Native.Nat.{_+_, _-_, _*_, _≤_, _<_};
 ghost use mathlib.Core.Bool.{true, false};
@@ -22,10 +22,10 @@ use value::Num;
 use verdict::RowCount;
 use verdict::Verdict;
 
-// The number after the last rule's.
+// The number after that of the last rule.
 const END_RULE: usize = verdict::LAST_RULE + 1;
 
-// What the rules come to: all hold, or the first broken one and its lowest frame.
+// The result of the rules: all hold, or the first broken one and its lowest frame.
 pub enum Finding {
     Accepted,
     Broken(usize, usize),
@@ -41,7 +41,7 @@ pub enum JudgeAnswer {
     NoRoom,
 }
 
-// What a rule comes to that asks nothing of a shared item.
+// The result for a rule that asks nothing of the shared item.
 fn no_part() -> SharedPart
     ensures { λ r. ⌜ r ≡ noPart ⌝ }
 {
@@ -52,8 +52,7 @@ fn no_part() -> SharedPart
     }
 }
 
-// What a rule that is asked at each frame comes to in the shared item, worked out once for the rule. Any other rule asks nothing
-// there.
+// The part of a per-frame rule in the shared item, worked out once for the rule. Any other rule asks nothing there.
 fn shared_ok(bytes: &[u8], rows: &[u32], rule: usize, shared: Num) -> SharedPart
     requires { ⌜ Table (now bytes) (now rows) × Below (length (nodesOf (now bytes))) shared ⌝ }
     ensures { λ r. ⌜ r ≡ okFor (nodesOf (now (bytes .entry))) rule shared ⌝ }
@@ -70,7 +69,7 @@ fn shared_ok(bytes: &[u8], rows: &[u32], rule: usize, shared: Num) -> SharedPart
     }
 }
 
-// A rule that is asked at each frame, at the frame whose item stands first among the items that are left.
+// A rule that is asked at each frame, at the frame whose item is the first of those left.
 fn frame_holds(
     bytes: &[u8],
     rows: &[u32],
@@ -118,7 +117,7 @@ fn once_holds(bytes: &[u8], rows: &[u32], rule: usize) -> bool
     }
 }
 
-// A rule at a frame: frame 0 for a rule that is asked once; else the items from the frame's own on.
+// A rule at a frame: frame 0 for a rule that is asked once; otherwise the items from the frame's own on.
 fn rule_holds(
     bytes: &[u8],
     rows: &[u32],
@@ -152,7 +151,7 @@ fn frame_total(bytes: &[u8], rows: &[u32]) -> usize
     }
 }
 
-// The frames at which a rule is asked: from the first up to, and without, the one after the last.
+// The frames at which a rule is asked: the first, and the one after the last.
 fn first_frame(rule: usize) -> usize
     ensures { λ r. ⌜ r ≡ firstFrame rule ⌝ }
 {

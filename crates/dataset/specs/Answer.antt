@@ -29,7 +29,7 @@ answerOf tooLarge buffer = TooLarge
 answerOf (refusedAt code offset) buffer = Refused code offset
 answerOf (read rows) buffer = cond (fits rows buffer) (Done (length rows)) NoRoom
 
--- What `count` answers: 7, then 1 to 6, as `read`; then how many rows there are, whatever room they need.
+-- What `count` answers: 7, then 1 to 6, as `read`; then how many rows there are.
 abbrev pub countOf : Reading → ReadAnswer
 countOf tooLarge = TooLarge
 countOf (refusedAt code offset) = Refused code offset
@@ -41,7 +41,7 @@ bufferOf tooLarge buffer = buffer
 bufferOf (refusedAt code offset) buffer = buffer
 bufferOf (read rows) buffer = cond (fits rows buffer) (flat rows ++ drop (width * length rows) buffer) buffer
 
--- The paper's numbers of each case.
+-- The paper's numbers for each case.
 abbrev pub fieldsOf : ReadAnswer → Fields
 fieldsOf (Done rows) = counted rows
 fieldsOf (Refused code offset) = placed code offset

@@ -1,5 +1,5 @@
--- What the functions inside `read` say of the definition of reading: bounds of a header, and what a walk along one
--- level answers and writes. No paragraph of document 01 stands here.
+-- What the functions inside `read` promise in terms of the definition of reading: bounds of a header, and what a walk along one level
+-- answers and writes. None of this is in document 01.
 use mathlib.Core.Path.{_≡_}
 use Prim.Native.Nat.{ℕ, _+_, _*_, _≤_, _<_}
 use mathlib.Core.List.{List}
@@ -16,7 +16,7 @@ use Rattle.dataset.specs.Reading.{Run, done, refused, depths}
 use Rattle.basics.specs.Limits.{largest}
 use Rattle.dataset.specs.Answer.{flat, width}
 
--- A header moves on by 8 bytes at least and stays within the known end; a refusal has one of the codes 1 to 6.
+-- A header moves the cursor by at least 8 bytes and stays within the known end; a refusal has one of the codes 1 to 6.
 abbrev pub Within : Cursor → Head → Type 0
 Within c (head.Header tag vr value) = (c .at + 8 ≤ value .at)
     × ((value .at ≤ value .end) × ((value .end ≤ c .end) × ((tag < 4294967296) × (vr < 65536))))
@@ -42,20 +42,20 @@ pub record Walked (run : Run) (c : Cursor) (first : ℕ) (buffer after : List �
   pub within : RunWithin c run
   pub wrote : Wrote first run buffer after
 
--- Rows written into what a given up walk left behind are as if written into what it began with.
+-- Rows written over what an abandoned walk left are as if written over what it began with.
 abbrev pub Replaced : ℕ → Run → List ℕ → List ℕ → Type 0
 Replaced first (done stop next rows) buffer after = width * (first + length rows) ≤ length buffer
     → sets after (width * first) (flat rows) ≡ sets buffer (width * first) (flat rows)
 Replaced first (refused code offset) buffer after = Unit {0}
 
--- What a walk that may be given up says.
+-- What a walk that may be abandoned promises.
 abbrev pub LeafWalked : Run → Cursor → ℕ → List ℕ → List ℕ → Leaf → Type 0
 LeafWalked run c first buffer after (leaf.Done stop next m) = Walked run c first buffer after (walk.Done stop next m)
 LeafWalked run c first buffer after (leaf.Refused code offset) = Walked run c first buffer after (walk.Refused code offset)
 LeafWalked run c first buffer after leaf.Nested = Replaced first run buffer after
 
--- What a walk needs: a cursor within the data set, and at least 8 bytes before it for each row before. The size of a data set is
--- limited only where there is room for a row, since a row holds numbers of 32 bits.
+-- What a walk needs: a cursor within the data set, and at least 8 bytes before it for each row before. The size is limited only if there
+-- is room for a row, since a row holds 32-bit numbers.
 pub record Ready (s : List ℕ) (c : Cursor) (levels first room : ℕ) : Type 0 where
   pub start : c .at ≤ c .end
   pub stop : c .end ≤ length s

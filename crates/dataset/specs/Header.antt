@@ -1,6 +1,6 @@
--- What stands at a cursor (document 01, "Checks at a header"): a header with the cursor moved onto its value, the end
--- of what is read with the cursor moved after it, or a refusal's code. An end has its delimiter's tag and VR 0, and 0 for both at a
--- known end. The checks stand in their order; the first that applies decides.
+-- What is at a cursor (document 01, "Checks at a header"): a header, with the cursor moved onto its value; the end of what is read, with
+-- the cursor moved after it; or a refusal's code. An end has its delimiter's tag and VR 0, or 0 for both at a known end. The checks come
+-- in the paper's order; the first that applies decides.
 --
 -- A cursor is an offset, the innermost known end (data set or defined length), and whether what is read there has an
 -- undefined length, so that a delimiter (the paper's end mark) closes it.
@@ -14,7 +14,7 @@ use Rattle.dataset.specs.declared.Head.the-variants.{Header, End, Refuse
 use Rattle.basics.specs.Bytes.{le16, le32, tagAt, vrAt}
 use Rattle.basics.specs.Vr.{formOf, SQ}
 
--- The first where the test holds, else the second.
+-- The first if the test holds, otherwise the second.
 unfoldable pub when : Bool → Head → Head → Head
 when true a b = a
 when false a b = b
@@ -49,7 +49,7 @@ headerBy c head =
     when (eqb (c .at) (c .end)) (when (c .delimited) (Refused 1) (End 0 0 c))
     (when (ltb (c .end - c .at) 8) (Refused 1) head)
 
--- Check 2: a delimiter closes where it is due, that is only where that length is undefined, and with length 0.
+-- Check 2: a delimiter closes if it is due, that is only where that length is undefined, and with length 0.
 unfoldable pub delimiterBy : Cursor → ℕ → ℕ → ℕ → Head
 delimiterBy c tag due len =
     when (c .delimited)
@@ -58,7 +58,7 @@ delimiterBy c tag due len =
     (Refused 5))
     (Refused 5)
 
--- Check 8: no SQ at depth 8, that is where no level is left below it.
+-- Check 8: no SQ at depth 8, where no level is left below it.
 unfoldable pub levelBy : ℕ → ℕ → ℕ → Cursor → Head
 levelBy tag vr levels value = when (eqb vr SQ) (when (eqb levels 0) (Refused 6) (Header tag vr value)) (Header tag vr value)
 
@@ -106,7 +106,7 @@ memberAt s c tag =
     when (eqb tag itemTag) (sizedBy c (le32 s (c .at + 4)))
     (delimiterBy c tag sequenceDelimiter (le32 s (c .at + 4)))
 
--- What stands among elements, and what stands among items.
+-- What is at a cursor among elements, and among items.
 abbrev pub elementAt : List ℕ → Cursor → ℕ → ℕ → Head
 elementAt s c least levels = headerBy c (taggedAt s c (tagAt s (c .at)) least levels)
 

@@ -1,11 +1,11 @@
--- What the seventh number of a row says (document 02, Q-6), of every row of every data set that reads well.
+-- What the seventh number of a row means (document 02, Q-6), for every row of every data set that reads well.
 --
--- A row's seventh number, its parent, is the number of the item or sequence that the row stands directly in, and 0 at the root. Follow
--- it: from the row to its parent, from there to that row's parent, and so on. The rows that are met are exactly those that count the row
--- among their rows below, from the innermost to the outermost. 0 is reached within 17 steps, the step to 0 counted. An item stands in a
--- sequence and is one deeper than it; an element stands in an item and has the item's depth, or it stands at the root, at depth 0.
+-- A row's seventh number, its parent, is the number of the row of the item or sequence that directly holds the row, or 0 at the root.
+-- Follow it: from the row to its parent, from there to that row's parent, and so on. The rows met are exactly those that count the row
+-- among their rows below, from the innermost to the outermost. 0 is reached within 17 steps, the step to 0 counted. An item is in a
+-- sequence and one deeper than it; an element is in an item and has the item's depth, or it is at the root, at depth 0.
 --
--- The number counts rows from 1. The definitions count them from 0, so that the row of number suc i is row i.
+-- The number counts rows from 1. The definitions count them from 0, so the row of number suc i is row i.
 use mathlib.Core.Path.{_≡_}
 use Prim.Native.Nat.{ℕ, zero, suc, _+_, _≤_, _<_}
 use mathlib.Core.List.{List}
@@ -14,12 +14,12 @@ use Rattle.basics.specs.Vr.{SQ}
 use Rattle.dataset.specs.Reading.{Row}
 use Rattle.dataset.specs.Tree.{rowsOf, rowAt, nextRow}
 
--- The seventh number of the row of a number; the root stays the root.
+-- The seventh number of the row with a given number; the root stays the root.
 abbrev pub parentOf : List Row → ℕ → ℕ
 parentOf rows zero = zero
 parentOf rows (suc i) = rowAt rows i .parent
 
--- Following it so many steps from the row of a number.
+-- Following it for some steps from the row with a given number.
 unfoldable pub climb : List Row → ℕ → ℕ → ℕ
 climb rows zero n = n
 climb rows (suc steps) n = climb rows steps (parentOf rows n)
@@ -32,9 +32,9 @@ Counts rows j i = (j < i) × (i < nextRow rows j)
 abbrev pub Meets : List Row → ℕ → ℕ → Type 0
 Meets rows i j = (more : ℕ) × (climb rows (suc more) (suc i) ≡ suc j)
 
--- What holds of row i. `counts` and `meets`: following the number meets a row exactly if that row counts row i among its rows below.
--- `descends`: from row j it leads to a row before row j, or to the root; so each row that is met stands inside the next. `ends`: 0 within
--- 17 steps. `item`, `element`, `root`: what a row stands in, and at which depth.
+-- What holds for row i. `counts` and `meets`: following the number meets a row exactly if that row counts row i among its rows below.
+-- `descends`: from row j it leads to a row before row j, or to the root; so each row met is inside the next. `ends`: 0 within 17 steps.
+-- `item`, `element`, `root`: what holds a row, and at which depth.
 pub record Parented (rows : List Row) (i : ℕ) : Type 0 where
   pub counts : (j : ℕ) → Meets rows i j → Counts rows j i
   pub meets : (j : ℕ) → Counts rows j i → Meets rows i j
@@ -46,6 +46,6 @@ pub record Parented (rows : List Row) (i : ℕ) : Type 0 where
       → (rowAt rows j .vr ≡ 0) × (rowAt rows i .depth ≡ rowAt rows j .depth)
   pub root : rowAt rows i .parent ≡ 0 → (rowAt rows i .vr ≡ 0 → ⊥) × (rowAt rows i .depth ≡ 0)
 
--- Of every row of every data set that reads well; a data set that does not has no row.
+-- For every row of every data set that reads well; any other data set has no row.
 abbrev pub Parents : List ℕ → Type 0
 Parents s = (i : ℕ) → i < length (rowsOf s) → Parented (rowsOf s) i

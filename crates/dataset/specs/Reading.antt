@@ -12,8 +12,8 @@ use Rattle.basics.specs.Limits.{largest}
 use Rattle.basics.specs.Vr.{SQ}
 use Rattle.dataset.specs.Header.{cursor, moved, elementAt, itemAt}
 
--- The seven numbers of an element or item; `descendants` is the paper's number of rows below it, and `parent` the row number,
--- counted from 1, of the item or sequence it stands directly in, 0 at the root.
+-- The seven numbers of an element or item; `descendants` is the paper's number of rows below it, and `parent` the row number, counted
+-- from 1, of the item or sequence that directly holds it, 0 at the root.
 pub record Row : Type 0 where
   pub tag : ℕ
   pub vr : ℕ
@@ -27,8 +27,8 @@ abbrev pub row : ℕ → ℕ → ℕ → ℕ → ℕ → ℕ → ℕ → Row
 row tag vr depth offset size descendants parent =
     record { tag = tag; vr = vr; depth = depth; offset = offset; size = size; descendants = descendants; parent = parent }
 
--- What a run of headers comes to: where its value stops (before a delimiter), the offset reached (after it), and its
--- rows; or a refusal's code and offset.
+-- The result of a run of headers: where its value stops (before a delimiter), the offset reached (after it), and its rows; or a refusal's
+-- code and offset.
 pub data Run : Type 0 where
   done : ℕ → ℕ → List Row → Run
   refused : ℕ → ℕ → Run
@@ -42,11 +42,11 @@ abbrev pub onRun : Run → (ℕ → ℕ → List Row → Run) → Run
 onRun (refused code offset) go = refused code offset
 onRun (done stop next rows) go = go stop next rows
 
--- One level, header by header: `head` says what stands at an offset, `inside` what a value comes to whose rows are numbered
--- from a number on. A row's length is where its value stops less where it starts, and its descendants are the rows of its value.
--- Rows are numbered from 0 in byte order, and `first` is the number of the level's first row. It follows the row that holds the
--- level, so that `first` is that row's number counted from 1, and 0 at the root.
--- Each turn moves on by a header, so that a level has fewer turns than bytes; to run out of turns would be code 0, which no reading says.
+-- One level, header by header: `head` says what is at an offset, `inside` the result for a value whose rows are numbered from a given
+-- number on. A row's length is where its value stops minus where it starts, and its descendants are the rows of its value. Rows are
+-- numbered from 0 in byte order, and `first` is the number of the level's first row. That row comes right after the row that holds the
+-- level, so `first` is also the holder's number counted from 1, and 0 at the root. Each turn moves on by a header, so a level has fewer
+-- turns than bytes; running out of turns would be code 0, which no reading gives.
 unfoldable pub level : (ℕ → ℕ → Head) → (ℕ → ℕ → Cursor → Run) → ℕ → ℕ → ℕ → ℕ → ℕ → List Row → Run
 level head inside depth first zero at least rows = refused 0 at
 level head inside depth first (suc turns) at least rows =
@@ -57,7 +57,7 @@ level head inside depth first (suc turns) at least rows =
     level head inside depth first turns next (tag + 1)
     (rows ++ (row tag vr depth (value .at) (stop - value .at) (length below) first ∷ below))))
 
--- Depths go up to 8: `levels` is how many more are permitted, and 8 less it is the depth.
+-- Depths go up to 8: `levels` is how many more are permitted; the depth is 8 minus that.
 abbrev pub depths : ℕ
 depths = 8
 

@@ -1,5 +1,5 @@
--- The structure that the rows of a data set have, in the form in which a search over the row table uses it: the rows
--- from one row number up to another are the members of one container, each stepped over by its descendants.
+-- The structure of a data set's rows, as a search over the row table uses it: the rows from one row number up to another are the members
+-- of one container, and a step from one member to the next passes its descendants.
 use mathlib.Core.Path.{_≡_}
 use Prim.Native.Nat.{ℕ, _+_, _*_, _≤_}
 use mathlib.Core.List.{List, []}
@@ -8,7 +8,7 @@ use Rattle.basics.specs.Vr.{formOf, SQ}
 use Rattle.dataset.specs.Header.{itemTag}
 use Rattle.dataset.specs.Reading.{Row, row, Reading, tooLarge, refusedAt, read, readingOf, depths}
 
--- The rows of a data set that reads well; none of another.
+-- The rows of a data set that reads well; otherwise none.
 abbrev pub rowsIn : Reading → List Row
 rowsIn tooLarge = []
 rowsIn (refusedAt code offset) = []
@@ -34,8 +34,8 @@ pub data Kind : Type 0 where
   items : Kind
 
 -- What a member of a container is: an element of a listed VR and a tag of at least `least`, or an item. Its depth is the container's
--- depth for its members, its value lies within the data set of `size` bytes, only a sequence or an item has descendants, and its
--- parent is the container, by its row number counted from 1. Each descendant takes 8 bytes at least, and a sequence or an item without
+-- depth for its members, its value lies within the data set of `size` bytes, only a sequence or an item has descendants, and its parent
+-- is the container, by its row number counted from 1. Each descendant takes at least 8 bytes, and a sequence or an item without
 -- descendants has length 0.
 abbrev pub IsMember : Kind → ℕ → Row → Type 0
 IsMember elements least r = (least ≤ r .tag) × ((formOf (r .vr) ≡ 0 → ⊥) × ((r .vr ≡ SQ → ⊥) → r .descendants ≡ 0))
@@ -64,8 +64,8 @@ abbrev pub depthInside : Kind → ℕ → ℕ
 depthInside elements depth = depth + 1
 depthInside items depth = depth
 
--- The rows from i up to `to` are the members of one container, with all that is below them. Tags ascend among elements: each is at
--- least `least`, which the next has one above this one's tag.
+-- The rows from i up to `to` are the members of one container, with all that is below them. Tags ascend among elements: each is at least
+-- `least`, which for the next is one above this tag.
 pub data Members (rows : List Row) (size : ℕ) : Kind → ℕ → ℕ → ℕ → ℕ → ℕ → Type 0 where
   end : {kind : Kind} {depth holder least i to : ℕ} → i ≡ to → Members rows size kind depth holder least i to
   member : {kind : Kind} {depth holder least i to : ℕ} → nextRow rows i ≤ to → Member size kind depth holder least (rowAt rows i)

@@ -20,7 +20,7 @@ use basics::vr_at;
 use basics::vr_form;
 use basics::vrs;
 
-// How many numbers a row has, and which place each has: the tag is first.
+// How many numbers a row has, and the place of each; the tag is first.
 pub const WIDTH: usize = 7;
 
 pub const VR: usize = 1;
@@ -35,7 +35,7 @@ pub const BELOW: usize = 5;
 
 pub const PARENT: usize = 6;
 
-// How deep sequences may stand.
+// How deep sequences may nest.
 const DEPTHS: usize = 8;
 
 const UNDEFINED: usize = 0xFFFF_FFFF;
@@ -53,23 +53,23 @@ pub struct Cursor {
     pub delimited: bool,
 }
 
-// What stands at a cursor: a header's tag and VR, with the cursor moved onto its value; the end of what is read, with the cursor
-// moved after it; or a refusal's code. An end has the tag of its delimiter and VR 0, and 0 for both where the end was known. It has
-// the fields of a header, in their order, since the readers' loops are quicker so.
+// What is at a cursor: a header's tag and VR, with the cursor moved onto its value; the end of what is read, with the cursor moved after
+// it; or a refusal's code. An end has the tag of its delimiter and VR 0, or 0 for both at a known end. It has the fields of a header, in
+// their order, because that makes the readers' loops faster.
 pub enum Head {
     Header(usize, usize, Cursor),
     End(usize, usize, Cursor),
     Refused(usize),
 }
 
-// What a walk along one level came to: where its value stops, the offset reached and the number of the next row; or a
-// refusal's code and offset.
+// The result of a walk along one level: where its value stops, the offset reached and the number of the next row; or a refusal's code and
+// offset.
 pub enum Walk {
     Done(usize, usize, usize),
     Refused(usize, usize),
 }
 
-// What a walk along an item came to that is given up where a sequence stands: as of `Walk`, or given up.
+// The result of a walk along an item that is abandoned at a sequence: as in `Walk`, or abandoned.
 pub enum Leaf {
     Done(usize, usize, usize),
     Refused(usize, usize),
@@ -96,7 +96,7 @@ impl Cursor {
         }
     }
 
-    // The delimiter `due`, where one is due.
+    // The delimiter `due`, if one is due.
     fn delimiter(self, tag: usize, due: usize, len: usize) -> Head
         requires { ⌜ self .at + 8 ≤ self .end ⌝ }
         ensures { λ r. ⌜ r ≡ delimiterBy self tag due len ⌝ }
@@ -238,7 +238,7 @@ impl Cursor {
         self.defined(ITEM, 0, self.at + 8, len, 0)
     }
 
-    // Checks 2 and 7 of what stands among items with the tag.
+    // Checks 2 and 7 of a header among items with the tag.
     fn member(self, s: &[u8], tag: usize) -> Head
         requires { ⌜ (self .at + 8 ≤ self .end) × (self .end ≤ length (now s)) ⌝ }
         ensures { λ r. ⌜ r ≡ memberAt (now (s .entry)) self tag ⌝ }
@@ -250,8 +250,7 @@ impl Cursor {
         self.delimiter(tag, SEQUENCE_DELIMITER, u32_at(s, self.at + 4))
     }
 
-    // What stands at the cursor among elements, where tags below `least` are refused and `levels` more levels are
-    // permitted.
+    // What is at the cursor among elements; tags below `least` are refused, and `levels` more levels are permitted.
     pub fn element(self, s: &[u8], least: usize, levels: usize) -> Head
         requires { ⌜ (self .at ≤ self .end) × (self .end ≤ length (now s)) ⌝ }
         ensures { λ r. ⌜ r ≡ elementAt (now (s .entry)) self least levels ⌝ }
@@ -270,7 +269,7 @@ impl Cursor {
         self.tagged(s, tag_at(s, self.at), least, levels)
     }
 
-    // What stands at the cursor among items.
+    // What is at the cursor among items.
     pub fn item(self, s: &[u8]) -> Head
         requires { ⌜ (self .at ≤ self .end) × (self .end ≤ length (now s)) ⌝ }
         ensures { λ r. ⌜ r ≡ itemAt (now (s .entry)) self ⌝ }
@@ -290,8 +289,8 @@ impl Cursor {
     }
 }
 
-// Writes row n, of a value from `start` to `stop` whose rows end before row m, where the buffer has room for it. `first` is the
-// number of the first row beside it, which is the number from 1 of the row that holds them.
+// Writes row n, of a value from `start` to `stop` whose rows end before row m, if the buffer has room for it. `first` is the number of
+// the first row of its level, which is the number from 1 of the row that holds them.
 fn put_row(
     rows: &mut [u32],
     n: usize,
@@ -321,8 +320,8 @@ fn put_row(
     }
 }
 
-// An item without sequences, element by element: the readers below call each other only for an item that has one. Where
-// a sequence stands it is given up, and what was written so far is written again.
+// An item without sequences, element by element: the readers below call each other only for an item that has one. It is abandoned at a
+// sequence, and what was written so far is written again.
 fn read_leaf(s: &[u8], c: Cursor, levels: usize, rows: &mut [u32], first: usize) -> Leaf
     requires { ⌜ Ready (now s) c levels first (length (now rows)) ⌝ }
     ensures { λ r. ⌜ LeafWalked (elementsAt levels (now (s .entry)) first c) c first (now (rows .entry)) (now (rows .exit)) r ⌝ }
@@ -354,9 +353,8 @@ fn read_leaf(s: &[u8], c: Cursor, levels: usize, rows: &mut [u32], first: usize)
     }
 }
 
-// The two readers call each other: the item reader for a sequence that stands in the item, the sequence reader for an
-// item that has sequences in it. At each call the bytes that the cursor has left (`end - at`) fall, by a header at least;
-// and no more than 8 levels are permitted.
+// The two readers call each other: the item reader for a sequence in the item, the sequence reader for an item that contains sequences.
+// At each call the cursor has fewer bytes left (`end - at`), by at least a header; and no more than 8 levels are permitted.
 
 // An item, or the whole data set, element by element.
 pub fn read_item(s: &[u8], c: Cursor, levels: usize, rows: &mut [u32], first: usize) -> Walk
@@ -444,7 +442,7 @@ fn read_sequence(s: &[u8], c: Cursor, levels: usize, rows: &mut [u32], first: us
     }
 }
 
-// How many rows a data set has, so that a caller can lend `read` as much room as it needs. No row is stored.
+// How many rows a data set has, so that a caller can lend `read` the room that it needs. No row is stored.
 pub fn count(bytes: &[u8]) -> ReadAnswer
     ensures { λ r. ⌜ Answers fieldsOf r (countOf (readingOf (now (bytes .entry)))) ⌝ }
 {
@@ -464,8 +462,8 @@ pub fn count(bytes: &[u8]) -> ReadAnswer
     }
 }
 
-// Reads a data set into rows of seven numbers. A refusal leaves the buffer as it was: the first walk only counts, since
-// it is lent no buffer, and the second writes the rows once they are known to fit.
+// Reads a data set into rows of seven numbers. A refusal leaves the buffer as it was: the first walk gets no buffer and only counts, and
+// the second writes the rows once they are known to fit.
 pub fn read(bytes: &[u8], rows: &mut [u32]) -> ReadAnswer
     ensures { λ r. ⌜ Answers fieldsOf r (answerOf (readingOf (now (bytes .entry))) (now (rows .entry))) ⌝ }
     ensures { λ _. ⌜ now (rows .exit) ≡ bufferOf (readingOf (now (bytes .entry))) (now (rows .entry)) ⌝ }

@@ -1,10 +1,9 @@
--- Objects accepted before quarters keep their verdict and their pictures, as one statement (`KeepsPictures`, at the end). Take
--- rules 35 and 37 and drawing step 4 as they were, with shifts of whole pixels, and everything else as it is now. Take any
--- data set in which every rule held so, at every frame at which it is asked. Then it is accepted now; and for every frame of
--- it the steps as they were give a picture, and the steps of now give that same picture, masked or native, cell for cell.
--- The second statement asks for no acceptance (`SamePictures`): wherever the steps as they were give a picture, of any data
--- set at any frame number, the steps of now give it too. The old rules and the old step stand here for these statements
--- alone; no code follows them. The proofs stand in proofs/Before.
+-- Objects accepted before quarters keep their verdict and their pictures, as one statement (`KeepsPictures`, at the end). Take rules 35
+-- and 37 and drawing step 4 as they were, with shifts of whole pixels, and everything else as it is now. Take any data set in which every
+-- rule then held at every frame at which it is asked. It is accepted now; and for every frame of it the old steps give a picture, and the
+-- present steps give the same picture, masked or native, cell for cell. The second statement (`SamePictures`) does not ask for
+-- acceptance: wherever the old steps give a picture, for any data set and any frame number, the present steps give it too. The old rules
+-- and the old step are here for these statements alone; no code follows them. Proved in proofs/Before.
 use Prim.Native.Nat.{ℕ, _+_, _-_, _^_, _≤_, _<_}
 use mathlib.Core.Path.{_≡_}
 use mathlib.Core.Bool.{Bool, true, false, cond, _&&_}
@@ -130,7 +129,7 @@ stepsBefore ns f =
 
 -- ---- The statements
 
--- The steps as they were and the steps of now give the same picture.
+-- The old and the present steps give the same picture.
 pub record DrawnAlike (ns : List Node) (f : ℕ) : Type 0 where
   pub p : Picture
   pub before : stepsBefore ns f ≡ some p

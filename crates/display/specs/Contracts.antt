@@ -1,4 +1,4 @@
--- What the functions of this crate ask and say of each other. No paragraph of a paper stands here.
+-- What the functions of this crate require of and promise each other. None of this is in the papers.
 use mathlib.Core.Path.{_≡_}
 use mathlib.Core.Bool.{Bool, true, false}
 use mathlib.Core.List.{List, [], _∷_}
@@ -39,7 +39,7 @@ use Rattle.display.specs.Drawing.{Bytes}
 use Rattle.display.specs.declared.Scene.{Scene}
 use Rattle.display.specs.declared.Plan.{Plan}
 
--- What the functions inside `show` ask and say of the steps.
+-- What the functions inside `show` require, and promise in terms of the steps.
 
 -- ---- What masks a frame
 
@@ -48,7 +48,7 @@ abbrev pub AllWithin : ℕ → List ℕ → Type 0
 AllWithin n [] = Unit {0}
 AllWithin n (k ∷ ks) = ((1 ≤ k) × (k ≤ n)) × AllWithin n ks
 
--- Nothing, or 1 to 64 of the n frames, moved by whole quarters, at most 64.
+-- Nothing, or 1 to 64 of the n frames, moved by whole quarters of at most 64 pixels.
 abbrev pub Short : Moves → Type 0
 Short m = (isNumber (m .vertical) ≡ true)
     × ((isNumber (m .horizontal) ≡ true) × (SizeBelow tooFar (m .vertical) × SizeBelow tooFar (m .horizontal)))
@@ -86,7 +86,7 @@ operated ns f j operation.Average = averageBy ns f j
 operated ns f j operation.Tid = tidBy ns f j
 operated ns f j operation.Lacks = none
 
--- What the code's answer says.
+-- What the code's answer means.
 abbrev pub maskingOf : List Node → Masking → Option Mask
 maskingOf ns masking.Native = some noMask
 maskingOf ns (masking.Average k m) = some (maskOf (usValues (valueAt ns k)) m)
@@ -100,7 +100,7 @@ MaskingBelow n (masking.Average k m) = k < n
 MaskingBelow n (masking.One t m) = Unit {0}
 MaskingBelow n masking.Lacks = Unit {0}
 
--- What the mask item that applies says to all frames alike.
+-- What the mask item that applies says, the same for all frames.
 abbrev pub ToldBy : List Node → Applying → Told → Type 0
 ToldBy ns (applying.Item j) t = IsTold ns j t
 ToldBy ns applying.Nothing t = Unit {0}
@@ -120,7 +120,7 @@ shadeBy ns table g v f (masking.Average k m) = maskedShade table g v f (usValues
 shadeBy ns table g v f (masking.One t m) = maskedShade table g v f (t ∷ []) m
 shadeBy ns table g v f masking.Lacks = nativeShade table g v f
 
--- What painting asks of the masks.
+-- What painting requires of the masks.
 abbrev pub MasksReady : List Node → List ℕ → Geometry → Masking → Type 0
 MasksReady ns v g masking.Native = Unit {0}
 MasksReady ns v g (masking.Average k m) = (k < length ns) × (Masks v g (valueAt ns k) × ShortMoves m)
@@ -154,7 +154,7 @@ pub record IsItem (ns : List Node) (f : ℕ) (item : Num) : Type 0 where
   pub is : item ≡ frameItem ns f
   pub below : Below (length ns) item
 
--- The mask item that applies to frame f, and what it says to all frames alike.
+-- The mask item that applies to frame f, and what it says, the same for all frames.
 pub record IsApplying (ns : List Node) (f : ℕ) (applies : Applying) (told : Told) : Type 0 where
   pub is : applyingTo ns f ≡ some applies
   pub below : ApplyingBelow (length ns) applies

@@ -1,13 +1,12 @@
--- The drawing part of demand 3, whose one statement is `Demand3` of `Rattle.linear`. An object is accepted when it passes the
--- size limit and the reading checks and breaks no listed rule. Take any frame of it, from 1 to its Number of Frames. Then no
--- drawing step lacks anything: the frame lies whole inside the pixel bytes, the functional groups that the steps open are
--- there, every value has the VR, count and form that a step reads, every mask cell lies inside the picture, and no step divides
--- by zero. So the steps give a picture, native or masked, of exactly Rows × Columns cells, each from 0 to 255. And `show`
--- answers code 0 exactly when the object is accepted, the number is that of one of its frames, and there is room for the rows
--- and for the cells; what it then hands back, masked or native and cell for cell, is the picture that the steps give, and the
--- image buffer is untouched beyond it. The statement covers all steps, frames and cells at once. It is made of the same
--- definitions of the rules and of the steps that the calls are proved to follow, and no rule is built into the steps. Its proof
--- stands in proofs/Drawing.
+-- The drawing part of demand 3, whose one statement is `Demand3` of `Rattle.linear`. An object is accepted when it passes the size limit
+-- and the reading checks and breaks no listed rule. Take any frame of it, from 1 to its Number of Frames. Then no drawing step lacks
+-- anything: the whole frame lies inside the pixel bytes, the functional groups that the steps open are there, every value has the VR,
+-- count and form that a step reads, every mask cell lies inside the picture, and no step divides by zero. So the steps give a picture,
+-- native or masked, of exactly Rows × Columns cells, each from 0 to 255. And `show` answers code 0 exactly when the object is accepted,
+-- the number is one of its frames, and there is room for the rows and for the cells; what it then hands back, masked or native and cell
+-- for cell, is the picture that the steps give, and the image buffer is untouched beyond it. The statement covers all steps, frames and
+-- cells at once. It is made of the same definitions of the rules and of the steps that the calls are proved to follow, and no rule is
+-- built into the steps. Proved in proofs/Drawing.
 use mathlib.Core.Path.{_≡_}
 use mathlib.Core.Bool.{cond}
 use mathlib.Core.List.{List, [], _∷_, _++_}
@@ -24,11 +23,11 @@ use Rattle.conformance.specs.Judging.{numberOf, findingOf}
 use Rattle.steps.specs.Steps.{Picture, stepsOf}
 use Rattle.display.specs.Show.{imageSize, showOf, imageOf, fieldsOf}
 
--- Every number of the list is that of a byte.
+-- Every number of the list is a byte.
 abbrev pub Bytes : List ℕ → Type 0
 Bytes s = (i : ℕ) → getD s i 0 < 256
 
--- Accepted, whatever the rooms.
+-- Accepted, whatever the buffers.
 pub record IsAccepted (s : List ℕ) : Type 0 where
   pub rows : List Row
   pub reads : readingOf s ≡ read rows
@@ -39,7 +38,7 @@ pub record IsFrame (s : List ℕ) (f : ℕ) : Type 0 where
   pub low : 1 ≤ f
   pub high : f ≤ numberOf (framesOf (nodesOf s))
 
--- Room as codes 8 and 11 count it: seven numbers for each row, and a place for each cell.
+-- Room as codes 8 and 11 count it: seven numbers for each row, and a byte for each cell.
 pub record HasRoom (s buffer image : List ℕ) : Type 0 where
   pub rows : width * length (rowsOf s) ≤ length buffer
   pub cells : imageSize (nodesOf s) ≤ length image
@@ -67,7 +66,7 @@ pub record HandsBack (s : List ℕ) (f : ℕ) (buffer image : List ℕ) : Type 0
 pub record Drawing (s : List ℕ) (f : ℕ) : Type 0 where
   -- Every frame of an accepted object can be drawn.
   pub drawable : IsAccepted s → IsFrame s f → Whole (nodesOf s) f
-  -- Every frame of an accepted object is drawn where there is room,
+  -- Every frame of an accepted object is drawn if there is room,
   pub drawn : (buffer image : List ℕ) → IsAccepted s → IsFrame s f → HasRoom s buffer image → fieldsOf (showOf s f buffer image) .code ≡ 0
   -- and nothing else is.
   pub nothing-else : (buffer image : List ℕ) → fieldsOf (showOf s f buffer image) .code ≡ 0

@@ -1,5 +1,5 @@
--- What `show` answers, and what its buffers then hold (document 01, "What is handed back"): as judging up to code 9, then
--- 10 for a frame that is not in 1..N, then 11 for an image buffer under Rows × Columns bytes, then 0.
+-- What `show` answers, and what its buffers then hold (document 01, "What is handed back"): as for judging up to code 9, then 10 for a
+-- frame that is not in 1..N, then 11 for an image buffer under Rows × Columns bytes, then 0.
 use Prim.Native.Nat.{ℕ, _*_}
 use mathlib.Core.Bool.{Bool, false, cond, _&&_}
 use mathlib.Core.List.{List, [], _++_}
@@ -26,8 +26,8 @@ isFrameOf ns f = leb 1 f && leb f (numberOf (framesOf ns))
 abbrev pub imageSize : List Node → ℕ
 imageSize ns = numberOf (usIn ns Tags.Rows (root ns)) * numberOf (usIn ns Tags.Columns (root ns))
 
--- The picture that the steps give. Where they lack something, which they never do for a frame of an accepted object
--- (proofs/Drawing), an empty one stands for it.
+-- The picture that the steps give. If they lack something, which never happens for a frame of an accepted object (proofs/Drawing), it is
+-- empty.
 abbrev pub pictureIn : Option Picture → Picture
 pictureIn none = record { masked = false; samples = [] }
 pictureIn (some p) = p
@@ -65,7 +65,7 @@ imageBy p image shown.NoImageRoom = image
 unfoldable pub imageOf : List ℕ → ℕ → List ℕ → List ℕ → List ℕ
 imageOf s f buffer image = imageBy (pictureOf (nodesOf s) f) image (showOf s f buffer image)
 
--- The paper's numbers of each case.
+-- The paper's numbers for each case.
 abbrev pub fieldsOf : ShowAnswer → Fields
 fieldsOf (shown.Drawn n masked) = drawn n (cond masked 1 0)
 fieldsOf (shown.Broken n rule frame) = broken n rule frame

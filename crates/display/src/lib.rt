@@ -1,4 +1,4 @@
-// Draws a frame of a data set that is accepted.
+// Draws a frame of an accepted data set.
 ghost use mathlib.Core.Path.{_≡_};
 ghost use Prim.Native.Nat.{ℕ, _*_, _≤_, _<_};
 ghost use mathlib.Core.Bool.{true, false};
@@ -63,7 +63,7 @@ pub enum Masking {
     Lacks,
 }
 
-// No shift: what stands where a step lacks one, which it does in no accepted object.
+// No shift: the value used if a step lacks one, which never happens in an accepted object.
 fn no_moves() -> Moves {
     Moves {
         vertical: Signed::Plus(0),
@@ -167,7 +167,7 @@ fn mask_by(
     }
 }
 
-// What the mask item that applies says to all frames alike.
+// What the mask item that applies says, the same for all frames.
 fn told_for(bytes: &[u8], rows: &[u32], applies: Applying) -> Told
     requires { ⌜ Table (now bytes) (now rows) × ApplyingBelow (length (nodesOf (now bytes))) applies ⌝ }
     ensures { λ r. ⌜ ToldBy (nodesOf (now (bytes .entry))) applies r ⌝ }
@@ -178,8 +178,7 @@ fn told_for(bytes: &[u8], rows: &[u32], applies: Applying) -> Told
     steps::told_by(bytes, rows, j)
 }
 
-// Steps 3 and 4 once it is known which mask item applies, and what it says to all frames alike. Where none applies the frame is
-// native.
+// Steps 3 and 4 once it is known which mask item applies and what it says, the same for all frames. If none applies the frame is native.
 pub fn mask_on(
     bytes: &[u8],
     rows: &[u32],
@@ -283,7 +282,7 @@ pub struct Plan {
     pub masking: Masking,
 }
 
-// What stands where a step lacks something, which it does in no accepted object.
+// The value used if a step lacks something, which never happens in an accepted object.
 fn no_scene() -> Scene {
     Scene {
         g: Geometry {
@@ -394,7 +393,7 @@ fn draw(bytes: &[u8], rows: &[u32], frame: usize, n: usize, image: &mut [u8]) ->
     paint(bytes, rows, frame, g, c.p, masking, shades, &table, image)
 }
 
-// A number, or 0 where it is lacking.
+// A number, or 0 if it is lacking.
 fn number_of(n: Num) -> usize
     requires { ⌜ Below 65536 n ⌝ }
     ensures { λ r. ⌜ (r ≡ numberOf n) × (r < 65536) ⌝ }
@@ -415,7 +414,7 @@ pub fn image_size(bytes: &[u8], rows: &[u32]) -> usize
     height * width
 }
 
-// Shows a frame of an accepted object with so many rows: codes 10 and 11, or the picture.
+// Shows a frame of an accepted object whose number of rows is given: codes 10 and 11, or the picture.
 pub fn show_table(
     bytes: &[u8],
     rows: &[u32],

@@ -1,4 +1,4 @@
--- Where a cursor stands along the items of a sequence. No paragraph of document 01 stands here.
+-- Where a cursor is along the items of a sequence. None of this is in document 01.
 use mathlib.Core.Path.{_≡_}
 use Prim.Native.Nat.{ℕ, _≤_}
 use mathlib.Core.List.{List}

@@ -1,5 +1,5 @@
--- Reads of one element among members, by its tag: the words in which rules and drawing steps are written. Each asks for
--- the element's VR; a read without an answer says `None`, and a test of it is false.
+-- Reads of one element among members, by its tag: the vocabulary of the rules and the drawing steps. Each asks for the element's VR; a
+-- read that finds no answer gives `None`, and a test of it is false.
 use Prim.Native.Nat.{ℕ}
 use mathlib.Core.List.{List, [], _∷_}
 use mathlib.Core.Bool.{Bool, true, false, cond, _&&_, _||_}
@@ -37,14 +37,14 @@ abbrev pub first : List ℕ → Num
 first [] = None
 first (i ∷ is) = Is i
 
--- A node is a sequence of one item, and that item.
+-- Whether a node is a sequence of one item, and that item.
 unfoldable pub oneItem : List Node → ℕ → Bool
 oneItem ns i = eqb (nodeAt ns i .vr) SQ && eqb (length (inside ns i)) 1
 
 unfoldable pub theItem : List Node → ℕ → Num
 theItem ns i = cond (oneItem ns i) (first (inside ns i)) None
 
--- The items of the sequence of the tag; none where there is no such sequence.
+-- The items of the sequence of the tag; none if there is no such sequence.
 abbrev pub insideOf : List Node → Num → List ℕ
 insideOf ns None = []
 insideOf ns (Is i) = inside ns i
@@ -64,7 +64,7 @@ some p (i ∷ is) = p i || some p is
 
 -- ---- The function of a window
 
--- VOI LUT Function (0028,1056) CS among the members of a VOI item: absent it is LINEAR; of another VR it is none.
+-- VOI LUT Function (0028,1056) CS among the members of a VOI item: LINEAR if it is absent, none if it has another VR.
 abbrev pub functionOn : List Node → Num → Function
 functionOn ns None = function.Linear
 functionOn ns (Is k) = cond (eqb (nodeAt ns k .vr) CS) (functionOf (valueAt ns k)) function.Other

@@ -16,7 +16,7 @@ use Rattle.element.specs.Tags.{MaskSubtractionSequence, MaskOperation, S
 use Rattle.basics.specs.Vr.{IS}
 use Rattle.element.specs.Elements.{valueAt, usIn, csIs, theItem, itemsIn, first}
 
--- A signed number that counts: what is below zero counts nothing.
+-- A signed number as a count: a negative one counts as 0.
 abbrev pub asCount : Signed → Num
 asCount (signed.Plus n) = Is n
 asCount (signed.Minus n) = Is 0

@@ -1,5 +1,5 @@
-// Reads of one element by its tag, items of sequences, frames and their functional groups: what the rules and the
-// drawing steps are made of.
+// Reads of one element by its tag, items of sequences, frames and their functional groups: the vocabulary of the rules and the drawing
+// steps.
 pub mod tags;
 
 ghost use mathlib.Core.Path.{_≡_};
@@ -174,7 +174,7 @@ pub fn is_cs_item(bytes: &[u8], rows: &[u32], item: usize, tag: usize, word: &[u
 
 // ---- Items of a sequence
 
-// How many members stand directly in a node.
+// How many members a node directly holds.
 pub fn count_items(bytes: &[u8], rows: &[u32], i: usize) -> usize
     requires { ⌜ Table (now bytes) (now rows) × (i < length (nodesOf (now bytes))) ⌝ }
     ensures { λ r. ⌜ r ≡ length (inside (nodesOf (now (bytes .entry))) i) ⌝ }
@@ -223,7 +223,7 @@ pub fn is_one_item(bytes: &[u8], rows: &[u32], i: usize) -> bool
     }
 }
 
-// The items of the root's sequence of the tag, from the first; none where there is no such sequence.
+// The items of the root's sequence of the tag, from the first; none if there is no such sequence.
 fn items_root(bytes: &[u8], rows: &[u32], tag: usize) -> Items
     requires { ⌜ Table (now bytes) (now rows) ⌝ }
     ensures { λ r. ⌜ Along (nodesOf (now (bytes .entry))) (itemsIn (nodesOf (now (bytes .entry))) tag (root (nodesOf (now (bytes .entry))))) r ⌝ }
@@ -281,7 +281,7 @@ pub fn function_in(bytes: &[u8], rows: &[u32], item: usize) -> Function
 
 // ---- Frames
 
-// A signed number that counts: what is below zero counts nothing.
+// A signed number as a count: a negative one counts as 0.
 fn counted(n: Signed) -> Num
     requires { ⌜ SizeBelow 100000000000 n ⌝ }
     ensures { λ r. ⌜ r ≡ asCount n ⌝ }

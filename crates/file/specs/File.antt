@@ -1,6 +1,6 @@
--- Files (document 02, Q-1). "Read, judge and show take files": the head is tested first, for 15, 16 and 17 in this order; then the
--- data set is read as the part of the file that it is; then its SOP class is compared with the head's, for 18. So the orders are 15,
--- 16, 17, 7, 1 to 6, 8, 18, 9, 10, 11. Places count from the data set's start. Each of 15 to 18 answers its code alone.
+-- Files (document 02, Q-1). "Read, judge and show take files": the head is tested first, for 15, 16 and 17 in this order; then the data
+-- set is read as the part of the file that it is; then its SOP class is compared with the head's, for 18. So the orders are 15, 16, 17,
+-- 7, 1 to 6, 8, 18, 9, 10, 11. Offsets count from the start of the data set. Each of 15 to 18 answers its code alone.
 use Prim.Native.Nat.{ℕ}
 use mathlib.Core.Bool.{Bool, false, cond}
 use mathlib.Core.List.{List}
@@ -45,7 +45,7 @@ startBy head.OtherSyntax = start.OtherSyntax
 unfoldable pub startOf : List ℕ → Start
 startOf s = startBy (metaOf s)
 
--- The paper's numbers of each case; the place is where the data set starts.
+-- The paper's numbers for each case; the offset is where the data set starts.
 abbrev pub startFields : Start → Fields
 startFields (start.At from) = placed 0 from
 startFields start.NoMark = codeAlone 15
@@ -54,14 +54,14 @@ startFields start.OtherSyntax = codeAlone 17
 
 -- ---- 18
 
--- The data set has a SOP Class UID (0008,0016) UI, single, which is the head's; both lose trailing zero bytes. The head's is
--- single: another head is refused.
+-- The data set has a single SOP Class UID (0008,0016) UI that equals the head's, without trailing zero bytes in both. The head's is
+-- single, since any other head is refused.
 unfoldable pub sameClass : List ℕ → List Node → Bool
 sameClass class ns = cond (has ns Tags.SOPClassUID UI (root ns)) (uiIs ns Tags.SOPClassUID (trimEnd 0 class) (root ns)) false
 
 -- ---- Reading
 
--- A data set whose bare answer is a, with classes that are the same or differ.
+-- A data set whose bare answer is a, with equal or different classes.
 abbrev pub readIn : Bool → ReadAnswer → ReadFileAnswer
 readIn same (read.Done n) = cond same (readFile.Read (read.Done n)) readFile.OtherClass
 readIn same (read.Refused code offset) = readFile.Read (read.Refused code offset)
@@ -154,7 +154,7 @@ imageLeftBy s head.OtherSyntax f buffer image = image
 unfoldable pub imageLeft : List ℕ → ℕ → List ℕ → List ℕ → List ℕ
 imageLeft s f buffer image = imageLeftBy s (metaOf s) f buffer image
 
--- ---- The paper's numbers of each case: those of the bare call; 15 to 18 alone
+-- ---- The paper's numbers for each case: those of the bare call; 15 to 18 alone
 
 abbrev pub readFields : ReadFileAnswer → Fields
 readFields (readFile.Read a) = reading.fieldsOf a

@@ -1,11 +1,11 @@
--- What holds of files (document 02, Q-1: "Where none of 15-18 is given, demands 2 and 3 hold for the data set inside"). The head is good,
--- or the file is refused with 15, 16 or 17 and every buffer is left as it was. Where the head is good, the data set is all of the file from
--- one place on. Reading, judging and showing the file then answer 18, or what the bare calls answer on that part, with the sum of its
--- searches; the row buffer is left as the bare calls leave it either way, and the image buffer is left as it was by 18 and as the bare call
--- leaves it otherwise. So demand 2 holds for the data set inside: the file is accepted exactly when its data set has room for its rows and
--- is accepted, and else the rule and frame named are those of the data set. And demand 3 holds for it, in drawing and mapping: show draws a
--- frame of the file exactly when the data set is accepted, the number is that of one of its frames, and there is room; what it hands back
--- is what the steps give.
+-- What holds for files (document 02, Q-1: "Where none of 15-18 is given, demands 2 and 3 hold for the data set inside"). The head is
+-- good, or the file is refused with 15, 16 or 17 and every buffer is left as it was. If the head is good, the data set is all of the file
+-- from some offset on. Reading, judging and showing the file then answer 18, or what the bare calls answer on that part, with the sum of
+-- its searches; the row buffer is left as the bare calls leave it either way, and the image buffer is left as it was by 18 and as the
+-- bare call leaves it otherwise. So demand 2 holds for the data set inside: the file is accepted exactly when its data set has room for
+-- its rows and is accepted, otherwise the rule and frame named are those of the data set. And demand 3 holds for it, in drawing and
+-- mapping: show draws a frame of the file exactly when the data set is accepted, the number is one of its frames, and there is room; what
+-- it hands back is what the steps give.
 use mathlib.Core.Path.{_≡_}
 use mathlib.Core.List.{List, _++_}
 use mathlib.Core.Option.{some}
@@ -46,7 +46,7 @@ pub record AsBare (s : List ℕ) (from : ℕ) : Type 0 where
       × (imageLeft s f buffer image ≡ imageOf (drop from s) f buffer image)
   pub other : (f : ℕ) (buffer image : List ℕ) → showFileOf s f buffer image ≡ showFile.OtherClass → imageLeft s f buffer image ≡ image
 
--- Demand 2, of the data set inside.
+-- Demand 2 for the data set inside.
 pub record Demand2 (s : List ℕ) (from : ℕ) : Type 0 where
   pub accepted : (buffer : List ℕ) (n : ℕ) → judgeFileOf s buffer ≡ judgeFile.Judged (judged.Accepted n) → IsAccepted (drop from s)
   pub accepts : (buffer : List ℕ) → IsAccepted (drop from s) → width * length (rowsOf (drop from s)) ≤ length buffer
@@ -61,7 +61,7 @@ pub record Drawn (s : List ℕ) (from f : ℕ) (buffer image : List ℕ) : Type 
   pub is : stepsOf (nodesOf (drop from s)) f ≡ some p
   pub cells : imageLeft s f buffer image ≡ p .samples ++ drop (imageSize (nodesOf (drop from s))) image
 
--- Demand 3, of the data set inside: the claim itself, and what it says of `show_file`.
+-- Demand 3 for the data set inside: the claim itself, and what it says about `show_file`.
 pub record Demand3 (s : List ℕ) (from f : ℕ) : Type 0 where
   pub promise : Promise (drop from s) f
   pub drawn : (buffer image : List ℕ) → IsAccepted (drop from s) → IsFrame (drop from s) f → HasRoom (drop from s) buffer image

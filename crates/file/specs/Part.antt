@@ -1,5 +1,5 @@
--- "Hand the data set on as the part of the file that it is" (document 02, Q-1): the reference points into the lent file itself, so it
--- is no copy, and its bytes are those of the file from there on.
+-- "Hand the data set on as the part of the file that it is" (document 02, Q-1): the reference points into the lent file itself, so
+-- nothing is copied, and its bytes are the file's from there on.
 use mathlib.Core.Path.{_≡_}
 use Prim.Native.Nat.{ℕ, _+_}
 use mathlib.Core.List.{List}

@@ -1,4 +1,4 @@
--- What judging a file reports of its searches (document 02, Q-11): the sum of the data set inside with code 0, and 0 with every other
+-- What judging a file reports about its searches (document 02, Q-11): the sum for the data set inside with code 0, and 0 with every other
 -- answer.
 use Prim.Native.Nat.{ℕ}
 use mathlib.Core.List.{List}
@@ -22,7 +22,7 @@ searchesIn sum judgeFile.BadHead = 0
 searchesIn sum judgeFile.OtherSyntax = 0
 searchesIn sum judgeFile.OtherClass = 0
 
--- The sum of the data set behind the head.
+-- The sum for the data set after the head.
 abbrev pub insideSum : List ℕ → Meta → ℕ
 insideSum s (head.Good from a b) = searchesOf (nodesOf (drop from s))
 insideSum s head.NoMark = 0
@@ -32,7 +32,7 @@ insideSum s head.OtherSyntax = 0
 unfoldable pub searchesFileOf : List ℕ → List ℕ → ℕ
 searchesFileOf s buffer = searchesIn (insideSum s (metaOf s)) (judgeFileOf s buffer)
 
--- What `judge_file_counted` answers, and the same of the data set and the head's SOP class.
+-- What `judge_file_counted` answers, and the same for the data set and the head's SOP class.
 abbrev pub countedFileOf : List ℕ → List ℕ → CountedFile
 countedFileOf s buffer = record { answer = judgeFileOf s buffer; searches = searchesFileOf s buffer }
 
@@ -44,7 +44,7 @@ abbrev pub countedPart : List ℕ → List ℕ → List ℕ → CountedFile
 countedPart s class buffer =
     record { answer = judgePart s class buffer; searches = searchesIn (searchesOf (nodesOf s)) (judgePart s class buffer) }
 
--- Where judging accepted, its rows stand first in the row buffer that it left.
+-- If judging accepted, the row buffer begins with its rows.
 abbrev pub LeftIn : List ℕ → List ℕ → JudgeFileAnswer → Type 0
 LeftIn s rows (judgeFile.Judged a) = Left s rows a
 LeftIn s rows judgeFile.NoMark = Unit {0}

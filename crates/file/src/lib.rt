@@ -1,5 +1,5 @@
-// Reading, judging and drawing files: the head, then the data set as the part of the file that it is, then their SOP classes.
-// specs/File says what each call answers and leaves in its buffers.
+// Reading, judging and drawing files: the head, then the data set in place, then their SOP classes. specs/File says what each call
+// answers and what its buffers then hold.
 use conformance::JudgeAnswer;
 use dataset::ReadAnswer;
 use display::ShowAnswer;
@@ -46,7 +46,7 @@ pub enum JudgeFileAnswer {
     OtherClass,
 }
 
-// The answer of `judge_file`, and the sum of its searches: 0 with every other answer than code 0.
+// The answer of `judge_file`, and the sum of its searches: 0 with every answer but code 0.
 pub struct CountedFile {
     pub answer: JudgeFileAnswer,
     pub searches: usize,
@@ -73,7 +73,7 @@ pub fn start_of(file: &[u8]) -> Start
     }
 }
 
-// The data set that starts there: the part of the lent file, and no copy.
+// The data set that starts there: a part of the lent file, not a copy.
 fn data_set<'a>(file: &'a [u8], from: usize) -> &'a [u8]
     requires { ⌜ from ≤ length (now file) ⌝ }
     ensures { λ r. ⌜ Rest (file .entry) from r ⌝ }
@@ -231,7 +231,7 @@ pub fn judge_file(file: &[u8], rows: &mut [u32]) -> JudgeFileAnswer
     }
 }
 
-// Reads a file's data set afresh, judges it, and adds its searches up.
+// Reads a file's data set afresh, judges it, and adds up its searches.
 pub fn judge_file_counted(file: &[u8], rows: &mut [u32]) -> CountedFile
     ensures { λ r. ⌜ Answers countedFields r (countedFileOf (now (file .entry)) (now (rows .entry))) ⌝ }
     ensures { λ _. ⌜ now (rows .exit) ≡ rowsLeft (now (file .entry)) (now (rows .entry)) ⌝ }

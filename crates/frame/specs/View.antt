@@ -10,8 +10,8 @@ use Rattle.pixel.specs.Pixel.{samplesOf, sampleAt}
 use Rattle.pixel.specs.Contracts.{cellAt}
 use Rattle.frame.specs.declared.FrameView.{FrameView}
 
--- The reference r is the part of the lent slice s that starts at `at` and has n bytes: it points into the same memory, so many
--- bytes on, so it is no copy; and its bytes are those of s there.
+-- The reference r is the part of the lent slice s that starts at `at` and has n bytes: it points into the same memory, `at` bytes on, so
+-- nothing is copied; and its bytes are those of s there.
 pub record Part (s : RefT (List ℕ)) (at n : ℕ) (r : RefT (List ℕ)) : Type 0 where
   pub inside : at + n ≤ length (s .now)
   pub block : r .ptr .0 ≡ s .ptr .0

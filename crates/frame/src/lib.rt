@@ -43,7 +43,7 @@ fn line_part(samples: &[u8], columns: usize, width: usize, row: usize) -> &[u8]
     block(samples, columns * width, row)
 }
 
-// ---- The view: each function makes it, or takes it apart
+// ---- The view: each function makes it or takes it apart
 
 // The frame's bytes, with its size.
 fn view<'a>(

@@ -9,7 +9,7 @@ ghost use Rattle.ids.specs.Contracts.{AllZero, idOf, idsOf};
 use element::tags;
 use value::Num;
 
-// Up to so many items are compared in pairs; the IDs of more are marked in a table.
+// Up to this many items are compared in pairs; the IDs of more are marked in a table.
 const FEW: usize = 16;
 
 pub fn has_id(bytes: &[u8], rows: &[u32], item: usize) -> bool
@@ -22,7 +22,7 @@ pub fn has_id(bytes: &[u8], rows: &[u32], item: usize) -> bool
     }
 }
 
-// The ID of an item, 0 where it has none.
+// The ID of an item, 0 if it has none.
 fn id_of(bytes: &[u8], rows: &[u32], item: usize) -> usize
     requires { ⌜ Table (now bytes) (now rows) × (item < length (nodesOf (now bytes))) ⌝ }
     ensures { λ r. ⌜ r ≡ idOf (nodesOf (now (bytes .entry))) item ⌝ }

@@ -1,4 +1,4 @@
--- What the functions of this crate ask and say of each other. No paragraph of a paper stands here.
+-- What the functions of this crate require of and promise each other. None of this is in the papers.
 use Prim.Native.Nat.{ℕ, _<_}
 use mathlib.Core.List.{List}
 use mathlib.Core.Bool.{Bool, cond, _&&_, true}
@@ -13,8 +13,8 @@ use Rattle.element.specs.Elements.{oneItem}
 use Rattle.rules.specs.Intensity.{areLuts, isLutGroup, hasLinear, isLog, isLinear, linearAmong}
 use mathlib.Core.Path.{_≡_}
 
--- How the code takes rule 39 apart: each of its two functional groups comes to a grade, 0 where it is broken, and the rule
--- compares the two. No paragraph of the paper stands here; `Rattle.rules` has the rule.
+-- How the code takes rule 39 apart: each of its two functional groups gets a grade, 0 if it is broken, and the rule compares the two.
+-- None of this is in the papers; `Rattle.rules` has the rule.
 
 -- Broken; good; good, and LOG or with a TO_LINEAR item.
 abbrev pub grade : Bool → Bool → ℕ
@@ -29,7 +29,7 @@ lutsOf ns js = grade (areLuts ns js) (eqb (length js) 1)
 unfoldable pub tableOf : List Node → ℕ → ℕ
 tableOf ns g = grade (isLutGroup ns g) (hasLinear ns g)
 
--- The grade of a group; `otherwise` where the item has none.
+-- The grade of a group; `otherwise` if the item has none.
 abbrev pub gradeOn : Num → (ℕ → ℕ) → ℕ → ℕ
 gradeOn None of otherwise = otherwise
 gradeOn (Is g) of otherwise = of g

@@ -20,7 +20,7 @@ fn is_linear(bytes: &[u8], rows: &[u32], item: usize) -> bool
     element::is_cs_item(bytes, rows, item, tags::LUT_FUNCTION, b"TO_LINEAR")
 }
 
-// The first TO_LINEAR item from `from` up to `to`; where there is none, what is not below `to`.
+// The first TO_LINEAR item from `from` up to `to`; if there is none, a number not below `to`.
 pub fn next_linear(bytes: &[u8], rows: &[u32], from: usize, to: usize) -> usize
     requires { ⌜ Table (now bytes) (now rows) × (to ≤ length (nodesOf (now bytes))) ⌝ }
     ensures { λ r. ⌜ Stops (nodesOf (now (bytes .entry))) from to r ⌝ }
@@ -36,7 +36,7 @@ pub fn next_linear(bytes: &[u8], rows: &[u32], from: usize, to: usize) -> usize
     j
 }
 
-// How many entries a LUT Descriptor says: 0 stands for 65,536.
+// How many entries a LUT Descriptor names: 0 stands for 65,536.
 pub fn entry_count(descriptor: &[u8]) -> usize
     requires { ⌜ 2 ≤ length (now descriptor) ⌝ }
     ensures { λ r. ⌜ r ≡ entryCount (now (descriptor .entry)) ⌝ }
@@ -76,7 +76,7 @@ fn has_lut(bytes: &[u8], rows: &[u32], item: usize) -> bool
 
 // ---- Grades of the two groups
 
-// The items from `from` up to `to`: at most one is TO_LINEAR, and that has its LUT.
+// The items from `from` up to `to`: at most one is TO_LINEAR, and it has its LUT.
 fn luts_of(bytes: &[u8], rows: &[u32], from: usize, to: usize) -> usize
     requires { ⌜ Table (now bytes) (now rows) × (to ≤ length (nodesOf (now bytes))) ⌝ }
     ensures { λ r. ⌜ r ≡ lutsOf (nodesOf (now (bytes .entry))) (linearAmong (nodesOf (now (bytes .entry))) (members (nodesOf (now (bytes .entry))) from to)) ⌝ }
@@ -128,7 +128,7 @@ fn relation_of(bytes: &[u8], rows: &[u32], group: usize) -> usize
     }
 }
 
-// The grade of the relationship's group in an item; `otherwise` where the item has none.
+// The grade of the relationship's group in an item; `otherwise` if the item has none.
 pub fn relation_in(bytes: &[u8], rows: &[u32], item: usize, otherwise: usize) -> usize
     requires { ⌜ Table (now bytes) (now rows) × (item < length (nodesOf (now bytes))) ⌝ }
     ensures { λ r. ⌜ r ≡ relationIn (nodesOf (now (bytes .entry))) item otherwise ⌝ }

@@ -1,5 +1,5 @@
-// Judges the data set on standard input: whether it is accepted, the numbers of the answer, and for a broken rule which item
-// and row are the frame's, and what the rule asks.
+// Judges the data set on standard input: prints whether it is accepted, the numbers of the answer, and for a broken rule the frame's item
+// and row, and what the rule asks.
 mod sentence;
 
 use conformance::JudgeAnswer;
@@ -12,7 +12,7 @@ fn print_accepted(rows: usize) {
     io::write_all(1, b"\n");
 }
 
-// Which item of the data set is the frame's, and its row; nothing where the rule is no matter of one frame.
+// The frame's item in the data set, and its row; nothing if the rule does not concern a single frame.
 fn print_item(frame: usize, row: usize) {
     if row == 0 {
         return;

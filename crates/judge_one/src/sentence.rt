@@ -1,12 +1,11 @@
-// What each rule asks, in a line that can be quoted to the sender. A wrong VR breaks a rule too, so each attribute stands
-// with its VR.
+// What each rule asks, in a line that can be quoted to the sender. A wrong VR breaks a rule too, so each attribute is named with its VR.
 
 fn say(text: &[u8]) {
     io::write_all(1, text);
     io::write_all(1, b"\n");
 }
 
-// A number that is none of the rules' gets no rule's sentence.
+// A number that is not a rule's gets no rule's sentence.
 fn say_none() {
     say(b"no such rule");
 }

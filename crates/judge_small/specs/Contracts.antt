@@ -1,4 +1,4 @@
--- The judge's answer where the row buffer is large enough.
+-- The judge's answer if the row buffer is large enough.
 use Prim.Native.Nat.{ℕ}
 use mathlib.Core.List.{List}
 use Rattle.dataset.specs.Answer.{flat}
@@ -6,6 +6,6 @@ use Rattle.dataset.specs.Tree.{rowsOf}
 use Rattle.conformance.specs.declared.JudgeAnswer.{JudgeAnswer}
 use Rattle.conformance.specs.Judging.{judgeOf}
 
--- With a buffer that the rows just fill; any larger one gives the same answer.
+-- With a buffer that the rows exactly fill; a larger one gives the same answer.
 abbrev pub roomyOf : List ℕ → JudgeAnswer
 roomyOf s = judgeOf s (flat (rowsOf s))

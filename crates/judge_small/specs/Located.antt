@@ -1,4 +1,4 @@
--- The judge's answer, and the row that it is about: where a broken rule names a frame, that of the frame's item.
+-- The judge's answer, and the row that it is about: if a broken rule names a frame, the row of the frame's item.
 use Prim.Native.Nat.{ℕ, _+_}
 use mathlib.Core.List.{List}
 use mathlib.Core.Bool.{cond}
@@ -12,12 +12,12 @@ use Rattle.conformance.specs.declared.JudgeAnswer.the-variants as judged
 use Rattle.judge_small.specs.declared.Located.{Located}
 use Rattle.judge_small.specs.Contracts.{roomyOf}
 
--- The number of a node's row, counted from 1; 0 where there is none.
+-- The number of a node's row, counted from 1; 0 if there is none.
 abbrev pub rowNumber : Num → ℕ
 rowNumber (Is i) = i + 1
 rowNumber None = 0
 
--- The row of item f of the per-frame functional groups; frame 0 is no frame.
+-- The row of item f of the per-frame functional groups; there is no frame 0.
 abbrev pub itemRow : List Node → ℕ → ℕ
 itemRow ns frame = cond (eqb frame 0) 0 (rowNumber (frameItem ns frame))
 
@@ -34,6 +34,6 @@ located ns a = record { answer = a; row = rowFor ns a }
 abbrev pub brokenAt : List Node → ℕ → ℕ → ℕ → Located
 brokenAt ns n rule frame = located ns (judged.Broken n rule frame)
 
--- With a row buffer that the rows just fill; any larger one gives the same.
+-- With a row buffer that the rows exactly fill; a larger one gives the same.
 abbrev pub locatedOf : List ℕ → Located
 locatedOf s = located (nodesOf s) (roomyOf s)

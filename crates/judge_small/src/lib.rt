@@ -1,4 +1,4 @@
-// Judging a data set of at most 65,536 bytes with a row buffer of its own, for the programs that judge.
+// Judging a data set of at most 65,536 bytes with its own row buffer, for the programs that judge.
 use conformance::JudgeAnswer;
 use room::row_buffer;
 use value::Num;
@@ -10,8 +10,7 @@ ghost use Rattle.node.specs.Contracts.{Table};
 ghost use Rattle.judge_small.specs.Contracts.{roomyOf};
 ghost use Rattle.judge_small.specs.Located.{itemRow, brokenAt, locatedOf};
 
-// The judge's answer and, where a broken rule names a frame, the number of the row of that frame's item, counted from 1;
-// else 0.
+// The judge's answer and, if a broken rule names a frame, the number of the row of that frame's item, counted from 1; otherwise 0.
 pub struct Located {
     pub answer: JudgeAnswer,
     pub row: usize,
@@ -26,7 +25,7 @@ pub fn judge_small(bytes: &[u8]) -> JudgeAnswer
     conformance::judge(bytes, &mut rows)
 }
 
-// The row of the item of a frame that a broken rule names: 0 is no frame.
+// The row of the item of a frame that a broken rule names; there is no frame 0.
 fn item_row(bytes: &[u8], rows: &[u32], frame: usize) -> usize
     requires { ⌜ Table (now bytes) (now rows) ⌝ }
     ensures { λ r. ⌜ r ≡ itemRow (nodesOf (now (bytes .entry))) frame ⌝ }

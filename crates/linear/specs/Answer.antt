@@ -1,5 +1,5 @@
--- What `linear` answers, and what its buffers then hold (document 02, Q-8): as `show` up to code 10, then 20 for a frame that
--- has no TO_LINEAR item, then 11 for a values buffer under Rows × Columns numbers, then 0.
+-- What `linear` answers, and what its buffers then hold (document 02, Q-8): as for `show` up to code 10, then 20 for a frame without a
+-- TO_LINEAR item, then 11 for a values buffer under Rows × Columns numbers, then 0.
 use Prim.Native.Nat.{ℕ}
 use mathlib.Core.Bool.{cond}
 use mathlib.Core.List.{List, [], _++_}
@@ -16,7 +16,7 @@ use Rattle.linear.specs.declared.LinearAnswer.{LinearAnswer}
 use Rattle.linear.specs.declared.LinearAnswer.the-variants as linear
 use Rattle.linear.specs.Mapping.{mappingOf, isMapped}
 
--- The entries; where something is lacking, which is never so for a frame of an accepted object with a TO_LINEAR item, none.
+-- The entries; none if something is lacking, which never happens for a frame of an accepted object with a TO_LINEAR item.
 abbrev pub entriesIn : Option (List ℕ) → List ℕ
 entriesIn none = []
 entriesIn (some l) = l
@@ -57,7 +57,7 @@ valuesBy l values linear.NoValuesRoom = values
 unfoldable pub valuesOf : List ℕ → ℕ → List ℕ → List ℕ → List ℕ
 valuesOf s f buffer values = valuesBy (entriesOf (nodesOf s) f) values (linearOf s f buffer values)
 
--- The papers' numbers of each case.
+-- The papers' numbers for each case.
 abbrev pub fieldsOf : LinearAnswer → Fields
 fieldsOf (linear.Mapped n) = counted n
 fieldsOf (linear.Broken n rule frame) = broken n rule frame

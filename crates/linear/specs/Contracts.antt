@@ -1,4 +1,4 @@
--- What the functions inside `linear` ask. No paragraph of the paper stands here.
+-- What the functions inside `linear` require. None of this is in the papers.
 use mathlib.Core.Path.{_≡_}
 use mathlib.Core.Bool.{true}
 use mathlib.Core.List.{List}

@@ -1,12 +1,11 @@
--- Demand 3, one statement over drawing and mapping. An object is accepted when it passes the size limit and the reading checks
--- and breaks no listed rule. Take any frame of it, from 1 to its Number of Frames. Then no drawing step lacks anything and
--- `show` draws the frame, as `Drawing` of `Rattle.display` says. And where the frame has a TO_LINEAR item, its mapping lacks no
--- value, cell or entry: it gives exactly Rows × Columns numbers. `linear` answers code 0 exactly when the object is accepted,
--- the number is that of one of its frames, the frame has a TO_LINEAR item, and there is room for the rows and for
--- Rows × Columns numbers; what it then hands back is what the mapping gives, and the values buffer is untouched beyond it. The
--- statement covers all steps, frames, cells and entries at once. It is made of the same definitions of the rules, the steps and
--- the mapping that the calls are proved to follow, and no rule is built into the steps or the mapping. Its proof stands in
--- proofs/Demand3.
+-- Demand 3, one statement over drawing and mapping. An object is accepted when it passes the size limit and the reading checks and breaks
+-- no listed rule. Take any frame of it, from 1 to its Number of Frames. Then no drawing step lacks anything and `show` draws the frame,
+-- as `Drawing` of `Rattle.display` says. And if the frame has a TO_LINEAR item, its mapping lacks no value, cell or entry: it gives
+-- exactly Rows × Columns numbers. `linear` answers code 0 exactly when the object is accepted, the number is one of its frames, the frame
+-- has a TO_LINEAR item, and there is room for the rows and for Rows × Columns numbers; what it then hands back is what the mapping gives,
+-- and the values buffer is untouched beyond it. The statement covers all steps, frames, cells and entries at once. It is made of the same
+-- definitions of the rules, the steps and the mapping that the calls are proved to follow, and no rule is built into the steps or the
+-- mapping. Proved in proofs/Demand3.
 use mathlib.Core.Path.{_≡_}
 use mathlib.Core.Bool.{true}
 use mathlib.Core.List.{List, _++_}
@@ -38,7 +37,7 @@ pub record Promise (s : List ℕ) (f : ℕ) : Type 0 where
   pub drawing : Drawing s f
   -- Every frame of an accepted object that has a TO_LINEAR item can be mapped.
   pub mappable : IsAccepted s → IsFrame s f → isMapped (nodesOf s) f ≡ true → Mapped (nodesOf s) f
-  -- It is mapped where there is room,
+  -- It is mapped if there is room,
   pub mapped : (buffer values : List ℕ) → IsAccepted s → IsFrame s f → isMapped (nodesOf s) f ≡ true → HasRoom s buffer values
       → fieldsOf (linearOf s f buffer values) .code ≡ 0
   -- and nothing else is.

@@ -1,6 +1,6 @@
--- Back to beam intensity (document 02, Q-8): the mapping of frame f, over the nodes of a data set that reads well, accepted
--- or not. It takes each cell of the frame to its entry in the LUT of the frame's TO_LINEAR item. No rule is built in: what it
--- needs and does not find is lacking, and then it gives `none`.
+-- Back to beam intensity (document 02, Q-8): the mapping of frame f, over the nodes of a data set that reads well, accepted or not. It
+-- takes each cell of the frame to its entry in the LUT of the frame's TO_LINEAR item. No rule is built in: if it lacks something that it
+-- needs, it gives `none`.
 use Prim.Native.Nat.{ℕ, _+_, _-_, _*_}
 use mathlib.Core.Bool.{Bool, true, false, cond, _&&_}
 use mathlib.Core.List.{List}
@@ -20,8 +20,8 @@ use Rattle.pixel.specs.Pixel.{samplesOf, isFrame, sampleAt}
 use Rattle.steps.specs.Given.{need, check, then, collect}
 use Rattle.steps.specs.Steps.{geometryOf, pixelsOf, groupFor}
 
--- The first TO_LINEAR item of a frame's Pixel Intensity Relationship LUT Sequence (0028,9422), or that there is none; a group that
--- is no sequence lacks its items.
+-- The first TO_LINEAR item of a frame's Pixel Intensity Relationship LUT Sequence (0028,9422), or that there is none; a group that is not
+-- a sequence lacks its items.
 abbrev pub linearOn : List Node → Num → Option Num
 linearOn ns None = some None
 linearOn ns (Is g) = check (eqb (nodeAt ns g .vr) SQ) (some (first (linearAmong ns (inside ns g))))
@@ -30,8 +30,8 @@ linearOn ns (Is g) = check (eqb (nodeAt ns g .vr) SQ) (some (first (linearAmong 
 unfoldable pub linearFor : List Node → ℕ → Option Num
 linearFor ns f = then (groupFor ns f Tags.PixelIntensityRelationshipLUTSequence) (linearOn ns)
 
--- The place of cell x's entry among `count` of them, `from` being the first mapped cell: cells below it take the first entry,
--- cells above the last take the last.
+-- The place of cell x's entry among `count` of them, where `from` is the first mapped cell: cells below it take the first entry, cells
+-- above the last take the last.
 unfoldable pub placeAmong : ℕ → ℕ → ℕ → ℕ
 placeAmong from count x = cond (ltb x from) 0 (cond (ltb x (from + count)) (x - from) (count - 1))
 

@@ -1,4 +1,4 @@
-// Maps a frame of a data set that is accepted back to beam intensity.
+// Maps a frame of an accepted data set back to beam intensity.
 ghost use mathlib.Core.Path.{_≡_};
 ghost use Prim.Native.Nat.{ℕ, _+_, _*_, _≤_, _<_};
 ghost use mathlib.Core.List.{_++_};
@@ -154,7 +154,7 @@ fn map(bytes: &[u8], rows: &[u32], frame: usize, item: usize, values: &mut [u16]
 
 // ---- The call
 
-// Maps a frame of an accepted object with so many rows: codes 10, 20 and 11, or the numbers.
+// Maps a frame of an accepted object whose number of rows is given: codes 10, 20 and 11, or the numbers.
 fn linear_table(
     bytes: &[u8],
     rows: &[u32],

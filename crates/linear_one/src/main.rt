@@ -11,7 +11,7 @@ ghost use mathlib.Core.Path.{_≡_};
 ghost use Prim.Native.Nat.{_*_, _≤_};
 ghost use lib.ListN.{length};
 
-// A number for each cell: an accepted object has as many bytes of pixel data.
+// A number for each cell: an accepted object has at least as many bytes of pixel data.
 fn values_buffer() -> [u16; 65_536]
     ensures { λ r. ⌜ 65536 ≡ length r ⌝ }
 {

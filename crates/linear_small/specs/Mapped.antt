@@ -1,4 +1,4 @@
--- What is mapped of a data set where the row buffer is large enough: the answer, the frame's size and the numbers.
+-- What is mapped of a data set if the row buffer is large enough: the answer, the frame's size and the numbers.
 use Prim.Native.Nat.{ℕ}
 use mathlib.Core.List.{List}
 use Rattle.dataset.specs.Answer.{flat}
@@ -35,7 +35,7 @@ sized ns linear.NoFrame = refused linear.NoFrame
 sized ns linear.NoItem = refused linear.NoItem
 sized ns linear.NoValuesRoom = refused linear.NoValuesRoom
 
--- With a row buffer that the rows just fill; any larger one gives the same.
+-- With a row buffer that the rows exactly fill; a larger one gives the same.
 abbrev pub mappedOf : List ℕ → ℕ → List ℕ → Mapped
 mappedOf s f values = sized (nodesOf s) (linearOf s f (flat (rowsOf s)) values)
 

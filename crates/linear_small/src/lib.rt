@@ -1,4 +1,4 @@
-// Mapping a frame of a data set of at most 65,536 bytes with a row buffer of its own, for the program that maps.
+// Mapping a frame of a data set of at most 65,536 bytes with its own row buffer, for the program that maps.
 use element::tags;
 use linear::LinearAnswer;
 use room::row_buffer;
@@ -10,7 +10,7 @@ ghost use Rattle.node.specs.Nodes.{nodesOf};
 ghost use Rattle.node.specs.Contracts.{Table};
 ghost use Rattle.linear_small.specs.Mapped.{done, mappedOf, valuesAfter};
 
-// The answer of `linear`, and for a frame that was mapped its Columns and Rows, else 0.
+// The answer of `linear`, and for a frame that was mapped its Columns and Rows, otherwise 0.
 pub struct Mapped {
     pub answer: LinearAnswer,
     pub width: usize,

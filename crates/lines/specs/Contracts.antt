@@ -1,5 +1,5 @@
--- What the functions that draw a line ask and say. No paragraph of a paper stands here: what a cell's level is stands in
--- `Rattle.pixel` and `Rattle.window`.
+-- What the functions that draw a line require and promise. None of this is in the papers; a cell's level is defined in `Rattle.pixel` and
+-- `Rattle.window`.
 use mathlib.Core.Path.{_≡_}
 use mathlib.Core.Bool.{true}
 use mathlib.Core.List.{List, [], _∷_, _++_}
@@ -20,7 +20,7 @@ upTo f (suc n) = upTo f n ++ (f n ∷ [])
 unfoldable pub shadesOf : Shades → ℕ → List ℕ
 shadesOf t stored = upTo (shadeAt (t .window) stored (t .inverse)) 131072
 
--- A table that is said to be filled is.
+-- A table that is marked as filled is filled.
 pub record Shaded (t : Shades) (stored : ℕ) (table : List ℕ) : Type 0 where
   pub drawable : Drawable (t .window)
   pub shades : t .filled ≡ true → Filled (shadeAt (t .window) stored (t .inverse)) (2 ^ (stored + 1) - 1) table

@@ -1,4 +1,4 @@
-// Lines of a frame's picture, each drawn by itself from the frame's own bytes.
+// Lines of a frame's picture, each drawn separately from the frame's own bytes.
 ghost use mathlib.Core.Path.{_≡_};
 ghost use mathlib.Core.Bool.{true};
 ghost use Prim.Native.Nat.{_+_, _-_, _*_, _/_, _%_, _^_, _≤_};
@@ -133,8 +133,8 @@ fn masked_by_window(
     }
 }
 
-// A line of a frame from two mask rows, blended. `lower` holds the row that the line takes as its upper one, and
-// afterwards the one that the next line does.
+// A line of a frame from two mask rows, blended. `lower` holds the row that this line takes as its upper one, and afterwards the one for
+// the next line.
 pub fn quarter_line(
     pixels: &[u8],
     g: Geometry,

@@ -1,6 +1,6 @@
--- The head of a file (document 02, Q-1; PS3.10 calls it the File Meta Information): 128 bytes of anything, "DICM", then
--- elements in Explicit VR Little Endian. The first is the group length, which names where the head ends; the data set is all that
--- follows that end. A file's offsets count from its first byte.
+-- The head of a file (document 02, Q-1; PS3.10 calls it the File Meta Information): 128 bytes of anything, "DICM", then elements in
+-- Explicit VR Little Endian. The first is the group length, which says where the head ends; the data set is everything after that. A
+-- file's offsets count from its first byte.
 use Prim.Native.Nat.{ℕ, _+_, _-_, _/_}
 use mathlib.Core.Bool.{Bool, true, false, cond, _&&_}
 use mathlib.Core.List.{List, [], _∷_}
@@ -51,7 +51,7 @@ hasGroupLength s =
     && (eqb (vrAt s (start + 4)) UL
     && eqb (le16 s (start + 6)) 4))
 
--- Where the head ends: as many bytes after the group length as it says.
+-- Where the head ends: as many bytes after the group length element as its value says.
 unfoldable pub endOf : List ℕ → ℕ
 endOf s = start + 12 + le32 s (start + 8)
 
@@ -61,11 +61,11 @@ endOf s = start + 12 + le32 s (start + 8)
 unfoldable pub headOf : List ℕ → Run
 headOf s = elementsAt depths s 0 (cursor start (endOf s) false)
 
--- Where the value of an element stands that a file has as a UID: with VR UI and a length that is not 0.
+-- Where the value of a UID is: of an element with VR UI and a length that is not 0.
 unfoldable pub uidAt : ℕ → ℕ → ℕ → Uid
 uidAt vr offset size = cond (eqb vr UI) (cond (eqb size 0) None (At offset (offset + size))) None
 
--- What is found at depth 0: whether all elements are of group 0002, and where the two UIDs stand.
+-- What is found at depth 0: whether all elements are of group 0002, and where the two UIDs are.
 abbrev pub nothing : Found
 nothing = record { only = true; class = None; syntax = None }
 
@@ -76,7 +76,7 @@ noted f tag vr offset size = record {
   syntax = cond (eqb tag TransferSyntaxUID) (uidAt vr offset size) (f .syntax);
 }
 
--- Row by row. Tags ascend at depth 0, so that neither UID is there twice; what stands deeper is free.
+-- Row by row. Tags ascend at depth 0, so neither UID is there twice; nothing is asked of what is deeper.
 unfoldable pub foundIn : Found → List Row → Found
 foundIn f [] = f
 foundIn f (r ∷ rs) = foundIn (cond (eqb (r .depth) 0) (noted f (r .tag) (r .vr) (r .offset) (r .size)) f) rs
@@ -86,8 +86,8 @@ foundIn f (r ∷ rs) = foundIn (cond (eqb (r .depth) 0) (noted f (r .tag) (r .vr
 abbrev pub part : List ℕ → ℕ → ℕ → List ℕ
 part s from to = take (to - from) (drop from s)
 
--- The head has both UIDs, each single, and the transfer syntax is Explicit VR Little Endian: where the data set starts, and where the
--- SOP class stands that the head names.
+-- The head has both UIDs, each single, and the transfer syntax is Explicit VR Little Endian: where the data set starts, and where the SOP
+-- class is that the head names.
 abbrev pub named : List ℕ → Uid → Uid → Meta
 named s None syntax = BadHead
 named s (At a b) None = BadHead
@@ -105,7 +105,7 @@ abbrev pub ofRun : List ℕ → Run → Meta
 ofRun s (refused code offset) = BadHead
 ofRun s (done stop next rows) = ofFound s (foundIn nothing rows)
 
--- Where the head ends within the file: what its elements say.
+-- If the head ends within the file: what its elements say.
 unfoldable pub headedOf : List ℕ → Meta
 headedOf s = cond (leb (endOf s) (length s)) (ofRun s (headOf s)) BadHead
 

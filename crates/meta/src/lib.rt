@@ -1,6 +1,6 @@
-// The head of a file: where the data set starts, and where the SOP class stands that the head names; or why it is refused.
-// specs/Meta says what a head is, in the order of the paper; `read_head`, at the end, is the public call. The head's rows are stored
-// nowhere: its elements are walked along, and what is looked for is noted on the way.
+// The head of a file: where the data set starts, and where the SOP class is that the head names; or why it is refused. specs/Meta says
+// what a head is, in the order of the paper; `read_head`, at the end, is the public call. The head's rows are not stored: a walk along
+// its elements notes what is looked for.
 use dataset::Cursor;
 use dataset::Head;
 use dataset::Walk;
@@ -23,7 +23,7 @@ const MEDIA_STORAGE_SOP_CLASS_UID: usize = 0x0002_0002;
 
 const TRANSFER_SYNTAX_UID: usize = 0x0002_0010;
 
-// How deep sequences may stand.
+// How deep sequences may nest.
 const DEPTHS: usize = 8;
 
 // Where the head's elements start: after 128 bytes of anything and "DICM".
@@ -35,14 +35,14 @@ pub enum Uid {
     None,
 }
 
-// What the head's elements at depth 0 come to: whether all are of group 0002, and where the two UIDs stand.
+// What is found in the head's elements at depth 0: whether all are of group 0002, and where the two UIDs are.
 pub struct Found {
     pub only: bool,
     pub class: Uid,
     pub syntax: Uid,
 }
 
-// What the head's elements come to: what was found in them, or that they break a reading check.
+// The result of reading the head's elements: what was found in them, or that they break a reading check.
 pub enum Elements {
     Good(Found),
     Refused,
@@ -96,7 +96,7 @@ fn uid_at(vr: usize, start: usize, stop: usize) -> Uid
     }
 }
 
-// The first UID for an element of the tag, else the second.
+// The first UID for an element of the tag, otherwise the second.
 fn chosen(tag: usize, due: usize, here: Uid, before: Uid) -> Uid
     ensures { λ r. ⌜ r ≡ cond (eqb tag due) here before ⌝ }
 {
@@ -125,8 +125,8 @@ fn note(found: Found, tag: usize, vr: usize, start: usize, stop: usize) -> Found
     }
 }
 
-// What stands among the head's elements, where no delimiter is due: what `Cursor::element` says. The readers' loops are quicker with
-// that one for themselves.
+// What is at a cursor among the head's elements, where no delimiter is due: the same as `Cursor::element`, which is left to the readers'
+// loops because they are faster that way.
 fn header(file: &[u8], c: Cursor, least: usize) -> Head
     requires { ⌜ (c .at ≤ c .end) × ((c .end ≤ length (now file)) × (c .delimited ≡ false)) ⌝ }
     ensures { λ r. ⌜ r ≡ elementAt (now (file .entry)) c least 8 ⌝ }
@@ -156,7 +156,7 @@ fn header(file: &[u8], c: Cursor, least: usize) -> Head
     )
 }
 
-// A sequence of the head, item by item. No room is lent for its rows, which are numbered from `first`.
+// A sequence of the head, item by item. There is no buffer for its rows, which are numbered from `first`.
 fn items(file: &[u8], c: Cursor, none: &mut [u32], first: usize) -> Walk
     requires { ⌜ Ready (now file) c 7 first (length (now none)) × (length (now none) ≡ 0) ⌝ }
     ensures { λ r. ⌜ Walked (itemsAt 7 (now (file .entry)) first c) c first (now (none .entry)) (now (none .exit)) r ⌝ }
@@ -187,7 +187,7 @@ fn items(file: &[u8], c: Cursor, none: &mut [u32], first: usize) -> Walk
     }
 }
 
-// What a value comes to.
+// The result of reading a value.
 fn past(file: &[u8], vr: usize, value: Cursor, none: &mut [u32], first: usize) -> Walk
     requires { ⌜ Ready (now file) value 7 first (length (now none)) × (length (now none) ≡ 0) ⌝ }
     ensures { λ r. ⌜ Walked (valueRun 8 (now (file .entry)) first vr value) value first (now (none .entry)) (now (none .exit)) r ⌝ }
@@ -199,7 +199,7 @@ fn past(file: &[u8], vr: usize, value: Cursor, none: &mut [u32], first: usize) -
     }
 }
 
-// The head's elements up to `end`, one after another. No room is lent for their rows.
+// The head's elements up to `end`, one after another. There is no buffer for their rows.
 fn along(file: &[u8], end: usize, none: &mut [u32]) -> Elements
     requires { ⌜ (132 ≤ end) × ((end ≤ length (now file)) × (length (now none) ≡ 0)) ⌝ }
     ensures { λ r. ⌜ r ≡ walkOf (elementsAt 8 (now (file .entry)) 0 (cursor 132 end false)) ⌝ }
@@ -243,7 +243,7 @@ fn along(file: &[u8], end: usize, none: &mut [u32]) -> Elements
     }
 }
 
-// The two UIDs that stand from a to b and from c to d: both single, and the second Explicit VR Little Endian.
+// The two UIDs, from a to b and from c to d: both single, and the second Explicit VR Little Endian.
 fn checked(file: &[u8], end: usize, a: usize, b: usize, c: usize, d: usize) -> Meta
     requires { ⌜ ((end ≡ endOf (now file)) × (end ≤ length (now file)))
         × (((a ≤ b) × (b ≤ length (now file))) × ((c ≤ d) × (d ≤ length (now file)))) ⌝ }

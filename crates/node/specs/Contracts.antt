@@ -1,4 +1,4 @@
--- What the functions of this crate ask and say of each other. No paragraph of a paper stands here.
+-- What the functions of this crate require of and promise each other. None of this is in the papers.
 use mathlib.Core.Path.{_≡_}
 use Prim.Native.Nat.{ℕ, _*_, _≤_, _<_}
 use mathlib.Core.List.{List, [], _∷_}
@@ -12,7 +12,7 @@ use lib.Dec.{eqb, ltb}
 use Rattle.value.specs.declared.Num.{Num}
 use Rattle.value.specs.declared.Num.the-variants.{Is, None}
 
--- What the functions over a row table ask of it.
+-- What the functions over a row table require of it.
 
 -- The row table of a data set that was read.
 pub record Table (s rows : List ℕ) : Type 0 where
@@ -20,15 +20,15 @@ pub record Table (s rows : List ℕ) : Type 0 where
   pub size : length rows ≡ width * length (nodesOf s)
   pub few : length (nodesOf s) ≤ mostRows
 
--- How the code finds an element among members: tags never descend among them, so that a search stops at the first tag not below the one
--- sought, and goes by halves where that is far.
+-- How the code finds an element among members: tags never descend among them, so a search can stop at the first tag not below the one
+-- sought, and can go by halves if that is far.
 
 -- No tag of the members is below `least` or below one before it.
 unfoldable pub Ascends : List Node → ℕ → List ℕ → Type 0
 Ascends ns least [] = Unit {0}
 Ascends ns least (k ∷ ks) = (least ≤ nodeAt ns k .tag) × Ascends ns (nodeAt ns k .tag) ks
 
--- The members from the first on whose tag is not below the tag.
+-- The members from the first one on whose tag is not below the given tag.
 unfoldable pub fromTag : List Node → ℕ → List ℕ → List ℕ
 fromTag ns tag [] = []
 fromTag ns tag (k ∷ ks) = cond (ltb (nodeAt ns k .tag) tag) (fromTag ns tag ks) (k ∷ ks)
@@ -38,18 +38,18 @@ unfoldable pub firstIs : List Node → ℕ → List ℕ → Num
 firstIs ns tag [] = None
 firstIs ns tag (k ∷ ks) = cond (eqb (nodeAt ns k .tag) tag) (Is k) None
 
--- Where the members from `from` up to `to` go on from the first on whose tag is not below the tag, if that is told.
+-- If the answer names a node, the members from it on are those from `from` up to `to` whose tags are not below the given tag.
 abbrev pub Nearby : List Node → ℕ → ℕ → ℕ → Num → Type 0
 Nearby ns tag from to (Is n) = members ns n to ≡ fromTag ns tag (members ns from to)
 Nearby ns tag from to None = Unit {0}
 
--- The first of the members whose tag is not below the tag, by its number; where there is none, `to`.
+-- The number of the first member whose tag is not below the given tag; `to` if there is none.
 unfoldable pub lower : List Node → ℕ → List ℕ → ℕ → ℕ
 lower ns tag [] to = to
 lower ns tag (k ∷ ks) to = cond (ltb (nodeAt ns k .tag) tag) (lower ns tag ks to) k
 
--- The members of one container are those from `up` up to `to`. They say `up` as their parent number: that of a node counted from 1, or 0,
--- the root's.
+-- The members of one container are those from `up` up to `to`. Their parent number is `up`: that of a node counted from 1, or 0 for the
+-- root.
 pub record Container (s : List ℕ) (up to : ℕ) : Type 0 where
   pub kind : Kind
   pub depth : ℕ

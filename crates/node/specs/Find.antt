@@ -1,5 +1,5 @@
--- Finding an element among members, and what "present" and "has" mean (document 01, "The rule list"). A read that
--- finds nothing answers `None`.
+-- Finding an element among members, and what "present" and "has" mean (document 01, "The rule list"). A read that finds nothing gives
+-- `None`.
 use Prim.Native.Nat.{ℕ}
 use mathlib.Core.List.{List, [], _∷_}
 use mathlib.Core.Bool.{Bool, true, false, cond, not}
@@ -12,17 +12,17 @@ use Rattle.node.specs.Nodes.{Node, nodeAt}
 
 -- ---- What a read answers, put to use
 
--- Something is there, of which p holds.
+-- Something is there, and p holds for it.
 abbrev pub holds : Num → (ℕ → Bool) → Bool
 holds None p = false
 holds (Is n) p = p n
 
--- If something is there, p holds of it.
+-- If something is there, p holds for it.
 abbrev pub ifPresent : Num → (ℕ → Bool) → Bool
 ifPresent None p = true
 ifPresent (Is n) p = p n
 
--- What p says of it; `otherwise` where nothing is there.
+-- What p says about it; `otherwise` if nothing is there.
 abbrev pub holdsOr : Num → (ℕ → Bool) → Bool → Bool
 holdsOr None p otherwise = otherwise
 holdsOr (Is n) p otherwise = p n
@@ -46,14 +46,14 @@ unfoldable pub find : List Node → ℕ → List ℕ → Num
 find ns tag [] = None
 find ns tag (i ∷ is) = cond (eqb (nodeAt ns i .tag) tag) (Is i) (find ns tag is)
 
--- The same, of the VR.
+-- The same, with the VR.
 unfoldable pub ofVr : List Node → ℕ → ℕ → Num
 ofVr ns vr i = cond (eqb (nodeAt ns i .vr) vr) (Is i) None
 
 abbrev pub findVr : List Node → ℕ → ℕ → List ℕ → Num
 findVr ns tag vr is = andThen (find ns tag is) (ofVr ns vr)
 
--- A length that is not 0. A sequence's length is 0 just where no node stands in it (Length).
+-- A length that is not 0. A sequence's length is 0 exactly when it contains no node (Length).
 unfoldable pub filled : List Node → ℕ → Bool
 filled ns i = cond (eqb (nodeAt ns i .vr) SQ) (not (eqb (nodeAt ns i .descendants) 0)) (not (eqb (length (nodeAt ns i .value)) 0))
 

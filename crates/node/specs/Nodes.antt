@@ -8,7 +8,7 @@ use Rattle.basics.specs.Vr.{SQ}
 use Rattle.dataset.specs.Reading.{Row}
 use Rattle.dataset.specs.Tree.{rowsOf}
 
--- An element or item: its tag, VR (an item's is 0), depth, number of nodes below it, and, for what is no sequence and no item, its value.
+-- An element or item: its tag, VR (an item's is 0), depth, number of nodes below it, and, unless it is a sequence or an item, its value.
 pub record Node : Type 0 where
   pub tag : ℕ
   pub vr : ℕ
@@ -16,7 +16,7 @@ pub record Node : Type 0 where
   pub descendants : ℕ
   pub value : List ℕ
 
--- A sequence and an item hold nodes, and no value of their own.
+-- A sequence and an item hold nodes, and have no value of their own.
 abbrev pub holdsNodes : ℕ → Bool
 holdsNodes vr = eqb vr SQ || eqb vr 0
 
@@ -26,7 +26,7 @@ valueIn s r = cond (holdsNodes (r .vr)) [] (take (r .size) (drop (r .offset) s))
 abbrev pub nodeOf : List ℕ → Row → Node
 nodeOf s r = record { tag = r .tag; vr = r .vr; depth = r .depth; descendants = r .descendants; value = valueIn s r }
 
--- The nodes of a data set that reads well; none of another.
+-- The nodes of a data set that reads well; otherwise none.
 unfoldable pub nodesOf : List ℕ → List Node
 nodesOf s = map (nodeOf s) (rowsOf s)
 
@@ -43,7 +43,7 @@ nextNode ns i = i + 1 + nodeAt ns i .descendants
 
 -- ---- Members: nodes that stand directly in one container, by their numbers
 
--- From node i up to `to`, each stepped over by the nodes below it; there are no more steps than nodes.
+-- From node i up to `to`; a step to the next member passes the nodes below this one, and there are no more steps than nodes.
 unfoldable pub membersBy : ℕ → List Node → ℕ → ℕ → List ℕ
 membersBy zero ns i to = []
 membersBy (suc steps) ns i to = cond (ltb i to) (i ∷ membersBy steps ns (nextNode ns i) to) []

@@ -1,4 +1,4 @@
-// The row table of a data set, node by node. What stands above this crate sees no offset and no length.
+// The row table of a data set, node by node. The crates above see no offsets and no lengths.
 ghost use mathlib.Core.Path.{_≡_};
 ghost use Prim.Native.Nat.{_+_, _-_, _*_, _≤_, _<_};
 ghost use lib.ListN.{length};
@@ -96,7 +96,7 @@ pub fn is_filled(bytes: &[u8], rows: &[u32], i: usize) -> bool
 
 // ---- Among many members, by halves
 
-// The number, counted from 1, of the node that node i stands directly in; 0 at the root.
+// The number, counted from 1, of the node that directly holds node i; 0 at the root.
 fn parent(bytes: &[u8], rows: &[u32], i: usize) -> usize
     requires { ⌜ Table (now bytes) (now rows) × (i < length (nodesOf (now bytes))) ⌝ }
     ensures { λ r. ⌜ r ≡ rowAt (rowsOf (now (bytes .entry))) i .parent ⌝ }
@@ -104,7 +104,7 @@ fn parent(bytes: &[u8], rows: &[u32], i: usize) -> usize
     wider(rows[WIDTH * i + dataset::PARENT])
 }
 
-// A container is known by its parent number, as `parent` answers it of its members: 0 is the root. Its first member has that number too.
+// A container is named by the number that `parent` answers for its members: 0 is the root. Its first member has that number too.
 
 // The member of the container `up` that node i is, or is below. There are at most 16 steps.
 fn member_above(bytes: &[u8], rows: &[u32], up: usize, i: usize) -> usize
@@ -122,7 +122,7 @@ fn member_above(bytes: &[u8], rows: &[u32], up: usize, i: usize) -> usize
 }
 
 // The first member of the container `up` whose tag is not below the tag, or `to`, which follows them. Tags never descend among members,
-// so that each step leaves at most half of the nodes.
+// so each step leaves at most half of the nodes.
 fn first_from(bytes: &[u8], rows: &[u32], up: usize, to: usize, wanted: usize) -> usize
     requires { ⌜ Table (now bytes) (now rows) × Container (now bytes) up to ⌝ }
     ensures { λ r. ⌜ r ≡ lower (nodesOf (now (bytes .entry))) wanted (members (nodesOf (now (bytes .entry))) up to) to ⌝ }
@@ -140,14 +140,14 @@ fn first_from(bytes: &[u8], rows: &[u32], up: usize, to: usize, wanted: usize) -
     low
 }
 
-// How many members a search passes one after the other before it goes by halves. (The compiler writes out a loop of 16 turns, which makes
-// every search in an item dearer.)
+// How many members a search passes one by one before it goes by halves. (The compiler unrolls a loop of 16 turns, which makes every
+// search in an item slower.)
 const STEPS: usize = 32;
 
-// Among so few nodes no halves are wanted.
+// Up to this many nodes are searched without halves.
 const FEW: usize = 32;
 
-// The first member from `from` up to `to` whose tag is not below the tag, or what follows them, where it is not far.
+// The first member from `from` up to `to` whose tag is not below the tag, or what follows them, if it is not far.
 fn near(bytes: &[u8], rows: &[u32], from: usize, to: usize, wanted: usize) -> Num
     requires { ⌜ Table (now bytes) (now rows) × (to ≤ length (nodesOf (now bytes))) ⌝ }
     ensures { λ r. ⌜ Nearby (nodesOf (now (bytes .entry))) wanted from to r ⌝ }
@@ -169,7 +169,8 @@ fn near(bytes: &[u8], rows: &[u32], from: usize, to: usize, wanted: usize) -> Nu
     Num::None
 }
 
-// The same among the members of the container `up`, which `to` follows, however far it is: the search starts at `from`, at or before it.
+// The same among the members of the container `up`, which `to` follows, however far it is; the search starts at `from`, which is at or
+// before it.
 pub fn reach(bytes: &[u8], rows: &[u32], up: usize, from: usize, to: usize, wanted: usize) -> usize
     requires { ⌜ Table (now bytes) (now rows)
         × (Container (now bytes) up to
@@ -199,8 +200,8 @@ pub fn first_is(bytes: &[u8], rows: &[u32], i: usize, to: usize, wanted: usize) 
     }
 }
 
-// The element of the tag in the container `up`, as `find_tag` finds it. Among few nodes `find_inside` does not come here, so that this
-// stays out of its callers.
+// The element of the tag in the container `up`, as `find_tag` finds it. Among few nodes `find_inside` does not call this, so the compiler
+// keeps it out of its callers.
 fn find_wide(bytes: &[u8], rows: &[u32], up: usize, to: usize, wanted: usize) -> Num
     requires { ⌜ Table (now bytes) (now rows) × Container (now bytes) up to ⌝ }
     ensures { λ r. ⌜ r ≡ find (nodesOf (now (bytes .entry))) wanted (members (nodesOf (now (bytes .entry))) up to) ⌝ }

@@ -1,5 +1,4 @@
--- What painting a frame asks. No paragraph of a paper stands here: what a cell's level is stands in `Rattle.pixel` and
--- `Rattle.window`.
+-- What painting a frame requires. None of this is in the papers; a cell's level is defined in `Rattle.pixel` and `Rattle.window`.
 use mathlib.Core.Path.{_≡_}
 use mathlib.Core.Bool.{true}
 use mathlib.Core.List.{List}

@@ -115,8 +115,8 @@ fn paint_blended(
     }
 }
 
-// The same, with the first line's upper row made here; `upper` is room for a row and its edges. Two places call it, so that
-// it stays a function of its own: whole shifts then take no stack for the second row.
+// The same, with the first line's upper row made here; `upper` is room for a row and its edges. Two places call it, so the compiler does
+// not inline it, and whole shifts take no stack for the second row.
 fn paint_quarters(
     pixels: &[u8],
     g: Geometry,
@@ -156,8 +156,8 @@ fn paint_quarters(
     );
 }
 
-// Paints a frame by two offsets in quarters; `row` is room for a row and its edges. A whole shift takes one mask row for
-// each line, any other two.
+// Paints a frame by two offsets in quarters; `row` is room for a row and its edges. A whole shift takes one mask row for each line, any
+// other shift two.
 fn paint_by(
     pixels: &[u8],
     g: Geometry,
@@ -219,7 +219,7 @@ fn paint_by(
     }
 }
 
-// Paints a frame with the average of mask frames taken from it, moved by quarters.
+// Paints a frame minus the average of its mask frames, moved by quarters.
 pub fn paint_masked(
     pixels: &[u8],
     g: Geometry,

@@ -1,4 +1,4 @@
--- What the functions of this crate ask and say of each other. No paragraph of a paper stands here.
+-- What the functions of this crate require of and promise each other. None of this is in the papers.
 use Prim.Native.Nat.{ℕ, zero, suc, _+_, _-_, _^_, _*_, _/_, _%_, _≤_, _<_, min}
 use mathlib.Core.List.{List, [], _∷_}
 use lib.ListN.{getD, set, length}
@@ -13,8 +13,8 @@ use Rattle.value.specs.Number.{usValues}
 use Rattle.value.specs.declared.Signed.{Signed}
 use Rattle.shift.specs.Shift.{shiftUnit, largestShift, largestMove}
 
--- What the painting functions write: one byte for each sample of the frame, from a table of shades. The table stands at
--- sample - mask + 2^stored - 1; a native sample stands where a mask of 2^(stored - 1) would put it.
+-- What the painting functions write: one byte for each sample of the frame, from a table of shades. The place in the table is sample -
+-- mask + 2^stored - 1; a native sample takes the place that a mask of 2^(stored - 1) would give it.
 
 -- The first n bytes of an image are f 0, f 1, ..; it is untouched beyond them.
 unfoldable pub painted : (ℕ → ℕ) → ℕ → List ℕ → List ℕ
@@ -27,7 +27,7 @@ nativeShade table g v f i = getD table (sampleAt g v f i + (2 ^ g .stored - 1 - 
 unfoldable pub maskedShade : List ℕ → Geometry → List ℕ → ℕ → List ℕ → Moves → ℕ → ℕ
 maskedShade table g v f ks m i = getD table (sampleAt g v f i + (2 ^ g .stored - 1) - blendedAt g v ks m i) 0
 
--- What contracts say beside the definitions of a picture: what drawing needs, and what each part of the code comes to.
+-- What contracts need beside the definitions of a picture: what drawing requires, and what each part of the code computes.
 
 -- ---- Room for moves
 
@@ -98,11 +98,11 @@ pub record Row (v : List ℕ) (g : Geometry) (from : ℕ) : Type 0 where
 
 -- ---- Moves
 
--- Where place i comes to by an offset, that is the largest move less a whole move, limited at either edge, where there are `size` places.
+-- The place that place i takes by an offset, that is the largest move minus a whole move, limited to `size` places at either edge.
 abbrev pub shifted : ℕ → ℕ → ℕ → ℕ
 shifted s size i = min (i + s - largestShift) (size - 1)
 
--- An offset of quarters, that is the largest move less a move: its whole part is an offset, its rest the quarters above.
+-- An offset in quarters, that is the largest move minus a move: its whole part is an offset, its rest the quarters above.
 pub record OffsetOf (m : Signed) (d : ℕ) : Type 0 where
   pub most : d ≤ farthestMove
   pub places : (size r k : ℕ) → placeOf m size r k ≡ shifted (d / shiftUnit + k) size r
@@ -114,7 +114,7 @@ pub record OffsetOf (m : Signed) (d : ℕ) : Type 0 where
 pub record Summed (v : List ℕ) (g : Geometry) (ks : List ℕ) (row : ℕ) (sums : List ℕ) : Type 0 where
   pub at : (c : ℕ) → c < g .columns → getD sums c 0 ≡ sumAt g v ks (row * g .columns + c)
 
--- The same behind the left edge, with the first of them in the places before, and the last in the places after.
+-- The same after the left edge, with the first of them in the places before and the last in the places after.
 pub record Spread (v : List ℕ) (g : Geometry) (ks : List ℕ) (row : ℕ) (sums : List ℕ) : Type 0 where
   pub at : (j : ℕ) → j < g .columns + edges → getD sums j 0 ≡ sumAt g v ks (row * g .columns + min (j - largestShift) (g .columns - 1))
 
@@ -197,7 +197,7 @@ pub record Blends (g : Geometry) (s : ℕ) (w upper lower : List ℕ) : Type 0 w
   pub above : Averages g upper
   pub below : Averages g lower
 
--- What a row is drawn from where its mask values are known.
+-- What a row is drawn from once its mask values are known.
 pub record Subtracts (v : List ℕ) (g : Geometry) (s : ℕ) (masks line : List ℕ) : Type 0 where
   pub row : Row v g 0
   pub most : s ≤ farthest

@@ -21,7 +21,7 @@ leBytes (suc n) v p = getD v p 0 + 256 * leBytes n v (p + 1)
 abbrev pub samplesOf : Geometry → ℕ
 samplesOf g = g .rows * g .columns
 
--- Frame k lies whole inside the pixel bytes v.
+-- The whole frame k lies inside the pixel bytes v.
 unfoldable pub isFrame : Geometry → List ℕ → ℕ → Bool
 isFrame g v k = leb 1 k && leb (k * samplesOf g * g .width) (length v)
 
@@ -40,7 +40,7 @@ averageOf sum n = (2 * sum + n) / (2 * n)
 unfoldable pub maskAt : Geometry → List ℕ → List ℕ → ℕ → ℕ
 maskAt g v ks i = averageOf (sumAt g v ks i) (length ks)
 
--- Step 4, in quarters of a pixel. Row or column r less the shift.
+-- Step 4, in quarters of a pixel. Row or column r minus the shift.
 abbrev pub lessShift : Signed → ℕ → ℤ
 lessShift m r = pos (shiftUnit * r) -ℤ integer m
 
@@ -51,12 +51,12 @@ wholeBelow z = floor z (pos shiftUnit)
 abbrev pub quartersAbove : ℤ → ℕ
 quartersAbove z = natAbs (z -ℤ pos shiftUnit *ℤ wholeBelow z)
 
--- A row or column limited to the picture's edges, where there are `size` of them.
+-- A row or column, of which there are `size`, limited to the picture's edges.
 abbrev pub limitedTo : ℕ → ℤ → ℕ
 limitedTo size (pos n) = min n (size - 1)
 limitedTo size (negsuc n) = 0
 
--- The k-th row or column from the whole one below r less the shift, and the quarters above that one.
+-- The k-th row or column from the whole one below r minus the shift, and the quarters above it.
 unfoldable pub placeOf : Signed → ℕ → ℕ → ℕ → ℕ
 placeOf m size r k = limitedTo size (wholeBelow (lessShift m r) +ℤ pos k)
 

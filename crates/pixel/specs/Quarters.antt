@@ -1,8 +1,7 @@
--- What Q-4 asks of the blend of step 4, as two statements. On whole shifts both rules agree: where the mask is moved by whole
--- rows and columns, of any number and to any side, the blended value of every cell of the picture is the mask cell that the
--- step of whole pixels took (`Agree`; specs/Whole has that step). And a blended value is never smaller than the least of its
--- four neighbours and never greater than the greatest of them, for any mask frames, any moves and any cell (`Between`). The
--- proofs stand in proofs/Quarters.
+-- What Q-4 asks of the blend of step 4, as two statements. On whole shifts both rules agree: if the mask is moved by any number of whole
+-- rows and columns, in any direction, the blended value of every cell of the picture is the mask cell that the step of whole pixels took
+-- (`Agree`; specs/Whole has that step). And a blended value is never smaller than the least of its four neighbours and never greater than
+-- the greatest of them, for any mask frames, any moves and any cell (`Between`). Proved in proofs/Quarters.
 use mathlib.Core.Path.{_≡_}
 use mathlib.Core.List.{List}
 use Prim.Native.Nat.{ℕ, _≤_, _<_, min, max}

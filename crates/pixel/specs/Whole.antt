@@ -1,12 +1,12 @@
--- Step 4 of whole pixels, as it was before quarters: what the theorem of agreement speaks of (`specs/Quarters`). The moves are
--- whole rows and columns here.
+-- Step 4 for whole pixels, as it was before quarters, for the theorem that both agree (`specs/Quarters`). The moves are whole rows and
+-- columns here.
 use Prim.Native.Nat.{ℕ, _+_, _-_, _*_, _/_, _%_, min}
 use Rattle.value.specs.declared.Signed.{Signed}
 use Rattle.value.specs.declared.Signed.the-variants.{Plus, Minus, None}
 use Rattle.shift.specs.declared.Moves.{Moves}
 use Rattle.pixel.specs.declared.Geometry.{Geometry}
 
--- A row or column r less the shift, limited to the picture's edges, where there are `size` of them.
+-- A row or column r, of which there are `size`, minus the shift, limited to the picture's edges.
 abbrev pub movedBy : Signed → ℕ → ℕ → ℕ
 movedBy (Plus n) size r = r - n
 movedBy (Minus n) size r = min (r + n) (size - 1)

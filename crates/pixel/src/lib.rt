@@ -24,7 +24,7 @@ pub struct Geometry {
     pub stored: usize,
 }
 
-// The divisor of an average that was multiplied, 2^32.
+// 2^32, by which an average is divided after a multiplication.
 const SCALE: usize = 4294967296;
 
 // The largest move to either side, and so the room at either edge of a row.
@@ -44,7 +44,7 @@ pub const LONGEST: usize = 65535 + EDGES;
 
 // ---- Frames
 
-// Frame k lies whole inside the pixel bytes.
+// Whether the whole frame k lies inside the pixel bytes.
 pub fn is_frame(g: Geometry, pixels: &[u8], k: usize) -> bool
     requires { ⌜ Small g k ⌝ }
     ensures { λ r. ⌜ r ≡ isFrame g (now (pixels .entry)) k ⌝ }
@@ -104,7 +104,8 @@ fn at_most(i: usize, most: usize) -> usize
     if i <= most { i } else { most }
 }
 
-// The offset of a move, in quarters: the largest move less it, since a move down or to the right takes samples from above or from the left.
+// The offset of a move, in quarters: the largest move minus the move, since a move down or to the right takes samples from above or from
+// the left.
 pub fn offset_of(m: Signed) -> usize
     requires { ⌜ SizeBelow tooFar m ⌝ }
     ensures { λ r. ⌜ OffsetOf m r ⌝ }
@@ -116,7 +117,7 @@ pub fn offset_of(m: Signed) -> usize
     }
 }
 
-// Where place i comes to by an offset, of `size` places.
+// The place that place i takes by an offset, among `size` places.
 pub fn moved(s: usize, size: usize, i: usize) -> usize
     requires { ⌜ (i < size) × ((size ≤ 65535) × (s ≤ edges)) ⌝ }
     ensures { λ r. ⌜ (r ≡ shifted s size i) × (r < size) ⌝ }
@@ -164,7 +165,7 @@ fn sum_row(pixels: &[u8], g: Geometry, masks: &[u8], row: usize, sums: &mut [u32
     }
 }
 
-// Puts the first sum before the row, and the last one behind it, so that no edge is met in drawing.
+// Puts the first sum before the row and the last one after it, so that drawing meets no edge.
 fn spread(columns: usize, sums: &mut [u32])
     requires { ⌜ (1 ≤ columns) × (columns + edges ≤ length (now sums)) ⌝ }
     ensures { λ _. ⌜ ((j : ℕ) → j < columns + edges
@@ -272,7 +273,7 @@ pub fn blended(block: [[u32; 2]; 2], weights: [u32; 4]) -> u32
         / 16
 }
 
-// Blends two rows of averages by the offset to the right and the weights: a row of mask values stands where the upper one stood.
+// Blends two rows of averages by the offset to the right and the weights; the row of mask values replaces the upper one.
 pub fn blend_all(g: Geometry, s: usize, w: [u32; 4], lower: &[u32], upper: &mut [u32])
     requires { ⌜ Blends g s w (now upper) (now lower) ⌝ }
     ensures { λ _. ⌜ now (upper .exit) ≡ paintedFrom (blendsAt (now (upper .entry)) (now (lower .entry)) w s) s (g .columns) (now (upper .entry)) ⌝ }
@@ -284,7 +285,7 @@ pub fn blend_all(g: Geometry, s: usize, w: [u32; 4], lower: &[u32], upper: &mut 
     }
 }
 
-// Draws a row of a frame from a row of mask values, which begin at an offset.
+// Draws a row of a frame from a row of mask values that begin at an offset.
 pub fn masked_row(
     line: &[u8],
     g: Geometry,

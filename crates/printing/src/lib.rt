@@ -15,7 +15,7 @@ pub fn print_broken(rows: usize, rule: usize, frame: usize) {
     io::write_all(1, b"\n");
 }
 
-// The code of a data set that does not read, and the place.
+// The code of a data set that does not read, and the offset.
 pub fn print_unread(code: usize, offset: usize) {
     print_field(b"code", code);
     print_field(b" place", offset);

@@ -1,4 +1,4 @@
--- Two lists of nodes that no rule tells apart: they may differ in the values that none of them reads. No paragraph of a paper stands here.
+-- Two lists of nodes that no rule can tell apart: they may differ in values that no rule reads. None of this is in the papers.
 use mathlib.Core.Path.{_≡_}
 use Prim.Native.Nat.{ℕ}
 use mathlib.Core.Bool.{true}
@@ -8,7 +8,8 @@ use Rattle.node.specs.Nodes.{Node, nodeAt}
 use Rattle.element.specs.Tags
 use Rattle.privacy.specs.Read.{isRead}
 
--- As many nodes, with the same tags, VRs and nodes below them; the same values where they are read, and Pixel Data of the same length.
+-- Equally many nodes, with the same tags, VRs and nodes below them; the same values at tags that are read, and Pixel Data of the same
+-- length.
 pub record Alike (ns ms : List Node) : Type 0 where
   pub size : length ns ≡ length ms
   pub tag : (i : ℕ) → nodeAt ns i .tag ≡ nodeAt ms i .tag

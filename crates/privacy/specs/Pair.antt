@@ -1,5 +1,5 @@
--- Two small data sets as `Privacy` has them, so that it speaks of something: they are accepted and drawn, and differ in all four items and
--- in the lengths of all four. Proved by computing, in proofs/Pair.antt.
+-- Two small data sets that meet the premise of `Privacy`, so it is not empty: they are accepted and drawn, and differ in all four items
+-- and in the lengths of all four. Proved by computing, in proofs/Pair.antt.
 use mathlib.Core.Path.{_≡_}
 use Prim.Native.Nat.{ℕ}
 use mathlib.Core.Bool.{cond}
@@ -13,8 +13,8 @@ use Rattle.display.specs.Show as show
 use Rattle.samples.specs.Objects.{short, oneFrame, noWindow}
 use Rattle.privacy.specs.Privacy.{isPatient, SameButPatient}
 
--- An object of one frame of two cells, as the samples have it, and the same with the four items where their tags belong: after Modality,
--- which ends at byte 94, and after Planes in Acquisition, which ends at byte 128.
+-- An object of one frame of two cells, as in the samples, and the same with the four items where their tags belong: after Modality, which
+-- ends at byte 94, and after Planes in Acquisition, which ends at byte 128.
 abbrev pub plain : List ℕ
 plain = oneFrame "MONOCHROME2 " "IDENTITY" noWindow (7 ∷ 200 ∷ [])
 

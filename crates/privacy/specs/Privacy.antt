@@ -1,15 +1,16 @@
 -- The list on the wall (document 02, Q-7).
 --
 -- Once a data set reads, nothing of four patient items reaches a verdict, a picture or a sheet. Take two data sets within the size limit
--- that both read, with the same rows but for places and lengths, whose values differ only in the root elements Patient's Name (0010,0010),
--- Patient ID (0010,0020), Patient's Birth Date (0010,0030) and Image Comments (0020,4000), in any lengths. With the same buffers and frame
--- numbers, `judge` gives the same code, rule, frame and row count, and the same sum of its searches; `show` the same answer and the same
--- image buffer; `sheet` the same answer and the same numbers. So do `compare`, the mapping to beam intensity and the slip of the verdict.
+-- that both read, with the same rows but for offsets and lengths, whose values differ only in the root elements Patient's Name
+-- (0010,0010), Patient ID (0010,0020), Patient's Birth Date (0010,0030) and Image Comments (0020,4000), in any lengths. With the same
+-- buffers and frame numbers, `judge` gives the same code, rule, frame and row count, and the same sum of its searches; `show` the same
+-- answer and the same image buffer; `sheet` the same answer and the same numbers. The same holds for `compare`, the mapping to beam
+-- intensity and the slip of the verdict.
 --
 -- Not promised: the row table, offsets and the canonical form, which do depend on these values.
 --
--- Proved in proofs/Privacy.antt. A rule or drawing step that reads one of the four items makes that proof fail: its tag would have to stand
--- among the tags that are read (specs/Read.antt), and none of the four may. specs/Pair.antt has two such data sets, accepted.
+-- Proved in proofs/Privacy.antt. A rule or drawing step that reads one of the four items makes that proof fail: its tag would have to be
+-- among the tags that are read (specs/Read.antt), and none of the four may be. specs/Pair.antt has two accepted data sets of this kind.
 use mathlib.Core.Path.{_≡_}
 use Prim.Native.Nat.{ℕ}
 use mathlib.Core.Bool.{Bool, cond, _&&_}
@@ -31,7 +32,7 @@ use Rattle.privacy.specs.Rows.{SameRows}
 abbrev pub patientTags : List ℕ
 patientTags = 0x0010_0010 ∷ 0x0010_0020 ∷ 0x0010_0030 ∷ 0x0020_4000 ∷ []
 
--- A row of one of them in the root: the seventh number of a root element is 0.
+-- A row of one of them at the root: the seventh number of a root element is 0.
 unfoldable pub isPatient : Row → Bool
 isPatient r = isIn (r .tag) patientTags && eqb (r .parent) 0
 
@@ -40,12 +41,12 @@ isPatient r = isIn (r .tag) patientTags && eqb (r .parent) 0
 abbrev pub keptValue : List ℕ → Row → List ℕ
 keptValue s r = cond (isPatient r) [] (valueIn s r)
 
--- The same rows but for places and lengths, and the same values but for those of the four items.
+-- The same rows but for offsets and lengths, and the same values but for those of the four items.
 pub record SameButPatient (s t : List ℕ) : Type 0 where
   pub shape : SameRows s t
   pub values : map (keptValue s) (shape .rows) ≡ map (keptValue t) (shape .others)
 
--- The same from every call, with whatever buffers and frame numbers.
+-- The same from every call, with any buffers and frame numbers.
 pub record SameAnswers (s t : List ℕ) : Type 0 where
   -- Code, rule, frame and row count.
   pub judged : (buffer : List ℕ) → judgeOf s buffer ≡ judgeOf t buffer

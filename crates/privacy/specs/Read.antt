@@ -5,8 +5,8 @@ use mathlib.Core.List.{List, [], _∷_}
 use Rattle.element.specs.Tags
 use Rattle.rules.specs.Frame.{isIn}
 
--- At whatever depth they stand. Of Pixel Data the rules read the length, and drawing and mapping the bytes.
--- A rule or a step that is added and reads another value needs that value's tag here.
+-- They count at every depth. The rules read the length of Pixel Data, drawing and mapping its bytes. A new rule or step that reads
+-- another value needs that value's tag here.
 abbrev pub readTags : List ℕ
 readTags =
     Tags.ImageType

@@ -1,10 +1,10 @@
--- Two data sets that read well, with the same rows but for places and lengths.
+-- Two data sets that read well, with the same rows but for offsets and lengths.
 use mathlib.Core.Path.{_≡_}
 use Prim.Native.Nat.{ℕ}
 use mathlib.Core.List.{List, map}
 use Rattle.dataset.specs.Reading.{Row, row, read, readingOf}
 
--- A row without its place and length: its tag, VR, depth, rows below and seventh number.
+-- A row without its offset and length: its tag, VR, depth, rows below and seventh number.
 abbrev pub outline : Row → Row
 outline r = row (r .tag) (r .vr) (r .depth) 0 0 (r .descendants) (r .parent)
 

@@ -1,7 +1,7 @@
--- A verdict depends on no value but those that a rule reads. Take two data sets within the size limit that both read, with the same rows
--- but for places and lengths, the same values at the tags that are read (specs/Read.antt), and Pixel Data of the same length. With the same
--- row buffer, `judge` gives the same code, rule, frame and row count. So the bytes of Pixel Data do not count for the verdict, nor do the
--- values of private elements or of any other element that no rule names. Proved in proofs/Unread.antt.
+-- A verdict depends only on values that a rule reads. Take two data sets within the size limit that both read, with the same rows but for
+-- offsets and lengths, the same values at the tags that are read (specs/Read.antt), and Pixel Data of the same length. With the same row
+-- buffer, `judge` gives the same code, rule, frame and row count. So the bytes of Pixel Data do not affect the verdict, nor do the values
+-- of private elements or of any other element that no rule names. Proved in proofs/Unread.antt.
 use mathlib.Core.Path.{_≡_}
 use Prim.Native.Nat.{ℕ}
 use mathlib.Core.Bool.{cond}

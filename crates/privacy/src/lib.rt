@@ -1,1 +1,1 @@
-// What the values of four patient items do not reach: specs/Privacy.antt. No code.
+// What the values of four patient items cannot reach: specs/Privacy.antt. There is no code.

@@ -1,4 +1,4 @@
--- What the tables over all frames hold. No paragraph of a paper stands here: which mask item applies stands in `Rattle.steps`.
+-- What the tables over all frames hold. None of this is in the papers; `Rattle.steps` defines which mask item applies.
 use mathlib.Core.Path.{_≡_}
 use mathlib.Core.Bool.{Bool, true, cond}
 use mathlib.Core.List.{List, [], _∷_}
@@ -19,13 +19,13 @@ use Rattle.steps.specs.Contracts.{GivesItem, IsTold}
 
 -- ---- How far pairs reach
 
--- The farthest last frame of the pairs whose first is a; 0 where there is none.
+-- The farthest last frame of the pairs whose first is a; 0 if there is none.
 unfoldable pub markOf : ℕ → List ℕ → ℕ
 markOf a [] = 0
 markOf a (x ∷ []) = 0
 markOf a (x ∷ y ∷ l) = max (cond (eqb x a) y 0) (markOf a l)
 
--- That of the pairs whose first is at most f.
+-- The same for pairs whose first is at most f.
 unfoldable pub reachOf : ℕ → List ℕ → ℕ
 reachOf f [] = 0
 reachOf f (x ∷ []) = 0
@@ -42,7 +42,7 @@ farOf marks (suc f) = max (farOf marks f) (getD marks (suc f) 0)
 pub record Cleared (n : ℕ) (after : List ℕ) : Type 0 where
   pub each : (i : ℕ) → i < n → getD after i 0 ≡ 0
 
--- The pairs of a list are marked, over what was marked before.
+-- The pairs of a list are marked, in addition to what was marked before.
 pub record Marked (l before after : List ℕ) : Type 0 where
   pub each : (i : ℕ) → getD after i 0 ≡ max (getD before i 0) (markOf i l)
 
@@ -52,7 +52,7 @@ pub record Rooms (n : ℕ) (reach which : List ℕ) : Type 0 where
   pub marks : 65536 ≤ length reach
   pub frames : n < length which
 
--- What stands at a frame once a mask item was tried: 0 is free.
+-- The entry of a frame after a mask item was tried: 0 is free.
 unfoldable pub takenBy : ℕ → Bool → ℕ → ℕ
 takenBy old held item = cond (eqb old 0) (cond held item 0) old
 
@@ -66,20 +66,20 @@ Covered n item reach before after = CoveredBy (λ f. leb f (farOf reach f)) n it
 abbrev pub CoveredAll : ℕ → ℕ → List ℕ → List ℕ → Type 0
 CoveredAll n item before after = CoveredBy (λ f. true) n item before after
 
--- Whatever a range says: where it answers, its frames are taken, and a frame that was taken stays so.
+-- Whatever a range says: if it can be read, its frames are taken, and a frame that was taken stays so.
 pub record Tried (holds : ℕ → Option Bool) (n item : ℕ) (before after : List ℕ) : Type 0 where
   pub each : (f : ℕ) → 1 ≤ f → f ≤ n → (h : Bool) → holds f ≡ some h → getD after f 0 ≡ takenBy (getD before f 0) h item
   pub kept : (f : ℕ) → 1 ≤ f → f ≤ n → (getD before f 0 ≡ 0 → ⊥) → getD after f 0 ≡ getD before f 0
 
--- The mask item that stands in a table, one more than its node.
+-- A mask item as an entry of a table: one more than its node.
 abbrev pub itemOf : ℕ → Applying
 itemOf w = cond (eqb w 0) Nothing (Item (w - 1))
 
--- The first of a list of mask items that holds a frame is found, at frames 1 to n.
+-- At frames 1 to n, the first of a list of mask items that holds the frame is found.
 pub record Held (ns : List Node) (n : ℕ) (all : List ℕ) : Type 0 where
   pub each : (f : ℕ) → 1 ≤ f → f ≤ n → firstHolding ns f all ≡ none → ⊥
 
--- What stands in a table once some mask items were tried, and what the rest of them say where it is free.
+-- The entries of a table after some mask items were tried, and what the rest of them say where it is free.
 abbrev pub leftOf : List Node → ℕ → List ℕ → ℕ → Option Applying
 leftOf ns f rest w = cond (eqb w 0) (firstHolding ns f rest) (some (Item (w - 1)))
 
@@ -108,6 +108,6 @@ operationIn x = cond (eqb x 0) operation.Lacks (cond (eqb x 1) operation.Native 
 abbrev pub toldIn : ℕ → Told
 toldIn x = record { operation = operationIn (x % 4); shared = foundIn (x / 4) }
 
--- Where a mask item stands, its answer stands beside it.
+-- Where there is a mask item, its answer is beside it.
 pub record Known (ns : List Node) (keys answers : List ℕ) : Type 0 where
   pub each : (i j : ℕ) → i < 16 → getD keys i 0 ≡ j + 1 → IsTold ns j (toldIn (getD answers i 0))

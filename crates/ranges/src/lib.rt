@@ -1,6 +1,6 @@
-// Steps 2 to 4 for all frames of an object at once: which mask item applies to each frame, and what each mask item says to all
-// frames alike, its operation and which item of the shared shift group names it. Each is worked out once, in time in proportion
-// to the frames, the pairs of the ranges, the items of the group and the bytes of the operations.
+// Steps 2 to 4 for all frames of an object at once: which mask item applies to each frame, and what each mask item says for all frames:
+// its operation, and which item of the shared shift group names it. Each is worked out once, in time proportional to the frames, the
+// pairs of the ranges, the items of the group and the bytes of the operations.
 ghost use mathlib.Core.Path.{_≡_};
 ghost use mathlib.Core.List.{[]};
 ghost use Prim.Native.Nat.{_+_, _%_, _≤_, _<_, max};
@@ -22,10 +22,10 @@ use steps::Operation;
 use steps::Told;
 use value::Num;
 
-// As far as any frame.
+// The largest frame number.
 const ALL: u32 = 65535;
 
-// The mask items of an accepted object.
+// The most mask items that an accepted object has.
 const MOST_MASKS: usize = 16;
 
 // ---- Which mask item applies
@@ -58,7 +58,7 @@ fn mark(v: &[u8], reach: &mut [u32])
     }
 }
 
-// A frame that no mask item took, and that a pair reaches, is taken.
+// Takes a frame that no mask item has taken and that a pair reaches.
 fn taken(old: u32, frame: usize, far: u32, item: u32) -> u32
     ensures { λ r. ⌜ r ≡ takenBy old (leb frame far) item ⌝ }
 {
@@ -101,7 +101,7 @@ fn cover_all(n: usize, item: u32, reach: &mut [u32], which: &mut [u32])
     cover(n, item, reach, which);
 }
 
-// Takes the frames that the range at node i holds. A range that is none, which no accepted object has, holds no frame.
+// Takes the frames that the range at node i holds. A range that cannot be read, which no accepted object has, holds no frame.
 fn cover_range(
     bytes: &[u8],
     rows: &[u32],
@@ -255,7 +255,7 @@ fn told_in(x: u32) -> Told
     Told { operation, shared }
 }
 
-// Writes down what each mask item from `from` up to `to` says, as far as there is room.
+// Records what each mask item from `from` up to `to` says, as far as there is room.
 fn tell_items(
     bytes: &[u8],
     rows: &[u32],
@@ -292,7 +292,7 @@ pub fn tell_all(bytes: &[u8], rows: &[u32], keys: &mut [u32], answers: &mut [u32
     tell_items(bytes, rows, items.at, items.end, keys, answers);
 }
 
-// What mask item j says: as written down, else worked out.
+// What mask item j says: as recorded, otherwise worked out.
 pub fn told_of(bytes: &[u8], rows: &[u32], j: usize, keys: &[u32], answers: &[u32]) -> Told
     requires { ⌜ Table (now bytes) (now rows)
         × ((j < length (nodesOf (now bytes)))

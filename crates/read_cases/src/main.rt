@@ -1,5 +1,5 @@
-// Prints the reading of each small case on standard input. A case is its size, in two bytes with the lower one first,
-// and then its bytes; tests/make_read_cases writes the cases, and works out by another program what is to be printed.
+// Prints the reading of each small case on standard input. A case is its size, in two bytes with the lower one first, and then its bytes;
+// tests/make_read_cases writes the cases and, by another program, the output that is expected.
 ghost use mathlib.Core.Path.{_≡_};
 ghost use Prim.Native.Nat.{_+_, _≤_, _<_};
 ghost use lib.ListN.{length};

@@ -1,4 +1,4 @@
--- What is known of an answer before it is printed.
+-- What is known about an answer before it is printed.
 use Prim.Native.Nat.{ℕ, _*_, _≤_}
 use mathlib.Core.List.{List}
 use lib.ListN.{length}

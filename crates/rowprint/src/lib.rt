@@ -98,7 +98,7 @@ fn print_answer(answer: ReadAnswer, rows: &[u32])
     }
 }
 
-// Reads a data set into a buffer that has room for seven numbers for each 8 bytes of it, so that the rows fit.
+// Reads a data set into a buffer with room for seven numbers for each 8 bytes of it, so the rows fit.
 fn read_roomy(bytes: &[u8], rows: &mut [u32]) -> ReadAnswer
     requires { ⌜ width * length (now bytes) ≤ 8 * length (now rows) ⌝ }
     ensures { λ r. ⌜ r ≡ answerOf (readingOf (now (bytes .entry))) (now (rows .entry)) ⌝ }
@@ -109,7 +109,7 @@ fn read_roomy(bytes: &[u8], rows: &mut [u32]) -> ReadAnswer
     dataset::read(bytes, rows)
 }
 
-// Prints the reading of a data set of at most `room::MOST` bytes; of more, that they are too many.
+// Prints the reading of a data set of at most `room::MOST` bytes; for more, that it is too long.
 pub fn print_reading(bytes: &[u8]) {
     if room::MOST < bytes.len() {
         io::write_all(1, b"too long: at most 65536 bytes\n");

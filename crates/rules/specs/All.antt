@@ -11,7 +11,7 @@ use Rattle.rules.specs.Mask.{rule31, rule32, rule33, rule34, rule35, rul
 use Rattle.rules.specs.Pixels.{rule38}
 use Rattle.rules.specs.Intensity.{rule39}
 
--- Whether each rule holds, from the first on; those that are asked at each frame, at frame f.
+-- Whether each rule holds, from the first on; per-frame rules at frame f.
 unfoldable pub ruleList : List Node → ℕ → List Bool
 ruleList ns f =
     rule1 ns
@@ -55,6 +55,6 @@ ruleList ns f =
     ∷ rule39 ns f
     ∷ []
 
--- Whether a rule holds at a frame; the frame counts only for a rule that is asked at each frame.
+-- Whether a rule holds at a frame; the frame matters only for a rule that is asked at each frame.
 unfoldable pub ruleAt : List Node → ℕ → ℕ → Bool
 ruleAt ns rule f = getD (ruleList ns f) (rule - 1) true

@@ -1,5 +1,5 @@
--- Rules 27 to 30 and 37, which are asked at each frame f. Each is of item f of the per-frame groups (its node is i) and
--- of the shared item (s).
+-- Rules 27 to 30 and 37, which are asked at each frame f. Each concerns item f of the per-frame groups (its node is i) and the shared
+-- item (s).
 use Prim.Native.Nat.{ℕ}
 use mathlib.Core.List.{List, [], _∷_, map}
 use mathlib.Core.Bool.{Bool, true, false, not, _&&_, _||_}
@@ -51,9 +51,9 @@ item29 ns s i = ifPresent (groupOf ns Tags.XAXRFFrameCharacteristicsSequence s i
 unfoldable pub rule29 : List Node → ℕ → Bool
 rule29 ns f = atFrame ns f (item29 ns)
 
--- Rule 30. Frame VOI LUT (0028,9132), if present, one item; has Window Center (0028,1050) and Width (0028,1051) DS,
--- equally many, each of the form of a DS number; its VOI LUT Function (0028,1056) CS, if present, LINEAR or LINEAR_EXACT; widths
--- at least 1 with LINEAR, above 0 with LINEAR_EXACT. (An empty value is no number, and no function.)
+-- Rule 30. Frame VOI LUT (0028,9132), if present, one item; has Window Center (0028,1050) and Width (0028,1051) DS, equally many, each
+-- with the form of a DS number; its VOI LUT Function (0028,1056) CS, if present, LINEAR or LINEAR_EXACT; widths at least 1 with LINEAR,
+-- above 0 with LINEAR_EXACT. (An empty value is no number, and no function.)
 unfoldable pub isWindow : Function → List ℕ → List ℕ → Bool
 isWindow f centers widths =
     isFunction f && (eqb (length (valuesOf centers)) (length (valuesOf widths)) && (allDecimals centers && allWidths (leastWidth f) widths))

@@ -25,7 +25,7 @@ unfoldable pub linearAmong : List Node → List ℕ → List ℕ
 linearAmong ns [] = []
 linearAmong ns (j ∷ js) = cond (isLinear ns j) (j ∷ linearAmong ns js) (linearAmong ns js)
 
--- A LUT Descriptor has three numbers of two bytes: how many entries, the first mapped cell, the bits of an entry. Of entries 0
+-- A LUT Descriptor has three numbers of two bytes: how many entries, the first mapped cell, the bits of an entry. An entry count of 0
 -- stands for 65,536.
 abbrev pub entryCount : List ℕ → ℕ
 entryCount d = cond (eqb (le16 d 0) 0) 65536 (le16 d 0)
@@ -40,15 +40,15 @@ hasLut ns j =
     holds (findVr ns Tags.LUTDescriptor US (inside ns j)) (λ d.
     holds (findVr ns Tags.LUTData OW (inside ns j)) (λ t. isLut (valueAt ns d) (valueAt ns t)))
 
--- Of TO_LINEAR items: at most one, and it has its LUT.
+-- There is at most one TO_LINEAR item, and it has its LUT.
 unfoldable pub areLuts : List Node → List ℕ → Bool
 areLuts ns js = leb (length js) 1 && every (hasLut ns) js
 
--- Pixel Intensity Relationship LUT Sequence (0028,9422): at least one item, and of them TO_LINEAR as above.
+-- Pixel Intensity Relationship LUT Sequence (0028,9422): at least one item, and TO_LINEAR items as above.
 unfoldable pub isLutGroup : List Node → ℕ → Bool
 isLutGroup ns g = eqb (nodeAt ns g .vr) SQ && (leb 1 (length (inside ns g)) && areLuts ns (linearAmong ns (inside ns g)))
 
--- It is with one TO_LINEAR item.
+-- It has a TO_LINEAR item.
 unfoldable pub hasLinear : List Node → ℕ → Bool
 hasLinear ns g = eqb (length (linearAmong ns (inside ns g))) 1
 

@@ -1,4 +1,4 @@
--- Rules 31 to 36: the mask items, which stand in the root's Mask Subtraction Sequence.
+-- Rules 31 to 36: the mask items, which are those of the root's Mask Subtraction Sequence.
 use Prim.Native.Nat.{ℕ, _%_}
 use mathlib.Core.List.{List, [], _∷_}
 use mathlib.Core.Bool.{Bool, true, false, cond, _&&_, _||_}

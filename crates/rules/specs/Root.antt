@@ -1,5 +1,5 @@
--- Rules 1 to 26 of document 01's rule list, each over the nodes of a data set. All but 25 and 26 are of elements in the root.
--- A value that is compared is single and of the VR named; a desk rule of the paper (D) is called a local rule.
+-- Rules 1 to 26 of document 01's rule list, each over the nodes of a data set. All but 25 and 26 concern elements of the root. A value
+-- that is compared is single and has the VR named. What the paper calls a desk rule (D) is here a local rule.
 use Prim.Native.Nat.{ℕ, _+_}
 use mathlib.Core.List.{List}
 use mathlib.Core.Bool.{Bool, true, cond, not, _&&_, _||_}

@@ -1,4 +1,4 @@
--- What the functions of this crate ask and say of each other. No paragraph of a paper stands here.
+-- What the functions of this crate require of and promise each other. None of this is in the papers.
 use Prim.Native.Nat.{ℕ}
 use mathlib.Core.List.{List}
 use mathlib.Core.Bool.{Bool, _&&_, true, cond}
@@ -15,14 +15,14 @@ use Rattle.rules.specs.Frame.{item27, item28, isVoi, isShiftGroup}
 
 -- How the code of rule 27 takes the elements of two items together, by their tags.
 
--- Node j is a sequence, and the first of the members is one of its tag.
+-- Node j is a sequence, and the first of the members is a sequence of the same tag.
 unfoldable pub isRepeated : List Node → ℕ → List ℕ → Bool
 isRepeated ns j ks = eqb (nodeAt ns j .vr) SQ && holds (firstIs ns (nodeAt ns j .tag) ks) (λ k. eqb (nodeAt ns k .vr) SQ)
 
--- How the code takes the rules that are asked at each frame apart: what a rule asks of the shared item is worked out once, and
--- what is left is asked of each frame's item. No paragraph of document 01 stands here; `Rattle.rules` has the rules.
+-- How the code splits the rules that are asked at each frame: what a rule asks of the shared item is worked out once, and the rest is
+-- asked of each frame's item. None of this is in document 01; `Rattle.rules` has the rules.
 
--- The functional group that rule 29, 30 or 37 is of, and what it asks of the group.
+-- The functional group of rule 29, 30 or 37, and what the rule asks of it.
 unfoldable pub groupTag : ℕ → ℕ
 groupTag rule = cond (eqb rule 29) Tags.XAXRFFrameCharacteristicsSequence
     (cond (eqb rule 30) Tags.FrameVOILUTSequence Tags.FramePixelShiftSequence)
@@ -30,7 +30,7 @@ groupTag rule = cond (eqb rule 29) Tags.XAXRFFrameCharacteristicsSequence
 unfoldable pub groupFits : List Node → ℕ → ℕ → Bool
 groupFits ns rule g = cond (eqb rule 29) (oneItem ns g) (cond (eqb rule 30) (isVoi ns g) (isShiftGroup ns g))
 
--- What rule 29, 30 or 37 asks of an item alone; `otherwise` where the item has no such group.
+-- What rule 29, 30 or 37 asks of an item alone; `otherwise` if the item has no such group.
 unfoldable pub groupIn : List Node → ℕ → ℕ → Bool → Bool
 groupIn ns rule i otherwise = holdsOr (find ns (groupTag rule) (inside ns i)) (groupFits ns rule) otherwise
 
@@ -48,7 +48,7 @@ itemBy ns rule s i =
     (cond (eqb rule 28) (item28 ns s i)
     (groupIn ns rule i (groupIn ns rule s true)))
 
--- Rule 39 is of two groups, each with a grade; a rule that is not 39 has none of them, and 39 no other part.
+-- Rule 39 has two groups, each with a grade; any other rule has no grade, and rule 39 has no other part.
 unfoldable pub sharedPart : List Node → ℕ → ℕ → SharedPart
 sharedPart ns rule s =
     cond (eqb rule 39)

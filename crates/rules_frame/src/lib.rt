@@ -18,16 +18,16 @@ use basics::vrs;
 use value::Function;
 use value::Num;
 
-// What a rule comes to in the shared item: of rule 39 the grades of its two functional groups.
+// The part of a rule in the shared item: for rule 39 the grades of its two functional groups.
 pub struct SharedPart {
     pub ok: bool,
     pub relation: usize,
     pub table: usize,
 }
 
-// ---- Rule 27: no sequence stands both in the shared item and in the frame's item
+// ---- Rule 27: no sequence is both in the shared item and in the frame's item
 
-// Whether node j is a sequence, and the first member from `k` up to `to` one of its tag.
+// Whether node j is a sequence, and the first member from `k` up to `to` a sequence of the same tag.
 fn is_repeated(bytes: &[u8], rows: &[u32], j: usize, k: usize, to: usize) -> bool
     requires { ⌜ Table (now bytes) (now rows) × ((j < length (nodesOf (now bytes))) × (to ≤ length (nodesOf (now bytes)))) ⌝ }
     ensures { λ r. ⌜ r ≡ isRepeated (nodesOf (now (bytes .entry))) j (members (nodesOf (now (bytes .entry))) k to) ⌝ }
@@ -68,7 +68,7 @@ fn repeats_narrow(bytes: &[u8], rows: &[u32], shared: usize, item: usize) -> boo
     false
 }
 
-// The same by halves in the shared one.
+// The same, by halves in the shared one.
 fn repeats_wide(bytes: &[u8], rows: &[u32], shared: usize, item: usize) -> bool
     requires { ⌜ Table (now bytes) (now rows) × ((shared < length (nodesOf (now bytes))) × (item < length (nodesOf (now bytes)))) ⌝ }
     ensures { λ r. ⌜ r ≡ repeatsShared (nodesOf (now (bytes .entry))) shared item ⌝ }
@@ -91,7 +91,7 @@ fn repeats_wide(bytes: &[u8], rows: &[u32], shared: usize, item: usize) -> bool
     false
 }
 
-// So many nodes of the shared item, itself among them, are gone along step by step at each frame.
+// A shared item of at most this many nodes, itself included, is walked step by step at each frame.
 const NARROW: usize = 64;
 
 fn repeats_shared(bytes: &[u8], rows: &[u32], shared: usize, item: usize) -> bool
@@ -117,7 +117,7 @@ fn item_27(bytes: &[u8], rows: &[u32], shared: usize, item: usize) -> bool
     }
 }
 
-// ---- Rule 28: Frame Content in no shared item, and one item in the frame's
+// ---- Rule 28: Frame Content not in the shared item, and with one item in the frame's
 
 fn is_content_absent(bytes: &[u8], rows: &[u32], shared: usize) -> bool
     requires { ⌜ Table (now bytes) (now rows) × (shared < length (nodesOf (now bytes))) ⌝ }
@@ -148,7 +148,7 @@ fn item_28(bytes: &[u8], rows: &[u32], shared: usize, ok: bool, item: usize) -> 
 
 // ---- Rule 30: Frame VOI LUT
 
-// Centres and widths: equally many, and each of its form.
+// Centres and widths: equally many, each with its form.
 fn are_pairs(least: usize, centers: &[u8], widths: &[u8]) -> bool
     ensures { λ r. ⌜ r ≡ (eqb (length (valuesOf (now (centers .entry)))) (length (valuesOf (now (widths .entry)))) && (allDecimals (now (centers .entry)) && allWidths least (now (widths .entry)))) ⌝ }
 {
@@ -240,7 +240,7 @@ fn are_shift_items(bytes: &[u8], rows: &[u32], from: usize, to: usize) -> bool
     true
 }
 
-// No two items from `from` up to `to` have the same ID. One alone is not asked for its own.
+// No two items from `from` up to `to` have the same ID. A single item is not asked for its ID.
 fn ids_differ(bytes: &[u8], rows: &[u32], from: usize, to: usize) -> bool
     requires { ⌜ Table (now bytes) (now rows) × ((from < to) × (to ≤ length (nodesOf (now bytes)))) ⌝ }
     ensures { λ r. ⌜ r ≡ uniqueIds (nodesOf (now (bytes .entry))) (members (nodesOf (now (bytes .entry))) from to) ⌝ }
@@ -305,7 +305,7 @@ fn group_fits(bytes: &[u8], rows: &[u32], rule: usize, group: usize) -> bool
     }
 }
 
-// The functional group of rule 29, 30 or 37 in an item; `otherwise` where the item has none.
+// The functional group of rule 29, 30 or 37 in an item; `otherwise` if the item has none.
 fn group_in(bytes: &[u8], rows: &[u32], rule: usize, item: usize, otherwise: bool) -> bool
     requires { ⌜ Table (now bytes) (now rows) × (item < length (nodesOf (now bytes))) ⌝ }
     ensures { λ r. ⌜ r ≡ groupIn (nodesOf (now (bytes .entry))) rule item otherwise ⌝ }
@@ -384,7 +384,7 @@ pub fn shared_part(bytes: &[u8], rows: &[u32], rule: usize, shared: usize) -> Sh
     }
 }
 
-// A rule at a frame: `shared` is the shared item, `part` what the rule comes to there, `item` the frame's item.
+// A rule at a frame: `shared` is the shared item, `part` the rule's part there, `item` the frame's item.
 pub fn item_rule(
     bytes: &[u8],
     rows: &[u32],

@@ -1,6 +1,5 @@
--- How the code asks the rules: one loop asks each mask item what the rule wants to know. And how it takes rule 36 apart: what the shared
--- item comes to is worked out once, and what is left is asked of each frame's item. No paragraph of document 01 stands here;
--- `Rattle.rules` has the rules.
+-- How the code checks the rules: one loop asks each mask item what the rule asks. And how it splits rule 36: the part of the shared item
+-- is worked out once, and the rest is asked of each frame's item. None of this is in document 01; `Rattle.rules` has the rules.
 use Prim.Native.Nat.{ℕ}
 use mathlib.Core.List.{List}
 use mathlib.Core.Bool.{Bool}
@@ -26,6 +25,6 @@ itemFits ns Id = hasId ns
 abbrev pub hasItems : List Node → ℕ → Bool
 hasItems ns g = holds (ofVr ns SQ g) (filled ns)
 
--- Whether an item has a Frame Pixel Shift group with items; `otherwise` where it has no such group at all.
+-- Whether an item has a Frame Pixel Shift group with items; `otherwise` if it has no such group at all.
 unfoldable pub shiftIn : List Node → ℕ → Bool → Bool
 shiftIn ns i otherwise = holdsOr (find ns Tags.FramePixelShiftSequence (inside ns i)) (hasItems ns) otherwise

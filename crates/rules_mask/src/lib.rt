@@ -1,4 +1,4 @@
-// Rules 31 to 36: the mask items, which stand in the root's Mask Subtraction Sequence.
+// Rules 31 to 36: the mask items, which are those of the root's Mask Subtraction Sequence.
 ghost use mathlib.Core.Path.{_≡_};
 ghost use Prim.Native.Nat.{_+_, _*_, _%_, _≤_, _<_};
 ghost use mathlib.Core.Bool.{_&&_};
@@ -20,7 +20,7 @@ use element::tags;
 use value::Num;
 use value::Signed;
 
-// What a rule asks of each mask item. Two rules speak of frames, and say how many there are.
+// What a rule asks of each mask item. Two of the rules need the number of frames.
 enum Question {
     Operation,
     Range(usize),
@@ -50,7 +50,7 @@ fn item_fits(bytes: &[u8], rows: &[u32], question: Question, item: usize) -> boo
     }
 }
 
-// Whether each item from `from` up to `to` is as the rule asks.
+// Whether each item from `from` up to `to` satisfies the rule.
 fn all_fit(bytes: &[u8], rows: &[u32], question: Question, from: usize, to: usize) -> bool
     requires { ⌜ Table (now bytes) (now rows) × (to ≤ length (nodesOf (now bytes))) ⌝ }
     ensures { λ r. ⌜ r ≡ every (itemFits (nodesOf (now (bytes .entry))) question) (members (nodesOf (now (bytes .entry))) from to) ⌝ }
@@ -357,7 +357,7 @@ fn is_shift_at(bytes: &[u8], rows: &[u32], i: usize) -> bool
     }
 }
 
-// Whether a mask item's Mask Sub-pixel Shift, if present, is a shift that rule 35 lets through.
+// Whether a mask item's Mask Sub-pixel Shift, if present, is a shift that rule 35 accepts.
 fn shift_fits(bytes: &[u8], rows: &[u32], item: usize) -> bool
     requires { ⌜ Table (now bytes) (now rows) × (item < length (nodesOf (now bytes))) ⌝ }
     ensures { λ r. ⌜ r ≡ shiftFits (nodesOf (now (bytes .entry))) item ⌝ }
@@ -379,7 +379,7 @@ fn rule_35(bytes: &[u8], rows: &[u32]) -> bool
 
 // ---- Rule 36
 
-// Whether an item has a Frame Pixel Shift group with items; `otherwise` where it has no such group at all.
+// Whether an item has a Frame Pixel Shift group with items; `otherwise` if it has no such group at all.
 fn shift_in(bytes: &[u8], rows: &[u32], item: usize, otherwise: bool) -> bool
     requires { ⌜ Table (now bytes) (now rows) × (item < length (nodesOf (now bytes))) ⌝ }
     ensures { λ r. ⌜ r ≡ shiftIn (nodesOf (now (bytes .entry))) item otherwise ⌝ }
@@ -427,7 +427,7 @@ fn masks_have_ids(bytes: &[u8], rows: &[u32]) -> bool
     }
 }
 
-// Rule 36: IDs of the mask items, where any frame has a Frame Pixel Shift group.
+// Rule 36: IDs of the mask items, if any frame has a Frame Pixel Shift group.
 fn rule_36(bytes: &[u8], rows: &[u32]) -> bool
     requires { ⌜ Table (now bytes) (now rows) ⌝ }
     ensures { λ r. ⌜ r ≡ rule36 (nodesOf (now (bytes .entry))) ⌝ }

@@ -1,4 +1,4 @@
-// The rules of elements in the root, 1 to 26, and of the pixel data, 38: whether each holds of a data set.
+// Rules 1 to 26, about elements of the root, and rule 38, about the pixel data: whether each holds for a data set.
 ghost use mathlib.Core.Path.{_≡_};
 ghost use Prim.Native.Nat.{_*_, _≤_, _<_};
 ghost use lib.ListN.{length};
@@ -495,7 +495,7 @@ fn rule_24(bytes: &[u8], rows: &[u32]) -> bool
 
 // ---- Functional groups
 
-// Rule 25: the shared functional groups are one item.
+// Rule 25: the shared functional groups have one item.
 fn rule_25(bytes: &[u8], rows: &[u32]) -> bool
     requires { ⌜ Table (now bytes) (now rows) ⌝ }
     ensures { λ r. ⌜ r ≡ rule25 (nodesOf (now (bytes .entry))) ⌝ }
@@ -506,7 +506,7 @@ fn rule_25(bytes: &[u8], rows: &[u32]) -> bool
     }
 }
 
-// Rule 26: the per-frame functional groups are an item for each frame.
+// Rule 26: the per-frame functional groups have an item for each frame.
 fn rule_26(bytes: &[u8], rows: &[u32]) -> bool
     requires { ⌜ Table (now bytes) (now rows) ⌝ }
     ensures { λ r. ⌜ r ≡ rule26 (nodesOf (now (bytes .entry))) ⌝ }
@@ -537,7 +537,7 @@ fn is_pixel_vr(vr: usize, allocated: usize) -> bool
     }
 }
 
-// A length of so many parts of a size, plus 1 if odd. Where their product is above the length it may fit no usize.
+// Whether a length is that of `count` parts of a size, plus 1 if odd. A product above the length may not fit a usize.
 fn is_padded(length: usize, count: usize, size: usize) -> bool
     ensures { λ r. ⌜ r ≡ eqb length (padded (count * size)) ⌝ }
 {

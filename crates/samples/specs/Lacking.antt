@@ -1,8 +1,8 @@
--- The steps can lack (document 01, "What a step needs"): one list of small data sets that read well and are not accepted, each
--- of which lacks one thing that a step needs. They have what the steps read and nothing else, so that they break rule 1. The first
--- two lines lack nothing: they are drawn though they are not accepted, for no rule is built into the steps. The need "mask cells inside
--- the picture" is not among them, since a neighbour is limited to the edge and cannot lie outside. The claim is `steps-lack`, in
--- proofs/Lacking.antt; the prover works out every line.
+-- The steps can lack something (document 01, "What a step needs"): one list of small data sets that read well and are not accepted, each
+-- of which lacks one thing that a step needs. They have what the steps read and nothing else, so they break rule 1. The first two lines
+-- lack nothing: they are drawn though they are not accepted, because no rule is built into the steps. The need "mask cells inside the
+-- picture" is not among them, since a neighbour is limited to the edge and cannot lie outside. The claim is `steps-lack`, in
+-- proofs/Lacking.antt; the prover computes every line.
 use Prim.Native.Nat.{ℕ}
 use Prim.Native.String.{String}
 use mathlib.Core.Bool.{Bool, true, false}
@@ -17,7 +17,7 @@ use Rattle.window.specs.declared.Window.{Window}
 use Rattle.samples.specs.Objects.{two, short, long, sequence, item, maskedBy}
 use Rattle.samples.specs.Samples.{manyRows, oneCell, unmoved}
 
--- What judging says of a data set, and what the steps give at a frame.
+-- What judging says about a data set, and what the steps give at a frame.
 pub record Stepped : Type 0 where
   pub code : ℕ
   pub rule : ℕ
@@ -184,7 +184,7 @@ lacking =
     ∷ lacks (withMask (average (numbers []))) 2
     ∷ []
 
--- The cell itself lacks where it would divide by 0, whatever was read before it: a masked cell of frame 2, in any window, with no mask
+-- A cell lacks something if it would divide by 0, whatever was read before it: a masked cell of frame 2, in any window, with no mask
 -- frame.
 abbrev pub cellOfNoFrame : Window → Num
 cellOfNoFrame w = maskedCell oneCell (90 ∷ 91 ∷ []) 2 [] unmoved w false 0

@@ -1,5 +1,5 @@
--- Small data sets for the samples of drawing, put together from elements in Explicit VR Little Endian. They have what the
--- rules ask for and no more, so that they are accepted; that they are is part of what the samples say.
+-- Small data sets for the samples of drawing, built from elements in Explicit VR Little Endian. They have what the rules ask for and no
+-- more, so they are accepted; the samples say so.
 use Prim.Native.Nat.{ℕ, _/_, _%_}
 use Prim.Native.String.{String}
 use mathlib.Core.Bool.{cond}
@@ -70,7 +70,7 @@ exactVoi center width =
 
 -- ---- Data sets
 
--- With a byte more where their number is odd.
+-- With one more byte if their number is odd.
 abbrev pub padded : List ℕ → List ℕ
 padded value = cond (eqb (length value % 2) 1) (value ++ (0 ∷ [])) value
 

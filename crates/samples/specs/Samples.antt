@@ -1,18 +1,17 @@
 -- Document 01's "Sample drawer": its starred cases, in its order and with its numbers, as one list.
 --
--- How to read it. A line of the list `samples`, at the end of this file, is one sample, under the sentence of the paper that
--- it is of: what is put in, and after it the numbers that have to come out. The first word of a line is its kind. A kind is
--- defined once, above the list, by two fields: `gives` is what the definitions of this library give for what is put in, and
--- `says` is what the line says. The definitions are those that the calls have to follow: `readingOf` for reading, `judgeOf` for
--- judging, `levelOf` for the window, `maskAt`, `maskedCell` and `maskFor` for masks, and `showOf` with `imageOf` for a whole
--- picture, which is judged and drawn by all steps. The claim that both fields are the same in every line is `starred`, in
--- proofs/Starred.antt; the prover works out every line.
+-- How to read it. A line of the list `samples`, at the end of this file, is one sample, under its sentence of the paper: the input, then
+-- the numbers that must come out. The first word of a line is its kind. A kind is defined once, above the list, by two fields: `gives` is
+-- what the definitions of this library give for the input, and `says` is what the line says. The definitions are those that the calls
+-- follow: `readingOf` for reading, `judgeOf` for judging, `levelOf` for the window, `maskAt`, `maskedCell` and `maskFor` for masks, and
+-- `showOf` with `imageOf` for a whole picture, which is judged and drawn by all steps. The claim that both fields are equal in every line
+-- is `starred`, in proofs/Starred.antt; the prover computes every line.
 --
--- The fields of an answer are written as in `Fields` of `Rattle.dataset`: `counted` rows; `placed`, a code and its place; `broken`, rows,
+-- The fields of an answer are written as in `Fields` of `Rattle.basics`: `counted` rows; `placed`, a code and its offset; `broken`, rows,
 -- rule and frame.
 --
--- Numbers that the paper leaves open are worked out by hand: the fields of a row, how many rows a whole data set has, and the
--- cells of its picture beside those that the paper names. A number 9 in a buffer is one that was not touched.
+-- Numbers that the paper leaves open are worked out by hand: the fields of a row, how many rows a whole data set has, and the cells of
+-- its picture that the paper does not name. A 9 in a buffer is a number that was not touched.
 use Prim.Native.Nat.{ℕ, _*_}
 use mathlib.Core.Bool.{Bool, true, false}
 use mathlib.Core.List.{List, [], _∷_, _++_}
@@ -83,7 +82,7 @@ rowsElement = 0x28 ∷ 0x00 ∷ 0x10 ∷ 0x00 ∷ 0x55 ∷ 0x53 ∷ 0x02 ∷ 0x0
 abbrev pub oddElement : List ℕ
 oddElement = 0x28 ∷ 0x00 ∷ 0x10 ∷ 0x00 ∷ 0x55 ∷ 0x53 ∷ 0x03 ∷ 0x00 ∷ 0x02 ∷ 0x00 ∷ []
 
--- An empty sequence of undefined length, that its delimiter ends.
+-- An empty sequence of undefined length, ended by its delimiter.
 abbrev pub emptySequence : List ℕ
 emptySequence =
     (0x00 ∷ 0x52 ∷ 0x29 ∷ 0x92 ∷ 0x53 ∷ 0x51 ∷ 0x00 ∷ 0x00 ∷ [])
@@ -227,7 +226,7 @@ maskSamples =
 abbrev pub samples : List Sample
 samples = windowSamples ++ maskSamples
 
--- Cases of later requests, of our own.
+-- Our own cases for later requests.
 abbrev pub later : List Sample
 later =
     -- Q-2: the window of centre 40 and width 10, its numbers written with exponents.

@@ -1,5 +1,5 @@
--- How the code adds the searches up: each group over all frames, so that what is looked at in the shared item is worked out once. No
--- paragraph of the papers stands here.
+-- How the code adds up the searches: each group over all frames, so the part in the shared item is worked out once. None of this is in
+-- the papers.
 use mathlib.Core.Path.{_≡_}
 use Prim.Native.Nat.{ℕ, _+_, _*_, _≤_}
 use mathlib.Core.List.{List, [], _∷_}
@@ -27,7 +27,7 @@ unfoldable pub rises : ℕ → List ℕ → Bool
 rises least [] = true
 rises least (tag ∷ tags) = cond (leb least tag) (rises tag tags) false
 
--- The tags from the first on that is above `here`.
+-- The tags from the first one above `here` on.
 unfoldable pub above : ℕ → List ℕ → List ℕ
 above here [] = []
 above here (tag ∷ tags) = cond (leb tag here) (above here tags) (tag ∷ tags)
@@ -40,7 +40,7 @@ tagsOf (s ∷ ss) = s .tag ∷ tagsOf ss
 unfoldable pub rootTags : List ℕ
 rootTags = tagsOf rootSearches
 
--- Those of the root as they ascend.
+-- Those of the root, in ascending order.
 unfoldable pub rootOrder : List ℕ
 rootOrder =
     Tags.ImageType
@@ -81,7 +81,7 @@ rootOrder =
 unfoldable pub maskTags : List ℕ
 maskTags = tagsOf maskSearches
 
--- A group, by its tag, at a frame and over frames. The rule's number counts nothing.
+-- A group, by its tag, at a frame and over frames. The rule's number does not matter.
 unfoldable pub groupAt : List Node → ℕ → Bool → List ℕ → ℕ → ℕ → ℕ
 groupAt ns tag always reads s i = groupSum ns (looksFor 0 tag always reads) s i
 
@@ -98,12 +98,12 @@ unfoldable pub overBoth : List Node → ℕ → List ℕ → ℕ
 overBoth ns s [] = 0
 overBoth ns s (i ∷ is) = bothItems ns s i + overBoth ns s is
 
--- What a group comes to in the shared item s: the rows looked at, and those that are looked at in its items.
+-- A group in the shared item s: the rows looked at to find it, and those looked at in its items.
 pub record InShared (ns : List Node) (tag : ℕ) (reads : List ℕ) (s : ℕ) (part : SharedGroup) : Type 0 where
   pub looked : part .looked ≡ lookedAt ns tag (inside ns s)
   pub read : part .read ≡ readInEach ns reads (insideOf ns (find ns tag (inside ns s)))
 
--- Where judging accepted, its rows stand first in the row buffer that it left.
+-- If judging accepted, the row buffer begins with its rows.
 abbrev pub Left : List ℕ → List ℕ → JudgeAnswer → Type 0
 Left s rows (judged.Accepted n) = (7 * n ≤ length rows) × Table s (take (7 * n) rows)
 Left s rows (judged.Broken n rule frame) = Unit {0}

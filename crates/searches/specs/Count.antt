@@ -1,5 +1,5 @@
--- How far one search looks (document 02, Q-11): "the number of that data set's elements with a lower tag, plus one if an
--- element remains". What stands below a row is passed over, so only the members of one data set count.
+-- How far one search looks (document 02, Q-11): "the number of that data set's elements with a lower tag, plus one if an element
+-- remains". What is below a row is skipped, so only the members of one data set count.
 use Prim.Native.Nat.{ℕ, _+_}
 use mathlib.Core.List.{List, [], _∷_}
 use mathlib.Core.Bool.{Bool, cond}

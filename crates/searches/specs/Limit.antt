@@ -1,8 +1,8 @@
 -- How far judging can look (document 02, Q-11).
 --
--- In plain words: of every accepted data set, the sum of all searches that judging is said to make is at most 40 × (N + 1) times
--- the number of its rows, where N is its number of frames. The 33 searches in the root and the 7 in each mask item together
--- look at no more than 40 times the rows; those of one frame look at no more than 25 times the rows.
+-- In plain words: for every accepted data set, the sum of all searches that judging is said to make is at most 40 × (N + 1) times the
+-- number of its rows, where N is its number of frames. The 33 searches in the root and the 7 in each mask item together look at no more
+-- than 40 times the rows; those of one frame look at no more than 25 times the rows.
 use Prim.Native.Nat.{ℕ, _+_, _*_, _≤_}
 use mathlib.Core.Path.{_≡_}
 use mathlib.Core.List.{List}

@@ -1,5 +1,5 @@
--- The plain search (document 02, Q-11): it goes along the members, each passed over by its rows-below number, and stops at the first tag
--- not below the one sought. What it finds is what is found among them, and the rows that it looks at are those that are counted.
+-- The plain search (document 02, Q-11): it goes along the members, skipping the rows below each, and stops at the first tag not below the
+-- one sought. It finds what `find` finds, and looks at as many rows as `lookedAt` counts.
 use mathlib.Core.Path.{_≡_}
 use Prim.Native.Nat.{ℕ}
 use mathlib.Core.List.{List}

@@ -1,4 +1,4 @@
--- What `judge` reports of its searches (document 02, Q-11): their sum with code 0, and 0 with every other answer.
+-- What `judge` reports about its searches (document 02, Q-11): their sum with code 0, and 0 with every other answer.
 use Prim.Native.Nat.{ℕ}
 use mathlib.Core.List.{List}
 use Rattle.basics.specs.Fields.{Fields}
@@ -24,7 +24,7 @@ reportedOf s buffer = ifAccepted (searchesOf (nodesOf s)) (judgeOf s buffer)
 abbrev pub countedOf : List ℕ → List ℕ → Counted
 countedOf s buffer = record { answer = judgeOf s buffer; searches = reportedOf s buffer }
 
--- The papers' numbers of each case: those of the answer, and the sum.
+-- The papers' numbers for each case: those of the answer, and the sum.
 pub record Reported : Type 0 where
   pub answer : Fields
   pub searches : ℕ

@@ -1,5 +1,4 @@
--- Small data sets whose searches were added up by hand, so that the definitions speak of something. Proved by computing, in
--- proofs/Samples.antt.
+-- Small data sets whose searches were added up by hand, as examples of the definitions. Proved by computing, in proofs/Samples.antt.
 use mathlib.Core.Path.{_≡_}
 use Prim.Native.Nat.{ℕ}
 use mathlib.Core.List.{List, [], _∷_, map}
@@ -18,7 +17,7 @@ sequence tag descendants = node tag SQ descendants
 abbrev pub item : ℕ → Node
 item descendants = node itemTag 0 descendants
 
--- Three elements in the root: of 33 tags sought there two stop at the first, two at the second, and 29 at the third or after it.
+-- Three elements in the root: of the 33 searches there, two stop at the first, two at the second, and 29 at the third or after it.
 abbrev pub three : List Node
 three = node Tags.SOPClassUID UI 0 ∷ node Tags.Modality CS 0 ∷ node Tags.Rows US 0 ∷ []
 

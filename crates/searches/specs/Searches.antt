@@ -61,7 +61,7 @@ rootSearches =
     ∷ looks 38 Tags.PixelData
     ∷ []
 
--- In each mask item: (0028,6101), and each tag whose number rules 32 to 36 give, but (0028,9415).
+-- In each mask item: (0028,6101), and each tag whose number rules 32 to 36 give, except (0028,9415).
 unfoldable pub maskSearches : List Search
 maskSearches =
     looks 31 Tags.MaskOperation
@@ -73,8 +73,8 @@ maskSearches =
     ∷ looks 36 Tags.SubtractionItemID
     ∷ []
 
--- For each frame a rule looks for a functional group in item f and, where it is not there, in the shared item, or always in both;
--- and in each item of the frame's group for the tags that it reads there.
+-- For each frame a rule looks for a functional group in item f and, if it is not there, in the shared item, or always in both; and in
+-- each item of the frame's group for the tags that it reads there.
 pub record GroupSearch : Type 0 where
   pub rule : ℕ
   pub group : ℕ
@@ -129,7 +129,7 @@ unfoldable pub groupsSum : List Node → List GroupSearch → ℕ → ℕ → �
 groupsSum ns [] s i = 0
 groupsSum ns (g ∷ gs) s i = groupSum ns g s i + groupsSum ns gs s i
 
--- Rule 27 counts instead the elements of item f plus those of the shared item.
+-- Rule 27 counts the elements of item f plus those of the shared item instead.
 abbrev pub bothItems : List Node → ℕ → ℕ → ℕ
 bothItems ns s i = length (inside ns i) + length (inside ns s)
 
@@ -145,6 +145,6 @@ abbrev pub overFrames : List Node → Num → ℕ
 overFrames ns None = 0
 overFrames ns (Is s) = framesSum ns s (frameItems ns)
 
--- The sum of an accepted data set's searches. It has N items of frames, one shared item and its mask items.
+-- The sum of an accepted data set's searches: it has N frame items, one shared item and its mask items.
 unfoldable pub searchesOf : List Node → ℕ
 searchesOf ns = searchedAmong ns rootSearches (root ns) + (maskSum ns (maskItems ns) + overFrames ns (sharedItem ns))

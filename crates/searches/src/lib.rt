@@ -1,4 +1,4 @@
-// How far judging looks: the searches of document 02, each counted, and their sum, which `judge` reports of an accepted data set.
+// How far judging looks: the searches of document 02, each counted, and their sum, which `judge` reports for an accepted data set.
 ghost use mathlib.Core.Path.{_≡_};
 ghost use mathlib.Core.Bool.{true};
 ghost use Prim.Native.Nat.{_+_, _*_, _^_, _≤_, _<_};
@@ -19,7 +19,7 @@ use conformance::JudgeAnswer;
 use element::tags;
 use value::Num;
 
-// The tables of specs/Searches. In the root, as the tags ascend:
+// The tables of specs/Searches. In the root, in ascending order of tags:
 const ROOT: [usize; 33] = [
     tags::IMAGE_TYPE,
     tags::SOP_CLASS_UID,
@@ -99,13 +99,13 @@ pub struct Looked {
     pub count: usize,
 }
 
-// What a group comes to in the shared item: the rows looked at there, and those that are looked at in its items.
+// A group in the shared item: the rows looked at to find it, and those looked at in its items.
 pub struct SharedGroup {
     pub looked: usize,
     pub read: usize,
 }
 
-// The answer of `judge`, and the sum of its searches: 0 with every other answer than code 0.
+// The answer of `judge`, and the sum of its searches: 0 with every answer but code 0.
 pub struct Counted {
     pub answer: JudgeAnswer,
     pub searches: usize,
@@ -162,7 +162,7 @@ fn look_all(bytes: &[u8], rows: &[u32], from: usize, to: usize, wanted: &[usize]
     sum
 }
 
-// Where the tags go on that are above `here`.
+// Where the tags above `here` begin.
 fn first_above(wanted: &[usize], from: usize, here: usize) -> usize
     requires { ⌜ from ≤ length (now wanted) ⌝ }
     ensures { λ r. ⌜ (r ≤ length (now (wanted .entry))) × (drop r (now (wanted .entry)) ≡ above here (drop from (now (wanted .entry)))) ⌝ }
@@ -177,7 +177,7 @@ fn first_above(wanted: &[usize], from: usize, here: usize) -> usize
     k
 }
 
-// As `look_all` in one walk, for tags that ascend: those from k on are still sought, and each looks at the member.
+// As `look_all` in one walk, for ascending tags: those from k on are still sought, and each looks at the member.
 fn look_along(bytes: &[u8], rows: &[u32], from: usize, to: usize, wanted: &[usize]) -> usize
     requires { ⌜ Table (now bytes) (now rows)
         × ((to ≤ length (nodesOf (now bytes)))
@@ -239,7 +239,7 @@ fn look_item(bytes: &[u8], rows: &[u32], item: usize, wanted: usize) -> Looked
     look(bytes, rows, item + 1, end, wanted)
 }
 
-// What a group comes to in the shared item: worked out once for all frames.
+// A group in the shared item, worked out once for all frames.
 fn shared_group(
     bytes: &[u8],
     rows: &[u32],
@@ -258,7 +258,7 @@ fn shared_group(
     }
 }
 
-// A group at the frame of the item: in the item and, where it is not there or always, in the shared item.
+// A group at the frame of the item: in the item and, if it is not there or always, in the shared item.
 fn group_at(
     bytes: &[u8],
     rows: &[u32],
@@ -350,7 +350,7 @@ fn groups_over(bytes: &[u8], rows: &[u32], shared: usize) -> usize
         + over_frames(bytes, rows, shared, LUTS, false, &table)
 }
 
-// All that is looked at for frames.
+// Everything looked at for frames.
 fn frames_sum(bytes: &[u8], rows: &[u32]) -> usize
     requires { ⌜ Table (now bytes) (now rows) ⌝ }
     ensures { λ r. ⌜ r ≡ overFrames (nodesOf (now (bytes .entry))) (sharedItem (nodesOf (now (bytes .entry)))) ⌝ }
@@ -395,7 +395,7 @@ pub fn reported(bytes: &[u8], rows: &[u32], answer: JudgeAnswer) -> usize
     }
 }
 
-// Reads the data set, judges it, and adds its searches up.
+// Reads the data set, judges it, and adds up its searches.
 pub fn judge_counted(bytes: &[u8], rows: &mut [u32]) -> Counted
     ensures { λ r. ⌜ Answers fieldsOf r (countedOf (now (bytes .entry)) (now (rows .entry))) ⌝ }
     ensures { λ _. ⌜ now (rows .exit) ≡ bufferOf (readingOf (now (bytes .entry))) (now (rows .entry)) ⌝ }

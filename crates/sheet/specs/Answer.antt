@@ -1,5 +1,5 @@
--- What `sheet` answers (document 02, Q-5): as judging up to code 9, then 19 where a is above b, then 10 where either is not a
--- frame of 1..N, then 0. The sheet that comes with it is that of frames a to b, or zeros.
+-- What `sheet` answers (document 02, Q-5): as for judging up to code 9, then 19 if a is above b, then 10 if either is not a frame of
+-- 1..N, then 0. The sheet that comes with it is that of frames a to b, or zeros.
 use Prim.Native.Nat.{ℕ}
 use mathlib.Core.Bool.{cond, _&&_}
 use mathlib.Core.List.{List}
@@ -47,7 +47,7 @@ withSheet ns a b r = record { answer = r; sheet = sheetFor ns a b r }
 unfoldable pub sheetOf : List ℕ → ℕ → ℕ → List ℕ → Sampled
 sheetOf s a b buffer = withSheet (nodesOf s) a b (answerFor (nodesOf s) a b (judgeOf s buffer))
 
--- The papers' numbers of each case, and of what `sheet` hands back; the sheet's own numbers are `numbersIn`.
+-- The papers' numbers for each case, and of what `sheet` hands back; the sheet's own numbers are `numbersIn`.
 abbrev pub fieldsOf : SheetAnswer → Fields
 fieldsOf (answer.Done n) = counted n
 fieldsOf (answer.Broken n rule frame) = broken n rule frame

@@ -1,4 +1,4 @@
--- What the counting functions ask and say. No paragraph of a paper stands here.
+-- What the counting functions require and promise. None of this is in the papers.
 use mathlib.Core.Path.{_≡_}
 use mathlib.Core.Bool.{Bool, true}
 use mathlib.Core.Logic.{_⊎_}
@@ -51,7 +51,7 @@ pub record IsAhead (ns : List Node) (n : ℕ) (which keys answers : List ℕ) : 
   pub key-room : 16 ≤ length keys
   pub answer-room : 16 ≤ length answers
 
--- ---- Rooms
+-- ---- Buffers
 
 -- The pixel bytes hold the frame, and there is room for a line.
 pub record FrameReady (v : List ℕ) (g : Geometry) (f : ℕ) (line : List ℕ) : Type 0 where
@@ -59,14 +59,14 @@ pub record FrameReady (v : List ℕ) (g : Geometry) (f : ℕ) (line : List ℕ) 
   pub inside : isFrame g v f ≡ true
   pub wide : 65535 ≤ length line
 
--- The lengths of all rooms.
+-- The lengths of all buffers.
 pub record Rooms (table upper lower line : List ℕ) : Type 0 where
   pub shades : length table ≡ 131072
   pub above : longestRow ≤ length upper
   pub below : longestRow ≤ length lower
   pub wide : 65535 ≤ length line
 
--- The shades that are held, with a table that is filled where they say so.
+-- The shades that are kept, with a table that is filled if they say so.
 pub record IsHeld (stored : ℕ) (inverse : Bool) (h : Held) (table : List ℕ) : Type 0 where
   pub shaded : Shaded (h .shades) stored table
   pub inverse-is : h .shades .inverse ≡ inverse

@@ -1,9 +1,8 @@
--- What is promised of a sheet. `sheet` answers code 0 exactly when the object is accepted, a ≤ b are two of its frames, and
--- there is room for the rows (demand 3 for the sheet). The sheet is then made of the pictures of frames a to b, and the steps lack nothing
--- at any of them: each picture has exactly Rows × Columns cells, each from 0 to 255. So the 256 counts add up to
--- (b - a + 1) × Rows × Columns; the sum of all levels is that of level times count; the lowest and the highest level are the
--- first and the last level with a count above 0; and there are at most b - a + 1 native frames. With every other answer all numbers of the
--- sheet are 0. The proof stands in proofs/Sampling.
+-- What `sheet` promises. `sheet` answers code 0 exactly when the object is accepted, a ≤ b are two of its frames, and there is room for
+-- the rows (demand 3 for the sheet). The sheet is then made of the pictures of frames a to b, and the steps lack nothing at any of them:
+-- each picture has exactly Rows × Columns cells, each from 0 to 255. So the 256 counts add up to (b - a + 1) × Rows × Columns; the sum of
+-- all levels is that of level times count; the lowest and the highest level are the first and the last level with a count above 0; and
+-- there are at most b - a + 1 native frames. With every other answer all numbers of the sheet are 0. Proved in proofs/Sampling.
 use mathlib.Core.Path.{_≡_}
 use mathlib.Core.List.{List}
 use Prim.Native.Nat.{ℕ, zero, suc, _+_, _-_, _*_, _≤_, _<_}
@@ -32,7 +31,7 @@ total f (suc n) = total f n + f n
 abbrev pub count : Numbers → ℕ → ℕ
 count t y = getD (t .counts) y 0
 
--- What the numbers of a sheet are to each other, for n frames of so many cells.
+-- How the numbers of a sheet relate, for n frames of a given number of cells.
 pub record Consistent (t : Numbers) (n cells : ℕ) : Type 0 where
   pub levels : length (t .counts) ≡ 256
   -- The counts add up.
@@ -55,7 +54,7 @@ pub record HandsBack (s : List ℕ) (a b : ℕ) (buffer : List ℕ) : Type 0 whe
   pub consistent : Consistent (sheetOf s a b buffer .sheet) (b - a + 1) (imageSize (nodesOf s))
 
 pub record Promise (s : List ℕ) (a b : ℕ) (buffer : List ℕ) : Type 0 where
-  -- The sheet of frames of an accepted object is done where there is room for the rows,
+  -- The sheet of frames of an accepted object is done if there is room for the rows,
   pub done : IsAccepted s → Range s a b → width * length (rowsOf s) ≤ length buffer → fieldsOf (sheetOf s a b buffer .answer) .code ≡ 0
   -- and nothing else is.
   pub nothing-else : fieldsOf (sheetOf s a b buffer .answer) .code ≡ 0

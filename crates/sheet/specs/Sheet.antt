@@ -25,7 +25,7 @@ nativesOf ns a (suc n) = cond (pictureOf ns a .masked) 0 1 + nativesOf ns (a + 1
 
 -- ---- Numbers of a list of levels
 
--- How often y stands in a list.
+-- How often y occurs in a list.
 unfoldable pub times : ℕ → List ℕ → ℕ
 times y [] = 0
 times y (x ∷ xs) = cond (eqb x y) 1 0 + times y xs
@@ -34,7 +34,7 @@ times y (x ∷ xs) = cond (eqb x y) 1 0 + times y xs
 abbrev pub countsOf : List ℕ → List ℕ
 countsOf levels = upTo (λ y. times y levels) 256
 
--- The lowest and the highest level. No picture is empty; of no level at all these would be 255 and 0.
+-- The lowest and the highest level. No picture is empty; for no level at all these would be 255 and 0.
 unfoldable pub lowestOf : List ℕ → ℕ
 lowestOf [] = 255
 lowestOf (y ∷ ys) = min y (lowestOf ys)

@@ -244,8 +244,8 @@ fn count_blended(
     )
 }
 
-// The counts with the levels of a masked frame, by two offsets in quarters. A whole shift takes one mask row for each line
-// where a table is filled; every other frame takes two.
+// The counts with the levels of a masked frame, by two offsets in quarters. A whole shift takes one mask row for each line if a table is
+// filled; every other frame takes two.
 fn count_masked(
     pixels: &[u8],
     g: Geometry,
@@ -343,7 +343,7 @@ fn count_moved(
 
 // ---- What is worked out ahead of the frames
 
-// What the mask item that applies says, as it was written down.
+// What the mask item that applies says, as recorded.
 fn told_here(bytes: &[u8], rows: &[u32], applies: Applying, keys: &[u32], answers: &[u32]) -> Told
     requires { ⌜ Table (now bytes) (now rows)
         × (ApplyingBelow (length (nodesOf (now bytes))) applies
@@ -380,7 +380,7 @@ fn plan_at(
     display::plan_of(bytes, rows, c, frame, n, item, applies, told)
 }
 
-// The item of a frame, at a cursor that is stepped along the items with the frames.
+// The item of a frame, at a cursor that moves along the items with the frames.
 fn item_here(bytes: &[u8], rows: &[u32], items: Items, frame: usize) -> Num
     requires { ⌜ Table (now bytes) (now rows)
         × (Along (nodesOf (now bytes)) (drop (frame - 1) (frameItems (nodesOf (now bytes)))) items × (1 ≤ frame)) ⌝ }
@@ -449,13 +449,13 @@ fn same_window(a: Window, b: Window) -> bool
     }
 }
 
-// The shades of the frame before, and how many cells were worked out from its window since it came.
+// The shades of the previous frame, and how many cells were computed from its window so far.
 pub struct Held {
     pub shades: Shades,
     pub spent: usize,
 }
 
-// Shades for a window by which so many cells will have been drawn. A table is filled only once they are as many as its places.
+// Shades for a window that will have drawn the given number of cells. A table is filled only when that is at least its number of places.
 fn shades_by(window: Window, stored: usize, inverse: bool, spent: usize, table: &mut [u8]) -> Held
     requires { ⌜ Drawable window × ((1 ≤ stored) × ((stored ≤ 16) × (length (now table) ≡ 131072))) ⌝ }
     ensures { λ r. ⌜ (r .shades .window ≡ window) × IsHeld stored inverse r (now (table .exit)) ⌝ }
@@ -482,7 +482,7 @@ fn shades_by(window: Window, stored: usize, inverse: bool, spent: usize, table: 
     }
 }
 
-// The shades of a frame of so many cells: those of the frame before, where its window is the same.
+// The shades of a frame with the given number of cells: those of the previous frame, if its window is the same.
 fn shades_for(
     window: Window,
     stored: usize,
@@ -670,7 +670,7 @@ fn nothing(stored: usize, inverse: bool) -> Counted
     }
 }
 
-// Counts frames a to b: each item is stepped to once, and the rooms are lent to every frame.
+// Counts frames a to b: each item is stepped to once, and every frame uses the same buffers.
 fn count_frames(
     bytes: &[u8],
     rows: &[u32],
@@ -723,7 +723,7 @@ fn count_frames(
     sofar
 }
 
-// The same, with what is worked out for all frames at once made here. `upper` is room for the marks of ranges.
+// The same, working out here what all frames share. `upper` has room for the marks of ranges.
 fn count_all(
     bytes: &[u8],
     rows: &[u32],
@@ -824,7 +824,7 @@ fn last_drawn(counts: [u64; 256]) -> usize
     y
 }
 
-// The sheet of frames a to b of an accepted object of n frames. All rooms are made here, once.
+// The sheet of frames a to b of an accepted object of n frames. All buffers are made here, once.
 fn sample_frames(bytes: &[u8], rows: &[u32], n: usize, a: usize, b: usize) -> Numbers
     requires { ⌜ Table (now bytes) (now rows) × (IsObject (now bytes) n × ((1 ≤ a) × ((a ≤ b) × (b ≤ n)))) ⌝ }
     ensures { λ r. ⌜ r ≡ framesSheet (nodesOf (now (bytes .entry))) a b ⌝ }
@@ -876,7 +876,7 @@ fn refused(answer: SheetAnswer) -> Sampled
     }
 }
 
-// The sheet of frames of an accepted object with so many rows: codes 19 and 10, or the sheet.
+// The sheet of frames of an accepted object whose number of rows is given: codes 19 and 10, or the sheet.
 fn sheet_table(bytes: &[u8], rows: &[u32], first: usize, last: usize, count: usize) -> Sampled
     requires { ⌜ Table (now bytes) (now rows)
         × (((i : ℕ) → getD (now bytes) i 0 < 256) × (findingOf (nodesOf (now bytes)) ≡ finding.Accepted)) ⌝ }

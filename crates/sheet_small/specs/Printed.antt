@@ -1,4 +1,4 @@
--- The sheet of frames 1 to N where the row buffer is large enough: what the program prints.
+-- The sheet of frames 1 to N if the row buffer is large enough, which is what the program prints.
 use Prim.Native.Nat.{ℕ}
 use mathlib.Core.List.{List}
 use Rattle.dataset.specs.Answer.{flat}
@@ -9,6 +9,6 @@ use Rattle.conformance.specs.Judging.{numberOf}
 use Rattle.sheet.specs.declared.Sampled.{Sampled}
 use Rattle.sheet.specs.Answer.{sheetOf}
 
--- With a row buffer that the rows just fill; any larger one gives the same.
+-- With a row buffer that the rows exactly fill; a larger one gives the same.
 abbrev pub wholeSheet : List ℕ → Sampled
 wholeSheet s = sheetOf s 1 (numberOf (framesOf (nodesOf s))) (flat (rowsOf s))

@@ -1,4 +1,4 @@
-// The sheet of all frames of a data set of at most 65,536 bytes with a row buffer of its own, for the program that samples.
+// The sheet of all frames of a data set of at most 65,536 bytes with its own row buffer, for the program that samples.
 use room::row_buffer;
 use sheet::Sampled;
 ghost use mathlib.Core.Path.{_≡_};

@@ -1,9 +1,8 @@
--- Whole shifts and quarters agree. Take any value that was a shift before quarters came: two FL numbers, each whole, from
--- -64 to 64. It is a shift still, and it moves the mask by the same distance: each of its two numbers, whether the mask
--- item's or the frame's own, counts four times as many quarters, with the same sign (`Agree`). Of two whole numbers of any
--- size the form of rule 35 says now what it said before, so that 64 is taken and 65 refused by both (`AgreeRule`). The
--- drawing steps ask for no limit, so the distance is also the same for two whole numbers of any size (`AgreeBeyond`). The
--- proofs stand in proofs/Agree; specs/Whole has what a shift was before.
+-- Whole shifts and quarters agree. Take any value that was a shift before quarters came: two FL numbers, each whole, from -64 to 64. It
+-- is still a shift, and moves the mask by the same distance: each of its two numbers, whether the mask item's or the frame's own, counts
+-- four times as many quarters, with the same sign (`Agree`). For two whole numbers of any size the form of rule 35 says what it said
+-- before: both take 64 and refuse 65 (`AgreeRule`). The drawing steps have no limit, so the distance is also the same for two whole
+-- numbers of any size (`AgreeBeyond`). Proved in proofs/Agree; specs/Whole has what a shift was before.
 use mathlib.Core.Path.{_≡_}
 use mathlib.Core.Bool.{true}
 use mathlib.Core.List.{List}

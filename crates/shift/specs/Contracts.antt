@@ -1,4 +1,4 @@
--- What contracts say beside the definitions of a shift: the size of a float without its sign, and bounds of the moves.
+-- What contracts need beside the definitions of a shift: the size of a float without its sign, and bounds of the moves.
 use Prim.Native.Nat.{ℕ, _+_, _*_, _/_, _%_}
 use mathlib.Core.Bool.{cond, _&&_}
 use lib.Dec.{eqb, leb}
@@ -13,13 +13,13 @@ use Rattle.shift.specs.Shift.{shiftUnit, largestMove}
 abbrev pub upTo : ℕ → ℕ → ℕ → Num
 upTo l n d = cond (leb (n / d) l && eqb (n % d) 0) (Is (n / d)) None
 
--- The quarters of a float without its sign, where they are whole and it is up to 64.
+-- The quarters of a float without its sign, if they are whole and it is at most 64.
 unfoldable pub shortSize : Float → Num
 shortSize nan = None
 shortSize (inf s) = None
 shortSize (fin s m e) = upTo largestMove (m * up e * shiftUnit) (down e)
 
--- The first size that no move has, in quarters.
+-- The least size that no move has, in quarters.
 abbrev pub tooFar : ℕ
 tooFar = largestMove + 1
 

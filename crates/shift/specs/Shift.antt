@@ -58,7 +58,7 @@ movesOf shift.None = record { vertical = Plus 0; horizontal = Plus 0 }
 movesOf (shift.Item v h) = record { vertical = quartersOf v; horizontal = quartersOf h }
 movesOf (shift.Frame v h) = record { vertical = quartersOf v; horizontal = quartersOf h }
 
--- The same, for quarters from -64 to 64 alone.
+-- The same, only for quarters from -64 to 64.
 unfoldable pub shortMovesOf : Shift → Moves
 shortMovesOf shift.None = record { vertical = Plus 0; horizontal = Plus 0 }
 shortMovesOf (shift.Item v h) = record { vertical = shortOf v; horizontal = shortOf h }
@@ -68,7 +68,7 @@ shortMovesOf (shift.Frame v h) = record { vertical = shortOf v; horizontal = sho
 unfoldable pub isShiftOf : Shift → Bool
 isShiftOf s = isShort (movesOf s .vertical) && isShort (movesOf s .horizontal)
 
--- A value of two FL numbers, as the item's or the frame's own; no shift where it has another length.
+-- A value of two FL numbers, as the item's or the frame's own; no shift if it has another length.
 unfoldable pub itemShift : List ℕ → Shift
 itemShift v = cond (eqb (length v) 8) (shift.Item (floatAt v 0) (floatAt v 4)) shift.None
 
@@ -79,6 +79,6 @@ frameShift v = cond (eqb (length v) 8) (shift.Frame (floatAt v 0) (floatAt v 4))
 unfoldable pub isShift : List ℕ → Bool
 isShift v = eqb (length v) 8 && isShiftOf (itemShift v)
 
--- Rule 37's, of a frame's own numbers: as in rule 35.
+-- Rule 37's form, for a frame's own numbers: as in rule 35.
 unfoldable pub isFrameShift : List ℕ → Bool
 isFrameShift v = eqb (length v) 8 && isShiftOf (frameShift v)

@@ -1,5 +1,5 @@
--- Shifts of whole pixels, as they were before quarters: what the theorems of agreement speak of (`specs/Agree`). No code
--- follows these definitions.
+-- Shifts of whole pixels, as they were before quarters, for the theorems that both agree (`specs/Agree`). No code follows these
+-- definitions.
 use Prim.Native.Nat.{ℕ, _*_, _/_, _%_}
 use mathlib.Core.Bool.{Bool, false, cond, _&&_}
 use mathlib.Core.List.{List}

@@ -1,5 +1,5 @@
-// Shifts of the mask: two FL numbers, vertical then horizontal, counted in quarters of a pixel. A shift is told from its
-// two floats, so that a number that is no whole quarter can be named; the rules let pass quarters from -64 to 64 alone.
+// Shifts of the mask: two FL numbers, vertical then horizontal, counted in quarters of a pixel. A shift keeps its two floats, so it can
+// also hold a number that is not a whole quarter; the rules accept only quarters from -64 to 64.
 ghost use mathlib.Core.Path.{_≡_};
 ghost use mathlib.Core.Bool.{false};
 ghost use Prim.Native.Nat.{_+_, _≤_};
@@ -33,7 +33,7 @@ const SIGN: u32 = 0x8000_0000;
 
 // ---- Floats
 
-// The float of any bit pattern: a NaN's gives a NaN.
+// The float of any bit pattern; that of a NaN gives a NaN.
 fn float_of(bits: u32) -> f32
     ensures { λ r. ⌜ r ≡ ofBits binary32 bits ⌝ }
 {
@@ -54,7 +54,7 @@ fn float_at(v: &[u8], p: usize) -> f32
 
 // ---- Quarters from -64 to 64
 
-// The quarters of a float that is not negative: they are whole where nothing was cut off.
+// The quarters of a float that is not negative: they are whole if nothing was cut off.
 fn short_size(y: f32) -> Num
     requires { ⌜ lt y (ofBits binary32 0) ≡ false ⌝ }
     ensures { λ r. ⌜ r ≡ shortSize y ⌝ }

@@ -1,5 +1,5 @@
-// Draws one frame of the data set on standard input. Its one argument is the frame's number. It writes the image to
-// standard output in the form PGM, which says in a comment whether the frame is masked; or the refusal, in a line.
+// Draws one frame of the data set on standard input. Its one argument is the frame's number. It writes the image to standard output as a
+// PGM, with a comment that says whether the frame is masked; or the refusal, in a line.
 use argument::Decimal;
 use display::ShowAnswer;
 use printing::print_broken;
@@ -53,7 +53,7 @@ fn print_shown(shown: Shown, image: &[u8])
     }
 }
 
-// The image buffer is large enough: an accepted object has as many bytes of pixel data.
+// The image buffer is large enough: an accepted object has at least as many bytes of pixel data.
 fn show_frame(bytes: &[u8], frame: u64)
     requires { ⌜ length (now bytes) ≤ 65536 ⌝ }
 {

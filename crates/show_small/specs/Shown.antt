@@ -1,4 +1,4 @@
--- What is shown of a data set where the row buffer is large enough: the answer, the image's size and the image.
+-- What is shown of a data set if the row buffer is large enough: the answer, the image's size and the image.
 use Prim.Native.Nat.{ℕ}
 use mathlib.Core.List.{List}
 use Rattle.dataset.specs.Answer.{flat}
@@ -34,7 +34,7 @@ sized ns shown.NoRoom = refused shown.NoRoom
 sized ns shown.NoFrame = refused shown.NoFrame
 sized ns shown.NoImageRoom = refused shown.NoImageRoom
 
--- With a row buffer that the rows just fill; any larger one gives the same.
+-- With a row buffer that the rows exactly fill; a larger one gives the same.
 abbrev pub shownOf : List ℕ → ℕ → List ℕ → Shown
 shownOf s f image = sized (nodesOf s) (showOf s f (flat (rowsOf s)) image)
 

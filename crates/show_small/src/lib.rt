@@ -1,4 +1,4 @@
-// Drawing a frame of a data set of at most 65,536 bytes with a row buffer of its own, for the programs that draw.
+// Drawing a frame of a data set of at most 65,536 bytes with its own row buffer, for the programs that draw.
 use display::ShowAnswer;
 use element::tags;
 use room::row_buffer;
@@ -11,14 +11,14 @@ ghost use Rattle.node.specs.Contracts.{Table};
 ghost use Rattle.conformance.specs.Judging.{numberOf};
 ghost use Rattle.show_small.specs.Shown.{drawn, shownOf, imageAfter};
 
-// The answer of `show`, and for a frame that was drawn the image's Columns and Rows, else 0.
+// The answer of `show`, and for a frame that was drawn the image's Columns and Rows, otherwise 0.
 pub struct Shown {
     pub answer: ShowAnswer,
     pub width: usize,
     pub height: usize,
 }
 
-// A number, or 0 where it is lacking.
+// A number, or 0 if it is lacking.
 pub fn number_of(n: Num) -> usize
     ensures { λ r. ⌜ r ≡ numberOf n ⌝ }
 {

@@ -30,7 +30,7 @@ version = 2
 abbrev pub oldVersion : ℕ
 oldVersion = 1
 
--- Where each field stands, and how long a slip of each version is.
+-- The offset of each field, and how long a slip of each version is.
 abbrev pub versionPlace : ℕ
 versionPlace = 3
 
@@ -60,7 +60,7 @@ unfoldable pub number : ℕ → List ℕ → ℕ → ℕ
 number zero s p = 0
 number (suc n) s p = getD s p 0 + 256 * number n s (p + 1)
 
--- The bytes that slips of both versions have, each with its version.
+-- The bytes that slips of both versions have, each with its own version number.
 unfoldable pub fieldBytes : ℕ → Verdict → List ℕ
 fieldBytes k v = mark ++ (le 2 k ++ (le 1 (v .code) ++ (le 1 (v .rule) ++ (le 2 (v .frame) ++ le 4 (v .offset)))))
 
@@ -68,7 +68,7 @@ fieldBytes k v = mark ++ (le 2 k ++ (le 1 (v .code) ++ (le 1 (v .rule) ++ (le 2 
 unfoldable pub slipWith : Verdict → ℕ → List ℕ
 slipWith v n = fieldBytes version v ++ le 4 n
 
--- The bytes of a verdict's slip. A verdict whose row count is not known has none.
+-- The bytes of a verdict's slip. A verdict with an unknown row count has no slip.
 abbrev pub slipBy : Verdict → RowCount → List ℕ
 slipBy v (Known n) = slipWith v n
 slipBy v NotKnown = []
@@ -88,7 +88,7 @@ sameBytes (x ∷ xs) (y ∷ ys) = eqb x y && sameBytes xs ys
 abbrev pub headSize : ℕ
 headSize = 5
 
--- The verdict that a slip's fields record as they stand, with a row count.
+-- The verdict that a slip's fields record, unchecked, with a row count.
 abbrev pub recorded : List ℕ → RowCount → Verdict
 recorded s rows = record {
   code = number 1 s codePlace;
@@ -105,7 +105,7 @@ ifPossible v = cond (not (possible v)) (read.Refused 14) (read.Read v)
 unfoldable pub readSized : ℕ → RowCount → List ℕ → SlipAnswer
 readSized size rows s = cond (not (eqb (length s) size)) (read.Refused 12) (ifPossible (recorded s rows))
 
--- Version 1 does not say the row count.
+-- Version 1 does not record the row count.
 unfoldable pub readVersion : ℕ → List ℕ → SlipAnswer
 readVersion k s =
     cond (eqb k oldVersion) (readSized oldSize NotKnown s)
@@ -117,7 +117,7 @@ readOf s =
     cond (not (leb headSize (length s) && sameBytes (take 3 s) mark)) (read.Refused 12)
     (readVersion (number 2 s versionPlace) s)
 
--- The paper's numbers of each case: the code, and with code 0 the verdict read.
+-- The paper's numbers for each case: the code, and with code 0 the verdict read.
 pub record SlipFields : Type 0 where
   pub code : ℕ
   pub verdict : Option Verdict
@@ -138,7 +138,7 @@ writeOf v buffer =
 unfoldable pub slipBuffer : Verdict → List ℕ → List ℕ
 slipBuffer v buffer = cond (writable v && leb slipSize (length buffer)) (slipOf v ++ drop slipSize buffer) buffer
 
--- The paper's numbers of each case: the code alone.
+-- The paper's numbers for each case: the code alone.
 abbrev pub writeFields : WriteAnswer → Fields
 writeFields write.Written = codeAlone 0
 writeFields (write.Refused code) = codeAlone code

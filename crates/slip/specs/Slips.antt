@@ -1,8 +1,8 @@
--- What slips are good for, as one statement. A verdict that a slip can record, written and read back, is the same verdict with
--- the same row count, also from the first 17 bytes of the buffer that it was written to. Two different ones never share
--- their bytes. Whatever reads well is a possible verdict. Bytes that read as version 2 are what writing that verdict gives.
--- The bytes that version 1 wrote for a verdict that it could record read as the same verdict with the row count not known; and
--- bytes that read as version 1 are such bytes, and say no row count.
+-- What slips promise, as one statement. A verdict that a slip can record, written and read back, is the same verdict with the same row
+-- count, also from the first 17 bytes of the buffer that it was written to. Two different ones never share their bytes. Whatever reads
+-- well is a possible verdict. Bytes that read as version 2 are what writing that verdict gives. The bytes that version 1 wrote for a
+-- verdict that it could record read as the same verdict with the row count not known; and bytes that read as version 1 are such bytes,
+-- without a row count.
 use mathlib.Core.Path.{_≡_}
 use mathlib.Core.Bool.{true}
 use mathlib.Core.List.{List}

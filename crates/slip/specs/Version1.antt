@@ -1,5 +1,5 @@
--- The slips that were written before Q-13, when a verdict had no row count. They are no longer written; their bytes stay
--- here so that `Slips` can say what those that clinics keep read as.
+-- The slips that were written before Q-13, when a verdict had no row count. They are no longer written; the definition of their bytes
+-- stays here so that `Slips` can say how those that clinics keep are read.
 use Prim.Native.Nat.{ℕ}
 use mathlib.Core.List.{List}
 use Rattle.verdict.specs.declared.Verdict.{Verdict}

@@ -1,5 +1,5 @@
-// Verdict slips: 17 bytes that record a verdict with its row count. specs/ says what a slip is; `write_slip` and
-// `read_slip` are the public calls. Slips of version 1, which are read too, end before the row count.
+// Verdict slips: 17 bytes that record a verdict with its row count. specs/ says what a slip is; `write_slip` and `read_slip` are the
+// public calls. Slips of version 1, which are still read, end before the row count.
 ghost use mathlib.Core.Path.{_≡_};
 ghost use mathlib.Core.List.{_++_};
 ghost use Prim.Native.Nat.{_≤_};
@@ -21,7 +21,7 @@ const OLD_SIZE: usize = 13;
 
 pub const SIZE: usize = 17;
 
-// Where each field stands; the mark is in front.
+// The offset of each field; the mark comes first.
 const VERSION_AT: usize = 3;
 
 const CODE_AT: usize = 5;
@@ -64,7 +64,7 @@ fn is_marked(s: &[u8]) -> bool
     }
 }
 
-// The fields of a slip as they stand, with a row count.
+// The fields of a slip, unchecked, with a row count.
 fn fields(s: &[u8], rows: RowCount) -> Verdict
     requires { ⌜ oldSize ≤ length (now s) ⌝ }
     ensures { λ r. ⌜ r ≡ recorded (now (s .entry)) rows ⌝ }
@@ -131,8 +131,8 @@ fn read_version(slip: &[u8]) -> SlipAnswer
     }
 }
 
-// The verdict that a slip records; code 12 where it has fewer than 5 bytes or another mark, 13 where its version is
-// neither 1 nor 2, 12 where it is not as long as its version's slips, 14 where its fields are not possible.
+// The verdict that a slip records; code 12 if it has fewer than 5 bytes or a wrong mark, 13 if its version is neither 1 nor 2, 12 if its
+// length is not its version's, 14 if its fields are not possible.
 pub fn read_slip(slip: &[u8]) -> SlipAnswer
     ensures { λ r. ⌜ Answers readFields r (readOf (now (slip .entry))) ⌝ }
 {
@@ -149,8 +149,8 @@ pub fn read_slip(slip: &[u8]) -> SlipAnswer
 
 // ---- Writing
 
-// Writes a verdict's slip with n rows over the first 17 bytes. A field too wide for its bytes would be cut: `write_slip`
-// has the verdict tested first.
+// Writes a verdict's slip with n rows over the first 17 bytes. A field too wide for its bytes would be cut, so `write_slip` tests the
+// verdict first.
 fn put_slip(v: Verdict, n: usize, slip: &mut [u8])
     requires { ⌜ slipSize ≤ length (now slip) ⌝ }
     ensures { λ _. ⌜ now (slip .exit) ≡ slipWith v n ++ drop slipSize (now (slip .entry)) ⌝ }
@@ -178,8 +178,8 @@ fn put_slip(v: Verdict, n: usize, slip: &mut [u8])
     slip[16] = (n / 256 / 256 / 256 % 256) as u8;
 }
 
-// Writes a verdict's slip over the first 17 bytes of the buffer; code 14 where the verdict is not possible or its row count
-// not known, then 11 where the buffer has fewer than 17 bytes. A refusal leaves the buffer as it was.
+// Writes a verdict's slip over the first 17 bytes of the buffer; code 14 if the verdict is not possible or its row count not known, then
+// 11 if the buffer has fewer than 17 bytes. A refusal leaves the buffer as it was.
 pub fn write_slip(verdict: Verdict, slip: &mut [u8]) -> WriteAnswer
     ensures { λ r. ⌜ Answers writeFields r (writeOf verdict (now (slip .entry))) ⌝ }
     ensures { λ _. ⌜ now (slip .exit) ≡ slipBuffer verdict (now (slip .entry)) ⌝ }

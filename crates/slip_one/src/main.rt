@@ -1,5 +1,5 @@
-// Writes the slip of the verdict on the data set on standard input to standard output: 17 bytes. An input that is too long
-// has none, and is said to be on standard error.
+// Writes the slip of the verdict on the data set on standard input to standard output: 17 bytes. For an input that is too long there is
+// only a message on standard error.
 ghost use mathlib.Core.Path.{_≡_};
 ghost use mathlib.Core.Bool.{true};
 ghost use Prim.Native.Nat.{_≤_};

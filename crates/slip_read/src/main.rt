@@ -72,7 +72,7 @@ fn print_refusal(code: usize) {
 }
 
 fn main() {
-    // A slip has at most 17 bytes; the rest of the array tells a longer input from one.
+    // A slip has at most 17 bytes; the rest of the array serves to detect a longer input.
     let mut buffer = [0u8; 64];
     let n = io::read_full(0, &mut buffer);
     match slip::read_slip(&buffer[..n]) {

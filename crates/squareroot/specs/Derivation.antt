@@ -1,7 +1,7 @@
--- What is claimed of the square root derivation (document 02, Q-8), over the definitions of SquareRoot. The root is the largest
--- number whose square is at most t, among all numbers. What a cell becomes fits 8 bits. Each level p but 1 comes back as p
--- through its entry, and no cell becomes 1. A cell v, that is the lowest 14 bits of a number, less the entry of what it becomes
--- is 0 to 127. The statement says nothing of how the entries are kept. Its proof stands in proofs/Derivation.
+-- What is claimed about the square root derivation (document 02, Q-8), over the definitions of SquareRoot. The root is the largest number
+-- whose square is at most t, among all numbers. What a cell becomes fits 8 bits. Each level p but 1 comes back as p through its entry,
+-- and no cell becomes 1. A cell v, that is the lowest 14 bits of a number, minus the entry of what it becomes is 0 to 127. The statement
+-- does not depend on how the entries are kept. Proved in proofs/Derivation.
 use mathlib.Core.Path.{_≡_}
 use Prim.Native.Nat.{ℕ, _-_, _≤_, _*_}
 use Rattle.squareroot.specs.SquareRoot.{cell, rootOf, rootLevel, rootEntry}
@@ -11,7 +11,7 @@ pub record Largest (t p : ℕ) : Type 0 where
   pub under : p * p ≤ t
   pub most : (q : ℕ) → q * q ≤ t → q ≤ p
 
--- The cell less the entry of what it becomes is 0 to 127: it is not below that entry, and not more than 127 above it.
+-- The cell minus the entry of what it becomes is 0 to 127: it is not below that entry, and not more than 127 above it.
 pub record Near (v : ℕ) : Type 0 where
   pub under : rootEntry (rootLevel v) ≤ cell v
   pub near : cell v - rootEntry (rootLevel v) ≤ 127

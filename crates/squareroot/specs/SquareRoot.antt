@@ -8,11 +8,11 @@ unfoldable pub largestBy : ℕ → ℕ → ℕ
 largestBy zero t = zero
 largestBy (suc p) t = cond (leb (suc p * suc p) t) (suc p) (largestBy p t)
 
--- The largest p with p × p ≤ t: none is above t.
+-- The largest p with p × p ≤ t; it is never above t.
 unfoldable pub rootOf : ℕ → ℕ
 rootOf t = largestBy t t
 
--- A 14-bit cell; of a larger number the lowest 14 bits.
+-- A 14-bit cell: the lowest 14 bits of a number.
 abbrev pub cell : ℕ → ℕ
 cell v = v % 16384
 

@@ -1,4 +1,4 @@
--- What the answers of the code say: each is what a definition of the steps gives, and says `Lacks` where that is `none`.
+-- What the code's answers mean: each is what a definition of the steps gives, or `Lacks` if that is `none`.
 use Prim.Native.Nat.{ℕ, _%_, _≤_, _<_}
 use lib.ListN.{length}
 use lib.Dec.{eqb, leb}
@@ -68,7 +68,7 @@ operationOf ns j =
     (cond (operationIs ns (ascii "AVG_SUB") j) operation.Average
     (cond (operationIs ns (ascii "TID") j) operation.Tid operation.Lacks))
 
--- What mask item j says to all frames alike.
+-- What mask item j says, the same for all frames.
 pub record IsTold (ns : List Node) (j : ℕ) (t : Told) : Type 0 where
   pub operation-is : t .operation ≡ operationOf ns j
   pub names : IsShared ns j (t .shared)
@@ -83,7 +83,7 @@ holdsOf holds.Lacks = none
 abbrev pub hasPairs : List Node → ℕ → Bool
 hasPairs ns i = eqb (nodeAt ns i .vr) US && (leb 4 (length (valueAt ns i)) && eqb (length (valueAt ns i) % 4) 0)
 
--- What the search for a mask item found: none, or an item that applies where its range can be read.
+-- What the search for a mask item found: none, or an item that applies if its range can be read.
 abbrev pub ifRead : List Node → ℕ → Applying → Option Applying
 ifRead ns f (applying.Item j) = then (rangeHolds ns f j) (λ _. some (applying.Item j))
 ifRead ns f applying.Nothing = some applying.Nothing
@@ -120,7 +120,7 @@ abbrev pub sizedOf : Sized → Option Geometry
 sizedOf (sized.Is g) = some g
 sizedOf sized.Lacks = none
 
--- Each number of a geometry is that of a US, and the width is in bytes.
+-- Each number of a geometry fits a US, and the width is in bytes.
 pub record Small (g : Geometry) : Type 0 where
   pub rows : g .rows < 65536
   pub columns : g .columns < 65536

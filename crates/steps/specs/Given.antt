@@ -1,4 +1,4 @@
--- Computations that can lack something: `none` where a step lacks what it needs.
+-- Computations that can lack something: `none` if a step lacks what it needs.
 use Prim.Native.Nat.{ℕ, zero, suc}
 use mathlib.Core.Bool.{Bool, true, false}
 use mathlib.Core.List.{List, [], _∷_, _++_}
@@ -7,12 +7,12 @@ use Rattle.value.specs.declared.Num.{Num}
 use Rattle.value.specs.declared.Num.the-variants.{Is, None}
 
 module _ {A : Type 0} where
-  -- Goes on with the number, where there is one.
+  -- Goes on with the number, if there is one.
   abbrev pub need : Num → (ℕ → Option A) → Option A
   need None go = none
   need (Is n) go = go n
 
-  -- Goes on where the test holds.
+  -- Goes on if the test holds.
   abbrev pub check : Bool → Option A → Option A
   check false go = none
   check true go = go
@@ -23,7 +23,7 @@ module _ {A : Type 0} where
     then none go = none
     then (some b) go = go b
 
--- The numbers that f gives for 0 up to n, if it gives them all.
+-- The numbers that f gives for 0 up to n - 1, if it gives them all.
 unfoldable pub collect : (ℕ → Num) → ℕ → Option (List ℕ)
 collect f zero = some []
 collect f (suc n) = then (collect f n) (λ l. need (f n) (λ y. some (l ++ (y ∷ []))))

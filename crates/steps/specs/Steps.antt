@@ -1,6 +1,6 @@
--- Drawing frame f (document 01, steps 1 to 7 and "What a step needs"), over the nodes of a data set that reads well,
--- accepted or not. No rule is built in: a step that lacks what it needs gives `none`, and a step that is not taken
--- needs nothing. The samples' arithmetic stands in `Rattle.pixel` and the window's in `Rattle.window`.
+-- Drawing frame f (document 01, steps 1 to 7 and "What a step needs"), over the nodes of a data set that reads well, accepted or not. No
+-- rule is built in: a step that lacks what it needs gives `none`, and a step that is not taken needs nothing. The arithmetic of samples
+-- is in `Rattle.pixel`, that of windows in `Rattle.window`.
 --
 -- step                                              definition
 -- 1  cells of whole bytes, high bits cut off        geometryOf, pixelsOf; sampleAt of Rattle.pixel
@@ -59,7 +59,7 @@ pub record Picture : Type 0 where
 
 -- ---- What the steps read
 
--- The size of a frame and of its cells, of whole bytes. Bits Stored may be any number: of 0 bits each cell is 0.
+-- The size of a frame and of its cells, of whole bytes. Bits Stored may be any number: with 0 bits each cell is 0.
 unfoldable pub geometryOf : List Node → Option Geometry
 geometryOf ns =
     need (usIn ns Tags.Rows (root ns)) (λ r.
@@ -75,7 +75,7 @@ pixelsOf ns =
     need (find ns Tags.PixelData (root ns)) (λ p.
     check (eqb (nodeAt ns p .vr) OW || eqb (nodeAt ns p .vr) OB) (some (valueAt ns p)))
 
--- A frame's functional group of the tag, or that it has none: item f is opened, and the shared item where item f has none.
+-- A frame's functional group of the tag, or that it has none: item f is opened, and the shared item if item f has none.
 abbrev pub orShared : List Node → ℕ → Num → Option Num
 orShared ns tag (Is g) = some (Is g)
 orShared ns tag None = need (sharedItem ns) (λ s. some (find ns tag (inside ns s)))
@@ -124,7 +124,7 @@ offsetAt ns (Is k) = check (eqb (nodeAt ns k .vr) SS && isNumber (ssOf (valueAt 
 unfoldable pub offsetOf : List Node → ℕ → Option Signed
 offsetOf ns j = offsetAt ns (find ns Tags.TIDOffset (inside ns j))
 
--- f less a signed offset; 0 stands for what is below 1.
+-- f minus a signed offset; 0 stands for anything below 1.
 abbrev pub less : ℕ → Signed → ℕ
 less f (signed.Plus d) = f - d
 less f (signed.Minus d) = f + d
@@ -152,7 +152,7 @@ abbrev pub itemShiftAt : List Node → Num → Option Shift
 itemShiftAt ns None = some shift.None
 itemShiftAt ns (Is k) = check (eqb (nodeAt ns k .vr) FL && eqb (length (valueAt ns k)) 8) (some (itemShift (valueAt ns k)))
 
--- The frame's own win.
+-- The frame's own numbers win.
 abbrev pub shiftFrom : List Node → ℕ → Num → Option Shift
 shiftFrom ns j None = itemShiftAt ns (find ns Tags.MaskSubPixelShift (inside ns j))
 shiftFrom ns j (Is k) =

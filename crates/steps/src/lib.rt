@@ -1,4 +1,4 @@
-// The drawing steps: what is worked out before the samples. Each answer says what its step gives, or that the step lacks
+// The drawing steps, up to what is needed before the samples are drawn. Each answer says what its step gives, or that the step lacks
 // something.
 ghost use mathlib.Core.Path.{_≡_};
 ghost use Prim.Native.Nat.{_-_, _/_, _%_, _≤_, _<_};
@@ -53,8 +53,8 @@ pub enum Holds {
     Lacks,
 }
 
-// What a mask item does with the frames it applies to: nothing, take the average of its mask frames off, or take one frame off; or
-// a step lacks something.
+// What a mask item does with the frames it applies to: nothing, subtract the average of its mask frames, or subtract one frame; or a step
+// lacks something.
 pub enum Operation {
     Native,
     Average,
@@ -62,7 +62,7 @@ pub enum Operation {
     Lacks,
 }
 
-// What a mask item says to all frames alike: its operation, and which item of the shared shift group names its ID.
+// What a mask item says, the same for all frames: its operation, and which item of the shared shift group names its ID.
 pub struct Told {
     pub operation: Operation,
     pub shared: Found,
@@ -131,7 +131,7 @@ fn shared_group(bytes: &[u8], rows: &[u32], tag: usize) -> Found
     }
 }
 
-// A frame's functional group of the tag: that in its item, else the shared one.
+// A frame's functional group of the tag: that in its item, otherwise the shared one.
 pub fn group_for(bytes: &[u8], rows: &[u32], frame: usize, item: Num, tag: usize) -> Found
     requires { ⌜ Table (now bytes) (now rows)
         × ((item ≡ frameItem (nodesOf (now bytes)) frame) × Below (length (nodesOf (now bytes))) item) ⌝ }
@@ -149,7 +149,7 @@ pub fn group_for(bytes: &[u8], rows: &[u32], frame: usize, item: Num, tag: usize
 
 // ---- Step 2: the mask item that applies
 
-// Whether a frame stands between a first and a last one.
+// Whether a frame is between a first and a last one.
 fn in_pair(frame: usize, a: usize, b: usize) -> bool
     ensures { λ r. ⌜ r ≡ (leb a frame && leb frame b) ⌝ }
 {
@@ -218,8 +218,8 @@ pub fn range_holds(bytes: &[u8], rows: &[u32], frame: usize, j: usize) -> Holds
     }
 }
 
-// The search: the first mask item from `from` up to `to` whose range does not leave the frame out, or none. Where the range there
-// can be read, it holds the frame.
+// The search: the first mask item from `from` up to `to` whose range does not leave the frame out, or none. If the range there can be
+// read, it holds the frame.
 pub fn first_holding(bytes: &[u8], rows: &[u32], frame: usize, from: usize, to: usize) -> Applying
     requires { ⌜ Table (now bytes) (now rows) × (to ≤ length (nodesOf (now bytes))) ⌝ }
     ensures { λ r. ⌜ ifRead (nodesOf (now (bytes .entry))) frame r ≡ firstHolding (nodesOf (now (bytes .entry))) frame (members (nodesOf (now (bytes .entry))) from to) ⌝ }
@@ -306,7 +306,7 @@ fn offset_at(bytes: &[u8], rows: &[u32], k: usize) -> Signed
     }
 }
 
-// The offset of mask item j: 1 where it names none.
+// The offset of mask item j: 1 if it names none.
 fn offset_of(bytes: &[u8], rows: &[u32], j: usize) -> Signed
     requires { ⌜ Table (now bytes) (now rows) × (j < length (nodesOf (now bytes))) ⌝ }
     ensures { λ r. ⌜ signedOf r ≡ offsetOf (nodesOf (now (bytes .entry))) j ⌝ }
@@ -318,7 +318,7 @@ fn offset_of(bytes: &[u8], rows: &[u32], j: usize) -> Signed
     }
 }
 
-// A number x, where it is one of the frames; `frames` says how many there are.
+// A number x, if it is one of the frames; `frames` says how many there are.
 fn among_frames(x: usize, frames: Num) -> Found
     ensures { λ r. ⌜ foundOf r ≡ need frames (λ n. some (cond (leb 1 x && leb x n) (num.Is x) num.None)) ⌝ }
 {
@@ -334,7 +334,7 @@ fn among_frames(x: usize, frames: Num) -> Found
     }
 }
 
-// a - b, or 0 where b is larger.
+// a - b, or 0 if b is larger.
 fn less(a: usize, b: usize) -> usize
     ensures { λ r. ⌜ r ≡ a - b ⌝ }
 {
@@ -461,7 +461,7 @@ fn frame_shift_in(bytes: &[u8], rows: &[u32], j: usize, k: usize) -> Shifts
     }
 }
 
-// The frame's own shift where it names one, else that of mask item j.
+// The frame's own shift if it names one, otherwise that of mask item j.
 fn shift_from(bytes: &[u8], rows: &[u32], j: usize, named: Found) -> Shifts
     requires { ⌜ Table (now bytes) (now rows) × ((j < length (nodesOf (now bytes))) × FoundBelow (length (nodesOf (now bytes))) named) ⌝ }
     ensures { λ r. ⌜ shiftsOf r ≡ then (foundOf named) (shiftFrom (nodesOf (now (bytes .entry))) j) ⌝ }
@@ -483,7 +483,7 @@ pub fn shared_naming(bytes: &[u8], rows: &[u32], j: usize) -> Found
     own(bytes, rows, j, group)
 }
 
-// What mask item j says to all frames alike.
+// What mask item j says, the same for all frames.
 pub fn told_by(bytes: &[u8], rows: &[u32], j: usize) -> Told
     requires { ⌜ Table (now bytes) (now rows) × (j < length (nodesOf (now bytes))) ⌝ }
     ensures { λ r. ⌜ IsTold (nodesOf (now (bytes .entry))) j r ⌝ }
@@ -493,7 +493,7 @@ pub fn told_by(bytes: &[u8], rows: &[u32], j: usize) -> Told
     Told { operation, shared }
 }
 
-// What stands where no mask item applies.
+// The value used if no mask item applies.
 pub fn nothing_told() -> Told {
     Told {
         operation: Operation::Native,
@@ -561,7 +561,7 @@ fn is_number(n: Signed) -> bool
     }
 }
 
-// A centre and a width, where both are numbers, and a function.
+// A centre and a width, if both are numbers, and a function.
 fn window_of(center: Signed, width: Signed, function: Function) -> Windowed
     ensures { λ r. ⌜ windowedOf r ≡ check (isNumber center && (isNumber width && isFunction function)) (some (record { center = center; width = width; function = function })) ⌝ }
 {

@@ -1,4 +1,4 @@
--- What this program's answer for step 2 says: what the step's definition gives, and `Lacks` where that is `none`.
+-- What this program's answer for step 2 means: what the step's definition gives, or `Lacks` if that is `none`.
 use Prim.Native.Nat.{ℕ, _<_}
 use mathlib.Core.Option.{Option, none, some}
 use Rattle.steps.specs.declared.Applying.{Applying}

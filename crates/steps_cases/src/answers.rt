@@ -93,7 +93,7 @@ fn print_kind(s: Shift) {
     }
 }
 
-// Whose two numbers the shift has, and how far it moves the mask. The library reads whole quarters from -64 to 64 alone.
+// Whose two numbers the shift has, and how far it moves the mask. The library reads only whole quarters from -64 to 64.
 fn print_moves(s: Shift) {
     print_kind(s);
     let m = shift::short_moves_of(s);

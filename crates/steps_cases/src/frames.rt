@@ -1,4 +1,4 @@
-// The steps of one frame, each asked by itself, whatever the mask operation is. A step that is not asked is `-`.
+// The steps of one frame, each asked separately, whatever the mask operation is. A step that is not asked is `-`.
 use crate::answers;
 use element::tags;
 use steps::Applying;
@@ -41,7 +41,7 @@ pub fn print_pixels(bytes: &[u8], rows: &[u32], pixels: Num)
     io::write_all(1, b"\n");
 }
 
-// Whether the frame lies whole inside the pixel bytes.
+// Whether the whole frame lies inside the pixel bytes.
 fn print_whole(bytes: &[u8], rows: &[u32], size: Sized, pixels: Num, frame: usize)
     requires { ⌜ Table (now bytes) (now rows) × (Below (length (nodesOf (now bytes))) pixels × (SizedSmall size × (frame < 5))) ⌝ }
 {
@@ -60,7 +60,7 @@ fn print_whole(bytes: &[u8], rows: &[u32], size: Sized, pixels: Num, frame: usiz
     }
 }
 
-// How many members stand from `from` up to `to`.
+// How many members there are from `from` up to `to`.
 fn count_members(bytes: &[u8], rows: &[u32], from: usize, to: usize) -> usize
     requires { ⌜ Table (now bytes) (now rows) × (to ≤ length (nodesOf (now bytes))) ⌝ }
     ensures { λ r. ⌜ r ≡ length (members (nodesOf (now (bytes .entry))) from to) ⌝ }
@@ -166,7 +166,7 @@ fn if_read(bytes: &[u8], rows: &[u32], frame: usize, found: Applying) -> Applies
     }
 }
 
-// Step 2 in any data set: it lacks where the mask items are no sequence, or where the search met a range that cannot be read.
+// Step 2 in any data set: it lacks something if the mask items are not a sequence, or if the search met a range that cannot be read.
 fn applying_to(bytes: &[u8], rows: &[u32], frame: usize) -> Applies
     requires { ⌜ Table (now bytes) (now rows) ⌝ }
     ensures { λ r. ⌜ appliesOf r ≡ applyingTo (nodesOf (now (bytes .entry))) frame ⌝ }

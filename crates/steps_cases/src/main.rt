@@ -1,6 +1,6 @@
-// Prints what the drawing steps answer for each small case on standard input. A case is its size, in two bytes with the
-// lower one first, and then its bytes; tests/make_steps_cases writes the cases, most of which are not accepted, and works
-// out by another program what is to be printed.
+// Prints what the drawing steps answer for each small case on standard input. A case is its size, in two bytes with the lower one first,
+// and then its bytes; tests/make_steps_cases writes the cases, most of which are not accepted, and, by another program, the output that
+// is expected.
 mod answers;
 mod frames;
 
@@ -31,7 +31,7 @@ fn size_at(cases: &[u8], at: usize) -> usize
     wide(cases[at]) + 256 * wide(cases[at + 1])
 }
 
-// A line for the data set, and one for each of the frames 0 to 4, of which some are in no data set.
+// A line for the data set, and one for each of the frames 0 to 4, some of which are in no data set.
 fn print_steps(bytes: &[u8], rows: &[u32])
     requires { ⌜ Table (now bytes) (now rows) ⌝ }
 {

@@ -1,13 +1,13 @@
--- Window numbers are read in full and in millionths now; they were read in thousandths, and without an exponent. This says
--- what that change keeps. Number.antt, Rule30.antt and Step6.antt have the DS reader, and rule 30 and drawing step 6 with it
--- in thousandths; everything else is as it is now, for this change alone is meant: every other rule and step, and of rule 30
--- and step 6 what they say of a window's function. So the claim is about both functions.
---   numbers: whatever bytes read as n thousandths then read as 1000 n millionths now, so what rule 30 read it still reads.
+-- Window numbers are read in full and in millionths now; they were read in thousandths, and without an exponent. This says what that
+-- change keeps. Number.antt, Rule30.antt and Step6.antt have the old DS reader, and rule 30 and drawing step 6 with it, in thousandths.
+-- Everything else is as it is now, since the claim is about this change alone: every other rule and step, and what rule 30 and step 6 say
+-- about a window's function. So the claim covers both functions.
+--   numbers: bytes that read as n thousandths then read as 1000 n millionths now, so rule 30 still reads what it read.
 --   accepted: an object that was accepted is accepted.
 --   pictures: take any frame of an object that was accepted. The steps as they were gave it a picture, and the present
 --   steps give it the same one, masked or native and cell for cell.
---   drawn: on any data set, accepted or not, a picture that the steps gave then they give now.
--- The proof stands in proofs/Kept.
+--   drawn: on any data set, accepted or not, the steps give now every picture that they gave then.
+-- Proved in proofs/Kept.
 use mathlib.Core.Path.{_≡_}
 use mathlib.Core.Bool.{true}
 use mathlib.Core.List.{List}
@@ -38,7 +38,7 @@ pub record WasAccepted (s : List ℕ) : Type 0 where
   pub reads : readingOf s ≡ read rows
   pub sound : RulesHeld (nodesOf s)
 
--- The steps gave frame f a picture, and it has kept it.
+-- The steps gave frame f a picture, and still give it.
 pub record KeepsPicture (ns : List Node) (f : ℕ) : Type 0 where
   pub p : Picture
   pub was : stepsOf ns f ≡ some p

@@ -19,8 +19,8 @@ decimals = 3
 abbrev pub unit : ℕ
 unit = 10 ^ decimals
 
--- Up to 6 digits, then optionally a point and up to 3 digits, at least one digit in all.
--- After the point: `whole` digits stood before it, and the decimals that were not written are zeros.
+-- Up to 6 digits, then optionally a point and up to 3 digits, at least one digit in all. After the point: `whole` is how many digits are
+-- before it, and decimals that were not written are zeros.
 abbrev pub pointOn : ℕ → Digits → List ℕ → Num
 pointOn whole d [] = cond (eqb (whole + d .count) 0) num.None (num.Is (d .number * 10 ^ (decimals - d .count)))
 pointOn whole d (c ∷ s) = num.None
@@ -42,13 +42,13 @@ sizeOf s = fractionBy (digitsOf 6 0 0 s)
 unfoldable pub decimalOf : List ℕ → Signed
 decimalOf v = signedBy sizeOf (trimmed v)
 
--- The least width of a function: 1 for LINEAR, and for LINEAR_EXACT anything above 0.
+-- The least width of a function: 1 for LINEAR; for LINEAR_EXACT anything above 0.
 abbrev pub leastWidth : Function → ℕ
 leastWidth function.Linear = unit
 leastWidth function.Exact = 1
 leastWidth function.Other = unit
 
--- A width: at least so many thousandths.
+-- A width: at least the given number of thousandths.
 abbrev pub isWidth : ℕ → Signed → Bool
 isWidth least (signed.Plus n) = leb least n
 isWidth least (signed.Minus n) = false
@@ -61,7 +61,7 @@ allDecimals v = all (λ d. isNumber (decimalOf d)) (valuesOf v)
 unfoldable pub allWidths : ℕ → List ℕ → Bool
 allWidths least v = all (λ d. isWidth least (decimalOf d)) (valuesOf v)
 
--- So many thousandths, in millionths.
+-- A number of thousandths, in millionths.
 abbrev pub scaled : Signed → Signed
 scaled (signed.Plus n) = signed.Plus (1000 * n)
 scaled (signed.Minus n) = signed.Minus (1000 * n)

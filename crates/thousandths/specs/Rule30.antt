@@ -1,4 +1,4 @@
--- Rule 30 as it was, and the rule list with it in the present one's place.
+-- Rule 30 as it was, and the rule list with it in place of the present one.
 use Prim.Native.Nat.{ℕ}
 use mathlib.Core.List.{List}
 use mathlib.Core.Bool.{Bool, cond, _&&_}
@@ -17,8 +17,8 @@ use Rattle.rules.specs.Frame.{atFrame}
 use Rattle.rules.specs.All as current
 use Rattle.thousandths.specs.Number.{allDecimals, leastWidth, allWidths}
 
--- Frame VOI LUT (0028,9132), if present, one item; has Window Center (0028,1050) and Width (0028,1051) DS, equally many,
--- each of the old form; VOI LUT Function (0028,1056) as it is; widths at least 1 with LINEAR, above 0 with LINEAR_EXACT.
+-- Frame VOI LUT (0028,9132), if present, one item; has Window Center (0028,1050) and Width (0028,1051) DS, equally many, each with the
+-- old form; VOI LUT Function (0028,1056) as it is; widths at least 1 with LINEAR, above 0 with LINEAR_EXACT.
 unfoldable pub isWindow : Function → List ℕ → List ℕ → Bool
 isWindow f centers widths =
     isFunction f && (eqb (length (valuesOf centers)) (length (valuesOf widths)) && (allDecimals centers && allWidths (leastWidth f) widths))

@@ -1,4 +1,4 @@
--- Drawing step 6 as it was, and the steps with it in the present one's place.
+-- Drawing step 6 as it was, and the steps with it in place of the present one.
 use Prim.Native.Nat.{ℕ, _-_, _*_, _/_, _^_}
 use mathlib.Core.Bool.{Bool, true, false, cond, _&&_}
 use mathlib.Core.List.{List}

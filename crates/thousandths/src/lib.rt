@@ -1,2 +1,1 @@
-// Window numbers as they were read until they were read in millionths, and what that change keeps: definitions in specs/, the
-// claim's proof in proofs/.
+// Window numbers as they were before millionths, and what that change keeps: definitions in specs/, the proof of the claim in proofs/.

@@ -1,5 +1,4 @@
--- What contracts say beside the definitions of a value's form: bounds of a number that was read, and what the loops of
--- the code come to.
+-- What contracts need beside the definitions of a value's form: bounds of a number that was read, and what the code's loops compute.
 use Prim.Native.Nat.{ℕ, _≤_, _<_}
 use mathlib.Core.Path.{_≡_}
 use mathlib.Core.Bool.{cond}
@@ -24,11 +23,11 @@ SizeBelow n (signed.Plus k) = k < n
 SizeBelow n (signed.Minus k) = k < n
 SizeBelow n signed.None = Unit {0}
 
--- How many values end at a byte.
+-- How many values a byte ends.
 abbrev pub partsAt : ℕ → ℕ
 partsAt b = cond (eqb b 0x5C) 1 0
 
--- What the code read of the digits in front of the bytes s: their number and how many they are; the rest follows.
+-- What the code read of the digits at the start of the bytes s: their number and how many there are; the rest follows.
 pub record DigitsRead (limit start : ℕ) (s : List ℕ) (r : Run) : Type 0 where
   pub number : r .number ≡ digitsOf limit start 0 s .number
   pub count : r .count ≡ digitsOf limit start 0 s .count

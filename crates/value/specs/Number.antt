@@ -1,4 +1,4 @@
--- Numbers in values: US and SS in binary, IS and DS in text. A read that has no number answers `None`.
+-- Numbers in values: US and SS in binary, IS and DS in text. A read that finds no number gives `None`.
 use Prim.Native.Nat.{ℕ, zero, suc, _+_, _-_, _*_, _/_, _%_, _^_}
 use mathlib.Core.Bool.{Bool, true, false, cond, _&&_, _||_}
 use mathlib.Core.List.{List, [], _∷_}
@@ -37,13 +37,13 @@ ssOf v =
 abbrev pub isDigit : ℕ → Bool
 isDigit c = leb 0x30 c && leb c 0x39
 
--- Digits that were read: their number, how many they are, and what follows them.
+-- Digits that were read: their number, how many there are, and what follows them.
 pub record Digits : Type 0 where
   pub number : ℕ
   pub count : ℕ
   pub rest : List ℕ
 
--- Up to `limit` digits in front, after digits that made n.
+-- Up to `limit` digits at the start, after digits that made n.
 unfoldable pub digitsOf : ℕ → ℕ → ℕ → List ℕ → Digits
 digitsOf zero n k s = record { number = n; count = k; rest = s }
 digitsOf (suc limit) n k [] = record { number = n; count = k; rest = [] }
@@ -100,19 +100,19 @@ sizeLimit = 1000000 * unit
 abbrev pub characters : ℕ
 characters = 16
 
--- All digits in front, after digits that made n.
+-- All digits at the start, after digits that made n.
 abbrev pub runOf : ℕ → List ℕ → Digits
 runOf n s = digitsOf (length s) n 0 s
 
--- So many units, where a DS number may be of that size.
+-- A number of units, if a DS number may have that size.
 abbrev pub ifSmall : ℕ → Num
 ifSmall n = cond (ltb n sizeLimit) (num.Is n) num.None
 
--- n / p, where that is a whole number.
+-- n / p, if that is a whole number.
 abbrev pub wholly : ℕ → ℕ → Num
 wholly n p = cond (eqb (n % p) 0) (ifSmall (n / p)) num.None
 
--- The exact number m · 10^up / 10^down, where that is a whole number of units and of a DS number's size.
+-- The exact number m · 10^up / 10^down, if that is a whole number of units and within a DS number's size.
 unfoldable pub exactOf : ℕ → ℕ → ℕ → Num
 exactOf m up down = wholly (m * 10 ^ up) (10 ^ down)
 
@@ -126,16 +126,16 @@ scaledBy m after signed.None = num.None
 abbrev pub isMark : ℕ → Bool
 isMark c = eqb c 0x45 || eqb c 0x65
 
--- What stands after E or e: a sign or none, then a digit or more. (16 digits: no value has more characters.)
+-- What follows E or e: a sign or none, then a digit or more. (16 digits: no value has more characters.)
 unfoldable pub exponentOf : List ℕ → Signed
 exponentOf s = signedBy (wholeOf characters) s
 
--- What stands after `count` digits that made m, `after` of them behind the point: nothing, or an exponent.
+-- What follows `count` digits that made m, `after` of them after the point: nothing, or an exponent.
 unfoldable pub endOf : ℕ → ℕ → ℕ → List ℕ → Num
 endOf count m after [] = cond (eqb count 0) num.None (scaledBy m after (signed.Plus 0))
 endOf count m after (c ∷ s) = cond (eqb count 0) num.None (cond (isMark c) (scaledBy m after (exponentOf s)) num.None)
 
--- Digits after a point, `before` digits stood before it.
+-- Digits after a point, with `before` digits before it.
 abbrev pub pointBy : ℕ → Digits → Num
 pointBy before d = endOf (before + d .count) (d .number) (d .count) (d .rest)
 
@@ -165,7 +165,7 @@ leastWidth function.Linear = unit
 leastWidth function.Exact = 1
 leastWidth function.Other = unit
 
--- A width: at least so many units.
+-- A width: at least the given number of units.
 abbrev pub isWidth : ℕ → Signed → Bool
 isWidth least (signed.Plus n) = leb least n
 isWidth least (signed.Minus n) = false

@@ -1,5 +1,5 @@
--- Values of text (document 01, "The rule list"): backslash parts values; then each CS, IS and DS value loses outer
--- spaces, UI trailing zero bytes.
+-- Values of text (document 01, "The rule list"): a backslash separates values; then each CS, IS and DS value loses outer spaces, and UI
+-- trailing zero bytes.
 use Prim.Native.Nat.{ℕ}
 use Prim.Native.Char.{code}
 use Prim.Native.String.{String, [] as empty, _∷_ as _then_}
@@ -19,18 +19,18 @@ equal [] (y ∷ ys) = false
 equal (x ∷ xs) [] = false
 equal (x ∷ xs) (y ∷ ys) = eqb x y && equal xs ys
 
--- ---- Parting
+-- ---- Splitting
 
 abbrev pub onFirst : ℕ → List (List ℕ) → List (List ℕ)
 onFirst c [] = (c ∷ []) ∷ []
 onFirst c (v ∷ vs) = (c ∷ v) ∷ vs
 
--- The values, parted at each backslash: one more than there are backslashes.
+-- The values, split at each backslash: one more than there are backslashes.
 unfoldable pub valuesOf : List ℕ → List (List ℕ)
 valuesOf [] = [] ∷ []
 valuesOf (c ∷ s) = cond (eqb c 0x5C) ([] ∷ valuesOf s) (onFirst c (valuesOf s))
 
--- Value k, counted from 0; an empty one where there are fewer.
+-- Value k, counted from 0; empty if there are fewer.
 abbrev pub valueOf : List ℕ → ℕ → List ℕ
 valueOf v k = getD (valuesOf v) k []
 
@@ -39,7 +39,7 @@ isSingle v = eqb (length (valuesOf v)) 1
 
 -- ---- Trimming
 
--- Without the bytes b in front.
+-- Without the bytes b at the start.
 unfoldable pub trimStart : ℕ → List ℕ → List ℕ
 trimStart b [] = []
 trimStart b (c ∷ s) = cond (eqb c b) (trimStart b s) (c ∷ s)
@@ -48,7 +48,7 @@ abbrev pub before : ℕ → ℕ → List ℕ → List ℕ
 before b c [] = cond (eqb c b) [] (c ∷ [])
 before b c (x ∷ s) = c ∷ x ∷ s
 
--- Without the bytes b behind.
+-- Without the bytes b at the end.
 unfoldable pub trimEnd : ℕ → List ℕ → List ℕ
 trimEnd b [] = []
 trimEnd b (c ∷ s) = before b c (trimEnd b s)

@@ -1,5 +1,4 @@
-// The forms of values: text parted and trimmed, words, and numbers. Each function is over one element's value, and goes
-// along it once.
+// The forms of values: text split and trimmed, words, and numbers. Each function takes one element's value and goes along it once.
 ghost use mathlib.Core.Path.{_≡_};
 ghost use Prim.Native.Nat.{_+_, _-_, _*_, _^_, _≤_, _<_};
 ghost use lib.ListN.{length, drop, getD};
@@ -25,14 +24,14 @@ pub enum Signed {
     None,
 }
 
-// The function of a window, or none that is drawn.
+// The function of a window, or none of those that are drawn.
 pub enum Function {
     Linear,
     Exact,
     Other,
 }
 
-// Digits that were read: their number, and how many they are.
+// Digits that were read: their number, and how many there are.
 struct Run {
     number: usize,
     count: usize,
@@ -48,7 +47,7 @@ const MINUS: u8 = 0x2D;
 
 const POINT: u8 = 0x2E;
 
-// The unit of a DS number: a millionth. One is so many units.
+// The unit of a DS number is a millionth: the number one has this many units.
 pub const UNIT: usize = 1000000;
 
 // Its decimals.
@@ -79,7 +78,7 @@ pub fn equal(a: &[u8], b: &[u8]) -> bool
     true
 }
 
-// How many parts a byte ends: one where it is a backslash.
+// How many values a byte ends: one if it is a backslash.
 fn parts_at(b: u8) -> usize
     ensures { λ r. ⌜ (r ≡ partsAt b) × (r ≤ 1) ⌝ }
 {
@@ -120,7 +119,7 @@ fn value_end(v: &[u8], from: usize) -> usize
     i
 }
 
-// Value k, counted from 0; an empty part where there are fewer.
+// Value k, counted from 0; empty if there are fewer.
 pub fn value_of<'a>(v: &'a [u8], k: usize) -> &'a [u8]
     ensures { λ r. ⌜ now r ≡ valueOf (now (v .entry)) k ⌝ }
 {
@@ -139,7 +138,7 @@ pub fn value_of<'a>(v: &'a [u8], k: usize) -> &'a [u8]
     &v[from..end]
 }
 
-// Without the bytes b in front.
+// Without the bytes b at the start.
 fn trim_start<'a>(v: &'a [u8], b: u8) -> &'a [u8]
     ensures { λ r. ⌜ now r ≡ trimStart b (now (v .entry)) ⌝ }
 {
@@ -153,7 +152,7 @@ fn trim_start<'a>(v: &'a [u8], b: u8) -> &'a [u8]
     &v[..0]
 }
 
-// Without the bytes b behind.
+// Without the bytes b at the end.
 pub fn trim_end<'a>(v: &'a [u8], b: u8) -> &'a [u8]
     ensures { λ r. ⌜ now r ≡ trimEnd b (now (v .entry)) ⌝ }
 {
@@ -290,7 +289,7 @@ pub fn ss_of(v: &[u8]) -> Signed
 
 // ---- Digits and signs
 
-// Up to `limit` digits in front, after digits that made `start`.
+// Up to `limit` digits at the start, after digits that made `start`.
 fn digits(s: &[u8], limit: usize, start: usize) -> Run
     requires { ⌜ (start + 1) * 10 ^ limit ≤ 10000000000000000 ⌝ }
     ensures { λ r. ⌜ DigitsRead limit start (now (s .entry)) r ⌝ }
@@ -395,7 +394,7 @@ pub fn is_of(v: &[u8]) -> Signed
 
 // ---- DS
 
-// m · 10^e units. No power is worked out: a number that is not 0 leaves the size of a DS number after at most 12 turns.
+// m · 10^e units. No power is computed: a number that is not 0 exceeds the size of a DS number after at most 12 turns.
 fn multiplied(m: usize, e: usize) -> Num
     requires { ⌜ (0 < m) × (m ≤ 10000000000000000) ⌝ }
     ensures { λ r. ⌜ r ≡ ifSmall (m * 10 ^ e) ⌝ }
@@ -416,7 +415,7 @@ fn multiplied(m: usize, e: usize) -> Num
     }
 }
 
-// m / 10^e units, where that is a whole number: a number of 16 digits that is not 0 has at most 15 zeros behind.
+// m / 10^e units, if that is a whole number: a number of 16 digits that is not 0 ends in at most 15 zeros.
 fn divided(m: usize, e: usize) -> Num
     ensures { λ r. ⌜ r ≡ wholly m (10 ^ e) ⌝ }
 {
@@ -471,14 +470,14 @@ fn is_mark(b: u8) -> bool
     if b == 0x45 { true } else { b == 0x65 }
 }
 
-// What stands after E or e.
+// What follows E or e.
 fn exponent_of(s: &[u8]) -> Signed
     ensures { λ r. ⌜ (r ≡ exponentOf (now (s .entry))) × SizeBelow 10000000000000000 r ⌝ }
 {
     signed_whole(s, CHARACTERS)
 }
 
-// What stands after `count` digits that made m, `after` of them behind the point.
+// What follows `count` digits that made m, `after` of them after the point.
 fn end_of(s: &[u8], count: usize, m: usize, after: usize) -> Num
     requires { ⌜ (m ≤ 10000000000000000) × (after ≤ characters) ⌝ }
     ensures { λ r. ⌜ r ≡ endOf count m after (now (s .entry)) ⌝ }
@@ -496,7 +495,7 @@ fn end_of(s: &[u8], count: usize, m: usize, after: usize) -> Num
     }
 }
 
-// The digits after a point: `before` digits stood before it, and made `whole`.
+// The digits after a point: `before` digits were before it, and made `whole`.
 fn point_of(s: &[u8], before: usize, whole: usize) -> Num
     requires { ⌜ (before + length (now s) ≤ characters) × ((whole + 1) * 10 ^ length (now s) ≤ 10000000000000000) ⌝ }
     ensures { λ r. ⌜ r ≡ pointBy before (runOf whole (now (s .entry))) ⌝ }
@@ -565,7 +564,7 @@ fn is_decimal(v: &[u8]) -> bool
     }
 }
 
-// A width: at least so many units.
+// A width: at least the given number of units.
 fn is_width(v: &[u8], least: usize) -> bool
     ensures { λ r. ⌜ r ≡ isWidth least (decimalOf (now (v .entry))) ⌝ }
 {

@@ -1,5 +1,5 @@
--- Verdicts (document 01, "A slip records a verdict"; document 02, Q-13, "a verdict has the row count from now on"): which
--- rules there are, which of them are asked at each frame, and which verdicts are possible.
+-- Verdicts (document 01, "A slip records a verdict"; document 02, Q-13, "a verdict has the row count from now on"): which rules exist,
+-- which of them are asked at each frame, and which verdicts are possible.
 use Prim.Native.Nat.{ℕ}
 use mathlib.Core.Bool.{Bool, true, false, cond, _&&_, _||_}
 use lib.Dec.{eqb, leb}
@@ -12,7 +12,7 @@ use Rattle.verdict.specs.declared.Verdict.{Verdict}
 abbrev pub lastRule : ℕ
 lastRule = 39
 
--- The last frame number that there is.
+-- The largest frame number.
 abbrev pub lastFrame : ℕ
 lastFrame = 65535
 
@@ -44,7 +44,7 @@ possibleRefusal v = (leb 1 (v .code) && leb (v .code) 6) && ((eqb (v .rule) 0 &&
 abbrev pub possibleBreach : Verdict → Bool
 possibleBreach v = eqb (v .code) 9 && ((leb 1 (v .rule) && leb (v .rule) lastRule) && (frameFits (v .rule) (v .frame) && eqb (v .offset) 0))
 
--- Code, rule, frame and offset go together: one list, for slips of both versions.
+-- Code, rule, frame and offset fit together: one list, for slips of both versions.
 unfoldable pub fieldsFit : Verdict → Bool
 fieldsFit v = possiblePlain v || (possibleRefusal v || possibleBreach v)
 

@@ -6,13 +6,13 @@ ghost use Rattle.verdict.specs.Verdict.{countFits, rowsFit, possible};
 // The number of the last rule.
 pub const LAST_RULE: usize = 39;
 
-// The last frame number that there is.
+// The largest frame number.
 pub const LAST_FRAME: usize = 65_535;
 
 // The largest offset of a refusal: the size limit.
 const LAST_OFFSET: usize = basics::LARGEST;
 
-// A row count, known or not: a slip of version 1 does not say it.
+// A row count, known or not: a slip of version 1 does not record it.
 pub enum RowCount {
     Known(usize),
     NotKnown,
@@ -40,7 +40,7 @@ pub fn is_per_frame(rule: usize) -> bool
     if 27 <= rule { rule <= 30 } else { false }
 }
 
-// Whether a frame goes with a broken rule.
+// Whether a frame fits a broken rule.
 fn frame_fits(rule: usize, frame: usize) -> bool
     ensures { λ r. ⌜ r ≡ frameFits rule frame ⌝ }
 {
@@ -107,7 +107,7 @@ fn is_breach(v: Verdict) -> bool
     false
 }
 
-// Whether code, rule, frame and offset go together.
+// Whether code, rule, frame and offset fit together.
 fn fields_fit(v: Verdict) -> bool
     ensures { λ r. ⌜ r ≡ fieldsFit v ⌝ }
 {
@@ -120,7 +120,7 @@ fn fields_fit(v: Verdict) -> bool
     is_breach(v)
 }
 
-// Whether a number of rows goes with a code.
+// Whether a number of rows fits a code.
 fn count_fits(code: usize, n: usize) -> bool
     ensures { λ r. ⌜ r ≡ countFits code n ⌝ }
 {

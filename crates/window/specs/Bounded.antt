@@ -1,8 +1,7 @@
--- Q-9: y is within 0..255 by itself, so step 6 needs no limit. Take any window, LINEAR or LINEAR_EXACT, with any centre and
--- width, and any x. Then step 6 gives x a level, and the level is from 0 to 255. It is stated of the level as step 6 works it
--- out, an integer: no conversion and no limit comes before. Every window that rule 30 lets through is among these windows, and
--- so is the full window of a frame without a VOI group. The steps also meet halves, where no bits are stored; the same is said
--- of them. Its proof stands in proofs/Bounded.
+-- Q-9: y is within 0..255 by itself, so step 6 needs no limit. Take any window, LINEAR or LINEAR_EXACT, with any centre and width, and
+-- any x. Then step 6 gives x a level, and the level is from 0 to 255. It is stated for the level as step 6 computes it, an integer: no
+-- conversion and no limit comes before. Every window that rule 30 accepts is among these windows, and so is the full window of a frame
+-- without a VOI group. If no bits are stored the steps also meet halves; the same is said about them. Proved in proofs/Bounded.
 use mathlib.Core.Path.{_≡_}
 use mathlib.Core.Bool.{true}
 use mathlib.Core.Option.{Option, some}

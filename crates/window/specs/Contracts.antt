@@ -1,4 +1,4 @@
--- What contracts say beside the definition of a level: the windows that are drawn, and a table of shades.
+-- What contracts need beside the definition of a level: the windows that are drawn, and a table of shades.
 use Prim.Native.Nat.{ℕ, _+_, _-_, _*_, _/_, _^_, _<_}
 use mathlib.Core.Path.{_≡_}
 use mathlib.Core.Bool.{Bool, true, cond}
@@ -16,13 +16,13 @@ use Rattle.value.specs.Contracts.{SizeBelow}
 use Rattle.window.specs.declared.Window.{Window}
 use Rattle.window.specs.Window.{levelOf, shaded}
 
--- A window as rule 30 lets it through: its centre is a number, its function one of the two, and its width of that function's size.
+-- A window that rule 30 accepts: its centre is a number, its function one of the two, and its width large enough for that function.
 pub record Ruled (w : Window) : Type 0 where
   pub number : isNumber (w .center) ≡ true
   pub function : isFunction (w .function) ≡ true
   pub wide : isWidth (leastWidth (w .function)) (w .width) ≡ true
 
--- A window that can be drawn: one that rule 30 lets through, whose centre and width are of a DS's size.
+-- A window that can be drawn: one that rule 30 accepts, whose centre and width are within a DS number's size.
 pub record Drawable (w : Window) : Type 0 where
   pub ruled : Ruled w
   pub near : SizeBelow sizeLimit (w .center)
@@ -43,12 +43,12 @@ below signed.None = 0
 unfoldable pub rampOf : ℕ → ℕ → ℕ → ℕ
 rampOf e d w = cond (ltb (2 * w) (d + 2 * e)) 255 ((255 * d + w - e) / (2 * (w - e)))
 
--- The number of a cell that does not lack.
+-- The number of a cell that is not lacking.
 abbrev pub number : Num → ℕ
 number (Is n) = n
 number None = 0
 
--- Place i of a table for so many stored bits: the shade of x = i + 2^(stored - 1) - (2^stored - 1).
+-- Place i of a table for a given number of stored bits: the shade of x = i + 2^(stored - 1) - (2^stored - 1).
 unfoldable pub shadeAt : Window → ℕ → Bool → ℕ → ℕ
 shadeAt window stored inverse i = number (shaded inverse (levelOf window (pos (i + 2 ^ (stored - 1)) -ℤ pos (2 ^ stored - 1))))
 

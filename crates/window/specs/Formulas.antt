@@ -1,5 +1,5 @@
--- The formulas of step 6 for each function on its own, as the papers write them. Step 6 itself has one definition for both
--- (`levelBy` of Window), in which what a function takes off is a parameter; `Formulas` says that it is these two.
+-- The formulas of step 6 for each function separately, as the papers write them. Step 6 itself has one definition for both (`levelBy` of
+-- Window), with what a function takes off as a parameter; `Formulas` says that it equals these two.
 use Prim.Native.Nat.{_*_}
 use mathlib.Core.Path.{_≡_}
 use mathlib.Core.Bool.{cond}

@@ -1,8 +1,7 @@
--- Q-3: a greater x never gets a smaller y. Take any window, with either function, LINEAR or LINEAR_EXACT, and with any centre
--- and width, zero and negative widths too. Take two cells x and z, x not above z. Then drawing step 6 gives both a level, and
--- that of x is not above that of z. Both functions are covered by this one statement; the full window of a frame without a
--- VOI group, and windows that rule 30 does not let through, are among those that it speaks of. Its proof stands in
--- proofs/Monotone.
+-- Q-3: a greater x never gets a smaller y. Take any window, with either function, LINEAR or LINEAR_EXACT, and with any centre and width,
+-- zero and negative widths included. Take two cells x and z with x not above z. Then drawing step 6 gives both a level, and that of x is
+-- not above that of z. Both functions are covered by this one statement; the full window of a frame without a VOI group, and windows that
+-- rule 30 refuses, are covered too. Proved in proofs/Monotone.
 use mathlib.Core.Path.{_≡_}
 use mathlib.Core.Bool.{true}
 use mathlib.Core.Option.{Option, some}

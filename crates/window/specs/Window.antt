@@ -25,7 +25,7 @@ unfoldable pub fullWindow : ℕ → Window
 fullWindow
     stored = record { center = signed.Plus (unit * 2 ^ stored / 2); width = signed.Plus (unit * 2 ^ stored); function = function.Linear }
 
--- a / b rounded down, for a b above 0.
+-- a / b rounded down, for b above 0.
 abbrev pub floor : ℤ → ℤ → ℤ
 floor (pos a) b = pos (a / natAbs b)
 floor (negsuc a) b = negsuc (a / natAbs b)
@@ -61,7 +61,7 @@ levelHalf w x = levelAt w (pos 2 *ℤ pos unit *ℤ x +ℤ pos unit)
 unfoldable pub shadeOf : Bool → ℤ → ℤ
 shadeOf inverse y = cond inverse (pos 255 -ℤ y) y
 
--- A cell of the picture is a number from 0 on. An integer below 0 would be none; and none comes (Bounded.antt).
+-- A cell of the picture is a number from 0 on. An integer below 0 would be none, but none occurs (Bounded.antt).
 abbrev pub cellOf : ℤ → Num
 cellOf (pos n) = Is n
 cellOf (negsuc n) = None

@@ -101,7 +101,7 @@ pub fn full_window(stored: usize) -> Window
     }
 }
 
-// The shade of x = plus - minus: its level, or 255 less the level.
+// The shade of x = plus - minus: its level, or 255 minus the level.
 pub fn shade(window: Window, plus: usize, minus: usize, inverse: bool) -> u8
     requires { ⌜ Drawable window × ((plus < 200000) × (minus < 200000)) ⌝ }
     ensures { λ r. ⌜ r ≡ number (shaded inverse (levelOf window (pos plus -ℤ pos minus))) ⌝ }
