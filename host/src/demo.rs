@@ -165,7 +165,7 @@ fn data_set(pixels: &[u8], left_out: Option<usize>, windowless: Option<usize>) -
         ),
         text(0x2050_0020, "CS", "IDENTITY"), // Presentation LUT Shape
         sequence(0x5200_9229, &[item(&[])]), // Shared Functional Groups
-        sequence(0x5200_9230, &items),       // Per-Frame Functional Groups
+        sequence(0x5200_9230, &items),       // Per-frame Functional Groups
         element(0x7FE0_0010, "OW", pixels),  // Pixel Data
     ]
     .concat()
