@@ -1,0 +1,103 @@
+// Files, for hosts in C: the four calls with their answers as numbers.
+use c_answers::Answer;
+use file::JudgeFileAnswer;
+use file::ReadFileAnswer;
+use file::ShowFileAnswer;
+use file::Start;
+ghost use mathlib.Core.Path.{_≡_};
+ghost use Rattle.file.specs.File.{startOf, startFields, readFileOf, readFields, rowsLeft, judgeFields, showFileOf, showFields, imageLeft};
+ghost use Rattle.file.specs.Searches.{countedFileOf, countedFields};
+ghost use Rattle.c_answers.specs.Host.{hosted};
+ghost use Rattle.c_answers.specs.Contracts.{Fits32};
+ghost use Rattle.c_judge.specs.Judged.{reported};
+ghost use Rattle.c_files.specs.Start.{partOf};
+
+// Where a file's data set starts: code 0, or 15, 16 or 17 with start 0.
+#[repr(C)]
+pub struct Part {
+    pub code: u32,
+    pub start: usize,
+}
+
+// Where the data set of a file starts.
+pub fn start_of(file: &[u8]) -> Part
+    ensures { λ r. ⌜ r ≡ partOf (startFields (startOf (now (file .entry)))) ⌝ }
+{
+    match file::start_of(file) {
+        Start::At(from) => Part {
+            code: 0,
+            start: from,
+        },
+        Start::NoMark => Part { code: 15, start: 0 },
+        Start::BadHead => Part { code: 16, start: 0 },
+        Start::OtherSyntax => Part { code: 17, start: 0 },
+    }
+}
+
+// The answers as the struct for hosts.
+fn read_file_numbers(answer: ReadFileAnswer) -> Answer
+    requires { ⌜ Fits32 (readFields answer) ⌝ }
+    ensures { λ r. ⌜ r ≡ hosted (readFields answer) ⌝ }
+{
+    match answer {
+        ReadFileAnswer::Read(inner) => c_read::read_numbers(inner),
+        ReadFileAnswer::NoMark => c_answers::code_alone(15),
+        ReadFileAnswer::BadHead => c_answers::code_alone(16),
+        ReadFileAnswer::OtherSyntax => c_answers::code_alone(17),
+        ReadFileAnswer::OtherClass => c_answers::code_alone(18),
+    }
+}
+
+fn judge_file_numbers(answer: JudgeFileAnswer) -> Answer
+    requires { ⌜ Fits32 (judgeFields answer) ⌝ }
+    ensures { λ r. ⌜ r ≡ hosted (judgeFields answer) ⌝ }
+{
+    match answer {
+        JudgeFileAnswer::Judged(inner) => c_judge::judge_numbers(inner),
+        JudgeFileAnswer::NoMark => c_answers::code_alone(15),
+        JudgeFileAnswer::BadHead => c_answers::code_alone(16),
+        JudgeFileAnswer::OtherSyntax => c_answers::code_alone(17),
+        JudgeFileAnswer::OtherClass => c_answers::code_alone(18),
+    }
+}
+
+fn show_file_numbers(answer: ShowFileAnswer) -> Answer
+    requires { ⌜ Fits32 (showFields answer) ⌝ }
+    ensures { λ r. ⌜ r ≡ hosted (showFields answer) ⌝ }
+{
+    match answer {
+        ShowFileAnswer::Shown(inner) => c_show::show_numbers(inner),
+        ShowFileAnswer::NoMark => c_answers::code_alone(15),
+        ShowFileAnswer::BadHead => c_answers::code_alone(16),
+        ShowFileAnswer::OtherSyntax => c_answers::code_alone(17),
+        ShowFileAnswer::OtherClass => c_answers::code_alone(18),
+    }
+}
+
+// Reads a file's data set into rows of seven numbers.
+pub fn read_file(file: &[u8], rows: &mut [u32]) -> Answer
+    ensures { λ r. ⌜ r ≡ hosted (readFields (readFileOf (now (file .entry)) (now (rows .entry)))) ⌝ }
+    ensures { λ _. ⌜ now (rows .exit) ≡ rowsLeft (now (file .entry)) (now (rows .entry)) ⌝ }
+{
+    read_file_numbers(file::read_file(file, rows))
+}
+
+// Reads a file's data set into rows of seven numbers and judges it; with code 0 the sum of its searches is named too.
+pub fn judge_file(file: &[u8], rows: &mut [u32]) -> Answer
+    ensures { λ r. ⌜ r ≡ reported (countedFields (countedFileOf (now (file .entry)) (now (rows .entry)))) ⌝ }
+    ensures { λ _. ⌜ now (rows .exit) ≡ rowsLeft (now (file .entry)) (now (rows .entry)) ⌝ }
+{
+    let counted = file::judge_file_counted(file, rows);
+    let answer = counted.answer;
+    let numbers = judge_file_numbers(answer);
+    c_answers::with_searches(numbers, counted.searches)
+}
+
+// Judges a file's data set and draws a frame of it, a byte for each sample.
+pub fn show_file(file: &[u8], frame: u64, rows: &mut [u32], image: &mut [u8]) -> Answer
+    ensures { λ r. ⌜ r ≡ hosted (showFields (showFileOf (now (file .entry)) frame (now (rows .entry)) (now (image .entry)))) ⌝ }
+    ensures { λ _. ⌜ now (rows .exit) ≡ rowsLeft (now (file .entry)) (now (rows .entry)) ⌝ }
+    ensures { λ _. ⌜ now (image .exit) ≡ imageLeft (now (file .entry)) frame (now (rows .entry)) (now (image .entry)) ⌝ }
+{
+    show_file_numbers(file::show_file(file, frame, rows, image))
+}

@@ -1,0 +1,43 @@
+// Back to beam intensity, for hosts in C: the mapping with its answer as numbers, and the level of the square root derivation in a byte.
+use c_answers::Answer;
+use linear::LinearAnswer;
+ghost use mathlib.Core.Path.{_≡_};
+ghost use Rattle.dataset.specs.Reading.{readingOf};
+ghost use Rattle.dataset.specs.Answer.{bufferOf};
+ghost use Rattle.linear.specs.Answer.{linearOf, valuesOf, fieldsOf};
+ghost use Rattle.squareroot.specs.SquareRoot.{rootLevel};
+ghost use Rattle.c_answers.specs.Host.{hosted};
+ghost use Rattle.c_answers.specs.Contracts.{Fits32};
+
+// The answer as the struct for hosts.
+fn linear_numbers(answer: LinearAnswer) -> Answer
+    requires { ⌜ Fits32 (fieldsOf answer) ⌝ }
+    ensures { λ r. ⌜ r ≡ hosted (fieldsOf answer) ⌝ }
+{
+    match answer {
+        LinearAnswer::Mapped(n) => c_answers::done_with(n),
+        LinearAnswer::Broken(n, rule, broken) => c_answers::broken_at(n, rule, broken),
+        LinearAnswer::Refused(code, offset) => c_answers::refused_at(code, offset),
+        LinearAnswer::TooLarge => c_answers::code_alone(7),
+        LinearAnswer::NoRoom => c_answers::code_alone(8),
+        LinearAnswer::NoFrame => c_answers::code_alone(10),
+        LinearAnswer::NoItem => c_answers::code_alone(20),
+        LinearAnswer::NoValuesRoom => c_answers::code_alone(11),
+    }
+}
+
+// Reads a data set into rows of seven numbers, judges it and maps a frame of it by its TO_LINEAR item, a number for each sample.
+pub fn linear(bytes: &[u8], frame: u64, rows: &mut [u32], values: &mut [u16]) -> Answer
+    ensures { λ r. ⌜ r ≡ hosted (fieldsOf (linearOf (now (bytes .entry)) frame (now (rows .entry)) (now (values .entry)))) ⌝ }
+    ensures { λ _. ⌜ now (rows .exit) ≡ bufferOf (readingOf (now (bytes .entry))) (now (rows .entry)) ⌝ }
+    ensures { λ _. ⌜ now (values .exit) ≡ valuesOf (now (bytes .entry)) frame (now (rows .entry)) (now (values .entry)) ⌝ }
+{
+    linear_numbers(linear::linear(bytes, frame, rows, values))
+}
+
+// The level of a 14-bit cell, of a larger number its lowest 14 bits.
+pub fn root_level(cell: u64) -> u8
+    ensures { λ r. ⌜ r ≡ rootLevel cell ⌝ }
+{
+    squareroot::level(cell as usize) as u8
+}
