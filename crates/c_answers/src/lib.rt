@@ -1,9 +1,16 @@
-// The answer that a host in C is handed: one struct of numbers for every call, made by what its code names.
+// What every call for hosts in C shares: the version, and the struct of numbers that it answers with, made by what a code names.
 ghost use mathlib.Core.Path.{_≡_};
 ghost use mathlib.Core.Bool.{cond};
 ghost use Rattle.basics.specs.Fields.{codeAlone, placed, counted, drawn, broken};
-ghost use Rattle.c_answers.specs.Host.{hosted, withSearches};
+ghost use Rattle.c_answers.specs.Host.{version, hosted, withSearches};
 ghost use Rattle.c_answers.specs.Contracts.{Fits32};
+
+// The version of the calls for hosts, XA_VERSION of the header.
+pub fn version() -> u32
+    ensures { λ r. ⌜ r ≡ version ⌝ }
+{
+    1
+}
 
 // What every call answers with. Fields that a code does not name are 0; the definitions `fieldsOf` say which code names which.
 #[repr(C)]

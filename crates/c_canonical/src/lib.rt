@@ -1,9 +1,7 @@
-// Writing a data set in its canonical form, for hosts in C: the call with its answer as numbers.
+// The answer of writing the canonical form as numbers, for hosts in C.
 use canonical::CanonicalAnswer;
 ghost use mathlib.Core.Path.{_≡_};
-ghost use Rattle.dataset.specs.Reading.{readingOf};
-ghost use Rattle.dataset.specs.Answer.{bufferOf};
-ghost use Rattle.canonical.specs.Answer.{canonicalOf, targetOf, fieldsOf};
+ghost use Rattle.canonical.specs.Answer.{fieldsOf};
 ghost use Rattle.c_canonical.specs.Rewritten.{rewrittenOf};
 ghost use Rattle.c_canonical.specs.Contracts.{RewrittenFits32};
 
@@ -17,7 +15,7 @@ pub struct Rewritten {
 }
 
 // The answer as the struct for hosts.
-fn canonical_numbers(answer: CanonicalAnswer) -> Rewritten
+pub fn canonical_numbers(answer: CanonicalAnswer) -> Rewritten
     requires { ⌜ RewrittenFits32 (fieldsOf answer) ⌝ }
     ensures { λ r. ⌜ r ≡ rewrittenOf (fieldsOf answer) ⌝ }
 {
@@ -53,14 +51,4 @@ fn canonical_numbers(answer: CanonicalAnswer) -> Rewritten
             length: 0,
         },
     }
-}
-
-// Reads a data set into rows of seven numbers and writes its canonical form.
-pub fn write_canonical(bytes: &[u8], rows: &mut [u32], target: &mut [u8]) -> Rewritten
-    ensures { λ r. ⌜ r ≡ rewrittenOf (fieldsOf (canonicalOf (now (bytes .entry)) (now (rows .entry)) (now (target .entry)))) ⌝ }
-    ensures { λ _. ⌜ now (rows .exit) ≡ bufferOf (readingOf (now (bytes .entry))) (now (rows .entry)) ⌝ }
-    ensures { λ _. ⌜ now (target .exit) ≡ targetOf (now (bytes .entry)) (now (rows .entry)) (now (target .entry)) ⌝ }
-{
-    canonical::byte_bounds(bytes);
-    canonical_numbers(canonical::write_canonical(bytes, rows, target))
 }

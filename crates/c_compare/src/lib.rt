@@ -1,10 +1,8 @@
-// Another workstation's picture against ours, for hosts in C: the call with its answer as numbers.
+// The answer of comparing another workstation's picture with ours as numbers, for hosts in C.
 use c_answers::Answer;
 use compare::CompareAnswer;
 ghost use mathlib.Core.Path.{_≡_};
-ghost use Rattle.dataset.specs.Reading.{readingOf};
-ghost use Rattle.dataset.specs.Answer.{bufferOf};
-ghost use Rattle.compare.specs.Answer.{compareOf, fieldsOf};
+ghost use Rattle.compare.specs.Answer.{fieldsOf};
 ghost use Rattle.c_compare.specs.Compared.{comparedOf, noCell};
 ghost use Rattle.c_compare.specs.Contracts.{CompareFits32};
 
@@ -31,7 +29,7 @@ fn no_cell(answer: Answer) -> Compared
 }
 
 // The answer as the struct for hosts.
-fn compare_numbers(answer: CompareAnswer) -> Compared
+pub fn compare_numbers(answer: CompareAnswer) -> Compared
     requires { ⌜ CompareFits32 (fieldsOf answer) ⌝ }
     ensures { λ r. ⌜ r ≡ comparedOf (fieldsOf answer) ⌝ }
 {
@@ -56,12 +54,4 @@ fn compare_numbers(answer: CompareAnswer) -> Compared
         CompareAnswer::WrongSize => no_cell(c_answers::code_alone(22)),
         CompareAnswer::WrongTolerance => no_cell(c_answers::code_alone(23)),
     }
-}
-
-// Reads a data set into rows of seven numbers, judges it and compares cells with a frame of it.
-pub fn compare(bytes: &[u8], frame: u64, cells: &[u8], tolerance: u64, rows: &mut [u32]) -> Compared
-    ensures { λ r. ⌜ r ≡ comparedOf (fieldsOf (compareOf (now (bytes .entry)) frame (now (cells .entry)) tolerance (now (rows .entry)))) ⌝ }
-    ensures { λ _. ⌜ now (rows .exit) ≡ bufferOf (readingOf (now (bytes .entry))) (now (rows .entry)) ⌝ }
-{
-    compare_numbers(compare::compare(bytes, frame, cells, tolerance, rows))
 }

@@ -1,12 +1,13 @@
-// Files, for hosts in C: the four calls with their answers as numbers.
+// The answers about files as numbers, for hosts in C.
 use c_answers::Answer;
+use file::CountedFile;
 use file::JudgeFileAnswer;
 use file::ReadFileAnswer;
 use file::ShowFileAnswer;
 use file::Start;
 ghost use mathlib.Core.Path.{_≡_};
-ghost use Rattle.file.specs.File.{startOf, startFields, readFileOf, readFields, rowsLeft, judgeFields, showFileOf, showFields, imageLeft};
-ghost use Rattle.file.specs.Searches.{countedFileOf, countedFields};
+ghost use Rattle.file.specs.File.{startFields, readFields, judgeFields, showFields};
+ghost use Rattle.file.specs.Searches.{countedFields};
 ghost use Rattle.c_answers.specs.Host.{hosted};
 ghost use Rattle.c_answers.specs.Contracts.{Fits32};
 ghost use Rattle.c_judge.specs.Judged.{reported};
@@ -19,11 +20,11 @@ pub struct Part {
     pub start: usize,
 }
 
-// Where the data set of a file starts.
-pub fn start_of(file: &[u8]) -> Part
-    ensures { λ r. ⌜ r ≡ partOf (startFields (startOf (now (file .entry)))) ⌝ }
+// Where the data set starts, as the struct for hosts.
+pub fn start_numbers(start: Start) -> Part
+    ensures { λ r. ⌜ r ≡ partOf (startFields start) ⌝ }
 {
-    match file::start_of(file) {
+    match start {
         Start::At(from) => Part {
             code: 0,
             start: from,
@@ -35,7 +36,7 @@ pub fn start_of(file: &[u8]) -> Part
 }
 
 // The answers as the struct for hosts.
-fn read_file_numbers(answer: ReadFileAnswer) -> Answer
+pub fn read_file_numbers(answer: ReadFileAnswer) -> Answer
     requires { ⌜ Fits32 (readFields answer) ⌝ }
     ensures { λ r. ⌜ r ≡ hosted (readFields answer) ⌝ }
 {
@@ -61,7 +62,16 @@ fn judge_file_numbers(answer: JudgeFileAnswer) -> Answer
     }
 }
 
-fn show_file_numbers(answer: ShowFileAnswer) -> Answer
+pub fn counted_file_numbers(counted: CountedFile) -> Answer
+    requires { ⌜ Fits32 (judgeFields (counted .answer)) ⌝ }
+    ensures { λ r. ⌜ r ≡ reported (countedFields counted) ⌝ }
+{
+    let answer = counted.answer;
+    let numbers = judge_file_numbers(answer);
+    c_answers::with_searches(numbers, counted.searches)
+}
+
+pub fn show_file_numbers(answer: ShowFileAnswer) -> Answer
     requires { ⌜ Fits32 (showFields answer) ⌝ }
     ensures { λ r. ⌜ r ≡ hosted (showFields answer) ⌝ }
 {
@@ -72,32 +82,4 @@ fn show_file_numbers(answer: ShowFileAnswer) -> Answer
         ShowFileAnswer::OtherSyntax => c_answers::code_alone(17),
         ShowFileAnswer::OtherClass => c_answers::code_alone(18),
     }
-}
-
-// Reads a file's data set into rows of seven numbers.
-pub fn read_file(file: &[u8], rows: &mut [u32]) -> Answer
-    ensures { λ r. ⌜ r ≡ hosted (readFields (readFileOf (now (file .entry)) (now (rows .entry)))) ⌝ }
-    ensures { λ _. ⌜ now (rows .exit) ≡ rowsLeft (now (file .entry)) (now (rows .entry)) ⌝ }
-{
-    read_file_numbers(file::read_file(file, rows))
-}
-
-// Reads a file's data set into rows of seven numbers and judges it; with code 0 the sum of its searches is named too.
-pub fn judge_file(file: &[u8], rows: &mut [u32]) -> Answer
-    ensures { λ r. ⌜ r ≡ reported (countedFields (countedFileOf (now (file .entry)) (now (rows .entry)))) ⌝ }
-    ensures { λ _. ⌜ now (rows .exit) ≡ rowsLeft (now (file .entry)) (now (rows .entry)) ⌝ }
-{
-    let counted = file::judge_file_counted(file, rows);
-    let answer = counted.answer;
-    let numbers = judge_file_numbers(answer);
-    c_answers::with_searches(numbers, counted.searches)
-}
-
-// Judges a file's data set and draws a frame of it, a byte for each sample.
-pub fn show_file(file: &[u8], frame: u64, rows: &mut [u32], image: &mut [u8]) -> Answer
-    ensures { λ r. ⌜ r ≡ hosted (showFields (showFileOf (now (file .entry)) frame (now (rows .entry)) (now (image .entry)))) ⌝ }
-    ensures { λ _. ⌜ now (rows .exit) ≡ rowsLeft (now (file .entry)) (now (rows .entry)) ⌝ }
-    ensures { λ _. ⌜ now (image .exit) ≡ imageLeft (now (file .entry)) frame (now (rows .entry)) (now (image .entry)) ⌝ }
-{
-    show_file_numbers(file::show_file(file, frame, rows, image))
 }

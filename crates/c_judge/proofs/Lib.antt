@@ -1,2 +1,2 @@
--- What the proofs of several functions, and of other crates, use.
+-- What the proofs of other crates use.
 pub mod Fits

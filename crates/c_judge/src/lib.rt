@@ -1,12 +1,10 @@
-// Judging, for hosts in C: the call with its answer as numbers, the sum of its searches among them.
+// The answer of judging as numbers, the sum of its searches among them, for hosts in C.
 use c_answers::Answer;
 use conformance::JudgeAnswer;
+use searches::Counted;
 ghost use mathlib.Core.Path.{_≡_};
-ghost use Rattle.dataset.specs.Reading.{readingOf};
-ghost use Rattle.dataset.specs.Answer.{bufferOf};
 ghost use Rattle.conformance.specs.Judging.{fieldsOf};
-ghost use Rattle.searches.specs.Reported as counted;
-ghost use Rattle.searches.specs.Reported.{countedOf};
+ghost use Rattle.searches.specs.Reported as reporting;
 ghost use Rattle.c_answers.specs.Host.{hosted};
 ghost use Rattle.c_answers.specs.Contracts.{Fits32};
 ghost use Rattle.c_judge.specs.Judged.{reported};
@@ -25,12 +23,11 @@ pub fn judge_numbers(answer: JudgeAnswer) -> Answer
     }
 }
 
-// Reads a data set into rows of seven numbers and judges it; with code 0 the sum of its searches is named too.
-pub fn judge(bytes: &[u8], rows: &mut [u32]) -> Answer
-    ensures { λ r. ⌜ r ≡ reported (counted.fieldsOf (countedOf (now (bytes .entry)) (now (rows .entry)))) ⌝ }
-    ensures { λ _. ⌜ now (rows .exit) ≡ bufferOf (readingOf (now (bytes .entry))) (now (rows .entry)) ⌝ }
+// The answer and the sum of its searches as the struct for hosts.
+pub fn counted_numbers(counted: Counted) -> Answer
+    requires { ⌜ Fits32 (fieldsOf (counted .answer)) ⌝ }
+    ensures { λ r. ⌜ r ≡ reported (reporting.fieldsOf counted) ⌝ }
 {
-    let counted = searches::judge_counted(bytes, rows);
     let answer = counted.answer;
     let numbers = judge_numbers(answer);
     c_answers::with_searches(numbers, counted.searches)

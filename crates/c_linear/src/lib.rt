@@ -1,16 +1,14 @@
-// Back to beam intensity, for hosts in C: the mapping with its answer as numbers, and the level of the square root derivation in a byte.
+// The answer of mapping back to beam intensity as numbers, for hosts in C; and a level of the square root derivation in a byte.
 use c_answers::Answer;
 use linear::LinearAnswer;
 ghost use mathlib.Core.Path.{_≡_};
-ghost use Rattle.dataset.specs.Reading.{readingOf};
-ghost use Rattle.dataset.specs.Answer.{bufferOf};
-ghost use Rattle.linear.specs.Answer.{linearOf, valuesOf, fieldsOf};
+ghost use Rattle.linear.specs.Answer.{fieldsOf};
 ghost use Rattle.squareroot.specs.SquareRoot.{rootLevel};
 ghost use Rattle.c_answers.specs.Host.{hosted};
 ghost use Rattle.c_answers.specs.Contracts.{Fits32};
 
 // The answer as the struct for hosts.
-fn linear_numbers(answer: LinearAnswer) -> Answer
+pub fn linear_numbers(answer: LinearAnswer) -> Answer
     requires { ⌜ Fits32 (fieldsOf answer) ⌝ }
     ensures { λ r. ⌜ r ≡ hosted (fieldsOf answer) ⌝ }
 {
@@ -24,15 +22,6 @@ fn linear_numbers(answer: LinearAnswer) -> Answer
         LinearAnswer::NoItem => c_answers::code_alone(20),
         LinearAnswer::NoValuesRoom => c_answers::code_alone(11),
     }
-}
-
-// Reads a data set into rows of seven numbers, judges it and maps a frame of it by its TO_LINEAR item, a number for each sample.
-pub fn linear(bytes: &[u8], frame: u64, rows: &mut [u32], values: &mut [u16]) -> Answer
-    ensures { λ r. ⌜ r ≡ hosted (fieldsOf (linearOf (now (bytes .entry)) frame (now (rows .entry)) (now (values .entry)))) ⌝ }
-    ensures { λ _. ⌜ now (rows .exit) ≡ bufferOf (readingOf (now (bytes .entry))) (now (rows .entry)) ⌝ }
-    ensures { λ _. ⌜ now (values .exit) ≡ valuesOf (now (bytes .entry)) frame (now (rows .entry)) (now (values .entry)) ⌝ }
-{
-    linear_numbers(linear::linear(bytes, frame, rows, values))
 }
 
 // The level of a 14-bit cell, of a larger number its lowest 14 bits.

@@ -1,9 +1,8 @@
-// Reading, for hosts in C: the two calls with their answers as numbers.
+// The answers of reading and counting as numbers, for hosts in C.
 use c_answers::Answer;
 use dataset::ReadAnswer;
 ghost use mathlib.Core.Path.{_≡_};
-ghost use Rattle.dataset.specs.Reading.{readingOf};
-ghost use Rattle.dataset.specs.Answer.{answerOf, countOf, bufferOf, fieldsOf};
+ghost use Rattle.dataset.specs.Answer.{fieldsOf};
 ghost use Rattle.c_answers.specs.Host.{hosted};
 ghost use Rattle.c_answers.specs.Contracts.{Fits32};
 
@@ -18,19 +17,4 @@ pub fn read_numbers(answer: ReadAnswer) -> Answer
         ReadAnswer::TooLarge => c_answers::code_alone(7),
         ReadAnswer::NoRoom => c_answers::code_alone(8),
     }
-}
-
-// Reads a data set into rows of seven numbers.
-pub fn read(bytes: &[u8], rows: &mut [u32]) -> Answer
-    ensures { λ r. ⌜ r ≡ hosted (fieldsOf (answerOf (readingOf (now (bytes .entry))) (now (rows .entry)))) ⌝ }
-    ensures { λ _. ⌜ now (rows .exit) ≡ bufferOf (readingOf (now (bytes .entry))) (now (rows .entry)) ⌝ }
-{
-    read_numbers(dataset::read(bytes, rows))
-}
-
-// How many rows a data set has.
-pub fn count(bytes: &[u8]) -> Answer
-    ensures { λ r. ⌜ r ≡ hosted (fieldsOf (countOf (readingOf (now (bytes .entry))))) ⌝ }
-{
-    read_numbers(dataset::count(bytes))
 }

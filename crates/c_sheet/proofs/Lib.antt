@@ -1,3 +1,3 @@
--- What the proofs of several functions use.
-mod Fits
+-- What the proofs of several functions, and of `cabi`, use.
+pub mod Fits
 mod Put

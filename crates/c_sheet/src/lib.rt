@@ -1,17 +1,17 @@
-// The sampling sheet, for hosts in C: the call with its answer as numbers, and the sheet put into a buffer.
+// The answer of sampling as numbers, and the sheet in a buffer, for hosts in C.
 use c_answers::Answer;
 use sheet::Numbers;
+use sheet::Sampled;
 use sheet::SheetAnswer;
 ghost use mathlib.Core.Path.{_≡_};
 ghost use Prim.Native.Nat.{_≤_};
 ghost use lib.ListN.{length, getD};
-ghost use Rattle.dataset.specs.Reading.{readingOf};
-ghost use Rattle.dataset.specs.Answer.{bufferOf};
 ghost use Rattle.pixel.specs.Contracts.{painted};
 ghost use Rattle.sheet.specs.Sheet.{numbersIn};
-ghost use Rattle.sheet.specs.Answer.{sheetOf, fieldsOf};
+ghost use Rattle.sheet.specs.Answer.{fieldsOf};
 ghost use Rattle.c_answers.specs.Host.{hosted};
 ghost use Rattle.c_answers.specs.Contracts.{Fits32};
+ghost use Rattle.c_sheet.specs.Contracts.{SheetFits32};
 ghost use Rattle.c_sheet.specs.Sheet.{sheetSize, sheetFields, holdsSheet, sheetAfter};
 
 // How many numbers a sheet has.
@@ -42,7 +42,7 @@ fn put_sheet(t: Numbers, buffer: &mut [u64]) -> bool
 }
 
 // The answer as the struct for hosts; `room` says whether the buffer holds a sheet.
-fn sheet_numbers(answer: SheetAnswer, room: bool) -> Answer
+fn sheet_answer(answer: SheetAnswer, room: bool) -> Answer
     requires { ⌜ Fits32 (fieldsOf answer) ⌝ }
     ensures { λ r. ⌜ r ≡ hosted (sheetFields room answer) ⌝ }
 {
@@ -63,16 +63,14 @@ fn sheet_numbers(answer: SheetAnswer, room: bool) -> Answer
     }
 }
 
-// Reads a data set into rows of seven numbers, judges it and counts the grey levels of its frames `first` to `last`. A buffer for
-// under 260 numbers is left alone; any other gets the sheet, or with every code but 0 zeros.
-pub fn sheet(bytes: &[u8], first: u64, last: u64, rows: &mut [u32], buffer: &mut [u64]) -> Answer
-    ensures { λ r. ⌜ r ≡ hosted (sheetFields (holdsSheet (now (buffer .entry))) (sheetOf (now (bytes .entry)) first last (now (rows .entry)) .answer)) ⌝ }
-    ensures { λ _. ⌜ now (rows .exit) ≡ bufferOf (readingOf (now (bytes .entry))) (now (rows .entry)) ⌝ }
-    ensures { λ _. ⌜ now (buffer .exit) ≡ sheetAfter (sheetOf (now (bytes .entry)) first last (now (rows .entry)) .sheet) (now (buffer .entry)) ⌝ }
+// What sampling hands back: the answer as the struct for hosts, and the sheet in a buffer that holds it.
+pub fn sheet_numbers(sampled: Sampled, buffer: &mut [u64]) -> Answer
+    requires { ⌜ SheetFits32 sampled ⌝ }
+    ensures { λ r. ⌜ r ≡ hosted (sheetFields (holdsSheet (now (buffer .entry))) (sampled .answer)) ⌝ }
+    ensures { λ _. ⌜ now (buffer .exit) ≡ sheetAfter (sampled .sheet) (now (buffer .entry)) ⌝ }
 {
-    let sampled = sheet::sheet(bytes, first, last, rows);
     let answer = sampled.answer;
     let numbers = sampled.sheet;
     let room = put_sheet(numbers, buffer);
-    sheet_numbers(answer, room)
+    sheet_answer(answer, room)
 }

@@ -1,10 +1,8 @@
-// Drawing a frame, for hosts in C: the call with its answer as numbers.
+// The answer of drawing a frame as numbers, for hosts in C.
 use c_answers::Answer;
 use display::ShowAnswer;
 ghost use mathlib.Core.Path.{_≡_};
-ghost use Rattle.dataset.specs.Reading.{readingOf};
-ghost use Rattle.dataset.specs.Answer.{bufferOf};
-ghost use Rattle.display.specs.Show.{showOf, imageOf, fieldsOf};
+ghost use Rattle.display.specs.Show.{fieldsOf};
 ghost use Rattle.c_answers.specs.Host.{hosted};
 ghost use Rattle.c_answers.specs.Contracts.{Fits32};
 
@@ -22,13 +20,4 @@ pub fn show_numbers(answer: ShowAnswer) -> Answer
         ShowAnswer::NoFrame => c_answers::code_alone(10),
         ShowAnswer::NoImageRoom => c_answers::code_alone(11),
     }
-}
-
-// Reads a data set into rows of seven numbers, judges it and draws a frame of it, a byte for each sample.
-pub fn show(bytes: &[u8], frame: u64, rows: &mut [u32], image: &mut [u8]) -> Answer
-    ensures { λ r. ⌜ r ≡ hosted (fieldsOf (showOf (now (bytes .entry)) frame (now (rows .entry)) (now (image .entry)))) ⌝ }
-    ensures { λ _. ⌜ now (rows .exit) ≡ bufferOf (readingOf (now (bytes .entry))) (now (rows .entry)) ⌝ }
-    ensures { λ _. ⌜ now (image .exit) ≡ imageOf (now (bytes .entry)) frame (now (rows .entry)) (now (image .entry)) ⌝ }
-{
-    show_numbers(display::show(bytes, frame, rows, image))
 }

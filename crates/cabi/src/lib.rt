@@ -1,5 +1,5 @@
 // The library's calls for hosts in C and whatever calls C; include/luuxidgaan.h declares them. None has a `requires`:
-// any bytes and any buffers may be handed in. Each hands its arguments on to the crate of its subject.
+// any bytes and any buffers may be handed in. Each makes one call of the library and hands its answer over as numbers.
 use c_answers::Answer;
 use c_canonical::Rewritten;
 use c_compare::Compared;
@@ -24,21 +24,20 @@ ghost use Rattle.squareroot.specs.SquareRoot.{rootLevel, rootEntry};
 ghost use Rattle.canonical.specs.Answer.{canonicalOf, targetOf};
 ghost use Rattle.canonical.specs.Answer as writing;
 ghost use Rattle.slip.specs.Slip as slips;
-ghost use Rattle.c_answers.specs.Host.{hosted};
+ghost use Rattle.c_answers.specs.Host.{version, hosted};
 ghost use Rattle.c_judge.specs.Judged.{reported};
 ghost use Rattle.c_files.specs.Start.{partOf};
 ghost use Rattle.c_sheet.specs.Sheet.{sheetFields, holdsSheet, sheetAfter};
 ghost use Rattle.c_compare.specs.Compared.{comparedOf};
 ghost use Rattle.c_canonical.specs.Rewritten.{rewrittenOf};
 ghost use Rattle.c_slips.specs.Slips.{verdictIn, slipOf};
-ghost use Rattle.cabi.specs.Version.{version};
 
 // The version of the calls for hosts, XA_VERSION of the header.
 #[no_mangle]
 pub extern "C" fn xa_version() -> u32
     ensures { λ r. ⌜ r ≡ version ⌝ }
 {
-    1
+    c_answers::version()
 }
 
 // How many rows a data set has. No row is stored.
@@ -46,7 +45,7 @@ pub extern "C" fn xa_version() -> u32
 pub extern "C" fn xa_count(bytes: &[u8]) -> Answer
     ensures { λ r. ⌜ r ≡ hosted (reading.fieldsOf (countOf (readingOf (now (bytes .entry))))) ⌝ }
 {
-    c_read::count(bytes)
+    c_read::read_numbers(dataset::count(bytes))
 }
 
 // Reads a data set into rows of seven numbers. With codes 1 to 8 the buffer stays as it was.
@@ -55,7 +54,7 @@ pub extern "C" fn xa_read(bytes: &[u8], rows: &mut [u32]) -> Answer
     ensures { λ r. ⌜ r ≡ hosted (reading.fieldsOf (answerOf (readingOf (now (bytes .entry))) (now (rows .entry)))) ⌝ }
     ensures { λ _. ⌜ now (rows .exit) ≡ bufferOf (readingOf (now (bytes .entry))) (now (rows .entry)) ⌝ }
 {
-    c_read::read(bytes, rows)
+    c_read::read_numbers(dataset::read(bytes, rows))
 }
 
 // Reads a data set into rows of seven numbers and judges it; with code 0 the sum of its searches is named too. With codes 1 to 8 the
@@ -65,7 +64,7 @@ pub extern "C" fn xa_judge(bytes: &[u8], rows: &mut [u32]) -> Answer
     ensures { λ r. ⌜ r ≡ reported (judging.fieldsOf (countedOf (now (bytes .entry)) (now (rows .entry)))) ⌝ }
     ensures { λ _. ⌜ now (rows .exit) ≡ bufferOf (readingOf (now (bytes .entry))) (now (rows .entry)) ⌝ }
 {
-    c_judge::judge(bytes, rows)
+    c_judge::counted_numbers(searches::judge_counted(bytes, rows))
 }
 
 // Reads a data set into rows of seven numbers, judges it and draws a frame of it, a byte for each sample. With codes 1 to 8
@@ -76,7 +75,7 @@ pub extern "C" fn xa_show(bytes: &[u8], frame: u64, rows: &mut [u32], image: &mu
     ensures { λ _. ⌜ now (rows .exit) ≡ bufferOf (readingOf (now (bytes .entry))) (now (rows .entry)) ⌝ }
     ensures { λ _. ⌜ now (image .exit) ≡ imageOf (now (bytes .entry)) frame (now (rows .entry)) (now (image .entry)) ⌝ }
 {
-    c_show::show(bytes, frame, rows, image)
+    c_show::show_numbers(display::show(bytes, frame, rows, image))
 }
 
 // Where the data set of a file starts.
@@ -84,7 +83,7 @@ pub extern "C" fn xa_show(bytes: &[u8], frame: u64, rows: &mut [u32], image: &mu
 pub extern "C" fn xa_data_set(file: &[u8]) -> Part
     ensures { λ r. ⌜ r ≡ partOf (startFields (startOf (now (file .entry)))) ⌝ }
 {
-    c_files::start_of(file)
+    c_files::start_numbers(file::start_of(file))
 }
 
 // Reads a file's data set into rows of seven numbers. With codes 1 to 8 and 15 to 17 the buffer stays as it was.
@@ -93,7 +92,7 @@ pub extern "C" fn xa_read_file(file: &[u8], rows: &mut [u32]) -> Answer
     ensures { λ r. ⌜ r ≡ hosted (readFields (readFileOf (now (file .entry)) (now (rows .entry)))) ⌝ }
     ensures { λ _. ⌜ now (rows .exit) ≡ rowsLeft (now (file .entry)) (now (rows .entry)) ⌝ }
 {
-    c_files::read_file(file, rows)
+    c_files::read_file_numbers(file::read_file(file, rows))
 }
 
 // Reads a file's data set into rows of seven numbers and judges it; with code 0 the sum of its searches is named too. With codes 1 to 8 and
@@ -103,7 +102,7 @@ pub extern "C" fn xa_judge_file(file: &[u8], rows: &mut [u32]) -> Answer
     ensures { λ r. ⌜ r ≡ reported (countedFields (countedFileOf (now (file .entry)) (now (rows .entry)))) ⌝ }
     ensures { λ _. ⌜ now (rows .exit) ≡ rowsLeft (now (file .entry)) (now (rows .entry)) ⌝ }
 {
-    c_files::judge_file(file, rows)
+    c_files::counted_file_numbers(file::judge_file_counted(file, rows))
 }
 
 // Judges a file's data set and draws a frame of it, a byte for each sample. With codes 1 to 8 and 15 to 17 the row buffer stays as it
@@ -119,7 +118,7 @@ pub extern "C" fn xa_show_file(
     ensures { λ _. ⌜ now (rows .exit) ≡ rowsLeft (now (file .entry)) (now (rows .entry)) ⌝ }
     ensures { λ _. ⌜ now (image .exit) ≡ imageLeft (now (file .entry)) frame (now (rows .entry)) (now (image .entry)) ⌝ }
 {
-    c_files::show_file(file, frame, rows, image)
+    c_files::show_file_numbers(file::show_file(file, frame, rows, image))
 }
 
 // Reads a data set into rows of seven numbers, judges it and counts the grey levels of its frames `first` to `last`. A buffer for
@@ -137,7 +136,7 @@ pub extern "C" fn xa_sheet(
     ensures { λ _. ⌜ now (rows .exit) ≡ bufferOf (readingOf (now (bytes .entry))) (now (rows .entry)) ⌝ }
     ensures { λ _. ⌜ now (buffer .exit) ≡ sheetAfter (sheetOf (now (bytes .entry)) first last (now (rows .entry)) .sheet) (now (buffer .entry)) ⌝ }
 {
-    c_sheet::sheet(bytes, first, last, rows, buffer)
+    c_sheet::sheet_numbers(sheet::sheet(bytes, first, last, rows), buffer)
 }
 
 // Reads a data set into rows of seven numbers, judges it and compares cells with a frame of it. With codes 1 to 8 the row buffer stays
@@ -153,7 +152,7 @@ pub extern "C" fn xa_compare(
     ensures { λ r. ⌜ r ≡ comparedOf (comparing.fieldsOf (compareOf (now (bytes .entry)) frame (now (cells .entry)) tolerance (now (rows .entry)))) ⌝ }
     ensures { λ _. ⌜ now (rows .exit) ≡ bufferOf (readingOf (now (bytes .entry))) (now (rows .entry)) ⌝ }
 {
-    c_compare::compare(bytes, frame, cells, tolerance, rows)
+    c_compare::compare_numbers(compare::compare(bytes, frame, cells, tolerance, rows))
 }
 
 // Reads a data set into rows of seven numbers, judges it and maps a frame of it by its TO_LINEAR item, a number for each
@@ -169,7 +168,7 @@ pub extern "C" fn xa_linear(
     ensures { λ _. ⌜ now (rows .exit) ≡ bufferOf (readingOf (now (bytes .entry))) (now (rows .entry)) ⌝ }
     ensures { λ _. ⌜ now (values .exit) ≡ valuesOf (now (bytes .entry)) frame (now (rows .entry)) (now (values .entry)) ⌝ }
 {
-    c_linear::linear(bytes, frame, rows, values)
+    c_linear::linear_numbers(linear::linear(bytes, frame, rows, values))
 }
 
 // The level of a 14-bit cell, of a larger number its lowest 14 bits.
@@ -196,7 +195,8 @@ pub extern "C" fn xa_canonical(bytes: &[u8], rows: &mut [u32], target: &mut [u8]
     ensures { λ _. ⌜ now (rows .exit) ≡ bufferOf (readingOf (now (bytes .entry))) (now (rows .entry)) ⌝ }
     ensures { λ _. ⌜ now (target .exit) ≡ targetOf (now (bytes .entry)) (now (rows .entry)) (now (target .entry)) ⌝ }
 {
-    c_canonical::write_canonical(bytes, rows, target)
+    canonical::byte_bounds(bytes);
+    c_canonical::canonical_numbers(canonical::write_canonical(bytes, rows, target))
 }
 
 // Writes the slip of the verdict that an answer holds over the first 17 bytes of the buffer, and answers the code: 0, 14
