@@ -10,6 +10,7 @@ use lib.Dec.{eqb, leb}
 use lib.ListN.{length, length-append, getD, take, drop}
 use lib.Seq.{ext-getD}
 use borrow.Author.Tests.{le-leb, lt-leb}
+use Rattle.basics.specs.Bytes.{IsBytes, sameBytes, leNumber}
 use Rattle.dataset.specs.declared.ReadAnswer.{ReadAnswer}
 use Rattle.dataset.specs.declared.ReadAnswer.the-variants as readAnswer
 use Rattle.dataset.specs.Reading.{Reading, tooLarge, refusedAt, read as reads, readingOf}
@@ -33,7 +34,6 @@ use Rattle.display.specs.declared.ShowAnswer.the-variants as shown
 use Rattle.display.specs.Show as showing
 use Rattle.display.specs.Show.{isFrameOf, imageSize, pictureOf, acceptedAnswer, answerFor, showOf}
 use Rattle.canonical.specs.declared.CanonicalAnswer.{CanonicalAnswer}
-use Rattle.canonical.specs.Written.{Bytes}
 use Rattle.canonical.specs.Answer.{canonicalOf}
 use Rattle.canonical.proofs.Theorems.{SmallAnswer as CanonicalSmall, canonical-small}
 use Rattle.linear.specs.declared.LinearAnswer.{LinearAnswer}
@@ -53,7 +53,7 @@ use Rattle.slip.specs.declared.SlipAnswer.{SlipAnswer}
 use Rattle.slip.specs.declared.SlipAnswer.the-variants as read
 use Rattle.slip.specs.declared.WriteAnswer.{WriteAnswer}
 use Rattle.slip.specs.declared.WriteAnswer.the-variants as write
-use Rattle.slip.specs.Slip.{mark, version, oldVersion, versionPlace, rowsPlace, headSize, oldSize, slipSize, number, sameBytes, recorded}
+use Rattle.slip.specs.Slip.{mark, version, oldVersion, versionPlace, rowsPlace, headSize, oldSize, slipSize, recorded}
 use Rattle.slip.specs.Slip.{ifPossible, readSized, readVersion, readOf, readFields, writeOf, writeFields}
 use Rattle.slip.proofs.Slips.{slips}
 use Rattle.cabi.specs.Host.{rowsNumber, sheetAfter, Narrow, Fits32}
@@ -176,7 +176,8 @@ sheet-narrow s a b buffer = sheet-answer (nodesOf s) a b (judgeOf s buffer) (jud
 
 -- ---- What a match found an answer of `write_canonical` to be
 
-pub canonical-narrow : {a b : CanonicalAnswer} (s rows target : List ℕ) → Bytes s → a ≡ canonicalOf s rows target → a ≡ b → CanonicalSmall b
+pub canonical-narrow : {a b : CanonicalAnswer} (s rows target : List ℕ) → IsBytes s → a ≡ canonicalOf s rows target → a ≡ b
+    → CanonicalSmall b
 canonical-narrow s rows target bytes e f = subst CanonicalSmall (sym e ∙ f) (canonical-small s rows target bytes)
 
 -- ---- Sheets
@@ -226,16 +227,16 @@ sized-code size rows s = go (eqb (length s) size) (possible (recorded s rows))
 read-code : (s : List ℕ) → readFields (readOf s) .code ≤ 14
 unfolding readOf readVersion
 read-code s =
-    go (leb headSize (length s) && sameBytes (take 3 s) mark) (eqb (number 2 s versionPlace) oldVersion)
-    (eqb (number 2 s versionPlace) version)
+    go (leb headSize (length s) && sameBytes (take 3 s) mark) (eqb (leNumber 2 s versionPlace) oldVersion)
+    (eqb (leNumber 2 s versionPlace) version)
   where
     go : (a b d : Bool)
         → readFields (cond (not a) (read.Refused 12)
-        (cond b (readSized oldSize NotKnown s) (cond d (readSized slipSize (Known (number 4 s rowsPlace)) s) (read.Refused 13)))) .code
+        (cond b (readSized oldSize NotKnown s) (cond d (readSized slipSize (Known (leNumber 4 s rowsPlace)) s) (read.Refused 13)))) .code
         ≤ 14
     go false b d = omega arith
     go true true d = sized-code oldSize NotKnown s
-    go true false true = sized-code slipSize (Known (number 4 s rowsPlace)) s
+    go true false true = sized-code slipSize (Known (leNumber 4 s rowsPlace)) s
     go true false false = omega arith
 
 pub slip-code : {a b : SlipAnswer} (s : List ℕ) → a ≡ readOf s → a ≡ b → readFields b .code ≤ 14

@@ -4,8 +4,8 @@ use Rattle.value.specs.declared.Signed.{Signed}
 use Rattle.value.specs.Contracts.{SizeBelow}
 use Rattle.element.specs.Frames.{asCount}
 use borrow.Author.Needs.{needs}
-use Rattle.element.proofs.counted.Statement.{statement}
-use Rattle.element.proofs.counted.Tie as tie
+use Rattle.element.proofs.as_count.Statement.{statement}
+use Rattle.element.proofs.as_count.Tie as tie
 
 enum-known-n : tie.Need-enum-known-n
 enum-known-n c = search needs
@@ -27,5 +27,5 @@ returns-2 c = search needs
 returns-3 : tie.Need-returns-3
 returns-3 c = search needs
 
-pub counted-spec : {M : Type 1} → statement M
-counted-spec = tie.close (tie.spec enum-known-n enum-told enum-told-2 returns returns-2 returns-3)
+pub as-count-spec : {M : Type 1} → statement M
+as-count-spec = tie.close (tie.spec enum-known-n enum-told enum-told-2 returns returns-2 returns-3)

@@ -1,53 +1,13 @@
--- One byte on, for what goes along a list.
+-- Trimming goes byte by byte: a byte that is trimmed changes nothing, and the first that is not ends it.
 use mathlib.Core.Path.{_≡_, refl, sym, ap, _∙_}
 use Prim.Native.Nat.{ℕ, zero, suc, _+_, _-_, _≤_, _<_}
 use native.Mathlib.Omega.{arith}
-use native.Mathlib.Numerals.{add-one}
 use mathlib.Core.List.{List, [], _∷_, _++_}
-use mathlib.Core.Bool.{Bool, true, false, _&&_}
-use lib.ListN.{length, getD, take, drop, drop-of-length-le, length-drop}
-use lib.Seq.{drop-cons, take-suc, take-all}
+use lib.ListN.{length, getD, take, drop}
+use lib.Seq.{take-suc}
 use borrow.Author.Tests.{eq-eqb, ne-eqb}
-use Rattle.value.specs.Text.{equal, trimStart, before, trimEnd}
-
--- The list from i on.
-pub from-next : (v : List ℕ) (i : ℕ) → i < length v → drop i v ≡ getD v i 0 ∷ drop (i + 1) v
-from-next v i h = rw (add-one, drop-cons v i 0)
-
-pub from-end : (v : List ℕ) (i : ℕ) → length v ≤ i → drop i v ≡ []
-from-end v i h = drop-of-length-le v h
-
--- A part that goes up to the end.
-pub to-end : (v : List ℕ) (i : ℕ) → take (length v - i) (drop i v) ≡ drop i v
-to-end v i = take-all (length v - i) (drop i v) (simp length-drop (omega arith))
-
--- ---- Equal lists
-
-module _ (a b : List ℕ) (i : ℕ) (l : i < length a) (m : i < length b) where
-  pub equal-next : getD a i 0 ≡ getD b i 0 → equal (drop i a) (drop i b) ≡ equal (drop (i + 1) a) (drop (i + 1) b)
-  unfolding equal
-  equal-next e = rw (from-next a i l, from-next b i m, eq-eqb (getD a i 0) (getD b i 0) e)
-
-  pub equal-no : (getD a i 0 ≡ getD b i 0 → ⊥) → equal (drop i a) (drop i b) ≡ false
-  unfolding equal
-  equal-no e = rw (from-next a i l, from-next b i m, ne-eqb (getD a i 0) (getD b i 0) e)
-
-pub equal-end : (a b : List ℕ) (i : ℕ) → length a ≤ i → length b ≤ i → equal (drop i a) (drop i b) ≡ true
-unfolding equal
-equal-end a b i l m = rw (from-end a i l, from-end b i m)
-
-no-right : (x : Bool) → (x && false) ≡ false
-no-right true = refl
-no-right false = refl
-
-pub equal-lengths : (a b : List ℕ) → (length a ≡ length b → ⊥) → equal a b ≡ false
-unfolding equal
-equal-lengths [] [] h = absurd (h refl)
-equal-lengths [] (y ∷ ys) h = refl
-equal-lengths (x ∷ xs) [] h = refl
-equal-lengths (x ∷ xs) (y ∷ ys) h = rw (equal-lengths xs ys (λ e. h (ap suc e)), no-right)
-
--- ---- Trimming
+use Rattle.basics.proofs.Lists.{from-next, from-end}
+use Rattle.value.specs.Text.{trimStart, before, trimEnd}
 
 module _ (b : ℕ) (v : List ℕ) (i : ℕ) where
   pub start-next : i < length v → getD v i 0 ≡ b → trimStart b (drop i v) ≡ trimStart b (drop (i + 1) v)

@@ -1,18 +1,18 @@
--- Lists of different lengths differ; lists of one length are equal just where no byte differs.
+-- Lists of different lengths differ; lists of one length are the same just where no byte differs.
 use mathlib.Core.Path.{_≡_, refl, sym, _∙_}
 use Prim.Native.Nat.{_-_, _≤_}
 use native.Mathlib.Omega.{arith}
 use borrow.Author.Needs.{needs}
 use lib.ListN.{length, drop}
-use Rattle.value.specs.Text.{equal}
-use Rattle.value.proofs.Lists as lists
-use Rattle.value.proofs.equal.Statement.{statement}
-use Rattle.value.proofs.equal.Tie as tie
+use Rattle.basics.specs.Bytes.{sameBytes}
+use Rattle.basics.proofs.Lists as lists
+use Rattle.basics.proofs.same_bytes.Statement.{statement}
+use Rattle.basics.proofs.same_bytes.Tie as tie
 
--- The loop: what is left of the two is equal exactly where the whole is.
+-- The loop: what is left of the two is the same exactly where the whole is.
 abbrev Inv-loop : tie.InvT-loop
 Inv-loop a b n i₀ i =
-    (equal (drop i a) (drop i b) ≡ equal a b) × (i ≤ length a)
+    (sameBytes (drop i a) (drop i b) ≡ sameBytes a b) × (i ≤ length a)
 
 abbrev μ-loop : tie.MeasureT-loop
 μ-loop a b n i₀ i =
@@ -20,7 +20,7 @@ abbrev μ-loop : tie.MeasureT-loop
 
 returns : tie.Need-returns Inv-loop μ-loop
 returns c =
-    sym (lists.equal-lengths _ _ (c .if1 .taken))
+    sym (lists.other-lengths _ _ (c .if1 .taken))
 
 loop-holds : tie.Need-loop-holds Inv-loop μ-loop
 loop-holds c =
@@ -40,7 +40,7 @@ returns-2 c =
     let at-loop-test = c .before .before .before in
     let at-loop = at-loop-test .before in
     let at-if1 = at-loop .before in
-    sym (lists.equal-no _ _ _ (at-loop-test .loop-test .taken) (omega (arith, at-if1 .if1 .left)) (c .if2 .taken)) ∙ at-loop .loop .inv .0
+    sym (lists.same-no _ _ _ (at-loop-test .loop-test .taken) (omega (arith, at-if1 .if1 .left)) (c .if2 .taken)) ∙ at-loop .loop .inv .0
 
 add-i : tie.Need-add-i Inv-loop μ-loop
 add-i c =
@@ -55,17 +55,17 @@ loop-again c =
     let at-loop-test = c .before .before .before in
     let at-loop = at-loop-test .before in
     let at-if1 = at-loop .before in (
-      sym (lists.equal-next _ _ _ (at-loop-test .loop-test .taken) (omega (arith, at-if1 .if1 .left)) (c .if2 .left))
+      sym (lists.same-next _ _ _ (at-loop-test .loop-test .taken) (omega (arith, at-if1 .if1 .left)) (c .if2 .left))
           ∙ at-loop .loop .inv .0,
       omega arith,
     )
 
 returns-3 : tie.Need-returns-3 Inv-loop μ-loop
 returns-3 c =
-    sym (lists.equal-end _ _ _ (c .loop-test .left) (omega (arith, c .before .before .if1 .left))) ∙ c .before .loop .inv .0
+    sym (lists.same-end _ _ _ (c .loop-test .left) (omega (arith, c .before .before .if1 .left))) ∙ c .before .loop .inv .0
 
-pub equal-spec : {M : Type 1} → statement M
-equal-spec =
+pub same-bytes-spec : {M : Type 1} → statement M
+same-bytes-spec =
     tie.close
     (tie.spec
     Inv-loop
