@@ -11,7 +11,7 @@ fn print_words(words: &[u8]) {
 // Ends the line of numbers.
 fn print_rows(rows: RowCount) {
     match rows {
-        RowCount::Known(n) => print_field(b" rows", n),
+        RowCount::Known(n) => print_field(1, b" rows", n),
         RowCount::NotKnown => print_words(b" rows not known"),
     }
     io::write_all(1, b"\n");
@@ -19,30 +19,30 @@ fn print_rows(rows: RowCount) {
 
 fn print_breach(v: Verdict) {
     let rows = v.rows;
-    print_field(b"code", v.code);
-    print_field(b" rule", v.rule);
-    print_field(b" frame", v.frame);
+    print_field(1, b"code", v.code);
+    print_field(1, b" rule", v.rule);
+    print_field(1, b" frame", v.frame);
     print_rows(rows);
-    print_field(b"a rule is broken: rule", v.rule);
+    print_field(1, b"a rule is broken: rule", v.rule);
     if 0 < v.frame {
-        print_field(b" at frame", v.frame);
+        print_field(1, b" at frame", v.frame);
     }
     io::write_all(1, b"\n");
 }
 
 fn print_unread(v: Verdict) {
     let rows = v.rows;
-    print_field(b"code", v.code);
-    print_field(b" place", v.offset);
+    print_field(1, b"code", v.code);
+    print_field(1, b" place", v.offset);
     print_rows(rows);
-    print_field(b"the data set could not be read: code", v.code);
-    print_field(b" at byte", v.offset);
+    print_field(1, b"the data set could not be read: code", v.code);
+    print_field(1, b" at byte", v.offset);
     io::write_all(1, b"\n");
 }
 
 fn print_alone(v: Verdict) {
     let rows = v.rows;
-    print_field(b"code", v.code);
+    print_field(1, b"code", v.code);
     print_rows(rows);
     let code = v.code;
     match code {
@@ -63,7 +63,7 @@ fn print_verdict(v: Verdict) {
 }
 
 fn print_refusal(code: usize) {
-    print_field(b"refused: code", code);
+    print_field(1, b"refused: code", code);
     match code {
         12 => print_words(b"\nnot a slip: wrong length or mark\n"),
         13 => print_words(b"\nunknown slip version\n"),

@@ -2,8 +2,8 @@
 use mathlib.Core.Path.{sym}
 use lib.Seq.{length-take-le}
 use borrow.Author.Needs.{needs}
-use Rattle.canonical_one.proofs.print_form.Statement.{statement}
-use Rattle.canonical_one.proofs.print_form.Tie as tie
+use Rattle.write_canonical_one.proofs.print_form.Statement.{statement}
+use Rattle.write_canonical_one.proofs.print_form.Tie as tie
 
 slice-aggregate-write-all : tie.Need-slice-aggregate-write-all
 slice-aggregate-write-all c = sym (length-take-le _ _ (c .before .before .pre))

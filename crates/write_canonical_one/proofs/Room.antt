@@ -8,18 +8,19 @@ use borrow.Author.Tests.{leb-true, leb-false}
 use mathlib.Core.List.{List}
 use lib.Dec.{leb}
 use lib.ListN.{length}
+use Rattle.basics.specs.Bytes.{IsBytes}
 use Rattle.dataset.specs.declared.ReadAnswer.{ReadAnswer}
 use Rattle.dataset.specs.declared.ReadAnswer.the-variants as answer
 use Rattle.dataset.specs.Reading.{Reading, tooLarge, refusedAt, read, readingOf}
 use Rattle.dataset.specs.Tree.{rowsIn, rowsOf}
-use Rattle.dataset.specs.Answer.{answerOf, fits}
+use Rattle.dataset.specs.Answer.{answerOf, fits, width}
 use Rattle.dataset.proofs.Laws.{row-count}
 use Rattle.node.specs.Nodes.{nodesOf}
-use Rattle.canonical.specs.Written.{Bytes, writtenOf}
+use Rattle.canonical.specs.Written.{writtenOf}
 use Rattle.canonical.specs.Answer.{answerFor, canonicalOf}
 use Rattle.canonical.specs.declared.CanonicalAnswer.the-variants as canonical
 use Rattle.canonical.proofs.Answers.{form-fits}
-use Rattle.canonical_one.specs.Contracts.{Held, Roomy}
+use Rattle.write_canonical_one.specs.Contracts.{Held, Roomy}
 
 pub held : (s rows target after : List ℕ) → length after ≡ length target → Held (canonicalOf s rows target) after
 unfolding canonicalOf
@@ -36,7 +37,7 @@ held s rows target after e = go (answerOf (readingOf s) rows)
     go answer.TooLarge = tt
     go answer.NoRoom = tt
 
-pub roomy : (s rows target : List ℕ) → Bytes s → 7 * length s ≤ 8 * length rows → length s ≤ length target
+pub roomy : (s rows target : List ℕ) → IsBytes s → width * length s ≤ 8 * length rows → length s ≤ length target
     → Roomy (canonicalOf s rows target)
 unfolding canonicalOf rowsOf
 roomy s rows target bytes h k = by-reading (readingOf s) (row-count s)
@@ -46,11 +47,11 @@ roomy s rows target bytes h k = by-reading (readingOf s) (row-count s)
     by-target n size l true f = tt
     by-target n size l false f = omega (arith, leb-false size (length target) f)
 
-    by-room : (n : ℕ) → 8 * n ≤ length s → (t : Bool) → leb (7 * n) (length rows) ≡ t
+    by-room : (n : ℕ) → 8 * n ≤ length s → (t : Bool) → leb (width * n) (length rows) ≡ t
         → Roomy (answerFor (writtenOf (nodesOf s)) target (cond t (answer.Done n) answer.NoRoom))
     by-room n l true f =
         by-target n (length (writtenOf (nodesOf s))) (form-fits s bytes) (leb (length (writtenOf (nodesOf s))) (length target)) refl
-    by-room n l false f = omega (arith, leb-false (7 * n) (length rows) f)
+    by-room n l false f = omega (arith, leb-false (width * n) (length rows) f)
 
     by-reading : (o : Reading) → 8 * length (rowsIn o) ≤ length s → Roomy (answerFor (writtenOf (nodesOf s)) target (answerOf o rows))
     by-reading tooLarge r = tt

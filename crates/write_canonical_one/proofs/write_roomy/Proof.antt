@@ -1,11 +1,11 @@
 -- The target's length is as it was, so what is written is in it; and both buffers suffice.
 use mathlib.Core.Path.{sym, subst}
 use Rattle.canonical.specs.declared.CanonicalAnswer.{CanonicalAnswer}
-use Rattle.canonical_one.specs.Contracts.{Held, Roomy}
-use Rattle.canonical_one.proofs.Room.{held, roomy}
+use Rattle.write_canonical_one.specs.Contracts.{Held, Roomy}
+use Rattle.write_canonical_one.proofs.Room.{held, roomy}
 use borrow.Author.Needs.{needs}
-use Rattle.canonical_one.proofs.write_roomy.Statement.{statement}
-use Rattle.canonical_one.proofs.write_roomy.Tie as tie
+use Rattle.write_canonical_one.proofs.write_roomy.Statement.{statement}
+use Rattle.write_canonical_one.proofs.write_roomy.Tie as tie
 
 byte-bounds-requires : tie.Need-byte-bounds-requires
 byte-bounds-requires c κs = search needs

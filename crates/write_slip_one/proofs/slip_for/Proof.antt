@@ -5,8 +5,8 @@ use Rattle.verdict.specs.Verdict.{writable}
 use Rattle.slip.specs.Slip.{slipOf}
 use Rattle.conformance.specs.Judging.{verdictOf}
 use Rattle.conformance.proofs.Possible.{judge-possible}
-use Rattle.slip_one.proofs.slip_for.Statement.{statement}
-use Rattle.slip_one.proofs.slip_for.Tie as tie
+use Rattle.write_slip_one.proofs.slip_for.Statement.{statement}
+use Rattle.write_slip_one.proofs.slip_for.Tie as tie
 
 judge-small-requires : tie.Need-judge-small-requires
 judge-small-requires c κs = search needs

@@ -1,10 +1,10 @@
 -- What the answer says is written is in the target, by what is required.
 use mathlib.Core.Path.{subst}
 use Rattle.canonical.specs.declared.CanonicalAnswer.{CanonicalAnswer}
-use Rattle.canonical_one.specs.Contracts.{Held}
+use Rattle.write_canonical_one.specs.Contracts.{Held}
 use borrow.Author.Needs.{needs}
-use Rattle.canonical_one.proofs.print_answer.Statement.{statement}
-use Rattle.canonical_one.proofs.print_answer.Tie as tie
+use Rattle.write_canonical_one.proofs.print_answer.Statement.{statement}
+use Rattle.write_canonical_one.proofs.print_answer.Tie as tie
 
 enum-known-answer : tie.Need-enum-known-answer
 enum-known-answer c = search needs
@@ -17,35 +17,26 @@ print-form-requires c κs =
 enum-known-answer-2 : tie.Need-enum-known-answer-2
 enum-known-answer-2 c = search needs
 
-print-refusal-requires : tie.Need-print-refusal-requires
-print-refusal-requires c κs = search needs
+print-unread-requires : tie.Need-print-unread-requires
+print-unread-requires c κs = search needs
 
 enum-told : tie.Need-enum-told
 enum-told c = search needs
 
-slice-aggregate-write-all : tie.Need-slice-aggregate-write-all
-slice-aggregate-write-all c = search needs
-
-write-all-requires : tie.Need-write-all-requires
-write-all-requires c κs = search needs
+print-code-requires : tie.Need-print-code-requires
+print-code-requires c κs = search needs
 
 enum-told-2 : tie.Need-enum-told-2
 enum-told-2 c = search needs
 
-slice-aggregate-write-all-2 : tie.Need-slice-aggregate-write-all-2
-slice-aggregate-write-all-2 c = search needs
-
-write-all-requires-2 : tie.Need-write-all-requires-2
-write-all-requires-2 c κs = search needs
+print-code-requires-2 : tie.Need-print-code-requires-2
+print-code-requires-2 c κs = search needs
 
 enum-told-3 : tie.Need-enum-told-3
 enum-told-3 c = search needs
 
-slice-aggregate-write-all-3 : tie.Need-slice-aggregate-write-all-3
-slice-aggregate-write-all-3 c = search needs
-
-write-all-requires-3 : tie.Need-write-all-requires-3
-write-all-requires-3 c κs = search needs
+print-code-requires-3 : tie.Need-print-code-requires-3
+print-code-requires-3 c κs = search needs
 
 returns : tie.Need-returns
 returns c = search needs
@@ -69,16 +60,13 @@ print-answer-spec =
     enum-known-answer
     print-form-requires
     enum-known-answer-2
-    print-refusal-requires
+    print-unread-requires
     enum-told
-    slice-aggregate-write-all
-    write-all-requires
+    print-code-requires
     enum-told-2
-    slice-aggregate-write-all-2
-    write-all-requires-2
+    print-code-requires-2
     enum-told-3
-    slice-aggregate-write-all-3
-    write-all-requires-3
+    print-code-requires-3
     returns
     returns-2
     returns-3

@@ -1,6 +1,8 @@
 // Writes the canonical form of the data set on standard input to standard output. A refusal is said on standard error, and so is that
 // the input is too long.
 use canonical::CanonicalAnswer;
+use printing::print_code;
+use printing::print_unread;
 use room::input;
 use room::row_buffer;
 ghost use mathlib.Core.Path.{_≡_};
@@ -8,7 +10,7 @@ ghost use Prim.Native.Nat.{_*_, _≤_};
 ghost use lib.ListN.{length};
 ghost use Rattle.dataset.specs.Answer.{width};
 ghost use Rattle.canonical.specs.Answer.{canonicalOf, targetOf};
-ghost use Rattle.canonical_one.specs.Contracts.{Held, Roomy};
+ghost use Rattle.write_canonical_one.specs.Contracts.{Held, Roomy};
 
 // Writes the canonical form, with room for seven numbers for each 8 bytes and a target as long as the data set: both suffice.
 fn write_roomy(bytes: &[u8], rows: &mut [u32], target: &mut [u8]) -> CanonicalAnswer
@@ -28,29 +30,15 @@ fn print_form(target: &[u8], size: usize)
     io::write_all(1, &target[..size]);
 }
 
-fn print_refusal(code: usize, offset: usize) {
-    io::write_all(2, b"code ");
-    io::print_decimal(2, code as u64);
-    io::write_all(2, b" place ");
-    io::print_decimal(2, offset as u64);
-    io::write_all(2, b"\n");
-}
-
 fn print_answer(answer: CanonicalAnswer, target: &[u8])
     requires { ⌜ Held answer (now target) ⌝ }
 {
     match answer {
         CanonicalAnswer::Done(_, size) => print_form(target, size),
-        CanonicalAnswer::Refused(code, offset) => print_refusal(code, offset),
-        CanonicalAnswer::TooLarge => {
-            io::write_all(2, b"code 7\n");
-        }
-        CanonicalAnswer::NoRoom => {
-            io::write_all(2, b"code 8\n");
-        }
-        CanonicalAnswer::NoTargetRoom(_) => {
-            io::write_all(2, b"code 21\n");
-        }
+        CanonicalAnswer::Refused(code, offset) => print_unread(2, code, offset),
+        CanonicalAnswer::TooLarge => print_code(2, 7),
+        CanonicalAnswer::NoRoom => print_code(2, 8),
+        CanonicalAnswer::NoTargetRoom(_) => print_code(2, 21),
     }
 }
 

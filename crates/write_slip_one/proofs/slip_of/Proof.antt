@@ -3,8 +3,8 @@ use mathlib.Core.Path.{_∙_}
 use mathlib.Core.List.{append-nil}
 use borrow.Author.Needs.{needs}
 use Rattle.slip.specs.Slip.{slipBuffer}
-use Rattle.slip_one.proofs.slip_of.Statement.{statement}
-use Rattle.slip_one.proofs.slip_of.Tie as tie
+use Rattle.write_slip_one.proofs.slip_of.Statement.{statement}
+use Rattle.write_slip_one.proofs.slip_of.Tie as tie
 
 slice-aggregate-write-slip : tie.Need-slice-aggregate-write-slip
 slice-aggregate-write-slip c = search needs
