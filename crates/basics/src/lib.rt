@@ -3,7 +3,7 @@
 ghost use mathlib.Core.Path.{_≡_};
 ghost use Prim.Native.Nat.{_+_, _≤_, _<_};
 ghost use lib.ListN.{length};
-ghost use Rattle.basics.specs.Bytes.{le16, le32, tagAt, vrAt};
+ghost use Rattle.basics.specs.Bytes.{sameBytes, le16, le32, tagAt, vrAt};
 ghost use Rattle.basics.specs.Vr.{formOf};
 ghost use Rattle.basics.specs.Contracts.{FormsAfter};
 
@@ -25,6 +25,24 @@ pub fn wider(x: u32) -> usize
     ensures { λ r. ⌜ r ≡ x ⌝ }
 {
     x as usize
+}
+
+// Whether two runs of bytes are the same.
+pub fn same_bytes(a: &[u8], b: &[u8]) -> bool
+    ensures { λ r. ⌜ r ≡ sameBytes (now (a .entry)) (now (b .entry)) ⌝ }
+{
+    let n = a.len();
+    if n != b.len() {
+        return false;
+    }
+    let mut i = 0;
+    while i < n {
+        if a[i] != b[i] {
+            return false;
+        }
+        i += 1;
+    }
+    true
 }
 
 pub fn u16_at(s: &[u8], p: usize) -> usize

@@ -8,6 +8,7 @@ use native.Mathlib.Nat.{mul-le-mul}
 use native.Mathlib.Omega.{arith}
 use lib.Dec.{eqb, leb}
 use lib.ListN.{length}
+use Rattle.basics.specs.Bytes.{IsBytes}
 use Rattle.basics.specs.Fields.{Fields, codeAlone, placed, counted, broken}
 use Rattle.value.specs.declared.Num.{Num}
 use Rattle.value.specs.declared.Num.the-variants.{Is, None}
@@ -19,7 +20,6 @@ use Rattle.conformance.specs.declared.JudgeAnswer.the-variants as judged
 use Rattle.conformance.specs.Judging.{numberOf, judgeOf}
 use Rattle.conformance.specs.Judging as judging
 use Rattle.display.specs.Show.{isFrameOf, imageSize, pictureOf}
-use Rattle.display.specs.Drawing.{Bytes}
 use Rattle.display.proofs.Small.{us-in-small}
 use Rattle.compare.specs.declared.CompareAnswer.the-variants as answer
 use Rattle.compare.specs.Differences.{isOff, howMany, firstOff}
@@ -53,7 +53,7 @@ number-small : (n : Num) → ((k : ℕ) → n ≡ Is k → k < 65536) → number
 number-small (Is k) h = h k refl
 number-small None h = omega arith
 
-size-small : (s : List ℕ) → Bytes s → imageSize (nodesOf s) < 4294967296
+size-small : (s : List ℕ) → IsBytes s → imageSize (nodesOf s) < 4294967296
 size-small s b =
     let r : numberOf (usIn (nodesOf s) Tags.Rows (root (nodesOf s)))
     < 65536 = number-small (usIn (nodesOf s) Tags.Rows (root (nodesOf s))) (λ k e. us-in-small s b Tags.Rows k (root (nodesOf s)) e) in
@@ -103,7 +103,7 @@ by-judge ns f cells t (judged.Refused code offset) k h = plain-fits (placed code
 by-judge ns f cells t judged.TooLarge k h = plain-fits (codeAlone 7) h
 by-judge ns f cells t judged.NoRoom k h = plain-fits (codeAlone 8) h
 
-pub compare-fits : (s : List ℕ) → Bytes s → (f : ℕ) (cells : List ℕ) (t : ℕ) (buffer : List ℕ)
+pub compare-fits : (s : List ℕ) → IsBytes s → (f : ℕ) (cells : List ℕ) (t : ℕ) (buffer : List ℕ)
     → CompareFits32 (fieldsOf (compareOf s f cells t buffer))
 unfolding compareOf
 compare-fits s b f cells t buffer = by-judge (nodesOf s) f cells t (judgeOf s buffer) (size-small s b) (judge-fits s buffer)

@@ -19,6 +19,7 @@ use mathlib.Core.Path.{_≡_}
 use Prim.Native.Nat.{ℕ, _≤_, _<_}
 use mathlib.Core.List.{List, _++_}
 use lib.ListN.{length, take, drop}
+use Rattle.basics.specs.Bytes.{IsBytes}
 use Rattle.basics.specs.Vr.{SQ}
 use Rattle.dataset.specs.Reading.{Row, read, readingOf}
 use Rattle.dataset.specs.Answer as reading
@@ -30,7 +31,7 @@ use Rattle.searches.specs.Reported.{reportedOf}
 use Rattle.display.specs.Show.{showOf, imageOf}
 use Rattle.sheet.specs.Answer.{sheetOf}
 use Rattle.compare.specs.Answer.{compareOf}
-use Rattle.canonical.specs.Written.{Bytes, writtenOf}
+use Rattle.canonical.specs.Written.{writtenOf}
 use Rattle.canonical.specs.Answer.{canonicalOf, targetOf, fieldsOf}
 use Rattle.canonical.specs.declared.CanonicalAnswer.the-variants as canonical
 
@@ -40,7 +41,7 @@ canonicalForm s = writtenOf (nodesOf s)
 
 -- A list of bytes that reads well.
 pub record ReadsWell (s : List ℕ) : Type 0 where
-  pub bytes : Bytes s
+  pub bytes : IsBytes s
   pub rows : List Row
   pub reads : readingOf s ≡ read rows
 

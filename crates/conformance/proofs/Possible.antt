@@ -16,7 +16,7 @@ use Rattle.dataset.specs.Answer.{answerOf}
 use Rattle.dataset.proofs.Laws.{answer-small, Small as SmallAnswer}
 use Rattle.value.specs.declared.Num.{Num}
 use Rattle.value.specs.declared.Num.the-variants.{Is, None}
-use Rattle.basics.specs.Limits.{mostRows}
+use Rattle.basics.specs.Limits.{mostRows, largest}
 use Rattle.verdict.specs.Verdict.{lastRule, lastFrame, perFrame, frameFits, fieldsFit, countFits, possible, writable}
 use Rattle.basics.proofs.Tests.{false-is-true, and-both, or-either}
 use Rattle.verdict.proofs.Bounds.{Small, possible-small}
@@ -89,7 +89,7 @@ answer-possible f (read.Refused code offset) w h =
       ne-eqb code 9 (λ e. omega (arith, e, h .1 .0)),
       le-leb 1 code (h .0),
       le-leb code 6 (h .1 .0),
-      le-leb offset 1073741824 (h .1 .1),
+      le-leb offset largest (h .1 .1),
     )
 answer-possible f read.TooLarge w h = refl
 answer-possible f read.NoRoom w h = refl
@@ -110,13 +110,13 @@ judge-possible s buffer = rw (possible-answer s buffer)
 pub judge-small : (s buffer : List ℕ) → Small (verdictOf (judgeOf s buffer))
 judge-small s buffer = possible-small (verdictOf (judgeOf s buffer)) (possible-answer s buffer)
 
-rows-few : (f : Finding) (a : ReadAnswer) → SmallAnswer a → fieldsOf (answerFor f a) .rows ≤ 134217728
+rows-few : (f : Finding) (a : ReadAnswer) → SmallAnswer a → fieldsOf (answerFor f a) .rows ≤ mostRows
 rows-few finding.Accepted (read.Done n) h = h
 rows-few (finding.Broken rule frame) (read.Done n) h = h
 rows-few f (read.Refused code offset) h = omega arith
 rows-few f read.TooLarge h = omega arith
 rows-few f read.NoRoom h = omega arith
 
-pub judge-rows : (s buffer : List ℕ) → fieldsOf (judgeOf s buffer) .rows ≤ 134217728
+pub judge-rows : (s buffer : List ℕ) → fieldsOf (judgeOf s buffer) .rows ≤ mostRows
 unfolding judgeOf
 judge-rows s buffer = rows-few (findingOf (nodesOf s)) (answerOf (readingOf s) buffer) (answer-small s buffer)

@@ -7,7 +7,7 @@ ghost use lib.ListN.{length};
 ghost use lib.Seq.{sets};
 ghost use Rattle.dataset.specs.Header.{moved, delimiterBy, levelBy, definedBy, longBy, typedAt, taggedAt, sizedBy, memberAt};
 ghost use Rattle.dataset.specs.Header.{elementAt, itemAt};
-ghost use Rattle.dataset.specs.Reading.{elementsAt, itemsAt, readingOf, row};
+ghost use Rattle.dataset.specs.Reading.{depths, elementsAt, itemsAt, readingOf, row};
 ghost use Rattle.basics.specs.Limits.{largest};
 ghost use Rattle.basics.specs.Fields.{Answers};
 ghost use Rattle.dataset.specs.Answer.{width, answerOf, countOf, bufferOf, flat, fieldsOf};
@@ -36,7 +36,7 @@ pub const BELOW: usize = 5;
 pub const PARENT: usize = 6;
 
 // How deep sequences may nest.
-const DEPTHS: usize = 8;
+pub const DEPTHS: usize = 8;
 
 const UNDEFINED: usize = 0xFFFF_FFFF;
 
@@ -302,11 +302,11 @@ fn put_row(
     m: usize,
     first: usize,
 )
-    requires { ⌜ (levels ≤ 8)
+    requires { ⌜ (levels ≤ depths)
         × ((8 * n + 8 ≤ start) × ((start ≤ stop) × ((n < m) × ((first ≤ n) × ((tag < 4294967296) × (vr < 65536)))))) ⌝ }
     requires { ⌜ (width * n + width ≤ length (now rows) → (stop ≤ largest) × (m ≤ largest)) ⌝ }
     ensures { λ _. ⌜ (width * n + width ≤ length (now (rows .entry))
-        → now (rows .exit) ≡ sets (now (rows .entry)) (width * n) (flat (row tag vr (8 - levels) start (stop - start) (m - n - 1) first ∷ []))) ⌝ }
+        → now (rows .exit) ≡ sets (now (rows .entry)) (width * n) (flat (row tag vr (depths - levels) start (stop - start) (m - n - 1) first ∷ []))) ⌝ }
 {
     let i = WIDTH * n;
     if i + WIDTH <= rows.len() {

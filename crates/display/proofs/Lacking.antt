@@ -10,6 +10,7 @@ use lib.ListN.{length, length-append}
 use lib.IntN.{ℤ, pos, _+ℤ_, _-ℤ_}
 use lib.Dec.{eqb, leb}
 use borrow.Author.Tests.{ne-eqb, le-leb}
+use Rattle.basics.specs.Bytes.{IsBytes}
 use Rattle.value.specs.declared.Num.{Num}
 use Rattle.value.specs.declared.Num.the-variants.{Is, None}
 use Rattle.shift.specs.declared.Moves.{Moves}
@@ -31,7 +32,7 @@ use Rattle.conformance.specs.declared.Finding.the-variants.{Accepted}
 use Rattle.conformance.specs.Judging.{numberOf, findingOf}
 use Rattle.display.specs.Show.{imageSize}
 use Rattle.display.proofs.Given.{never}
-use Rattle.display.specs.Drawing.{Bytes, AllLevels, Whole}
+use Rattle.display.specs.Drawing.{AllLevels, Whole}
 use Rattle.display.proofs.Small.{us-in-small}
 use Rattle.display.proofs.Objects.{object, windowed}
 use Rattle.display.proofs.Masks.{masking}
@@ -169,7 +170,7 @@ unfolding geometryOf
 geometry-size ns g e = size-given (usIn ns Tags.Rows (root ns)) (usIn ns Tags.Columns (root ns)) (usIn ns Tags.BitsAllocated (root ns))
     (usIn ns Tags.BitsStored (root ns)) g e
 
-pub nothing-lacks : (s : List ℕ) → Bytes s → findingOf (nodesOf s) ≡ Accepted → (f : ℕ) → 1 ≤ f → f ≤ numberOf (framesOf (nodesOf s))
+pub nothing-lacks : (s : List ℕ) → IsBytes s → findingOf (nodesOf s) ≡ Accepted → (f : ℕ) → 1 ≤ f → f ≤ numberOf (framesOf (nodesOf s))
     → Whole (nodesOf s) f
 nothing-lacks s b ok f low high =
     let ns = nodesOf s in

@@ -11,11 +11,12 @@ use native.Mathlib.Omega.{arith}
 use lib.Dec.{eqb, leb}
 use lib.ListN.{length, getD}
 use borrow.Author.Tests.{le-leb, leb-true, eqb-true}
+use Rattle.basics.specs.Bytes.{sameBytes}
 use Rattle.value.specs.declared.Num.{Num}
 use Rattle.value.specs.declared.Num.the-variants.{Is, None}
 use Rattle.value.specs.declared.Signed.{Signed}
 use Rattle.value.specs.declared.Signed.the-variants as signed
-use Rattle.value.specs.Text.{ascii, equal, valuesOf, valueOf, isSingle, trimStart, trimEnd}
+use Rattle.value.specs.Text.{ascii, valuesOf, valueOf, isSingle, trimStart, trimEnd}
 use Rattle.value.specs.Words.{isWord, wordAt, isFunction}
 use Rattle.value.specs.Number.{unit, all, allDecimals, allWidths, decimalOf, isNumber, leastWidth, isWidth}
 use Rattle.value.proofs.Laws.{decimalOf-below}
@@ -212,7 +213,7 @@ single v word e = and-both (isSingle v) (wordAt v 0 word) e .0
 
 -- And it has a letter.
 no-letter : (c : ℕ) (word : List ℕ) → isWord [] (c ∷ word) ≡ false
-unfolding isWord wordAt valuesOf trimEnd trimStart equal
+unfolding isWord wordAt valuesOf trimEnd trimStart sameBytes
 no-letter c word = refl
 
 lettered : (v word : List ℕ) → isWord [] word ≡ false → isWord v word ≡ true → leb 1 (length v) ≡ true

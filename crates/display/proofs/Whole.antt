@@ -6,6 +6,7 @@ use mathlib.Core.Option.{Option, some}
 use Prim.Native.Nat.{ℕ, zero, suc, _≤_, _<_}
 use lib.ListN.{length, getD}
 use native.Mathlib.Omega.{arith}
+use Rattle.basics.specs.Bytes.{IsBytes}
 use Rattle.value.specs.declared.Num.the-variants.{Is}
 use Rattle.node.specs.Nodes.{Node, nodesOf, root}
 use Rattle.element.specs.Frames.{framesOf}
@@ -23,7 +24,6 @@ use Rattle.display.specs.Contracts.{AllWithin, Sound, Gives, maskingOf, 
 use Rattle.display.specs.Show.{imageSize}
 use Rattle.display.proofs.Given.{never}
 use Rattle.display.proofs.Lacking.{geometry-size}
-use Rattle.display.specs.Drawing.{Bytes}
 use Rattle.display.proofs.Small.{us-in-small}
 use Rattle.display.proofs.Objects.{object, windowed, same-is}
 use Rattle.display.proofs.Masks as masks
@@ -36,7 +36,7 @@ pub record All (ns : List Node) (f n : ℕ) : Type 0 where
   pub win : Windowed ns f (o .g .stored)
   pub mask : Gives n (maskFor ns f)
 
-pub all : (s : List ℕ) → Bytes s → findingOf (nodesOf s) ≡ Accepted → (f n : ℕ) → framesOf (nodesOf s) ≡ Is n → 1 ≤ f → f ≤ n
+pub all : (s : List ℕ) → IsBytes s → findingOf (nodesOf s) ≡ Accepted → (f n : ℕ) → framesOf (nodesOf s) ≡ Is n → 1 ≤ f → f ≤ n
     → All (nodesOf s) f n
 all s b ok f n frames low high =
     let ns = nodesOf s in

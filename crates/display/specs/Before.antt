@@ -12,6 +12,7 @@ use mathlib.Core.Option.{Option, none, some}
 use lib.ListN.{length}
 use lib.Dec.{eqb, leb, ltb}
 use lib.IntN.{pos, _+ℤ_, _-ℤ_}
+use Rattle.basics.specs.Bytes.{IsBytes}
 use Rattle.basics.specs.Vr.{SQ, FL}
 use Rattle.value.specs.declared.Num.{Num}
 use Rattle.value.specs.declared.Num.the-variants.{Is, None}
@@ -39,7 +40,6 @@ use Rattle.steps.specs.declared.Applying.the-variants.{Item, Nothing}
 use Rattle.steps.specs.Given.{check, then, collect}
 use Rattle.steps.specs.Steps.{Picture, Mask, native, masked, geometryOf, pixelsOf, applyingTo, averageFrames, tidFrame, shiftFor, windowFor}
 use Rattle.steps.specs.Steps.{inverseOf, nativeCell, areFrames, stepsOf}
-use Rattle.display.specs.Drawing.{Bytes}
 
 -- ---- Rule 35: two whole numbers in -64..64
 
@@ -140,7 +140,7 @@ pub record Kept (s : List ℕ) : Type 0 where
   pub pictures : (f : ℕ) → 1 ≤ f → f ≤ numberOf (framesOf (nodesOf s)) → DrawnAlike (nodesOf s) f
 
 abbrev pub KeepsPictures : Type 0
-KeepsPictures = (s : List ℕ) → Bytes s → AcceptedBefore (nodesOf s) → Kept s
+KeepsPictures = (s : List ℕ) → IsBytes s → AcceptedBefore (nodesOf s) → Kept s
 
 abbrev pub SamePictures : Type 0
 SamePictures = (ns : List Node) (f : ℕ) (p : Picture) → stepsBefore ns f ≡ some p → stepsOf ns f ≡ some p

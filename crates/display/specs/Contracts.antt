@@ -5,6 +5,7 @@ use mathlib.Core.List.{List, [], _∷_}
 use mathlib.Core.Option.{Option, none, some}
 use Prim.Native.Nat.{ℕ, _≤_, _<_}
 use lib.ListN.{length}
+use Rattle.basics.specs.Bytes.{IsBytes}
 use Rattle.value.specs.Number.{usValues, isNumber}
 use Rattle.value.specs.Contracts.{SizeBelow, Below}
 use Rattle.shift.specs.declared.Moves.{Moves}
@@ -35,7 +36,6 @@ use Rattle.element.specs.Frames.{framesOf, frameItem}
 use Rattle.conformance.specs.declared.Finding.the-variants as finding
 use Rattle.conformance.specs.Judging.{findingOf}
 use Rattle.window.specs.Contracts.{Drawable}
-use Rattle.display.specs.Drawing.{Bytes}
 use Rattle.display.specs.declared.Scene.{Scene}
 use Rattle.display.specs.declared.Plan.{Plan}
 
@@ -131,7 +131,7 @@ MasksReady ns v g masking.Lacks = ⊥
 
 -- An accepted object of n frames.
 pub record IsObject (s : List ℕ) (n : ℕ) : Type 0 where
-  pub bytes : Bytes s
+  pub bytes : IsBytes s
   pub sound : findingOf (nodesOf s) ≡ finding.Accepted
   pub frames : framesOf (nodesOf s) ≡ Is n
   pub some-frame : 1 ≤ n

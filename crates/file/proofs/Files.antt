@@ -1,13 +1,13 @@
 -- A call on a file goes by the head: where it is good, the call is the bare call on the rest of the file, with 18 put in after 8. So
 -- what is proved of every data set is proved of the one inside.
 use mathlib.Core.Path.{_≡_, refl, sym, ap, _∙_, subst}
-use Prim.Native.Nat.{ℕ, _+_, _*_, _≤_, _<_}
+use Prim.Native.Nat.{ℕ, _*_, _≤_}
 use native.Mathlib.Omega.{arith}
 use borrow.Author.Tests.{le-leb}
 use mathlib.Core.Bool.{Bool, true, false}
 use mathlib.Core.List.{List}
 use lib.ListN.{length, drop}
-use lib.Seq.{getD-drop}
+use Rattle.basics.proofs.Bytes.{drop-bytes}
 use Rattle.dataset.specs.Reading.{Row, Reading, tooLarge, refusedAt, read, readingOf}
 use Rattle.dataset.specs.Answer.{width, answerOf, bufferOf}
 use Rattle.dataset.specs.Tree.{rowsIn, rowsOf}
@@ -22,7 +22,7 @@ use Rattle.conformance.specs.Judging.{findingOf, answerFor, judgeOf}
 use Rattle.display.specs.Show.{showOf, imageOf, fieldsOf}
 use Rattle.display.specs.declared.ShowAnswer.{ShowAnswer}
 use Rattle.display.specs.declared.ShowAnswer.the-variants as shown
-use Rattle.display.specs.Drawing.{Bytes, IsAccepted}
+use Rattle.display.specs.Drawing.{IsAccepted}
 use Rattle.linear.specs.Demand3.{Promise}
 use Rattle.linear.proofs.Demand3.{demand-3}
 use Rattle.meta.specs.declared.Meta.{Meta}
@@ -207,10 +207,6 @@ of-2 s from w =
 
 -- ---- Demand 3
 
--- The bytes of a part are bytes.
-bytes-part : (s : List ℕ) (from : ℕ) → Bytes s → Bytes (drop from s)
-bytes-part s from b i = subst (λ (x : ℕ). x < 256) (sym (getD-drop from s i 0)) (b (from + i))
-
 -- What is drawn is not 18.
 drawn-other : {x : ShowFileAnswer} → showFields x .code ≡ 0 → x ≡ showFile.OtherClass → ⊥
 drawn-other {x} e f =
@@ -288,6 +284,6 @@ all-files s =
       bare = λ from e. let g = starts s e in as-bare s from (g .0) (g .1 .0) (g .1 .1);
       demand-2 = λ from e. let g = starts s e in of-2 s from (as-bare s from (g .0) (g .1 .0) (g .1 .1));
       demand-3 = λ from e b f. let g = starts s e in
-          of-3 s from f (as-bare s from (g .0) (g .1 .0) (g .1 .1)) (demand-3 (drop from s) (bytes-part s from b) f);
+          of-3 s from f (as-bare s from (g .0) (g .1 .0) (g .1 .1)) (demand-3 (drop from s) (drop-bytes from s b) f);
       refuses = refused s;
     }

@@ -11,6 +11,7 @@ use mathlib.Core.List.{List, _++_}
 use mathlib.Core.Option.{some}
 use Prim.Native.Nat.{ℕ, _*_, _≤_}
 use lib.ListN.{length, drop}
+use Rattle.basics.specs.Bytes.{IsBytes}
 use Rattle.dataset.specs.Reading.{readingOf}
 use Rattle.dataset.specs.Answer.{width, answerOf, bufferOf}
 use Rattle.dataset.specs.Tree.{rowsOf}
@@ -20,7 +21,7 @@ use Rattle.conformance.specs.declared.JudgeAnswer.the-variants as judged
 use Rattle.conformance.specs.Judging.{findingOf, judgeOf}
 use Rattle.steps.specs.Steps.{Picture, stepsOf}
 use Rattle.display.specs.Show.{imageSize, showOf, imageOf}
-use Rattle.display.specs.Drawing.{Bytes, IsAccepted, IsFrame, HasRoom}
+use Rattle.display.specs.Drawing.{IsAccepted, IsFrame, HasRoom}
 use Rattle.linear.specs.Demand3.{Promise}
 use Rattle.searches.specs.Reported.{reportedOf}
 use Rattle.file.specs.declared.Start.the-variants as start
@@ -82,7 +83,7 @@ pub record Refuses (s : List ℕ) : Type 0 where
 pub record Files (s : List ℕ) : Type 0 where
   pub bare : (from : ℕ) → startOf s ≡ start.At from → AsBare s from
   pub demand-2 : (from : ℕ) → startOf s ≡ start.At from → Demand2 s from
-  pub demand-3 : (from : ℕ) → startOf s ≡ start.At from → Bytes s → (f : ℕ) → Demand3 s from f
+  pub demand-3 : (from : ℕ) → startOf s ≡ start.At from → IsBytes s → (f : ℕ) → Demand3 s from f
   pub refuses : (startFields (startOf s) .code ≡ 0 → ⊥) → Refuses s
 
 abbrev pub AllFiles : Type 0

@@ -9,6 +9,7 @@ use native.Mathlib.Omega.{arith}
 use lib.ListN.{length, drop}
 use lib.Dec.{leb}
 use borrow.Author.Tests.{le-leb, leb-true}
+use Rattle.basics.specs.Bytes.{IsBytes}
 use Rattle.dataset.specs.Tree.{rowsOf}
 use Rattle.node.specs.Nodes.{Node, nodesOf, root}
 use Rattle.element.specs.Frames.{framesOf}
@@ -16,7 +17,7 @@ use Rattle.conformance.specs.Judging.{numberOf}
 use Rattle.value.specs.declared.Num.{Num}
 use Rattle.value.specs.declared.Num.the-variants.{Is, None}
 use Rattle.display.specs.Show.{isFrameOf, imageSize}
-use Rattle.display.specs.Drawing.{Bytes, IsAccepted, IsFrame, HasRoom}
+use Rattle.display.specs.Drawing.{IsAccepted, IsFrame, HasRoom}
 use Rattle.display.proofs.Codes.{was-frame, judged-accepted, was-judged}
 use Rattle.display.proofs.Objects.{object}
 use Rattle.display.proofs.Small.{us-in-small}
@@ -114,7 +115,7 @@ mapping-by : (ns : List Node) (f j : ℕ) → linearFor ns f ≡ some (Is j) →
 unfolding mappingOf
 mapping-by ns f j e = rw e
 
-whole : (s : List ℕ) → Bytes s → (f : ℕ) → IsAccepted s → IsFrame s f → isMapped (nodesOf s) f ≡ true → Mapped (nodesOf s) f
+whole : (s : List ℕ) → IsBytes s → (f : ℕ) → IsAccepted s → IsFrame s f → isMapped (nodesOf s) f ≡ true → Mapped (nodesOf s) f
 unfolding isMapped
 whole s b f a i m =
     let ns = nodesOf s in

@@ -12,10 +12,11 @@ use mathlib.Core.List.{List, _++_}
 use mathlib.Core.Option.{some}
 use Prim.Native.Nat.{ℕ}
 use lib.ListN.{length, drop}
+use Rattle.basics.specs.Bytes.{IsBytes}
 use Rattle.dataset.specs.Tree.{rowsOf}
 use Rattle.node.specs.Nodes.{Node, nodesOf}
 use Rattle.display.specs.Show.{imageSize}
-use Rattle.display.specs.Drawing.{Bytes, IsAccepted, IsFrame, HasRoom, Drawing}
+use Rattle.display.specs.Drawing.{IsAccepted, IsFrame, HasRoom, Drawing}
 use Rattle.linear.specs.Mapping.{mappingOf, isMapped}
 use Rattle.linear.specs.Answer.{linearOf, valuesOf, fieldsOf}
 
@@ -48,4 +49,4 @@ pub record Promise (s : List ℕ) (f : ℕ) : Type 0 where
 
 -- For every data set, given as bytes, and every frame number.
 abbrev pub Demand3 : Type 0
-Demand3 = (s : List ℕ) → Bytes s → (f : ℕ) → Promise s f
+Demand3 = (s : List ℕ) → IsBytes s → (f : ℕ) → Promise s f

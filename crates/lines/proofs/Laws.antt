@@ -11,7 +11,7 @@ use denote.Ref.{RefT}
 use Rattle.window.specs.declared.Window.{Window}
 use lib.IntN.{pos, _-ℤ_}
 use Rattle.window.specs.Window.{levelOf, shaded}
-use Rattle.window.specs.Contracts.{number, shadeAt, Filled}
+use Rattle.window.specs.Contracts.{number, shadeAt, Filled, shadePlaces}
 use Rattle.window.proofs.Laws.{power-small}
 use Rattle.pixel.specs.declared.Geometry.{Geometry}
 use Rattle.pixel.specs.Pixel.{samplesOf, isFrame, sampleAt, weightsOf}
@@ -47,15 +47,15 @@ module _ (g : Geometry) (s : RefT (List ℕ)) (f row : ℕ) where
 -- ---- Levels from a table and from the window
 
 module _ (t : Shades) (stored : ℕ) where
-  pub ideal-at : (p : ℕ) → p < 131072 → getD (shadesOf t stored) p 0 ≡ shadeAt (t .window) stored (t .inverse) p
+  pub ideal-at : (p : ℕ) → p < shadePlaces → getD (shadesOf t stored) p 0 ≡ shadeAt (t .window) stored (t .inverse) p
   unfolding shadesOf
-  ideal-at p h = upTo-at (shadeAt (t .window) stored (t .inverse)) 131072 p h
+  ideal-at p h = upTo-at (shadeAt (t .window) stored (t .inverse)) shadePlaces p h
 
   pub ideal-filled : stored ≤ 16 → Filled (shadeAt (t .window) stored (t .inverse)) (2 ^ (stored + 1) - 1) (shadesOf t stored)
   unfolding shadesOf
   ideal-filled most =
       record {
-        size = upTo-length (shadeAt (t .window) stored (t .inverse)) 131072;
+        size = upTo-length (shadeAt (t .window) stored (t .inverse)) shadePlaces;
         value = λ i h. ideal-at i (omega (arith, power-small (stored + 1) 17 (omega arith)));
       }
 

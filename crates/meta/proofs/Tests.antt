@@ -9,9 +9,9 @@ use lib.ListN.{length, take, drop, length-take, length-drop}
 use lib.Dec.{eqb, leb}
 use Rattle.basics.specs.Bytes.{le16, le32, tagAt, vrAt}
 use Rattle.dataset.specs.Header.{cursor}
-use Rattle.dataset.specs.Reading.{Run, done, refused, elementsAt}
+use Rattle.dataset.specs.Reading.{Run, done, refused, elementsAt, depths}
 use Rattle.value.specs.Text.{ascii}
-use Rattle.value.proofs.Lists.{equal-lengths}
+use Rattle.basics.proofs.Lists.{other-lengths}
 use Rattle.meta.specs.declared.Found.{Found}
 use Rattle.meta.specs.declared.Elements.{Elements}
 use Rattle.meta.specs.declared.Elements.the-variants as elements
@@ -24,7 +24,7 @@ use Rattle.meta.specs.Contracts.{walkOf}
 
 pub unmarked : (s : List ℕ) → length s < 132 → isMarked s ≡ false
 unfolding isMarked
-unmarked s h = equal-lengths (take 4 (drop 128 s)) (ascii "DICM") (λ e. omega (arith, e, length-take 4 (drop 128 s), length-drop 128 s))
+unmarked s h = other-lengths (take 4 (drop 128 s)) (ascii "DICM") (λ e. omega (arith, e, length-take 4 (drop 128 s), length-drop 128 s))
 
 -- ---- The group length
 
@@ -76,11 +76,11 @@ module _ (s : List ℕ) where
   unfolding headedOf
   headed h = rw (le-leb (endOf s) (length s) h)
 
-  head-is : (end : ℕ) → end ≡ endOf s → elementsAt 8 s 0 (cursor 132 end false) ≡ headOf s
+  head-is : (end : ℕ) → end ≡ endOf s → elementsAt depths s 0 (cursor 132 end false) ≡ headOf s
   unfolding headOf
-  head-is end e = ap (λ (k : ℕ). elementsAt 8 s 0 (cursor 132 k false)) e
+  head-is end e = ap (λ (k : ℕ). elementsAt depths s 0 (cursor 132 k false)) e
 
-  pub walked : (end : ℕ) → end ≡ endOf s → end ≤ length s → (w : Elements) → w ≡ walkOf (elementsAt 8 s 0 (cursor 132 end false))
+  pub walked : (end : ℕ) → end ≡ endOf s → end ≤ length s → (w : Elements) → w ≡ walkOf (elementsAt depths s 0 (cursor 132 end false))
       → ofElements w ≡ headedOf s
   walked end e h w q = ap ofElements (q ∙ ap walkOf (head-is end e)) ∙ of-run (headOf s) ∙ headed (omega (arith, e))
 

@@ -6,11 +6,11 @@ use mathlib.Core.Bool.{Bool, true, false, cond, _&&_}
 use mathlib.Core.List.{List, [], _∷_}
 use lib.ListN.{length, take, drop}
 use lib.Dec.{eqb, leb}
-use Rattle.basics.specs.Bytes.{le16, le32, tagAt, vrAt}
+use Rattle.basics.specs.Bytes.{sameBytes, le16, le32, tagAt, vrAt}
 use Rattle.basics.specs.Vr.{UI, UL}
 use Rattle.dataset.specs.Header.{cursor}
 use Rattle.dataset.specs.Reading.{Row, Run, done, refused, elementsAt, depths}
-use Rattle.value.specs.Text.{ascii, equal, isSingle}
+use Rattle.value.specs.Text.{ascii, isSingle}
 use Rattle.value.specs.Words.{isUid}
 use Rattle.meta.specs.declared.Uid.{Uid}
 use Rattle.meta.specs.declared.Uid.the-variants.{At, None}
@@ -37,7 +37,7 @@ explicitLittleEndian = ascii "1.2.840.10008.1.2.1"
 
 -- "DICM" at byte 128.
 unfoldable pub isMarked : List ℕ → Bool
-isMarked s = equal (take 4 (drop 128 s)) (ascii "DICM")
+isMarked s = sameBytes (take 4 (drop 128 s)) (ascii "DICM")
 
 -- Where the head's elements start: after the mark.
 abbrev pub start : ℕ

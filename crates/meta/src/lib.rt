@@ -2,6 +2,7 @@
 // what a head is, in the order of the paper; `read_head`, at the end, is the public call. The head's rows are not stored: a walk along
 // its elements notes what is looked for.
 use dataset::Cursor;
+use dataset::DEPTHS;
 use dataset::Head;
 use dataset::Walk;
 ghost use mathlib.Core.Path.{_≡_};
@@ -9,7 +10,7 @@ ghost use Prim.Native.Nat.{_+_, _-_, _/_, _≤_};
 ghost use mathlib.Core.Bool.{cond, false};
 ghost use lib.ListN.{length};
 ghost use lib.Dec.{eqb};
-ghost use Rattle.dataset.specs.Reading.{elementsAt, itemsAt, valueRun};
+ghost use Rattle.dataset.specs.Reading.{depths, elementsAt, itemsAt, valueRun};
 ghost use Rattle.dataset.specs.Header.{cursor, elementAt};
 ghost use Rattle.dataset.specs.Contracts.{Within, Walked, Ready};
 ghost use Rattle.meta.specs.Meta.{isMarked, hasGroupLength, endOf, uidAt, noted, named, headedOf, metaOf};
@@ -22,9 +23,6 @@ const GROUP_LENGTH: usize = 0x0002_0000;
 const MEDIA_STORAGE_SOP_CLASS_UID: usize = 0x0002_0002;
 
 const TRANSFER_SYNTAX_UID: usize = 0x0002_0010;
-
-// How deep sequences may nest.
-const DEPTHS: usize = 8;
 
 // Where the head's elements start: after 128 bytes of anything and "DICM".
 const START: usize = 132;
@@ -62,7 +60,7 @@ fn is_marked(file: &[u8]) -> bool
     if file.len() < START {
         return false;
     }
-    value::equal(&file[128..132], b"DICM")
+    basics::same_bytes(&file[128..132], b"DICM")
 }
 
 fn has_group_length(file: &[u8]) -> bool
@@ -129,7 +127,7 @@ fn note(found: Found, tag: usize, vr: usize, start: usize, stop: usize) -> Found
 // loops because they are faster that way.
 fn header(file: &[u8], c: Cursor, least: usize) -> Head
     requires { ⌜ (c .at ≤ c .end) × ((c .end ≤ length (now file)) × (c .delimited ≡ false)) ⌝ }
-    ensures { λ r. ⌜ r ≡ elementAt (now (file .entry)) c least 8 ⌝ }
+    ensures { λ r. ⌜ r ≡ elementAt (now (file .entry)) c least depths ⌝ }
     ensures { λ r. ⌜ Within c r ⌝ }
 {
     if c.at == c.end {
@@ -190,7 +188,7 @@ fn items(file: &[u8], c: Cursor, none: &mut [u32], first: usize) -> Walk
 // The result of reading a value.
 fn past(file: &[u8], vr: usize, value: Cursor, none: &mut [u32], first: usize) -> Walk
     requires { ⌜ Ready (now file) value 7 first (length (now none)) × (length (now none) ≡ 0) ⌝ }
-    ensures { λ r. ⌜ Walked (valueRun 8 (now (file .entry)) first vr value) value first (now (none .entry)) (now (none .exit)) r ⌝ }
+    ensures { λ r. ⌜ Walked (valueRun depths (now (file .entry)) first vr value) value first (now (none .entry)) (now (none .exit)) r ⌝ }
 {
     if vr == vrs::SQ {
         items(file, value, none, first)
@@ -202,7 +200,7 @@ fn past(file: &[u8], vr: usize, value: Cursor, none: &mut [u32], first: usize) -
 // The head's elements up to `end`, one after another. There is no buffer for their rows.
 fn along(file: &[u8], end: usize, none: &mut [u32]) -> Elements
     requires { ⌜ (132 ≤ end) × ((end ≤ length (now file)) × (length (now none) ≡ 0)) ⌝ }
-    ensures { λ r. ⌜ r ≡ walkOf (elementsAt 8 (now (file .entry)) 0 (cursor 132 end false)) ⌝ }
+    ensures { λ r. ⌜ r ≡ walkOf (elementsAt depths (now (file .entry)) 0 (cursor 132 end false)) ⌝ }
     ensures { λ r. ⌜ ElementsWithin (length (now (file .entry))) r ⌝ }
 {
     let mut here = Cursor {

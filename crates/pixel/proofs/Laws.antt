@@ -1,6 +1,6 @@
 -- Bounds of samples, sums and averages, where a sample takes its mask from, and a painted picture.
 use mathlib.Core.Path.{_≡_, refl, sym, _∙_, ap, subst}
-use mathlib.Core.Bool.{Bool, true, false, _&&_}
+use mathlib.Core.Bool.{true}
 use mathlib.Core.List.{List, [], _∷_, _++_}
 use mathlib.Core.Logic.{_⊎_, inl, inr, ⊎-elim}
 use Prim.Native.Nat.{ℕ, zero, suc, _+_, _-_, _*_, _/_, _%_, _^_, _≤_, _<_, min}
@@ -10,21 +10,18 @@ use native.Mathlib.Nat.{mul-add-mod-self-right, div-eq-of-lt, pow-le-pow-right, 
 use native.Mathlib.Omega.{arith}
 use borrow.Author.Tests.{leb-true}
 use lib.Bits.{bitAnd, and-mask}
-use lib.Dec.{T, leb}
+use lib.Dec.{leb}
 use lib.Pow.{pow-pos, pow-lt, le-ones}
 use lib.ListN.{length, getD, set, take, drop, length-set, length-drop, List·getD-append}
 use lib.Seq.{getD-set-same, getD-set-other, drop-cons, drop-length, getD-append-add, length-take-le}
-use Rattle.basics.specs.Bytes.{le16}
+use Rattle.basics.proofs.Tests.{and-both}
+use Rattle.basics.specs.Bytes.{le16, leNumber}
 use Rattle.value.specs.Number.{usValues}
 use Rattle.pixel.specs.declared.Geometry.{Geometry}
-use Rattle.pixel.specs.Pixel.{leBytes, samplesOf, isFrame, sampleAt, sumAt, averageOf, maskAt}
+use Rattle.pixel.specs.Pixel.{samplesOf, isFrame, sampleAt, sumAt, averageOf, maskAt}
 use Rattle.pixel.specs.Contracts.{painted, Masks, cellAt, plainPlace, maskPlace, Row, paintedFrom, Summed, Spread, shifted, rowShade}
 use Rattle.pixel.specs.Contracts.{offsetShade}
 use Rattle.pixel.proofs.Division.{average-most}
-
-both : (p q : Bool) → p && q ≡ true → (p ≡ true) × (q ≡ true)
-both true q h = (refl, h)
-both false q h = absurd (subst T (sym h) tt)
 
 below-or-not : (a b : ℕ) → (a < b) ⊎ (b ≤ a)
 below-or-not a zero = inr (omega arith)
@@ -72,14 +69,14 @@ kept-bits x low s e = ap (bitAnd x) e ∙ and-mask x s
 
 module _ (g : Geometry) (v : List ℕ) where
   pub cell-narrow : (low j : ℕ) → g .width ≡ 1 → low ≡ 2 ^ g .stored - 1 → bitAnd (getD v j 0) low ≡ cellAt g v j
-  unfolding cellAt leBytes
+  unfolding cellAt leNumber
   cell-narrow low j e k =
       let a : j * 1 ≡ j = omega arith in
       let b : getD v j 0 + 256 * 0 ≡ getD v j 0 = omega arith in
       rw (e, a, b) (kept-bits (getD v j 0) low (g .stored) k)
 
   pub cell-wide : (low j : ℕ) → g .width ≡ 2 → low ≡ 2 ^ g .stored - 1 → bitAnd (le16 v (2 * j)) low ≡ cellAt g v j
-  unfolding cellAt leBytes le16
+  unfolding cellAt leNumber le16
   cell-wide low j e k =
       let a : j * 2 ≡ 2 * j = omega arith in
       let b : getD v (2 * j + 1) 0 + 256 * 0 ≡ getD v (2 * j + 1) 0 = omega arith in
@@ -88,7 +85,7 @@ module _ (g : Geometry) (v : List ℕ) where
   -- A sample is below 2^stored, that is at most 2^stored - 1.
   pub cell-most : (j : ℕ) → cellAt g v j ≤ 2 ^ g .stored - 1
   unfolding cellAt
-  cell-most j = le-ones (g .stored) (mod-lt (leBytes (g .width) v (j * g .width)) (pow-pos (g .stored)))
+  cell-most j = le-ones (g .stored) (mod-lt (leNumber (g .width) v (j * g .width)) (pow-pos (g .stored)))
 
   pub sample-cell : (k i : ℕ) → sampleAt g v k i ≡ cellAt g v ((k - 1) * samplesOf g + i)
   unfolding sampleAt cellAt
@@ -103,7 +100,7 @@ module _ (g : Geometry) (v : List ℕ) where
   unfolding isFrame
   frame-facts k h =
       let p : (leb 1 k ≡ true)
-      × (leb (k * samplesOf g * g .width) (length v) ≡ true) = both (leb 1 k) (leb (k * samplesOf g * g .width) (length v)) h in
+      × (leb (k * samplesOf g * g .width) (length v) ≡ true) = and-both (leb 1 k) (leb (k * samplesOf g * g .width) (length v)) h in
       (leb-true _ _ (p .0), leb-true _ _ (p .1))
 
 -- Samples from `from` on, n of them, within l bytes.

@@ -2,9 +2,11 @@
 use Prim.Native.Nat.{ℕ, zero, suc, _+_, _-_, _^_, _*_, _/_, _%_, _≤_, _<_, min}
 use mathlib.Core.List.{List, [], _∷_}
 use lib.ListN.{getD, set, length}
+use Rattle.window.specs.Contracts.{shadePlaces}
+use Rattle.basics.specs.Bytes.{leNumber}
 use Rattle.shift.specs.declared.Moves.{Moves}
 use Rattle.pixel.specs.declared.Geometry.{Geometry}
-use Rattle.pixel.specs.Pixel.{sampleAt, blendedAt, leBytes, isFrame, sumAt, averageOf, maskAt, placeOf, restOf, blockOf, weightsOf}
+use Rattle.pixel.specs.Pixel.{sampleAt, blendedAt, isFrame, sumAt, averageOf, maskAt, placeOf, restOf, blockOf, weightsOf}
 use Rattle.pixel.specs.Pixel.{blendOf}
 use mathlib.Core.Path.{_≡_}
 use mathlib.Core.Bool.{true}
@@ -76,7 +78,7 @@ pub record Small (g : Geometry) (k : ℕ) : Type 0 where
 
 -- Sample j of all frames, counted from 0.
 unfoldable pub cellAt : Geometry → List ℕ → ℕ → ℕ
-cellAt g v j = leBytes (g .width) v (j * g .width) % 2 ^ g .stored
+cellAt g v j = leNumber (g .width) v (j * g .width) % 2 ^ g .stored
 
 -- The place of sample j in a table of shades, where it takes no mask, and where it takes mask values that begin at an offset.
 unfoldable pub plainPlace : Geometry → List ℕ → ℕ → ℕ
@@ -159,7 +161,7 @@ pub record Drawn (v : List ℕ) (g : Geometry) (n s : ℕ) (table sums line : Li
   pub some : 1 ≤ n
   pub few : n ≤ 64
   pub most : s ≤ farthest
-  pub shades : 131072 ≤ length table
+  pub shades : shadePlaces ≤ length table
   pub summed : (j : ℕ) → j < g .columns + edges → (j < length sums) × (getD sums j 0 ≤ n * (2 ^ g .stored - 1))
   pub room : g .columns ≤ length line
 

@@ -2,6 +2,7 @@
 ghost use mathlib.Core.Path.{_≡_};
 ghost use Prim.Native.Nat.{ℕ, _+_, _-_, _*_, _/_, _^_, _≤_, _<_, min};
 ghost use lib.ListN.{length, getD};
+ghost use Rattle.window.specs.Contracts.{shadePlaces};
 ghost use Rattle.value.specs.Contracts.{SizeBelow};
 ghost use Rattle.value.specs.Number.{usValues};
 ghost use Rattle.shift.specs.Shift.{largestShift};
@@ -79,7 +80,7 @@ pub fn sample(pixels: &[u8], g: Geometry, low: usize, j: usize) -> usize
 
 // Draws a row of a frame that takes no mask.
 pub fn plain_row(line: &[u8], g: Geometry, table: &[u8], levels: &mut [u8])
-    requires { ⌜ Row (now line) g 0 × ((131072 ≤ length (now table)) × (g .columns ≤ length (now levels))) ⌝ }
+    requires { ⌜ Row (now line) g 0 × ((shadePlaces ≤ length (now table)) × (g .columns ≤ length (now levels))) ⌝ }
     ensures { λ _. ⌜ now (levels .exit) ≡ painted (λ c. getD (now (table .entry)) (plainPlace g (now (line .entry)) c) 0) (g .columns) (now (levels .entry)) ⌝ }
 {
     let columns = g.columns;
@@ -294,7 +295,7 @@ pub fn masked_row(
     table: &[u8],
     levels: &mut [u8],
 )
-    requires { ⌜ Subtracts (now line) g s (now masks) (now levels) × (131072 ≤ length (now table)) ⌝ }
+    requires { ⌜ Subtracts (now line) g s (now masks) (now levels) × (shadePlaces ≤ length (now table)) ⌝ }
     ensures { λ _. ⌜ now (levels .exit) ≡ painted (λ c. getD (now (table .entry)) (maskPlace g (now (line .entry)) (now (masks .entry)) s c) 0) (g .columns) (now (levels .entry)) ⌝ }
 {
     let columns = g.columns;

@@ -1,12 +1,12 @@
 -- Both data sets are worked out; what is the same of both follows from `privacy`.
 use mathlib.Core.Path.{_≡_, refl, sym, ap, _∙_}
 use mathlib.Core.List.{[], _∷_}
-use Rattle.basics.specs.Bytes.{le16}
+use Rattle.basics.specs.Bytes.{sameBytes, le16, leNumber}
 use Rattle.basics.specs.Vr.{listed, formOf}
 use Rattle.dataset.specs.Header.{when, headerBy, delimiterBy, levelBy, definedBy, longBy, typedAt, taggedAt, sizedBy, memberAt}
 use Rattle.dataset.specs.Reading.{level, valueRun, readingOf}
 use Rattle.dataset.specs.Tree.{rowsOf}
-use Rattle.value.specs.Text.{equal, valuesOf, trimStart, trimEnd}
+use Rattle.value.specs.Text.{valuesOf, trimStart, trimEnd}
 use Rattle.value.specs.Words.{wordAt, isWord, isUid}
 use Rattle.value.specs.Number.{usOf, digitsOf, signedBy, wholeOf, isOf}
 use Rattle.node.specs.Nodes.{nodesOf, members, membersBy}
@@ -25,7 +25,7 @@ use Rattle.rules.specs.All.{ruleList, ruleAt}
 use Rattle.conformance.specs.declared.JudgeAnswer.{JudgeAnswer}
 use Rattle.conformance.specs.Judging.{firstFrame, frameCount, lowest, firstBroken, judgeOf, fieldsOf}
 use Rattle.window.specs.Window.{fullWindow, levelOf, shadeOf}
-use Rattle.pixel.specs.Pixel.{leBytes, isFrame, sampleAt}
+use Rattle.pixel.specs.Pixel.{isFrame, sampleAt}
 use Rattle.steps.specs.Given.{collect}
 use Rattle.steps.specs.Steps.{geometryOf, pixelsOf, groupFor, applyingTo, maskFor, windowFor, inverseOf, nativeCell, pictureBy, stepsOf}
 use Rattle.display.specs.Show.{pictureOf, acceptedAnswer, showOf, imageOf}
@@ -66,7 +66,7 @@ unfolding
     when headerBy delimiterBy levelBy definedBy longBy typedAt taggedAt sizedBy memberAt
     level valueRun readingOf
     rowsOf
-    equal valuesOf trimStart trimEnd
+    sameBytes valuesOf trimStart trimEnd
     wordAt isWord isUid
     usOf digitsOf signedBy wholeOf isOf
     nodesOf members membersBy
@@ -83,7 +83,7 @@ unfolding
     ruleList ruleAt
     firstFrame frameCount lowest firstBroken judgeOf
     fullWindow levelOf shadeOf
-    leBytes isFrame sampleAt
+    leNumber isFrame sampleAt
     collect
     geometryOf pixelsOf groupFor applyingTo maskFor windowFor inverseOf nativeCell pictureBy stepsOf
     pictureOf acceptedAnswer showOf imageOf

@@ -11,7 +11,8 @@ use lib.ListN.{length, getD, set, drop}
 use lib.Seq.{getD-set-same, getD-set-other}
 use borrow.Author.Tests.{eq-eqb, ne-eqb}
 use Rattle.value.specs.Number.{usValues}
-use Rattle.steps.proofs.Laws.{values-end, pair-at}
+use Rattle.value.proofs.Laws.{values-end}
+use Rattle.steps.proofs.Laws.{pair-at}
 use Rattle.ranges.specs.Contracts.{markOf, takenBy}
 use Rattle.ranges.proofs.Reach.{max-next}
 

@@ -2,18 +2,17 @@
 use mathlib.Core.Path.{_≡_, refl, sym, ap, _∙_}
 use Prim.Native.Nat.{ℕ, _+_, _*_, _/_, _≤_, _<_}
 use native.Mathlib.Omega.{arith}
-use native.Mathlib.Numerals.{add-one}
 use mathlib.Core.List.{List, [], _∷_}
-use mathlib.Core.Bool.{Bool, true, false, cond, _&&_, _||_}
+use mathlib.Core.Bool.{Bool, true, false, _&&_}
 use lib.ListN.{length, getD, drop}
-use lib.Seq.{drop-cons, drop-length}
 use lib.Dec.{eqb, leb}
 use borrow.Author.Tests.{eq-eqb, ne-eqb, le-leb, lt-leb}
 use Rattle.basics.specs.Vr.{SQ}
 use Rattle.value.specs.declared.Num.{Num}
 use Rattle.value.specs.declared.Num.the-variants.{Is, None}
 use Rattle.value.specs.Number.{usValues}
-use Rattle.value.proofs.Laws.{usValues-length}
+use Rattle.value.proofs.Laws.{value-next, values-end}
+pub use Rattle.basics.proofs.Tests.{both, not-first, one, other-one, then, otherwise}
 use Rattle.node.specs.Nodes.{Node, nextNode, members, inside}
 use Rattle.node.specs.Find.{holds, holdsOr, andThen, orElse, find, ofVr, filled}
 use Rattle.node.proofs.Walks.{members-end, members-next}
@@ -23,24 +22,6 @@ use Rattle.rules.specs.Mask.{pairsFit, allFrames, hasShiftGroup}
 use Rattle.rules_mask.specs.Contracts.{shiftIn}
 
 -- ---- Tests one after the other
-
-pub both : {a b r : Bool} → a ≡ true → b ≡ r → (a && b) ≡ r
-both e f = rw e f
-
-pub not-first : {a : Bool} (b : Bool) → a ≡ false → (a && b) ≡ false
-not-first b e = rw e
-
-pub one : {a : Bool} (b : Bool) → a ≡ true → (a || b) ≡ true
-one b e = rw e
-
-pub other-one : {a b r : Bool} → a ≡ false → b ≡ r → (a || b) ≡ r
-other-one e f = rw e f
-
-pub then : {t a r : Bool} (b : Bool) → t ≡ true → a ≡ r → cond t a b ≡ r
-then b e f = rw e f
-
-pub otherwise : {t b r : Bool} (a : Bool) → t ≡ false → b ≡ r → cond t a b ≡ r
-otherwise a e f = rw e f
 
 -- A number that was read (n) is the number that is meant (m), and was compared with k.
 module _ {n m : ℕ} (k : ℕ) (e : n ≡ m) where
@@ -94,12 +75,6 @@ module _ (ns : List Node) (p : ℕ → Bool) (at to : ℕ) where
   some-next next e h q = rw (members-next ns at to h, q, e)
 
 -- ---- Values of a US
-
-value-next : (v : List ℕ) (k : ℕ) → k < length v / 2 → drop k (usValues v) ≡ getD (usValues v) k 0 ∷ drop (k + 1) (usValues v)
-value-next v k h = rw (add-one k, drop-cons (usValues v) k 0 (omega (arith, usValues-length v)))
-
-values-end : (v : List ℕ) (k : ℕ) → k ≡ length v / 2 → drop k (usValues v) ≡ []
-values-end v k e = rw (e, ← usValues-length v) (drop-length (usValues v))
 
 module _ (n : ℕ) (v : List ℕ) (k : ℕ) where
   pub frames-end : k ≡ length v / 2 → allFrames n (drop k (usValues v)) ≡ true

@@ -5,11 +5,12 @@ use native.Mathlib.Omega.{arith}
 use native.Mathlib.Nat.{mul-le-mul-left, mul-le-mul-right}
 use native.Mathlib.Numerals.{add-one}
 use mathlib.Core.List.{List, [], _∷_}
-use mathlib.Core.Bool.{Bool, true, false, cond, _||_, false≢true}
+use mathlib.Core.Bool.{Bool, true, false, cond, false≢true, or-true}
 use lib.ListN.{length, drop, getD}
 use lib.Seq.{drop-cons, drop-length}
 use lib.Dec.{leb}
 use borrow.Author.Tests.{leb-true, leb-false, le-leb, lt-leb}
+use Rattle.basics.specs.Limits.{mostRows}
 use Rattle.value.specs.declared.Num.{Num}
 use Rattle.value.specs.declared.Num.the-variants.{Is, None}
 use Rattle.basics.specs.Vr.{SQ}
@@ -148,12 +149,12 @@ module _ (ns : List Node) (w : Within ns) where
       go (Is p) = inside-few ns w p
 
 -- 134,217,728 × 134,217,728.
-square : (l m : ℕ) → l ≤ 134217728 → m ≤ l → l * m ≤ 18014398509481984
+square : (l m : ℕ) → l ≤ mostRows → m ≤ l → l * m ≤ 18014398509481984
 square l m a b =
-    let h : m ≤ 134217728 = omega arith in
+    let h : m ≤ mostRows = omega arith in
     omega (arith, mul-le-mul-left l h)
 
-module _ (s : List ℕ) (few : length (nodesOf s) ≤ 134217728) where
+module _ (s : List ℕ) (few : length (nodesOf s) ≤ mostRows) where
   pub frames-square : length (nodesOf s) * length (frameItems (nodesOf s)) ≤ 18014398509481984
   frames-square = square (length (nodesOf s)) (length (frameItems (nodesOf s))) few (items-few (nodesOf s) (nodes-within s))
 
@@ -181,7 +182,7 @@ module _ (s : List ℕ) (few : length (nodesOf s) ≤ 134217728) where
       → allLooked (nodesOf s) tags (members (nodesOf s) from to) ≤ 8589934592
   all-fits tags from to h k =
       let is = members (nodesOf s) from to in
-      let f : length is ≤ 134217728 = omega (arith, members-few (nodesOf s) from to) in
+      let f : length is ≤ mostRows = omega (arith, members-few (nodesOf s) from to) in
       omega (arith, all-few (nodesOf s) tags is, mul-le-mul-left (length tags) f)
 
   pub each-fits : (tags : List ℕ) (from to : ℕ) → length tags ≤ 64 → to ≤ length (nodesOf s)
@@ -190,10 +191,6 @@ module _ (s : List ℕ) (few : length (nodesOf s) ≤ 134217728) where
       omega (arith, each-few (nodesOf s) tags (nodes-within s) to k from, mul-le-mul-left (length tags) few)
 
 -- ---- A group at a frame, by where it stands
-
-or-true : (b : Bool) → (b || true) ≡ true
-or-true true = refl
-or-true false = refl
 
 module _ (ns : List Node) (tag : ℕ) (reads : List ℕ) (s i : ℕ) where
   -- Not in the item: in the shared item.
@@ -217,7 +214,7 @@ module _ (ns : List Node) (tag : ℕ) (reads : List ℕ) (s i : ℕ) where
 
 -- ---- The tables' sums
 
-module _ (s : List ℕ) (few : length (nodesOf s) ≤ 134217728) where
+module _ (s : List ℕ) (few : length (nodesOf s) ≤ mostRows) where
   pub root-fits : (r to : ℕ) → to ≤ length (nodesOf s) → r ≡ allLooked (nodesOf s) rootOrder (members (nodesOf s) 0 to) → r ≤ 8589934592
   unfolding rootOrder
   root-fits r to h e = omega (arith, e, all-fits s few rootOrder 0 to (omega arith) h)

@@ -10,6 +10,8 @@ use native.Mathlib.Omega.{arith}
 use lib.Dec.{leb}
 use lib.ListN.{length, getD, length-append}
 use borrow.Author.Tests.{leb-true}
+use Rattle.basics.proofs.Tests.{and-both}
+use Rattle.basics.specs.Bytes.{IsBytes}
 use Rattle.dataset.specs.Answer.{width}
 use Rattle.dataset.specs.Tree.{rowsOf}
 use Rattle.value.specs.declared.Num.{Num}
@@ -19,7 +21,7 @@ use Rattle.element.specs.Frames.{framesOf}
 use Rattle.conformance.specs.Judging.{numberOf}
 use Rattle.steps.specs.Steps.{Picture, stepsOf}
 use Rattle.display.specs.Show.{isFrameOf, imageSize, pictureIn, pictureOf}
-use Rattle.display.specs.Drawing.{Bytes, IsAccepted, Whole, AllLevels}
+use Rattle.display.specs.Drawing.{IsAccepted, Whole, AllLevels}
 use Rattle.display.proofs.Small.{us-in-small}
 use Rattle.display.proofs.Objects.{object}
 use Rattle.display.proofs.Lacking.{geometry-size, nothing-lacks}
@@ -184,10 +186,6 @@ module _ (s : List ℕ) (a b : ℕ) where
       frames-done (nodesOf s) a b n (r .order) (numberOf (framesOf (nodesOf s)))
       (frames-is (framesOf (nodesOf s)) (omega (arith, r .first .low, r .first .high))) (r .first .low) (r .last .high)
 
-  both : (p q : Bool) → p && q ≡ true → (p ≡ true) × (q ≡ true)
-  both true q h = (refl, h)
-  both false q h = let z : _≡_ {A = ℕ} 0 1 = cc in absurd (omega arith)
-
   was-range : (n : ℕ) → fieldsOf (acceptedAnswer (nodesOf s) a b n) .code ≡ 0 → Range s a b
   unfolding acceptedAnswer
   was-range n e = go (leb a b) (isFrameOf (nodesOf s) a && isFrameOf (nodesOf s) b) refl refl e
@@ -195,7 +193,7 @@ module _ (s : List ℕ) (a b : ℕ) where
       go : (t u : Bool) → leb a b ≡ t → (isFrameOf (nodesOf s) a && isFrameOf (nodesOf s) b) ≡ u
           → fieldsOf (cond t (cond u (answer.Done n) answer.NoFrame) answer.WrongOrder) .code ≡ 0 → Range s a b
       go true true p q e =
-          let w = both (isFrameOf (nodesOf s) a) (isFrameOf (nodesOf s) b) q in
+          let w = and-both (isFrameOf (nodesOf s) a) (isFrameOf (nodesOf s) b) q in
           record { order = leb-true a b p; first = was-frame s a (w .0); last = was-frame s b (w .1) }
       go true false p q e = absurd (omega (arith, e))
       go false u p q e = absurd (omega (arith, e))
@@ -229,14 +227,14 @@ module _ (s : List ℕ) (a b : ℕ) where
 
 -- ---- The claim
 
-some-cell : (s : List ℕ) → Bytes s → IsAccepted s → 1 ≤ imageSize (nodesOf s)
+some-cell : (s : List ℕ) → IsBytes s → IsAccepted s → 1 ≤ imageSize (nodesOf s)
 some-cell s b acc =
     let o = object (nodesOf s) (λ tag k e. us-in-small s b tag k (root (nodesOf s)) e) (acc .sound) in
     let m : 1 * 1
     ≤ o .g .rows * o .g .columns = mul-le-mul {n₁ = 1} {m₁ = 1} {n₂ = o .g .rows} {m₂ = o .g .columns} (o .rows-low) (o .columns-low) in
     omega (arith, m, geometry-size (nodesOf s) (o .g) (o .geometry))
 
-module _ (s : List ℕ) (bytes : Bytes s) (a b : ℕ) (acc : IsAccepted s) (r : Range s a b) where
+module _ (s : List ℕ) (bytes : IsBytes s) (a b : ℕ) (acc : IsAccepted s) (r : Range s a b) where
   whole : (f : ℕ) → a ≤ f → f ≤ b → Whole (nodesOf s) f
   whole f l h = drawing s bytes f .drawable acc (record { low = omega (arith, r .first .low, l); high = omega (arith, r .last .high, h) })
 

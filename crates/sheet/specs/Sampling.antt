@@ -7,11 +7,12 @@ use mathlib.Core.Path.{_≡_}
 use mathlib.Core.List.{List}
 use Prim.Native.Nat.{ℕ, zero, suc, _+_, _-_, _*_, _≤_, _<_}
 use lib.ListN.{length, getD}
+use Rattle.basics.specs.Bytes.{IsBytes}
 use Rattle.dataset.specs.Answer.{width}
 use Rattle.dataset.specs.Tree.{rowsOf}
 use Rattle.node.specs.Nodes.{nodesOf}
 use Rattle.display.specs.Show.{imageSize}
-use Rattle.display.specs.Drawing.{Bytes, IsAccepted, IsFrame, Whole}
+use Rattle.display.specs.Drawing.{IsAccepted, IsFrame, Whole}
 use Rattle.sheet.specs.declared.Numbers.{Numbers}
 use Rattle.sheet.specs.Sheet.{sumOf, framesSheet, noSheet}
 use Rattle.sheet.specs.Answer.{sheetOf, fieldsOf}
@@ -65,4 +66,4 @@ pub record Promise (s : List ℕ) (a b : ℕ) (buffer : List ℕ) : Type 0 where
 
 -- For every data set, given as bytes, any two numbers and any row buffer.
 abbrev pub Sampling : Type 0
-Sampling = (s : List ℕ) → Bytes s → (a b : ℕ) (buffer : List ℕ) → Promise s a b buffer
+Sampling = (s : List ℕ) → IsBytes s → (a b : ℕ) (buffer : List ℕ) → Promise s a b buffer

@@ -2,7 +2,7 @@
 -- turned into a float again, is the same exactly where nothing was cut off. A finite float is a fraction n / d, so each
 -- law is one on fractions first.
 use mathlib.Core.Path.{_≡_, refl, sym, ap, _∙_, subst}
-use mathlib.Core.Bool.{Bool, true, false, not, _&&_, _||_, cond, Bool·beq}
+use mathlib.Core.Bool.{Bool, true, false, not, _&&_, _||_, cond, Bool·beq, true≢false, and-true}
 use Prim.Native.Nat.{ℕ, zero, suc, _+_, _*_, _-_, _/_, _%_, _≤_, _<_, _^_}
 use native.Mathlib.Nat.{div-add-mod', mul-le-mul-right, div-le-of-le-mul, zero-div, eq-of-mul-eq-mul-right, le-of-mul-le-mul-right}
 use native.Mathlib.Nat.{mul-right-comm, mul-comm, mul-assoc, mul-one, zero-mul, mul-mod-left, mul-div-mul-right, min-eq-left, lt-trans}
@@ -16,24 +16,22 @@ use lib.Ieee.{Float, nan, inf, fin, up, down, lt, le, eq, neg, mul, isNan, fits,
 use lib.Ieee.Fits.{down-pos}
 use lib.Ieee.Exact.{HasValue, round-exact}
 use lib.Ieee.Back.{round-whole}
+use Rattle.basics.proofs.Tests.{false-is-true}
 use Rattle.value.specs.declared.Num.{Num}
 use Rattle.value.specs.declared.Num.the-variants as num
 use Rattle.value.specs.declared.Signed.{Signed}
 use Rattle.value.specs.declared.Signed.the-variants as signed
-use Rattle.value.specs.Number.{plus, minus}
+use Rattle.value.specs.Number.{withSign}
 use Rattle.shift.specs.Shift.{signedSize, quartersOf, largestMove, isShort, shortOf}
 use Rattle.shift.specs.Contracts.{upTo, shortSize}
 
 -- ---- Tests
 
-never : true ≡ false → ⊥
-never p = subst T p tt
-
 pub nan-of : (x : Float) → isNan x ≡ true → x ≡ nan
 unfolding isNan
 nan-of nan h = refl
-nan-of (inf s) h = absurd (never (sym h))
-nan-of (fin s m e) h = absurd (never (sym h))
+nan-of (inf s) h = absurd (false-is-true h)
+nan-of (fin s m e) h = absurd (false-is-true h)
 
 -- A float's `<=` is `<` or `==`.
 at-most : (a b : ℕ) → ltb a b || (eqb a b && true) ≡ leb a b
@@ -117,12 +115,12 @@ Low l (fin s m e) = (m * up e ≤ l * down e) × (s ≡ true → m * up e ≡ 0)
 -- 0x42800000 is 64.0.
 pub low : (y : Float) → lt y (ofBits binary32 0) ≡ false → le y (ofBits binary32 0x42800000) ≡ true → Low 64 y
 unfolding lt le eq ofBits
-low nan h k = absurd (never (sym k))
-low (inf true) h k = absurd (never h)
-low (inf false) h k = absurd (never (sym k))
+low nan h k = absurd (false-is-true k)
+low (inf true) h k = absurd (true≢false h)
+low (inf false) h k = absurd (false-is-true k)
 low (fin false m e) h k =
     let a : m * up e * 1 ≤ 64 * down e = leb-true _ _ (sym (at-most (m * up e * 1) (64 * down e)) ∙ k) in
-    (omega arith, λ (z : false ≡ true). absurd (never (sym z)))
+    (omega arith, λ (z : false ≡ true). absurd (false-is-true z))
 low (fin true m e) h k =
     let a : m * up e * 1 + 0 * down e ≤ 0 = ltb-false _ _ h in
     (omega arith, λ _. omega arith)
@@ -136,7 +134,7 @@ high (fin false m e) h k =
     fraction-high (m * up e * 4) (down e) 256 (omega arith)
 high (fin true m e) h k =
     let a : 0 < m * up e * 1 + 64 * down e = omega (arith, down-pos e) in
-    absurd (never (sym (ap (λ (t : Bool). t || eq (fin true m e) (fin false 1 (pos 6))) (lt-ltb _ _ a)) ∙ k))
+    absurd (true≢false (sym (ap (λ (t : Bool). t || eq (fin true m e) (fin false 1 (pos 6))) (lt-ltb _ _ a)) ∙ k))
 
 -- What cutting off requires: above -1, below 2^64.
 pub castable : (z : Float) → Low 256 z → T (lt (fin true 1 (pos 0)) z) × T (lt z (fin false 1 (pos 64)))
@@ -170,15 +168,11 @@ back-is : (b : Float) (s : Bool) (m : ℕ) (e : ℤ) → HasValue b false (m * u
 unfolding eq
 back-is nan s m e v h = absurd v
 back-is (inf t) s m e v h = absurd v
-back-is (fin true a d) s m e v h = absurd (never (v .0))
+back-is (fin true a d) s m e v h = absurd (true≢false (v .0))
 back-is (fin false a d) s m e v h =
     let size : a * up d ≡ m * up e / down e * down d = sym (mul-one (a * up d)) ∙ v .1 in
     rw (size, quotient-is (m * up e) (down e) (down d) (down-pos d)) (signs s (h .1))
   where
-    and-true : (p : Bool) → p && true ≡ p
-    and-true true = refl
-    and-true false = refl
-
     none : m * up e ≡ 0 → m * up e / down e * down d * down e ≡ 0
     none z =
         ap (λ (x : ℕ). x * down d * down e) (quotient-none (m * up e) (down e) z)
@@ -250,9 +244,9 @@ module _ (s : Bool) (m : ℕ) (few : m < 16777216) where
 
 middle : (a b c d : Bool) → a && b && c && d ≡ true → (b ≡ true) × (c ≡ true)
 middle true true true d h = (refl, refl)
-middle true true false d h = absurd (never (sym h))
-middle true false c d h = absurd (never (sym h))
-middle false b c d h = absurd (never (sym h))
+middle true true false d h = absurd (false-is-true h)
+middle true false c d h = absurd (false-is-true h)
+middle false b c d h = absurd (false-is-true h)
 
 parts : (s : Bool) (m : ℕ) (e : ℤ) → fits binary32 (fin s (suc m) e) ≡ true → (suc m < 16777216) × (down e ≤ 2 ^ 149)
 unfolding fits
@@ -349,18 +343,19 @@ short-by sign q short lacks p w is = go p (leb q largestMove) refl is
     go false true e is = sym lacks
     go false false e is = sym lacks
 
-pub short-plus : (x : Float) → lt x (ofBits binary32 0) ≡ false → shortOf x ≡ plus (shortSize x)
+pub short-plus : (x : Float) → lt x (ofBits binary32 0) ≡ false → shortOf x ≡ withSign false (shortSize x)
 unfolding lt ofBits quartersOf shortOf shortSize
 short-plus nan h = refl
 short-plus (inf s) h = refl
-short-plus (fin false m e) h = short-by plus (m * up e * 4 / down e) refl refl (eqb (m * up e * 4 % down e) 0)
+short-plus (fin false m e) h = short-by (withSign false) (m * up e * 4 / down e) refl refl (eqb (m * up e * 4 % down e) 0)
     (signed.Plus (m * up e * 4 / down e)) (λ _. refl)
 short-plus (fin true m e) h =
     let a : m * up e * 1 + 0 * down e ≤ 0 = ltb-false _ _ h in
     let z : m * up e * 4 / down e ≡ 0 = quotient-none (m * up e * 4) (down e) (omega arith) in
-    short-by plus (m * up e * 4 / down e) refl refl (eqb (m * up e * 4 % down e) 0) (signedSize true (m * up e * 4 / down e)) (λ _. rw z)
+    short-by (withSign false) (m * up e * 4 / down e) refl refl (eqb (m * up e * 4 % down e) 0) (signedSize true (m * up e * 4 / down e))
+    (λ _. rw z)
 
-pub short-minus : (x : Float) → lt x (ofBits binary32 0) ≡ true → shortOf x ≡ minus (shortSize (neg x))
+pub short-minus : (x : Float) → lt x (ofBits binary32 0) ≡ true → shortOf x ≡ withSign true (shortSize (neg x))
 unfolding lt neg ofBits quartersOf shortOf shortSize
 short-minus nan h = refl
 short-minus (inf s) h = refl
@@ -369,7 +364,7 @@ short-minus (fin false m e) h =
     absurd (omega arith)
 short-minus (fin true m e) h =
     let a : 0 < m * up e * 1 + 0 * down e = ltb-true _ _ h in
-    short-by minus (m * up e * 4 / down e) refl refl (eqb (m * up e * 4 % down e) 0) (signedSize true (m * up e * 4 / down e))
+    short-by (withSign true) (m * up e * 4 / down e) refl refl (eqb (m * up e * 4 % down e) 0) (signedSize true (m * up e * 4 / down e))
     (λ p. some (m * up e * 4 / down e) (quotient-some (m * up e * 4) (down e) (omega arith) (eqb-true _ _ p)))
   where
     some : (q : ℕ) → (q ≡ 0 → ⊥) → signedSize true q ≡ signed.Minus q

@@ -4,10 +4,12 @@ ghost use mathlib.Core.Path.{_≡_};
 ghost use mathlib.Core.List.{_++_};
 ghost use Prim.Native.Nat.{_≤_};
 ghost use lib.ListN.{length, take, drop};
+ghost use Rattle.basics.specs.Bytes.{sameBytes, leNumber};
 ghost use Rattle.basics.specs.Fields.{Answers};
 ghost use Rattle.verdict.specs.declared.RowCount.the-variants.{Known, NotKnown};
-ghost use Rattle.slip.specs.Slip.{headSize, oldSize, slipSize, rowsPlace, versionPlace, mark, number, sameBytes, recorded};
+ghost use Rattle.slip.specs.Slip.{headSize, oldSize, slipSize, rowsPlace, versionPlace, mark, recorded};
 ghost use Rattle.slip.specs.Slip.{ifPossible, readSized, readVersion, slipWith, readOf, readFields, writeOf, writeFields, slipBuffer};
+use basics::same_bytes;
 use basics::u16_at;
 use basics::u32_at;
 use basics::wide;
@@ -57,11 +59,7 @@ fn is_marked(s: &[u8]) -> bool
     requires { ⌜ 3 ≤ length (now s) ⌝ }
     ensures { λ r. ⌜ r ≡ sameBytes (take 3 (now (s .entry))) mark ⌝ }
 {
-    if s[0] == b'X' {
-        if s[1] == b'A' { s[2] == b'V' } else { false }
-    } else {
-        false
-    }
+    same_bytes(&s[..3], b"XAV")
 }
 
 // The fields of a slip, unchecked, with a row count.
@@ -105,7 +103,7 @@ fn read_old(slip: &[u8]) -> SlipAnswer
 
 // A slip of version 2.
 fn read_new(slip: &[u8]) -> SlipAnswer
-    ensures { λ r. ⌜ r ≡ readSized slipSize (Known (number 4 (now (slip .entry)) rowsPlace)) (now (slip .entry)) ⌝ }
+    ensures { λ r. ⌜ r ≡ readSized slipSize (Known (leNumber 4 (now (slip .entry)) rowsPlace)) (now (slip .entry)) ⌝ }
 {
     if slip.len() == SIZE {
         let n = u32_at(slip, ROWS_AT);
@@ -118,7 +116,7 @@ fn read_new(slip: &[u8]) -> SlipAnswer
 // A slip whose mark is right, by its version.
 fn read_version(slip: &[u8]) -> SlipAnswer
     requires { ⌜ headSize ≤ length (now slip) ⌝ }
-    ensures { λ r. ⌜ r ≡ readVersion (number 2 (now (slip .entry)) versionPlace) (now (slip .entry)) ⌝ }
+    ensures { λ r. ⌜ r ≡ readVersion (leNumber 2 (now (slip .entry)) versionPlace) (now (slip .entry)) ⌝ }
 {
     let version = u16_at(slip, VERSION_AT);
     if version == OLD_VERSION {

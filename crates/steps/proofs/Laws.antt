@@ -2,12 +2,10 @@
 use mathlib.Core.Path.{_≡_, refl, sym, ap, _∙_, subst}
 use Prim.Native.Nat.{ℕ, zero, suc, _+_, _-_, _*_, _/_, _%_, _≤_, _<_}
 use native.Mathlib.Omega.{arith}
-use native.Mathlib.Numerals.{add-one}
 use mathlib.Core.List.{List, [], _∷_}
 use mathlib.Core.Bool.{Bool, true, false, cond, _&&_}
 use mathlib.Core.Option.{Option, none, some}
 use lib.ListN.{length, getD, drop}
-use lib.Seq.{drop-cons, drop-length}
 use lib.Dec.{eqb, leb}
 use borrow.Author.Tests.{eq-eqb, ne-eqb, eqb-true, le-leb, lt-leb}
 use Rattle.value.specs.declared.Num.{Num}
@@ -16,7 +14,8 @@ use Rattle.value.specs.declared.Signed.{Signed}
 use Rattle.value.specs.declared.Signed.the-variants as signed
 use Rattle.value.specs.Number.{usValues, isNumber}
 use Rattle.value.specs.Contracts.{SizeBelow}
-use Rattle.value.proofs.Laws.{usValues-length}
+use Rattle.value.proofs.Laws.{usValues-length, value-next, values-end}
+use Rattle.basics.proofs.Tests.{and-both}
 use Rattle.basics.specs.Vr.{SQ, US}
 use Rattle.node.specs.Nodes.{Node, nodeAt, nextNode, members, root, inside}
 use Rattle.node.specs.Find.{find, ofVr, andThen}
@@ -73,12 +72,6 @@ module _ (ns : List Node) (at end : ℕ) where
 
 -- ---- Values of a US, in pairs
 
-value-next : (v : List ℕ) (k : ℕ) → k < length v / 2 → drop k (usValues v) ≡ getD (usValues v) k 0 ∷ drop (k + 1) (usValues v)
-value-next v k h = rw (add-one k, drop-cons (usValues v) k 0 (omega (arith, usValues-length v)))
-
-pub values-end : (v : List ℕ) (k : ℕ) → k ≡ length v / 2 → drop k (usValues v) ≡ []
-values-end v k e = rw (e, ← usValues-length v) (drop-length (usValues v))
-
 module _ (f : ℕ) (v : List ℕ) (k : ℕ) where
   pub pairs-end : 2 * k ≡ length v / 2 → inPairs f (drop (2 * k) (usValues v)) ≡ false
   unfolding inPairs
@@ -103,14 +96,6 @@ values-some v h = le-leb 1 (length (usValues v)) (omega (arith, usValues-length 
 
 pub values-none : (v : List ℕ) → length v < 2 → leb 1 (length (usValues v)) ≡ false
 values-none v h = lt-leb 1 (length (usValues v)) (omega (arith, usValues-length v))
-
--- ---- Tests one after the other
-
-pub both : {a b r : Bool} → a ≡ true → b ≡ r → (a && b) ≡ r
-both e f = rw e f
-
-pub not-first : {a : Bool} (b : Bool) → a ≡ false → (a && b) ≡ false
-not-first b e = rw e
 
 -- ---- Walks
 
@@ -165,15 +150,11 @@ module _ (ns : List Node) (f : ℕ) where
   pub found-given : GivesItem ns f → (r : Applying) → ifRead ns f r ≡ firstHolding ns f (maskItems ns) → applyingTo ns f ≡ some r
   found-given g r h = by-found (applyingTo ns f) r g (among-items g ∙ sym h)
 
-second : (a b : Bool) → (a && b) ≡ true → b ≡ true
-second true b e = e
-second false b e = let x : _≡_ {A = ℕ} 0 1 = cc in absurd (omega arith)
-
 -- A node that holds pairs holds whole ones.
 pub pairs-whole : (ns : List Node) (i : ℕ) → hasPairs ns i ≡ true → length (valueAt ns i) % 4 ≡ 0
 pairs-whole ns i e =
-    eqb-true (length (valueAt ns i) % 4) 0 (second (leb 4 (length (valueAt ns i))) (eqb (length (valueAt ns i) % 4) 0)
-    (second (eqb (nodeAt ns i .vr) US) (leb 4 (length (valueAt ns i)) && eqb (length (valueAt ns i) % 4) 0) e))
+    let pairs = and-both (eqb (nodeAt ns i .vr) US) (leb 4 (length (valueAt ns i)) && eqb (length (valueAt ns i) % 4) 0) e .1 in
+    eqb-true (length (valueAt ns i) % 4) 0 (and-both (leb 4 (length (valueAt ns i))) (eqb (length (valueAt ns i) % 4) 0) pairs .1)
 
 module _ (ns : List Node) (id at to : ℕ) where
   pub naming-end : to ≤ at → naming ns id (members ns at to) ≡ some None

@@ -1,6 +1,6 @@
 -- A number that was read as n thousandths is read as 1000 n millionths.
 use mathlib.Core.Path.{_≡_, refl, ap, _∙_}
-use mathlib.Core.Bool.{Bool, true, false, cond, not}
+use mathlib.Core.Bool.{Bool, true, false, cond, not, _||_, false≢true}
 use mathlib.Core.List.{List, [], _∷_}
 use Prim.Native.Nat.{ℕ, zero, suc, _+_, _-_, _*_, _^_, _≤_, _<_}
 use native.Mathlib.Nat.{mul-left-comm, one-le-pow}
@@ -14,7 +14,7 @@ use Rattle.value.specs.declared.Num.the-variants as num
 use Rattle.value.specs.declared.Signed.{Signed}
 use Rattle.value.specs.Text.{trimmed}
 use Rattle.value.specs.Number as current
-use Rattle.value.specs.Number.{Digits, isDigit, digitsOf, plus, minus, signedBy, runOf, ifSmall, exactOf, endOf, isNumber}
+use Rattle.value.specs.Number.{Digits, isDigit, digitsOf, afterSign, isMinus, withSign, signedBy, runOf, ifSmall, exactOf, endOf, isNumber}
 use Rattle.value.proofs.Runs.{digits-size, digits-below}
 use Rattle.value.proofs.Powers.{within-is, exact-up}
 use Rattle.thousandths.specs.Number.{decimals, pointOn, fractionOn, sizeOf, decimalOf, scaled}
@@ -26,9 +26,6 @@ abbrev stops : List ℕ → Bool
 stops [] = true
 stops (c ∷ s) = not (isDigit c)
 
-differ : false ≡ true → ⊥
-differ e = let z : _≡_ {A = ℕ} 0 1 = cc in omega arith
-
 -- Where the digits ended before the limit, a larger limit reads the same.
 same-digits : (limit more n k : ℕ) (s : List ℕ) → stops (digitsOf limit n k s .rest) ≡ true → length s ≤ more
     → digitsOf more n k s ≡ digitsOf limit n k s
@@ -39,7 +36,7 @@ same-digits zero (suc more) n k (c ∷ s) e h = go (isDigit c) e
   where
     go : (t : Bool) → not t ≡ true → cond t (digitsOf more (10 * n + (c - 0x30)) (k + 1) s) (record { number = n; count = k; rest = c ∷ s })
         ≡ record { number = n; count = k; rest = c ∷ s }
-    go true e = absurd (differ e)
+    go true e = absurd (false≢true e)
     go false e = refl
 same-digits (suc limit) zero n k [] e h = refl
 same-digits (suc limit) (suc more) n k [] e h = refl
@@ -183,28 +180,25 @@ record SignedReads (s : List ℕ) (old : Signed) : Type 0 where
   pub is : signedBy current.sizeOf s ≡ scaled old
   pub short : length s ≤ 11
 
-plus-reads : (s : List ℕ) (o : Num) → sizeOf s ≡ o → isNumber (plus o) ≡ true
-    → (plus (current.sizeOf s) ≡ scaled (plus o)) × (length s ≤ 10)
-plus-reads s (num.Is n) q e = let r = reads s n q in (ap plus (r .is), r .short)
-plus-reads s num.None q e = absurd (differ e)
+sign-reads : (minus : Bool) (t : List ℕ) (o : Num) → sizeOf t ≡ o → isNumber (withSign minus o) ≡ true
+    → (withSign minus (current.sizeOf t) ≡ scaled (withSign minus o)) × (length t ≤ 10)
+sign-reads true t (num.Is n) q e = let r = reads t n q in (ap (withSign true) (r .is), r .short)
+sign-reads false t (num.Is n) q e = let r = reads t n q in (ap (withSign false) (r .is), r .short)
+sign-reads minus t num.None q e = absurd (false≢true e)
 
-minus-reads : (s : List ℕ) (o : Num) → sizeOf s ≡ o → isNumber (minus o) ≡ true
-    → (minus (current.sizeOf s) ≡ scaled (minus o)) × (length s ≤ 10)
-minus-reads s (num.Is n) q e = let r = reads s n q in (ap minus (r .is), r .short)
-minus-reads s num.None q e = absurd (differ e)
+after-long : (s : List ℕ) → length s ≤ length (afterSign s) + 1
+after-long [] = omega arith
+after-long (c ∷ s) = go (eqb c 0x2B || eqb c 0x2D)
+  where
+    go : (t : Bool) → suc (length s) ≤ length (cond t s (c ∷ s)) + 1
+    go true = omega arith
+    go false = omega arith
 
 signed-reads : (s : List ℕ) → isNumber (signedBy sizeOf s) ≡ true → SignedReads s (signedBy sizeOf s)
 unfolding signedBy
-signed-reads [] e = let p = plus-reads [] (sizeOf []) refl e in record { is = p .0; short = omega arith }
-signed-reads (c ∷ s) e = go (eqb c 0x2B) (eqb c 0x2D) refl refl e
-  where
-    go : (p m : Bool) → eqb c 0x2B ≡ p → eqb c 0x2D ≡ m
-        → isNumber (cond p (plus (sizeOf s)) (cond m (minus (sizeOf s)) (plus (sizeOf (c ∷ s))))) ≡ true
-        → SignedReads (c ∷ s) (cond p (plus (sizeOf s)) (cond m (minus (sizeOf s)) (plus (sizeOf (c ∷ s)))))
-    go true m p q e = let r = plus-reads s (sizeOf s) refl e in record { is = rw p (r .0); short = omega (arith, r .1) }
-    go false true p q e = let r = minus-reads s (sizeOf s) refl e in record { is = rw (p, q) (r .0); short = omega (arith, r .1) }
-    go false false p q e = let r = plus-reads (c ∷ s) (sizeOf (c ∷ s)) refl e in
-        record { is = rw (p, q) (r .0); short = omega (arith, r .1) }
+signed-reads s e =
+    let r = sign-reads (isMinus s) (afterSign s) (sizeOf (afterSign s)) refl e in
+    record { is = r .0; short = omega (arith, r .1, after-long s) }
 
 pub numbers : (v : List ℕ) → isNumber (decimalOf v) ≡ true → current.decimalOf v ≡ scaled (decimalOf v)
 unfolding decimalOf current.decimalOf

@@ -52,7 +52,11 @@ number None = 0
 unfoldable pub shadeAt : Window → ℕ → Bool → ℕ → ℕ
 shadeAt window stored inverse i = number (shaded inverse (levelOf window (pos (i + 2 ^ (stored - 1)) -ℤ pos (2 ^ stored - 1))))
 
+-- How many places a table of levels has: 2^17, more than two samples of 16 bits have differences.
+abbrev pub shadePlaces : ℕ
+shadePlaces = 131072
+
 -- A table whose first n places are those of f.
 pub record Filled (f : ℕ → ℕ) (n : ℕ) (s : List ℕ) : Type 0 where
-  pub size : length s ≡ 131072
+  pub size : length s ≡ shadePlaces
   pub value : (i : ℕ) → i < n → getD s i 0 ≡ f i
