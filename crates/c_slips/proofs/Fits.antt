@@ -6,6 +6,7 @@ use Prim.Native.Nat.{ℕ, _≤_, _<_}
 use native.Mathlib.Omega.{arith}
 use lib.Dec.{eqb, leb}
 use lib.ListN.{length, take}
+use Rattle.basics.specs.Bytes.{sameBytes, leNumber}
 use Rattle.verdict.specs.Verdict.{possible, writable}
 use Rattle.verdict.specs.declared.RowCount.{RowCount}
 use Rattle.verdict.specs.declared.RowCount.the-variants.{Known, NotKnown}
@@ -15,7 +16,7 @@ use Rattle.slip.specs.declared.SlipAnswer.{SlipAnswer}
 use Rattle.slip.specs.declared.SlipAnswer.the-variants as read
 use Rattle.slip.specs.declared.WriteAnswer.{WriteAnswer}
 use Rattle.slip.specs.declared.WriteAnswer.the-variants as write
-use Rattle.slip.specs.Slip.{mark, version, oldVersion, versionPlace, rowsPlace, headSize, oldSize, slipSize, number, sameBytes, recorded}
+use Rattle.slip.specs.Slip.{mark, version, oldVersion, versionPlace, rowsPlace, headSize, oldSize, slipSize, recorded}
 use Rattle.slip.specs.Slip.{ifPossible, readSized, readVersion, readOf, readFields, writeOf, writeFields}
 use Rattle.slip.proofs.Slips.{slips}
 use Rattle.c_slips.specs.Slips.{rowsNumber}
@@ -46,16 +47,16 @@ sized-code size rows s = go (eqb (length s) size) (possible (recorded s rows))
 read-code : (s : List ℕ) → readFields (readOf s) .code ≤ 14
 unfolding readOf readVersion
 read-code s =
-    go (leb headSize (length s) && sameBytes (take 3 s) mark) (eqb (number 2 s versionPlace) oldVersion)
-    (eqb (number 2 s versionPlace) version)
+    go (leb headSize (length s) && sameBytes (take 3 s) mark) (eqb (leNumber 2 s versionPlace) oldVersion)
+    (eqb (leNumber 2 s versionPlace) version)
   where
     go : (a b d : Bool)
         → readFields (cond (not a) (read.Refused 12)
-        (cond b (readSized oldSize NotKnown s) (cond d (readSized slipSize (Known (number 4 s rowsPlace)) s) (read.Refused 13)))) .code
+        (cond b (readSized oldSize NotKnown s) (cond d (readSized slipSize (Known (leNumber 4 s rowsPlace)) s) (read.Refused 13)))) .code
         ≤ 14
     go false b d = omega arith
     go true true d = sized-code oldSize NotKnown s
-    go true false true = sized-code slipSize (Known (number 4 s rowsPlace)) s
+    go true false true = sized-code slipSize (Known (leNumber 4 s rowsPlace)) s
     go true false false = omega arith
 
 pub slip-code : {a b : SlipAnswer} (s : List ℕ) → a ≡ readOf s → a ≡ b → readFields b .code ≤ 14
