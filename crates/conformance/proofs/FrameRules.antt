@@ -10,6 +10,7 @@ use lib.Dec.{eqb, leb}
 use borrow.Author.Tests.{le-leb, eqb-true, eqb-false, leb-true}
 use Rattle.value.specs.declared.Num.{Num}
 use Rattle.value.specs.declared.Num.the-variants.{Is, None}
+use Rattle.basics.proofs.Tests.{false-is-true}
 use Rattle.verdict.specs.Verdict.{perFrame}
 use Rattle.node.specs.Nodes.{Node, inside}
 use Rattle.node.specs.Find.{holds, ifPresent, orElse, find, holdsOr}
@@ -24,9 +25,6 @@ use Rattle.rules.specs.Intensity.{isLutGroup, hasLinear, isLog, item39, rule39}
 use Rattle.rules.specs.All.{ruleList, ruleAt}
 use Rattle.intensity.specs.Contracts.{grade, gradeOn, agree, relationOf, tableOf, relationIn, tableIn}
 use Rattle.rules_frame.specs.Contracts.{groupTag, groupFits, groupIn, itemBy, itemGrades, itemRule}
-
-true-not-false : true ≡ false → ⊥
-true-not-false w = let u : _≡_ {A = ℕ} 0 1 = cc in omega arith
 
 -- What is asked of the items may be put in other words.
 at-same : (ns : List Node) (f : ℕ) (p q : ℕ → ℕ → Bool) → ((s i : ℕ) → p s i ≡ q s i) → atFrame ns f p ≡ atFrame ns f q
@@ -140,10 +138,10 @@ module _ (ns : List Node) (f : ℕ) where
       range : (a b c d : Bool) → leb 27 rule ≡ a → leb rule 30 ≡ b → c ≡ false → d ≡ false → (a && b) || (c || d) ≡ true
           → (27 ≤ rule) × (rule ≤ 30)
       range true true c d x y z u t = (leb-true 27 rule x, leb-true rule 30 y)
-      range true false true d x y z u t = absurd (true-not-false z)
-      range true false false d x y z u t = absurd (true-not-false (sym t ∙ u))
-      range false b true d x y z u t = absurd (true-not-false z)
-      range false b false d x y z u t = absurd (true-not-false (sym t ∙ u))
+      range true false true d x y z u t = absurd (false-is-true (sym z))
+      range true false false d x y z u t = absurd (false-is-true (sym u ∙ t))
+      range false b true d x y z u t = absurd (false-is-true (sym z))
+      range false b false d x y z u t = absurd (false-is-true (sym u ∙ t))
 
       go : (a : Bool) → eqb rule 37 ≡ a → (z : Bool) → eqb rule 39 ≡ z → (b : Bool) → eqb rule 27 ≡ b → (c : Bool) → eqb rule 28 ≡ c
           → (d : Bool) → eqb rule 29 ≡ d → (e : Bool) → eqb rule 30 ≡ e → Goal rule

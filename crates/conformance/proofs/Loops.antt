@@ -8,6 +8,7 @@ use lib.ListN.{drop}
 use lib.Seq.{drop-drop}
 use lib.Dec.{eqb, leb}
 use borrow.Author.Tests.{le-leb, leb-true, leb-false, eqb-true, eqb-false}
+use Rattle.basics.proofs.Tests.{false-is-true}
 use Rattle.verdict.specs.Verdict.{lastRule, perFrame}
 use Rattle.node.specs.Nodes.{Node, members}
 use Rattle.element.specs.declared.Items.{Items}
@@ -20,9 +21,6 @@ use Rattle.conformance.specs.Judging.{numberOf, firstFrame, frameCount, 
 use Rattle.conformance.specs.Contracts.{endRule, endFrame, Asked}
 
 -- ---- Which rules are asked once
-
-true-not-false : true ≡ false → ⊥
-true-not-false w = let u : _≡_ {A = ℕ} 0 1 = cc in omega arith
 
 is-per-frame-range : (rule : ℕ) → 27 ≤ rule → rule ≤ 30 → perFrame rule ≡ true
 unfolding perFrame
@@ -41,14 +39,14 @@ pub once-mask : (rule : ℕ) → perFrame rule ≡ false → 26 < rule → 31 �
 once-mask rule h l = go (leb rule 30) refl
   where
     go : (b : Bool) → leb rule 30 ≡ b → 31 ≤ rule
-    go true e = absurd (true-not-false (sym (is-per-frame-range rule (omega arith) (leb-true rule 30 e)) ∙ h))
+    go true e = absurd (false-is-true (sym h ∙ is-per-frame-range rule (omega arith) (leb-true rule 30 e)))
     go false e = omega (arith, leb-false rule 30 e)
 
 pub once-last : (rule : ℕ) → perFrame rule ≡ false → 36 < rule → rule ≤ lastRule → rule ≡ 38
 once-last rule h l m = go (eqb rule 37) refl (eqb rule 39) refl
   where
     not : (k : ℕ) → perFrame k ≡ true → eqb rule k ≡ true → ⊥
-    not k p e = true-not-false (sym p ∙ subst (λ (x : ℕ). perFrame x ≡ false) (eqb-true rule k e) h)
+    not k p e = false-is-true (sym (subst (λ (x : ℕ). perFrame x ≡ false) (eqb-true rule k e) h) ∙ p)
 
     go : (b : Bool) → eqb rule 37 ≡ b → (c : Bool) → eqb rule 39 ≡ c → rule ≡ 38
     go true e c f = absurd (not 37 is-per-frame-37 e)
@@ -113,7 +111,7 @@ module _ (ns : List Node) where
       }
     where
       zero-frame : (t : Bool) → t ≡ false → frame < cond t (n + 1) 1 → frame ≡ 0
-      zero-frame true q l = absurd (true-not-false q)
+      zero-frame true q l = absurd (false-is-true (sym q))
       zero-frame false q l = omega arith
 
   pub along-start : {c : Items} (a : ℕ) → Along ns (frameItems ns) c → Along ns (drop (a - a) (frameItems ns)) c

@@ -1,7 +1,7 @@
 -- What a call that judges first says of the judge's answer: an accepted object with room for its rows is answered as accepted,
 -- and a call whose code is 0 was answered so. It serves every call that keeps the judge's codes.
 use mathlib.Core.Path.{_≡_, refl, ap, subst}
-use mathlib.Core.Bool.{Bool, true, false, cond, _&&_}
+use mathlib.Core.Bool.{Bool, true, false, cond}
 use mathlib.Core.List.{List}
 use Prim.Native.Nat.{ℕ, _*_, _≤_}
 use native.Mathlib.Omega.{arith}
@@ -13,6 +13,7 @@ use Rattle.dataset.specs.Answer.{width, answerOf}
 use Rattle.dataset.specs.Tree.{rowsIn, rowsOf}
 use Rattle.dataset.specs.declared.ReadAnswer.the-variants as answer
 use Rattle.dataset.proofs.Laws.{Small, answer-small}
+use Rattle.basics.proofs.Tests.{and-both}
 use Rattle.node.specs.Nodes.{nodesOf}
 use Rattle.element.specs.Frames.{framesOf}
 use Rattle.conformance.specs.declared.Finding.{Finding}
@@ -23,10 +24,6 @@ use Rattle.conformance.specs.Judging.{numberOf, findingOf, answerFor, judgeOf}
 use Rattle.display.specs.Show.{isFrameOf}
 use Rattle.display.specs.Drawing.{IsAccepted, IsFrame}
 
-both : (p q : Bool) → p && q ≡ true → (p ≡ true) × (q ≡ true)
-both true q h = (refl, h)
-both false q h = let z : _≡_ {A = ℕ} 0 1 = cc in absurd (omega arith)
-
 room-answer : (rows : List Row) (buffer : List ℕ) → width * length rows ≤ length buffer
     → answerOf (read rows) buffer ≡ answer.Done (length rows)
 room-answer rows buffer h = rw (le-leb (width * length rows) (length buffer) h)
@@ -34,7 +31,7 @@ room-answer rows buffer h = rw (le-leb (width * length rows) (length buffer) h)
 -- The number that passes the test of code 10 is that of a frame.
 pub was-frame : (s : List ℕ) (f : ℕ) → isFrameOf (nodesOf s) f ≡ true → IsFrame s f
 was-frame s f e =
-    let b = both (leb 1 f) (leb f (numberOf (framesOf (nodesOf s)))) e in
+    let b = and-both (leb 1 f) (leb f (numberOf (framesOf (nodesOf s)))) e in
     record { low = leb-true 1 f (b .0); high = leb-true f (numberOf (framesOf (nodesOf s))) (b .1) }
 
 -- A call's code by the judge's answer: the judge's own, but where the object is accepted.

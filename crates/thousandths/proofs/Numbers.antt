@@ -9,6 +9,7 @@ use lib.ListN.{length}
 use lib.Pow.{pow-add}
 use lib.Dec.{eqb}
 use borrow.Author.Tests.{ne-eqb, eqb-true, eqb-false, le-leb}
+use Rattle.basics.proofs.Tests.{false-is-true}
 use Rattle.value.specs.declared.Num.{Num}
 use Rattle.value.specs.declared.Num.the-variants as num
 use Rattle.value.specs.declared.Signed.{Signed}
@@ -26,9 +27,6 @@ abbrev stops : List ℕ → Bool
 stops [] = true
 stops (c ∷ s) = not (isDigit c)
 
-differ : false ≡ true → ⊥
-differ e = let z : _≡_ {A = ℕ} 0 1 = cc in omega arith
-
 -- Where the digits ended before the limit, a larger limit reads the same.
 same-digits : (limit more n k : ℕ) (s : List ℕ) → stops (digitsOf limit n k s .rest) ≡ true → length s ≤ more
     → digitsOf more n k s ≡ digitsOf limit n k s
@@ -39,7 +37,7 @@ same-digits zero (suc more) n k (c ∷ s) e h = go (isDigit c) e
   where
     go : (t : Bool) → not t ≡ true → cond t (digitsOf more (10 * n + (c - 0x30)) (k + 1) s) (record { number = n; count = k; rest = c ∷ s })
         ≡ record { number = n; count = k; rest = c ∷ s }
-    go true e = absurd (differ e)
+    go true e = absurd (false-is-true e)
     go false e = refl
 same-digits (suc limit) zero n k [] e h = refl
 same-digits (suc limit) (suc more) n k [] e h = refl
@@ -186,12 +184,12 @@ record SignedReads (s : List ℕ) (old : Signed) : Type 0 where
 plus-reads : (s : List ℕ) (o : Num) → sizeOf s ≡ o → isNumber (plus o) ≡ true
     → (plus (current.sizeOf s) ≡ scaled (plus o)) × (length s ≤ 10)
 plus-reads s (num.Is n) q e = let r = reads s n q in (ap plus (r .is), r .short)
-plus-reads s num.None q e = absurd (differ e)
+plus-reads s num.None q e = absurd (false-is-true e)
 
 minus-reads : (s : List ℕ) (o : Num) → sizeOf s ≡ o → isNumber (minus o) ≡ true
     → (minus (current.sizeOf s) ≡ scaled (minus o)) × (length s ≤ 10)
 minus-reads s (num.Is n) q e = let r = reads s n q in (ap minus (r .is), r .short)
-minus-reads s num.None q e = absurd (differ e)
+minus-reads s num.None q e = absurd (false-is-true e)
 
 signed-reads : (s : List ℕ) → isNumber (signedBy sizeOf s) ≡ true → SignedReads s (signedBy sizeOf s)
 unfolding signedBy

@@ -4,7 +4,7 @@ use mathlib.Core.Option.{Option, some}
 use mathlib.Core.Bool.{Bool, true, false, cond}
 use mathlib.Core.List.{List}
 use Prim.Native.Nat.{ℕ, zero, suc, _+_, _*_, _-_, _/_, _^_, _≤_, _<_}
-use native.Mathlib.Nat.{div-lt-iff-lt-mul, pow-le-pow-right}
+use native.Mathlib.Nat.{div-lt-iff-lt-mul, pow-le-pow-right, pow-suc}
 use native.Mathlib.Omega.{arith}
 use lib.Dec.{ltb, leb}
 use lib.IntN.{ℤ, pos, negsuc, _+ℤ_, _-ℤ_, _*ℤ_}
@@ -12,6 +12,7 @@ use lib.ListN.{length, getD, set, length-set}
 use lib.Seq.{getD-set-same, getD-set-other}
 use lib.Signed.{leZ, ltZ}
 use borrow.Author.Tests.{ltb-true, ltb-false, lt-ltb, leb-true, leb-false}
+use Rattle.basics.proofs.Tests.{false-is-true}
 use Rattle.value.specs.declared.Num.the-variants.{Is}
 use Rattle.value.specs.declared.Signed.{Signed}
 use Rattle.value.specs.declared.Signed.the-variants as signed
@@ -37,15 +38,10 @@ pub record Sizes (w : Window) : Type 0 where
   pub high : above (w .center) < sizeLimit
   pub low : below (w .center) < sizeLimit
 
-differ : false ≡ true → ⊥
-differ e =
-    let z : _≡_ {A = ℕ} 0 1 = cc in
-    omega arith
-
 is-wide : (least : ℕ) (s : Signed) → isWidth least s ≡ true → least ≤ above s
 is-wide least (signed.Plus n) e = leb-true least n e
-is-wide least (signed.Minus n) e = absurd (differ e)
-is-wide least signed.None e = absurd (differ e)
+is-wide least (signed.Minus n) e = absurd (false-is-true e)
+is-wide least signed.None e = absurd (false-is-true e)
 
 off-least : (f : Function) → (takenOff f ≤ leastWidth f) × (0 < leastWidth f)
 off-least function.Linear = (omega arith, omega arith)
@@ -298,6 +294,11 @@ filled-more f n s t l = record { size = length-set s n (f n) ∙ t .size; value 
 
 pub power-small : (n k : ℕ) → n ≤ k → 2 ^ n ≤ 2 ^ k
 power-small n k h = pow-le-pow-right {n = 2} (omega arith) {i = n} {j = k} h
+
+pub power-twice : (n : ℕ) → 2 ^ (n + 1) ≡ 2 ^ n + 2 ^ n
+power-twice n =
+    let e : n + 1 ≡ suc n = omega arith in
+    rw (e, pow-suc 2 n) (omega arith)
 
 -- The shade of a level.
 abbrev pub shadeNumber : Bool → ℕ → ℕ
