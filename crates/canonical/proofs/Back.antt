@@ -1,6 +1,6 @@
 -- From the bytes of a shape to their reading: what stands at each header, then level by level.
 use mathlib.Core.Path.{_≡_, refl, sym, ap, _∙_, subst}
-use mathlib.Core.Bool.{Bool, true, false, cond}
+use mathlib.Core.Bool.{Bool, true, false}
 use Prim.Native.Nat.{ℕ, zero, suc, _+_, _-_, _*_, _/_, _%_, _≤_, _<_}
 use native.Mathlib.Omega.{arith}
 use borrow.Author.Tests.{eqb-true, eq-eqb, ne-eqb, le-ltb}
@@ -22,7 +22,7 @@ use Rattle.dataset.proofs.Level.{level-on, level-end, value-plain}
 use Rattle.node.specs.Nodes.{Node, nodeOf}
 use Rattle.canonical.specs.Written.{letters, lengthOf, header, headSize}
 use Rattle.canonical.proofs.Shape.{Tag, Shape, none, leaf, sequence, item, Form, no, short, long, form, vr-not-0, length-header}
-use Rattle.canonical.proofs.Shape.{shape-even, head-short, head-long, sq-long, item-short, node}
+use Rattle.canonical.proofs.Shape.{shape-even, head-short, head-long, head-least, sq-long, item-short, node}
 
 -- ---- Numbers that were written
 
@@ -169,14 +169,6 @@ item-back t at end size more here even small fits =
 
 -- ---- Level by level
 
-head-eight : (vr : ℕ) → 8 ≤ headSize vr
-unfolding headSize
-head-eight vr = go (eqb (formOf vr) 2)
-  where
-    go : (b : Bool) → 8 ≤ cond b 12 8
-    go true = omega arith
-    go false = omega arith
-
 past : (t : List ℕ) (at n : ℕ) (xs ys : List ℕ) → drop at t ≡ xs ++ ys → length xs ≡ n → drop (at + n) t ≡ ys
 past t at n xs ys here e = sym (drop-drop n at t) ∙ ap (λ (l : List ℕ). drop n l) here ∙ drop-at xs ys n e
 
@@ -294,7 +286,7 @@ module _ (t : List ℕ) (small : length t ≤ largest) where
       (value-plain levels t (first + length before + 1) vr (cursor (at + k) stop false) (l .plain)) refl
       (leaf-node t tag vr (depths - levels) (at + k) (stop - (at + k)) first value (after ++ post) (l .plain) (vr-not-0 vr (l .known))
       (d .at-inner) (omega arith))
-      (omega (arith, head-eight vr)) (omega arith) f
+      (omega (arith, head-least vr)) (omega arith) f
       (λ turns before w. shape-comes r first stop end turns post before (d .at-after) z q w)
   shape-comes (sequence {levels} {least} {tag} {below} {rest} {inner} {after} h g b r) first at end turns post before here e q f =
       let k : ℕ = headSize SQ in
@@ -312,7 +304,7 @@ module _ (t : List ℕ) (small : length t ≤ largest) where
       (λ y. absurd (omega (arith, sq-long))) (λ y. absurd (omega (arith, sq-long))) (omega arith) (omega arith))
       (value-sq levels t (first + length before + 1) (cursor (at + k) stop false) ∙ c .is) (c .nodes)
       (ap (λ (n : ℕ). node tag SQ (depths - suc levels) n []) (count t (c .rows) below (c .nodes)))
-      (omega (arith, head-eight SQ)) (omega arith) f
+      (omega (arith, head-least SQ)) (omega arith) f
       (λ turns before w. shape-comes r first stop end turns post before (d .at-after) z q w)
   shape-comes (item {levels} {least} {below} {rest} {inner} {after} b r) first at end turns post before here e q f =
       let stop : ℕ = at + 8 + length inner in

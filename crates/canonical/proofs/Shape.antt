@@ -5,7 +5,7 @@ use mathlib.Core.Bool.{Bool, true, false, cond}
 use Prim.Native.Nat.{ℕ, zero, suc, _+_, _-_, _/_, _%_, _≤_, _<_}
 use native.Mathlib.Omega.{arith}
 use native.Mathlib.Nat.{zero-add, add-zero}
-use borrow.Author.Tests.{eqb-true}
+use borrow.Author.Tests.{ne-eqb, eqb-true}
 use lib.Dec.{eqb}
 use mathlib.Core.List.{List, [], _∷_, _++_, append-assoc, append-nil}
 use lib.ListN.{length, take, length-append}
@@ -14,6 +14,7 @@ use Rattle.dataset.specs.Reading.{depths}
 use Rattle.basics.specs.Vr.{formOf, listed, SQ}
 use Rattle.dataset.specs.Header.{itemTag}
 use Rattle.dataset.specs.Tree.{Kind, elements, items}
+use Rattle.dataset.proofs.Laws.{item-formless}
 use Rattle.node.specs.Nodes.{Node}
 use Rattle.canonical.specs.Written.{letters, lengthOf, header, headSize, ownSize, writtenSize, nodeBytes, writtenOf}
 use Rattle.basics.specs.Bytes.{IsBytes, le}
@@ -73,12 +74,8 @@ form vr = go (listed _ vr) (listed _ vr) refl
     go false true e = short e
     go false false e = no e
 
-formless : (vr : ℕ) → vr ≡ 0 → formOf vr ≡ 0
-unfolding formOf listed
-formless vr e = rw e
-
 pub vr-not-0 : (vr : ℕ) → (formOf vr ≡ 0 → ⊥) → vr ≡ 0 → ⊥
-vr-not-0 vr n e = n (formless vr e)
+vr-not-0 vr n e = n (item-formless vr e)
 
 pub head-short : (vr : ℕ) → formOf vr ≡ 1 → headSize vr ≡ 8
 unfolding headSize
@@ -87,6 +84,18 @@ head-short vr f = rw f
 pub head-long : (vr : ℕ) → formOf vr ≡ 2 → headSize vr ≡ 12
 unfolding headSize
 head-long vr f = rw f
+
+pub head-else : (vr : ℕ) → (formOf vr ≡ 2 → ⊥) → headSize vr ≡ 8
+unfolding headSize
+head-else vr f = rw (ne-eqb (formOf vr) 2 f)
+
+pub head-least : (vr : ℕ) → 8 ≤ headSize vr
+unfolding headSize
+head-least vr = go (eqb (formOf vr) 2)
+  where
+    go : (b : Bool) → 8 ≤ cond b 12 8
+    go true = omega arith
+    go false = omega arith
 
 pub sq-long : formOf SQ ≡ 2
 unfolding formOf listed
@@ -103,7 +112,7 @@ length-header tag vr size = go (eqb vr 0) refl (eqb (formOf vr) 2) refl
     go : (a : Bool) → eqb vr 0 ≡ a → (b : Bool) → eqb (formOf vr) 2 ≡ b
         → length (le 2 (tag / 65536) ++ (le 2 (tag % 65536) ++ cond a (le 4 size) (letters vr ++ cond b (le 2 0 ++ le 4 size) (le 2 size))))
         ≡ cond b 12 8
-    go true e true f = absurd (omega (arith, formless vr (eqb-true vr 0 e), eqb-true (formOf vr) 2 f))
+    go true e true f = absurd (omega (arith, item-formless vr (eqb-true vr 0 e), eqb-true (formOf vr) 2 f))
     go true e false f = refl
     go false e true f = refl
     go false e false f = refl

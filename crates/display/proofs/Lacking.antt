@@ -31,7 +31,8 @@ use Rattle.element.specs.Frames.{framesOf}
 use Rattle.conformance.specs.declared.Finding.the-variants.{Accepted}
 use Rattle.conformance.specs.Judging.{numberOf, findingOf}
 use Rattle.display.specs.Show.{imageSize}
-use Rattle.display.proofs.Given.{never}
+use Rattle.steps.proofs.Given.{never}
+use Rattle.steps.proofs.Laws.{to-picture}
 use Rattle.display.specs.Drawing.{AllLevels, Whole}
 use Rattle.display.proofs.Small.{us-in-small}
 use Rattle.display.proofs.Objects.{object, windowed}
@@ -121,13 +122,12 @@ pub record Drawn (ns : List Node) (f : ℕ) (g : Geometry) : Type 0 where
 
 module _ (ns : List Node) (f : ℕ) (o : Object ns) (low : 1 ≤ f) (high : f ≤ o .n) (w : Windowed ns f (o .g .stored))
     (k : Masking ns f (o .n)) where
-  to-picture : stepsOf ns f ≡ pictureBy (o .g) (o .v) f (w .w) (o .inverse) (k .m)
-  unfolding stepsOf
-  to-picture = rw (o .geometry, o .pixels, o .whole f low high, k .mask, w .window, o .photometric)
-
   pub drawn : Drawn ns f (o .g)
   unfolding pictureBy
-  drawn = go (k .m) (k .sound) to-picture
+  drawn =
+      go (k .m) (k .sound)
+      (to-picture ns f (o .g) (o .v) (w .w) (o .inverse) (o .geometry) (o .pixels) (o .whole f low high) (w .window) (o .photometric) (k .m)
+      (k .mask))
     where
       go : (m : Mask) → Sound (o .n) m → stepsOf ns f ≡ pictureBy (o .g) (o .v) f (w .w) (o .inverse) m → Drawn ns f (o .g)
       go noMask s e =

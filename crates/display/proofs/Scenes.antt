@@ -29,7 +29,7 @@ use Rattle.steps.specs.Given.{check}
 use Rattle.steps.specs.Steps.{Picture, geometryOf, pixelsOf, maskFor}
 use Rattle.display.specs.Show.{imageSize, pictureIn, pictureOf}
 use Rattle.display.specs.Drawing.{Whole}
-use Rattle.display.proofs.Given.{never, check-some}
+use Rattle.steps.proofs.Given.{never, same-some, check-some}
 use Rattle.display.proofs.Lacking.{nothing-lacks}
 use Rattle.display.proofs.Accepted.{Windowed}
 use Rattle.display.proofs.Whole as whole
@@ -82,7 +82,7 @@ objects s n f h low high = whole.all s (h .bytes) (h .sound) f n (h .frames) low
 
 module _ (ns : List Node) (f n : ℕ) (g : Geometry) (a : whole.All ns f n) (e : geometryOf ns ≡ some g) where
   same-geometry : a .o .g ≡ g
-  same-geometry = whole.same-some (a .o .geometry) e
+  same-geometry = same-some (a .o .geometry) e
 
   pub stored-most : g .stored ≤ 16
   stored-most = subst (λ (x : Geometry). x .stored ≤ 16) same-geometry (a .o .stored-high)

@@ -36,6 +36,8 @@ use Rattle.element.specs.Frames.{framesOf, frameItem}
 use Rattle.conformance.specs.declared.Finding.the-variants as finding
 use Rattle.conformance.specs.Judging.{findingOf}
 use Rattle.window.specs.Contracts.{Drawable}
+use Rattle.node.specs.Contracts.{Table}
+use Rattle.display.specs.Show.{imageSize}
 use Rattle.display.specs.declared.Scene.{Scene}
 use Rattle.display.specs.declared.Plan.{Plan}
 
@@ -135,6 +137,14 @@ pub record IsObject (s : List ℕ) (n : ℕ) : Type 0 where
   pub sound : findingOf (nodesOf s) ≡ finding.Accepted
   pub frames : framesOf (nodesOf s) ≡ Is n
   pub some-frame : 1 ≤ n
+
+-- Frame f of an accepted object of n frames can be drawn: its rows are there, and the image has room for its cells.
+pub record DrawReady (s rows : List ℕ) (f n : ℕ) (image : List ℕ) : Type 0 where
+  pub table : Table s rows
+  pub object : IsObject s n
+  pub low : 1 ≤ f
+  pub high : f ≤ n
+  pub room : imageSize (nodesOf s) ≤ length image
 
 -- What all frames share.
 pub record IsScene (ns : List Node) (c : Scene) : Type 0 where

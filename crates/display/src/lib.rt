@@ -13,7 +13,7 @@ ghost use Rattle.dataset.specs.Answer.{bufferOf};
 ghost use Rattle.conformance.specs.Judging.{numberOf, findingOf};
 ghost use Rattle.display.specs.Show.{imageSize, imageBy, pictureOf, acceptedAnswer, showOf, imageOf, fieldsOf};
 ghost use Rattle.display.specs.Contracts.{IsObject, IsScene, IsItem, IsApplying, IsPlan, Gives, GivesMoves, GivesInverse, averageBy};
-ghost use Rattle.display.specs.Contracts.{tidBy, maskingOf, MaskingBelow, ToldBy, isMasked, shadeBy, MasksReady};
+ghost use Rattle.display.specs.Contracts.{DrawReady, tidBy, maskingOf, MaskingBelow, ToldBy, isMasked, shadeBy, MasksReady};
 ghost use Rattle.value.specs.Contracts.{Below};
 ghost use Rattle.node.specs.Nodes.{nodesOf};
 ghost use Rattle.node.specs.Contracts.{Table};
@@ -369,11 +369,7 @@ pub fn plan_for(bytes: &[u8], rows: &[u32], c: Scene, frame: usize, n: usize) ->
 
 // Draws a frame of an accepted object of n frames; answers whether it is masked.
 fn draw(bytes: &[u8], rows: &[u32], frame: usize, n: usize, image: &mut [u8]) -> bool
-    requires { ⌜ Table (now bytes) (now rows)
-        × (((i : ℕ) → getD (now bytes) i 0 < 256)
-        × ((findingOf (nodesOf (now bytes)) ≡ finding.Accepted)
-        × ((framesOf (nodesOf (now bytes)) ≡ num.Is n)
-        × ((1 ≤ frame) × ((frame ≤ n) × (imageSize (nodesOf (now bytes)) ≤ length (now image))))))) ⌝ }
+    requires { ⌜ DrawReady (now bytes) (now rows) frame n (now image) ⌝ }
     ensures { λ r. ⌜ r ≡ pictureOf (nodesOf (now (bytes .entry))) frame .masked ⌝ }
     ensures { λ _. ⌜ now (image .exit) ≡ pictureOf (nodesOf (now (bytes .entry))) frame .samples ++ drop (length (pictureOf (nodesOf (now (bytes .entry))) frame .samples)) (now (image .entry)) ⌝ }
 {

@@ -22,9 +22,11 @@ use Rattle.conformance.specs.declared.Finding.the-variants.{Accepted}
 use Rattle.conformance.specs.Judging.{findingOf}
 use Rattle.display.specs.Show.{imageSize}
 use Rattle.display.proofs.Small.{us-in-small}
-use Rattle.display.proofs.Objects.{object, at-items, group-is, r39, same-is}
+use Rattle.node.proofs.Tests.{same-is}
+use Rattle.display.proofs.Objects.{object}
+use Rattle.display.proofs.Rules.{at-items, group-is, r39}
 use Rattle.display.proofs.Lacking.{geometry-size}
-use Rattle.display.proofs.Given.{check-some}
+use Rattle.steps.proofs.Given.{check-some}
 use Rattle.linear.specs.Mapping.{linearOn, linearFor}
 use Rattle.linear.specs.Contracts.{Mappable}
 

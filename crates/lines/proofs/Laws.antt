@@ -2,8 +2,8 @@
 use mathlib.Core.Path.{_≡_, sym, ap, _∙_}
 use mathlib.Core.Bool.{Bool, true}
 use mathlib.Core.List.{List}
-use Prim.Native.Nat.{ℕ, suc, _+_, _-_, _*_, _/_, _%_, _^_, _≤_, _<_}
-use native.Mathlib.Nat.{add-mul, div-add-mod', mul-assoc, mul-le-mul-right, pow-suc}
+use Prim.Native.Nat.{ℕ, _+_, _-_, _*_, _/_, _%_, _^_, _≤_, _<_}
+use native.Mathlib.Nat.{add-mul, div-add-mod', mul-assoc, mul-le-mul-right}
 use native.Mathlib.Omega.{arith}
 use lib.Pow.{pow-pos}
 use lib.ListN.{length, getD, take, drop}
@@ -12,7 +12,7 @@ use Rattle.window.specs.declared.Window.{Window}
 use lib.IntN.{pos, _-ℤ_}
 use Rattle.window.specs.Window.{levelOf, shaded}
 use Rattle.window.specs.Contracts.{number, shadeAt, Filled, shadePlaces}
-use Rattle.window.proofs.Laws.{power-small}
+use Rattle.window.proofs.Laws.{power-small, power-twice}
 use Rattle.pixel.specs.declared.Geometry.{Geometry}
 use Rattle.pixel.specs.Pixel.{samplesOf, isFrame, sampleAt, weightsOf}
 use Rattle.pixel.specs.Contracts.{painted, nativeShade, Shaped, Row, cellAt, plainPlace, maskPlace, paintedFrom, rowShade, blendsAt, Blends}
@@ -59,15 +59,10 @@ module _ (t : Shades) (stored : ℕ) where
         value = λ i h. ideal-at i (omega (arith, power-small (stored + 1) 17 (omega arith)));
       }
 
-  twice : 2 ^ (stored + 1) ≡ 2 ^ stored + 2 ^ stored
-  twice =
-      let e : stored + 1 ≡ suc stored = omega arith in
-      rw (e, pow-suc 2 stored) (omega arith)
-
   pub table-at : (table : List ℕ) → Filled (shadeAt (t .window) stored (t .inverse)) (2 ^ (stored + 1) - 1) table → stored ≤ 16 → (p : ℕ)
       → p + 2 ≤ 2 ^ stored + 2 ^ stored
       → getD table p 0 ≡ getD (shadesOf t stored) p 0
-  table-at table h most p l = h .value p (omega (arith, twice)) ∙ sym (ideal-at p (omega (arith, power-most stored most)))
+  table-at table h most p l = h .value p (omega (arith, power-twice stored)) ∙ sym (ideal-at p (omega (arith, power-most stored most)))
 
 -- ---- Places, as the code works them out
 

@@ -22,6 +22,10 @@ pub nodes-count : (s : List ℕ) → length (nodesOf s) ≡ length (rowsOf s)
 unfolding nodesOf
 nodes-count s = length-map (rowsOf s) (nodeOf s)
 
+-- Each node has its row.
+pub row-known : (s : List ℕ) (i : ℕ) → i < length (nodesOf s) → i < length (rowsOf s)
+row-known s i h = omega (arith, nodes-count s)
+
 pub node-map : (s : List ℕ) (rs : List Row) (i : ℕ) → i < length rs → getD (map (nodeOf s) rs) i noNode ≡ nodeOf s (getD rs i noRow)
 node-map s [] i h = absurd (omega arith)
 node-map s (r ∷ rs) zero h = refl
@@ -37,9 +41,6 @@ table s rows e =
     }
 
 module _ (s rows : List ℕ) (t : Table s rows) (i : ℕ) (h : i < length (nodesOf s)) where
-  known : i < length (rowsOf s)
-  known = omega (arith, nodes-count s)
-
   pub node-is : nodeAt (nodesOf s) i ≡ nodeOf s (rowAt (rowsOf s) i)
   unfolding nodesOf
   node-is = node-map s (rowsOf s) i (rw (← nodes-count s) h)
@@ -47,7 +48,8 @@ module _ (s rows : List ℕ) (t : Table s rows) (i : ℕ) (h : i < length (nodes
   -- Number k of row i.
   pub number : (k : ℕ) → k < width → getD rows (width * i + k) 0 ≡ getD (flat (rowAt (rowsOf s) i ∷ [])) k 0
   number k l =
-      ap (λ (x : List ℕ). getD x (width * i + k) 0) (t .is ∙ sym (append-nil (flat (rowsOf s)))) ∙ number-at (rowsOf s) [] i k known l
+      ap (λ (x : List ℕ). getD x (width * i + k) 0) (t .is ∙ sym (append-nil (flat (rowsOf s))))
+      ∙ number-at (rowsOf s) [] i k (row-known s i h) l
 
   pub tag-is : getD rows (width * i) 0 ≡ nodeAt (nodesOf s) i .tag
   tag-is = ap (λ (k : ℕ). getD rows k 0) (omega arith) ∙ number 0 (omega arith) ∙ ap (λ (n : Node). n .tag) (sym node-is)
@@ -62,7 +64,7 @@ module _ (s rows : List ℕ) (t : Table s rows) (i : ℕ) (h : i < length (nodes
   parent-is = number 6 (omega arith)
 
   pub next-within : nextNode (nodesOf s) i ≤ length (nodesOf s)
-  next-within = rw (node-is, nodes-count s) (row-next s i known)
+  next-within = rw (node-is, nodes-count s) (row-next s i (row-known s i h))
 
   vr-row : nodeAt (nodesOf s) i .vr ≡ rowAt (rowsOf s) i .vr
   vr-row = ap (λ (n : Node). n .vr) node-is
@@ -80,7 +82,7 @@ module _ (s rows : List ℕ) (t : Table s rows) (i : ℕ) (h : i < length (nodes
       )
 
   pub value-within : getD rows (width * i + 3) 0 + getD rows (width * i + 4) 0 ≤ length s
-  value-within = rw (number 3 (omega arith), number 4 (omega arith)) (row-within s i known)
+  value-within = rw (number 3 (omega arith), number 4 (omega arith)) (row-within s i (row-known s i h))
 
   pub value-none : (nodeAt (nodesOf s) i .vr ≡ SQ) ⊎ (nodeAt (nodesOf s) i .vr ≡ 0) → [] ≡ nodeAt (nodesOf s) i .value
   value-none (inl a) = rw (node-is, sym vr-row ∙ a)

@@ -1,8 +1,9 @@
 -- What mask items say, written down for one after the other.
 use mathlib.Core.Path.{_≡_, sym, ap, _∙_, subst}
 use mathlib.Core.List.{List}
-use mathlib.Core.Logic.{⊎-elim}
+use mathlib.Core.Logic.{dite}
 use Prim.Native.Nat.{ℕ, _+_, _-_, _*_, _/_, _%_, _≤_, _<_}
+use native.Mathlib.Decide.{ℕ-discrete}
 use native.Mathlib.Omega.{arith}
 use borrow.Author.Tests.{ne-eqb}
 use lib.ListN.{length, getD, set}
@@ -14,7 +15,6 @@ use Rattle.steps.specs.declared.Operation.{Operation}
 use Rattle.steps.specs.declared.Told.{Told}
 use Rattle.steps.specs.Contracts.{FoundBelow, IsTold}
 use Rattle.ranges.specs.Contracts.{Cleared, foundIn, operationIn, toldIn, Known}
-use Rattle.ranges.proofs.Tables.{same-or-not}
 
 pub found-fewer : (n m : ℕ) (r : Found) → n ≤ m → FoundBelow n r → FoundBelow m r
 found-fewer n m (found.At k) h b = omega arith
@@ -41,7 +41,7 @@ known-none ns keys answers z = record { each = λ i j h e. absurd (omega (arith,
 
 pub known-more : (ns : List Node) (keys answers : List ℕ) (i at x : ℕ) (r : Told) → i < length keys → i < length answers
     → Known ns keys answers → toldIn x ≡ r → IsTold ns at r → Known ns (set keys i (at + 1)) (set answers i x)
-known-more ns keys answers i at x r a b q e s = record { each = λ k j h t. ⊎-elim (here k j t) (there k j h t) (same-or-not k i) }
+known-more ns keys answers i at x r a b q e s = record { each = λ k j h t. dite (ℕ-discrete k i) (here k j t) (there k j h t) }
   where
     here : (k j : ℕ) → getD (set keys i (at + 1)) k 0 ≡ j + 1 → k ≡ i → IsTold ns j (toldIn (getD (set answers i x) k 0))
     here k j t p =

@@ -1,8 +1,8 @@
--- Every member and some member along a walk, and values of a US one after the other.
+-- What a walk found is put together test by test: members and values of a US one after the other.
 use mathlib.Core.Path.{_≡_, refl, sym, ap, _∙_}
 use Prim.Native.Nat.{ℕ, _+_, _*_, _/_, _≤_, _<_}
 use native.Mathlib.Omega.{arith}
-use mathlib.Core.List.{List, [], _∷_}
+use mathlib.Core.List.{List, []}
 use mathlib.Core.Bool.{Bool, true, false, _&&_}
 use lib.ListN.{length, getD, drop}
 use lib.Dec.{eqb, leb}
@@ -11,12 +11,11 @@ use Rattle.basics.specs.Vr.{SQ}
 use Rattle.value.specs.declared.Num.{Num}
 use Rattle.value.specs.declared.Num.the-variants.{Is, None}
 use Rattle.value.specs.Number.{usValues}
-use Rattle.value.proofs.Laws.{value-next, values-end}
+use Rattle.value.proofs.Laws.{value-next, values-end, pair-at}
 pub use Rattle.basics.proofs.Tests.{both, not-first, one, other-one, then, otherwise}
 use Rattle.node.specs.Nodes.{Node, nextNode, members, inside}
 use Rattle.node.specs.Find.{holds, holdsOr, andThen, orElse, find, ofVr, filled}
-use Rattle.node.proofs.Walks.{members-end, members-next}
-use Rattle.element.specs.Elements.{every, some}
+use Rattle.element.specs.Elements.{every}
 use Rattle.element.specs.Tags.{FramePixelShiftSequence}
 use Rattle.rules.specs.Mask.{pairsFit, allFrames, hasShiftGroup}
 use Rattle.rules_mask.specs.Contracts.{shiftIn}
@@ -49,31 +48,6 @@ pub every-inside : (ns : List Node) (p : ℕ → Bool) (i next : ℕ) (r : Bool)
     → every p (inside ns i) ≡ r
 every-inside ns p i next r e h = rw (← e) (sym h)
 
-module _ (ns : List Node) (p : ℕ → Bool) (at to : ℕ) where
-  pub every-end : to ≤ at → every p (members ns at to) ≡ true
-  unfolding every
-  every-end h = rw (members-end ns at to h)
-
-  pub every-not : at < to → p at ≡ false → every p (members ns at to) ≡ false
-  unfolding every
-  every-not h q = rw (members-next ns at to h, q)
-
-  pub every-next : (next : ℕ) → next ≡ nextNode ns at → at < to → p at ≡ true → every p (members ns at to) ≡ every p (members ns next to)
-  unfolding every
-  every-next next e h q = rw (members-next ns at to h, q, e)
-
-  pub some-end : to ≤ at → some p (members ns at to) ≡ false
-  unfolding some
-  some-end h = rw (members-end ns at to h)
-
-  pub some-here : at < to → p at ≡ true → some p (members ns at to) ≡ true
-  unfolding some
-  some-here h q = rw (members-next ns at to h, q)
-
-  pub some-next : (next : ℕ) → next ≡ nextNode ns at → at < to → p at ≡ false → some p (members ns at to) ≡ some p (members ns next to)
-  unfolding some
-  some-next next e h q = rw (members-next ns at to h, q, e)
-
 -- ---- Values of a US
 
 module _ (n : ℕ) (v : List ℕ) (k : ℕ) where
@@ -95,19 +69,14 @@ module _ (n : ℕ) (v : List ℕ) (k : ℕ) where
   pairs-end e = rw (values-end v (2 * k) e)
 
   module _ (a b : ℕ) (ea : a ≡ getD (usValues v) (2 * k) 0) (eb : b ≡ getD (usValues v) (2 * k + 1) 0) (h : 2 * k + 1 < length v / 2) where
-    pair-at : drop (2 * k) (usValues v) ≡ a ∷ b ∷ drop (2 * (k + 1)) (usValues v)
-    pair-at =
-        let d : 2 * (k + 1) ≡ 2 * k + 1 + 1 = omega arith in
-        rw (value-next v (2 * k) (omega arith), value-next v (2 * k + 1) h, ← ea, ← eb, d)
-
     pub pairs-not : (leb 1 a && (leb a b && leb b n)) ≡ false → pairsFit n (drop (2 * k) (usValues v)) ≡ false
     unfolding pairsFit
-    pairs-not q = rw (pair-at, q)
+    pairs-not q = rw (pair-at v k a b ea eb h, q)
 
     pub pairs-next : (leb 1 a && (leb a b && leb b n)) ≡ true
         → pairsFit n (drop (2 * k) (usValues v)) ≡ pairsFit n (drop (2 * (k + 1)) (usValues v))
     unfolding pairsFit
-    pairs-next q = rw (pair-at, q)
+    pairs-next q = rw (pair-at v k a b ea eb h, q)
 
 -- ---- Rules by their number
 

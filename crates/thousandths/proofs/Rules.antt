@@ -7,8 +7,7 @@ use native.Mathlib.Omega.{arith}
 use lib.Dec.{eqb}
 use lib.ListN.{length}
 use borrow.Author.Tests.{le-leb, leb-true, eqb-true}
-use Rattle.value.specs.declared.Num.{Num}
-use Rattle.value.specs.declared.Num.the-variants.{Is, None}
+use Rattle.value.specs.declared.Num.the-variants.{None}
 use Rattle.value.specs.declared.Signed.{Signed}
 use Rattle.value.specs.declared.Signed.the-variants as signed
 use Rattle.value.specs.declared.Function.{Function}
@@ -19,7 +18,8 @@ use Rattle.value.specs.Number as current
 use Rattle.value.specs.Number.{isNumber, all}
 use Rattle.basics.proofs.Tests.{false-is-true, and-both}
 use Rattle.node.specs.Nodes.{Node, inside}
-use Rattle.node.specs.Find.{holds, ifPresent, findVr}
+use Rattle.node.specs.Find.{holds, findVr}
+use Rattle.node.proofs.Tests.{holds-more, present-more}
 use Rattle.element.specs.Tags
 use Rattle.basics.specs.Vr.{DS}
 use Rattle.element.specs.Elements.{valueAt, theItem, functionIn}
@@ -43,17 +43,9 @@ all-more p q h (v ∷ vs) e =
     let b = and-both (p v) (all p vs) e in
     rw (h v (b .0), all-more p q h vs (b .1))
 
-holds-more : (o : Num) (p q : ℕ → Bool) → ((n : ℕ) → p n ≡ true → q n ≡ true) → holds o p ≡ true → holds o q ≡ true
-holds-more (Is n) p q h e = h n e
-holds-more None p q h e = e
-
-present-more : (o : Num) (p q : ℕ → Bool) → ((n : ℕ) → p n ≡ true → q n ≡ true) → ifPresent o p ≡ true → ifPresent o q ≡ true
-present-more (Is n) p q h e = h n e
-present-more None p q h e = e
-
 -- ---- Numbers and widths
 
-number-scaled : (s : Signed) → isNumber s ≡ true → isNumber (scaled s) ≡ true
+pub number-scaled : (s : Signed) → isNumber s ≡ true → isNumber (scaled s) ≡ true
 number-scaled (signed.Plus n) e = refl
 number-scaled (signed.Minus n) e = refl
 number-scaled signed.None e = e

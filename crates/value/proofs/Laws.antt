@@ -58,6 +58,13 @@ value-next v k h = from-next (usValues v) k (omega (arith, usValues-length v))
 pub values-end : (v : List ℕ) (k : ℕ) → k ≡ length v / 2 → drop k (usValues v) ≡ []
 values-end v k e = from-end (usValues v) k (omega (arith, usValues-length v))
 
+-- Two at a time.
+pub pair-at : (v : List ℕ) (k a b : ℕ) → a ≡ getD (usValues v) (2 * k) 0 → b ≡ getD (usValues v) (2 * k + 1) 0 → 2 * k + 1 < length v / 2
+    → drop (2 * k) (usValues v) ≡ a ∷ b ∷ drop (2 * (k + 1)) (usValues v)
+pair-at v k a b ea eb h =
+    let d : 2 * (k + 1) ≡ 2 * k + 1 + 1 = omega arith in
+    rw (value-next v (2 * k) (omega arith), value-next v (2 * k + 1) h, ← ea, ← eb, d)
+
 -- ---- Bounds of the text forms
 
 by-flag : (n k : ℕ) (t : Bool) → k < n → Below n (cond t num.None (num.Is k))

@@ -4,7 +4,7 @@ use mathlib.Core.Option.{Option, some}
 use mathlib.Core.Bool.{Bool, true, false, cond, false≢true}
 use mathlib.Core.List.{List}
 use Prim.Native.Nat.{ℕ, zero, suc, _+_, _*_, _-_, _/_, _^_, _≤_, _<_}
-use native.Mathlib.Nat.{div-lt-iff-lt-mul, pow-le-pow-right}
+use native.Mathlib.Nat.{div-lt-iff-lt-mul, pow-le-pow-right, pow-suc}
 use native.Mathlib.Omega.{arith}
 use lib.Dec.{ltb, leb}
 use lib.IntN.{ℤ, pos, negsuc, _+ℤ_, _-ℤ_, _*ℤ_}
@@ -293,6 +293,11 @@ filled-more f n s t l = record { size = length-set s n (f n) ∙ t .size; value 
 
 pub power-small : (n k : ℕ) → n ≤ k → 2 ^ n ≤ 2 ^ k
 power-small n k h = pow-le-pow-right {n = 2} (omega arith) {i = n} {j = k} h
+
+pub power-twice : (n : ℕ) → 2 ^ (n + 1) ≡ 2 ^ n + 2 ^ n
+power-twice n =
+    let e : n + 1 ≡ suc n = omega arith in
+    rw (e, pow-suc 2 n) (omega arith)
 
 -- The shade of a level.
 abbrev pub shadeNumber : Bool → ℕ → ℕ

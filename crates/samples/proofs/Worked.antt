@@ -1,8 +1,5 @@
--- The steps can lack, in every line of the list `lacking`: nothing is left open on either side, so both are worked out, and are
--- the same.
-use mathlib.Core.Path.{_≡_, refl}
-use mathlib.Core.List.{map}
-use lib.Ieee.{odd, ofFields, ofBits}
+-- The definitions that a claim about given bytes is worked out with: to unfold `reading` or `drawing` is to unfold every definition that
+-- its own line names, so that a claim names one of the two.
 use Rattle.basics.specs.Bytes.{sameBytes, le16, leNumber}
 use Rattle.basics.specs.Vr.{listed, formOf}
 use Rattle.dataset.specs.Header.{when, headerBy, delimiterBy, levelBy, definedBy, longBy, typedAt, taggedAt, sizedBy, memberAt}
@@ -16,7 +13,7 @@ use Rattle.node.specs.Nodes.{nodesOf, members, membersBy}
 use Rattle.node.specs.Find.{find, ofVr, filled, has}
 use Rattle.element.specs.Elements.{oneItem, theItem, itemsIn, every, some, functionIn}
 use Rattle.element.specs.Frames.{framesOf, sharedItem, frameItems, maskItems, operationIs}
-use Rattle.shift.specs.Shift.{quartersOf, itemShift, frameShift, movesOf}
+use Rattle.shift.specs.Shift.{movesOf}
 use Rattle.verdict.specs.Verdict.{perFrame}
 use Rattle.rules.specs.Root.{isXa, isXrf, imageTypeIs, isImageType, planesAre, photometricIs, bitsFit, lossyIs, isOriginal, rule1, rule2}
 use Rattle.rules.specs.Root.{rule3, rule4, rule5, rule6, rule7, rule8, rule9, rule10, rule11, rule12, rule13, rule14, rule15, rule16}
@@ -34,22 +31,24 @@ use Rattle.pixel.specs.Pixel.{isFrame, sampleAt, sumAt, averageOf, maskAt, plac
 use Rattle.pixel.specs.Pixel.{blendedAt}
 use Rattle.steps.specs.Given.{collect}
 use Rattle.steps.specs.Steps.{geometryOf, pixelsOf, groupFor, rangeHolds, firstHolding, applyingTo, averageFrames, offsetOf, tidFrame}
-use Rattle.steps.specs.Steps.{naming, shiftFor, movesFor, maskBy, maskFor, windowIn, windowFor, inverseOf, nativeCell, maskedCell}
-use Rattle.steps.specs.Steps.{areFrames, pictureBy, stepsOf}
+use Rattle.steps.specs.Steps.{shiftFor, movesFor, maskBy, maskFor, windowIn, windowFor, inverseOf, nativeCell, maskedCell, areFrames}
+use Rattle.steps.specs.Steps.{pictureBy, stepsOf}
 use Rattle.display.specs.Show.{pictureOf, acceptedAnswer, showOf, imageOf}
-use Rattle.value.specs.declared.Num.the-variants.{None}
-use Rattle.window.specs.declared.Window.{Window}
-use Rattle.samples.specs.Lacking.{lacking, cellOfNoFrame}
 
--- Each line is not accepted, and the steps give what it says.
-pub steps-lack : map (λ k. k .gives) lacking ≡ map (λ k. k .says) lacking
+-- From bytes to rows.
+unfoldable pub reading : Unit {0}
 unfolding
-    odd ofFields ofBits
     le16
     listed formOf
     when headerBy delimiterBy levelBy definedBy longBy typedAt taggedAt sizedBy memberAt
     level valueRun readingOf
     rowsOf
+reading = tt
+
+-- From bytes to an image: judging and all steps.
+unfoldable pub drawing : Unit {0}
+unfolding
+    reading
     sameBytes valuesOf trimStart trimEnd
     wordAt isWord isUid functionOf
     usOf usValues ssOf digitsOf signedBy wholeOf isOf exactOf exponentOf endOf sizeOf decimalOf all allDecimals allWidths
@@ -57,7 +56,7 @@ unfolding
     find ofVr filled has
     oneItem theItem itemsIn every some functionIn
     framesOf sharedItem frameItems maskItems
-    quartersOf itemShift frameShift movesOf
+    movesOf
     perFrame
     isXa isXrf imageTypeIs isImageType planesAre photometricIs bitsFit lossyIs isOriginal rule1 rule2 rule3 rule4 rule5 rule6 rule7 rule8
     rule9 rule10 rule11 rule12 rule13 rule14 rule15 rule16 rule17 rule18 rule19 rule20 rule21 rule22 rule23 rule24 rule25 rule26
@@ -71,12 +70,7 @@ unfolding
     fullWindow levelOf shadeOf
     leNumber isFrame sampleAt sumAt averageOf maskAt placeOf restOf neighbourOf areInside blendOf blendedAt
     collect
-    geometryOf pixelsOf groupFor rangeHolds firstHolding applyingTo averageFrames offsetOf tidFrame naming shiftFor movesFor maskBy maskFor
+    geometryOf pixelsOf groupFor rangeHolds firstHolding applyingTo averageFrames offsetOf tidFrame shiftFor movesFor maskBy maskFor
     windowIn windowFor inverseOf nativeCell maskedCell areFrames pictureBy stepsOf
     pictureOf acceptedAnswer showOf imageOf
-steps-lack = refl
-
--- A cell that would divide by 0 lacks.
-pub cell-lacks : (w : Window) → cellOfNoFrame w ≡ None
-unfolding maskedCell
-cell-lacks w = refl
+drawing = tt
