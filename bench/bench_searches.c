@@ -108,7 +108,7 @@ static uint64_t look_each(uint32_t sequence, const uint32_t *tags)
     return looked;
 }
 
-/* Where things stand: the number of rows, the sequence of mask items, the shared item, and the sequence of frames' items. */
+/* Where things are: the number of rows, the sequence of mask items, the shared item, and the sequence of frames' items. */
 static uint32_t count, masks, shared, frames;
 
 static void find_places(void)
@@ -162,7 +162,7 @@ static uint64_t some_looked(uint64_t gone)
     return looked;
 }
 
-/* The count for all frames, how many there are, how many are gone through, and the count for those. */
+/* The count for all frames, how many there are, how many are searched, and the count for those. */
 typedef struct {
     uint64_t all, frames, gone, some;
 } worked_out;

@@ -88,7 +88,7 @@ def positioner(encoder, frame):
 
 
 def shared_item(encoder, full):
-    """What all frames have in common; the positioner stands here where the frames don't have their own."""
+    """What all frames have in common; the positioner is here if the frames don't have their own."""
     groups = [] if full else [positioner(encoder, 0)]
     groups += [
         encoder.sequence(0x00189406, encoder.item(                            # Table Position

@@ -119,7 +119,7 @@ def between(frames, count):
 
 
 def shared_sequences(size):
-    """A shared item of sequences, and in each of many frames eight whose tags stand between those."""
+    """A shared item of sequences, and in each of many frames eight whose tags lie between those."""
     frames = frames_for(size // 2, 125)
     count = (size - 125 * frames) // 12
     return data_set(frames, around(b"", EMPTY, count, 2), between(frames, count))

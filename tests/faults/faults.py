@@ -319,20 +319,25 @@ SLIP_FAULTS = {
 
 
 
-def drawn_with(**functions):
-    """A show in which some functions of the reference's steps are others."""
+def with_others(module, call, functions):
+    """A call during which some functions of a module of the reference are replaced by others."""
 
-    def show(*arguments):
-        kept = {name: getattr(drawing, name) for name in functions}
+    def changed(*arguments):
+        kept = {name: getattr(module, name) for name in functions}
         for name, function in functions.items():
-            setattr(drawing, name, function)
+            setattr(module, name, function)
         try:
-            return drawing.show(*arguments)
+            return call(*arguments)
         finally:
             for name, function in kept.items():
-                setattr(drawing, name, function)
+                setattr(module, name, function)
 
-    return StandIn(show=show)
+    return changed
+
+
+def drawn_with(**functions):
+    """Draws with other functions in place of some of the reference's."""
+    return StandIn(show=with_others(drawing, drawing.show, functions))
 
 
 def high_bits_left(self, frame, row, column):
@@ -521,19 +526,8 @@ CANONICAL_FAULTS = {
 
 
 def mapped_with(**functions):
-    """A mapping in which some names of the reference's are others."""
-
-    def linear(*arguments):
-        kept = {name: getattr(intensity, name) for name in functions}
-        for name, function in functions.items():
-            setattr(intensity, name, function)
-        try:
-            return intensity.linear(*arguments)
-        finally:
-            for name, function in kept.items():
-                setattr(intensity, name, function)
-
-    return StandIn(linear=linear)
+    """Maps with other functions in place of some of the reference's."""
+    return StandIn(linear=with_others(intensity, intensity.linear, functions))
 
 
 def cut_to_8_bits(self, frame):
