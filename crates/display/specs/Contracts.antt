@@ -48,7 +48,7 @@ abbrev pub AllWithin : ℕ → List ℕ → Type 0
 AllWithin n [] = Unit {0}
 AllWithin n (k ∷ ks) = ((1 ≤ k) × (k ≤ n)) × AllWithin n ks
 
--- Nothing, or 1 to 64 of the n frames, moved by whole quarters, at most 64.
+-- Nothing, or 1 to 64 of the n frames, moved by short quarters.
 abbrev pub Short : Moves → Type 0
 Short m = (isNumber (m .vertical) ≡ true)
     × ((isNumber (m .horizontal) ≡ true) × (SizeBelow tooFar (m .vertical) × SizeBelow tooFar (m .horizontal)))

@@ -1,4 +1,4 @@
--- Why the test of a float is right: four times a float from 0 to 64 is exact, and the product, cut to a whole number and
+-- Why the test of a float is right: four times a float up to the largest shift is exact, and the product, cut to a whole number and
 -- turned into a float again, is the same exactly where nothing was cut off. A finite float is a fraction n / d, so each
 -- law is one on fractions first.
 use mathlib.Core.Path.{_≡_, refl, sym, ap, _∙_, subst}
@@ -339,7 +339,7 @@ neg-low (fin false m e) h =
     let a : m * up e * 1 < 0 * down e = ltb-true _ _ h in
     absurd (omega arith)
 
--- A number w of quarters up to 64 is a size up to 64 with the sign that `sign` puts on.
+-- A short number w of quarters is a short size with the sign that `sign` puts on.
 short-by : (sign : Num → Signed) (q : ℕ) → isShort (sign (num.Is q)) ≡ leb q largestMove → sign num.None ≡ signed.None
     → (p : Bool) (w : Signed) → (p ≡ true → w ≡ sign (num.Is q))
     → cond (isShort (cond p w signed.None)) (cond p w signed.None) signed.None ≡ sign (cond (leb q largestMove && p) (num.Is q) num.None)

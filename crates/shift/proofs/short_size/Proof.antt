@@ -1,4 +1,4 @@
--- Four times a float from 0 to 64 that comes back from a whole number was one, and above 64 there is none to answer (`Floats`).
+-- Four times a float up to the largest shift that comes back from a whole number was one, and above it there is none to answer (`Floats`).
 use mathlib.Core.Path.{sym}
 use mathlib.Core.Bool.{true, false}
 use native.Mathlib.Omega.{arith}
