@@ -13,7 +13,8 @@ use Rattle.value.specs.Number.{isNumber}
 use Rattle.value.specs.Contracts.{SizeBelow}
 use Rattle.shift.specs.declared.Shift.{Shift}
 use Rattle.shift.specs.declared.Moves.{Moves}
-use Rattle.shift.specs.Shift.{isShort, isShiftOf, movesOf, shortMovesOf}
+use Rattle.shift.specs.Shift.{largestMove, isShort, isShiftOf, movesOf, shortMovesOf}
+use Rattle.shift.specs.Contracts.{tooFar}
 use Rattle.shift.proofs.Laws.{moves-short}
 use Rattle.node.specs.Nodes.{Node}
 use Rattle.steps.specs.Given.{check, then}
@@ -27,9 +28,9 @@ use Rattle.steps.specs.Steps.{Mask, shiftFor, movesFor, applyingTo, maskBy, mas
 use Rattle.display.specs.Contracts.{Short, Sound, Gives, GivesMoves, averageBy, tidBy, operated}
 use Rattle.steps.proofs.Given.{never, same-some}
 
-short-is : (x : Signed) → isNumber x ≡ true → SizeBelow 257 x → isShort x ≡ true
-short-is (signed.Plus n) e h = le-leb n 256 (omega arith)
-short-is (signed.Minus n) e h = le-leb n 256 (omega arith)
+short-is : (x : Signed) → isNumber x ≡ true → SizeBelow tooFar x → isShort x ≡ true
+short-is (signed.Plus n) e h = le-leb n largestMove (omega arith)
+short-is (signed.Minus n) e h = le-leb n largestMove (omega arith)
 short-is signed.None e h = e
 
 is-shift : (s : Shift) → Short (movesOf s) → isShiftOf s ≡ true

@@ -21,6 +21,7 @@ use Rattle.shift.specs.declared.Shift.{Shift}
 use Rattle.shift.specs.declared.Shift.the-variants as shift
 use Rattle.shift.specs.declared.Moves.{Moves}
 use Rattle.shift.specs.Shift.{largestMove, isShort, itemShift, frameShift, movesOf, isShiftOf, isFrameShift}
+use Rattle.shift.specs.Contracts.{tooFar}
 use Rattle.shift.proofs.Laws.{moves-both, as-item, shift-length, item-is, frame-is}
 use Rattle.basics.proofs.Tests.{false-is-true, and-both, both}
 use Rattle.node.specs.Nodes.{Node, nodeAt, nextNode, root, inside}
@@ -151,7 +152,7 @@ operations : (ns : List Node) → rule31 ns ≡ true → every (isOperation ns) 
 unfolding rule31 maskItems itemsIn
 operations ns e = operations-in ns (find ns Tags.MaskSubtractionSequence (root ns)) e
 
--- ---- Step 4: two whole numbers of at most 64
+-- ---- Step 4: two moves of at most the largest
 
 -- A shift that a step gives, of which `fit` holds.
 abbrev pub GivesShift : (Shift → Bool) → Option Shift → Type 0
@@ -159,14 +160,14 @@ GivesShift fit o = (s : Shift) × ((o ≡ some s) × (fit s ≡ true))
 
 abbrev SoundMoves : Moves → Type 0
 SoundMoves m =
-    (isNumber (m .vertical) ≡ true) × ((isNumber (m .horizontal) ≡ true) × (SizeBelow 257 (m .vertical) × SizeBelow 257 (m .horizontal)))
+    (isNumber (m .vertical) ≡ true) × ((isNumber (m .horizontal) ≡ true) × (SizeBelow tooFar (m .vertical) × SizeBelow tooFar (m .horizontal)))
 
 short-number : (w : Signed) → isShort w ≡ true → isNumber w ≡ true
 short-number (signed.Plus k) e = refl
 short-number (signed.Minus k) e = refl
 short-number signed.None e = e
 
-short-size : (w : Signed) → isShort w ≡ true → SizeBelow 257 w
+short-size : (w : Signed) → isShort w ≡ true → SizeBelow tooFar w
 short-size (signed.Plus k) e = omega (arith, leb-true k largestMove e)
 short-size (signed.Minus k) e = omega (arith, leb-true k largestMove e)
 short-size signed.None e = tt

@@ -16,7 +16,7 @@ use Rattle.window.proofs.Laws.{power-small, power-twice}
 use Rattle.pixel.specs.declared.Geometry.{Geometry}
 use Rattle.pixel.specs.Pixel.{samplesOf, isFrame, sampleAt, weightsOf}
 use Rattle.pixel.specs.Contracts.{painted, nativeShade, Shaped, Row, cellAt, plainPlace, maskPlace, paintedFrom, rowShade, blendsAt, Blends}
-use Rattle.pixel.specs.Contracts.{Subtracts, quarterShade, Spread, Averaged, shifted}
+use Rattle.pixel.specs.Contracts.{edges, farthest, farthestMove, Subtracts, quarterShade, Spread, Averaged, shifted}
 use Rattle.pixel.proofs.Laws.{width-some, frame-facts, sample-cell, sample-most, cell-most, power-most, half-low, painted-same, row-offset}
 use Rattle.pixel.proofs.Places.{fourths}
 use Rattle.pixel.proofs.Blend.{weights-total, averages, blends-row, blend-offset, whole-shade}
@@ -125,7 +125,7 @@ module _ (g : Geometry) (shape : Shaped g) (s : RefT (List ℕ)) (f row : ℕ) (
     by-window masks o c = sym
         (ideal-at t (g .stored) _ (omega (arith, cell-most g (r .now) c, power-most (g .stored) (shape .stored-most))))
 
-    module _ (ks : List ℕ) (down right : ℕ) (most : right ≤ 512) where
+    module _ (ks : List ℕ) (down right : ℕ) (most : right ≤ farthestMove) where
       -- From a filled table as from the window.
       quarter-at : Filled (shadeAt (t .window) (g .stored) (t .inverse)) (2 ^ (g .stored + 1) - 1) table → (i : ℕ)
           → quarterShade table g (s .now) f ks down right i ≡ quarterShade (shadesOf t (g .stored)) g (s .now) f ks down right i
@@ -134,7 +134,7 @@ module _ (g : Geometry) (shape : Shaped g) (s : RefT (List ℕ)) (f row : ℕ) (
           (omega (arith, sample-most g (s .now) f i, pow-pos (g .stored)))
 
       pub whole-by-table : Filled (shadeAt (t .window) (g .stored) (t .inverse)) (2 ^ (g .stored + 1) - 1) table → (sums : List ℕ) (n : ℕ)
-          → down % 4 ≡ 0 → right % 4 ≡ 0 → right / 4 ≤ 128 → n ≡ length ks
+          → down % 4 ≡ 0 → right % 4 ≡ 0 → right / 4 ≤ farthest → n ≡ length ks
           → Spread (s .now) g ks (shifted (down / 4) (g .rows) row) sums
           → painted (rowShade table g (r .now) sums n (right / 4)) (g .columns) line
           ≡ painted (λ c. quarterShade (shadesOf t (g .stored)) g (s .now) f ks down right (row * g .columns + c)) (g .columns) line
@@ -146,8 +146,8 @@ module _ (g : Geometry) (shape : Shaped g) (s : RefT (List ℕ)) (f row : ℕ) (
       -- The mask rows that a line takes, averaged, of 1 to 64 frames.
       module _ (upper lower : List ℕ) (a : Averaged (s .now) g ks (shifted (down / 4) (g .rows) row) upper)
           (b : Averaged (s .now) g ks (shifted (down / 4 + 1) (g .rows) row) lower)
-          (some : 1 ≤ length ks) (few : length ks ≤ 64) (above : g .columns + 129 ≤ length upper)
-          (below : g .columns + 129 ≤ length lower) where
+          (some : 1 ≤ length ks) (few : length ks ≤ 64) (above : g .columns + edges ≤ length upper)
+          (below : g .columns + edges ≤ length lower) where
         pub line-blends : Blends g (right / 4) (weightsOf (down % 4) (right % 4)) upper lower
         line-blends =
             record {

@@ -17,10 +17,11 @@ use lib.Seq.{getD-set-same, getD-set-other, drop-cons, drop-length, getD-append-
 use Rattle.basics.proofs.Tests.{and-both}
 use Rattle.basics.specs.Bytes.{le16, leNumber}
 use Rattle.value.specs.Number.{usValues}
+use Rattle.shift.specs.Shift.{largestShift}
 use Rattle.pixel.specs.declared.Geometry.{Geometry}
 use Rattle.pixel.specs.Pixel.{samplesOf, isFrame, sampleAt, sumAt, averageOf, maskAt}
 use Rattle.pixel.specs.Contracts.{painted, Masks, cellAt, plainPlace, maskPlace, Row, paintedFrom, Summed, Spread, shifted, rowShade}
-use Rattle.pixel.specs.Contracts.{offsetShade}
+use Rattle.pixel.specs.Contracts.{edges, farthest, offsetShade}
 use Rattle.pixel.proofs.Division.{average-most}
 
 below-or-not : (a b : ℕ) → (a < b) ⊎ (b ≤ a)
@@ -238,7 +239,7 @@ module _ (g : Geometry) (i : ℕ) (inside : i < samplesOf g) where
       omega arith
 
 -- A row's shades are those of its samples.
-pub row-offset : (table v line : List ℕ) (g : Geometry) (f : ℕ) (ks sums : List ℕ) (down right r n : ℕ) → right ≤ 128 → n ≡ length ks
+pub row-offset : (table v line : List ℕ) (g : Geometry) (f : ℕ) (ks sums : List ℕ) (down right r n : ℕ) → right ≤ farthest → n ≡ length ks
     → Spread v g ks (shifted down (g .rows) r) sums → (c : ℕ) → c < g .columns → cellAt g line c ≡ sampleAt g v f (r * g .columns + c)
     → rowShade table g line sums n right c ≡ offsetShade table g v f ks down right (r * g .columns + c)
 unfolding rowShade offsetShade maskAt
@@ -374,54 +375,54 @@ module _ (k r c w : ℕ) (hk : k ≤ 65535) (hr : r ≤ 65535) (hc : c ≤ 65535
 
 -- ---- The sums of a row
 
--- A row from place 64 on, its first value put before it, and its last behind it.
-module _ (columns : ℕ) (s : List ℕ) (some : 1 ≤ columns) (fits : columns + 129 ≤ length s) where
+-- A row behind the left edge, its first value put before it, and its last behind it.
+module _ (columns : ℕ) (s : List ℕ) (some : 1 ≤ columns) (fits : columns + edges ≤ length s) where
   abbrev left : List ℕ
-  left = paintedFrom (λ _. getD s 64 0) 0 64 s
+  left = paintedFrom (λ _. getD s largestShift 0) 0 largestShift s
 
   abbrev whole : List ℕ
-  whole = paintedFrom (λ _. getD s (64 + columns - 1) 0) (64 + columns) 65 left
+  whole = paintedFrom (λ _. getD s (largestShift + columns - 1) 0) (largestShift + columns) (largestShift + 1) left
 
-  at-left : (j : ℕ) → j < 64 → getD whole j 0 ≡ getD s (64 + min (j - 64) (columns - 1)) 0
+  at-left : (j : ℕ) → j < largestShift → getD whole j 0 ≡ getD s (largestShift + min (j - largestShift) (columns - 1)) 0
   at-left j l =
-      let a : 64 + min (j - 64) (columns - 1) ≡ 64 = omega arith in
-      let b : getD left (0 + j) 0 ≡ getD s 64 0 = from-at (λ _. getD s 64 0) 0 64 s j (omega arith) l in
-      from-before (λ _. getD s (64 + columns - 1) 0) (64 + columns) 65 left j (omega arith)
+      let a : largestShift + min (j - largestShift) (columns - 1) ≡ largestShift = omega arith in
+      let b : getD left (0 + j) 0 ≡ getD s largestShift 0 = from-at (λ _. getD s largestShift 0) 0 largestShift s j (omega arith) l in
+      from-before (λ _. getD s (largestShift + columns - 1) 0) (largestShift + columns) (largestShift + 1) left j (omega arith)
       ∙ ap (λ (i : ℕ). getD left i 0) (sym (zero-add j)) ∙ b ∙ ap (λ (i : ℕ). getD s i 0) (sym a)
 
-  at-middle : (j : ℕ) → 64 ≤ j → j < 64 + columns → getD whole j 0 ≡ getD s (64 + min (j - 64) (columns - 1)) 0
+  at-middle : (j : ℕ) → largestShift ≤ j → j < largestShift + columns → getD whole j 0 ≡ getD s (largestShift + min (j - largestShift) (columns - 1)) 0
   at-middle j h l =
-      let a : 64 + min (j - 64) (columns - 1) ≡ j = omega arith in
-      from-before (λ _. getD s (64 + columns - 1) 0) (64 + columns) 65 left j l ∙ from-after (λ _. getD s 64 0) 0 64 s j (omega arith)
+      let a : largestShift + min (j - largestShift) (columns - 1) ≡ j = omega arith in
+      from-before (λ _. getD s (largestShift + columns - 1) 0) (largestShift + columns) (largestShift + 1) left j l ∙ from-after (λ _. getD s largestShift 0) 0 largestShift s j (omega arith)
       ∙ ap (λ (i : ℕ). getD s i 0) (sym a)
 
-  at-right : (j : ℕ) → 64 + columns ≤ j → j < columns + 129 → getD whole j 0 ≡ getD s (64 + min (j - 64) (columns - 1)) 0
+  at-right : (j : ℕ) → largestShift + columns ≤ j → j < columns + edges → getD whole j 0 ≡ getD s (largestShift + min (j - largestShift) (columns - 1)) 0
   at-right j h l =
-      let a : 64 + min (j - 64) (columns - 1) ≡ 64 + columns - 1 = omega arith in
-      let e : 64 + columns + (j - (64 + columns)) ≡ j = omega arith in
-      let f : length left ≡ length s = from-length (λ _. getD s 64 0) 0 64 s in
+      let a : largestShift + min (j - largestShift) (columns - 1) ≡ largestShift + columns - 1 = omega arith in
+      let e : largestShift + columns + (j - (largestShift + columns)) ≡ j = omega arith in
+      let f : length left ≡ length s = from-length (λ _. getD s largestShift 0) 0 largestShift s in
       ap (λ (i : ℕ). getD whole i 0) (sym e)
-      ∙ from-at (λ _. getD s (64 + columns - 1) 0) (64 + columns) 65 left (j - (64 + columns)) (omega arith) (omega arith)
+      ∙ from-at (λ _. getD s (largestShift + columns - 1) 0) (largestShift + columns) (largestShift + 1) left (j - (largestShift + columns)) (omega arith) (omega arith)
       ∙ ap (λ (i : ℕ). getD s i 0) (sym a)
 
-  pub spread-at : (j : ℕ) → j < columns + 129 → getD whole j 0 ≡ getD s (64 + min (j - 64) (columns - 1)) 0
-  spread-at j l = ⊎-elim (at-left j) (λ h. ⊎-elim (at-middle j h) (λ m. at-right j m l) (below-or-not j (64 + columns))) (below-or-not j 64)
+  pub spread-at : (j : ℕ) → j < columns + edges → getD whole j 0 ≡ getD s (largestShift + min (j - largestShift) (columns - 1)) 0
+  spread-at j l = ⊎-elim (at-left j) (λ h. ⊎-elim (at-middle j h) (λ m. at-right j m l) (below-or-not j (largestShift + columns))) (below-or-not j largestShift)
 
--- The sums of a row, put so into a list from place 64 on.
+-- The sums of a row, put so into a list behind the left edge.
 pub spread-row : (v : List ℕ) (g : Geometry) (ks : List ℕ) (row : ℕ) (sums s rest after : List ℕ) → 1 ≤ g .columns
-    → g .columns ≤ length sums → 64 ≤ length s → Summed v g ks row sums
-    → ((j : ℕ) → j < g .columns + 129 → getD after j 0 ≡ getD (take 64 s ++ (sums ++ rest)) (64 + min (j - 64) (g .columns - 1)) 0)
+    → g .columns ≤ length sums → largestShift ≤ length s → Summed v g ks row sums
+    → ((j : ℕ) → j < g .columns + edges → getD after j 0 ≡ getD (take largestShift s ++ (sums ++ rest)) (largestShift + min (j - largestShift) (g .columns - 1)) 0)
     → Spread v g ks row after
 spread-row v g ks row sums s rest after some fits room r
-    a = record { at = λ j l. a j l ∙ part (min (j - 64) (g .columns - 1)) (low j) ∙ r .at (min (j - 64) (g .columns - 1)) (low j) }
+    a = record { at = λ j l. a j l ∙ part (min (j - largestShift) (g .columns - 1)) (low j) ∙ r .at (min (j - largestShift) (g .columns - 1)) (low j) }
   where
-    low : (j : ℕ) → min (j - 64) (g .columns - 1) < g .columns
-    low j = omega (arith, min-le-right (j - 64) (g .columns - 1))
+    low : (j : ℕ) → min (j - largestShift) (g .columns - 1) < g .columns
+    low j = omega (arith, min-le-right (j - largestShift) (g .columns - 1))
 
-    part : (c : ℕ) → c < g .columns → getD (take 64 s ++ (sums ++ rest)) (64 + c) 0 ≡ getD sums c 0
+    part : (c : ℕ) → c < g .columns → getD (take largestShift s ++ (sums ++ rest)) (largestShift + c) 0 ≡ getD sums c 0
     part c l =
-        let e : length (take 64 s) ≡ 64 = length-take-le 64 s room in
-        ap (λ (n : ℕ). getD (take 64 s ++ (sums ++ rest)) (n + c) 0) (sym e) ∙ getD-append-add (take 64 s) (sums ++ rest) c 0
+        let e : length (take largestShift s) ≡ largestShift = length-take-le largestShift s room in
+        ap (λ (n : ℕ). getD (take largestShift s ++ (sums ++ rest)) (n + c) 0) (sym e) ∙ getD-append-add (take largestShift s) (sums ++ rest) c 0
         ∙ List·getD-append sums rest 0 c (omega arith)
 
 module _ (v : List ℕ) (g : Geometry) (ks : List ℕ) (row : ℕ) where
@@ -468,8 +469,8 @@ module _ (v : List ℕ) (g : Geometry) (ks : List ℕ) (row : ℕ) where
       omega arith
 
 pub spread-most : (v : List ℕ) (g : Geometry) (ks : List ℕ) (row : ℕ) (s : List ℕ) (n : ℕ) → n ≡ length ks → Spread v g ks row s → (j : ℕ)
-    → j < g .columns + 129 → getD s j 0 ≤ n * (2 ^ g .stored - 1)
-spread-most v g ks row s n e sums j l = rw (sums .at j l, e) (sum-most g v ks (row * g .columns + min (j - 64) (g .columns - 1)))
+    → j < g .columns + edges → getD s j 0 ≤ n * (2 ^ g .stored - 1)
+spread-most v g ks row s n e sums j l = rw (sums .at j l, e) (sum-most g v ks (row * g .columns + min (j - largestShift) (g .columns - 1)))
 
 -- Number k of the mask frames.
 pub mask-frame : (v : List ℕ) (g : Geometry) (ms : List ℕ) (k x : ℕ) → Masks v g ms → 0 < k → k ≤ length (usValues ms)

@@ -17,7 +17,7 @@ use Rattle.value.specs.Number.{isNumber}
 use Rattle.shift.specs.declared.Shift.{Shift}
 use Rattle.shift.specs.declared.Shift.the-variants as shift
 use Rattle.shift.specs.declared.Moves.{Moves}
-use Rattle.shift.specs.Shift.{signedSize, quartersOf, isShort, movesOf, isShiftOf, itemShift, frameShift, isShift}
+use Rattle.shift.specs.Shift.{shiftUnit, largestShift, largestMove, signedSize, quartersOf, isShort, movesOf, isShiftOf, itemShift, frameShift, isShift}
 use Rattle.shift.proofs.Laws.{same-of}
 use Rattle.shift.specs.Agree.{SameMoves, Agree, AgreeRule, AgreeBeyond}
 use Rattle.shift.specs.Whole.{wholeFloat, wholeMovesOf, isShortWhole, isWholeShiftOf, isWholeShift, inQuarters}
@@ -68,14 +68,14 @@ short-number (Minus n) h = refl
 short-number None h = h
 
 -- In quarters the limit is the same.
-same-limit : (n : ℕ) → leb (4 * n) 256 ≡ leb n 64
-same-limit n = go (leb n 64) (leb (4 * n) 256) refl refl
+same-limit : (n : ℕ) → leb (shiftUnit * n) largestMove ≡ leb n largestShift
+same-limit n = go (leb n largestShift) (leb (shiftUnit * n) largestMove) refl refl
   where
-    go : (t u : Bool) → leb n 64 ≡ t → leb (4 * n) 256 ≡ u → u ≡ t
+    go : (t u : Bool) → leb n largestShift ≡ t → leb (shiftUnit * n) largestMove ≡ u → u ≡ t
     go true true p q = refl
     go false false p q = refl
-    go true false p q = absurd (true≢false (sym (le-leb (4 * n) 256 (omega (arith, leb-true n 64 p))) ∙ q))
-    go false true p q = absurd (true≢false (sym (le-leb n 64 (omega (arith, leb-true (4 * n) 256 q))) ∙ p))
+    go true false p q = absurd (true≢false (sym (le-leb (shiftUnit * n) largestMove (omega (arith, leb-true n largestShift p))) ∙ q))
+    go false true p q = absurd (true≢false (sym (le-leb n largestShift (omega (arith, leb-true (shiftUnit * n) largestMove q))) ∙ p))
 
 short-same : (w : Signed) → isShort (inQuarters w) ≡ isShortWhole w
 short-same (Plus n) = same-limit n

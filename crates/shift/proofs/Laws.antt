@@ -1,4 +1,4 @@
--- For callers: what a value in rule 35's form has, so that its shift moves the mask by quarters from -64 to 64.
+-- For callers: what a value in rule 35's form has, so that its shift moves the mask by short quarters.
 use mathlib.Core.Path.{_≡_, refl, sym, ap, _∙_}
 use mathlib.Core.Bool.{Bool, true, false, _&&_, cond}
 use mathlib.Core.List.{List}

@@ -3,6 +3,7 @@ use mathlib.Core.Path.{sym, _∙_, ap}
 use Rattle.value.proofs.Laws.{below-is}
 use mathlib.Core.Bool.{true, false}
 use Rattle.value.specs.Number.{withSign}
+use Rattle.shift.specs.Contracts.{tooFar}
 use Rattle.shift.proofs.Floats.{neg-low, short-plus, short-minus}
 use borrow.Author.Needs.{needs}
 use Rattle.shift.proofs.short_of.Statement.{statement}
@@ -32,7 +33,7 @@ returns c =
     let at-short-size = c .before .before .before in
     let at-if1 = at-short-size .before in (
       sym (short-minus _ (at-if1 .if1 .taken) ∙ ap (withSign true) (sym (at-short-size .short-size .ensures .0) ∙ c .before .n .given .1)),
-      below-is 257 _ _ (c .before .n .given .1) (at-short-size .short-size .ensures .1),
+      below-is tooFar _ _ (c .before .n .given .1) (at-short-size .short-size .ensures .1),
     )
 
 returns-2 : tie.Need-returns-2
@@ -49,7 +50,7 @@ returns-3 c =
     let at-if1 = at-short-size2 .before in (
       sym (short-plus _ (at-if1 .if1 .left)
           ∙ ap (withSign false) (sym (at-short-size2 .short-size2 .ensures .0) ∙ c .before .n2 .given .1)),
-      below-is 257 _ _ (c .before .n2 .given .1) (at-short-size2 .short-size2 .ensures .1),
+      below-is tooFar _ _ (c .before .n2 .given .1) (at-short-size2 .short-size2 .ensures .1),
     )
 
 returns-4 : tie.Need-returns-4
