@@ -22,7 +22,7 @@ use Rattle.conformance.specs.Judging as judging
 use Rattle.display.specs.Show.{isFrameOf, imageSize, pictureOf}
 use Rattle.display.proofs.Small.{us-in-small}
 use Rattle.compare.specs.declared.CompareAnswer.the-variants as answer
-use Rattle.compare.specs.Differences.{isOff, howMany, firstOff}
+use Rattle.differences.specs.Differences.{isOff, howMany, firstOff}
 use Rattle.compare.specs.Answer.{comparedBy, acceptedAnswer, answerFor, compareOf, plain, fieldsOf}
 use Rattle.c_answers.specs.Contracts.{Fits32}
 use Rattle.c_answers.proofs.Fits.{alone-fits}

@@ -12,12 +12,12 @@ use Rattle.conformance.specs.Judging.{judgeOf}
 use Rattle.conformance.specs.declared.JudgeAnswer.{JudgeAnswer}
 use Rattle.display.specs.Show.{imageSize, pictureOf}
 use Rattle.display.proofs.Answers.{none-frame, high-frame, low-frame}
-use Rattle.compare.specs.declared.Differing.{Differing}
+use Rattle.differences.specs.declared.Differing.{Differing}
 use Rattle.compare.specs.declared.CompareAnswer.the-variants as answer
-use Rattle.compare.specs.Differences.{isOff, howMany, firstOff}
+use Rattle.differences.specs.Differences.{isOff, howMany, firstOff}
 use Rattle.compare.specs.Answer.{comparedBy, acceptedAnswer, answerFor, compareOf}
-use Rattle.compare.specs.Contracts.{along, nothing}
-use Rattle.compare.proofs.Places.{seen-all}
+use Rattle.differences.specs.Contracts.{along, nothing}
+use Rattle.differences.proofs.Places.{seen-all}
 
 -- What `compare` answers, by what the judge answered.
 pub compare-by : (s : List ℕ) (f : ℕ) (cells : List ℕ) (t : ℕ) (before : List ℕ) (j : JudgeAnswer) → j ≡ judgeOf s before

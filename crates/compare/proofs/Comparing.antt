@@ -24,7 +24,7 @@ use Rattle.display.proofs.Codes.{was-frame, judged-accepted, was-judged}
 use Rattle.display.proofs.Drawing.{drawing}
 use Rattle.compare.specs.declared.CompareAnswer.{CompareAnswer}
 use Rattle.compare.specs.declared.CompareAnswer.the-variants as answer
-use Rattle.compare.specs.Differences.{within, isOff, howMany, firstOff}
+use Rattle.differences.specs.Differences.{within, isOff, howMany, firstOff}
 use Rattle.compare.specs.Answer.{comparedBy, acceptedAnswer, answerFor, compareOf, fieldsOf}
 use Rattle.compare.specs.Comparing.{Comparable, Near, Names, Own, Comparing}
 

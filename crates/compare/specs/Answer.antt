@@ -13,7 +13,7 @@ use Rattle.conformance.specs.declared.JudgeAnswer.the-variants as judged
 use Rattle.display.specs.Show.{isFrameOf, imageSize, pictureOf}
 use Rattle.compare.specs.declared.CompareAnswer.{CompareAnswer}
 use Rattle.compare.specs.declared.CompareAnswer.the-variants as answer
-use Rattle.compare.specs.Differences.{isOff, howMany, firstOff}
+use Rattle.differences.specs.Differences.{isOff, howMany, firstOff}
 
 -- The answer for an object with n rows, by which of `size` places are off.
 unfoldable pub comparedBy : ℕ → (ℕ → Bool) → ℕ → CompareAnswer

@@ -14,7 +14,7 @@ use Rattle.node.specs.Nodes.{nodesOf}
 use Rattle.display.specs.Show as show
 use Rattle.display.specs.Show.{imageSize, pictureOf, showOf, imageOf}
 use Rattle.display.specs.Drawing.{IsAccepted, IsFrame}
-use Rattle.compare.specs.Differences.{isOff, howMany}
+use Rattle.differences.specs.Differences.{isOff, howMany}
 use Rattle.compare.specs.Answer.{compareOf, fieldsOf}
 
 -- What can be compared.

@@ -11,9 +11,9 @@ use Rattle.display.specs.Contracts.{shadeBy}
 use Rattle.display.specs.Show.{pictureOf}
 use Rattle.display.proofs.Scenes as scenes
 use Rattle.sheet.proofs.Scenes as counted
-use Rattle.compare.specs.Differences.{isOff}
-use Rattle.compare.specs.Contracts.{along, nothing, Against}
-use Rattle.compare.proofs.Places.{met-list}
+use Rattle.differences.specs.Differences.{isOff}
+use Rattle.differences.specs.Contracts.{along, nothing, Against}
+use Rattle.differences.proofs.Places.{met-list}
 use mathlib.Core.Path.{refl, sym, ap, _∙_, subst}
 use native.Mathlib.Omega.{arith}
 use borrow.Author.Needs.{needs}

@@ -1,11 +1,11 @@
 -- Only a cell that is off counts, and the first place is kept; no more cells are off than places were passed, so the count does not wrap.
 use mathlib.Core.Bool.{Bool}
-use Rattle.compare.specs.Contracts.{seen}
-use Rattle.compare.proofs.Places as places
+use Rattle.differences.specs.Contracts.{seen}
+use Rattle.differences.proofs.Places as places
 use mathlib.Core.Path.{sym, ap, _∙_}
 use native.Mathlib.Omega.{arith}
-use Rattle.compare.proofs.look.Statement.{statement}
-use Rattle.compare.proofs.look.Tie as tie
+use Rattle.differences.proofs.look.Statement.{statement}
+use Rattle.differences.proofs.look.Tie as tie
 
 add-t10 : tie.Need-add-t10
 add-t10 c =

@@ -1,9 +1,9 @@
 -- Two levels are too far apart just where one of them is above the other and the tolerance together.
-use Rattle.compare.proofs.Places as places
+use Rattle.differences.proofs.Places as places
 use native.Mathlib.Omega.{arith}
 use borrow.Author.Needs.{needs}
-use Rattle.compare.proofs.is_off.Statement.{statement}
-use Rattle.compare.proofs.is_off.Tie as tie
+use Rattle.differences.proofs.is_off.Statement.{statement}
+use Rattle.differences.proofs.is_off.Tie as tie
 
 add-if1 : tie.Need-add-if1
 add-if1 c =

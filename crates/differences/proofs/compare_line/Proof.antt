@@ -2,15 +2,15 @@
 use Prim.Native.Nat.{ℕ, _+_, _-_, _≤_}
 use mathlib.Core.Bool.{not}
 use lib.ListN.{length, getD}
-use Rattle.compare.specs.Differences.{within}
-use Rattle.compare.specs.declared.Differing.{Differing}
-use Rattle.compare.specs.Contracts.{along}
-use Rattle.compare.proofs.Places as places
+use Rattle.differences.specs.Differences.{within}
+use Rattle.differences.specs.declared.Differing.{Differing}
+use Rattle.differences.specs.Contracts.{along}
+use Rattle.differences.proofs.Places as places
 use mathlib.Core.Path.{_≡_, refl, sym, _∙_, subst}
 use native.Mathlib.Omega.{arith}
 use borrow.Author.Needs.{needs}
-use Rattle.compare.proofs.compare_line.Statement.{statement}
-use Rattle.compare.proofs.compare_line.Tie as tie
+use Rattle.differences.proofs.compare_line.Statement.{statement}
+use Rattle.differences.proofs.compare_line.Tie as tie
 
 abbrev Inv-loop : tie.InvT-loop
 Inv-loop line cells at tolerance now₀ k₀ k-end now k =

@@ -5,8 +5,8 @@ use mathlib.Core.List.{List}
 use Prim.Native.Nat.{ℕ, zero, suc, _+_, _≤_}
 use lib.ListN.{length, getD}
 use lib.Dec.{eqb}
-use Rattle.compare.specs.declared.Differing.{Differing}
-use Rattle.compare.specs.Differences.{within}
+use Rattle.differences.specs.declared.Differing.{Differing}
+use Rattle.differences.specs.Differences.{within}
 
 -- ---- Cell by cell
 

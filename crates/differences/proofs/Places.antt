@@ -10,9 +10,9 @@ use lib.Dec.{leb, ltb, eqb}
 use borrow.Author.Tests.{le-leb, lt-leb, lt-ltb, le-ltb, eq-eqb, ne-eqb, leb-true, leb-false}
 use Rattle.lines.specs.Contracts.{upTo}
 use Rattle.lines.proofs.Lists.{upTo-length, upTo-at}
-use Rattle.compare.specs.declared.Differing.{Differing}
-use Rattle.compare.specs.Differences.{within, isOff, howMany, firstOff}
-use Rattle.compare.specs.Contracts.{seen, along, nothing, offBy, met, Against, LineOf}
+use Rattle.differences.specs.declared.Differing.{Differing}
+use Rattle.differences.specs.Differences.{within, isOff, howMany, firstOff}
+use Rattle.differences.specs.Contracts.{seen, along, nothing, offBy, met, Against, LineOf}
 
 -- ---- One cell
 
