@@ -14,7 +14,8 @@ use Rattle.searches.specs.Count.{lowerTags, remains, lookedAt}
 use Rattle.searches.specs.Searches.{Search, GroupSearch, rootSearches, maskSearches, frameSearches, searchedAmong, maskSum, readIn}
 use Rattle.searches.specs.Searches.{readInEach, inShared, groupSum, groupsSum, frameSum, framesSum, overFrames, searchesOf}
 use Rattle.privacy.specs.Alike.{Alike}
-use Rattle.privacy.proofs.Words.{some-same, inside-same, root-same, find-same, shared-same, frame-items-same, mask-items-same}
+use Rattle.privacy.proofs.Words.{some-same, inside-same, inside-of-same, root-same, find-same, shared-same}
+use Rattle.privacy.proofs.Words.{frame-items-same, mask-items-same}
 
 module _ {ns ms : List Node} (a : Alike ns ms) where
   -- ---- One search
@@ -56,10 +57,6 @@ module _ {ns ms : List Node} (a : Alike ns ms) where
   read-each-same tags [] = refl
   read-each-same tags (j ∷ js) = rw (read-same tags j, read-each-same tags js)
 
-  items-same : (o : Num) → insideOf ns o ≡ insideOf ms o
-  items-same None = refl
-  items-same (Is g) = inside-same a g
-
   group-sum-same : (g : GroupSearch) (s i : ℕ) → groupSum ns g s i ≡ groupSum ms g s i
   unfolding groupSum inShared
   group-sum-same g s i =
@@ -71,7 +68,7 @@ module _ {ns ms : List Node} (a : Alike ns ms) where
         looked-same (g .group) (inside ms s),
         find-same a (g .group) (inside ms i),
         find-same a (g .group) (inside ms s),
-        items-same found,
+        inside-of-same a found,
         read-each-same (g .reads) (insideOf ms found),
       )
 
