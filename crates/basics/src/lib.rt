@@ -1,4 +1,4 @@
-// The base of every other crate: numbers in bytes, VRs, and how large a data set may be. specs/ defines each, and the fields of an
+// The base of every other crate: numbers in bytes, tags, VRs, and how large a data set may be. specs/ defines each, and the fields of an
 // answer. No function of this crate is a public call: each requires that the bytes it reads exist.
 ghost use mathlib.Core.Path.{_≡_};
 ghost use Prim.Native.Nat.{_+_, _≤_, _<_};
@@ -7,6 +7,7 @@ ghost use Rattle.basics.specs.Bytes.{sameBytes, le16, le32, tagAt, vrAt}
 ghost use Rattle.basics.specs.Vr.{formOf};
 ghost use Rattle.basics.specs.Contracts.{FormsAfter};
 
+pub mod tags;
 pub mod vrs;
 
 // The most bytes that a data set may have.

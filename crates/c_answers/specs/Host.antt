@@ -5,8 +5,8 @@ use Rattle.basics.specs.Fields.{Fields}
 use Rattle.c_answers.specs.declared.Answer.{Answer}
 
 -- The version of the calls for hosts: one more each time that a host which was made for the last one has to be made anew.
-abbrev pub version : ℕ
-version = 1
+abbrev pub hostVersion : ℕ
+hostVersion = 1
 
 -- The fields of an answer as the struct of every call. Fields that a code does not name are 0.
 abbrev pub hosted : Fields → Answer

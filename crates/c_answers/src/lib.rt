@@ -2,12 +2,12 @@
 ghost use mathlib.Core.Path.{_≡_};
 ghost use mathlib.Core.Bool.{cond};
 ghost use Rattle.basics.specs.Fields.{codeAlone, placed, counted, drawn, broken};
-ghost use Rattle.c_answers.specs.Host.{version, hosted, withSearches};
+ghost use Rattle.c_answers.specs.Host.{hostVersion, hosted, withSearches};
 ghost use Rattle.c_answers.specs.Contracts.{Fits32};
 
 // The version of the calls for hosts, XA_VERSION of the header.
-pub fn version() -> u32
-    ensures { λ r. ⌜ r ≡ version ⌝ }
+pub fn hostVersion() -> u32
+    ensures { λ r. ⌜ r ≡ hostVersion ⌝ }
 {
     1
 }

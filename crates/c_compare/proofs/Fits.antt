@@ -8,22 +8,23 @@ use native.Mathlib.Nat.{mul-le-mul}
 use native.Mathlib.Omega.{arith}
 use lib.Dec.{eqb, leb}
 use lib.ListN.{length}
+use Rattle.value.specs.Number.{numberOr0}
 use Rattle.basics.specs.Bytes.{IsBytes}
 use Rattle.basics.specs.Fields.{Fields, codeAlone, placed, counted, broken}
 use Rattle.value.specs.declared.Num.{Num}
 use Rattle.value.specs.declared.Num.the-variants.{Is, None}
 use Rattle.node.specs.Nodes.{Node, nodesOf, root}
-use Rattle.element.specs.Tags
+use Rattle.basics.specs.Tags
 use Rattle.element.specs.Elements.{usIn}
 use Rattle.conformance.specs.declared.JudgeAnswer.{JudgeAnswer}
 use Rattle.conformance.specs.declared.JudgeAnswer.the-variants as judged
-use Rattle.conformance.specs.Judging.{numberOf, judgeOf}
+use Rattle.conformance.specs.Judging.{judgeOf}
 use Rattle.conformance.specs.Judging as judging
 use Rattle.display.specs.Show.{isFrameOf, imageSize, pictureOf}
 use Rattle.display.proofs.Small.{us-in-small}
 use Rattle.compare.specs.declared.CompareAnswer.the-variants as answer
 use Rattle.differences.specs.Differences.{isOff, howMany, firstOff}
-use Rattle.compare.specs.Answer.{comparedBy, acceptedAnswer, answerFor, compareOf, plain, fieldsOf}
+use Rattle.compare.specs.Answer.{comparedBy, acceptedAnswer, answerFor, compareOf, withoutCell, fieldsOf}
 use Rattle.c_answers.specs.Contracts.{Fits32}
 use Rattle.c_answers.proofs.Fits.{alone-fits}
 use Rattle.c_judge.proofs.Fits.{judge-fits}
@@ -49,19 +50,19 @@ first-most off (suc n) = go (off n && eqb (howMany off n) 0) (first-most off n)
     go true h = omega arith
     go false h = omega arith
 
-number-small : (n : Num) → ((k : ℕ) → n ≡ Is k → k < 65536) → numberOf n < 65536
+number-small : (n : Num) → ((k : ℕ) → n ≡ Is k → k < 65536) → numberOr0 n < 65536
 number-small (Is k) h = h k refl
 number-small None h = omega arith
 
 size-small : (s : List ℕ) → IsBytes s → imageSize (nodesOf s) < 4294967296
 size-small s b =
-    let r : numberOf (usIn (nodesOf s) Tags.Rows (root (nodesOf s)))
+    let r : numberOr0 (usIn (nodesOf s) Tags.Rows (root (nodesOf s)))
     < 65536 = number-small (usIn (nodesOf s) Tags.Rows (root (nodesOf s))) (λ k e. us-in-small s b Tags.Rows k (root (nodesOf s)) e) in
-    let c : numberOf (usIn (nodesOf s) Tags.Columns (root (nodesOf s))) < 65536 = number-small
+    let c : numberOr0 (usIn (nodesOf s) Tags.Columns (root (nodesOf s))) < 65536 = number-small
     (usIn (nodesOf s) Tags.Columns (root (nodesOf s))) (λ k e. us-in-small s b Tags.Columns k (root (nodesOf s)) e) in
     let m : imageSize (nodesOf s) ≤ 65535 * 65535 =
-    mul-le-mul {n₁ = numberOf (usIn (nodesOf s) Tags.Rows (root (nodesOf s)))}
-    {m₁ = numberOf (usIn (nodesOf s) Tags.Columns (root (nodesOf s)))} {n₂ = 65535} {m₂ = 65535} (omega (arith, r))
+    mul-le-mul {n₁ = numberOr0 (usIn (nodesOf s) Tags.Rows (root (nodesOf s)))}
+    {m₁ = numberOr0 (usIn (nodesOf s) Tags.Columns (root (nodesOf s)))} {n₂ = 65535} {m₂ = 65535} (omega (arith, r))
     (omega (arith, c)) in
     omega (arith, m)
 
@@ -76,7 +77,7 @@ by-places n off size h k = go (eqb (howMany off size) 0)
     go false = record { answer = h; first = omega (arith, first-most off size); count = omega (arith, count-most off size) }
 
 -- An answer that names no cell.
-plain-fits : (a : Fields) → Fits32 a → CompareFits32 (plain a)
+plain-fits : (a : Fields) → Fits32 a → CompareFits32 (withoutCell a)
 plain-fits a h = record { answer = h; first = omega arith; count = omega arith }
 
 by-tests : (ns : List Node) (f : ℕ) (cells : List ℕ) (t n : ℕ) → Fits32 (counted n) → imageSize ns < 4294967296

@@ -16,42 +16,42 @@ use Rattle.slip.specs.declared.SlipAnswer.{SlipAnswer}
 use Rattle.slip.specs.declared.SlipAnswer.the-variants as read
 use Rattle.slip.specs.declared.WriteAnswer.{WriteAnswer}
 use Rattle.slip.specs.declared.WriteAnswer.the-variants as write
-use Rattle.slip.specs.Slip.{mark, version, oldVersion, versionPlace, rowsPlace, headSize, oldSize, slipSize, recorded}
-use Rattle.slip.specs.Slip.{ifPossible, readSized, readVersion, readOf, readFields, writeOf, writeFields}
+use Rattle.slip.specs.Slip.{mark, version, oldVersion, versionPlace, rowsPlace, openingSize, oldSize, slipSize, recorded}
+use Rattle.slip.specs.Slip.{ifPossible, readSized, readVersion, readOf, readSlipFields, writeOf, writeSlipFields}
 use Rattle.slip.proofs.Slips.{slips}
 use Rattle.c_slips.specs.Slips.{rowsNumber}
 use Rattle.c_slips.specs.Contracts.{Narrow}
 
-write-code : (v : Verdict) (buffer : List ℕ) → writeFields (writeOf v buffer) .code ≤ 14
+write-code : (v : Verdict) (buffer : List ℕ) → writeSlipFields (writeOf v buffer) .code ≤ 14
 unfolding writeOf
 write-code v buffer = go (writable v) (leb slipSize (length buffer))
   where
-    go : (a b : Bool) → writeFields (cond (not a) (write.Refused 14) (cond (not b) (write.Refused 11) write.Written)) .code ≤ 14
+    go : (a b : Bool) → writeSlipFields (cond (not a) (write.Refused 14) (cond (not b) (write.Refused 11) write.Written)) .code ≤ 14
     go false b = omega arith
     go true false = omega arith
     go true true = omega arith
 
-pub written-code : {a b : WriteAnswer} (v : Verdict) (buffer : List ℕ) → a ≡ writeOf v buffer → a ≡ b → writeFields b .code ≤ 14
-written-code v buffer e f = subst (λ (a : WriteAnswer). writeFields a .code ≤ 14) (sym e ∙ f) (write-code v buffer)
+pub written-code : {a b : WriteAnswer} (v : Verdict) (buffer : List ℕ) → a ≡ writeOf v buffer → a ≡ b → writeSlipFields b .code ≤ 14
+written-code v buffer e f = subst (λ (a : WriteAnswer). writeSlipFields a .code ≤ 14) (sym e ∙ f) (write-code v buffer)
 
-sized-code : (size : ℕ) (rows : RowCount) (s : List ℕ) → readFields (readSized size rows s) .code ≤ 14
+sized-code : (size : ℕ) (rows : RowCount) (s : List ℕ) → readSlipFields (readSized size rows s) .code ≤ 14
 unfolding readSized ifPossible
 sized-code size rows s = go (eqb (length s) size) (possible (recorded s rows))
   where
     go : (a d : Bool)
-        → readFields (cond (not a) (read.Refused 12) (cond (not d) (read.Refused 14) (read.Read (recorded s rows)))) .code ≤ 14
+        → readSlipFields (cond (not a) (read.Refused 12) (cond (not d) (read.Refused 14) (read.Read (recorded s rows)))) .code ≤ 14
     go false d = omega arith
     go true false = omega arith
     go true true = omega arith
 
-read-code : (s : List ℕ) → readFields (readOf s) .code ≤ 14
+read-code : (s : List ℕ) → readSlipFields (readOf s) .code ≤ 14
 unfolding readOf readVersion
 read-code s =
-    go (leb headSize (length s) && sameBytes (take 3 s) mark) (eqb (leNumber 2 s versionPlace) oldVersion)
+    go (leb openingSize (length s) && sameBytes (take 3 s) mark) (eqb (leNumber 2 s versionPlace) oldVersion)
     (eqb (leNumber 2 s versionPlace) version)
   where
     go : (a b d : Bool)
-        → readFields (cond (not a) (read.Refused 12)
+        → readSlipFields (cond (not a) (read.Refused 12)
         (cond b (readSized oldSize NotKnown s) (cond d (readSized slipSize (Known (leNumber 4 s rowsPlace)) s) (read.Refused 13)))) .code
         ≤ 14
     go false b d = omega arith
@@ -59,8 +59,8 @@ read-code s =
     go true false true = sized-code slipSize (Known (leNumber 4 s rowsPlace)) s
     go true false false = omega arith
 
-pub slip-code : {a b : SlipAnswer} (s : List ℕ) → a ≡ readOf s → a ≡ b → readFields b .code ≤ 14
-slip-code s e f = subst (λ (a : SlipAnswer). readFields a .code ≤ 14) (sym e ∙ f) (read-code s)
+pub slip-code : {a b : SlipAnswer} (s : List ℕ) → a ≡ readOf s → a ≡ b → readSlipFields b .code ≤ 14
+slip-code s e f = subst (λ (a : SlipAnswer). readSlipFields a .code ≤ 14) (sym e ∙ f) (read-code s)
 
 -- A count that is not known is handed over as the greatest number of 32 bits.
 rows-narrow : (v : Verdict) → possible v ≡ true → rowsNumber (v .rows) < 4294967296

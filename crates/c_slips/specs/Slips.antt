@@ -42,9 +42,9 @@ verdictAnswer v = record {
 }
 
 -- The answer of reading a slip: 0 and the verdict, or the refusal's code, all else being 0.
-abbrev pub slipBy : ℕ → Option Verdict → Slip
-slipBy code (some v) = record { code = code; known = knownNumber (v .rows); verdict = verdictAnswer v }
-slipBy code none = record { code = code; known = 0; verdict = hosted (codeAlone 0) }
+abbrev pub hostedSlipBy : ℕ → Option Verdict → Slip
+hostedSlipBy code (some v) = record { code = code; known = knownNumber (v .rows); verdict = verdictAnswer v }
+hostedSlipBy code none = record { code = code; known = 0; verdict = hosted (codeAlone 0) }
 
-abbrev pub slipOf : SlipFields → Slip
-slipOf a = slipBy (a .code) (a .verdict)
+abbrev pub hostedSlip : SlipFields → Slip
+hostedSlip a = hostedSlipBy (a .code) (a .verdict)

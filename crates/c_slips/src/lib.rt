@@ -6,8 +6,8 @@ use verdict::RowCount;
 use verdict::Verdict;
 ghost use mathlib.Core.Path.{_≡_};
 ghost use Prim.Native.Nat.{_<_};
-ghost use Rattle.slip.specs.Slip.{readOf, readFields, writeOf, writeFields, slipBuffer};
-ghost use Rattle.c_slips.specs.Slips.{countIn, verdictIn, knownNumber, rowsNumber, slipOf, verdictAnswer};
+ghost use Rattle.slip.specs.Slip.{readOf, readSlipFields, writeOf, writeSlipFields, slipBuffer};
+ghost use Rattle.c_slips.specs.Slips.{countIn, verdictIn, knownNumber, rowsNumber, hostedSlip, verdictAnswer};
 ghost use Rattle.c_slips.specs.Contracts.{Narrow};
 
 // The row count of a verdict that does not know it: no verdict has that many rows.
@@ -48,7 +48,7 @@ fn verdict_in(verdict: Answer, known: u32) -> Verdict
 // Writes the slip of the verdict in an answer over the first 17 bytes of the buffer, and answers the code: 0, 14 or 11. A refusal leaves
 // the buffer as it was.
 pub fn write_slip(verdict: Answer, known: u32, slip: &mut [u8]) -> u32
-    ensures { λ r. ⌜ r ≡ writeFields (writeOf (verdictIn verdict known) (now (slip .entry))) .code ⌝ }
+    ensures { λ r. ⌜ r ≡ writeSlipFields (writeOf (verdictIn verdict known) (now (slip .entry))) .code ⌝ }
     ensures { λ _. ⌜ now (slip .exit) ≡ slipBuffer (verdictIn verdict known) (now (slip .entry)) ⌝ }
 {
     match slip::write_slip(verdict_in(verdict, known), slip) {
@@ -96,7 +96,7 @@ fn answer_of(v: Verdict) -> Answer
 // A slip that reads well.
 fn slip_of(v: Verdict) -> Slip
     requires { ⌜ Narrow v ⌝ }
-    ensures { λ r. ⌜ r ≡ slipOf (readFields (SlipAnswer.Read v)) ⌝ }
+    ensures { λ r. ⌜ r ≡ hostedSlip (readSlipFields (SlipAnswer.Read v)) ⌝ }
 {
     let rows = v.rows;
     Slip {
@@ -108,7 +108,7 @@ fn slip_of(v: Verdict) -> Slip
 
 // The verdict that a slip records, or code 12, 13 or 14.
 pub fn read_slip(slip: &[u8]) -> Slip
-    ensures { λ r. ⌜ r ≡ slipOf (readFields (readOf (now (slip .entry)))) ⌝ }
+    ensures { λ r. ⌜ r ≡ hostedSlip (readSlipFields (readOf (now (slip .entry)))) ⌝ }
 {
     match slip::read_slip(slip) {
         SlipAnswer::Read(v) => slip_of(v),

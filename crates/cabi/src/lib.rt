@@ -18,26 +18,26 @@ ghost use Rattle.file.specs.Searches.{countedFileOf, countedFields};
 ghost use Rattle.sheet.specs.Answer.{sheetOf};
 ghost use Rattle.compare.specs.Answer.{compareOf};
 ghost use Rattle.compare.specs.Answer as comparing;
-ghost use Rattle.linear.specs.Answer.{linearOf, valuesOf};
+ghost use Rattle.linear.specs.Answer.{linearOf, valuesLeft};
 ghost use Rattle.linear.specs.Answer as mapping;
 ghost use Rattle.squareroot.specs.SquareRoot.{rootLevel, rootEntry};
 ghost use Rattle.canonical.specs.Answer.{canonicalOf, targetOf};
 ghost use Rattle.canonical.specs.Answer as writing;
 ghost use Rattle.slip.specs.Slip as slips;
-ghost use Rattle.c_answers.specs.Host.{version, hosted};
+ghost use Rattle.c_answers.specs.Host.{hostVersion, hosted};
 ghost use Rattle.c_judge.specs.Judged.{reported};
 ghost use Rattle.c_files.specs.Start.{partOf};
 ghost use Rattle.c_sheet.specs.Sheet.{sheetFields, holdsSheet, sheetAfter};
 ghost use Rattle.c_compare.specs.Compared.{comparedOf};
 ghost use Rattle.c_canonical.specs.Rewritten.{rewrittenOf};
-ghost use Rattle.c_slips.specs.Slips.{verdictIn, slipOf};
+ghost use Rattle.c_slips.specs.Slips.{verdictIn, hostedSlip};
 
 // The version of the calls for hosts, XA_VERSION of the header.
 #[no_mangle]
 pub extern "C" fn xa_version() -> u32
-    ensures { λ r. ⌜ r ≡ version ⌝ }
+    ensures { λ r. ⌜ r ≡ hostVersion ⌝ }
 {
-    c_answers::version()
+    c_answers::hostVersion()
 }
 
 // How many rows a data set has. No row is stored.
@@ -166,7 +166,7 @@ pub extern "C" fn xa_linear(
 ) -> Answer
     ensures { λ r. ⌜ r ≡ hosted (mapping.fieldsOf (linearOf (now (bytes .entry)) frame (now (rows .entry)) (now (values .entry)))) ⌝ }
     ensures { λ _. ⌜ now (rows .exit) ≡ bufferOf (readingOf (now (bytes .entry))) (now (rows .entry)) ⌝ }
-    ensures { λ _. ⌜ now (values .exit) ≡ valuesOf (now (bytes .entry)) frame (now (rows .entry)) (now (values .entry)) ⌝ }
+    ensures { λ _. ⌜ now (values .exit) ≡ valuesLeft (now (bytes .entry)) frame (now (rows .entry)) (now (values .entry)) ⌝ }
 {
     c_linear::linear_numbers(linear::linear(bytes, frame, rows, values))
 }
@@ -203,7 +203,7 @@ pub extern "C" fn xa_canonical(bytes: &[u8], rows: &mut [u32], target: &mut [u8]
 // the buffer as it was.
 #[no_mangle]
 pub extern "C" fn xa_write_slip(verdict: Answer, known: u32, slip: &mut [u8]) -> u32
-    ensures { λ r. ⌜ r ≡ slips.writeFields (slips.writeOf (verdictIn verdict known) (now (slip .entry))) .code ⌝ }
+    ensures { λ r. ⌜ r ≡ slips.writeSlipFields (slips.writeOf (verdictIn verdict known) (now (slip .entry))) .code ⌝ }
     ensures { λ _. ⌜ now (slip .exit) ≡ slips.slipBuffer (verdictIn verdict known) (now (slip .entry)) ⌝ }
 {
     c_slips::write_slip(verdict, known, slip)
@@ -212,7 +212,7 @@ pub extern "C" fn xa_write_slip(verdict: Answer, known: u32, slip: &mut [u8]) ->
 // The verdict that a slip records, or code 12, 13 or 14.
 #[no_mangle]
 pub extern "C" fn xa_read_slip(slip: &[u8]) -> Slip
-    ensures { λ r. ⌜ r ≡ slipOf (slips.readFields (slips.readOf (now (slip .entry)))) ⌝ }
+    ensures { λ r. ⌜ r ≡ hostedSlip (slips.readSlipFields (slips.readOf (now (slip .entry)))) ⌝ }
 {
     c_slips::read_slip(slip)
 }

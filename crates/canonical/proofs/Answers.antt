@@ -19,7 +19,7 @@ use Rattle.node.specs.Nodes.{nodeOf, nodesOf}
 use Rattle.node.proofs.Laws.{next-within}
 use Rattle.node.proofs.After.{after-reading, nodes-read}
 use Rattle.canonical.specs.declared.CanonicalAnswer.the-variants as canonical
-use Rattle.canonical.specs.Contracts.{Sized, Fitting, Wrote}
+use Rattle.canonical.specs.Contracts.{Sized, Fitting, WroteNodes}
 use Rattle.canonical.specs.Written.{writtenSize, writtenOf}
 use Rattle.canonical.specs.Answer.{canonicalOf, targetOf}
 use Rattle.canonical.proofs.Shape.{shape-size}
@@ -40,8 +40,8 @@ nodes-few s bytes = go (readingOf s) (reading-shape s bytes)
     go : (o : Reading) → Readable s bytes o → Few s (writtenSize (map (nodeOf s) (rowsIn o)))
     go tooLarge r = record { fits = omega arith; small = omega arith }
     go (refusedAt code offset) r = record { fits = omega arith; small = omega arith }
-    go (read rows)
-        r = record { fits = omega (arith, shape-size (r .shape), r .fits); small = omega (arith, shape-size (r .shape), r .fits, r .small) }
+    go (read rows) r =
+        record { fits = omega (arith, shape-size (r .shape), r .fits); small = omega (arith, shape-size (r .shape), r .fits, r .small) }
 
 -- The canonical form is no longer than the data set.
 pub form-fits : (s : List ℕ) → IsBytes s → length (writtenOf (nodesOf s)) ≤ length s
@@ -88,7 +88,7 @@ module _ (s before target : List ℕ) (n : ℕ) (e : answer.Done n ≡ answerOf 
       (omega (arith, length-written (nodesOf s), ltb-true (length target) (writtenSize (nodesOf s)) h)) in
       (rw (← e, f, q), rw (← e, f))
 
-  pub done-answer : (size : ℕ) (after : List ℕ) → Wrote (nodesOf s) target after 0 0 n size
+  pub done-answer : (size : ℕ) (after : List ℕ) → WroteNodes (nodesOf s) target after 0 0 n size
       → ltb (length target) (writtenSize (nodesOf s)) ≡ false
       → (canonical.Done n size ≡ canonicalOf s before target) × (after ≡ targetOf s before target)
   unfolding canonicalOf targetOf

@@ -13,7 +13,7 @@ use Rattle.dataset.specs.declared.Head.{Head}
 use Rattle.dataset.specs.declared.Head.the-variants as head
 use Rattle.basics.specs.Bytes.{le16, le32, tagAt, vrAt, le}
 use Rattle.basics.specs.Vr.{formOf, SQ}
-use Rattle.dataset.specs.Header.{when, undefined, itemTag, cursor, headerBy, levelBy, definedBy, longBy, typedAt, taggedAt, sizedBy}
+use Rattle.dataset.specs.Header.{when, undefined, itemTag, cursor, headerBy, nestedBy, definedBy, longBy, typedAt, taggedAt, sizedBy}
 use Rattle.dataset.specs.Header.{memberAt, elementAt, itemAt}
 use Rattle.dataset.specs.Tree.{Kind, elements, items}
 use Rattle.dataset.specs.Reading.{Row, row, Run, done, level, valueRun, elementsAt, itemsAt, read, whole, readingOf, depths}
@@ -42,8 +42,8 @@ module _ (t : List ℕ) (at : ℕ) (xs : List ℕ) (here : drop at t ≡ xs) whe
 
 -- ---- The checks, on what was written
 
-level-head : (tag vr levels : ℕ) (v : Cursor) → (vr ≡ SQ → levels ≡ 0 → ⊥) → levelBy tag vr levels v ≡ head.Header tag vr v
-unfolding levelBy when
+level-head : (tag vr levels : ℕ) (v : Cursor) → (vr ≡ SQ → levels ≡ 0 → ⊥) → nestedBy tag vr levels v ≡ head.Header tag vr v
+unfolding nestedBy when
 level-head tag vr levels v n = go (eqb vr SQ) refl (eqb levels 0) refl
   where
     go : (a : Bool) → eqb vr SQ ≡ a → (b : Bool) → eqb levels 0 ≡ b

@@ -13,7 +13,7 @@ use Rattle.dataset.specs.declared.Head.the-variants as head
 use Rattle.basics.specs.Bytes.{IsBytes, le16, le32, tagAt, vrAt}
 use Rattle.basics.proofs.Bytes.{take-bytes, drop-bytes}
 use Rattle.basics.specs.Vr.{formOf, SQ}
-use Rattle.dataset.specs.Header.{when, itemTag, cursor, moved, headerBy, delimiterBy, levelBy, definedBy, longBy, typedAt, taggedAt}
+use Rattle.dataset.specs.Header.{when, itemTag, cursor, moved, headerBy, delimiterBy, nestedBy, definedBy, longBy, typedAt, taggedAt}
 use Rattle.dataset.specs.Header.{sizedBy, memberAt, elementAt, itemAt}
 use Rattle.dataset.specs.Reading.{Row, row, Run, done, refused, onHead, onRun, level, valueRun, elementsAt, itemsAt, Reading, tooLarge}
 use Rattle.dataset.specs.Reading.{depths}
@@ -90,8 +90,8 @@ module _ (kind : Kind) (least levels : ℕ) (c : Cursor) where
 
 module _ (c : Cursor) (least levels tag vr : ℕ) (up : least ≤ tag) (good : Tag tag) (known : formOf vr ≡ 0 → ⊥) (word : vr < 65536) where
   level-says : (v : Cursor) → ((vr ≡ SQ → levels ≡ 0 → ⊥) → Element c least levels tag vr v)
-      → Says elements least levels c (levelBy tag vr levels v)
-  unfolding levelBy
+      → Says elements least levels c (nestedBy tag vr levels v)
+  unfolding nestedBy
   level-says v g =
       by-test elements least levels c _ _ _
       (λ _. by-test elements least levels c _ _ _ (λ _. tt) (λ f. g (λ _. eqb-false levels 0 f)))
@@ -184,7 +184,7 @@ module _ (s : List ℕ) (bytes : IsBytes s) where
         (le16-small _)))
 
     sized-says : (len : ℕ) → Says items least levels c (sizedBy c len)
-    unfolding sizedBy definedBy levelBy
+    unfolding sizedBy definedBy nestedBy
     sized-says len =
         by-test items least levels c _ _ _ (λ _. record { tagged = refl; plain = refl; start = omega arith; high = omega arith })
         (λ _. by-test items least levels c _ _ _ (λ _. tt)

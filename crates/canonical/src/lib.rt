@@ -10,7 +10,7 @@ ghost use Rattle.basics.specs.Limits.{largest};
 ghost use Rattle.basics.specs.Fields.{Answers};
 ghost use Rattle.dataset.specs.Answer.{bufferOf};
 ghost use Rattle.node.specs.Nodes.{nodesOf, nodeAt};
-ghost use Rattle.canonical.specs.Contracts.{Put, Sized, Fitting, Wrote};
+ghost use Rattle.canonical.specs.Contracts.{Put, Sized, Fitting, WroteNodes};
 ghost use Rattle.canonical.specs.Answer.{canonicalOf, targetOf, fieldsOf};
 ghost use Rattle.canonical.specs.Written.{letters, lengthOf, header, headSize, ownSize, writtenSize};
 ghost use Rattle.basics.specs.Bytes.{IsBytes, le};
@@ -141,7 +141,7 @@ fn put_members(
     start: usize,
 ) -> usize
     requires { ⌜ Sized (now bytes) (now rows) × Fitting (nodesOf (now bytes)) (now target) from to start ⌝ }
-    ensures { λ r. ⌜ Wrote (nodesOf (now (bytes .entry))) (now (target .entry)) (now (target .exit)) from start to r ⌝ }
+    ensures { λ r. ⌜ WroteNodes (nodesOf (now (bytes .entry))) (now (target .entry)) (now (target .exit)) from start to r ⌝ }
 {
     let mut i = from;
     let mut at = start;

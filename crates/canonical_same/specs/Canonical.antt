@@ -46,19 +46,19 @@ pub record ReadsWell (s : List ℕ) : Type 0 where
   pub reads : readingOf s ≡ read rows
 
 -- Row i, and the bytes of its value.
-abbrev pub rowOf : List ℕ → ℕ → Row
-rowOf s i = rowAt (rowsOf s) i
+abbrev pub rowIn : List ℕ → ℕ → Row
+rowIn s i = rowAt (rowsOf s) i
 
-abbrev pub valueOf : List ℕ → ℕ → List ℕ
-valueOf s i = take (rowOf s i .size) (drop (rowOf s i .offset) s)
+abbrev pub valueBytes : List ℕ → ℕ → List ℕ
+valueBytes s i = take (rowIn s i .size) (drop (rowIn s i .offset) s)
 
 -- Row i has the same tag, VR, depth and rows below in both, and the same value if it is an element that is not SQ. An item's VR is 0.
 pub record AgreeAt (s t : List ℕ) (i : ℕ) : Type 0 where
-  pub tag : rowOf s i .tag ≡ rowOf t i .tag
-  pub vr : rowOf s i .vr ≡ rowOf t i .vr
-  pub depth : rowOf s i .depth ≡ rowOf t i .depth
-  pub below : rowOf s i .descendants ≡ rowOf t i .descendants
-  pub value : (rowOf s i .vr ≡ SQ → ⊥) → (rowOf s i .vr ≡ 0 → ⊥) → valueOf s i ≡ valueOf t i
+  pub tag : rowIn s i .tag ≡ rowIn t i .tag
+  pub vr : rowIn s i .vr ≡ rowIn t i .vr
+  pub depth : rowIn s i .depth ≡ rowIn t i .depth
+  pub below : rowIn s i .descendants ≡ rowIn t i .descendants
+  pub value : (rowIn s i .vr ≡ SQ → ⊥) → (rowIn s i .vr ≡ 0 → ⊥) → valueBytes s i ≡ valueBytes t i
 
 -- Equally many rows, which agree one by one.
 pub record Agree (s t : List ℕ) : Type 0 where
@@ -66,7 +66,7 @@ pub record Agree (s t : List ℕ) : Type 0 where
   pub each : (i : ℕ) → i < length (rowsOf s) → AgreeAt s t i
 
 -- Judged, drawn, sampled and compared alike, with any buffers, frame numbers, cells and tolerance.
-pub record Alike (s t : List ℕ) : Type 0 where
+pub record AnswersAlike (s t : List ℕ) : Type 0 where
   pub judged : (rows : List ℕ) → judgeOf s rows ≡ judgeOf t rows
   pub searches : (rows : List ℕ) → reportedOf s rows ≡ reportedOf t rows
   pub shown : (frame : ℕ) (rows image : List ℕ) → showOf s frame rows image ≡ showOf t frame rows image
@@ -79,10 +79,10 @@ pub record Alike (s t : List ℕ) : Type 0 where
 pub record Written (s w : List ℕ) : Type 0 where
   pub reads : ReadsWell w
   pub agrees : Agree s w
-  pub parents : (i : ℕ) → i < length (rowsOf s) → rowOf s i .parent ≡ rowOf w i .parent
+  pub parents : (i : ℕ) → i < length (rowsOf s) → rowIn s i .parent ≡ rowIn w i .parent
   pub no-longer : length w ≤ length s
   pub again : canonicalForm w ≡ w
-  pub alike : Alike s w
+  pub alike : AnswersAlike s w
 
 -- What the call answers for a data set whose canonical form is w, and the target afterwards.
 pub record Answered (s w rows target : List ℕ) : Type 0 where
@@ -98,5 +98,5 @@ pub record Answered (s w rows target : List ℕ) : Type 0 where
 pub record Canonical : Type 0 where
   pub written : (s : List ℕ) → ReadsWell s → Written s (canonicalForm s)
   pub same : (s t : List ℕ) → Agree s t → canonicalForm s ≡ canonicalForm t
-  pub duplicates : (s t : List ℕ) → ReadsWell s → ReadsWell t → canonicalForm s ≡ canonicalForm t → Agree s t × Alike s t
+  pub duplicates : (s t : List ℕ) → ReadsWell s → ReadsWell t → canonicalForm s ≡ canonicalForm t → Agree s t × AnswersAlike s t
   pub answered : (s rows target : List ℕ) → Answered s (canonicalForm s) rows target

@@ -10,12 +10,12 @@ use lib.ListN.{length, getD, take, drop}
 use lib.Seq.{take-append-seam}
 use lib.Dec.{leb, eqb}
 use borrow.Author.Tests.{le-leb, leb-true, leb-false, eq-eqb, eqb-true, eqb-false, not-false}
+use Rattle.value.specs.Number.{numberOr0}
 use Rattle.basics.proofs.Tests.{and-both}
 use Rattle.basics.specs.Bytes.{IsBytes}
 use Rattle.dataset.specs.Tree.{rowsOf}
 use Rattle.node.specs.Nodes.{nodesOf}
 use Rattle.element.specs.Frames.{framesOf}
-use Rattle.conformance.specs.Judging.{numberOf}
 use Rattle.steps.specs.Steps.{Picture}
 use Rattle.display.specs.Show as show
 use Rattle.display.specs.Show.{isFrameOf, imageSize, pictureIn, pictureOf, showOf, imageOf}
@@ -154,7 +154,7 @@ module _ (s : List ℕ) (f : ℕ) (cells : List ℕ) (t : ℕ) where
   accepted-answer n i size most =
       rw (
         le-leb 1 f (i .low),
-        le-leb f (numberOf (framesOf (nodesOf s))) (i .high),
+        le-leb f (numberOr0 (framesOf (nodesOf s))) (i .high),
         eq-eqb (length cells) (imageSize (nodesOf s)) size,
         le-leb t 255 most,
       )
@@ -171,8 +171,8 @@ module _ (s : List ℕ) (f : ℕ) (cells : List ℕ) (t : ℕ) where
       go : (p q r : Bool) → isFrameOf (nodesOf s) f ≡ p → eqb (length cells) (imageSize (nodesOf s)) ≡ q → leb t 255 ≡ r
           → fieldsOf (cond p (cond q (cond r (comparedBy n off (imageSize (nodesOf s))) answer.WrongTolerance) answer.WrongSize)
           answer.NoFrame) .answer .code ≡ 0 → Asked
-      go true true true a b c
-          e = record { frame = was-frame s f a; size = eqb-true (length cells) (imageSize (nodesOf s)) b; tolerance = leb-true t 255 c }
+      go true true true a b c e =
+          record { frame = was-frame s f a; size = eqb-true (length cells) (imageSize (nodesOf s)) b; tolerance = leb-true t 255 c }
       go true true false a b c e = absurd (omega (arith, e))
       go true false r a b c e = absurd (omega (arith, e))
       go false q r a b c e = absurd (omega (arith, e))

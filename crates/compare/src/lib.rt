@@ -20,7 +20,7 @@ ghost use Rattle.display.specs.Contracts.{shadeBy, MasksReady, IsObject, IsScen
 ghost use Rattle.display.specs.Show.{imageSize, pictureOf};
 ghost use Rattle.sheet.specs.Contracts.{FrameReady};
 ghost use Rattle.differences.specs.Differences.{isOff};
-ghost use Rattle.differences.specs.Contracts.{along, nothing, met, Against};
+ghost use Rattle.differences.specs.Contracts.{along, noneOff, met, Against};
 ghost use Rattle.compare.specs.Answer.{acceptedAnswer, compareOf, fieldsOf};
 use conformance::JudgeAnswer;
 use differences::Differing;
@@ -420,7 +420,7 @@ fn compare_planned(
         × (IsScene (nodesOf (now bytes)) c
         × (IsPlan (nodesOf (now bytes)) frame (c .g .stored) own
         × ((1 ≤ frame) × ((frame ≤ n) × Against (now cells) tolerance (imageSize (nodesOf (now bytes)))))))) ⌝ }
-    ensures { λ r. ⌜ r ≡ along (isOff tolerance (pictureOf (nodesOf (now (bytes .entry))) frame .samples) (now (cells .entry))) 0 (imageSize (nodesOf (now (bytes .entry)))) nothing ⌝ }
+    ensures { λ r. ⌜ r ≡ along (isOff tolerance (pictureOf (nodesOf (now (bytes .entry))) frame .samples) (now (cells .entry))) 0 (imageSize (nodesOf (now (bytes .entry)))) noneOff ⌝ }
 {
     let mut table: [u8; 131072] = [0; 131072];
     let mut upper: [u32; pixel::LONGEST] = [0; pixel::LONGEST];
@@ -463,7 +463,7 @@ fn compare_picture(
 ) -> Differing
     requires { ⌜ Table (now bytes) (now rows)
         × (IsObject (now bytes) n × ((1 ≤ frame) × ((frame ≤ n) × Against (now cells) tolerance (imageSize (nodesOf (now bytes)))))) ⌝ }
-    ensures { λ r. ⌜ r ≡ along (isOff tolerance (pictureOf (nodesOf (now (bytes .entry))) frame .samples) (now (cells .entry))) 0 (imageSize (nodesOf (now (bytes .entry)))) nothing ⌝ }
+    ensures { λ r. ⌜ r ≡ along (isOff tolerance (pictureOf (nodesOf (now (bytes .entry))) frame .samples) (now (cells .entry))) 0 (imageSize (nodesOf (now (bytes .entry)))) noneOff ⌝ }
 {
     let scene = display::scene_of(bytes, rows, n);
     let own = display::plan_for(bytes, rows, scene, frame, n);

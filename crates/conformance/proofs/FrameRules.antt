@@ -15,7 +15,7 @@ use Rattle.node.specs.Nodes.{Node, inside}
 use Rattle.node.specs.Find.{holds, ifPresent, orElse, find, holdsOr}
 use Rattle.node.proofs.Walks.{members-end, members-next}
 use Rattle.element.specs.declared.Items.{Items}
-use Rattle.element.specs.Tags
+use Rattle.basics.specs.Tags
 use Rattle.element.specs.Elements.{first, oneItem}
 use Rattle.element.specs.Contracts.{Along}
 use Rattle.element.specs.Frames.{sharedItem, frameItem, frameItems}

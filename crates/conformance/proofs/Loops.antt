@@ -8,6 +8,7 @@ use lib.ListN.{drop}
 use lib.Seq.{drop-drop}
 use lib.Dec.{eqb, leb}
 use borrow.Author.Tests.{le-leb, leb-true, leb-false, eqb-true, eqb-false}
+use Rattle.value.specs.Number.{numberOr0}
 use Rattle.verdict.specs.Verdict.{lastRule, perFrame}
 use Rattle.node.specs.Nodes.{Node, members}
 use Rattle.element.specs.declared.Items.{Items}
@@ -16,7 +17,7 @@ use Rattle.element.specs.Frames.{framesOf, frameItems}
 use Rattle.rules.specs.All.{ruleAt}
 use Rattle.conformance.specs.declared.Finding.{Finding}
 use Rattle.conformance.specs.declared.Finding.the-variants.{Accepted, Broken}
-use Rattle.conformance.specs.Judging.{numberOf, firstFrame, frameCount, lowest, firstBroken}
+use Rattle.conformance.specs.Judging.{firstFrame, frameCount, lowest, firstBroken}
 use Rattle.conformance.specs.Contracts.{endRule, endFrame, Asked}
 
 -- ---- Which rules are asked once
@@ -73,9 +74,9 @@ module _ (ns : List Node) (after : Finding) (rule f e : ℕ) where
   unfolding lowest
   frames-done h = rw (none f e h)
 
-frame-span : (ns : List Node) (rule : ℕ) → frameCount ns rule ≡ endFrame (numberOf (framesOf ns)) rule - firstFrame rule
+frame-span : (ns : List Node) (rule : ℕ) → frameCount ns rule ≡ endFrame (numberOr0 (framesOf ns)) rule - firstFrame rule
 unfolding frameCount firstFrame
-frame-span ns rule = go (perFrame rule) (numberOf (framesOf ns))
+frame-span ns rule = go (perFrame rule) (numberOr0 (framesOf ns))
   where
     go : (t : Bool) (n : ℕ) → cond t n 1 ≡ cond t (n + 1) 1 - cond t 1 0
     go true n = omega arith
@@ -86,7 +87,7 @@ rule-left r h = omega arith
 
 pub rules-start : (ns : List Node) (r : ℕ) → r < endRule
     → firstBroken ns (endRule - r) r
-    ≡ lowest ns r (endFrame (numberOf (framesOf ns)) r - firstFrame r) (firstFrame r) (firstBroken ns (endRule - (r + 1)) (r + 1))
+    ≡ lowest ns r (endFrame (numberOr0 (framesOf ns)) r - firstFrame r) (firstFrame r) (firstBroken ns (endRule - (r + 1)) (r + 1))
 unfolding firstBroken
 rules-start ns r h = rw (rule-left r h, ← frame-span ns r)
 

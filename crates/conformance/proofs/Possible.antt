@@ -9,6 +9,7 @@ use Prim.Native.Nat.{ℕ, _+_, _≤_, _<_}
 use native.Mathlib.Omega.{arith}
 use borrow.Author.Tests.{eq-eqb, ne-eqb, eqb-true, leb-true, le-leb}
 use lib.Dec.{eqb, leb}
+use Rattle.value.specs.Number.{numberOr0}
 use Rattle.dataset.specs.declared.ReadAnswer.{ReadAnswer}
 use Rattle.dataset.specs.declared.ReadAnswer.the-variants as read
 use Rattle.dataset.specs.Reading.{readingOf}
@@ -27,7 +28,7 @@ use Rattle.rules.specs.Root.{rule15}
 use Rattle.rules.specs.All.{ruleList, ruleAt}
 use Rattle.conformance.specs.declared.Finding.{Finding}
 use Rattle.conformance.specs.declared.Finding.the-variants as finding
-use Rattle.conformance.specs.Judging.{numberOf, firstFrame, frameCount, findingOf, answerFor, judgeOf, fieldsOf, verdictOf}
+use Rattle.conformance.specs.Judging.{firstFrame, frameCount, findingOf, answerFor, judgeOf, fieldsOf, verdictOf}
 use Rattle.conformance.specs.Possible.{JudgePossible}
 use Rattle.conformance.specs.Demand2.{Holds, Broke}
 use Rattle.conformance.proofs.First.{broken-first}
@@ -35,11 +36,11 @@ use Rattle.conformance.proofs.First.{broken-first}
 -- ---- The frame of a broken rule
 
 -- Where rule 15 holds, there are at most 65,535 frames.
-few-frames : (o : Num) → holds o (λ n. leb 1 n && leb n lastFrame) ≡ true → numberOf o ≤ lastFrame
+few-frames : (o : Num) → holds o (λ n. leb 1 n && leb n lastFrame) ≡ true → numberOr0 o ≤ lastFrame
 few-frames None e = absurd (false-is-true e)
 few-frames (Is n) e = leb-true n lastFrame (and-both (leb 1 n) (leb n lastFrame) e .1)
 
-rule15-few : (ns : List Node) → Holds ns 15 → numberOf (framesOf ns) ≤ lastFrame
+rule15-few : (ns : List Node) → Holds ns 15 → numberOr0 (framesOf ns) ≤ lastFrame
 unfolding firstFrame frameCount perFrame ruleAt ruleList rule15
 rule15-few ns h = few-frames (framesOf ns) (h 0 (omega arith) (omega arith))
 
@@ -55,7 +56,7 @@ frame-fits : (ns : List Node) (rule frame : ℕ) → Broke ns rule frame → fra
 unfolding frameFits firstFrame frameCount
 frame-fits ns rule frame b = go (perFrame rule) refl (b .from) (b .below)
   where
-    go : (t : Bool) → perFrame rule ≡ t → cond t 1 0 ≤ frame → frame < cond t 1 0 + cond t (numberOf (framesOf ns)) 1
+    go : (t : Bool) → perFrame rule ≡ t → cond t 1 0 ≤ frame → frame < cond t 1 0 + cond t (numberOr0 (framesOf ns)) 1
         → cond t (leb 1 frame && leb frame lastFrame) (eqb frame 0) ≡ true
     go true e low high =
         let late = is-per-frame-late rule e in

@@ -15,7 +15,7 @@ use Rattle.dataset.specs.declared.Head.{Head}
 use Rattle.dataset.specs.declared.Head.the-variants as head
 use Rattle.basics.specs.Vr.{formOf, SQ}
 use Rattle.basics.specs.Bytes.{le32}
-use Rattle.dataset.specs.Header.{when, itemTag, cursor, moved, headerBy, delimiterBy, levelBy, definedBy, longBy, typedAt, taggedAt}
+use Rattle.dataset.specs.Header.{when, itemTag, cursor, moved, headerBy, delimiterBy, nestedBy, definedBy, longBy, typedAt, taggedAt}
 use Rattle.dataset.specs.Header.{sizedBy, memberAt, elementAt, itemAt}
 use Rattle.dataset.specs.Reading.{Row, row, Run, done, refused, onHead, onRun, level, valueRun, elementsAt, itemsAt, Reading, depths}
 use Rattle.dataset.specs.Reading.{tooLarge, refusedAt, read, whole, readingOf}
@@ -66,8 +66,8 @@ module _ (kind : Kind) (least : ℕ) (c : Cursor) where
 
   module _ (tag vr : ℕ) (named : Named kind least tag vr) (start : ℕ) (p : c .at + 8 ≤ start) where
     level-moves : (levels stop : ℕ) (delimited : Bool) → start ≤ stop → stop ≤ c .end
-        → Moves kind least c (levelBy tag vr levels (cursor start stop delimited))
-    unfolding levelBy
+        → Moves kind least c (nestedBy tag vr levels (cursor start stop delimited))
+    unfolding nestedBy
     level-moves levels stop delimited q r =
         by-test _ _ _ (λ _. by-test _ _ _ (λ _. omega arith) (λ _. (p, (q, (r, named))))) (λ _. (p, (q, (r, named))))
 

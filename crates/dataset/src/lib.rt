@@ -5,7 +5,7 @@ ghost use Prim.Native.Nat.{_+_, _-_, _*_, _≤_, _<_};
 ghost use mathlib.Core.List.{[], _∷_};
 ghost use lib.ListN.{length};
 ghost use lib.Seq.{sets};
-ghost use Rattle.dataset.specs.Header.{moved, delimiterBy, levelBy, definedBy, longBy, typedAt, taggedAt, sizedBy, memberAt};
+ghost use Rattle.dataset.specs.Header.{moved, delimiterBy, nestedBy, definedBy, longBy, typedAt, taggedAt, sizedBy, memberAt};
 ghost use Rattle.dataset.specs.Header.{elementAt, itemAt};
 ghost use Rattle.dataset.specs.Reading.{depths, elementsAt, itemsAt, readingOf, row};
 ghost use Rattle.basics.specs.Limits.{largest};
@@ -118,10 +118,10 @@ impl Cursor {
     }
 
     // A value within the cursor's end; a sequence needs a level below it.
-    fn level(self, tag: usize, vr: usize, levels: usize, value: Cursor) -> Head
+    fn nested(self, tag: usize, vr: usize, levels: usize, value: Cursor) -> Head
         requires { ⌜ (self .at + 8 ≤ value .at)
             × ((value .at ≤ value .end) × ((value .end ≤ self .end) × ((tag < 4294967296) × (vr < 65536)))) ⌝ }
-        ensures { λ r. ⌜ r ≡ levelBy tag vr levels value ⌝ }
+        ensures { λ r. ⌜ r ≡ nestedBy tag vr levels value ⌝ }
         ensures { λ r. ⌜ Within self r ⌝ }
     {
         if vr == vrs::SQ {
@@ -152,7 +152,7 @@ impl Cursor {
             end: start + len,
             delimited: false,
         };
-        self.level(tag, vr, levels, value)
+        self.nested(tag, vr, levels, value)
     }
 
     // A value with a 32-bit length, which may be undefined.
@@ -168,7 +168,7 @@ impl Cursor {
                     end: self.end,
                     delimited: true,
                 };
-                return self.level(tag, vr, levels, value);
+                return self.nested(tag, vr, levels, value);
             }
             return Head::Refused(5);
         }

@@ -12,7 +12,7 @@ use Rattle.lines.specs.Contracts.{upTo}
 use Rattle.lines.proofs.Lists.{upTo-length, upTo-at}
 use Rattle.differences.specs.declared.Differing.{Differing}
 use Rattle.differences.specs.Differences.{within, isOff, howMany, firstOff}
-use Rattle.differences.specs.Contracts.{seen, along, nothing, offBy, met, Against, LineOf}
+use Rattle.differences.specs.Contracts.{seen, along, noneOff, offBy, met, Against, LineOf}
 
 -- ---- One cell
 
@@ -81,7 +81,7 @@ along-plus off m (suc n) d =
 
 -- ---- Lines of a frame
 
-pub no-line : (t : ℕ) (f : ℕ → ℕ) (cells : List ℕ) (columns : ℕ) → nothing ≡ met t f cells (0 * columns)
+pub no-line : (t : ℕ) (f : ℕ → ℕ) (cells : List ℕ) (columns : ℕ) → noneOff ≡ met t f cells (0 * columns)
 unfolding met along
 no-line t f cells columns =
     let z : 0 * columns ≡ 0 = omega arith in
@@ -104,7 +104,7 @@ line-more t f cells row columns now after line a b e =
     (λ k h. ap (λ (x : ℕ). not (within t x (getD cells (row * columns + k) 0)))
     (ap (λ (l : List ℕ). getD l k 0) b ∙ upTo-at (λ k. f (row * columns + k)) columns k h))
     ∙ (ap (along (λ k. off (row * columns + k)) (row * columns) columns) a
-    ∙ (sym (along-plus off (row * columns) columns nothing) ∙ ap (λ (i : ℕ). along off 0 i nothing) (sym n)))))
+    ∙ (sym (along-plus off (row * columns) columns noneOff) ∙ ap (λ (i : ℕ). along off 0 i noneOff) (sym n)))))
 
 pub line-of : (t : ℕ) (f : ℕ → ℕ) (cells : List ℕ) (row rows columns : ℕ) (now : Differing) (line : List ℕ)
     → now ≡ met t f cells (row * columns)
@@ -113,8 +113,8 @@ unfolding met
 line-of t f cells row rows columns now line a g h l =
     let m : (row + 1) * columns ≤ rows * columns = mul-le-mul-right columns (omega arith) in
     let n : (row + 1) * columns ≡ row * columns + columns = omega arith in
-    let c : along (offBy t f cells) 0 (row * columns) nothing .count
-    ≤ row * columns = omega (arith, along-most (offBy t f cells) 0 (row * columns) nothing) in
+    let c : along (offBy t f cells) 0 (row * columns) noneOff .count
+    ≤ row * columns = omega (arith, along-most (offBy t f cells) 0 (row * columns) noneOff) in
     record {
       inside = omega (arith, g .size, l, m, n);
       most = g .most;
@@ -129,16 +129,16 @@ place-fits row rows columns h r c =
 -- ---- The levels of a picture
 
 pub met-list : (t : ℕ) (f : ℕ → ℕ) (cells ours : List ℕ) (n : ℕ) → ours ≡ upTo f n
-    → met t f cells n ≡ along (isOff t ours cells) 0 n nothing
+    → met t f cells n ≡ along (isOff t ours cells) 0 n noneOff
 unfolding met offBy isOff
 met-list t f cells ours n e =
-    along-same (offBy t f cells) (isOff t ours cells) 0 n nothing
+    along-same (offBy t f cells) (isOff t ours cells) 0 n noneOff
     (λ k h. ap (λ (x : ℕ). not (within t x (getD cells k 0))) (sym (ap (λ (l : List ℕ). getD l k 0) e ∙ upTo-at f n k h)))
 
 pub met-same : (t : ℕ) (f h : ℕ → ℕ) (cells : List ℕ) (n : ℕ) → ((k : ℕ) → k < n → f k ≡ h k) → met t f cells n ≡ met t h cells n
 unfolding met offBy
 met-same t f h cells n e =
-    along-same (offBy t f cells) (offBy t h cells) 0 n nothing (λ k l. ap (λ (x : ℕ). not (within t x (getD cells k 0))) (e k l))
+    along-same (offBy t f cells) (offBy t h cells) 0 n noneOff (λ k l. ap (λ (x : ℕ). not (within t x (getD cells k 0))) (e k l))
 
 -- ---- The first that is off, and how many are
 
@@ -152,10 +152,10 @@ counted false i first count =
     let e : count ≡ 0 + count = omega arith in
     ap (λ (k : ℕ). record { first = first; count = k }) e
 
-pub seen-all : (off : ℕ → Bool) (n : ℕ) → along off 0 n nothing ≡ record { first = firstOff off n; count = howMany off n }
+pub seen-all : (off : ℕ → Bool) (n : ℕ) → along off 0 n noneOff ≡ record { first = firstOff off n; count = howMany off n }
 unfolding along howMany firstOff
 seen-all off zero = refl
 seen-all off (suc n) =
     let z : 0 + n ≡ n = omega arith in
-    ap (λ (i : ℕ). seen (off n) i (along off 0 n nothing)) z
+    ap (λ (i : ℕ). seen (off n) i (along off 0 n noneOff)) z
     ∙ (ap (seen (off n) n) (seen-all off n) ∙ counted (off n) n (firstOff off n) (howMany off n))

@@ -20,15 +20,15 @@ along off at zero d = d
 along off at (suc n) d = seen (off n) (at + n) (along off at n d)
 
 -- Before the first cell.
-abbrev pub nothing : Differing
-nothing = record { first = 0; count = 0 }
+abbrev pub noneOff : Differing
+noneOff = record { first = 0; count = 0 }
 
 -- The first n cells against the levels f 0, f 1, ..
 unfoldable pub offBy : ℕ → (ℕ → ℕ) → List ℕ → ℕ → Bool
 offBy t f cells i = not (within t (f i) (getD cells i 0))
 
 unfoldable pub met : ℕ → (ℕ → ℕ) → List ℕ → ℕ → Differing
-met t f cells n = along (offBy t f cells) 0 n nothing
+met t f cells n = along (offBy t f cells) 0 n noneOff
 
 -- ---- What is compared
 

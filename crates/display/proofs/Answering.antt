@@ -25,7 +25,7 @@ use Rattle.steps.specs.declared.Operation.the-variants as operation
 use Rattle.steps.specs.declared.Told.{Told}
 use Rattle.steps.specs.Contracts.{operationOf, IsTold}
 use Rattle.steps.specs.Steps.{Mask, shiftFor, movesFor, applyingTo, maskBy, maskFor, native as noMask, masked as maskOf}
-use Rattle.display.specs.Contracts.{Short, Sound, Gives, GivesMoves, averageBy, tidBy, operated}
+use Rattle.display.specs.Contracts.{Short, SoundMask, Gives, GivesMoves, averageBy, tidBy, operated}
 use Rattle.steps.proofs.Given.{never, same-some}
 
 short-is : (x : Signed) → isNumber x ≡ true → SizeBelow tooFar x → isShort x ≡ true
@@ -63,13 +63,13 @@ pub gives-moves : (n : ℕ) (ks : List ℕ) (o : Option Moves) → Gives n (then
 gives-moves n ks none g = absurd (never (g .mask))
 gives-moves n ks (some mv) g =
     let q : g .m ≡ maskOf ks mv = cc in
-    record { m = mv; is = refl; short = subst (Sound n) q (g .sound) .1 .1 .1 }
+    record { m = mv; is = refl; short = subst (SoundMask n) q (g .sound) .1 .1 .1 }
 
 -- What a step gives is sound.
-pub gives-sound : (n : ℕ) (m : Mask) (o : Option Mask) → o ≡ some m → Gives n o → Sound n m
+pub gives-sound : (n : ℕ) (m : Mask) (o : Option Mask) → o ≡ some m → Gives n o → SoundMask n m
 gives-sound n m o e g =
     let q : g .m ≡ m = same-some (g .mask) e in
-    subst (Sound n) q (g .sound)
+    subst (SoundMask n) q (g .sound)
 
 pub gives-same : (n : ℕ) (o p : Option Mask) → o ≡ p → Gives n o → Gives n p
 gives-same n o p e g = subst (Gives n) e g

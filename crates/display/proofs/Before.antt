@@ -13,7 +13,7 @@ use Rattle.basics.specs.Vr.{SQ, FL}
 use Rattle.value.specs.declared.Num.{Num}
 use Rattle.value.specs.declared.Num.the-variants.{Is, None}
 use Rattle.value.specs.Text.{ascii}
-use Rattle.value.specs.Number.{isNumber}
+use Rattle.value.specs.Number.{isNumber, numberOr0}
 use Rattle.shift.specs.declared.Shift.the-variants as shift
 use Rattle.shift.specs.declared.Moves.{Moves}
 use Rattle.shift.specs.Shift.{itemShift, frameShift}
@@ -25,14 +25,14 @@ use Rattle.basics.proofs.Tests.{false-is-true, and-both, both}
 use Rattle.node.specs.Nodes.{Node, nodesOf, nodeAt, root, inside}
 use Rattle.node.specs.Find.{holds, ifPresent, find, findVr}
 use Rattle.node.proofs.Tests.{holds-more, present-more}
-use Rattle.element.specs.Tags
+use Rattle.basics.specs.Tags
 use Rattle.element.specs.Elements.{valueAt, every}
 use Rattle.element.specs.Frames.{framesOf, frameItem, sharedItem, groupOf, maskItems, operationIs}
 use Rattle.rules.specs.Frame.{hasId, isShiftItem, isShiftGroup, item37, rule37}
 use Rattle.rules.specs.Mask.{isShiftAt, shiftFits, rule35, rule36}
 use Rattle.rules.specs.All.{ruleList, ruleAt}
 use Rattle.conformance.specs.declared.Finding.the-variants.{Accepted}
-use Rattle.conformance.specs.Judging.{numberOf, firstFrame, frameCount, findingOf}
+use Rattle.conformance.specs.Judging.{firstFrame, frameCount, findingOf}
 use Rattle.conformance.proofs.First.{holds-accepted}
 use Rattle.pixel.specs.declared.Geometry.{Geometry}
 use Rattle.pixel.specs.Pixel.{samplesOf, isFrame}
@@ -323,7 +323,7 @@ keeps-pictures s b ok =
     record {
       accepted = now-ok;
       pictures = λ f low high.
-          let h : f ≤ o .n = subst (λ (x : Num). f ≤ numberOf x) (o .frames) high in
+          let h : f ≤ o .n = subst (λ (x : Num). f ≤ numberOr0 x) (o .frames) high in
           let d = nothing-lacks s b now-ok f low high in
           let w = windowed ns now-ok o f low h in
           let m = masking ns now-ok (o .n) (o .frames) (o .some-frame) (o .few-frames) f low h in

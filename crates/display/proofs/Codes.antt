@@ -8,6 +8,7 @@ use native.Mathlib.Omega.{arith}
 use lib.ListN.{length}
 use lib.Dec.{leb}
 use borrow.Author.Tests.{le-leb, leb-true}
+use Rattle.value.specs.Number.{numberOr0}
 use Rattle.basics.proofs.Tests.{and-both}
 use Rattle.dataset.specs.Reading.{Row, Reading, tooLarge, refusedAt, read, readingOf}
 use Rattle.dataset.specs.Answer.{width, answerOf}
@@ -21,7 +22,7 @@ use Rattle.conformance.specs.declared.Finding.{Finding}
 use Rattle.conformance.specs.declared.Finding.the-variants as finding
 use Rattle.conformance.specs.declared.JudgeAnswer.{JudgeAnswer}
 use Rattle.conformance.specs.declared.JudgeAnswer.the-variants as judged
-use Rattle.conformance.specs.Judging.{numberOf, findingOf, answerFor, judgeOf}
+use Rattle.conformance.specs.Judging.{findingOf, answerFor, judgeOf}
 use Rattle.display.specs.Show.{isFrameOf}
 use Rattle.display.specs.Drawing.{IsAccepted, IsFrame}
 
@@ -32,8 +33,8 @@ room-answer rows buffer h = rw (le-leb (width * length rows) (length buffer) h)
 -- The number that passes the test of code 10 is that of a frame.
 pub was-frame : (s : List ℕ) (f : ℕ) → isFrameOf (nodesOf s) f ≡ true → IsFrame s f
 was-frame s f e =
-    let b = and-both (leb 1 f) (leb f (numberOf (framesOf (nodesOf s)))) e in
-    record { low = leb-true 1 f (b .0); high = leb-true f (numberOf (framesOf (nodesOf s))) (b .1) }
+    let b = and-both (leb 1 f) (leb f (numberOr0 (framesOf (nodesOf s)))) e in
+    record { low = leb-true 1 f (b .0); high = leb-true f (numberOr0 (framesOf (nodesOf s))) (b .1) }
 
 -- A call's code by the judge's answer: the judge's own, but where the object is accepted.
 pub record Keeps (of : JudgeAnswer → ℕ) : Type 0 where
@@ -69,8 +70,8 @@ module _ (s buffer : List ℕ) where
     where
       go : (x : Finding) (t : Bool) → leb (width * length rows) (length buffer) ≡ t
           → of (answerFor x (cond t (answer.Done (length rows)) answer.NoRoom)) ≡ 0 → Back of (read rows) x
-      go finding.Accepted true p
-          e = record { rows = rows; reads = refl; sound = refl; room = leb-true (width * length rows) (length buffer) p; code = e }
+      go finding.Accepted true p e =
+          record { rows = rows; reads = refl; sound = refl; room = leb-true (width * length rows) (length buffer) p; code = e }
       go (finding.Broken rule frame) true p e = absurd (omega (arith, e, k .broken (length rows) rule frame))
       go x false p e = absurd (omega (arith, e, k .no-room))
 

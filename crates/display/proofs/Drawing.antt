@@ -10,11 +10,11 @@ use native.Mathlib.Omega.{arith}
 use lib.ListN.{length, drop}
 use lib.Dec.{leb}
 use borrow.Author.Tests.{le-leb, leb-true}
+use Rattle.value.specs.Number.{numberOr0}
 use Rattle.basics.specs.Bytes.{IsBytes}
 use Rattle.dataset.specs.Tree.{rowsOf}
 use Rattle.node.specs.Nodes.{nodesOf}
 use Rattle.element.specs.Frames.{framesOf}
-use Rattle.conformance.specs.Judging.{numberOf}
 use Rattle.steps.specs.Steps.{Picture, stepsOf}
 use Rattle.display.specs.declared.ShowAnswer.{ShowAnswer}
 use Rattle.display.specs.declared.ShowAnswer.the-variants as shown
@@ -32,7 +32,7 @@ module _ (s : List ℕ) (f : ℕ) (buffer image : List ℕ) where
   answer-drawn n i r =
       rw (
         le-leb 1 f (i .low),
-        le-leb f (numberOf (framesOf (nodesOf s))) (i .high),
+        le-leb f (numberOr0 (framesOf (nodesOf s))) (i .high),
         le-leb (imageSize (nodesOf s)) (length image) (r .cells),
       )
 

@@ -19,7 +19,7 @@ use Rattle.steps.specs.Steps.{stepsOf, native as noMask, masked as maskOf}
 use Rattle.display.specs.declared.Masking.{Masking}
 use Rattle.display.specs.declared.Masking.the-variants as masking
 use Rattle.display.specs.Show.{pictureIn, pictureOf}
-use Rattle.display.specs.Contracts.{Sound, Gives, maskingOf, isMasked, shadeBy}
+use Rattle.display.specs.Contracts.{SoundMask, Gives, maskingOf, isMasked, shadeBy}
 use Rattle.steps.proofs.Given.{never}
 use Rattle.steps.proofs.Laws.{to-picture}
 use Rattle.display.proofs.Answering.{gives-sound}
@@ -59,7 +59,7 @@ module _ (ns : List Node) (f n : ℕ) (g : Geometry) (v : List ℕ) (w : Window)
       shows ns f (record { masked = false; samples = c .l }) (is ∙ rw (c .is)) image
       (painted (nativeShade table g v f) (samplesOf g) image) (ends (c .l) (c .size) _ (c .image-is))
 
-  masked-shows : (ks : List ℕ) (mv : Moves) → maskFor ns f ≡ some (maskOf ks mv) → Sound n (maskOf ks mv)
+  masked-shows : (ks : List ℕ) (mv : Moves) → maskFor ns f ≡ some (maskOf ks mv) → SoundMask n (maskOf ks mv)
       → Shows ns f true image (painted (maskedShade table g v f ks mv) (samplesOf g) image)
   unfolding pictureBy
   masked-shows ks mv e s =

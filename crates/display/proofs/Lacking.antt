@@ -10,6 +10,7 @@ use lib.ListN.{length, length-append}
 use lib.IntN.{ℤ, pos, _+ℤ_, _-ℤ_}
 use lib.Dec.{eqb, leb}
 use borrow.Author.Tests.{ne-eqb, le-leb}
+use Rattle.value.specs.Number.{numberOr0}
 use Rattle.basics.specs.Bytes.{IsBytes}
 use Rattle.value.specs.declared.Num.{Num}
 use Rattle.value.specs.declared.Num.the-variants.{Is, None}
@@ -25,11 +26,11 @@ use Rattle.window.proofs.Laws.{leveled, shadeNumber, shaded-is}
 use Rattle.steps.specs.Given.{need, check, collect}
 use Rattle.steps.specs.Steps.{Picture, Mask, nativeCell, maskedCell, areFrames, pictureBy, geometryOf, stepsOf, native as noMask}
 use Rattle.steps.specs.Steps.{masked as maskBy}
-use Rattle.element.specs.Tags
+use Rattle.basics.specs.Tags
 use Rattle.element.specs.Elements.{usIn}
 use Rattle.element.specs.Frames.{framesOf}
 use Rattle.conformance.specs.declared.Finding.the-variants.{Accepted}
-use Rattle.conformance.specs.Judging.{numberOf, findingOf}
+use Rattle.conformance.specs.Judging.{findingOf}
 use Rattle.display.specs.Show.{imageSize}
 use Rattle.steps.proofs.Given.{never}
 use Rattle.steps.proofs.Laws.{to-picture}
@@ -157,7 +158,7 @@ size-given : (r c a b : Num) (g : Geometry)
     → need r (λ r. need c (λ c.
     need a (λ a. need b (λ b. check (leb 8 a && eqb (a % 8) 0) (some (record { rows = r; columns = c; width = a / 8; stored = b }))))))
     ≡ some g
-    → samplesOf g ≡ numberOf r * numberOf c
+    → samplesOf g ≡ numberOr0 r * numberOr0 c
 size-given (Is r) (Is c) (Is a) (Is b) g e = size-checked (leb 8 a && eqb (a % 8) 0)
     (record { rows = r; columns = c; width = a / 8; stored = b }) g e
 size-given (Is r) (Is c) (Is a) None g e = absurd (never e)
@@ -170,11 +171,11 @@ unfolding geometryOf
 geometry-size ns g e = size-given (usIn ns Tags.Rows (root ns)) (usIn ns Tags.Columns (root ns)) (usIn ns Tags.BitsAllocated (root ns))
     (usIn ns Tags.BitsStored (root ns)) g e
 
-pub nothing-lacks : (s : List ℕ) → IsBytes s → findingOf (nodesOf s) ≡ Accepted → (f : ℕ) → 1 ≤ f → f ≤ numberOf (framesOf (nodesOf s))
+pub nothing-lacks : (s : List ℕ) → IsBytes s → findingOf (nodesOf s) ≡ Accepted → (f : ℕ) → 1 ≤ f → f ≤ numberOr0 (framesOf (nodesOf s))
     → Whole (nodesOf s) f
 nothing-lacks s b ok f low high =
     let ns = nodesOf s in
     let o = object ns (λ tag k e. us-in-small s b tag k (root ns) e) ok in
-    let h : f ≤ o .n = subst (λ (x : Num). f ≤ numberOf x) (o .frames) high in
+    let h : f ≤ o .n = subst (λ (x : Num). f ≤ numberOr0 x) (o .frames) high in
     let d = drawn ns f o low h (windowed ns ok o f low h) (masking ns ok (o .n) (o .frames) (o .some-frame) (o .few-frames) f low h) in
     record { p = d .p; is = d .is; size = d .size ∙ geometry-size ns (o .g) (o .geometry); levels = d .levels }

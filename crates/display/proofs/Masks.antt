@@ -28,7 +28,7 @@ use Rattle.node.specs.Nodes.{Node, nodeAt, nextNode, root, inside}
 use Rattle.node.proofs.Tests.{holds-is, holds-of}
 use Rattle.node.specs.Find.{holds, ifPresent, andThen, find, findVr, ofVr, filled}
 use Rattle.node.proofs.Walks.{members-end}
-use Rattle.element.specs.Tags
+use Rattle.basics.specs.Tags
 use Rattle.element.specs.Elements as elements
 use Rattle.element.specs.Elements.{valueAt, first, insideOf, itemsIn, every}
 use Rattle.element.specs.Frames.{framesOf, frameItems, frameItem, sharedItem, groupOf, maskItems, idIn, operationIs}
@@ -160,7 +160,8 @@ GivesShift fit o = (s : Shift) × ((o ≡ some s) × (fit s ≡ true))
 
 abbrev SoundMoves : Moves → Type 0
 SoundMoves m =
-    (isNumber (m .vertical) ≡ true) × ((isNumber (m .horizontal) ≡ true) × (SizeBelow tooFar (m .vertical) × SizeBelow tooFar (m .horizontal)))
+    (isNumber (m .vertical) ≡ true)
+    × ((isNumber (m .horizontal) ≡ true) × (SizeBelow tooFar (m .vertical) × SizeBelow tooFar (m .horizontal)))
 
 short-number : (w : Signed) → isShort w ≡ true → isNumber w ≡ true
 short-number (signed.Plus k) e = refl

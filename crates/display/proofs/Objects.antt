@@ -25,7 +25,7 @@ use Rattle.basics.proofs.Tests.{false-is-true, and-both, or-either}
 use Rattle.node.specs.Nodes.{Node, nodeAt, root, inside}
 use Rattle.node.specs.Find.{holds, ifPresent, find, findVr}
 use Rattle.node.proofs.Tests.{same-is, holds-is}
-use Rattle.element.specs.Tags
+use Rattle.basics.specs.Tags
 use Rattle.basics.specs.Vr.{CS, DS, OB, OW}
 use Rattle.element.specs.Elements.{valueAt, usIn, theItem, functionIn}
 use Rattle.element.specs.Frames.{framesOf, groupOf}

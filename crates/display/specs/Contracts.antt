@@ -30,7 +30,7 @@ use mathlib.Core.Logic.{_⊎_}
 use Rattle.value.specs.declared.Num.{Num}
 use Rattle.value.specs.declared.Num.the-variants.{Is}
 use Rattle.node.specs.Find.{find}
-use Rattle.element.specs.Tags
+use Rattle.basics.specs.Tags
 use Rattle.basics.specs.Vr.{OB, OW}
 use Rattle.element.specs.Frames.{framesOf, frameItem}
 use Rattle.conformance.specs.declared.Finding.the-variants as finding
@@ -55,15 +55,15 @@ abbrev pub Short : Moves → Type 0
 Short m = (isNumber (m .vertical) ≡ true)
     × ((isNumber (m .horizontal) ≡ true) × (SizeBelow tooFar (m .vertical) × SizeBelow tooFar (m .horizontal)))
 
-abbrev pub Sound : ℕ → Mask → Type 0
-Sound n noMask = Unit {0}
-Sound n (maskOf ks m) = (1 ≤ length ks) × ((length ks ≤ 64) × (AllWithin n ks × Short m))
+abbrev pub SoundMask : ℕ → Mask → Type 0
+SoundMask n noMask = Unit {0}
+SoundMask n (maskOf ks m) = (1 ≤ length ks) × ((length ks ≤ 64) × (AllWithin n ks × Short m))
 
 -- A step that gives such a mask.
 pub record Gives (n : ℕ) (o : Option Mask) : Type 0 where
   pub m : Mask
   pub mask : o ≡ some m
-  pub sound : Sound n m
+  pub sound : SoundMask n m
 
 pub record GivesMoves (o : Option Moves) : Type 0 where
   pub m : Moves

@@ -1,7 +1,6 @@
 // Reads of one element by its tag, items of sequences, frames and their functional groups: the vocabulary of the rules and the drawing
 // steps.
-pub mod tags;
-
+use basics::tags;
 ghost use mathlib.Core.Path.{_≡_};
 ghost use Prim.Native.Nat.{_+_, _≤_, _<_};
 ghost use lib.ListN.{length, drop};

@@ -197,7 +197,7 @@ judged-other {x} {p} e f =
     let z : _≡_ {A = ℕ} 0 1 = cc in
     absurd (omega arith)
 
-of-2 : (s : List ℕ) (from : ℕ) → files.AsBare s from → files.Demand2 s from
+of-2 : (s : List ℕ) (from : ℕ) → files.AsBare s from → files.Demand2Inside s from
 of-2 s from w =
     record {
       accepted = λ buffer n e. judge-accepted (drop from s) buffer n (judged-same (w .judge buffer (judged-other e)) e);
@@ -213,7 +213,7 @@ drawn-other {x} e f =
     let g : showFields x .code ≡ 18 = ap (λ (x : ShowFileAnswer). showFields x .code) f in
     absurd (omega (arith, e, g))
 
-of-3 : (s : List ℕ) (from f : ℕ) → files.AsBare s from → Promise (drop from s) f → files.Demand3 s from f
+of-3 : (s : List ℕ) (from f : ℕ) → files.AsBare s from → Promise (drop from s) f → files.Demand3Inside s from f
 of-3 s from f w p =
     let code : (buffer image : List ℕ) → showFields (showFileOf s f buffer image) .code ≡ 0
     → fieldsOf (showOf (drop from s) f buffer image) .code ≡ 0 =

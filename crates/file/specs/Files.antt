@@ -48,7 +48,7 @@ pub record AsBare (s : List ℕ) (from : ℕ) : Type 0 where
   pub other : (f : ℕ) (buffer image : List ℕ) → showFileOf s f buffer image ≡ showFile.OtherClass → imageLeft s f buffer image ≡ image
 
 -- Demand 2 for the data set inside.
-pub record Demand2 (s : List ℕ) (from : ℕ) : Type 0 where
+pub record Demand2Inside (s : List ℕ) (from : ℕ) : Type 0 where
   pub accepted : (buffer : List ℕ) (n : ℕ) → judgeFileOf s buffer ≡ judgeFile.Judged (judged.Accepted n) → IsAccepted (drop from s)
   pub accepts : (buffer : List ℕ) → IsAccepted (drop from s) → width * length (rowsOf (drop from s)) ≤ length buffer
       → (judgeFileOf s buffer ≡ judgeFile.OtherClass → ⊥)
@@ -57,19 +57,19 @@ pub record Demand2 (s : List ℕ) (from : ℕ) : Type 0 where
       → findingOf (nodesOf (drop from s)) ≡ finding.Broken rule frame
 
 -- The steps give a picture p, and the image buffer holds p and is untouched beyond it.
-pub record Drawn (s : List ℕ) (from f : ℕ) (buffer image : List ℕ) : Type 0 where
+pub record DrawnInside (s : List ℕ) (from f : ℕ) (buffer image : List ℕ) : Type 0 where
   pub p : Picture
   pub is : stepsOf (nodesOf (drop from s)) f ≡ some p
   pub cells : imageLeft s f buffer image ≡ p .samples ++ drop (imageSize (nodesOf (drop from s))) image
 
 -- Demand 3 for the data set inside: the claim itself, and what it says about `show_file`.
-pub record Demand3 (s : List ℕ) (from f : ℕ) : Type 0 where
+pub record Demand3Inside (s : List ℕ) (from f : ℕ) : Type 0 where
   pub promise : Promise (drop from s) f
   pub drawn : (buffer image : List ℕ) → IsAccepted (drop from s) → IsFrame (drop from s) f → HasRoom (drop from s) buffer image
       → (showFileOf s f buffer image ≡ showFile.OtherClass → ⊥) → showFields (showFileOf s f buffer image) .code ≡ 0
   pub nothing-else : (buffer image : List ℕ) → showFields (showFileOf s f buffer image) .code ≡ 0
       → IsAccepted (drop from s) × (IsFrame (drop from s) f × HasRoom (drop from s) buffer image)
-  pub as-stepped : (buffer image : List ℕ) → showFields (showFileOf s f buffer image) .code ≡ 0 → Drawn s from f buffer image
+  pub as-stepped : (buffer image : List ℕ) → showFields (showFileOf s f buffer image) .code ≡ 0 → DrawnInside s from f buffer image
 
 -- 15, 16 and 17: the code alone, from each call, and nothing is touched.
 pub record Refuses (s : List ℕ) : Type 0 where
@@ -82,8 +82,8 @@ pub record Refuses (s : List ℕ) : Type 0 where
 -- For every file, given as bytes.
 pub record Files (s : List ℕ) : Type 0 where
   pub bare : (from : ℕ) → startOf s ≡ start.At from → AsBare s from
-  pub demand-2 : (from : ℕ) → startOf s ≡ start.At from → Demand2 s from
-  pub demand-3 : (from : ℕ) → startOf s ≡ start.At from → IsBytes s → (f : ℕ) → Demand3 s from f
+  pub demand-2 : (from : ℕ) → startOf s ≡ start.At from → Demand2Inside s from
+  pub demand-3 : (from : ℕ) → startOf s ≡ start.At from → IsBytes s → (f : ℕ) → Demand3Inside s from f
   pub refuses : (startFields (startOf s) .code ≡ 0 → ⊥) → Refuses s
 
 abbrev pub AllFiles : Type 0

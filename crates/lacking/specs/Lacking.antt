@@ -50,8 +50,8 @@ lacks bytes frame = stepped bytes frame none
 abbrev pub photometric : List ℕ
 photometric = short 0x0028 0x0004 "CS" (ascii "MONOCHROME2 ")
 
-abbrev pub number : List ℕ
-number = short 0x0028 0x0008 "IS" (ascii "2 ")
+abbrev pub numberOfTwo : List ℕ
+numberOfTwo = short 0x0028 0x0008 "IS" (ascii "2 ")
 
 abbrev pub height : List ℕ
 height = short 0x0028 0x0010 "US" (two 1)
@@ -64,41 +64,41 @@ cells columns allocated =
 abbrev pub shared : List ℕ → List ℕ
 shared groups = sequence 0x5200 0x9229 (item groups)
 
-abbrev pub perFrame : List ℕ
-perFrame = sequence 0x5200 0x9230 (item [] ++ item [])
+abbrev pub perFrameGroups : List ℕ
+perFrameGroups = sequence 0x5200 0x9230 (item [] ++ item [])
 
 abbrev pub pixels : List ℕ
 pixels = long 0x7FE0 0x0010 "OB" (10 ∷ 20 ∷ 30 ∷ 40 ∷ [])
 
 -- With another start, or with another rest.
 abbrev pub started : List ℕ → List ℕ
-started start = start ++ (shared [] ++ (perFrame ++ pixels))
+started start = start ++ (shared [] ++ (perFrameGroups ++ pixels))
 
 abbrev pub ended : List ℕ → List ℕ
-ended rest = photometric ++ (number ++ (height ++ (cells 2 8 ++ rest)))
+ended rest = photometric ++ (numberOfTwo ++ (height ++ (cells 2 8 ++ rest)))
 
 -- With a mask item; and with functional groups in the shared item, masked by frame 1 or not.
 abbrev pub withMask : List ℕ → List ℕ
-withMask mask = ended (mask ++ (shared [] ++ (perFrame ++ pixels)))
+withMask mask = ended (mask ++ (shared [] ++ (perFrameGroups ++ pixels)))
 
 abbrev pub numbers : List ℕ → List ℕ
 numbers value = short 0x0028 0x6110 "US" value
 
-abbrev pub firstFrame : List ℕ
-firstFrame = numbers (two 1)
+abbrev pub maskOfFirst : List ℕ
+maskOfFirst = numbers (two 1)
 
 abbrev pub average : List ℕ → List ℕ
 average elements = maskedBy "AVG_SUB " elements
 
 abbrev pub withGroups : List ℕ → List ℕ
-withGroups groups = ended (shared groups ++ (perFrame ++ pixels))
+withGroups groups = ended (shared groups ++ (perFrameGroups ++ pixels))
 
 abbrev pub withShifts : List ℕ → List ℕ → List ℕ
-withShifts mask groups = ended (mask ++ (shared groups ++ (perFrame ++ pixels)))
+withShifts mask groups = ended (mask ++ (shared groups ++ (perFrameGroups ++ pixels)))
 
 -- Numbers of FL: 1, 0.3 and one that is not a number.
-abbrev pub one : List ℕ
-one = 0x00 ∷ 0x00 ∷ 0x80 ∷ 0x3F ∷ []
+abbrev pub floatOne : List ℕ
+floatOne = 0x00 ∷ 0x00 ∷ 0x80 ∷ 0x3F ∷ []
 
 abbrev pub threeTenths : List ℕ
 threeTenths = 0x9A ∷ 0x99 ∷ 0x99 ∷ 0x3E ∷ []
@@ -106,8 +106,8 @@ threeTenths = 0x9A ∷ 0x99 ∷ 0x99 ∷ 0x3E ∷ []
 abbrev pub notANumber : List ℕ
 notANumber = 0x00 ∷ 0x00 ∷ 0xC0 ∷ 0x7F ∷ []
 
-abbrev pub moved : List ℕ → List ℕ
-moved value = short 0x0028 0x6114 "FL" value
+abbrev pub itemShiftOf : List ℕ → List ℕ
+itemShiftOf value = short 0x0028 0x6114 "FL" value
 
 -- Subtraction Item ID, and Frame Pixel Shift with items.
 abbrev pub itemId : ℕ → List ℕ
@@ -131,50 +131,50 @@ windowWidth text = short 0x0028 0x1051 "DS" (ascii text)
 abbrev pub lacking : List Case
 lacking =
     -- Nothing is lacking.
-    draws (started (photometric ++ (number ++ (height ++ cells 2 8)))) 2 false (30 ∷ 40 ∷ [])
-    ∷ draws (withMask (average firstFrame)) 2 true (148 ∷ 148 ∷ [])
+    draws (started (photometric ++ (numberOfTwo ++ (height ++ cells 2 8)))) 2 false (30 ∷ 40 ∷ [])
+    ∷ draws (withMask (average maskOfFirst)) 2 true (148 ∷ 148 ∷ [])
     -- "whole frames of cells inside the pixel bytes": of the frame, and of a mask frame
-    ∷ lacks (started (photometric ++ (number ++ (height ++ cells 3 8)))) 2
+    ∷ lacks (started (photometric ++ (numberOfTwo ++ (height ++ cells 3 8)))) 2
     ∷ lacks (withGroups []) 3
     ∷ lacks (withGroups []) 0
     ∷ lacks (withMask (average (numbers (two 3)))) 2
     -- "the shared item or item f where it opens one"
-    ∷ lacks (ended (perFrame ++ pixels)) 2
-    ∷ lacks (ended (sequence 0x5200 0x9229 [] ++ (perFrame ++ pixels))) 2
+    ∷ lacks (ended (perFrameGroups ++ pixels)) 2
+    ∷ lacks (ended (sequence 0x5200 0x9229 [] ++ (perFrameGroups ++ pixels))) 2
     ∷ lacks (ended (shared [] ++ pixels)) 2
     ∷ lacks (ended (shared [] ++ (sequence 0x5200 0x9230 (item []) ++ pixels))) 2
     -- "the one item of a VOI group"
     ∷ lacks (withGroups (sequence 0x0028 0x9132 [])) 2
     ∷ lacks (withGroups (sequence 0x0028 0x9132 (item (center "40" ++ windowWidth "10") ++ item []))) 2
     -- "at least one of a Frame Pixel Shift"
-    ∷ lacks (withShifts (average (firstFrame ++ itemId 7)) (frameShifts [])) 2
+    ∷ lacks (withShifts (average (maskOfFirst ++ itemId 7)) (frameShifts [])) 2
     -- "values of the VR, count and form it reads": the cells' size,
-    ∷ lacks (started (photometric ++ (number ++ cells 2 8))) 2
-    ∷ lacks (started (photometric ++ (number ++ (short 0x0028 0x0010 "SS" (two 1) ++ cells 2 8)))) 2
-    ∷ lacks (started (photometric ++ (number ++ (short 0x0028 0x0010 "US" (two 1 ++ two 1) ++ cells 2 8)))) 2
-    ∷ lacks (started (photometric ++ (number ++ (height ++ cells 2 12)))) 2
+    ∷ lacks (started (photometric ++ (numberOfTwo ++ cells 2 8))) 2
+    ∷ lacks (started (photometric ++ (numberOfTwo ++ (short 0x0028 0x0010 "SS" (two 1) ++ cells 2 8)))) 2
+    ∷ lacks (started (photometric ++ (numberOfTwo ++ (short 0x0028 0x0010 "US" (two 1 ++ two 1) ++ cells 2 8)))) 2
+    ∷ lacks (started (photometric ++ (numberOfTwo ++ (height ++ cells 2 12)))) 2
     -- the pixel bytes and the word of step 7,
-    ∷ lacks (ended (shared [] ++ perFrame)) 2
-    ∷ lacks (ended (shared [] ++ (perFrame ++ long 0x7FE0 0x0010 "UN" (10 ∷ 20 ∷ 30 ∷ 40 ∷ [])))) 2
-    ∷ lacks (started (number ++ (height ++ cells 2 8))) 2
-    ∷ lacks (started (short 0x0028 0x0004 "LO" (ascii "MONOCHROME2 ") ++ (number ++ (height ++ cells 2 8)))) 2
-    ∷ lacks (started (short 0x0028 0x0004 "CS" (ascii "MONOCHROME\\X") ++ (number ++ (height ++ cells 2 8)))) 2
+    ∷ lacks (ended (shared [] ++ perFrameGroups)) 2
+    ∷ lacks (ended (shared [] ++ (perFrameGroups ++ long 0x7FE0 0x0010 "UN" (10 ∷ 20 ∷ 30 ∷ 40 ∷ [])))) 2
+    ∷ lacks (started (numberOfTwo ++ (height ++ cells 2 8))) 2
+    ∷ lacks (started (short 0x0028 0x0004 "LO" (ascii "MONOCHROME2 ") ++ (numberOfTwo ++ (height ++ cells 2 8)))) 2
+    ∷ lacks (started (short 0x0028 0x0004 "CS" (ascii "MONOCHROME\\X") ++ (numberOfTwo ++ (height ++ cells 2 8)))) 2
     -- the mask items, their ranges, operations, frames and offsets,
     ∷ lacks (withMask (long 0x0028 0x6100 "UN" [])) 2
-    ∷ lacks (withMask (average (short 0x0028 0x6102 "US" (two 1 ++ (two 2 ++ two 2)) ++ firstFrame))) 2
+    ∷ lacks (withMask (average (short 0x0028 0x6102 "US" (two 1 ++ (two 2 ++ two 2)) ++ maskOfFirst))) 2
     ∷ lacks (withMask (maskedBy "REV_TID " [])) 2
     ∷ lacks (withMask (average [])) 2
     ∷ lacks (withMask (average (short 0x0028 0x6110 "SS" (two 1)))) 2
     ∷ lacks (withMask (maskedBy "TID " (short 0x0028 0x6120 "SS" (two 1 ++ two 1)))) 2
-    ∷ lacks (photometric ++ (height ++ (cells 2 8 ++ (maskedBy "TID " [] ++ (shared [] ++ (perFrame ++ pixels)))))) 2
+    ∷ lacks (photometric ++ (height ++ (cells 2 8 ++ (maskedBy "TID " [] ++ (shared [] ++ (perFrameGroups ++ pixels)))))) 2
     -- shifts of the item and of the frame,
-    ∷ lacks (withMask (average (firstFrame ++ moved one))) 2
-    ∷ lacks (withMask (average (firstFrame ++ moved (one ++ threeTenths)))) 2
-    ∷ lacks (withMask (average (firstFrame ++ moved (one ++ notANumber)))) 2
-    ∷ lacks (withShifts (average firstFrame) (frameShifts (item (moved (one ++ one) ++ itemId 7)))) 2
-    ∷ lacks (withShifts (average (firstFrame ++ itemId 7)) (frameShifts (item (moved (one ++ one))))) 2
-    ∷ lacks (withShifts (average (firstFrame ++ itemId 7)) (frameShifts (item (itemId 7)))) 2
-    ∷ lacks (withShifts (average (firstFrame ++ itemId 7)) (frameShifts (item (moved one ++ itemId 7)))) 2
+    ∷ lacks (withMask (average (maskOfFirst ++ itemShiftOf floatOne))) 2
+    ∷ lacks (withMask (average (maskOfFirst ++ itemShiftOf (floatOne ++ threeTenths)))) 2
+    ∷ lacks (withMask (average (maskOfFirst ++ itemShiftOf (floatOne ++ notANumber)))) 2
+    ∷ lacks (withShifts (average maskOfFirst) (frameShifts (item (itemShiftOf (floatOne ++ floatOne) ++ itemId 7)))) 2
+    ∷ lacks (withShifts (average (maskOfFirst ++ itemId 7)) (frameShifts (item (itemShiftOf (floatOne ++ floatOne))))) 2
+    ∷ lacks (withShifts (average (maskOfFirst ++ itemId 7)) (frameShifts (item (itemId 7)))) 2
+    ∷ lacks (withShifts (average (maskOfFirst ++ itemId 7)) (frameShifts (item (itemShiftOf floatOne ++ itemId 7)))) 2
     -- and the window.
     ∷ lacks (withGroups (voiOf (windowWidth "10"))) 2
     ∷ lacks (withGroups (voiOf (center "4X" ++ windowWidth "10"))) 2

@@ -14,7 +14,7 @@ use Rattle.value.specs.declared.Num.the-variants.{Is, None}
 use Rattle.basics.proofs.Tests.{and-both}
 use Rattle.node.specs.Nodes.{Node, nodesOf, nodeAt, root, inside}
 use Rattle.node.specs.Find.{holds, ifPresent}
-use Rattle.element.specs.Tags
+use Rattle.basics.specs.Tags
 use Rattle.element.specs.Elements.{every, oneItem, first}
 use Rattle.element.specs.Frames.{framesOf, groupOf}
 use Rattle.rules.specs.Intensity.{linearAmong, hasLut, areLuts, isLutGroup, hasLinear, isLog, item39, rule39}

@@ -19,7 +19,7 @@ use Rattle.display.proofs.Answers.{none-frame, low-frame, high-frame}
 use Rattle.linear.specs.declared.LinearAnswer.{LinearAnswer}
 use Rattle.linear.specs.declared.LinearAnswer.the-variants as linear
 use Rattle.linear.specs.Mapping.{linearFor, isMapped, mappingBy, mappingOf}
-use Rattle.linear.specs.Answer.{entriesIn, entriesOf, acceptedAnswer, answerFor, linearOf, valuesBy, valuesOf, fieldsOf}
+use Rattle.linear.specs.Answer.{entriesIn, entriesOf, acceptedAnswer, answerFor, linearOf, valuesBy, valuesLeft, fieldsOf}
 
 -- The numbers by the item.
 pub entries-are : (ns : List Node) (f j : ℕ) → linearFor ns f ≡ some (Is j) → entriesOf ns f ≡ entriesIn (mappingBy ns f j)
@@ -63,7 +63,7 @@ module _ (s : List ℕ) (f : ℕ) (before values : List ℕ) where
   pub linear-answers : (told : JudgeAnswer) {r : LinearAnswer} {end : List ℕ} → r ≡ answerFor (nodesOf s) f values told
       → end ≡ valuesBy (entriesOf (nodesOf s) f) values r → {a : JudgeAnswer} → a ≡ told → a ≡ judgeOf s before → {rows : List ℕ}
       → rows ≡ bufferOf (readingOf s) before
-      → Answers fieldsOf r (linearOf s f before values) × ((rows ≡ bufferOf (readingOf s) before) × (end ≡ valuesOf s f before values))
-  unfolding linearOf valuesOf
+      → Answers fieldsOf r (linearOf s f before values) × ((rows ≡ bufferOf (readingOf s) before) × (end ≡ valuesLeft s f before values))
+  unfolding linearOf valuesLeft
   linear-answers told e l p q w =
       judged-by fieldsOf (answerFor (nodesOf s) f values) (valuesBy (entriesOf (nodesOf s) f) values) told e l p q w

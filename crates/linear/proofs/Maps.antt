@@ -11,7 +11,7 @@ use Rattle.value.specs.declared.Num.the-variants.{Is, None}
 use Rattle.basics.proofs.Tests.{false-is-true}
 use Rattle.node.specs.Nodes.{Node, inside}
 use Rattle.node.specs.Find.{findVr}
-use Rattle.element.specs.Tags
+use Rattle.basics.specs.Tags
 use Rattle.basics.specs.Vr.{US, OW}
 use Rattle.element.specs.Elements.{valueAt}
 use Rattle.rules.specs.Intensity.{isLut, hasLut}

@@ -24,7 +24,7 @@ use Rattle.display.proofs.Judged.{after-judging}
 use Rattle.linear.specs.declared.LinearAnswer.{LinearAnswer}
 use Rattle.linear.specs.declared.LinearAnswer.the-variants as linear
 use Rattle.linear.specs.Mapping.{isMapped}
-use Rattle.linear.specs.Answer.{entriesOf, acceptedAnswer, answerFor, linearOf, valuesBy, valuesOf, fieldsOf}
+use Rattle.linear.specs.Answer.{entriesOf, acceptedAnswer, answerFor, linearOf, valuesBy, valuesLeft, fieldsOf}
 use Rattle.linear.proofs.LinearAnswer.{the-type}
 use Rattle.show_small.specs.declared.Sides.{Sides}
 use Rattle.show_small.specs.Shown.{sidesOf, noSides}
@@ -38,11 +38,11 @@ module _ (s : List ℕ) (f : ℕ) (buffer values : List ℕ) (h : width * length
   unfolding linearOf
   same-answer = ap (answerFor (nodesOf s) f values) (roomy s buffer h)
 
-  same-values : valuesOf s f buffer values ≡ valuesOf s f (flat (rowsOf s)) values
-  unfolding valuesOf
+  same-values : valuesLeft s f buffer values ≡ valuesLeft s f (flat (rowsOf s)) values
+  unfolding valuesLeft
   same-values = ap (valuesBy (entriesOf (nodesOf s) f) values) same-answer
 
-  pub roomy-mapped : (a : LinearAnswer) (after : List ℕ) → a ≡ linearOf s f buffer values → after ≡ valuesOf s f buffer values
+  pub roomy-mapped : (a : LinearAnswer) (after : List ℕ) → a ≡ linearOf s f buffer values → after ≡ valuesLeft s f buffer values
       → (sized (nodesOf s) a ≡ mappedOf s f values) × (after ≡ valuesAfter s f values)
   roomy-mapped a after e i = (ap (sized (nodesOf s)) (e ∙ same-answer), i ∙ same-values)
 

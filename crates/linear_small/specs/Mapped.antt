@@ -6,7 +6,7 @@ use Rattle.dataset.specs.Tree.{rowsOf}
 use Rattle.node.specs.Nodes.{Node, nodesOf}
 use Rattle.linear.specs.declared.LinearAnswer.{LinearAnswer}
 use Rattle.linear.specs.declared.LinearAnswer.the-variants as linear
-use Rattle.linear.specs.Answer.{linearOf, valuesOf}
+use Rattle.linear.specs.Answer.{linearOf, valuesLeft}
 use Rattle.show_small.specs.declared.Sides.{Sides}
 use Rattle.show_small.specs.Shown.{sidesOf, noSides}
 use Rattle.linear_small.specs.declared.Mapped.{Mapped}
@@ -31,4 +31,4 @@ mappedOf s f values = sized (nodesOf s) (linearOf s f (flat (rowsOf s)) values)
 
 -- The values buffer afterwards.
 abbrev pub valuesAfter : List ℕ → ℕ → List ℕ → List ℕ
-valuesAfter s f values = valuesOf s f (flat (rowsOf s)) values
+valuesAfter s f values = valuesLeft s f (flat (rowsOf s)) values

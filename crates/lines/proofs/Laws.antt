@@ -8,14 +8,16 @@ use native.Mathlib.Omega.{arith}
 use lib.Pow.{pow-pos}
 use lib.ListN.{length, getD, take, drop}
 use denote.Ref.{RefT}
+use Rattle.value.specs.Number.{numberOr0}
 use Rattle.window.specs.declared.Window.{Window}
 use lib.IntN.{pos, _-ℤ_}
 use Rattle.window.specs.Window.{levelOf, shaded}
-use Rattle.window.specs.Contracts.{number, shadeAt, Filled, shadePlaces}
+use Rattle.window.specs.Contracts.{shadeAt, Filled, shadePlaces}
 use Rattle.window.proofs.Laws.{power-small, power-twice}
 use Rattle.pixel.specs.declared.Geometry.{Geometry}
 use Rattle.pixel.specs.Pixel.{samplesOf, isFrame, sampleAt, weightsOf}
-use Rattle.pixel.specs.Contracts.{painted, nativeShade, Shaped, Row, cellAt, plainPlace, maskPlace, paintedFrom, rowShade, blendsAt, Blends}
+use Rattle.pixel.specs.Contracts.{painted, nativeShade, Shaped, RowLies, cellAt, plainPlace, maskPlace, paintedFrom, rowShade, blendsAt}
+use Rattle.pixel.specs.Contracts.{Blends}
 use Rattle.pixel.specs.Contracts.{edges, farthest, farthestMove, Subtracts, quarterShade, Spread, Averaged, shifted}
 use Rattle.pixel.proofs.Laws.{width-some, frame-facts, sample-cell, sample-most, cell-most, power-most, half-low, painted-same, row-offset}
 use Rattle.pixel.proofs.Places.{fourths}
@@ -67,7 +69,7 @@ module _ (t : Shades) (stored : ℕ) where
 -- ---- Places, as the code works them out
 
 pub shade-at : (w : Window) (stored : ℕ) (inverse : Bool) (p h l place : ℕ) → h ≡ 2 ^ (stored - 1) → l ≡ 2 ^ stored → p ≡ place
-    → number (shaded inverse (levelOf w (pos (p + h) -ℤ pos (l - 1)))) ≡ shadeAt w stored inverse place
+    → numberOr0 (shaded inverse (levelOf w (pos (p + h) -ℤ pos (l - 1)))) ≡ shadeAt w stored inverse place
 unfolding shadeAt
 shade-at w stored inverse p h l place a b d = rw (a, b, d)
 
@@ -78,7 +80,7 @@ module _ (g : Geometry) (shape : Shaped g) (s : RefT (List ℕ)) (f row : ℕ) (
   line-long : length (r .now) ≡ g .columns * g .width
   line-long = part-size s _ _ r p
 
-  pub line-row : Row (r .now) g 0
+  pub line-row : RowLies (r .now) g 0
   line-row =
       let z : 0 + g .columns ≡ g .columns = omega arith in
       record { shape = shape; inside = rw (z, line-long) (omega arith) }

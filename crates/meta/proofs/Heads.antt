@@ -20,7 +20,8 @@ use Rattle.dataset.proofs.Depths.{Deep, RunDeep, value-deep}
 use Rattle.meta.specs.declared.Uid.{Uid}
 use Rattle.meta.specs.declared.Found.{Found}
 use Rattle.meta.specs.declared.Elements.the-variants as elements
-use Rattle.meta.specs.Meta.{MediaStorageSOPClassUID, TransferSyntaxUID, uidAt, nothing, noted, foundIn}
+use Rattle.meta.specs.Meta.{uidAt, noneFound, noted, foundIn}
+use Rattle.basics.specs.Tags.{MediaStorageSOPClassUID, TransferSyntaxUID}
 use Rattle.basics.specs.Vr.{UI}
 use Rattle.meta.specs.Contracts.{UidWithin, FoundWithin, walkOf}
 
@@ -48,7 +49,7 @@ found-next f rows below tag vr offset size descendants parent d =
     ∙ found-first (foundIn f rows) tag vr offset size descendants parent below
     ∙ found-deep (noted (foundIn f rows) tag vr offset size) below d
 
-found-none : foundIn nothing [] ≡ nothing
+found-none : foundIn noneFound [] ≡ noneFound
 unfolding foundIn
 found-none = refl
 
@@ -86,13 +87,13 @@ module _ (s : List ℕ) (end : ℕ) where
   -- The rows so far come to what was found, which lies within the file.
   abbrev Keeps : List ℕ → List ℕ → ℕ → ℕ → ℕ → Found → Type 0
   Keeps none₀ none at n least found = (i : Here none₀ none at n least)
-      × ((foundIn nothing (i .rows) ≡ found) × FoundWithin (length s) found)
+      × ((foundIn noneFound (i .rows) ≡ found) × FoundWithin (length s) found)
 
   abbrev pub Kept : List ℕ → List ℕ → Cursor → ℕ → ℕ → Found → Type 0
   Kept none₀ none here n least found = (here ≡ moved from (here .at)) × Keeps none₀ none (here .at) n least found
 
   module _ (none₀ : List ℕ) where
-    pub begun : 132 ≤ end → end ≤ length s → Kept none₀ none₀ from 0 0 nothing
+    pub begun : 132 ≤ end → end ≤ length s → Kept none₀ none₀ from 0 0 noneFound
     begun p q = (
       refl,
       (
@@ -142,9 +143,9 @@ module _ (s : List ℕ) (end : ℕ) where
             (λ h. absurd (omega (arith, h, l, z, k .1 .0 .kept))) in
             let d : Deep 1 (x .inner) = subst (λ (o : Run). RunDeep 1 o) (x .is) (value-deep 8 1 (omega arith) s (n + 1) vr v) in
             let b = level.below (valueRun depths s (n + 1) vr v) u in
-            let g : foundIn nothing (x .here .rows) ≡ more =
-            ap (foundIn nothing) (x .more)
-            ∙ found-next nothing (k .1 .0 .rows) (x .inner) tag vr (v .at) (stop - v .at) (length (x .inner)) 0 d
+            let g : foundIn noneFound (x .here .rows) ≡ more =
+            ap (foundIn noneFound) (x .more)
+            ∙ found-next noneFound (k .1 .0 .rows) (x .inner) tag vr (v .at) (stop - v .at) (length (x .inner)) 0 d
             ∙ ap (λ (y : Found). noted y tag vr (v .at) (stop - v .at)) (k .1 .1 .0)
             ∙ sym f in
             let within : FoundWithin (length s) more =

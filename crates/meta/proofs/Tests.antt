@@ -17,7 +17,7 @@ use Rattle.meta.specs.declared.Elements.{Elements}
 use Rattle.meta.specs.declared.Elements.the-variants as elements
 use Rattle.meta.specs.declared.Meta.{Meta}
 use Rattle.meta.specs.declared.Meta.the-variants.{BadHead}
-use Rattle.meta.specs.Meta.{isMarked, hasGroupLength, endOf, headOf, named, ofFound, ofRun, headedOf}
+use Rattle.meta.specs.Meta.{isMarked, hasGroupLength, headEnd, headOf, named, ofFound, ofRun, headedOf}
 use Rattle.meta.specs.Contracts.{walkOf}
 
 -- ---- The mark
@@ -55,13 +55,13 @@ module _ (s : List ℕ) where
 
   -- ---- The head
 
-  pub ends : (x : ℕ) → x ≡ le32 s 140 → 132 + 12 + x ≡ endOf s
-  unfolding endOf
+  pub ends : (x : ℕ) → x ≡ le32 s 140 → 132 + 12 + x ≡ headEnd s
+  unfolding headEnd
   ends x e = ap (λ (k : ℕ). 132 + 12 + k) e
 
-  pub past-the-file : length s < endOf s → BadHead ≡ headedOf s
+  pub past-the-file : length s < headEnd s → BadHead ≡ headedOf s
   unfolding headedOf
-  past-the-file h = rw (lt-leb (endOf s) (length s) h)
+  past-the-file h = rw (lt-leb (headEnd s) (length s) h)
 
   -- What the walk along the elements comes to.
   abbrev pub ofElements : Elements → Meta
@@ -72,15 +72,15 @@ module _ (s : List ℕ) where
   of-run (done stop next rows) = refl
   of-run (refused code offset) = refl
 
-  headed : endOf s ≤ length s → ofRun s (headOf s) ≡ headedOf s
+  headed : headEnd s ≤ length s → ofRun s (headOf s) ≡ headedOf s
   unfolding headedOf
-  headed h = rw (le-leb (endOf s) (length s) h)
+  headed h = rw (le-leb (headEnd s) (length s) h)
 
-  head-is : (end : ℕ) → end ≡ endOf s → elementsAt depths s 0 (cursor 132 end false) ≡ headOf s
+  head-is : (end : ℕ) → end ≡ headEnd s → elementsAt depths s 0 (cursor 132 end false) ≡ headOf s
   unfolding headOf
   head-is end e = ap (λ (k : ℕ). elementsAt depths s 0 (cursor 132 k false)) e
 
-  pub walked : (end : ℕ) → end ≡ endOf s → end ≤ length s → (w : Elements) → w ≡ walkOf (elementsAt depths s 0 (cursor 132 end false))
+  pub walked : (end : ℕ) → end ≡ headEnd s → end ≤ length s → (w : Elements) → w ≡ walkOf (elementsAt depths s 0 (cursor 132 end false))
       → ofElements w ≡ headedOf s
   walked end e h w q = ap ofElements (q ∙ ap walkOf (head-is end e)) ∙ of-run (headOf s) ∙ headed (omega (arith, e))
 

@@ -13,16 +13,11 @@ ghost use lib.Dec.{eqb};
 ghost use Rattle.dataset.specs.Reading.{depths, elementsAt, itemsAt, valueRun};
 ghost use Rattle.dataset.specs.Header.{cursor, elementAt};
 ghost use Rattle.dataset.specs.Contracts.{Within, Walked, Ready};
-ghost use Rattle.meta.specs.Meta.{isMarked, hasGroupLength, endOf, uidAt, noted, named, headedOf, metaOf};
+ghost use Rattle.meta.specs.Meta.{isMarked, hasGroupLength, headEnd, uidAt, noted, named, headedOf, metaOf};
 ghost use Rattle.meta.specs.declared.Uid.the-variants.{At};
 ghost use Rattle.meta.specs.Contracts.{UidWithin, walkOf, ElementsWithin, MetaWithin};
+use basics::tags;
 use basics::vrs;
-
-const GROUP_LENGTH: usize = 0x0002_0000;
-
-const MEDIA_STORAGE_SOP_CLASS_UID: usize = 0x0002_0002;
-
-const TRANSFER_SYNTAX_UID: usize = 0x0002_0010;
 
 // Where the head's elements start: after 128 bytes of anything and "DICM".
 const START: usize = 132;
@@ -69,7 +64,7 @@ fn has_group_length(file: &[u8]) -> bool
     if file.len() < START + 12 {
         return false;
     }
-    if basics::tag_at(file, START) != GROUP_LENGTH {
+    if basics::tag_at(file, START) != tags::FILE_META_INFORMATION_GROUP_LENGTH {
         return false;
     }
     if basics::vr_at(file, START + 4) != vrs::UL {
@@ -118,8 +113,8 @@ fn note(found: Found, tag: usize, vr: usize, start: usize, stop: usize) -> Found
     let syntax = found.syntax;
     Found {
         only: has_only_group_2(tag, found.only),
-        class: chosen(tag, MEDIA_STORAGE_SOP_CLASS_UID, here, class),
-        syntax: chosen(tag, TRANSFER_SYNTAX_UID, here, syntax),
+        class: chosen(tag, tags::MEDIA_STORAGE_SOP_CLASS_UID, here, class),
+        syntax: chosen(tag, tags::TRANSFER_SYNTAX_UID, here, syntax),
     }
 }
 
@@ -243,7 +238,7 @@ fn along(file: &[u8], end: usize, none: &mut [u32]) -> Elements
 
 // The two UIDs, from a to b and from c to d: both single, and the second Explicit VR Little Endian.
 fn checked(file: &[u8], end: usize, a: usize, b: usize, c: usize, d: usize) -> Meta
-    requires { ⌜ ((end ≡ endOf (now file)) × (end ≤ length (now file)))
+    requires { ⌜ ((end ≡ headEnd (now file)) × (end ≤ length (now file)))
         × (((a ≤ b) × (b ≤ length (now file))) × ((c ≤ d) × (d ≤ length (now file)))) ⌝ }
     ensures { λ r. ⌜ r ≡ named (now (file .entry)) (At a b) (At c d) ⌝ }
     ensures { λ r. ⌜ MetaWithin (length (now (file .entry))) r ⌝ }
@@ -265,7 +260,7 @@ fn checked(file: &[u8], end: usize, a: usize, b: usize, c: usize, d: usize) -> M
 }
 
 fn names(file: &[u8], end: usize, class: Uid, syntax: Uid) -> Meta
-    requires { ⌜ ((end ≡ endOf (now file)) × (end ≤ length (now file)))
+    requires { ⌜ ((end ≡ headEnd (now file)) × (end ≤ length (now file)))
         × (UidWithin (length (now file)) class × UidWithin (length (now file)) syntax) ⌝ }
     ensures { λ r. ⌜ r ≡ named (now (file .entry)) class syntax ⌝ }
     ensures { λ r. ⌜ MetaWithin (length (now (file .entry))) r ⌝ }

@@ -15,7 +15,8 @@ use Rattle.pixel.specs.declared.Geometry.{Geometry}
 use Rattle.pixel.specs.Pixel.{samplesOf, sampleAt, averageOf, maskAt, rowOf, columnOf, neighbourOf, areInside, weightsOf, blendOf}
 use Rattle.pixel.specs.Pixel.{blendedAt}
 use Rattle.pixel.specs.Whole.{sourceOf}
-use Rattle.pixel.specs.Contracts.{edges, farthest, farthestMove, painted, maskedShade, shifted, OffsetOf, Cells, Weights, Spread, Averaged, Averages, cellAt}
+use Rattle.pixel.specs.Contracts.{edges, farthest, farthestMove, painted, maskedShade, shifted, OffsetOf, Cells, Weights, Spread}
+use Rattle.pixel.specs.Contracts.{Averaged, Averages, cellAt}
 use Rattle.pixel.specs.Contracts.{maskPlace, blockAt, blendsAt, Blends, quarterShade, offsetShade, paintedFrom}
 use Rattle.pixel.proofs.Laws.{row-below, column-below, cell-below, mask-most, sum-fits, spread-most, place-row, place-column}
 use Rattle.pixel.proofs.Laws.{painted-at, from-length, from-at, from-after}
@@ -168,21 +169,26 @@ spread-fits v g ks row sums few high s j l = omega
     (arith, spread-most v g ks row sums (length ks) refl s j l, sum-fits (length ks) (g .stored) few high)
 
 -- The averages of a row of sums.
-pub averaged : (v : List ℕ) (g : Geometry) (ks : List ℕ) (row : ℕ) (sums : List ℕ) (n : ℕ) → n ≡ length ks → g .columns + edges ≤ length sums
+pub averaged : (v : List ℕ) (g : Geometry) (ks : List ℕ) (row : ℕ) (sums : List ℕ) (n : ℕ) → n ≡ length ks
+    → g .columns + edges ≤ length sums
     → Spread v g ks row sums → Averaged v g ks row (painted (λ j. averageOf (getD sums j 0) n) (g .columns + edges) sums)
 unfolding maskAt
-averaged v g ks row sums n e room
-    s = record { at = λ j l. painted-at (λ j. averageOf (getD sums j 0) n) (g .columns + edges) sums j room l ∙ rw (s .at j l, e) }
+averaged v g ks row sums n e room s =
+    record { at = λ j l. painted-at (λ j. averageOf (getD sums j 0) n) (g .columns + edges) sums j room l ∙ rw (s .at j l, e) }
 
 -- A copy of such a row.
 pub averaged-copy : (v : List ℕ) (g : Geometry) (ks : List ℕ) (row : ℕ) (cells room : List ℕ) → g .columns + edges ≤ length room
     → Averaged v g ks row cells → Averaged v g ks row (painted (λ j. getD cells j 0) (g .columns + edges) room)
-averaged-copy v g ks row cells room h s = record { at = λ j l. painted-at (λ j. getD cells j 0) (g .columns + edges) room j h l ∙ s .at j l }
+averaged-copy v g ks row cells room h
+    s = record { at = λ j l. painted-at (λ j. getD cells j 0) (g .columns + edges) room j h l ∙ s .at j l }
 
 pub averages : (v : List ℕ) (g : Geometry) (ks : List ℕ) (row : ℕ) (cells : List ℕ) → 1 ≤ length ks → length ks ≤ 64
     → g .columns + edges ≤ length cells → Averaged v g ks row cells → Averages g cells
-averages v g ks row cells some few room
-    s = record { at = λ j l. (omega arith, rw (s .at j l) (mask-most g v ks (row * g .columns + min (j - largestShift) (g .columns - 1)) some few)) }
+averages v g ks row cells some few room s =
+    record {
+      at = λ j l.
+          (omega arith, rw (s .at j l) (mask-most g v ks (row * g .columns + min (j - largestShift) (g .columns - 1)) some few));
+    }
 
 -- The cells of a block of two such rows.
 pub block-cells : (g : Geometry) (upper lower : List ℕ) → Averages g upper → Averages g lower → (j : ℕ) → j + 1 < g .columns + edges

@@ -20,7 +20,8 @@ use Rattle.value.specs.Number.{usValues}
 use Rattle.shift.specs.Shift.{largestShift}
 use Rattle.pixel.specs.declared.Geometry.{Geometry}
 use Rattle.pixel.specs.Pixel.{samplesOf, isFrame, sampleAt, sumAt, averageOf, maskAt}
-use Rattle.pixel.specs.Contracts.{painted, Masks, cellAt, plainPlace, maskPlace, Row, paintedFrom, Summed, Spread, shifted, rowShade}
+use Rattle.pixel.specs.Contracts.{painted, Masks, cellAt, plainPlace, maskPlace, RowLies, paintedFrom, Summed, Spread, shifted}
+use Rattle.pixel.specs.Contracts.{rowShade}
 use Rattle.pixel.specs.Contracts.{edges, farthest, offsetShade}
 use Rattle.pixel.proofs.Division.{average-most}
 
@@ -113,7 +114,7 @@ run-at from n w l c some h t =
     (omega arith, omega arith)
 
 -- The bytes of sample c of a row.
-pub row-at : (v : List ℕ) (g : Geometry) → Row v g 0 → (c : ℕ) → c < g .columns → c * g .width + g .width ≤ length v
+pub row-at : (v : List ℕ) (g : Geometry) → RowLies v g 0 → (c : ℕ) → c < g .columns → c * g .width + g .width ≤ length v
 row-at v g r c h =
     let z : 0 + c ≡ c = omega arith in
     subst (λ (j : ℕ). j * g .width + g .width ≤ length v) z
@@ -390,31 +391,40 @@ module _ (columns : ℕ) (s : List ℕ) (some : 1 ≤ columns) (fits : columns +
       from-before (λ _. getD s (largestShift + columns - 1) 0) (largestShift + columns) (largestShift + 1) left j (omega arith)
       ∙ ap (λ (i : ℕ). getD left i 0) (sym (zero-add j)) ∙ b ∙ ap (λ (i : ℕ). getD s i 0) (sym a)
 
-  at-middle : (j : ℕ) → largestShift ≤ j → j < largestShift + columns → getD whole j 0 ≡ getD s (largestShift + min (j - largestShift) (columns - 1)) 0
+  at-middle : (j : ℕ) → largestShift ≤ j → j < largestShift + columns
+      → getD whole j 0 ≡ getD s (largestShift + min (j - largestShift) (columns - 1)) 0
   at-middle j h l =
       let a : largestShift + min (j - largestShift) (columns - 1) ≡ j = omega arith in
-      from-before (λ _. getD s (largestShift + columns - 1) 0) (largestShift + columns) (largestShift + 1) left j l ∙ from-after (λ _. getD s largestShift 0) 0 largestShift s j (omega arith)
+      from-before (λ _. getD s (largestShift + columns - 1) 0) (largestShift + columns) (largestShift + 1) left j l
+      ∙ from-after (λ _. getD s largestShift 0) 0 largestShift s j (omega arith)
       ∙ ap (λ (i : ℕ). getD s i 0) (sym a)
 
-  at-right : (j : ℕ) → largestShift + columns ≤ j → j < columns + edges → getD whole j 0 ≡ getD s (largestShift + min (j - largestShift) (columns - 1)) 0
+  at-right : (j : ℕ) → largestShift + columns ≤ j → j < columns + edges
+      → getD whole j 0 ≡ getD s (largestShift + min (j - largestShift) (columns - 1)) 0
   at-right j h l =
       let a : largestShift + min (j - largestShift) (columns - 1) ≡ largestShift + columns - 1 = omega arith in
       let e : largestShift + columns + (j - (largestShift + columns)) ≡ j = omega arith in
       let f : length left ≡ length s = from-length (λ _. getD s largestShift 0) 0 largestShift s in
       ap (λ (i : ℕ). getD whole i 0) (sym e)
-      ∙ from-at (λ _. getD s (largestShift + columns - 1) 0) (largestShift + columns) (largestShift + 1) left (j - (largestShift + columns)) (omega arith) (omega arith)
+      ∙ from-at (λ _. getD s (largestShift + columns - 1) 0) (largestShift + columns) (largestShift + 1) left (j - (largestShift + columns))
+      (omega arith) (omega arith)
       ∙ ap (λ (i : ℕ). getD s i 0) (sym a)
 
   pub spread-at : (j : ℕ) → j < columns + edges → getD whole j 0 ≡ getD s (largestShift + min (j - largestShift) (columns - 1)) 0
-  spread-at j l = ⊎-elim (at-left j) (λ h. ⊎-elim (at-middle j h) (λ m. at-right j m l) (below-or-not j (largestShift + columns))) (below-or-not j largestShift)
+  spread-at j l = ⊎-elim (at-left j) (λ h. ⊎-elim (at-middle j h) (λ m. at-right j m l) (below-or-not j (largestShift + columns)))
+      (below-or-not j largestShift)
 
 -- The sums of a row, put so into a list behind the left edge.
 pub spread-row : (v : List ℕ) (g : Geometry) (ks : List ℕ) (row : ℕ) (sums s rest after : List ℕ) → 1 ≤ g .columns
     → g .columns ≤ length sums → largestShift ≤ length s → Summed v g ks row sums
-    → ((j : ℕ) → j < g .columns + edges → getD after j 0 ≡ getD (take largestShift s ++ (sums ++ rest)) (largestShift + min (j - largestShift) (g .columns - 1)) 0)
+    → ((j : ℕ) → j < g .columns + edges
+    → getD after j 0 ≡ getD (take largestShift s ++ (sums ++ rest)) (largestShift + min (j - largestShift) (g .columns - 1)) 0)
     → Spread v g ks row after
 spread-row v g ks row sums s rest after some fits room r
-    a = record { at = λ j l. a j l ∙ part (min (j - largestShift) (g .columns - 1)) (low j) ∙ r .at (min (j - largestShift) (g .columns - 1)) (low j) }
+    a = record {
+      at = λ j l.
+          a j l ∙ part (min (j - largestShift) (g .columns - 1)) (low j) ∙ r .at (min (j - largestShift) (g .columns - 1)) (low j);
+    }
   where
     low : (j : ℕ) → min (j - largestShift) (g .columns - 1) < g .columns
     low j = omega (arith, min-le-right (j - largestShift) (g .columns - 1))
@@ -422,7 +432,8 @@ spread-row v g ks row sums s rest after some fits room r
     part : (c : ℕ) → c < g .columns → getD (take largestShift s ++ (sums ++ rest)) (largestShift + c) 0 ≡ getD sums c 0
     part c l =
         let e : length (take largestShift s) ≡ largestShift = length-take-le largestShift s room in
-        ap (λ (n : ℕ). getD (take largestShift s ++ (sums ++ rest)) (n + c) 0) (sym e) ∙ getD-append-add (take largestShift s) (sums ++ rest) c 0
+        ap (λ (n : ℕ). getD (take largestShift s ++ (sums ++ rest)) (n + c) 0) (sym e)
+        ∙ getD-append-add (take largestShift s) (sums ++ rest) c 0
         ∙ List·getD-append sums rest 0 c (omega arith)
 
 module _ (v : List ℕ) (g : Geometry) (ks : List ℕ) (row : ℕ) where

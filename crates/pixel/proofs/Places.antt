@@ -73,10 +73,12 @@ module _ (m : Signed) (d : ℕ) (most : d ≤ farthestMove) (is : (r : ℕ) → 
           rw e
 
 pub offset-plus : (n : ℕ) → n < tooFar → OffsetOf (Plus n) (largestMove - n)
-offset-plus n h = offset-is (Plus n) (largestMove - n) (omega arith) (λ r. shift (gap (4 * r) n) (4 * r + (largestMove - n)) largestMove (omega arith))
+offset-plus n h = offset-is (Plus n) (largestMove - n) (omega arith)
+    (λ r. shift (gap (4 * r) n) (4 * r + (largestMove - n)) largestMove (omega arith))
 
 pub offset-minus : (n : ℕ) → n < tooFar → OffsetOf (Minus n) (largestMove + n)
-offset-minus n h = offset-is (Minus n) (largestMove + n) (omega arith) (λ r. shift (minus-gap n r) (4 * r + (largestMove + n)) largestMove (omega arith))
+offset-minus n h = offset-is (Minus n) (largestMove + n) (omega arith)
+    (λ r. shift (minus-gap n r) (4 * r + (largestMove + n)) largestMove (omega arith))
 
 pub offset-none : OffsetOf None largestMove
 offset-none = offset-is None largestMove (omega arith) (λ r. shift (lacks-gap r) (4 * r + largestMove) largestMove (omega arith))

@@ -14,7 +14,7 @@ use Rattle.value.specs.Number.{usOf, isOf}
 use Rattle.basics.specs.Vr.{SQ, CS, UI, US, IS}
 use Rattle.node.specs.Nodes.{Node, nodeAt, nextNode, membersBy, members, root, inside}
 use Rattle.node.specs.Find.{holds, ifPresent, andThen, find, ofVr, findVr, filled, has}
-use Rattle.element.specs.Tags
+use Rattle.basics.specs.Tags
 use Rattle.element.specs.Elements.{valueAt, usIn, csIs, uiIs, oneItem, theItem, insideOf, itemsIn, every, some, functionOn, functionIn}
 use Rattle.element.specs.Frames.{asCount, framesOf, sharedItem, frameItems, frameItem, groupOf, maskItems, operationIs, idIn}
 use Rattle.privacy.specs.Read.{isRead}

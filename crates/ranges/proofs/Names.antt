@@ -14,26 +14,26 @@ use Rattle.steps.specs.declared.Found.the-variants as found
 use Rattle.steps.specs.declared.Operation.{Operation}
 use Rattle.steps.specs.declared.Told.{Told}
 use Rattle.steps.specs.Contracts.{FoundBelow, IsTold}
-use Rattle.ranges.specs.Contracts.{Cleared, foundIn, operationIn, toldIn, Known}
+use Rattle.ranges.specs.Contracts.{Cleared, answerIn, operationIn, toldIn, Known}
 
 pub found-fewer : (n m : ℕ) (r : Found) → n ≤ m → FoundBelow n r → FoundBelow m r
 found-fewer n m (found.At k) h b = omega arith
 found-fewer n m found.Absent h b = tt
 found-fewer n m found.Lacks h b = tt
 
-pub found-at : (k : ℕ) → foundIn (k + 2) ≡ found.At k
+pub found-at : (k : ℕ) → answerIn (k + 2) ≡ found.At k
 found-at k =
     let e : k + 2 - 2 ≡ k = omega arith in
     rw (ne-eqb (k + 2) 0 (λ p. omega (arith, p)), ne-eqb (k + 2) 1 (λ p. omega (arith, p)), e)
 
 -- The two parts of an answer, put together and taken apart.
-pub told-both : (t : Told) (a b : ℕ) → foundIn a ≡ t .shared → operationIn b ≡ t .operation → b < 4 → toldIn (4 * a + b) ≡ t
+pub told-both : (t : Told) (a b : ℕ) → answerIn a ≡ t .shared → operationIn b ≡ t .operation → b < 4 → toldIn (4 * a + b) ≡ t
 told-both t a b e o h =
     let d : (4 * a + b) / 4 ≡ a = omega arith in
     let m : (4 * a + b) % 4 ≡ b = omega arith in
-    ap (λ (x : ℕ). record { operation = operationIn x; shared = foundIn ((4 * a + b) / 4) }) m
-    ∙ (ap (λ (x : ℕ). record { operation = operationIn b; shared = foundIn x }) d
-    ∙ (ap (λ (x : Operation). record { operation = x; shared = foundIn a }) o
+    ap (λ (x : ℕ). record { operation = operationIn x; shared = answerIn ((4 * a + b) / 4) }) m
+    ∙ (ap (λ (x : ℕ). record { operation = operationIn b; shared = answerIn x }) d
+    ∙ (ap (λ (x : Operation). record { operation = x; shared = answerIn a }) o
     ∙ ap (λ (x : Found). record { operation = t .operation; shared = x }) e))
 
 pub known-none : (ns : List Node) (keys answers : List ℕ) → Cleared 16 keys → Known ns keys answers

@@ -13,14 +13,14 @@ use Rattle.dataset.specs.Reading.{Reading, tooLarge, refusedAt, read, readingOf
 use Rattle.dataset.specs.Tree.{rowsIn, rowsOf}
 use Rattle.dataset.specs.Answer.{answerOf, fits, width}
 use Rattle.dataset.proofs.Laws.{row-count}
-use Rattle.rowprint.specs.Contracts.{Held, Roomy}
+use Rattle.rowprint.specs.Contracts.{RowsHeld, Roomy}
 
-pub held : (o : Reading) (buffer after : List ℕ) → length after ≡ length buffer → Held (answerOf o buffer) after
+pub held : (o : Reading) (buffer after : List ℕ) → length after ≡ length buffer → RowsHeld (answerOf o buffer) after
 held tooLarge buffer after e = tt
 held (refusedAt code offset) buffer after e = tt
 held (read rows) buffer after e = by-room (fits rows buffer) refl
   where
-    by-room : (t : Bool) → fits rows buffer ≡ t → Held (cond t (answer.Done (length rows)) answer.NoRoom) after
+    by-room : (t : Bool) → fits rows buffer ≡ t → RowsHeld (cond t (answer.Done (length rows)) answer.NoRoom) after
     by-room true f = omega (arith, leb-true (width * length rows) (length buffer) f)
     by-room false f = tt
 

@@ -9,7 +9,7 @@ ghost use lib.ListN.{length};
 ghost use Rattle.dataset.specs.Reading.{readingOf};
 ghost use Rattle.dataset.specs.Answer.{width, answerOf, bufferOf};
 ghost use Rattle.rowprint.specs.Text.{hexDigit, heading, letter as Text·letter};
-ghost use Rattle.rowprint.specs.Contracts.{Held, Roomy};
+ghost use Rattle.rowprint.specs.Contracts.{RowsHeld, Roomy};
 
 fn hex_digit(n: u32) -> u8
     ensures { λ r. ⌜ r ≡ hexDigit n ⌝ }
@@ -78,7 +78,7 @@ fn print_rows(rows: &[u32], n: usize)
 }
 
 fn print_answer(answer: ReadAnswer, rows: &[u32])
-    requires { ⌜ Held answer (now rows) ⌝ }
+    requires { ⌜ RowsHeld answer (now rows) ⌝ }
 {
     match answer {
         ReadAnswer::Done(n) => print_rows(rows, n),
@@ -93,7 +93,7 @@ fn read_roomy(bytes: &[u8], rows: &mut [u32]) -> ReadAnswer
     requires { ⌜ width * length (now bytes) ≤ 8 * length (now rows) ⌝ }
     ensures { λ r. ⌜ r ≡ answerOf (readingOf (now (bytes .entry))) (now (rows .entry)) ⌝ }
     ensures { λ _. ⌜ now (rows .exit) ≡ bufferOf (readingOf (now (bytes .entry))) (now (rows .entry)) ⌝ }
-    ensures { λ r. ⌜ Held r (now (rows .exit)) ⌝ }
+    ensures { λ r. ⌜ RowsHeld r (now (rows .exit)) ⌝ }
     ensures { λ r. ⌜ Roomy r ⌝ }
 {
     dataset::read(bytes, rows)

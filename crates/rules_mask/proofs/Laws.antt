@@ -16,7 +16,7 @@ pub use Rattle.basics.proofs.Tests.{both, not-first, one, other-one, then, othe
 use Rattle.node.specs.Nodes.{Node, nextNode, members, inside}
 use Rattle.node.specs.Find.{holds, holdsOr, andThen, orElse, find, ofVr, filled}
 use Rattle.element.specs.Elements.{every}
-use Rattle.element.specs.Tags.{FramePixelShiftSequence}
+use Rattle.basics.specs.Tags.{FramePixelShiftSequence}
 use Rattle.rules.specs.Mask.{pairsFit, allFrames, hasShiftGroup}
 use Rattle.rules_mask.specs.Contracts.{shiftIn}
 

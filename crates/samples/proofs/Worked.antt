@@ -2,7 +2,7 @@
 -- its own line names, so that a claim names one of the two.
 use Rattle.basics.specs.Bytes.{sameBytes, le16, leNumber}
 use Rattle.basics.specs.Vr.{listed, formOf}
-use Rattle.dataset.specs.Header.{when, headerBy, delimiterBy, levelBy, definedBy, longBy, typedAt, taggedAt, sizedBy, memberAt}
+use Rattle.dataset.specs.Header.{when, headerBy, delimiterBy, nestedBy, definedBy, longBy, typedAt, taggedAt, sizedBy, memberAt}
 use Rattle.dataset.specs.Reading.{level, valueRun, readingOf}
 use Rattle.dataset.specs.Tree.{rowsOf}
 use Rattle.value.specs.Text.{valuesOf, trimStart, trimEnd}
@@ -40,7 +40,7 @@ unfoldable pub reading : Unit {0}
 unfolding
     le16
     listed formOf
-    when headerBy delimiterBy levelBy definedBy longBy typedAt taggedAt sizedBy memberAt
+    when headerBy delimiterBy nestedBy definedBy longBy typedAt taggedAt sizedBy memberAt
     level valueRun readingOf
     rowsOf
 reading = tt

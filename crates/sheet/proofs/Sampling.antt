@@ -10,6 +10,7 @@ use native.Mathlib.Omega.{arith}
 use lib.Dec.{leb}
 use lib.ListN.{length, getD, length-append}
 use borrow.Author.Tests.{leb-true}
+use Rattle.value.specs.Number.{numberOr0}
 use Rattle.basics.proofs.Tests.{and-both}
 use Rattle.basics.specs.Bytes.{IsBytes}
 use Rattle.dataset.specs.Answer.{width}
@@ -18,7 +19,6 @@ use Rattle.value.specs.declared.Num.{Num}
 use Rattle.value.specs.declared.Num.the-variants.{Is, None}
 use Rattle.node.specs.Nodes.{Node, nodesOf, root}
 use Rattle.element.specs.Frames.{framesOf}
-use Rattle.conformance.specs.Judging.{numberOf}
 use Rattle.steps.specs.Steps.{Picture, stepsOf}
 use Rattle.display.specs.Show.{isFrameOf, imageSize, pictureIn, pictureOf}
 use Rattle.display.specs.Drawing.{IsAccepted, Whole, AllLevels}
@@ -36,7 +36,7 @@ use Rattle.sheet.specs.Sheet.{times, levelsOf, nativesOf, countsOf, lowe
 use Rattle.sheet.specs.Answer.{acceptedAnswer, answerFor, sheetFor, sheetOf, fieldsOf}
 use Rattle.sheet.specs.Contracts.{Few, First, Last}
 use Rattle.display.specs.Contracts.{IsObject, IsScene}
-use Rattle.sheet.specs.Sampling.{Range, total, Consistent, HandsBack, Sampling}
+use Rattle.sheet.specs.Sampling.{Range, total, Consistent, SheetBack, Sampling}
 use Rattle.sheet.proofs.Counts.{counts-add, levels-append, count-is, times-most, upTo-most, sum-weighted}
 use Rattle.display.proofs.Scenes.{cells-few}
 use Rattle.sheet.proofs.Lowest.{first-is, last-is, either, times-same, times-more, low-most, low-none, low-found, high-most}
@@ -131,7 +131,7 @@ module _ (s : List ℕ) (n a b : ℕ) (h : IsObject s n) (low : 1 ≤ a) (order 
   object-run : Run (nodesOf s) a (b + 1 - a)
   object-run =
       run (nodesOf s) a (b + 1 - a) (λ f l k. nothing-lacks s (h .bytes) (h .sound) f (omega (arith, low, l))
-      (subst (λ (x : Num). f ≤ numberOf x) (sym (h .frames)) (omega (arith, order, high, k))))
+      (subst (λ (x : Num). f ≤ numberOr0 x) (sym (h .frames)) (omega (arith, order, high, k))))
 
   pub few-counts : (c : Scene) → IsScene (nodesOf s) c → (counts : List ℕ) → counts ≡ countsOf (levelsOf (nodesOf s) a (b + 1 - a))
       → Few counts
@@ -177,13 +177,13 @@ module _ (s : List ℕ) (n a b : ℕ) (h : IsObject s n) (low : 1 ≤ a) (order 
 -- ---- From the answer back to what was asked
 
 module _ (s : List ℕ) (a b : ℕ) where
-  frames-is : (n : Num) → 1 ≤ numberOf n → n ≡ Is (numberOf n)
+  frames-is : (n : Num) → 1 ≤ numberOr0 n → n ≡ Is (numberOr0 n)
   frames-is (Is k) h = refl
   frames-is None h = absurd (omega arith)
 
   answer-done : (n : ℕ) → Range s a b → acceptedAnswer (nodesOf s) a b n ≡ answer.Done n
   answer-done n r =
-      frames-done (nodesOf s) a b n (r .order) (numberOf (framesOf (nodesOf s)))
+      frames-done (nodesOf s) a b n (r .order) (numberOr0 (framesOf (nodesOf s)))
       (frames-is (framesOf (nodesOf s)) (omega (arith, r .first .low, r .first .high))) (r .first .low) (r .last .high)
 
   was-range : (n : ℕ) → fieldsOf (acceptedAnswer (nodesOf s) a b n) .code ≡ 0 → Range s a b
@@ -254,7 +254,7 @@ module _ (s : List ℕ) (bytes : IsBytes s) (a b : ℕ) (acc : IsAccepted s) (r 
       (all-cells .levels) (all-cells .size)
       (omega (arith, all-cells .size, some)) (natives-few (nodesOf s) a (b - a + 1))
 
-  handed : (buffer : List ℕ) → width * length (rowsOf s) ≤ length buffer → HandsBack s a b buffer
+  handed : (buffer : List ℕ) → width * length (rowsOf s) ≤ length buffer → SheetBack s a b buffer
   handed buffer room =
       let is : sheetOf s a b buffer .answer ≡ answer.Done (length (rowsOf s)) = answered s a b buffer acc r room in
       let sheet : sheetOf s a b buffer .sheet ≡ framesSheet (nodesOf s) a b = sheet-is s a b buffer ∙ ap (sheetFor (nodesOf s) a b) is in

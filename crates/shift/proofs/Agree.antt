@@ -17,9 +17,10 @@ use Rattle.value.specs.Number.{isNumber}
 use Rattle.shift.specs.declared.Shift.{Shift}
 use Rattle.shift.specs.declared.Shift.the-variants as shift
 use Rattle.shift.specs.declared.Moves.{Moves}
-use Rattle.shift.specs.Shift.{shiftUnit, largestShift, largestMove, signedSize, quartersOf, isShort, movesOf, isShiftOf, itemShift, frameShift, isShift}
+use Rattle.shift.specs.Shift.{shiftUnit, largestShift, largestMove, signedSize, quartersOf, isShort, movesOf, isShiftOf, itemShift}
+use Rattle.shift.specs.Shift.{frameShift, isShift}
 use Rattle.shift.proofs.Laws.{same-of}
-use Rattle.shift.specs.Agree.{SameMoves, Agree, AgreeRule, AgreeBeyond}
+use Rattle.shift.specs.Agree.{SameMoves, AgreeShifts, AgreeRule, AgreeBeyond}
 use Rattle.shift.specs.Whole.{wholeFloat, wholeMovesOf, isShortWhole, isWholeShiftOf, isWholeShift, inQuarters}
 
 -- ---- One number
@@ -125,7 +126,7 @@ agree-rule v p q =
     let s : Shift = itemShift v in
     rw (whole-moves s p q, short-same (wholeMovesOf s .vertical), short-same (wholeMovesOf s .horizontal))
 
-pub agree : Agree
+pub agree : AgreeShifts
 agree v h =
     record {
       is = whole-shift v h;

@@ -23,7 +23,7 @@ use Rattle.value.specs.declared.Signed.{Signed}
 use Rattle.value.specs.declared.Signed.the-variants as signed
 use Rattle.value.specs.Number.{withSign}
 use Rattle.shift.specs.Shift.{signedSize, quartersOf, largestShift, largestMove, isShort, shortOf}
-use Rattle.shift.specs.Contracts.{upTo, shortSize}
+use Rattle.shift.specs.Contracts.{wholeUpTo, shortSize}
 
 -- ---- Tests
 
@@ -57,7 +57,7 @@ module _ (n d : ℕ) where
   quotient-some : 0 < n → n % d ≡ 0 → n / d ≡ 0 → ⊥
   quotient-some h p z = let k : 0 ≡ n = sym (zero-mul d) ∙ ap (λ (x : ℕ). x * d) (sym z) ∙ exact p in omega arith
 
-  fraction-high : (l : ℕ) → l * d < n → upTo l n d ≡ num.None
+  fraction-high : (l : ℕ) → l * d < n → wholeUpTo l n d ≡ num.None
   fraction-high l h = go (leb (n / d) l) (eqb (n % d) 0) refl refl
     where
       clash : n % d ≡ 0 → n / d * d ≤ l * d → ⊥
@@ -85,7 +85,7 @@ module _ (n d : ℕ) where
       go false h = ne-eqb _ _ (λ p. eqb-false _ _ h (left p))
 
 -- Two fractions of one size.
-fraction-same : (l a b c d : ℕ) → 0 < b → 0 < d → a * d ≡ c * b → upTo l a b ≡ upTo l c d
+fraction-same : (l a b c d : ℕ) → 0 < b → 0 < d → a * d ≡ c * b → wholeUpTo l a b ≡ wholeUpTo l c d
 fraction-same l a b c d pb pd h = rw (quotients, tests)
   where
     quotients : a / b ≡ c / d
@@ -191,9 +191,10 @@ back-is (fin false a d) s m e v h =
 abbrev pub wholeUp : Float → Num
 wholeUp nan = num.None
 wholeUp (inf s) = num.None
-wholeUp (fin s m e) = upTo largestMove (m * up e) (down e)
+wholeUp (fin s m e) = wholeUpTo largestMove (m * up e) (down e)
 
-whole-is : (z : Float) → Low largestMove z → wholeUp z ≡ cond (eq (ofInt binary32 (pos (toUnsigned 64 z))) z) (num.Is (toUnsigned 64 z)) num.None
+whole-is : (z : Float) → Low largestMove z
+    → wholeUp z ≡ cond (eq (ofInt binary32 (pos (toUnsigned 64 z))) z) (num.Is (toUnsigned 64 z)) num.None
 unfolding ofInt
 whole-is nan h = absurd h
 whole-is (inf s) h = absurd h
@@ -274,7 +275,7 @@ four-exact s (suc m) (negsuc k) f h = exact-down s (suc m) (parts s m (negsuc k)
     go false e = absurd (lt-irrefl _ (lt-of-lt-of-le (pow-lt (leb-false _ _ e)) (parts s m (negsuc k) f .1)))
 
 four-by : (z : Float) (s : Bool) (n d : ℕ) → 0 < d → n ≤ largestShift * d → (s ≡ true → n ≡ 0) → HasValue z s (n * 4) (d * 1)
-    → Low largestMove z × (wholeUp z ≡ upTo largestMove (n * 4) d)
+    → Low largestMove z × (wholeUp z ≡ wholeUpTo largestMove (n * 4) d)
 four-by nan s n d p h w v = absurd v
 four-by (inf t) s n d p h w v = absurd v
 four-by (fin t a e) s n d p h w v = ((small, sign), fraction-same largestMove (a * up e) (down e) (n * 4) d (down-pos e) p value)
@@ -304,7 +305,8 @@ unlike-plus false = refl
 abbrev pub fourTimes : Float → Float
 fourTimes y = mul binary32 y (ofBits binary32 0x40800000)
 
-pub four-times : (y : Float) → fits binary32 y ≡ true → Low largestShift y → Low largestMove (fourTimes y) × (wholeUp (fourTimes y) ≡ shortSize y)
+pub four-times : (y : Float) → fits binary32 y ≡ true → Low largestShift y
+    → Low largestMove (fourTimes y) × (wholeUp (fourTimes y) ≡ shortSize y)
 unfolding mul ofBits shortSize
 four-times nan f h = absurd h
 four-times (inf s) f h = absurd h

@@ -1,12 +1,12 @@
 -- What is shown of a data set if the row buffer is large enough: the answer, the image's size and the image.
 use Prim.Native.Nat.{ℕ}
 use mathlib.Core.List.{List}
+use Rattle.value.specs.Number.{numberOr0}
 use Rattle.dataset.specs.Answer.{flat}
 use Rattle.dataset.specs.Tree.{rowsOf}
 use Rattle.node.specs.Nodes.{Node, nodesOf, root}
-use Rattle.element.specs.Tags
+use Rattle.basics.specs.Tags
 use Rattle.element.specs.Elements.{usIn}
-use Rattle.conformance.specs.Judging.{numberOf}
 use Rattle.display.specs.declared.ShowAnswer.{ShowAnswer}
 use Rattle.display.specs.declared.ShowAnswer.the-variants as shown
 use Rattle.display.specs.Show.{showOf, imageOf}
@@ -15,7 +15,7 @@ use Rattle.show_small.specs.declared.Shown.{Shown}
 
 -- The sides of a frame: the width is Columns, the height is Rows.
 abbrev pub sidesOf : List Node → Sides
-sidesOf ns = record { width = numberOf (usIn ns Tags.Columns (root ns)); height = numberOf (usIn ns Tags.Rows (root ns)) }
+sidesOf ns = record { width = numberOr0 (usIn ns Tags.Columns (root ns)); height = numberOr0 (usIn ns Tags.Rows (root ns)) }
 
 -- A refusal has no image.
 abbrev pub noSides : Sides

@@ -1,14 +1,14 @@
 // Drawing a frame of a data set of at most 65,536 bytes with its own row buffer, for the programs that draw.
+use basics::tags;
 use display::ShowAnswer;
-use element::tags;
 use room::row_buffer;
 use value::Num;
 ghost use mathlib.Core.Path.{_≡_};
 ghost use Prim.Native.Nat.{_*_, _≤_};
 ghost use lib.ListN.{length};
+ghost use Rattle.value.specs.Number.{numberOr0};
 ghost use Rattle.node.specs.Nodes.{nodesOf};
 ghost use Rattle.node.specs.Contracts.{Table};
-ghost use Rattle.conformance.specs.Judging.{numberOf};
 ghost use Rattle.show_small.specs.Shown.{sidesOf, noSides, shownOf, imageAfter};
 
 // The sides of a frame: its Columns and Rows.
@@ -25,7 +25,7 @@ pub struct Shown {
 
 // A number, or 0 if there is none.
 pub fn number_of(n: Num) -> usize
-    ensures { λ r. ⌜ r ≡ numberOf n ⌝ }
+    ensures { λ r. ⌜ r ≡ numberOr0 n ⌝ }
 {
     match n {
         Num::Is(k) => k,

@@ -21,7 +21,7 @@ use Rattle.verdict.proofs.Bounds.{Small, possible-small, possible-rows}
 use Rattle.slip.specs.declared.SlipAnswer.{SlipAnswer}
 use Rattle.slip.specs.declared.SlipAnswer.the-variants as read
 use Rattle.slip.specs.Slip.{mark, version, oldVersion, versionPlace, codePlace, rulePlace, framePlace, offsetPlace, rowsPlace}
-use Rattle.slip.specs.Slip.{headSize, oldSize, slipSize, fieldBytes, slipWith, slipBy, slipOf, recorded}
+use Rattle.slip.specs.Slip.{openingSize, oldSize, slipSize, fieldBytes, slipWith, slipBy, slipOf, recorded}
 use Rattle.slip.specs.Slip.{ifPossible, readSized, readVersion, readOf, slipBuffer}
 use Rattle.basics.specs.Bytes.{IsBytes, sameBytes, leNumber, le}
 use Rattle.basics.proofs.Lists.{same-is}
@@ -73,9 +73,9 @@ unfolding fieldBytes le
 old-length v = refl
 
 -- The mark, and at least five bytes.
-begins : (s : List ℕ) → headSize ≤ length s → sameBytes (take 3 s) mark ≡ true → readOf s ≡ readVersion (leNumber 2 s versionPlace) s
+begins : (s : List ℕ) → openingSize ≤ length s → sameBytes (take 3 s) mark ≡ true → readOf s ≡ readVersion (leNumber 2 s versionPlace) s
 unfolding readOf
-begins s h m = rw (le-leb headSize (length s) h, m)
+begins s h m = rw (le-leb openingSize (length s) h, m)
 
 -- The right length, and a possible verdict in the fields.
 sized : (size : ℕ) (rows : RowCount) (s : List ℕ) (v : Verdict) → length s ≡ size → recorded s rows ≡ v → possible v ≡ true
@@ -183,8 +183,8 @@ record Begun (s : List ℕ) (v : Verdict) : Type 0 where
 begun : (s : List ℕ) (v : Verdict) → readOf s ≡ read.Read v → Begun s v
 unfolding readOf
 begun s v e =
-    let t = marked-first (leb headSize (length s) && sameBytes (take 3 s) mark) (readVersion (leNumber 2 s versionPlace) s) v e in
-    record { marked = and-both (leb headSize (length s)) (sameBytes (take 3 s) mark) (t .0) .1; on = t .1 }
+    let t = marked-first (leb openingSize (length s) && sameBytes (take 3 s) mark) (readVersion (leNumber 2 s versionPlace) s) v e in
+    record { marked = and-both (leb openingSize (length s)) (sameBytes (take 3 s) mark) (t .0) .1; on = t .1 }
 
 read-possible : (s : List ℕ) (v : Verdict) → readOf s ≡ read.Read v → possible v ≡ true
 unfolding readVersion

@@ -74,8 +74,8 @@ slipOf v = slipBy v (v .rows)
 -- ---- Reading: 12 for fewer than 5 bytes or a wrong mark; 13; 12 where the length is not the version's; 14
 
 -- Mark and version.
-abbrev pub headSize : ℕ
-headSize = 5
+abbrev pub openingSize : ℕ
+openingSize = 5
 
 -- The verdict that a slip's fields record, unchecked, with a row count.
 abbrev pub recorded : List ℕ → RowCount → Verdict
@@ -103,7 +103,7 @@ readVersion k s =
 
 unfoldable pub readOf : List ℕ → SlipAnswer
 readOf s =
-    cond (not (leb headSize (length s) && sameBytes (take 3 s) mark)) (read.Refused 12)
+    cond (not (leb openingSize (length s) && sameBytes (take 3 s) mark)) (read.Refused 12)
     (readVersion (leNumber 2 s versionPlace) s)
 
 -- The paper's numbers for each case: the code, and with code 0 the verdict read.
@@ -111,9 +111,9 @@ pub record SlipFields : Type 0 where
   pub code : ℕ
   pub verdict : Option Verdict
 
-abbrev pub readFields : SlipAnswer → SlipFields
-readFields (read.Read v) = record { code = 0; verdict = some v }
-readFields (read.Refused code) = record { code = code; verdict = none }
+abbrev pub readSlipFields : SlipAnswer → SlipFields
+readSlipFields (read.Read v) = record { code = 0; verdict = some v }
+readSlipFields (read.Refused code) = record { code = code; verdict = none }
 
 -- ---- Writing: 14, for a count that is not known too; then 11
 
@@ -128,6 +128,6 @@ unfoldable pub slipBuffer : Verdict → List ℕ → List ℕ
 slipBuffer v buffer = cond (writable v && leb slipSize (length buffer)) (slipOf v ++ drop slipSize buffer) buffer
 
 -- The paper's numbers for each case: the code alone.
-abbrev pub writeFields : WriteAnswer → Fields
-writeFields write.Written = codeAlone 0
-writeFields (write.Refused code) = codeAlone code
+abbrev pub writeSlipFields : WriteAnswer → Fields
+writeSlipFields write.Written = codeAlone 0
+writeSlipFields (write.Refused code) = codeAlone code

@@ -25,7 +25,7 @@ use Rattle.shift.specs.declared.Shift.{Shift}
 use Rattle.window.specs.declared.Window.{Window}
 use Rattle.pixel.specs.declared.Geometry.{Geometry}
 use Rattle.pixel.specs.Pixel.{isFrame}
-use Rattle.element.specs.Tags
+use Rattle.basics.specs.Tags
 use Rattle.element.specs.Elements.{first, valueAt, insideOf, itemsIn}
 use Rattle.element.specs.Frames.{idIn, maskItems}
 use Rattle.steps.specs.declared.Applying.{Applying}

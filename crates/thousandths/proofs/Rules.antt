@@ -20,7 +20,7 @@ use Rattle.basics.proofs.Tests.{false-is-true, and-both}
 use Rattle.node.specs.Nodes.{Node, inside}
 use Rattle.node.specs.Find.{holds, findVr}
 use Rattle.node.proofs.Tests.{holds-more, present-more}
-use Rattle.element.specs.Tags
+use Rattle.basics.specs.Tags
 use Rattle.basics.specs.Vr.{DS}
 use Rattle.element.specs.Elements.{valueAt, theItem, functionIn}
 use Rattle.element.specs.Frames.{sharedItem, frameItem, groupOf}

@@ -15,6 +15,11 @@ use Rattle.value.specs.declared.Function.{Function}
 use Rattle.value.specs.declared.Function.the-variants as function
 use Rattle.value.specs.Text.{valuesOf, valueOf, isSingle, trimmed}
 
+-- A number, or 0 where there is none.
+abbrev pub numberOr0 : Num → ℕ
+numberOr0 (num.Is n) = n
+numberOr0 num.None = 0
+
 -- ---- US and SS
 
 -- A single US.

@@ -17,11 +17,11 @@ use Rattle.value.specs.declared.Signed.{Signed}
 use Rattle.value.specs.declared.Signed.the-variants as signed
 use Rattle.value.specs.declared.Function.{Function}
 use Rattle.value.specs.declared.Function.the-variants as function
-use Rattle.value.specs.Number.{unit, sizeLimit, leastWidth, isWidth}
+use Rattle.value.specs.Number.{unit, sizeLimit, leastWidth, isWidth, numberOr0}
 use Rattle.value.specs.Contracts.{SizeBelow}
 use Rattle.window.specs.declared.Window.{Window}
 use Rattle.window.specs.Window.{integer, floor, takenOff, levelBy, levelAt, levelOf, shadeOf, cellOf, shaded}
-use Rattle.window.specs.Contracts.{Ruled, Drawable, Filled, above, below, rampOf, number, shadeAt, shadePlaces}
+use Rattle.window.specs.Contracts.{Ruled, Drawable, Filled, above, below, rampOf, shadeAt, shadePlaces}
 use Rattle.window.proofs.Gaps.{Gap, whole, gap, plus, less, times, value, le-yes, le-no, lt-yes, lt-no}
 
 -- ---- A window's sizes
@@ -313,4 +313,4 @@ pub shade-is : (window : Window) (stored : ℕ) (inverse : Bool) (i y : ℕ) →
     → levelOf window (pos (i + 2 ^ (stored - 1)) -ℤ pos (2 ^ stored - 1)) ≡ some (pos y)
     → shadeAt window stored inverse i ≡ shadeNumber inverse y
 unfolding shadeAt
-shade-is window stored inverse i y h e = ap (λ (o : Option ℤ). number (shaded inverse o)) e ∙ ap number (shaded-is inverse y h)
+shade-is window stored inverse i y h e = ap (λ (o : Option ℤ). numberOr0 (shaded inverse o)) e ∙ ap numberOr0 (shaded-is inverse y h)

@@ -111,31 +111,38 @@ returns-2 c = rw (c .done-with2 .ensures) (ap (λ (a : CompareAnswer). comparedO
 
 returns-3 : tie.Need-returns-3
 returns-3 c =
-    rw (c .no-cell .ensures, c .before .broken-at .ensures) (ap (λ (a : CompareAnswer). comparedOf (fieldsOf a)) (sym (c .before .before .before .answer3 .given .1)))
+    rw (c .no-cell .ensures, c .before .broken-at .ensures)
+    (ap (λ (a : CompareAnswer). comparedOf (fieldsOf a)) (sym (c .before .before .before .answer3 .given .1)))
 
 returns-4 : tie.Need-returns-4
 returns-4 c =
-    rw (c .no-cell2 .ensures, c .before .refused-at .ensures) (ap (λ (a : CompareAnswer). comparedOf (fieldsOf a)) (sym (c .before .before .before .answer4 .given .1)))
+    rw (c .no-cell2 .ensures, c .before .refused-at .ensures)
+    (ap (λ (a : CompareAnswer). comparedOf (fieldsOf a)) (sym (c .before .before .before .answer4 .given .1)))
 
 returns-5 : tie.Need-returns-5
 returns-5 c =
-    rw (c .no-cell3 .ensures, c .before .code-alone .ensures) (ap (λ (a : CompareAnswer). comparedOf (fieldsOf a)) (sym (c .before .before .enum-told .given .1)))
+    rw (c .no-cell3 .ensures, c .before .code-alone .ensures)
+    (ap (λ (a : CompareAnswer). comparedOf (fieldsOf a)) (sym (c .before .before .enum-told .given .1)))
 
 returns-6 : tie.Need-returns-6
 returns-6 c =
-    rw (c .no-cell4 .ensures, c .before .code-alone2 .ensures) (ap (λ (a : CompareAnswer). comparedOf (fieldsOf a)) (sym (c .before .before .enum-told2 .given .1)))
+    rw (c .no-cell4 .ensures, c .before .code-alone2 .ensures)
+    (ap (λ (a : CompareAnswer). comparedOf (fieldsOf a)) (sym (c .before .before .enum-told2 .given .1)))
 
 returns-7 : tie.Need-returns-7
 returns-7 c =
-    rw (c .no-cell5 .ensures, c .before .code-alone3 .ensures) (ap (λ (a : CompareAnswer). comparedOf (fieldsOf a)) (sym (c .before .before .enum-told3 .given .1)))
+    rw (c .no-cell5 .ensures, c .before .code-alone3 .ensures)
+    (ap (λ (a : CompareAnswer). comparedOf (fieldsOf a)) (sym (c .before .before .enum-told3 .given .1)))
 
 returns-8 : tie.Need-returns-8
 returns-8 c =
-    rw (c .no-cell6 .ensures, c .before .code-alone4 .ensures) (ap (λ (a : CompareAnswer). comparedOf (fieldsOf a)) (sym (c .before .before .enum-told4 .given .1)))
+    rw (c .no-cell6 .ensures, c .before .code-alone4 .ensures)
+    (ap (λ (a : CompareAnswer). comparedOf (fieldsOf a)) (sym (c .before .before .enum-told4 .given .1)))
 
 returns-9 : tie.Need-returns-9
 returns-9 c =
-    rw (c .no-cell7 .ensures, c .before .code-alone5 .ensures) (ap (λ (a : CompareAnswer). comparedOf (fieldsOf a)) (sym (c .before .before .enum-told5 .given .1)))
+    rw (c .no-cell7 .ensures, c .before .code-alone5 .ensures)
+    (ap (λ (a : CompareAnswer). comparedOf (fieldsOf a)) (sym (c .before .before .enum-told5 .given .1)))
 
 pub compare-numbers-spec : {M : Type 1} → statement M
 compare-numbers-spec =

@@ -15,7 +15,8 @@ with-searches-requires c κs = search needs
 returns : tie.Need-returns
 returns c =
     let entry = c .before .before in
-    c .with-searches .ensures ∙ ap (λ (a : Answer). withSearches (entry .args .counted .searches) a) (c .before .judge-file-numbers .ensures)
+    c .with-searches .ensures
+    ∙ ap (λ (a : Answer). withSearches (entry .args .counted .searches) a) (c .before .judge-file-numbers .ensures)
 
 pub counted-file-numbers-spec : {M : Type 1} → statement M
 counted-file-numbers-spec = tie.close (tie.spec judge-file-numbers-requires with-searches-requires returns)

@@ -2,8 +2,8 @@
 use mathlib.Core.Path.{ap, sym, _∙_}
 use native.Mathlib.Omega.{arith}
 use Rattle.slip.specs.declared.SlipAnswer.{SlipAnswer}
-use Rattle.slip.specs.Slip.{readFields}
-use Rattle.c_slips.specs.Slips.{slipOf}
+use Rattle.slip.specs.Slip.{readSlipFields}
+use Rattle.c_slips.specs.Slips.{hostedSlip}
 use Rattle.c_slips.proofs.Fits.{slip-code, slip-narrow}
 use borrow.Author.Needs.{needs}
 use Rattle.c_slips.proofs.read_slip.Statement.{statement}
@@ -35,13 +35,13 @@ returns : tie.Need-returns
 returns c =
     let at-read-slip = c .before .before .before .before in
     c .slip-of .ensures
-    ∙ ap (λ (a : SlipAnswer). slipOf (readFields a)) (sym (c .before .before .v .given .1) ∙ at-read-slip .read-slip .ensures .same)
+    ∙ ap (λ (a : SlipAnswer). hostedSlip (readSlipFields a)) (sym (c .before .before .v .given .1) ∙ at-read-slip .read-slip .ensures .same)
 
 returns-2 : tie.Need-returns-2
 returns-2 c =
     let at-read-slip = c .before .before .before .before in
     rw (c .code-alone .ensures)
-    (ap (λ (a : SlipAnswer). slipOf (readFields a)) (sym (c .before .before .code .given .1) ∙ at-read-slip .read-slip .ensures .same))
+    (ap (λ (a : SlipAnswer). hostedSlip (readSlipFields a)) (sym (c .before .before .code .given .1) ∙ at-read-slip .read-slip .ensures .same))
 
 pub read-slip-spec : {M : Type 1} → statement M
 read-slip-spec =

@@ -2,7 +2,7 @@
 use mathlib.Core.Path.{ap, sym, _∙_}
 use native.Mathlib.Omega.{arith}
 use Rattle.slip.specs.declared.WriteAnswer.{WriteAnswer}
-use Rattle.slip.specs.Slip.{writeFields}
+use Rattle.slip.specs.Slip.{writeSlipFields}
 use Rattle.c_slips.proofs.Fits.{written-code}
 use borrow.Author.Needs.{needs}
 use Rattle.c_slips.proofs.write_slip.Statement.{statement}
@@ -33,7 +33,7 @@ returns c =
     let at-write-slip = c .before .before .before .before in
     let at-verdict-in = at-write-slip .before .before in
     rw (← at-verdict-in .verdict-in .ensures) (
-      ap (λ (a : WriteAnswer). writeFields a .code) (sym (c .enum-told .given .1) ∙ at-write-slip .write-slip .ensures .0 .same),
+      ap (λ (a : WriteAnswer). writeSlipFields a .code) (sym (c .enum-told .given .1) ∙ at-write-slip .write-slip .ensures .0 .same),
       at-write-slip .write-slip .ensures .1,
     )
 
@@ -45,7 +45,7 @@ returns-2 c =
     let at-write-slip = c .before .before .before .before .before in
     let at-verdict-in = at-write-slip .before .before in
     rw (← at-verdict-in .verdict-in .ensures) (
-      ap (λ (a : WriteAnswer). writeFields a .code) (sym (c .before .code .given .1) ∙ at-write-slip .write-slip .ensures .0 .same),
+      ap (λ (a : WriteAnswer). writeSlipFields a .code) (sym (c .before .code .given .1) ∙ at-write-slip .write-slip .ensures .0 .same),
       at-write-slip .write-slip .ensures .1,
     )
 

@@ -26,7 +26,8 @@ same-length c = search needs
 returns : tie.Need-returns
 returns c =
     let at-judge-counted = c .before .before .before in (
-      c .counted-numbers .ensures ∙ ap (λ (a : Counted). reported (reporting.fieldsOf a)) (at-judge-counted .judge-counted .ensures .0 .same),
+      c .counted-numbers .ensures
+          ∙ ap (λ (a : Counted). reported (reporting.fieldsOf a)) (at-judge-counted .judge-counted .ensures .0 .same),
       at-judge-counted .judge-counted .ensures .1,
     )
 

@@ -26,7 +26,8 @@ same-length c = search needs
 returns : tie.Need-returns
 returns c =
     let at-judge-file-counted = c .before .before .before in (
-      c .counted-file-numbers .ensures ∙ ap (λ (a : CountedFile). reported (countedFields a)) (at-judge-file-counted .judge-file-counted .ensures .0 .same),
+      c .counted-file-numbers .ensures
+          ∙ ap (λ (a : CountedFile). reported (countedFields a)) (at-judge-file-counted .judge-file-counted .ensures .0 .same),
       at-judge-file-counted .judge-file-counted .ensures .1,
     )
 

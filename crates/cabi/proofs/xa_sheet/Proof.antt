@@ -29,7 +29,8 @@ returns c =
     let at-sheet = at-sheet-numbers .before .before .before .before in
     let entry = at-sheet .before .before .before .before .before in (
       at-sheet-numbers .sheet-numbers .ensures .0
-          ∙ ap (λ (r : Sampled). hosted (sheetFields (holdsSheet (entry .args .buffer .now)) (r .answer))) (at-sheet .sheet .ensures .0 .same),
+          ∙ ap (λ (r : Sampled). hosted (sheetFields (holdsSheet (entry .args .buffer .now)) (r .answer)))
+          (at-sheet .sheet .ensures .0 .same),
       (
         at-sheet .sheet .ensures .1,
         at-sheet-numbers .sheet-numbers .ensures .1

@@ -1,7 +1,7 @@
 -- The rows that the answer counts are in the buffer, by what is required.
 use mathlib.Core.Path.{subst}
 use Rattle.dataset.specs.declared.ReadAnswer.{ReadAnswer}
-use Rattle.rowprint.specs.Contracts.{Held}
+use Rattle.rowprint.specs.Contracts.{RowsHeld}
 use borrow.Author.Needs.{needs}
 use Rattle.rowprint.proofs.print_answer.Statement.{statement}
 use Rattle.rowprint.proofs.print_answer.Tie as tie
@@ -12,7 +12,7 @@ enum-known-answer c = search needs
 print-rows-requires : tie.Need-print-rows-requires
 print-rows-requires c κs =
     let entry = c .before .before .before .before in
-    subst (λ (a : ReadAnswer). Held a (entry .args .rows .now)) (c .before .answer .given .1) (entry .pre)
+    subst (λ (a : ReadAnswer). RowsHeld a (entry .args .rows .now)) (c .before .answer .given .1) (entry .pre)
 
 enum-known-answer-2 : tie.Need-enum-known-answer-2
 enum-known-answer-2 c = search needs

@@ -1,4 +1,10 @@
 // Tags by their PS3.6 keywords.
+pub const FILE_META_INFORMATION_GROUP_LENGTH: usize = 0x0002_0000;
+
+pub const MEDIA_STORAGE_SOP_CLASS_UID: usize = 0x0002_0002;
+
+pub const TRANSFER_SYNTAX_UID: usize = 0x0002_0010;
+
 pub const SOP_CLASS_UID: usize = 0x0008_0016;
 
 pub const IMAGE_TYPE: usize = 0x0008_0008;

@@ -1,6 +1,15 @@
 -- Tags by their PS3.6 keywords, group × 65,536 + element.
 use Prim.Native.Nat.{ℕ}
 
+abbrev pub FileMetaInformationGroupLength : ℕ
+FileMetaInformationGroupLength = 0x0002_0000
+
+abbrev pub MediaStorageSOPClassUID : ℕ
+MediaStorageSOPClassUID = 0x0002_0002
+
+abbrev pub TransferSyntaxUID : ℕ
+TransferSyntaxUID = 0x0002_0010
+
 abbrev pub SOPClassUID : ℕ
 SOPClassUID = 0x0008_0016
 
@@ -15,6 +24,15 @@ Modality = 0x0008_0060
 
 abbrev pub ReferencedOtherPlaneSequence : ℕ
 ReferencedOtherPlaneSequence = 0x0008_9410
+
+abbrev pub PatientName : ℕ
+PatientName = 0x0010_0010
+
+abbrev pub PatientID : ℕ
+PatientID = 0x0010_0020
+
+abbrev pub PatientBirthDate : ℕ
+PatientBirthDate = 0x0010_0030
 
 abbrev pub KVP : ℕ
 KVP = 0x0018_0060
@@ -48,6 +66,9 @@ XAXRFFrameCharacteristicsSequence = 0x0018_9412
 
 abbrev pub PlaneIdentification : ℕ
 PlaneIdentification = 0x0018_9457
+
+abbrev pub ImageComments : ℕ
+ImageComments = 0x0020_4000
 
 abbrev pub FrameContentSequence : ℕ
 FrameContentSequence = 0x0020_9111
