@@ -78,16 +78,16 @@ mapped-sides ns n x e = rw e
 
 -- ---- Every other answer
 
-pub not-mapped : (ns : List Node) (a : LinearAnswer) (x : Sides) → x ≡ noSides → OneOf (1 ∷ 2 ∷ 3 ∷ 4 ∷ 5 ∷ 6 ∷ 7 ∷ []) (tagOf the-type a)
-    → _≡_ {A = Mapped} (record { answer = a; sides = x }) (sized ns a)
-not-mapped ns (linear.Mapped n) x e h = absurd (miss (1 ∷ 2 ∷ 3 ∷ 4 ∷ 5 ∷ 6 ∷ 7 ∷ []) 0 tt h)
-not-mapped ns (linear.Broken n rule frame) x e h = rw e
-not-mapped ns (linear.Refused code offset) x e h = rw e
-not-mapped ns linear.TooLarge x e h = rw e
-not-mapped ns linear.NoRoom x e h = rw e
-not-mapped ns linear.NoFrame x e h = rw e
-not-mapped ns linear.NoItem x e h = rw e
-not-mapped ns linear.NoValuesRoom x e h = rw e
+pub not-mapped : (ns : List Node) (a : LinearAnswer) → OneOf (1 ∷ 2 ∷ 3 ∷ 4 ∷ 5 ∷ 6 ∷ 7 ∷ []) (tagOf the-type a)
+    → _≡_ {A = Mapped} (record { answer = a; sides = noSides }) (sized ns a)
+not-mapped ns (linear.Mapped n) h = absurd (miss (1 ∷ 2 ∷ 3 ∷ 4 ∷ 5 ∷ 6 ∷ 7 ∷ []) 0 tt h)
+not-mapped ns (linear.Broken n rule frame) h = refl
+not-mapped ns (linear.Refused code offset) h = refl
+not-mapped ns linear.TooLarge h = refl
+not-mapped ns linear.NoRoom h = refl
+not-mapped ns linear.NoFrame h = refl
+not-mapped ns linear.NoItem h = refl
+not-mapped ns linear.NoValuesRoom h = refl
 
 -- ---- There is room for the numbers
 

@@ -2,7 +2,6 @@
 use linear::LinearAnswer;
 use room::row_buffer;
 use show_small::Sides;
-use show_small::no_sides;
 use show_small::sides_of;
 ghost use mathlib.Core.Path.{_≡_};
 ghost use Prim.Native.Nat.{_*_, _≤_};
@@ -26,7 +25,10 @@ pub fn linear_small(bytes: &[u8], frame: u64, values: &mut [u16]) -> Mapped
     let mut rows = row_buffer();
     let answer = linear::linear(bytes, frame, &mut rows, values);
     let LinearAnswer::Mapped(count) = answer else {
-        let sides = no_sides();
+        let sides = Sides {
+            width: 0,
+            height: 0,
+        };
         return Mapped { answer, sides };
     };
     let end = dataset::WIDTH * count;

@@ -73,15 +73,15 @@ drawn-sides ns n m x e = rw e
 
 -- ---- Every other answer
 
-pub not-drawn : (ns : List Node) (a : ShowAnswer) (x : Sides) → x ≡ noSides → OneOf (1 ∷ 2 ∷ 3 ∷ 4 ∷ 5 ∷ 6 ∷ []) (tagOf the-type a)
-    → _≡_ {A = Shown} (record { answer = a; sides = x }) (sized ns a)
-not-drawn ns (shown.Drawn n masked) x e h = absurd (miss (1 ∷ 2 ∷ 3 ∷ 4 ∷ 5 ∷ 6 ∷ []) 0 tt h)
-not-drawn ns (shown.Broken n rule frame) x e h = rw e
-not-drawn ns (shown.Refused code offset) x e h = rw e
-not-drawn ns shown.TooLarge x e h = rw e
-not-drawn ns shown.NoRoom x e h = rw e
-not-drawn ns shown.NoFrame x e h = rw e
-not-drawn ns shown.NoImageRoom x e h = rw e
+pub not-drawn : (ns : List Node) (a : ShowAnswer) → OneOf (1 ∷ 2 ∷ 3 ∷ 4 ∷ 5 ∷ 6 ∷ []) (tagOf the-type a)
+    → _≡_ {A = Shown} (record { answer = a; sides = noSides }) (sized ns a)
+not-drawn ns (shown.Drawn n masked) h = absurd (miss (1 ∷ 2 ∷ 3 ∷ 4 ∷ 5 ∷ 6 ∷ []) 0 tt h)
+not-drawn ns (shown.Broken n rule frame) h = refl
+not-drawn ns (shown.Refused code offset) h = refl
+not-drawn ns shown.TooLarge h = refl
+not-drawn ns shown.NoRoom h = refl
+not-drawn ns shown.NoFrame h = refl
+not-drawn ns shown.NoImageRoom h = refl
 
 -- ---- The image has room for what was drawn
 

@@ -9,7 +9,7 @@ ghost use lib.ListN.{length};
 ghost use Rattle.value.specs.Number.{numberOr0};
 ghost use Rattle.node.specs.Nodes.{nodesOf};
 ghost use Rattle.node.specs.Contracts.{Table};
-ghost use Rattle.show_small.specs.Shown.{sidesOf, noSides, shownOf, imageAfter};
+ghost use Rattle.show_small.specs.Shown.{sidesOf, shownOf, imageAfter};
 
 // The sides of a frame: its Columns and Rows.
 pub struct Sides {
@@ -43,16 +43,6 @@ pub fn sides_of(bytes: &[u8], rows: &[u32]) -> Sides
     Sides { width, height }
 }
 
-// The sides of no frame.
-pub fn no_sides() -> Sides
-    ensures { λ r. ⌜ r ≡ noSides ⌝ }
-{
-    Sides {
-        width: 0,
-        height: 0,
-    }
-}
-
 // What `show` answers and draws; never code 8. That the image has room for what was drawn follows from the first clause, and
 // is stated for the callers that print it.
 pub fn show_small(bytes: &[u8], frame: u64, image: &mut [u8]) -> Shown
@@ -64,7 +54,10 @@ pub fn show_small(bytes: &[u8], frame: u64, image: &mut [u8]) -> Shown
     let mut rows = row_buffer();
     let answer = display::show(bytes, frame, &mut rows, image);
     let ShowAnswer::Drawn(count, masked) = answer else {
-        let sides = no_sides();
+        let sides = Sides {
+            width: 0,
+            height: 0,
+        };
         return Shown { answer, sides };
     };
     let end = dataset::WIDTH * count;

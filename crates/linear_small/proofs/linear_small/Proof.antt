@@ -33,8 +33,7 @@ returns c =
     let entry = at-row-buffer .before .before .before in
     let t = laws.roomy-mapped _ _ _ _ (omega (arith, at-row-buffer .row-buffer .ensures, entry .pre)) _ _
     (at-linear .linear .ensures .0 .same) (at-linear .linear .ensures .1 .1) in
-    let e = laws.not-mapped (nodesOf (entry .args .bytes .now)) (at-linear .linear .result) (c .no-sides .result) (c .no-sides .ensures)
-    (c .before .match .keys2) ∙ t .0 in
+    let e = laws.not-mapped (nodesOf (entry .args .bytes .now)) (at-linear .linear .result) (c .match .keys2) ∙ t .0 in
     (e, (t .1, laws.fits _ _ _ _ e))
 
 mul-end : tie.Need-mul-end

@@ -33,8 +33,7 @@ returns c =
     let entry = at-row-buffer .before .before .before in
     let t = laws.roomy-shown _ _ _ _ (omega (arith, at-row-buffer .row-buffer .ensures, entry .pre)) _ _ (at-show .show .ensures .0 .same)
     (at-show .show .ensures .1 .1) in
-    let e = laws.not-drawn (nodesOf (entry .args .bytes .now)) (at-show .show .result) (c .no-sides .result) (c .no-sides .ensures)
-    (c .before .match .keys2) ∙ t .0 in
+    let e = laws.not-drawn (nodesOf (entry .args .bytes .now)) (at-show .show .result) (c .match .keys2) ∙ t .0 in
     (e, (t .1, laws.fits _ _ _ _ e))
 
 mul-end : tie.Need-mul-end
