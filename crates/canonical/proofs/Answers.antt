@@ -11,7 +11,7 @@ use lib.Seq.{sets-eq, slice}
 use lib.Dec.{ltb}
 use Rattle.dataset.specs.declared.ReadAnswer.the-variants as answer
 use Rattle.dataset.specs.Reading.{Reading, tooLarge, refusedAt, read, readingOf}
-use Rattle.dataset.specs.Answer.{answerOf, bufferOf}
+use Rattle.dataset.specs.Answer.{width, answerOf, bufferOf}
 use Rattle.dataset.specs.Tree.{rowsIn, rowsOf}
 use Rattle.node.specs.Nodes.{nodeOf, nodesOf}
 use Rattle.node.proofs.Laws.{next-within}
@@ -50,8 +50,8 @@ form-small s bytes = omega (arith, length-written (nodesOf s), nodes-few s bytes
 
 -- What holds once reading has answered with n rows.
 pub record Ready (s buffer : List ℕ) (n : ℕ) : Type 0 where
-  pub room : 7 * n ≤ length buffer
-  pub sized : Sized s (take (7 * n) buffer)
+  pub room : width * n ≤ length buffer
+  pub sized : Sized s (take (width * n) buffer)
   pub count : n ≡ length (nodesOf s)
 
 pub ready : (s before buffer : List ℕ) (n : ℕ) → Bytes s → answer.Done n ≡ answerOf (readingOf s) before
@@ -72,7 +72,7 @@ fitting-all s target {buffer} {n} r h =
     record {
       low = omega arith;
       high = omega (arith, r .count);
-      whole = λ k l m. omega (arith, r .count, next-within s (take (7 * n) buffer) (r .sized .table) k (omega (arith, r .count)));
+      whole = λ k l m. omega (arith, r .count, next-within s (take (width * n) buffer) (r .sized .table) k (omega (arith, r .count)));
       room = omega (arith, ltb-false (length target) (writtenSize (nodesOf s)) h);
     }
 

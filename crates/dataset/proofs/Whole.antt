@@ -15,7 +15,7 @@ use Rattle.dataset.specs.Header.{cursor}
 use Rattle.dataset.specs.Reading.{Run, done, elementsAt, whole, readingOf}
 use Rattle.basics.specs.Limits.{largest}
 use Rattle.basics.specs.Fields.{Answers}
-use Rattle.dataset.specs.Answer.{answerOf, countOf, bufferOf, fieldsOf}
+use Rattle.dataset.specs.Answer.{width, answerOf, countOf, bufferOf, fieldsOf}
 use Rattle.dataset.specs.Contracts.{Walked, Wrote}
 use Rattle.dataset.proofs.Level.{below, stopped}
 use Rattle.dataset.proofs.Buffer.{rows-first}
@@ -47,19 +47,19 @@ module _ (s buffer : List ℕ) (h : length s ≤ largest) {part after : List ℕ
   refusal w = rw (reading-small s h ∙ ap whole (stopped (elementsAt 8 s 0 (all s)) w .0)) (promised refl, refl)
 
   module _ {stop next n : ℕ} (w : Walked (elementsAt 8 s 0 (all s)) (all s) 0 part after (walk.Done stop next n)) where
-    pub no-room : length buffer / 7 < n → Read s buffer answer.NoRoom buffer
+    pub no-room : length buffer / width < n → Read s buffer answer.NoRoom buffer
     no-room k =
         let b = below (elementsAt 8 s 0 (all s)) w in
-        rw (reading-small s h ∙ ap whole (b .is), lt-leb (7 * length (b .rows)) (length buffer) (omega (arith, b .count)))
+        rw (reading-small s h ∙ ap whole (b .is), lt-leb (width * length (b .rows)) (length buffer) (omega (arith, b .count)))
         (promised refl, refl)
 
-    pub filled : {last : List ℕ} {r : Walk} → n ≤ length buffer / 7 → Walked (elementsAt 8 s 0 (all s)) (all s) 0 buffer last r
+    pub filled : {last : List ℕ} {r : Walk} → n ≤ length buffer / width → Walked (elementsAt 8 s 0 (all s)) (all s) 0 buffer last r
         → Read s buffer (answer.Done n) last
     filled {last} k v =
         let b = below (elementsAt 8 s 0 (all s)) w in
-        let room : 7 * length (b .rows) ≤ length buffer = omega (arith, b .count) in
+        let room : width * length (b .rows) ≤ length buffer = omega (arith, b .count) in
         let wrote : Wrote 0 (done stop next (b .rows)) buffer last = subst (λ (o : Run). Wrote 0 o buffer last) (b .is) (v .wrote) in
-        rw (reading-small s h ∙ ap whole (b .is), le-leb (7 * length (b .rows)) (length buffer) room)
+        rw (reading-small s h ∙ ap whole (b .is), le-leb (width * length (b .rows)) (length buffer) room)
         (promised (ap (λ (m : ℕ). answer.Done m) (omega (arith, b .count))), wrote (omega arith) ∙ rows-first buffer (b .rows) room)
 
 -- ---- What `count` answers

@@ -5,7 +5,7 @@ use native.Mathlib.Omega.{arith}
 use mathlib.Core.List.{List}
 use lib.ListN.{length, take}
 use Rattle.dataset.specs.Reading.{readingOf}
-use Rattle.dataset.specs.Answer.{answerOf, bufferOf}
+use Rattle.dataset.specs.Answer.{width, answerOf, bufferOf}
 use Rattle.dataset.specs.declared.ReadAnswer.{ReadAnswer}
 use Rattle.dataset.specs.declared.ReadAnswer.the-variants as read
 use Rattle.node.specs.Nodes.{nodesOf}
@@ -41,7 +41,7 @@ rows-left s before buffer judged.TooLarge e f = tt
 rows-left s before buffer judged.NoRoom e f = tt
 
 pub left-accepted : (s rows : List ℕ) {a : JudgeAnswer} {n : ℕ} → a ≡ judged.Accepted n → Left s rows a
-    → (7 * n ≤ length rows) × Table s (take (7 * n) rows)
+    → (width * n ≤ length rows) × Table s (take (width * n) rows)
 left-accepted s rows e l = subst (λ (x : JudgeAnswer). Left s rows x) e l
 
 pub counted-is : (s buffer : List ℕ) (a : JudgeAnswer) (n : ℕ) → a ≡ judgeOf s buffer → n ≡ ifAccepted (searchesOf (nodesOf s)) a

@@ -6,6 +6,7 @@ use mathlib.Core.List.{List, [], _∷_}
 use mathlib.Core.Bool.{Bool, true, false, cond}
 use lib.Dec.{leb}
 use lib.ListN.{length, take}
+use Rattle.dataset.specs.Answer.{width}
 use Rattle.node.specs.Nodes.{Node, inside}
 use Rattle.node.specs.Find.{find}
 use Rattle.node.specs.Contracts.{Table}
@@ -105,7 +106,7 @@ pub record InShared (ns : List Node) (tag : ℕ) (reads : List ℕ) (s : ℕ) (p
 
 -- Where judging accepted, its rows stand first in the row buffer that it left.
 abbrev pub Left : List ℕ → List ℕ → JudgeAnswer → Type 0
-Left s rows (judged.Accepted n) = (7 * n ≤ length rows) × Table s (take (7 * n) rows)
+Left s rows (judged.Accepted n) = (width * n ≤ length rows) × Table s (take (width * n) rows)
 Left s rows (judged.Broken n rule frame) = Unit {0}
 Left s rows (judged.Refused code offset) = Unit {0}
 Left s rows judged.TooLarge = Unit {0}
