@@ -9,6 +9,7 @@ use borrow.Author.Tests.{ltb-true, ltb-false}
 use lib.Dec.{ltb}
 use mathlib.Core.List.{List, [], _∷_, _++_}
 use lib.ListN.{length, getD, List·getD-append}
+use lib.Seq.{getD-append-add}
 use Rattle.basics.specs.Limits.{mostRows, largest}
 use Rattle.dataset.specs.declared.ReadAnswer.{ReadAnswer}
 use Rattle.dataset.specs.declared.ReadAnswer.the-variants as answer
@@ -39,14 +40,14 @@ answer-small s buffer = by-reading (readingOf s) (reading-reads s)
     by-reading (refusedAt code offset) r = r
     by-reading (read rows) r = by-room (fits rows buffer) (length rows) (r .small)
 
--- The seven numbers of row i stand at 7 i, whatever follows the rows.
+-- The numbers of row i stand side by side, whatever follows the rows.
 pub number-at : (rows : List Row) (rest : List ℕ) (i k : ℕ) → i < length rows → k < width
     → getD (flat rows ++ rest) (width * i + k) 0 ≡ getD (flat (rowAt rows i ∷ [])) k 0
 number-at [] rest i k h l = absurd (omega arith)
 number-at (r ∷ rs) rest zero k h l = rw (zero-add k) (List·getD-append (flat (r ∷ [])) (flat rs ++ rest) 0 k l)
 number-at (r ∷ rs) rest (suc i) k h l =
-    let e : width * suc i + k ≡ suc (suc (suc (suc (suc (suc (suc (width * i + k))))))) = omega arith in
-    rw e (number-at rs rest i k (omega arith) l)
+    let e : width * suc i + k ≡ width + (width * i + k) = omega arith in
+    rw e (getD-append-add (flat (r ∷ [])) (flat rs ++ rest) (width * i + k) 0 ∙ number-at rs rest i k (omega arith) l)
 
 -- ---- The members of one container, step by step
 

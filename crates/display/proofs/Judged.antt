@@ -5,7 +5,7 @@ use Prim.Native.Nat.{ℕ, _*_, _≤_}
 use native.Mathlib.Omega.{arith}
 use lib.ListN.{length, take}
 use Rattle.dataset.specs.Reading.{readingOf}
-use Rattle.dataset.specs.Answer.{answerOf, bufferOf}
+use Rattle.dataset.specs.Answer.{width, answerOf, bufferOf}
 use Rattle.dataset.specs.declared.ReadAnswer.{ReadAnswer}
 use Rattle.dataset.specs.declared.ReadAnswer.the-variants as read
 use Rattle.node.specs.Nodes.{nodesOf}
@@ -31,7 +31,7 @@ accepted-parts f read.TooLarge n e = let z : _≡_ {A = ℕ} 0 1 = cc in absurd 
 accepted-parts f read.NoRoom n e = let z : _≡_ {A = ℕ} 0 1 = cc in absurd (omega arith)
 
 pub after-judging : (s before buffer : List ℕ) (n : ℕ) → judged.Accepted n ≡ judgeOf s before → buffer ≡ bufferOf (readingOf s) before
-    → ((7 * n ≤ length buffer) × Table s (take (7 * n) buffer)) × (findingOf (nodesOf s) ≡ finding.Accepted)
+    → ((width * n ≤ length buffer) × Table s (take (width * n) buffer)) × (findingOf (nodesOf s) ≡ finding.Accepted)
 unfolding judgeOf
 after-judging s before buffer n e f =
     let p = accepted-parts (findingOf (nodesOf s)) (answerOf (readingOf s) before) n e in

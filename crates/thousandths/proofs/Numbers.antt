@@ -17,7 +17,7 @@ use Rattle.value.specs.Number as current
 use Rattle.value.specs.Number.{Digits, isDigit, digitsOf, afterSign, isMinus, withSign, signedBy, runOf, ifSmall, exactOf, endOf, isNumber}
 use Rattle.value.proofs.Runs.{digits-size, digits-below}
 use Rattle.value.proofs.Powers.{within-is, exact-up}
-use Rattle.thousandths.specs.Number.{decimals, pointOn, fractionOn, sizeOf, decimalOf, scaled}
+use Rattle.thousandths.specs.Number.{decimals, unit, pointOn, fractionOn, sizeOf, decimalOf, factor, scaled}
 
 -- ---- Digits
 
@@ -72,7 +72,7 @@ counted (suc limit) n k (c ∷ s) = go (isDigit c) (counted limit (10 * n + (c -
 -- ---- Sizes
 
 pub record Reads (s : List ℕ) (n : ℕ) : Type 0 where
-  pub is : current.sizeOf s ≡ num.Is (1000 * n)
+  pub is : current.sizeOf s ≡ num.Is (factor * n)
   pub short : length s ≤ 10
 
 lacks : (n : ℕ) → num.None ≡ num.Is n → ⊥
@@ -86,19 +86,21 @@ chosen k m n e = go (eqb k 0) refl e
     go false p e = (eqb-false k 0 p, let q : m ≡ n = cc in q)
 
 -- With `after` decimals, at most 3.
-powers : (m after : ℕ) → after ≤ 3 → m * 10 ^ (6 - after) ≡ 1000 * (m * 10 ^ (3 - after))
+powers : (m after : ℕ) → after ≤ 3 → m * 10 ^ (current.decimals - after) ≡ factor * (m * 10 ^ (3 - after))
 powers m after h =
-    let d : 6 - after ≡ 3 + (3 - after) = omega arith in
-    ap (λ (x : ℕ). m * 10 ^ x) d ∙ ap (λ (x : ℕ). m * x) (pow-add 10 3 (3 - after)) ∙ mul-left-comm m 1000 (10 ^ (3 - after))
+    let d : current.decimals - after ≡ current.decimals - decimals + (decimals - after) = omega arith in
+    ap (λ (x : ℕ). m * 10 ^ x) d ∙ ap (λ (x : ℕ). m * x) (pow-add 10 (current.decimals - decimals) (decimals - after))
+    ∙ mul-left-comm m factor (10 ^ (decimals - after))
 
-exact-is : (m after : ℕ) → after ≤ 3 → m * 10 ^ (3 - after) < 1000000000 → exactOf m 6 after ≡ num.Is (1000 * (m * 10 ^ (3 - after)))
+exact-is : (m after : ℕ) → after ≤ 3 → m * 10 ^ (3 - after) < 1000000000
+    → exactOf m current.decimals after ≡ num.Is (factor * (m * 10 ^ (3 - after)))
 exact-is m after h b =
-    exact-up m 6 after (omega arith)
+    exact-up m current.decimals after (omega arith)
     ∙ ap ifSmall (powers m after h)
-    ∙ within-is (1000 * (m * 10 ^ (3 - after))) (omega arith)
+    ∙ within-is (factor * (m * 10 ^ (3 - after))) (omega arith)
 
 end-is : (count m after : ℕ) → (count ≡ 0 → ⊥) → after ≤ 3 → m * 10 ^ (3 - after) < 1000000000
-    → endOf count m after [] ≡ num.Is (1000 * (m * 10 ^ (3 - after)))
+    → endOf count m after [] ≡ num.Is (factor * (m * 10 ^ (3 - after)))
 unfolding endOf
 end-is count m after z h b = rw (ne-eqb count 0 z) (exact-is m after h b)
 
@@ -113,11 +115,11 @@ point-size whole s h =
 -- Behind a point.
 point-reads : (before whole : ℕ) (s : List ℕ) (n : ℕ) → whole < 1000000
     → pointOn before (digitsOf decimals whole 0 s) (digitsOf decimals whole 0 s .rest) ≡ num.Is n
-    → (current.pointBy before (runOf whole s) ≡ num.Is (1000 * n)) × (length s ≤ 3)
+    → (current.pointBy before (runOf whole s) ≡ num.Is (factor * n)) × (length s ≤ 3)
 point-reads before whole s n h e = go (digitsOf 3 whole 0 s .rest) refl e
   where
     go : (rest : List ℕ) → digitsOf 3 whole 0 s .rest ≡ rest → pointOn before (digitsOf decimals whole 0 s) rest ≡ num.Is n
-        → (current.pointBy before (runOf whole s) ≡ num.Is (1000 * n)) × (length s ≤ 3)
+        → (current.pointBy before (runOf whole s) ≡ num.Is (factor * n)) × (length s ≤ 3)
     go (c ∷ t) r e = absurd (lacks n e)
     go [] r e =
         let x = digitsOf 3 whole 0 s in
@@ -128,7 +130,7 @@ point-reads before whole s n h e = go (digitsOf 3 whole 0 s .rest) refl e
           ap (current.pointBy before) same
               ∙ ap (endOf (before + x .count) (x .number) (x .count)) r
               ∙ end-is (before + x .count) (x .number) (x .count) (p .0) (omega (arith, k .few)) (point-size whole s h)
-              ∙ ap (λ (y : ℕ). num.Is (1000 * y)) (p .1),
+              ∙ ap (λ (y : ℕ). num.Is (factor * y)) (p .1),
           omega (arith, k .all, k .few, l),
         )
 
@@ -140,7 +142,7 @@ reads s n e = go (digitsOf 6 0 0 s .rest) refl e
     go [] r e =
         let d = digitsOf 6 0 0 s in
         let k = counted 6 0 0 s in
-        let p = chosen (d .count) (d .number * 1000) n e in
+        let p = chosen (d .count) (d .number * unit) n e in
         let same : runOf 0 s ≡ d = same-digits 6 (length s) 0 0 s (ap stops r) (omega arith) in
         let l = ap (λ (y : List ℕ). length y) r in
         let b : d .number < 1000000 = digits-below 6 0 s in
@@ -149,7 +151,7 @@ reads s n e = go (digitsOf 6 0 0 s .rest) refl e
               ap current.fractionBy same
               ∙ ap (current.fractionOn d) r
               ∙ end-is (d .count) (d .number) 0 (p .0) (omega arith) (omega arith)
-              ∙ ap (λ (y : ℕ). num.Is (1000 * y)) (p .1);
+              ∙ ap (λ (y : ℕ). num.Is (factor * y)) (p .1);
           short = omega (arith, k .all, k .few, l);
         }
     go (c ∷ t) r e = by-point (eqb c 0x2E) refl e

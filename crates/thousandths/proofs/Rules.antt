@@ -29,7 +29,7 @@ use Rattle.rules.specs.All as list
 use Rattle.conformance.specs.declared.Finding.the-variants.{Accepted}
 use Rattle.conformance.specs.Judging.{findingOf}
 use Rattle.conformance.proofs.First.{holds-accepted}
-use Rattle.thousandths.specs.Number.{decimalOf, leastWidth, isWidth, allDecimals, allWidths, scaled}
+use Rattle.thousandths.specs.Number.{decimalOf, leastWidth, isWidth, allDecimals, allWidths, factor, scaled}
 use Rattle.thousandths.specs.Rule30.{isWindow, hasWindow, isVoi, item30, rule30, ruleAt}
 use Rattle.thousandths.specs.Kept.{RulesHeld}
 use Rattle.thousandths.proofs.Numbers.{numbers}
@@ -55,13 +55,13 @@ width-number least (signed.Plus n) e = refl
 width-number least (signed.Minus n) e = absurd (false-is-true e)
 width-number least signed.None e = absurd (false-is-true e)
 
-least-scaled : (f : Function) → current.leastWidth f ≤ 1000 * leastWidth f
+least-scaled : (f : Function) → current.leastWidth f ≤ factor * leastWidth f
 least-scaled function.Linear = omega arith
 least-scaled function.Exact = omega arith
 least-scaled function.Other = omega arith
 
 width-scaled : (f : Function) (s : Signed) → isWidth (leastWidth f) s ≡ true → current.isWidth (current.leastWidth f) (scaled s) ≡ true
-width-scaled f (signed.Plus n) e = le-leb (current.leastWidth f) (1000 * n) (omega (arith, least-scaled f, leb-true (leastWidth f) n e))
+width-scaled f (signed.Plus n) e = le-leb (current.leastWidth f) (factor * n) (omega (arith, least-scaled f, leb-true (leastWidth f) n e))
 width-scaled f (signed.Minus n) e = e
 width-scaled f signed.None e = e
 
