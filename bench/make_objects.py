@@ -8,7 +8,7 @@
     make_objects.py FOLDER many --frames 256 1024  one object for each count
 
 Each object is written twice: NAME.bin is the bare data set in Explicit VR Little Endian, NAME.dcm the
-same bytes behind a preamble and a group 0002 head, for programs that want a DICOM file. Equal arguments
+same bytes after a preamble and a group 0002 head, for programs that want a DICOM file. Equal arguments
 write equal bytes. Without --leave-out every object satisfies rules 1 to 38.
 """
 

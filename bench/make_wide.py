@@ -11,7 +11,7 @@ import array
 import os
 import sys
 
-from make_objects import Encoder, XA_STORAGE, element, header
+from make_objects import Encoder, XA_STORAGE, element
 
 MOST_FRAMES = 65535
 MOST_VALUE = 65534                      # bytes of a value with a 16-bit length

@@ -264,7 +264,8 @@ def levels_of(model):
                     tags.FRAME_PIXEL_DATA_PROPERTIES_SEQUENCE):
             for item in level[tag][1] if tag in level and isinstance(level[tag][1], list) else ():
                 yield item, 0
-    for item in model[tags.MASK_SUBTRACTION_SEQUENCE][1] if tags.MASK_SUBTRACTION_SEQUENCE in model and isinstance(model[tags.MASK_SUBTRACTION_SEQUENCE][1], list) else ():
+    _, masks = model.get(tags.MASK_SUBTRACTION_SEQUENCE, ("SQ", []))
+    for item in masks if isinstance(masks, list) else ():
         yield item, 0
 
 
@@ -276,7 +277,7 @@ def compare_wide_items(comparison, rng, rounds):
         frame = rng.choice(frames_of(change))
         model = xa.build(rng, xa.random_shape(rng, **change.shape))
         change.edit(model, frame)
-        taken = {tag for _, tag in places(model)} | {value for name, value in vars(xa).items() if name.isupper() and isinstance(value, int)}
+        taken = {tag for _, tag in places(model)} | {value for name, value in vars(tags).items() if name.isupper()}
         levels = list(levels_of(model))
         wide = rng.choice((1, 10, 100, 100, 300, 1000))
         for level, parity in rng.sample(levels, min(len(levels), rng.choice((1, 2, 3)))):

@@ -17,7 +17,7 @@ GROUPS = {"characteristics": tags.XA_XRF_FRAME_CHARACTERISTICS_SEQUENCE, "voi": 
           "frame_shift": tags.FRAME_PIXEL_SHIFT_SEQUENCE, "properties": tags.FRAME_PIXEL_DATA_PROPERTIES_SEQUENCE,
           "luts": tags.PIXEL_INTENSITY_RELATIONSHIP_LUT_SEQUENCE}
 BOTH = "both"  # a sequence in every frame, and in the shared item another VR, which rule 27 allows
-KNOWN_TAGS = {value for name, value in vars(xa).items() if name.isupper() and isinstance(value, int) and value > 0xFFFF}
+KNOWN_TAGS = {value for name, value in vars(tags).items() if name.isupper()}
 
 
 # ---------------------------------------------------------------------------------------------------------------------

@@ -8,7 +8,6 @@ import dataclasses
 import struct
 from typing import Callable
 
-from . import enhanced_xa as xa
 from .enhanced_xa import fd, fl, sq, ss, text, us
 from reference import attributes as tags
 

@@ -1,6 +1,7 @@
 """Objects made by others: the test files of Debian's python3-pydicom and dcmtk, whole and without their heads; what dcmtk's and
 pydicom's writers make of ours; and images drawn by dcmtk and windowed by pydicom."""
 
+import functools
 import os
 import shutil
 import struct
@@ -176,7 +177,9 @@ as_read = False
 """
 
 
+@functools.cache
 def has_modules(names):
+    """Whether Debian's Python has these modules."""
     return os.path.exists(PYTHON) and subprocess.run([PYTHON, "-c", f"import {names}"], capture_output=True).returncode == 0
 
 
