@@ -10,4 +10,9 @@ use Rattle.c_canonical.specs.Contracts.{RewrittenFits32}
 pub canonical-fits : (s rows target : List ℕ) → Bytes s → RewrittenFits32 (fieldsOf (canonicalOf s rows target))
 canonical-fits s rows target bytes =
     let m = canonical-small s rows target bytes in
-    record { code = omega (arith, m .code); offset = omega (arith, m .offset); rows = omega (arith, m .rows); size = omega (arith, m .size) }
+    record {
+      code = omega (arith, m .code);
+      offset = omega (arith, m .offset);
+      rows = omega (arith, m .rows);
+      size = omega (arith, m .size);
+    }

@@ -1,5 +1,5 @@
--- The numbers of every answer of `show` fit 32 bits: they are the judge's, but where the object is accepted; then they are its row count, or
--- a code alone.
+-- The numbers of every answer of `show` fit 32 bits: they are the judge's, but where the object is accepted; then they are its row count,
+-- or a code alone.
 use mathlib.Core.Bool.{Bool, true, false, cond}
 use mathlib.Core.List.{List}
 use Prim.Native.Nat.{ℕ}
