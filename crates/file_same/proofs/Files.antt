@@ -29,18 +29,18 @@ use Rattle.meta.specs.declared.Meta.{Meta}
 use Rattle.meta.specs.declared.Meta.the-variants as head
 use Rattle.meta.specs.Meta.{metaOf, part}
 use Rattle.meta.proofs.Starts.{starts-within}
 use Rattle.file.specs.declared.Start.the-variants as start
 use Rattle.file.specs.declared.ReadFileAnswer.the-variants as readFile
 use Rattle.file.specs.declared.JudgeFileAnswer.{JudgeFileAnswer}
 use Rattle.file.specs.declared.JudgeFileAnswer.the-variants as judgeFile
 use Rattle.file.specs.declared.ShowFileAnswer.{ShowFileAnswer}
 use Rattle.file.specs.declared.ShowFileAnswer.the-variants as showFile
 use Rattle.file.specs.File.{startBy, startOf, startFields, sameClass, readIn, readPart, readBy, readFileOf, rowsBy, rowsLeft, judgeIn}
 use Rattle.file.specs.File.{judgePart, judgeBy, judgeFileOf, showIn, showPart, showBy, showFileOf, imageIn, imagePart, imageLeftBy}
 use Rattle.file.specs.File.{imageLeft, readFields, judgeFields, showFields}
 use Rattle.searches.specs.Reported.{reportedOf}
 use Rattle.file.specs.Searches.{searchesFileOf}
-use Rattle.file.specs.Files as files
+use Rattle.file_same.specs.Files as files
 
 -- ---- Answers with 18 put in
 
