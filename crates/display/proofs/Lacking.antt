@@ -38,7 +38,7 @@ use Rattle.display.specs.Drawing.{AllLevels, Whole}
 use Rattle.display.proofs.Small.{us-in-small}
 use Rattle.display.proofs.Objects.{object, windowed}
 use Rattle.display.proofs.Masks.{masking}
-use Rattle.display.proofs.Accepted.{Object, Windowed, AllWithin, Sound, Masking}
+use Rattle.display.proofs.Accepted.{Object, Windowed, AllWithin, SoundMask, Masking}
 
 -- ---- Cells that all answer
 
@@ -130,7 +130,7 @@ module _ (ns : List Node) (f : ℕ) (o : Object ns) (low : 1 ≤ f) (high : f �
       (to-picture ns f (o .g) (o .v) (w .w) (o .inverse) (o .geometry) (o .pixels) (o .whole f low high) (w .window) (o .photometric) (k .m)
       (k .mask))
     where
-      go : (m : Mask) → Sound (o .n) m → stepsOf ns f ≡ pictureBy (o .g) (o .v) f (w .w) (o .inverse) m → Drawn ns f (o .g)
+      go : (m : Mask) → SoundMask (o .n) m → stepsOf ns f ≡ pictureBy (o .g) (o .v) f (w .w) (o .inverse) m → Drawn ns f (o .g)
       go noMask s e =
           let c = collect-all (nativeCell (o .g) (o .v) f (w .w) (o .inverse)) (samplesOf (o .g))
           (λ i h. native-cell (o .g) (o .v) f (w .w) (w .drawable) (o .inverse) i) in

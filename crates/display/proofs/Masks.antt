@@ -45,7 +45,7 @@ use Rattle.steps.specs.Steps.{inPairs, rangeHas, rangeHolds, firstHolding, onMa
 use Rattle.steps.specs.Steps.{offsetOf, less, tidFrame, naming, ownIn, itemShiftAt, shiftFrom, shiftFor, movesFor, Mask, native, masked}
 use Rattle.steps.specs.Steps.{onTid, maskBy, maskOn, maskFor}
 use Rattle.steps.proofs.Given.{checked}
-use Rattle.display.proofs.Accepted.{AllWithin, Sound, Masking}
+use Rattle.display.proofs.Accepted.{AllWithin, SoundMask, Masking}
 use Rattle.display.proofs.Rules.{at-items, group-is, r31, r32, r33, r34, r35, r36, r37}
 
 -- ---- Tests
@@ -372,7 +372,7 @@ module _ (ns : List Node) (n j : ℕ) where
 -- ---- Steps 2 to 4 together
 
 abbrev Masks : ℕ → Option Mask → Type 0
-Masks n o = (m : Mask) × ((o ≡ some m) × Sound n m)
+Masks n o = (m : Mask) × ((o ≡ some m) × SoundMask n m)
 
 module _ (ns : List Node) (f n j : ℕ) (m : Moves) (moved : movesFor ns f j ≡ some m) (sound : SoundMoves m) where
   by-average : (o : Option (List ℕ)) (ks : List ℕ) → o ≡ some ks → 1 ≤ length ks → length ks ≤ 64 → AllWithin n ks
