@@ -70,7 +70,7 @@ pub enum Walk {
 }
 
 // The result of a walk along an item that is abandoned at a sequence: as in `Walk`, or abandoned.
-pub enum Leaf {
+enum Leaf {
     Done(usize, usize, usize),
     Refused(usize, usize),
     Nested,

@@ -180,7 +180,7 @@ fn told_for(bytes: &[u8], rows: &[u32], applies: Applying) -> Told
 }
 
 // Steps 3 and 4 once it is known which mask item applies and what it says, the same for all frames. If none applies the frame is native.
-pub fn mask_on(
+fn mask_on(
     bytes: &[u8],
     rows: &[u32],
     frame: usize,

@@ -94,13 +94,13 @@ const RELATION: [usize; 1] = [tags::PIXEL_INTENSITY_RELATIONSHIP];
 const TABLE: [usize; 3] = [tags::LUT_FUNCTION, tags::LUT_DESCRIPTOR, tags::LUT_DATA];
 
 // What the plain search finds, and how many rows it looks at.
-pub struct Looked {
+struct Looked {
     pub found: Num,
     pub count: usize,
 }
 
 // A group in the shared item: the rows looked at to find it, and those looked at in its items.
-pub struct SharedGroup {
+struct SharedGroup {
     pub looked: usize,
     pub read: usize,
 }

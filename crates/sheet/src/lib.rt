@@ -450,7 +450,7 @@ fn same_window(a: Window, b: Window) -> bool
 }
 
 // The shades of the previous frame, and how many cells were computed from its window so far.
-pub struct Held {
+struct Held {
     pub shades: Shades,
     pub spent: usize,
 }
@@ -587,7 +587,7 @@ fn native_number(masking: Masking) -> usize
 }
 
 // What was counted so far, and the shades of the last frame.
-pub struct Counted {
+struct Counted {
     pub counts: [u64; 256],
     pub natives: usize,
     pub held: Held,

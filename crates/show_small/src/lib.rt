@@ -24,7 +24,7 @@ pub struct Shown {
 }
 
 // A number, or 0 if there is none.
-pub fn number_of(n: Num) -> usize
+fn number_of(n: Num) -> usize
     ensures { λ r. ⌜ r ≡ numberOr0 n ⌝ }
 {
     match n {

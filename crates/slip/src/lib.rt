@@ -22,7 +22,7 @@ const HEAD: usize = 5;
 
 const OLD_SIZE: usize = 13;
 
-pub const SIZE: usize = 17;
+const SIZE: usize = 17;
 
 // The offset of each field; the mark comes first.
 const VERSION_AT: usize = 3;

@@ -475,7 +475,7 @@ fn shift_from(bytes: &[u8], rows: &[u32], j: usize, named: Found) -> Shifts
 }
 
 // The item of the shared shift group that names the ID of mask item j: the same for every frame that has no group of its own.
-pub fn shared_naming(bytes: &[u8], rows: &[u32], j: usize) -> Found
+fn shared_naming(bytes: &[u8], rows: &[u32], j: usize) -> Found
     requires { ⌜ Table (now bytes) (now rows) × (j < length (nodesOf (now bytes))) ⌝ }
     ensures { λ r. ⌜ foundOf r ≡ sharedNaming (nodesOf (now (bytes .entry))) j ⌝ }
     ensures { λ r. ⌜ FoundBelow (length (nodesOf (now (bytes .entry)))) r ⌝ }
