@@ -6,7 +6,7 @@ use Prim.Native.Nat.{ℕ}
 use Rattle.value.specs.Text.{ascii}
 use Rattle.rules.specs.Intensity.{isLinear, linearAmong, isLut, hasLut, areLuts, isLutGroup, hasLinear, isLog}
 use Rattle.linear.specs.Mapping.{linearFor, placeAmong, entryPlace, entryAt, entryOf, mappingBy, mappingOf, isMapped}
-use Rattle.linear.specs.Answer.{entriesOf, linearOf, valuesOf as mappedValues, acceptedAnswer as acceptedLinear}
+use Rattle.linear.specs.Answer.{entriesOf, linearOf, valuesLeft as mappedValues, acceptedAnswer as acceptedLinear}
 use Rattle.samples.proofs.Worked.{drawing}
 use Rattle.samples.specs.Objects.{two, short, long, sequence, item, oneFrame}
 use Rattle.samples.specs.Samples.{manyRows}
