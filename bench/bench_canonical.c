@@ -16,10 +16,8 @@ int main(int argc, char **argv)
         stop("a data set and a file to write are wanted", argv[0]);
     size_t size;
     const uint8_t *data = map_file(argv[1], &size);
-    size_t rows_len = size / 8 * XA_ROW_NUMBERS;
-    uint32_t *all = malloc(rows_len * sizeof *all + 1);
-    if (all == NULL)
-        stop("out of memory", argv[1]);
+    size_t rows_len;
+    uint32_t *all = most_rows(size, &rows_len);
     xa_answer first = xa_read(data, size, all, rows_len);
     if (first.code != 0)
         stop("it does not read well", argv[1]);

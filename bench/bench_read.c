@@ -7,7 +7,6 @@
    Times are in nanoseconds a call; the bytes and the row buffer are in memory and touched beforehand. */
 
 #include "common.h"
-#include "walker.h"
 
 typedef struct {
     uint32_t code, offset, rows, rule, frame;
@@ -76,10 +75,8 @@ static int repetitions(double nanoseconds)
 
 static int once(const char *which, const uint8_t *data, size_t size)
 {
-    size_t rows_len = size / 8 * ROW_NUMBERS;
-    uint32_t *rows = malloc(rows_len * sizeof *rows + 1);
-    if (rows == NULL)
-        stop("out of memory", "benchmark");
+    size_t rows_len;
+    uint32_t *rows = most_rows(size, &rows_len);
     call *run = call_walk;
     for (int k = 0; k < CALLS; k++)
         if (strcmp(calls[k].name, which) == 0)
@@ -99,11 +96,8 @@ int main(int argc, char **argv)
     if (argc > 2)
         return once(strcmp(argv[2], "judge") == 0 ? "xa_judge" : "xa_read", data, size);
 
-    /* Room for the most rows that so many bytes can have; what isn't written is never touched. */
-    size_t rows_len = size / 8 * ROW_NUMBERS;
-    uint32_t *all = malloc(rows_len * sizeof *all + 1);
-    if (all == NULL)
-        stop("out of memory", argv[1]);
+    size_t rows_len;
+    uint32_t *all = most_rows(size, &rows_len);
     walk_answer first = walk(data, size, all, rows_len);
     if (first.code != 0)
         stop("the walker refuses it", argv[1]);

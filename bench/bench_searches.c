@@ -3,7 +3,7 @@
        bench_searches FILE    medians over rounds, one "name number" a line
 
    The plain C makes the searches that docs/SEARCHES.md lists, over the rows that xa_read made, and counts each row that it looks at. Where the
-   shared item makes that too many, only the first frames are gone through: as many as come to at most MOST_LOOKED rows, and one at least.
+   shared item makes that too many, only the first frames are searched: as many as come to at most MOST_LOOKED rows, but at least one.
    The count for all frames is then worked out: what each search comes to in the shared item, once, times the frames that make it. If the
    count is not the sum, or what was looked at is not what was worked out for those frames, the program says so and ends with status 1.
 
@@ -108,7 +108,7 @@ static uint64_t look_each(uint32_t sequence, const uint32_t *tags)
     return looked;
 }
 
-/* Where things stand: the number of rows, the sequence of mask items, the shared item, and the sequence of frames' items. */
+/* Where things are: the number of rows, the sequence of mask items, the shared item, and the sequence of frames' items. */
 static uint32_t count, masks, shared, frames;
 
 static void find_places(void)
@@ -153,18 +153,18 @@ static uint64_t frame_worked_out(uint32_t item)
 }
 
 /* The searches in the root and in the mask items, and those of the first frames. */
-static uint64_t some_looked(uint64_t gone)
+static uint64_t some_looked(uint64_t searched)
 {
     uint64_t looked = look_all(0, count, root_tags) + look_each(masks, mask_tags);
     uint32_t item = frames + 1;
-    for (uint64_t f = 0; f < gone; f++, item = next(item))
+    for (uint64_t f = 0; f < searched; f++, item = next(item))
         looked += frame_looked(item);
     return looked;
 }
 
-/* The count for all frames, how many there are, how many are gone through, and the count for those. */
+/* The count for all frames, how many there are, how many are searched, and the count for those. */
 typedef struct {
-    uint64_t all, frames, gone, some;
+    uint64_t all, frames, searched, some;
 } worked_out;
 
 static worked_out work_out(void)
@@ -176,7 +176,7 @@ static worked_out work_out(void)
         w.all += frame_worked_out(item);
         w.frames++;
         if (w.all <= MOST_LOOKED || w.frames == 1) {
-            w.gone = w.frames;
+            w.searched = w.frames;
             w.some = w.all;
         }
     }
@@ -199,7 +199,7 @@ static int run(int part, const worked_out *w)
     case JUDGE:
         return xa_judge(data, size, rows, rows_len).searches == w->all;
     default:
-        return some_looked(w->gone) == w->some;
+        return some_looked(w->searched) == w->some;
     }
 }
 
@@ -235,8 +235,8 @@ int main(int argc, char **argv)
     }
     if (!same)
         stop("a round's answer or count is another than before", argv[1]);
-    printf("rows %u\nframes %llu\ngone %llu\nsum %llu\nlooked %llu\nrounds %d\n", count, (unsigned long long)w.frames,
-           (unsigned long long)w.gone, (unsigned long long)w.all, (unsigned long long)w.some, n);
+    printf("rows %u\nframes %llu\nsearched %llu\nsum %llu\nlooked %llu\nrounds %d\n", count, (unsigned long long)w.frames,
+           (unsigned long long)w.searched, (unsigned long long)w.all, (unsigned long long)w.some, n);
     printf("judging %.0f\njudging_and_sum %.0f\n", median(less[0], n), median(less[1], n));
     printf("xa_read %.0f\nplain %.0f\n", median(times[READ], n), median(times[PLAIN], n));
     return 0;

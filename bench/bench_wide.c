@@ -5,7 +5,6 @@
    Times are in nanoseconds a call; the bytes and the buffers are in memory and touched beforehand. */
 
 #include "common.h"
-#include "walker.h"
 
 enum { MOST = 7 };
 #define ENOUGH 4e9 /* nanoseconds of one call, all its repetitions together */

@@ -29,16 +29,29 @@ class Refusal(Exception):
     pass
 
 
+def at_end(at, end, is_open):
+    """Whether elements or items end at `at` without a delimiter. Refused if a delimiter is missing, or less than a header is left."""
+    if at == end and is_open:
+        raise Refusal(1, end)
+    if 0 < end - at < 8:
+        raise Refusal(1, at)
+    return at == end
+
+
+def check_length(at, start, length, end):
+    """A defined length is even, and its value ends in time."""
+    if length % 2:
+        raise Refusal(4, at)
+    if start + length > end:
+        raise Refusal(1, at)
+
+
 def read_elements(data, at, end, is_open, depth, holder, rows):
     """Elements from `at` on, in the item of row `holder`; answers where they end and where reading goes on."""
     before = -1
     while True:
-        if at == end:
-            if is_open:
-                raise Refusal(1, end)
+        if at_end(at, end, is_open):
             return at, at
-        if end - at < 8:
-            raise Refusal(1, at)
         group, number = struct.unpack_from("<HH", data, at)
         if group == 0xFFFE:
             if number == 0xE00D and is_open and data[at + 4:at + 8] == bytes(4):
@@ -63,10 +76,7 @@ def read_elements(data, at, end, is_open, depth, holder, rows):
         if undefined and vr != "SQ":
             raise Refusal(5, at)
         if not undefined:
-            if length % 2:
-                raise Refusal(4, at)
-            if start + length > end:
-                raise Refusal(1, at)
+            check_length(at, start, length, end)
         if vr == "SQ" and depth == 8:
             raise Refusal(6, at)
         row = [tag, ord(vr[0]) * 256 + ord(vr[1]), depth, start, length, 0, holder]
@@ -81,12 +91,8 @@ def read_elements(data, at, end, is_open, depth, holder, rows):
 
 def read_items(data, at, end, is_open, depth, holder, rows):
     while True:
-        if at == end:
-            if is_open:
-                raise Refusal(1, end)
+        if at_end(at, end, is_open):
             return at, at
-        if end - at < 8:
-            raise Refusal(1, at)
         group, number, length = struct.unpack_from("<HHI", data, at)
         if (group, number) == (0xFFFE, 0xE0DD) and is_open and length == 0:
             return at, at + 8
@@ -94,10 +100,7 @@ def read_items(data, at, end, is_open, depth, holder, rows):
             raise Refusal(5, at)
         start, undefined = at + 8, length == UNDEFINED
         if not undefined:
-            if length % 2:
-                raise Refusal(4, at)
-            if start + length > end:
-                raise Refusal(1, at)
+            check_length(at, start, length, end)
         row = [0xFFFEE000, 0, depth, start, length, 0, holder]
         rows.append(row)
         above = len(rows)

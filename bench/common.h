@@ -13,7 +13,9 @@
 #include <time.h>
 #include <unistd.h>
 
-/* The library's own header where it stands; HAVE_XA_... is given for each call that the library has. */
+#include "walker.h"
+
+/* The library's own header, if it is there; HAVE_XA_... is defined for each call that the library has. */
 #if __has_include("../include/luuxidgaan.h")
 #include "../include/luuxidgaan.h"
 #else
@@ -56,6 +58,16 @@ static inline void *touched(size_t size, int value)
         stop("out of memory", "benchmark");
     memset(memory, value, size);
     return memory;
+}
+
+/* A buffer for the most rows that so many bytes can have; what isn't written is never touched. */
+static inline uint32_t *most_rows(size_t size, size_t *rows_len)
+{
+    *rows_len = size / 8 * ROW_NUMBERS;
+    uint32_t *rows = malloc(*rows_len * sizeof *rows + 1);
+    if (rows == NULL)
+        stop("out of memory", "benchmark");
+    return rows;
 }
 
 static inline double now(void)

@@ -17,7 +17,7 @@ import check_walker
 
 
 def children(rows, row):
-    """Rows that stand directly in row `row`; in the root for -1."""
+    """Rows directly below row `row`; in the root for -1."""
     at, end = row + 1, len(rows) if row < 0 else row + 1 + rows[row][5]
     while at < end:
         yield at

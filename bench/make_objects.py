@@ -8,7 +8,7 @@
     make_objects.py FOLDER many --frames 256 1024  one object for each count
 
 Each object is written twice: NAME.bin is the bare data set in Explicit VR Little Endian, NAME.dcm the
-same bytes behind a preamble and a group 0002 head, for programs that want a DICOM file. Equal arguments
+same bytes after a preamble and a group 0002 head, for programs that want a DICOM file. Equal arguments
 write equal bytes. Without --leave-out every object satisfies rules 1 to 38.
 """
 
@@ -88,7 +88,7 @@ def positioner(encoder, frame):
 
 
 def shared_item(encoder, full):
-    """What all frames have in common; the positioner stands here where the frames don't have their own."""
+    """What all frames have in common; the positioner is here if the frames don't have their own."""
     groups = [] if full else [positioner(encoder, 0)]
     groups += [
         encoder.sequence(0x00189406, encoder.item(                            # Table Position

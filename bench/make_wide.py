@@ -11,7 +11,7 @@ import array
 import os
 import sys
 
-from make_objects import Encoder, XA_STORAGE, element, header
+from make_objects import Encoder, XA_STORAGE, element
 
 MOST_FRAMES = 65535
 MOST_VALUE = 65534                      # bytes of a value with a 16-bit length
@@ -119,7 +119,7 @@ def between(frames, count):
 
 
 def shared_sequences(size):
-    """A shared item of sequences, and in each of many frames eight whose tags stand between those."""
+    """A shared item of sequences, and in each of many frames eight whose tags lie between those."""
     frames = frames_for(size // 2, 125)
     count = (size - 125 * frames) // 12
     return data_set(frames, around(b"", EMPTY, count, 2), between(frames, count))

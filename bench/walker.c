@@ -18,7 +18,7 @@
 /* A tag as its four bytes read as one little-endian number. */
 #define SWAPPED(tag) ((tag) << 16 | (tag) >> 16)
 
-/* A VR as its two letters stand in the bytes, read as a little-endian number. */
+/* A VR: its two letters as in the bytes, read as a little-endian number. */
 #define VR(a, b) ((a) | (b) << 8)
 
 enum { NOT_LISTED, SHORT_FORM, LONG_FORM, SEQUENCE };
@@ -72,6 +72,18 @@ ALWAYS_INLINE void store(uint32_t *row, uint32_t tag, uint32_t vr, uint32_t dept
     memcpy(row + 4, &third, 8);
     row[6] = parent;
 }
+
+/* Leaves a sequence or an item: the container around it is the current one again. `least` is only needed among elements. */
+#define LEAVE()                      \
+    do {                             \
+        if (fill)                    \
+            row[5] = count - number; \
+        top--;                       \
+        end = top->end;              \
+        row = top->row;              \
+        number = top->number;        \
+        open = top->open;            \
+    } while (0)
 
 /* One walk over all headers. `fill` and `check` are constants at each call, so that each pass is compiled apart.
    Two loops, one among elements and one among items, hand over to each other. Kept in registers are the place `at`,
@@ -246,24 +258,12 @@ items:
     }
 
     /* The sequence closes: back among the elements around it. */
-    if (fill)
-        row[5] = count - number;
-    top--;
-    end = top->end;
-    row = top->row;
-    number = top->number;
+    LEAVE();
     least = top->least;
-    open = top->open;
     goto elements;
 
 close_item:
-    if (fill)
-        row[5] = count - number;
-    top--;
-    end = top->end;
-    row = top->row;
-    number = top->number;
-    open = top->open;
+    LEAVE();
     goto items;
 
 refuse:
@@ -285,7 +285,10 @@ static __attribute__((noinline)) walk_answer trusting_pass(const uint8_t *data, 
     return pass(data, size, rows, 1, 0);
 }
 
-walk_answer walk(const uint8_t *data, size_t size, uint32_t *rows, size_t rows_len)
+typedef walk_answer second_pass(const uint8_t *data, uint32_t size, uint32_t *rows);
+
+ALWAYS_INLINE walk_answer both_passes(const uint8_t *data, size_t size, uint32_t *rows, size_t rows_len,
+                                      second_pass *second)
 {
     if (size > SIZE_LIMIT)
         return (walk_answer){7, 0, 0};
@@ -294,17 +297,15 @@ walk_answer walk(const uint8_t *data, size_t size, uint32_t *rows, size_t rows_l
         return counted;
     if (rows_len / ROW_NUMBERS < counted.rows)
         return (walk_answer){8, 0, 0};
-    return fill_pass(data, (uint32_t)size, rows);
+    return second(data, (uint32_t)size, rows);
+}
+
+walk_answer walk(const uint8_t *data, size_t size, uint32_t *rows, size_t rows_len)
+{
+    return both_passes(data, size, rows, rows_len, fill_pass);
 }
 
 walk_answer walk_trusting(const uint8_t *data, size_t size, uint32_t *rows, size_t rows_len)
 {
-    if (size > SIZE_LIMIT)
-        return (walk_answer){7, 0, 0};
-    walk_answer counted = count_pass(data, (uint32_t)size);
-    if (counted.code != 0)
-        return counted;
-    if (rows_len / ROW_NUMBERS < counted.rows)
-        return (walk_answer){8, 0, 0};
-    return trusting_pass(data, (uint32_t)size, rows);
+    return both_passes(data, size, rows, rows_len, trusting_pass);
 }

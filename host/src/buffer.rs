@@ -1,9 +1,9 @@
 //! The row buffer that is lent to the library.
 //!
-//! A header has at least 8 bytes, so there are at most size / 8 rows. Where that much memory is free, so many are lent at first: the library
-//! writes the rows of a data set and nothing beyond them, and pages that are not written to take no memory, so no more is taken than the rows
-//! have. As soon as it is known how many there are, the rest is given back, and just so many are lent from then on. Where memory is not
-//! free the library counts the rows first (`library::count`), which takes half as long as reading them, and just so many are lent.
+//! A header has at least 8 bytes, so there are at most size / 8 rows. If that much memory is free, room for all of them is lent at first: the
+//! library writes the rows of a data set and nothing beyond them, and pages that are not written to take no memory. Once the number of rows
+//! is known, the rest is given back, and from then on room for exactly that many is lent. If the memory is not free, the library
+//! counts the rows first (`library::count`), which takes half as long as reading them, and room for exactly that many is lent.
 
 use crate::codes::{Code, Coded};
 use crate::head::Form;
@@ -11,13 +11,13 @@ use crate::library::{self, Answer, Compared, Memory, Rewritten, ROW_WIDTH};
 use crate::memory::{self, Granted};
 use crate::table::Table;
 
-/// Rows that are kept from one file to the next: 112 KiB, beside what `--memory` allows.
+/// Rows for which memory is kept from one file to the next: 112 KiB, not counted by `--memory`.
 const KEPT: usize = 4096;
 
 /// The bytes of a row.
 const ROW_BYTES: u64 = ROW_WIDTH as u64 * 4;
 
-/// So many bytes are needed for rows, and are not free beside what else is held.
+/// The rows need so many bytes, which are not free.
 pub struct NoRoom(pub u64);
 
 /// An answer that may say how many rows were written.
@@ -43,20 +43,20 @@ impl Filling for Compared {
     }
 }
 
-/// Room for rows, used for one file after another.
+/// A buffer for rows, used for one file after another.
 #[derive(Default)]
 pub struct RowBuffer {
     memory: Memory,
     /// How many rows of it are lent.
     room: usize,
-    /// What was granted for the rows beyond those that are kept.
+    /// The memory granted for the rows beyond those that are kept.
     granted: Granted,
-    /// Where the bytes are, and how many, that the room is known to be enough for.
+    /// Address and length of the bytes that the room is known to suffice for.
     enough: Option<(usize, usize)>,
 }
 
 impl RowBuffer {
-    /// The rows of a data set, or its refusal.
+    /// Reads a data set.
     pub fn read(&mut self, form: Form, data: &[u8]) -> Result<Answer, String> {
         match form {
             Form::File => self.lend(form, data, library::read_file),
@@ -64,7 +64,7 @@ impl RowBuffer {
         }
     }
 
-    /// The verdict on a data set.
+    /// Judges a data set.
     pub fn judge(&mut self, form: Form, data: &[u8]) -> Result<Answer, String> {
         match form {
             Form::File => self.lend(form, data, library::judge_file),
@@ -90,12 +90,12 @@ impl RowBuffer {
         self.lend(Form::Bare, data, |data, rows| library::linear(data, frame, rows, values))
     }
 
-    /// The sheet of frames.
+    /// Counts the grey levels of frames.
     pub fn sheet(&mut self, data: &[u8], first: u64, last: u64, sheet: &mut [u64]) -> Result<Answer, String> {
         self.lend(Form::Bare, data, |data, rows| library::sheet(data, first, last, rows, sheet))
     }
 
-    /// Another workstation's picture of a frame.
+    /// Compares another workstation's picture with a frame.
     pub fn compare(&mut self, data: &[u8], frame: u64, cells: &[u8], tolerance: u64) -> Result<Compared, String> {
         self.lend(Form::Bare, data, |data, rows| library::compare(data, frame, cells, tolerance, rows))
     }
@@ -111,7 +111,7 @@ impl RowBuffer {
         self.granted = granted;
     }
 
-    /// Gives back what one large file needed.
+    /// Gives back what a large file needed.
     pub fn let_go(&mut self) {
         if self.memory.numbers().len() > KEPT * ROW_WIDTH {
             self.memory = Memory::default();
@@ -121,7 +121,7 @@ impl RowBuffer {
         self.enough = None;
     }
 
-    /// Makes room for the rows of a data set, unless their memory is not free.
+    /// Makes room for the rows of a data set, if the memory is free.
     pub fn fit(&mut self, form: Form, data: &[u8]) -> Result<(), NoRoom> {
         let data_set = form.data_set(data);
         if self.grow(most_rows(data_set.len())).is_err() {
@@ -131,8 +131,8 @@ impl RowBuffer {
         Ok(())
     }
 
-    /// Calls with room for the rows. Bytes that the room was made for before are not counted again; where others lie in their place
-    /// by now, the library says so.
+    /// Makes a call with room for the rows. The room for the same bytes is not worked out again; if other bytes have taken their place,
+    /// and have more rows, the library says so.
     fn lend<A: Filling>(
         &mut self,
         form: Form,
@@ -165,7 +165,7 @@ impl RowBuffer {
         let bytes = rows.max(KEPT) as u64 * ROW_BYTES;
         let large_enough = self.memory.bytes().len() as u64 >= bytes;
         if !large_enough {
-            // What is in it is not needed, so nothing is copied.
+            // Its content is not needed, so nothing is copied.
             self.memory = Memory::default();
             self.room = 0;
         }
@@ -179,7 +179,7 @@ impl RowBuffer {
         Ok(())
     }
 
-    /// Gives back what is granted beyond so many rows, which are all that was written.
+    /// Gives back the room beyond so many rows, which are all that were written.
     fn keep(&mut self, rows: usize) {
         let rows = rows.max(KEPT);
         if rows < self.room {
@@ -193,7 +193,7 @@ fn most_rows(size: usize) -> usize {
     size / 8
 }
 
-/// The memory that the rows of a data set of a size take at most.
+/// The most memory that the rows of a data set of this size can need.
 pub fn most_room(size: u64) -> u64 {
     size / 8 * ROW_BYTES
 }

@@ -1,7 +1,7 @@
 //! `luux canonical` and `luux duplicates`: data sets in their canonical form, as the library writes it.
 //!
-//! Files are sorted by the SHA-256 of their canonical forms. Those that share it are then compared byte by byte, so that what is called
-//! equal is equal whatever the hash.
+//! Files are grouped by the SHA-256 of their canonical forms. Those that share it are then compared byte by byte, so that equality does not
+//! depend on the hash.
 
 use std::collections::{HashMap, HashSet};
 use std::fs;
@@ -15,21 +15,23 @@ use sha2::{Digest, Sha256};
 use crate::buffer::RowBuffer;
 use crate::codes::Coded;
 use crate::files::{self, Opened};
-use crate::finding::{Choice, Finding};
+use crate::finding::Inputs;
 use crate::head::{Form, Judged};
 use crate::library::Answer;
 use crate::looking::{self, What};
 use crate::memory::Granted;
 use crate::other;
-use crate::output::{line, note, note_of, Object, Status};
+use crate::output::{note, note_of, Object, Status};
+use crate::picture;
 use crate::settling::Settling;
+use crate::values::counted;
 
 /// Why there is no canonical form, in words.
 #[derive(Serialize, Deserialize)]
 pub enum Failure {
     /// The library refused.
     Refused(String),
-    /// The library refused what is certainly no run.
+    /// The library refused it, and it is certainly no run.
     Other(String),
     /// Something else.
     Trouble(String),
@@ -43,15 +45,15 @@ impl From<String> for Failure {
 
 /// A data set in its canonical form.
 struct Canonical {
-    /// What stands before the data set: a file's head, byte for byte.
+    /// The file's head, byte for byte; empty for a bare data set.
     head: Vec<u8>,
     form: Vec<u8>,
-    /// Whether the data set is in that form already.
+    /// Whether the data set is in canonical form already.
     same: bool,
     _granted: Granted,
 }
 
-/// The canonical form of a file's data set. A file that reading refuses is refused here by the same code.
+/// The canonical form of a file's data set. What reading refuses is refused here with the same code.
 fn form_of(path: &Path, kind: Form, buffer: &mut RowBuffer) -> Result<Canonical, Failure> {
     let opened = Opened::open(path)?;
     let content = opened.bytes();
@@ -71,9 +73,9 @@ fn form_of(path: &Path, kind: Form, buffer: &mut RowBuffer) -> Result<Canonical,
     let granted = Granted::now(data.len() as u64).map_err(|text| format!("for its canonical form {text}"))?;
     let mut form = Vec::new();
     if form.try_reserve_exact(data.len()).is_err() {
-        return Err(Failure::Trouble(format!("there is no memory for {} bytes", data.len())));
+        return Err(Failure::Trouble(format!("not enough memory for {} bytes", data.len())));
     }
-    // It is never longer than the data set.
+    // The form is never longer than the data set.
     form.resize(data.len(), 0);
     let written = buffer.canonical(data, &mut form)?;
     if !written.is_done() {
@@ -86,12 +88,12 @@ fn form_of(path: &Path, kind: Form, buffer: &mut RowBuffer) -> Result<Canonical,
     Ok(canonical)
 }
 
-/// What is known of a canonical form without its bytes.
+/// A canonical form without its bytes.
 #[derive(Serialize, Deserialize)]
 pub struct Summary {
     hash: [u8; 32],
     length: usize,
-    /// Whether the data set is in that form already.
+    /// Whether the data set is in canonical form already.
     same: bool,
 }
 
@@ -101,43 +103,30 @@ impl Summary {
     }
 }
 
-/// The summary of one file; said by one process to another.
+/// The summary of one file, as one process tells it to another.
 pub fn summary(path: &Path, kind: Form) -> Result<Summary, Failure> {
     form_of(path, kind, &mut RowBuffer::default()).map(|found| Summary::of(&found))
 }
 
-/// Whether two files have the same canonical form; said by one process to another.
+/// Whether two files have the same canonical form, as one process tells it to another.
 pub fn are_equal(one: &Path, other: &Path, kind: Form) -> Result<bool, Failure> {
     let mut buffer = RowBuffer::default();
     let one = form_of(one, kind, &mut buffer)?;
     Ok(form_of(other, kind, &mut buffer)?.form == one.form)
 }
 
-/// Writes a file in canonical form to another: its head as it is, then the canonical form of its data set.
+/// Writes a file in canonical form to another: its head unchanged, then the canonical form of its data set.
 pub fn write(path: &Path, kind: Form, output: &Path, out: &mut dyn Write) -> io::Result<Status> {
-    if files::is_same(path, output) {
-        note_of(output, "it is the data set itself; name another file");
-        return Ok(Status::Failed);
-    }
     let Canonical { head: mut content, form, same, _granted } = match form_of(path, kind, &mut RowBuffer::default()) {
         Ok(found) => found,
         Err(Failure::Refused(text) | Failure::Other(text)) => {
-            line(out, path, &text)?;
-            return Ok(Status::Refused);
+            return picture::explain(path, picture::Failure::Refused(text), out)
         }
-        Err(Failure::Trouble(text)) => {
-            note_of(path, &text);
-            return Ok(Status::Failed);
-        }
+        Err(Failure::Trouble(text)) => return picture::explain(path, picture::Failure::Trouble(text), out),
     };
     content.extend(form);
-    if let Err(error) = files::write_whole(output, &content, false) {
-        note_of(output, &format!("cannot be written: {}", files::trouble(&error)));
-        return Ok(Status::Failed);
-    }
-    let text = format!("{} bytes, {}", content.len(), if same { "as they were" } else { "in canonical form" });
-    line(out, output, &text)?;
-    Ok(Status::Fine)
+    let about = format!("{} bytes, {}", content.len(), if same { "unchanged" } else { "in canonical form" });
+    picture::write_file(Ok(content), path, output, &about, out)
 }
 
 /// A file, and whether it is in canonical form itself.
@@ -167,9 +156,7 @@ impl Group {
             self.hash_text()
         )?;
         for member in &self.members {
-            out.write_all(b"  ")?;
-            out.write_all(&files::printed(&member.path))?;
-            out.write_all(b"\n")?;
+            writeln!(out, "  {}", files::printed(&member.path))?;
         }
         Ok(())
     }
@@ -189,7 +176,7 @@ impl Group {
     }
 }
 
-/// What is known so far: the groups in the order of their first files, and which of them have a hash.
+/// What was found so far: the groups in the order of their first files, and which of them have a hash.
 struct Search {
     kind: Form,
     timeout: Option<Duration>,
@@ -219,7 +206,7 @@ impl Search {
         }
     }
 
-    /// Looks at a file. Whoever names one wants it to be a run.
+    /// Adds a file. One that was named itself is meant to be a run.
     fn add(&mut self, path: &Path, named: bool) {
         let found = match self.timeout {
             None => self.add_here(path),
@@ -253,14 +240,14 @@ impl Search {
         self.place(path, &Summary::of(&found), |first, buffer| Ok(form_of(first, kind, buffer)?.form == found.form))
     }
 
-    /// The same, by processes of their own.
+    /// The same, in processes of their own.
     fn add_within(&mut self, limit: Duration, path: &Path) -> Result<(), Failure> {
         let kind = self.kind;
         let found: Result<Summary, Failure> = looking::within_alone(limit, What::Form, &[path], kind)?;
         self.place(path, &found?, |first, _| looking::within_alone(limit, What::Equal, &[path, first], kind)?)
     }
 
-    /// Puts a file into the group whose first file has the same canonical form; into a new one where there is none.
+    /// Puts a file into the group whose first file has the same canonical form, or into a new one.
     fn place(
         &mut self,
         path: &Path,
@@ -283,32 +270,25 @@ impl Search {
 
 /// What `luux duplicates` was asked.
 pub struct Wanted {
-    pub named: Vec<PathBuf>,
-    pub kind: Form,
-    pub choice: Choice,
-    pub settle: Option<Duration>,
-    pub timeout: Option<Duration>,
+    pub inputs: Inputs,
     pub json: bool,
 }
 
 /// Finds files whose data sets have the same canonical form.
 pub fn duplicates(wanted: &Wanted, out: &mut dyn Write) -> io::Result<Status> {
-    let json = wanted.json;
-    let finding = Finding::of(&wanted.named, None, &wanted.choice);
-    for (path, reason) in &finding.skipped {
-        note_of(path, &format!("skipped: {reason}"));
-    }
+    let Wanted { inputs, json } = wanted;
+    let finding = inputs.find(None);
     if finding.found.is_empty() {
-        note("nothing was compared: there is no file in what was named");
+        note("nothing was compared: no files were found");
         return Ok(Status::Failed);
     }
-    let mut search = Search::of(wanted.kind, wanted.timeout);
+    let mut search = Search::of(inputs.form, inputs.timeout);
     let mut seen = HashSet::new();
-    let settling = Settling::of(&finding.found, wanted.settle);
+    let settling = Settling::of(&finding.found, inputs.settle);
     for (place, one) in finding.found.iter().enumerate() {
-        // A file is no duplicate of itself, by whatever name it was found again.
+        // A file is no duplicate of itself, whatever name it was found under.
         if fs::canonicalize(&one.path).map_or(false, |path| !seen.insert(path)) {
-            note_of(&one.path, "skipped: the same file was found before");
+            note_of(&one.path, "skipped: the same file was found already");
             continue;
         }
         match (&one.unreadable, settling.arriving(place)) {
@@ -325,18 +305,16 @@ pub fn duplicates(wanted: &Wanted, out: &mut dyn Write) -> io::Result<Status> {
     }
     let equal: Vec<&Group> = search.groups.iter().filter(|group| group.members.len() > 1).collect();
     for group in &equal {
-        match json {
+        match *json {
             true => out.write_all(group.json().as_bytes())?,
             false => group.print(out)?,
         }
     }
-    let files = finding.found.len();
     let mut summary = format!(
-        "{files} {}: {} with an equal in {} {}, {} refused, {} could not be read",
-        if files == 1 { "file" } else { "files" },
+        "{}: {} equal in {}, {} refused, {} could not be read",
+        counted(finding.found.len(), "file"),
         equal.iter().map(|group| group.members.len()).sum::<usize>(),
-        equal.len(),
-        if equal.len() == 1 { "group" } else { "groups" },
+        counted(equal.len(), "group"),
         search.refused,
         search.unread
     );
@@ -345,7 +323,7 @@ pub fn duplicates(wanted: &Wanted, out: &mut dyn Write) -> io::Result<Status> {
             summary.push_str(&format!(", {count} {what}"));
         }
     }
-    match json {
+    match *json {
         true => note(&summary),
         false => writeln!(out, "{summary}")?,
     }

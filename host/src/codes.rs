@@ -1,5 +1,4 @@
-//! The library's codes, by the names that `include/luuxidgaan.h` gives them, and what each means. The texts are for print: nothing is decided by
-//! them.
+//! The library's codes, under the names of `include/luuxidgaan.h`, and what each means. The texts are only printed; nothing depends on them.
 
 /// What an answer says.
 #[derive(Clone, Copy, Debug, PartialEq, Eq, PartialOrd, Ord)]
@@ -28,37 +27,37 @@ pub enum Code {
     NoRoomForTarget,
     CellCount,
     ToleranceTooLarge,
-    /// None of the header's.
+    /// A code that the header does not have.
     Unknown,
 }
 
-/// Each code at the place that is its number, with what it means.
+/// Each code at the index that is its number, with its meaning.
 const CODES: [(Code, &str); 24] = [
     (Code::Done, "accepted"),
-    (Code::CutShort, "cut short: a header, a value or an open sequence goes on past the end of what holds it"),
-    (Code::TagOrder, "a tag that is not above the one before it"),
-    (Code::UnknownVr, "a VR that is not listed"),
+    (Code::CutShort, "cut short: a header, a value or an open sequence runs past the end of what contains it"),
+    (Code::TagOrder, "a tag that is not greater than the one before it"),
+    (Code::UnknownVr, "an unknown VR"),
     (Code::OddLength, "an odd length"),
-    (Code::OutOfPlace, "an item, a delimiter, reserved bytes or an undefined length where it may not be"),
+    (Code::OutOfPlace, "an item, a delimiter, reserved bytes or an undefined length out of place"),
     (Code::TooDeep, "sequences nested more than eight deep"),
-    (Code::TooLarge, "more than 1073741824 bytes, the most that a data set may have"),
-    (Code::NoRoomForRows, "too little room for the rows"),
+    (Code::TooLarge, "more than 1073741824 bytes, the limit for a data set"),
+    (Code::NoRoomForRows, "the buffer for the rows is too small"),
     (Code::RuleBroken, "a rule is broken"),
     (Code::NoSuchFrame, "no such frame"),
-    (Code::NoRoom, "too little room for the picture, the numbers or the slip"),
-    (Code::NotASlip, "not a slip: another mark, or another length than its version has"),
+    (Code::NoRoom, "the buffer for the picture, the numbers or the slip is too small"),
+    (Code::NotASlip, "not a slip: the wrong mark, or the wrong length for its version"),
     (Code::SlipVersion, "a slip of a version that is neither 1 nor 2"),
-    (Code::ImpossibleVerdict, "a slip with fields that no verdict has"),
+    (Code::ImpossibleVerdict, "a slip with fields that no verdict can have"),
     (Code::NotAFile, "not a DICOM file: no DICM at byte 128"),
     (
         Code::BadHead,
-        "the file's head is not as it must be: its group length first, its elements whole and all of group 0002, both UIDs there and single",
+        "a bad file head: its group length must come first, its elements must be whole and of group 0002, and both UIDs must be there with one value",
     ),
-    (Code::OtherTransferSyntax, "another transfer syntax than Explicit VR Little Endian"),
+    (Code::OtherTransferSyntax, "a transfer syntax other than Explicit VR Little Endian"),
     (Code::OtherSopClass, "the file's head and its data set name different SOP classes, or the data set names none"),
-    (Code::FramesReversed, "the first frame is above the last"),
+    (Code::FramesReversed, "the first frame comes after the last"),
     (Code::NoToLinear, "the frame has no TO_LINEAR item"),
-    (Code::NoRoomForTarget, "too little room for the canonical form"),
+    (Code::NoRoomForTarget, "the buffer for the canonical form is too small"),
     (Code::CellCount, "the number of cells is not Rows x Columns"),
     (Code::ToleranceTooLarge, "a tolerance over 255"),
 ];
@@ -74,12 +73,12 @@ impl Code {
         CODES.get(self as usize).map_or("unknown code", |(_, meaning)| meaning)
     }
 
-    /// Whether a header of the data set is refused, whose place the answer says.
+    /// Whether a header of the data set is refused; the answer then says its offset.
     pub fn is_of_a_header(self) -> bool {
         (Code::CutShort..=Code::TooDeep).contains(&self)
     }
 
-    /// Whether a file is refused by its head, so that there is no verdict on its data set.
+    /// Whether a file is refused for its head, so that there is no verdict on its data set.
     pub fn is_of_a_head(self) -> bool {
         (Code::NotAFile..=Code::OtherSopClass).contains(&self)
     }
@@ -94,7 +93,7 @@ pub trait Coded {
         Code::of(self.number())
     }
 
-    /// Whether what was asked for is done; of a verdict, whether the run is accepted.
+    /// Whether the call did what it was asked; for a verdict, whether the run is accepted.
     fn is_done(&self) -> bool {
         self.code() == Code::Done
     }

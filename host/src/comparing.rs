@@ -1,7 +1,7 @@
 //! `luux compare`: another workstation's pictures against ours.
 //!
-//! Whether a picture passes, the first cell that does not and how many do not come from the library; the levels beside them are those of
-//! the frame as the library draws it.
+//! The library says whether a picture passes, which cell is the first that does not, and how many do not; our levels are those of the frame
+//! as the library draws it.
 
 use std::fs;
 use std::io::{self, Write};
@@ -11,19 +11,20 @@ use crate::files::{self, Opened};
 use crate::head::Form;
 use crate::library::Compared;
 use crate::output::{line, note_of, Status};
-use crate::picture::{self, Failure, Image, Run};
+use crate::picture::{self, Failure, Format, Image, Run};
+use crate::values::counted;
 
-/// What a cell of the picture of differences is: white where it is off, else our level, dimmed.
+/// A cell in the picture of differences: white where the pictures differ, else our level, dimmed.
 const OFF: u8 = 255;
 const DIMMED: u8 = 3;
 
-/// The cells of a picture, and its width and height where the file says them.
+/// The cells of a picture, and its width and height if the file gives them.
 struct Cells {
     levels: Vec<u8>,
     size: Option<(usize, usize)>,
 }
 
-/// A plain PGM of 8 bits: `P5`, width, height and 255 with blanks between them, one blank, the cells.
+/// An 8-bit PGM: `P5`, width, height and 255, separated by blanks, one blank, the cells.
 fn read_pgm(content: &[u8]) -> Option<Cells> {
     let mut rest = content.strip_prefix(b"P5")?;
     let mut numbers = [0; 3];
@@ -40,7 +41,7 @@ fn read_pgm(content: &[u8]) -> Option<Cells> {
     whole.then(|| Cells { levels: levels.to_vec(), size: Some((width, height)) })
 }
 
-/// A PNG of 8-bit grey.
+/// An 8-bit grey PNG.
 fn read_png(content: &[u8]) -> Option<Cells> {
     let mut reader = png::Decoder::new(content).read_info().ok()?;
     let info = reader.info();
@@ -55,20 +56,19 @@ fn read_png(content: &[u8]) -> Option<Cells> {
     Some(Cells { levels, size: Some((width, height)) })
 }
 
-/// A picture, by the ending of its name: .png, .pgm, and anything else is plain cells, one byte each.
+/// A picture, by the ending of its name: .png, .pgm, or any other for plain cells, one byte each.
 fn read_cells(path: &Path) -> Result<Cells, String> {
     let opened = Opened::open(path)?;
     let content = opened.bytes();
-    let ending = path.extension().and_then(|ending| ending.to_str()).map(str::to_ascii_lowercase);
-    match ending.as_deref() {
-        Some("png") => read_png(content).ok_or_else(|| String::from("it is not a PNG of 8-bit grey")),
-        Some("pgm") => read_pgm(content).ok_or_else(|| String::from("it is not a PGM (P5) of levels 0 to 255")),
-        _ => Ok(Cells { levels: content.to_vec(), size: None }),
+    match picture::format_of(path) {
+        Some(Format::Png) => read_png(content).ok_or_else(|| String::from("not an 8-bit grey PNG")),
+        Some(Format::Pgm) => read_pgm(content).ok_or_else(|| String::from("not a PGM (P5) with levels 0 to 255")),
+        None => Ok(Cells { levels: content.to_vec(), size: None }),
     }
     .and_then(|cells| opened.unchanged().map(|()| cells))
 }
 
-/// What is said of a picture that was compared.
+/// The line about a picture that was compared.
 fn about(found: &Compared, frame: u64, tolerance: u64, ours: &Image<u8>, theirs: &[u8]) -> String {
     if found.same == 1 {
         return format!("frame {frame}: yes, every cell is within {tolerance} of ours");
@@ -76,7 +76,7 @@ fn about(found: &Compared, frame: u64, tolerance: u64, ours: &Image<u8>, theirs:
     let first = found.first as usize;
     let width = ours.width().max(1);
     format!(
-        "frame {frame}: no, {} of {} cells are more than {tolerance} away; the first, row {}, column {} from 0, is {}, ours {}",
+        "frame {frame}: no, {} of {} cells are more than {tolerance} away; the first, at row {}, column {} from 0, is {}, ours is {}",
         found.count,
         theirs.len(),
         first / width,
@@ -86,7 +86,7 @@ fn about(found: &Compared, frame: u64, tolerance: u64, ours: &Image<u8>, theirs:
     )
 }
 
-/// White where the pictures are more than the tolerance apart, over our picture.
+/// Our picture, dimmed, with white where the pictures are more than the tolerance apart.
 fn differences(ours: &Image<u8>, theirs: &[u8], tolerance: u64) -> Result<Image<u8>, String> {
     let mut image = Image::new(ours.width(), ours.height(), 0)?;
     for (place, (&our, &their)) in ours.cells().iter().zip(theirs).enumerate() {
@@ -96,7 +96,7 @@ fn differences(ours: &Image<u8>, theirs: &[u8], tolerance: u64) -> Result<Image<
     Ok(image)
 }
 
-/// Compares one picture; answers whether it passed.
+/// Compares one picture, and says whether it passed.
 fn one(
     run: &mut Run,
     from: &Path,
@@ -114,7 +114,7 @@ fn one(
     };
     let (width, height) = run.size();
     if let Some((theirs_wide, theirs_high)) = cells.size.filter(|&size| size != (width, height)) {
-        let text = format!("it is {theirs_wide} x {theirs_high}, a frame of the run {width} x {height}");
+        let text = format!("it is {theirs_wide} x {theirs_high}, but a frame of the run is {width} x {height}");
         return picture::explain(path, Failure::Refused(text), out);
     }
     let compared =
@@ -146,7 +146,7 @@ fn number_in(path: &Path) -> Option<u64> {
     name[start..end].parse().ok()
 }
 
-/// The pictures of a folder, by frame.
+/// The pictures of a folder, in the order of their frames.
 fn numbered(folder: &Path) -> io::Result<Vec<(u64, PathBuf)>> {
     let mut pictures = Vec::new();
     for entry in fs::read_dir(folder)? {
@@ -156,14 +156,14 @@ fn numbered(folder: &Path) -> io::Result<Vec<(u64, PathBuf)>> {
         }
         match number_in(&path) {
             Some(frame) => pictures.push((frame, path)),
-            None => note_of(&path, "its name has no number, so it is no frame's picture"),
+            None => note_of(&path, "skipped: its name has no frame number"),
         }
     }
     pictures.sort();
     Ok(pictures)
 }
 
-/// How pictures are compared, and what the run's file is.
+/// How pictures are compared, and how the run's file is read.
 pub struct Wanted<'a> {
     pub form: Form,
     pub tolerance: u64,
@@ -178,7 +178,7 @@ pub fn picture(path: &Path, frame: u64, other: &Path, wanted: &Wanted, out: &mut
     }
 }
 
-/// Compares all pictures of a folder with the frames that their names have.
+/// Compares all pictures of a folder with the frames that their names give.
 pub fn folder(path: &Path, folder: &Path, wanted: &Wanted, out: &mut dyn Write) -> io::Result<Status> {
     let pictures = match numbered(folder) {
         Ok(pictures) => pictures,
@@ -188,7 +188,7 @@ pub fn folder(path: &Path, folder: &Path, wanted: &Wanted, out: &mut dyn Write) 
         }
     };
     if pictures.is_empty() {
-        note_of(folder, "there is no picture in it whose name has a number");
+        note_of(folder, "no picture in it has a frame number in its name");
         return Ok(Status::Failed);
     }
     let mut run = match Run::open(path, wanted.form) {
@@ -202,6 +202,11 @@ pub fn folder(path: &Path, folder: &Path, wanted: &Wanted, out: &mut dyn Write) 
         passed += usize::from(status == Status::Fine);
         worst = worst.max(status);
     }
-    writeln!(out, "{} pictures of {} frames, {passed} yes", pictures.len(), run.frames())?;
+    writeln!(
+        out,
+        "{}, {passed} yes; the run has {}",
+        counted(pictures.len(), "picture"),
+        counted(run.frames() as usize, "frame")
+    )?;
     Ok(worst)
 }

@@ -1,31 +1,32 @@
-//! `luux demo`: sample runs, made here, and what luux says of them.
+//! `luux demo`: makes sample runs, judges them and draws one.
 //!
-//! A run is a picture of bones over which a tree of vessels fills with contrast, while the patient moves a little. Its mask
-//! is the average of the first two frames, and each frame has its own window and its own shift of the mask, in quarters of a
-//! pixel.
+//! A run shows bones and a tree of vessels that fills with contrast while the patient moves a little. Its mask is the average of the
+//! first two frames, and each frame has its own window and its own shift of the mask, in quarters of a pixel.
 
 use std::io::{self, Write};
 use std::path::Path;
 
 use crate::files;
+use crate::finding::Inputs;
 use crate::frames;
 use crate::head::Form;
 use crate::judging;
-use crate::output::{note_of, Status};
+use crate::names::tags::*;
+use crate::output::{line, note_unwritten, Status};
 use crate::picture;
 
 const FRAMES: usize = 24;
 const SIDE: usize = 256;
-/// The first frames are without contrast: they are the mask.
+/// The first frames have no contrast; they are the mask.
 const MASKS: usize = 2;
-/// The item that one of the runs lacks, and the frame whose window another lacks.
+/// The frame whose item one of the runs lacks, and the frame whose window another lacks.
 const LEFT_OUT: usize = 13;
 const WINDOWLESS: usize = 17;
 
 // ---------------------------------------------------------------------------------------------------------------------
 // Explicit VR Little Endian
 
-/// An element, with the long header where its VR has one. A value of odd length gets a byte more.
+/// An element, with the long header if its VR has one. A value of odd length is padded.
 fn element(tag: u32, vr: &str, value: &[u8]) -> Vec<u8> {
     let mut value = value.to_vec();
     if value.len() % 2 == 1 {
@@ -59,7 +60,7 @@ fn us(tag: u32, values: &[u16]) -> Vec<u8> {
 
 fn item(elements: &[Vec<u8>]) -> Vec<u8> {
     let content = elements.concat();
-    let mut bytes = tag_bytes(0xFFFE_E000);
+    let mut bytes = tag_bytes(ITEM);
     bytes.extend((content.len() as u32).to_le_bytes());
     bytes.extend(content);
     bytes
@@ -84,41 +85,52 @@ fn moved(frame: usize) -> (f32, f32) {
 /// The functional groups of a frame.
 fn frame_item(frame: usize, with_window: bool) -> Vec<u8> {
     let mut groups = vec![sequence(
-        0x0020_9111, // Frame Content
-        &[item(&[text(0x0018_9074, "DT", &format!("202403050500{:02}.{:03}", frame / 4, frame % 4 * 250))])],
+        FRAME_CONTENT_SEQUENCE,
+        &[item(&[text(
+            FRAME_ACQUISITION_DATETIME,
+            "DT",
+            &format!("202403050500{:02}.{:03}", frame / 4, frame % 4 * 250),
+        )])],
     )];
-    // Mask frames are drawn as they are, the others as differences from the mask. A DS number may have an exponent.
+    // Mask frames are drawn as they are, the others as differences from the mask. One number has an exponent, as DS allows.
     let (center, width) = if frame <= MASKS { ("2.048E3", "2400") } else { ("1931", "800") };
-    let mut window = vec![text(0x0028_1050, "DS", center)];
+    let mut window = vec![text(WINDOW_CENTER, "DS", center)];
     if with_window {
-        window.push(text(0x0028_1051, "DS", width));
+        window.push(text(WINDOW_WIDTH, "DS", width));
     }
-    groups.push(sequence(0x0028_9132, &[item(&window)])); // Frame VOI LUT
+    groups.push(sequence(FRAME_VOI_LUT_SEQUENCE, &[item(&window)]));
     let (down, right) = moved(frame);
     let shift: Vec<u8> = [down, right].iter().flat_map(|by| by.to_le_bytes()).collect();
     groups.push(sequence(
-        0x0028_9415, // Frame Pixel Shift
-        &[item(&[element(0x0028_6114, "FL", &shift), us(0x0028_9416, &[1])])],
+        FRAME_PIXEL_SHIFT_SEQUENCE,
+        &[item(&[element(MASK_SUB_PIXEL_SHIFT, "FL", &shift), us(SUBTRACTION_ITEM_ID, &[1])])],
     ));
     item(&groups)
 }
 
 const ENHANCED_XA: &str = "1.2.840.10008.5.1.4.1.1.12.1.1";
-/// UIDs made from numbers that were drawn once (PS3.5, annex B.2).
+/// UIDs made from random numbers (PS3.5, annex B.2).
 const INSTANCE: &str = "2.25.208136041254977261925360311254630151267";
 const STUDY: &str = "2.25.114508917733560224871340569928430777519";
 
 /// A file: 128 bytes, the mark, the head with its length first, the data set.
 fn file(data_set: &[u8]) -> Vec<u8> {
     let head = [
-        element(0x0002_0001, "OB", &[0, 1]),               // File Meta Information Version
-        text(0x0002_0002, "UI", ENHANCED_XA),              // Media Storage SOP Class UID
-        text(0x0002_0003, "UI", INSTANCE),                 // Media Storage SOP Instance UID
-        text(0x0002_0010, "UI", "1.2.840.10008.1.2.1"),    // Transfer Syntax UID: Explicit VR Little Endian
-        text(0x0002_0012, "UI", "2.25.83027144017286054"), // Implementation Class UID
+        element(FILE_META_INFORMATION_VERSION, "OB", &[0, 1]),
+        text(MEDIA_STORAGE_SOP_CLASS_UID, "UI", ENHANCED_XA),
+        text(MEDIA_STORAGE_SOP_INSTANCE_UID, "UI", INSTANCE),
+        text(TRANSFER_SYNTAX_UID, "UI", "1.2.840.10008.1.2.1"), // Explicit VR Little Endian
+        text(IMPLEMENTATION_CLASS_UID, "UI", "2.25.83027144017286054"),
     ]
     .concat();
-    [&[0; 128], &b"DICM"[..], &element(0x0002_0000, "UL", &(head.len() as u32).to_le_bytes()), &head, data_set].concat()
+    [
+        &[0; 128],
+        &b"DICM"[..],
+        &element(FILE_META_INFORMATION_GROUP_LENGTH, "UL", &(head.len() as u32).to_le_bytes()),
+        &head,
+        data_set,
+    ]
+    .concat()
 }
 
 /// A data set around pixel bytes. Frame `left_out` has no item, frame `windowless` no Window Width.
@@ -127,46 +139,46 @@ fn data_set(pixels: &[u8], left_out: Option<usize>, windowless: Option<usize>) -
     let items: Vec<Vec<u8>> = frames.map(|frame| frame_item(frame, Some(frame) != windowless)).collect();
     let masks: Vec<u16> = (1..=MASKS as u16).collect();
     [
-        text(0x0008_0008, "CS", "ORIGINAL\\PRIMARY\\\\NONE"), // Image Type
-        text(0x0008_0016, "UI", ENHANCED_XA),                 // SOP Class UID
-        text(0x0008_0018, "UI", INSTANCE),                    // SOP Instance UID
-        text(0x0008_002A, "DT", "20240305050000"),            // Acquisition DateTime
-        text(0x0008_0060, "CS", "XA"),                        // Modality
-        text(0x0008_0080, "LO", "Sample Clinic"),             // Institution Name
-        text(0x0008_1010, "SH", "XA-1"),                      // Station Name
-        text(0x0010_0010, "PN", "Sample^Run"),
-        text(0x0018_0060, "DS", "72"),                      // KVP
-        text(0x0018_1155, "CS", "GR"),                      // Radiation Setting
-        text(0x0018_115A, "CS", "PULSED"),                  // Radiation Mode
-        text(0x0018_9004, "CS", "PRODUCT"),                 // Content Qualification
-        element(0x0018_9332, "FD", &67.2f64.to_le_bytes()), // Exposure in mAs
-        text(0x0018_9410, "CS", "SINGLE PLANE"),            // Planes in Acquisition
-        text(0x0018_9457, "CS", "MONOPLANE"),               // Plane Identification
-        text(0x0020_000D, "UI", STUDY),                     // Study Instance UID
-        us(0x0028_0002, &[1]),                              // Samples per Pixel
-        text(0x0028_0004, "CS", "MONOCHROME2"),             // Photometric Interpretation
-        text(0x0028_0008, "IS", &FRAMES.to_string()),       // Number of Frames
-        us(0x0028_0010, &[SIDE as u16]),                    // Rows
-        us(0x0028_0011, &[SIDE as u16]),                    // Columns
-        us(0x0028_0100, &[16]),                             // Bits Allocated
-        us(0x0028_0101, &[12]),                             // Bits Stored
-        us(0x0028_0102, &[11]),                             // High Bit
-        us(0x0028_0103, &[0]),                              // Pixel Representation
-        text(0x0028_0301, "CS", "NO"),                      // Burned In Annotation
-        text(0x0028_2110, "CS", "00"),                      // Lossy Image Compression
+        text(IMAGE_TYPE, "CS", "ORIGINAL\\PRIMARY\\\\NONE"),
+        text(SOP_CLASS_UID, "UI", ENHANCED_XA),
+        text(SOP_INSTANCE_UID, "UI", INSTANCE),
+        text(ACQUISITION_DATETIME, "DT", "20240305050000"),
+        text(MODALITY, "CS", "XA"),
+        text(INSTITUTION_NAME, "LO", "Sample Clinic"),
+        text(STATION_NAME, "SH", "XA-1"),
+        text(PATIENT_NAME, "PN", "Sample^Run"),
+        text(KVP, "DS", "72"),
+        text(RADIATION_SETTING, "CS", "GR"),
+        text(RADIATION_MODE, "CS", "PULSED"),
+        text(CONTENT_QUALIFICATION, "CS", "PRODUCT"),
+        element(EXPOSURE_IN_MAS, "FD", &67.2f64.to_le_bytes()),
+        text(PLANES_IN_ACQUISITION, "CS", "SINGLE PLANE"),
+        text(PLANE_IDENTIFICATION, "CS", "MONOPLANE"),
+        text(STUDY_INSTANCE_UID, "UI", STUDY),
+        us(SAMPLES_PER_PIXEL, &[1]),
+        text(PHOTOMETRIC_INTERPRETATION, "CS", "MONOCHROME2"),
+        text(NUMBER_OF_FRAMES, "IS", &FRAMES.to_string()),
+        us(ROWS, &[SIDE as u16]),
+        us(COLUMNS, &[SIDE as u16]),
+        us(BITS_ALLOCATED, &[16]),
+        us(BITS_STORED, &[12]),
+        us(HIGH_BIT, &[11]),
+        us(PIXEL_REPRESENTATION, &[0]),
+        text(BURNED_IN_ANNOTATION, "CS", "NO"),
+        text(LOSSY_IMAGE_COMPRESSION, "CS", "00"),
         sequence(
-            0x0028_6100, // Mask Subtraction
+            MASK_SUBTRACTION_SEQUENCE,
             &[item(&[
-                text(0x0028_6101, "CS", "AVG_SUB"),                  // Mask Operation
-                us(0x0028_6102, &[MASKS as u16 + 1, FRAMES as u16]), // Applicable Frame Range
-                us(0x0028_6110, &masks),                             // Mask Frame Numbers
-                us(0x0028_9416, &[1]),                               // Subtraction Item ID
+                text(MASK_OPERATION, "CS", "AVG_SUB"),
+                us(APPLICABLE_FRAME_RANGE, &[MASKS as u16 + 1, FRAMES as u16]),
+                us(MASK_FRAME_NUMBERS, &masks),
+                us(SUBTRACTION_ITEM_ID, &[1]),
             ])],
         ),
-        text(0x2050_0020, "CS", "IDENTITY"), // Presentation LUT Shape
-        sequence(0x5200_9229, &[item(&[])]), // Shared Functional Groups
-        sequence(0x5200_9230, &items),       // Per-Frame Functional Groups
-        element(0x7FE0_0010, "OW", pixels),  // Pixel Data
+        text(PRESENTATION_LUT_SHAPE, "CS", "IDENTITY"),
+        sequence(SHARED_FUNCTIONAL_GROUPS_SEQUENCE, &[item(&[])]),
+        sequence(PER_FRAME_FUNCTIONAL_GROUPS_SEQUENCE, &items),
+        element(PIXEL_DATA, "OW", pixels),
     ]
     .concat()
 }
@@ -174,7 +186,7 @@ fn data_set(pixels: &[u8], left_out: Option<usize>, windowless: Option<usize>) -
 // ---------------------------------------------------------------------------------------------------------------------
 // The pixels
 
-/// A plain generator of numbers, the same at every run.
+/// A simple random number generator with a fixed seed.
 struct Noise(u64);
 
 impl Noise {
@@ -184,7 +196,7 @@ impl Noise {
     }
 }
 
-/// A bump of height 1 around 0 that ends at `wide`.
+/// A bump of height 1 around 0 that reaches as far as `wide`.
 fn bump(from: f64, wide: f64) -> f64 {
     let part = (from / wide).abs();
     if part < 1.0 {
@@ -194,7 +206,7 @@ fn bump(from: f64, wide: f64) -> f64 {
     }
 }
 
-/// Soft tissue with a spine and ribs in it; bone lets less through and is darker.
+/// Soft tissue with a spine and ribs; bone absorbs more and is darker.
 fn bones(x: f64, y: f64) -> f64 {
     let spine = bump(x - 70.0 - 6.0 * (y / 60.0).sin(), 24.0) * (0.8 + 0.2 * (y / 7.5).sin());
     let rib = bump((y + (x - 70.0).abs() * 0.35 + 400.0) % 48.0 - 24.0, 8.0) * bump(x - 128.0, 160.0);
@@ -202,7 +214,7 @@ fn bones(x: f64, y: f64) -> f64 {
     tissue - 800.0 * spine - 450.0 * rib
 }
 
-/// Contrast in each cell: how much there is at most, and the frame at which it arrives.
+/// The contrast in each cell: the most there can be, and the frame at which it arrives.
 struct Vessels {
     depth: Vec<f64>,
     arrival: Vec<f64>,
@@ -234,7 +246,7 @@ impl Vessels {
         }
     }
 
-    /// A round piece of vessel; where two lie over each other the thicker one counts.
+    /// A round piece of vessel; where two overlap, the thicker one counts.
     fn dab(&mut self, x: f64, y: f64, radius: f64, time: f64) {
         let (left, top) = ((x - radius).max(0.0) as usize, (y - radius).max(0.0) as usize);
         for row in top..((y + radius).max(0.0) as usize + 2).min(SIDE) {
@@ -249,7 +261,7 @@ impl Vessels {
         }
     }
 
-    /// How much contrast a cell has in a frame: it fills within three frames and later fades.
+    /// The contrast of a cell in a frame: it fills within three frames and later fades.
     fn contrast(&self, cell: usize, frame: f64) -> f64 {
         let since = frame - self.arrival[cell];
         let filled = (since / 3.0).clamp(0.0, 1.0) - ((since - 9.0) / 12.0).clamp(0.0, 0.7);
@@ -257,7 +269,7 @@ impl Vessels {
     }
 }
 
-/// What is seen at a point between four cells, each counted the more the nearer it is.
+/// The value at a point between four cells, interpolated.
 fn between(seen: impl Fn(f64, f64) -> f64, y: f64, x: f64) -> f64 {
     let along = |row: f64| (1.0 - x + x.floor()) * seen(row, x.floor()) + (x - x.floor()) * seen(row, x.floor() + 1.0);
     (1.0 - y + y.floor()) * along(y.floor()) + (y - y.floor()) * along(y.floor() + 1.0)
@@ -276,7 +288,7 @@ fn pixels() -> Vec<u8> {
         };
         for row in 0..SIDE {
             for column in 0..SIDE {
-                // What is seen here was at (row - down, column - right) before the patient moved.
+                // This point was at (row - down, column - right) before the patient moved.
                 let (y, x) = (row as f64 - f64::from(down), column as f64 - f64::from(right));
                 let grain = (noise.next() + noise.next() - 1.0) * 1.5;
                 let cell = between(seen, y, x) + grain;
@@ -290,11 +302,9 @@ fn pixels() -> Vec<u8> {
 // ---------------------------------------------------------------------------------------------------------------------
 // The demonstration
 
-/// A command as one would type it, before what it prints.
+/// A command as a user would type it, above its output.
 fn typed(out: &mut dyn Write, words: &[&str], path: &Path) -> io::Result<()> {
-    write!(out, "\n$ luux {} ", words.join(" "))?;
-    out.write_all(&files::printed(path))?;
-    writeln!(out)
+    writeln!(out, "\n$ luux {} {}", words.join(" "), files::printed(path))
 }
 
 pub fn run(folder: &Path, jobs: usize, out: &mut dyn Write) -> io::Result<Status> {
@@ -311,23 +321,16 @@ pub fn run(folder: &Path, jobs: usize, out: &mut dyn Write) -> io::Result<Status
     for (name, content, about) in samples {
         let path = runs.join(name);
         if let Err(error) = files::write_whole(&path, content, true) {
-            note_of(&path, &format!("cannot be written: {}", files::trouble(&error)));
+            note_unwritten(&path, &error);
             return Ok(Status::Failed);
         }
-        out.write_all(&files::printed(&path))?;
-        writeln!(out, ": {about}")?;
+        line(out, &path, about)?;
     }
 
     typed(out, &["judge"], &runs)?;
-    let wanted = match judging::Wanted::of(vec![runs.clone()], Form::File, jobs) {
-        Ok(wanted) => wanted,
-        Err(trouble) => {
-            note_of(&runs, &trouble);
-            return Ok(Status::Failed);
-        }
-    };
+    let wanted = judging::Wanted::lines(Inputs::all(vec![runs.clone()], Form::File), jobs);
     let mut status = match judging::run(&wanted, out)? {
-        // Three of the runs are made to be refused.
+        // Three of the runs are meant to be refused.
         Status::Refused => Status::Fine,
         _ => Status::Failed,
     };
@@ -336,7 +339,7 @@ pub fn run(folder: &Path, jobs: usize, out: &mut dyn Write) -> io::Result<Status
     for frame in [1, 7, 11, 19] {
         let to = folder.join(format!("frame-{frame}.png"));
         typed(out, &["show", &path.to_string_lossy(), &frame.to_string(), "-o"], &to)?;
-        let wanted = frames::Wanted { form: Form::File, both: false, kind: None, output: Some(&to) };
+        let wanted = frames::Wanted { form: Form::File, both: false, format: None, output: Some(&to) };
         status = status.max(frames::show(&path, frames::Frames::One(frame), &wanted, out)?);
     }
     let to = folder.join("contact.png");

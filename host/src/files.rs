@@ -1,4 +1,4 @@
-//! Files: opening, writing and moving them, and their names in print.
+//! Opening, writing and moving files, and their names in print.
 
 use std::ffi::OsStr;
 use std::fs::{self, File, Metadata, Permissions};
@@ -22,13 +22,13 @@ static MAPPED: AtomicBool = AtomicBool::new(false);
 /// The permissions that new files have.
 static MODE: AtomicU32 = AtomicU32::new(0o600);
 
-/// Says what holds for the whole process.
+/// Sets what holds for the whole process.
 pub fn start(mapped: bool) {
     MAPPED.store(mapped, Ordering::Relaxed);
     MODE.store(0o666 & !mask().unwrap_or(0o077), Ordering::Relaxed);
 }
 
-/// The permissions that the user does not give.
+/// The umask: the permissions that new files do not get.
 fn mask() -> Option<u32> {
     let status = fs::read_to_string("/proc/self/status").ok()?;
     let line = status.lines().find_map(|line| line.strip_prefix("Umask:"))?;
@@ -40,11 +40,13 @@ pub fn are_mapped() -> bool {
     MAPPED.load(Ordering::Relaxed)
 }
 
-/// What went wrong with a file, and what to do about it.
+/// An error about a file, with what to do about it.
 pub fn trouble(error: &io::Error) -> String {
     match error.kind() {
-        io::ErrorKind::NotFound => String::from("there is no such file or folder; check the name"),
-        io::ErrorKind::PermissionDenied => String::from("no permission; ask its owner, or run luux as a user who may"),
+        io::ErrorKind::NotFound => String::from("no such file or folder; check the name"),
+        io::ErrorKind::PermissionDenied => {
+            String::from("permission denied; ask its owner for access, or run luux as a user who has it")
+        }
         _ => error.to_string(),
     }
 }
@@ -53,7 +55,7 @@ fn unread(error: &io::Error) -> String {
     format!("cannot be read: {}", trouble(error))
 }
 
-const CHANGED: &str = "changed while it was looked at; wait until it is complete and try again";
+const CHANGED: &str = "changed while luux was reading it; wait until it is complete and try again";
 const WRITTEN: &str = "another program has it open for writing; wait until it is complete and try again";
 
 /// Which file it is, how large, and when it was last written to and changed.
@@ -75,7 +77,7 @@ impl State {
         }
     }
 
-    /// That of the file which a path leads to.
+    /// The state of the file that a path leads to.
     pub fn at(path: &Path) -> io::Result<State> {
         fs::metadata(path).map(|about| State::of(&about))
     }
@@ -84,7 +86,7 @@ impl State {
         self.size
     }
 
-    /// How long ago it was changed; nothing where that is not in the past.
+    /// How long ago it was changed; nothing if that is not in the past.
     fn rested(&self) -> Option<Duration> {
         since(self.changed)
     }
@@ -95,7 +97,7 @@ impl State {
     }
 }
 
-/// How long ago a time is, given in seconds and nanoseconds; nothing where it is not in the past.
+/// How long ago a time was, given in seconds and nanoseconds; nothing if it is not in the past.
 fn since((seconds, nanoseconds): (i64, i64)) -> Option<Duration> {
     let then = match u64::try_from(seconds) {
         Ok(seconds) => SystemTime::UNIX_EPOCH.checked_add(Duration::new(seconds, u32::try_from(nanoseconds).ok()?))?,
@@ -104,13 +106,13 @@ fn since((seconds, nanoseconds): (i64, i64)) -> Option<Duration> {
     SystemTime::now().duration_since(then).ok()
 }
 
-/// Kernels tell the time of files in steps of at most this. Within one step a file can change twice and show one time.
+/// Kernels keep the times of files in steps of at most this. Within one step a file can change twice and show one time.
 const STEP: Duration = Duration::from_millis(20);
 
-/// How often a file is looked at that changes, or that somebody writes to, before it is given up.
+/// How often luux tries to read a file that changes, or that somebody writes to.
 const LOOKS: usize = 8;
 
-/// The state of a file that was not changed for so long, so that any later change shows.
+/// The state of a file once it has not changed for `long`, so that any later change shows.
 fn resting(file: &File, long: Duration, looks: usize) -> io::Result<Option<State>> {
     for _ in 0..looks {
         let state = State::of(&file.metadata()?);
@@ -123,21 +125,21 @@ fn resting(file: &File, long: Duration, looks: usize) -> io::Result<Option<State
 }
 
 /// File systems, as statfs(2) numbers them, that others write to without this kernel: Ceph, CIFS, FUSE, NFS, 9P, SMB, SMB2, VirtualBox. There a
-/// lease says nothing of the others, and there may be none though nobody writes.
+/// lease says nothing about others, and may be refused though nobody writes.
 const SHARED: [u64; 8] = [0x00C3_6400, 0xFF53_4D42, 0x6573_5546, 0x6969, 0x0102_1997, 0x517B, 0xFE53_4D42, 0x786F_4256];
 
-/// Whether only this kernel writes to the file's file system, as far as it says.
+/// Whether only this kernel writes to the file's file system, as far as can be told.
 fn is_local(file: &File) -> bool {
     fstatfs(file).is_ok_and(|about| !SHARED.contains(&(about.f_type as u64)))
 }
 
 /// Who may write to a file while we read it.
 enum Writers<'a> {
-    /// Nobody, as long as the lease holds.
+    /// Nobody, while the lease holds.
     None(Lease<'a>),
     /// Somebody has it open for writing now.
     Some,
-    /// It is not known: there is no lease.
+    /// Not known: there is no lease.
     Unknown,
 }
 
@@ -163,7 +165,7 @@ enum Content {
     Mapped(Mapping),
 }
 
-/// A file that is open, and its bytes.
+/// An open file and its bytes.
 pub struct Opened {
     file: File,
     content: Content,
@@ -172,18 +174,18 @@ pub struct Opened {
 }
 
 impl Opened {
-    /// A file, if there is memory for its bytes now.
+    /// Opens a file, if there is memory for its bytes now.
     pub fn open(path: &Path) -> Result<Opened, String> {
         Opened::granted(path, Granted::now)
     }
 
-    /// A file, as soon as there is memory for its bytes and so many more. Only for one who holds no memory.
+    /// Opens a file as soon as there is memory for its bytes and `more`. Only for a caller who holds no memory.
     pub fn with_room(path: &Path, more: u64) -> Result<Opened, String> {
         Opened::granted(path, |bytes| Granted::wait_for(bytes.saturating_add(more)))
     }
 
     fn granted(path: &Path, grant: impl FnOnce(u64) -> Result<Granted, String>) -> Result<Opened, String> {
-        // Asked before opening, since opening a pipe would wait for its writer.
+        // Tested before opening, since opening a pipe would wait for its writer.
         let about = fs::metadata(path).map_err(|error| unread(&error))?;
         if about.is_dir() {
             return Err(String::from("cannot be read: it is a folder; name a file in it"));
@@ -214,12 +216,12 @@ impl Opened {
         }
     }
 
-    /// So many bytes of the memory that was granted with the file, for something else.
+    /// Splits off some of the memory that was granted with the file.
     pub fn room(&mut self, bytes: u64) -> Granted {
         self.granted.split(bytes)
     }
 
-    /// An error where size or time of the file changed since it was opened: what was said of it then holds for nothing.
+    /// An error if the size or a time of the file has changed since it was opened, so that no answer about it holds.
     pub fn unchanged(&self) -> Result<(), String> {
         match is_still(&self.file, self.then) {
             true => Ok(()),
@@ -228,7 +230,7 @@ impl Opened {
     }
 }
 
-/// The state of a file that still has its size and was not changed for so long.
+/// The state of a file that still has its size, once it has not changed for `long`.
 fn rested(file: &File, size: u64, long: Duration, looks: usize) -> Result<State, String> {
     let then = resting(file, long, looks).map_err(|error| unread(&error))?;
     then.filter(|then| then.size == size).ok_or_else(|| String::from(CHANGED))
@@ -237,14 +239,14 @@ fn rested(file: &File, size: u64, long: Duration, looks: usize) -> Result<State,
 /// A copy of a file's bytes, all of one moment, and the file's state then.
 fn private(file: &File, size: u64) -> Result<(Memory, State), String> {
     let memory = usize::try_from(size).ok().and_then(|size| Memory::of(size).ok());
-    let mut memory = memory.ok_or_else(|| format!("cannot be read: there is no memory for {size} bytes"))?;
+    let mut memory = memory.ok_or_else(|| format!("cannot be read: not enough memory for {size} bytes"))?;
     for _ in 0..LOOKS {
         let then = rested(file, size, STEP, LOOKS)?;
         match writers(file) {
             Writers::Some => thread::sleep(STEP),
             Writers::Unknown => return twice(file, memory, size),
             Writers::None(lease) => {
-                // Who wrote between the two looks is gone, but the file is another.
+                // Somebody wrote between the test and the lease.
                 if !is_still(file, then) {
                     continue;
                 }
@@ -256,15 +258,15 @@ fn private(file: &File, size: u64) -> Result<(Memory, State), String> {
     Err(String::from(WRITTEN))
 }
 
-/// How long a file must have been left alone where nobody can say who writes to it, and how long after the first reading the second begins.
+/// Without a lease: how long a file must have been left alone, and the pause between the first and the second reading.
 const ALONE: Duration = Duration::from_secs(2);
 const PAUSE: Duration = Duration::from_millis(100);
 
-/// The same where it is not known who writes: what was left alone for some time and reads the same twice.
+/// The same without a lease: the file must have been left alone for some time, and must read the same twice.
 fn twice(file: &File, mut memory: Memory, size: u64) -> Result<(Memory, State), String> {
     let then = rested(file, size, ALONE, 2)?;
     fill(file, memory.bytes_mut())?;
-    // A time that is not in the past does not say how long it was left alone.
+    // A time that is not in the past does not say how long the file was left alone.
     thread::sleep(if then.rested().is_some() { PAUSE } else { ALONE });
     match is_same_again(file, memory.bytes()) {
         Ok(true) if is_still(file, then) => Ok((memory, then)),
@@ -284,7 +286,7 @@ fn fill(file: &File, bytes: &mut [u8]) -> Result<(), String> {
     })
 }
 
-/// How much of a file is read at a time to see whether it reads the same again.
+/// How much of a file is read at a time to see whether it still reads the same.
 const PIECE: usize = 1 << 16;
 
 fn is_same_again(file: &File, bytes: &[u8]) -> io::Result<bool> {
@@ -300,7 +302,7 @@ fn is_same_again(file: &File, bytes: &[u8]) -> io::Result<bool> {
     Ok(true)
 }
 
-/// The folder that a file stands in.
+/// The folder of a file.
 fn folder_of(path: &Path) -> &Path {
     match path.parent() {
         Some(folder) if folder != Path::new("") => folder,
@@ -311,14 +313,13 @@ fn folder_of(path: &Path) -> &Path {
 /// How the names of drafts start and end.
 const DRAFT: (&str, &str) = (".luux-", ".tmp");
 
-/// Whether a file has the name of a draft. One stays behind where the tool was ended while it wrote.
+/// Whether a file has the name of a draft. A draft stays behind if the tool was killed while writing it.
 pub fn is_draft(name: &OsStr) -> bool {
     let name = name.as_bytes();
     name.starts_with(DRAFT.0.as_bytes()) && name.ends_with(DRAFT.1.as_bytes())
 }
 
-/// Writes a file whole or not at all: to a draft in the same folder, which is synced and renamed. Folders on the way are
-/// made if `folders`.
+/// Writes a file whole or not at all: to a draft in the same folder, which is synced and renamed. Missing folders are made if `folders`.
 pub fn write_whole(path: &Path, content: &[u8], folders: bool) -> io::Result<()> {
     let folder = folder_of(path);
     if folders {
@@ -330,15 +331,15 @@ pub fn write_whole(path: &Path, content: &[u8], folders: bool) -> io::Result<()>
     draft.as_file().set_permissions(Permissions::from_mode(MODE.load(Ordering::Relaxed)))?;
     draft.as_file().sync_all()?;
     draft.persist(path).map_err(|failed| failed.error)?;
-    // The file is whole either way. Some file systems cannot sync a folder.
+    // The file is whole in any case; some file systems cannot sync a folder.
     let _ = File::open(folder).and_then(|folder| folder.sync_all());
     Ok(())
 }
 
-/// Renames a file, never over one that is there.
+/// Renames a file, never over another.
 pub fn rename_new(from: &Path, to: &Path) -> io::Result<()> {
     match renameat_with(cwd(), from, cwd(), to, RenameFlags::NOREPLACE) {
-        // Some file systems cannot rename so. A second name is refused by them too where there is a file.
+        // Some file systems cannot do that. A link is refused there too if the name exists.
         Err(Errno::INVAL | Errno::NOSYS | Errno::NOTSUP) => {
             fs::hard_link(from, to)?;
             fs::remove_file(from)
@@ -347,19 +348,18 @@ pub fn rename_new(from: &Path, to: &Path) -> io::Result<()> {
     }
 }
 
-/// Whether a character is shown as itself: it is neither a backslash nor a control, formatting or separating character, nor
-/// one without a meaning.
+/// Whether a character is printed as itself: no backslash, control, format or separator character, and not unassigned.
 pub fn is_plain(letter: char) -> bool {
     match letter {
         ' '..='~' => letter != '\\',
-        // The library of Rust knows which characters can be printed, and escapes those that cannot.
+        // The standard library knows which characters can be printed, and escapes the others.
         _ => String::from_iter(['a', letter]).escape_debug().count() == 2,
     }
 }
 
-/// A path for a line of print. What is not plain is escaped: `\\` is a backslash, `\x0A` a byte, `\u{202E}` a character. So a
-/// line stays a line, and no two names look the same.
-pub fn printed(path: &Path) -> Vec<u8> {
+/// A path on one line of print. Other characters are escaped: `\\` is a backslash, `\x0A` a byte, `\u{202E}` a character. So a line stays a
+/// line, and no two names look the same.
+pub fn printed(path: &Path) -> String {
     let mut line = String::new();
     let mut rest = path.as_os_str().as_bytes();
     while !rest.is_empty() {
@@ -384,7 +384,7 @@ pub fn printed(path: &Path) -> Vec<u8> {
             None => others,
         };
     }
-    line.into_bytes()
+    line
 }
 
 /// Whether two paths lead to one file that is there.
@@ -392,7 +392,7 @@ pub fn is_same(one: &Path, other: &Path) -> bool {
     matches!((fs::canonicalize(one), fs::canonicalize(other)), (Ok(one), Ok(other)) if one == other)
 }
 
-/// The last part of a path with an ending behind it, for a file in the working folder.
+/// The last part of a path with an ending added, for a file in the current folder.
 pub fn beside(path: &Path, ending: &str) -> PathBuf {
     let mut name = path.file_name().unwrap_or_else(|| OsStr::new("run")).to_os_string();
     name.push(ending);
@@ -404,7 +404,7 @@ mod tests {
     use super::*;
 
     fn shown(name: &[u8]) -> String {
-        String::from_utf8(printed(Path::new(OsStr::from_bytes(name)))).unwrap()
+        printed(Path::new(OsStr::from_bytes(name)))
     }
 
     #[test]
@@ -417,7 +417,7 @@ mod tests {
         assert_eq!(shown(b""), "");
     }
 
-    /// What is a byte that is no text, and what spells its escape, look different.
+    /// A byte that is no text and a name that spells its escape look different.
     #[test]
     fn no_two_names_look_the_same() {
         let names: [&[u8]; 6] = [b"\n", b"\\x0A", b"\\\\x0A", "\u{A0}".as_bytes(), b"\\u{A0}", b"\xA0"];
@@ -438,7 +438,7 @@ mod tests {
         assert!(since((-5, 0)).is_some() && since((i64::MAX, 0)).is_none() && since((1, -1)).is_none());
     }
 
-    /// Leases, where the file system has them: one is had where nobody writes, none where somebody does, and it is lost to one who wants to.
+    /// If the file system has leases: we get one if nobody writes, none if somebody does, and lose it to one who wants to.
     #[test]
     fn leases() {
         let path = tempfile::NamedTempFile::new().unwrap().into_temp_path();

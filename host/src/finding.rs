@@ -1,23 +1,27 @@
-//! Finding files in what was named: folders are gone through in the order of names.
+//! The files that a command was given, and those that folders hold, in the order of names.
 
 use std::ffi::OsStr;
 use std::fs;
 use std::os::unix::ffi::OsStrExt;
 use std::path::{Path, PathBuf};
+use std::time::Duration;
 
 use globset::{Glob, GlobBuilder, GlobSet, GlobSetBuilder};
 use walkdir::{DirEntry, WalkDir};
 
 use crate::codes::Coded;
 use crate::files::{self, trouble, Opened};
+use crate::head::Form;
 use crate::library;
+use crate::output::note_of;
 
-/// Patterns such as `*.dcm` or `runs/**/late-?.xa`, as one of the options has them.
+/// A pattern such as `*.dcm` or `runs/**/late-?.xa`, as given on the command line.
 pub fn pattern(text: &str) -> Result<Glob, String> {
     GlobBuilder::new(text).literal_separator(true).build().map_err(|error| error.to_string())
 }
 
-/// Patterns, of which one without a slash is meant for names and one with a slash for whole paths.
+/// Patterns: those without a slash match names, those with a slash whole paths.
+#[derive(Default)]
 struct Patterns {
     names: GlobSet,
     paths: GlobSet,
@@ -39,7 +43,8 @@ impl Patterns {
     }
 }
 
-/// Which files are looked at.
+/// Which files are looked at; by default all.
+#[derive(Default)]
 pub struct Choice {
     include: Option<Patterns>,
     exclude: Patterns,
@@ -57,11 +62,36 @@ impl Choice {
     }
 }
 
-/// One thing to judge, or a folder that cannot be listed.
+/// What a command over files and folders was given.
+pub struct Inputs {
+    pub named: Vec<PathBuf>,
+    pub form: Form,
+    pub choice: Choice,
+    pub settle: Option<Duration>,
+    pub timeout: Option<Duration>,
+}
+
+impl Inputs {
+    /// All files of these paths, without waiting for any.
+    pub fn all(named: Vec<PathBuf>, form: Form) -> Inputs {
+        Inputs { named, form, choice: Choice::default(), settle: None, timeout: None }
+    }
+
+    /// The files, but not those in the folders `leave`, which luux fills. What is skipped is listed on standard error.
+    pub fn find<'a>(&self, leave: impl IntoIterator<Item = &'a Path>) -> Finding {
+        let finding = Finding::of(&self.named, leave, &self.choice);
+        for (path, reason) in &finding.skipped {
+            note_of(path, &format!("skipped: {reason}"));
+        }
+        finding
+    }
+}
+
+/// A file to look at, or a folder that cannot be listed.
 pub struct Found {
     pub path: PathBuf,
     pub unreadable: Option<String>,
-    /// Whether it was named itself, and not only a folder that it is in.
+    /// Whether it was named itself, and not only the folder that contains it.
     pub named: bool,
 }
 
@@ -69,15 +99,15 @@ pub struct Found {
 #[derive(Default)]
 pub struct Finding {
     pub found: Vec<Found>,
-    /// What stands in a folder and is not judged, with the reason.
+    /// What a folder holds and is not looked at, with the reason.
     pub skipped: Vec<(PathBuf, &'static str)>,
     /// How many were not chosen.
     pub left_out: usize,
 }
 
 impl Finding {
-    /// What the named files and folders hold. The folders `leave`, that of the slips and others that luux fills, are not gone into.
-    pub fn of<'a>(named: &[PathBuf], leave: impl IntoIterator<Item = &'a Path>, choice: &Choice) -> Finding {
+    /// What the named files and folders hold. The folders `leave` are not searched.
+    fn of<'a>(named: &[PathBuf], leave: impl IntoIterator<Item = &'a Path>, choice: &Choice) -> Finding {
         let leave: Vec<PathBuf> = leave.into_iter().filter_map(|folder| fs::canonicalize(folder).ok()).collect();
         let mut finding = Finding::default();
         for path in named {
@@ -85,7 +115,7 @@ impl Finding {
                 let before = finding.found.len() + finding.left_out;
                 finding.folder(path, &leave, choice);
                 if finding.found.len() + finding.left_out == before {
-                    finding.skipped.push((path.clone(), "there is no file in it"));
+                    finding.skipped.push((path.clone(), "it contains no files"));
                 }
             } else {
                 finding.file(path, true, choice);
@@ -107,7 +137,7 @@ impl Finding {
             match step {
                 Ok(entry) if entry.depth() == 0 => {}
                 Ok(entry) if entry.file_type().is_dir() => {
-                    if !self.goes_into(entry.path(), leave, choice) {
+                    if !self.enters(entry.path(), leave, choice) {
                         walk.skip_current_dir();
                     }
                 }
@@ -125,9 +155,9 @@ impl Finding {
         }
     }
 
-    fn goes_into(&mut self, path: &Path, leave: &[PathBuf], choice: &Choice) -> bool {
+    fn enters(&mut self, path: &Path, leave: &[PathBuf], choice: &Choice) -> bool {
         if !leave.is_empty() && fs::canonicalize(path).map_or(false, |path| leave.contains(&path)) {
-            self.skipped.push((path.to_path_buf(), "a folder that luux writes to is not judged"));
+            self.skipped.push((path.to_path_buf(), "luux writes to this folder"));
             return false;
         }
         let excluded = choice.exclude.match_path(path);
@@ -137,23 +167,23 @@ impl Finding {
 
     fn entry(&mut self, entry: &DirEntry, choice: &Choice) {
         let path = entry.path();
-        // A link is asked for what it leads to. One to a folder is not followed, so there are no endless walks.
+        // A link counts as what it leads to. Links to folders are not followed, so that the search ends.
         let reason = match fs::metadata(path) {
-            Ok(about) if about.is_dir() => "a link to a folder is not followed",
+            Ok(about) if about.is_dir() => "a link to a folder",
             Ok(about) if !about.is_file() => "not a regular file",
-            _ if files::is_draft(entry.file_name()) => "a draft of luux is not judged",
-            _ if is_slip(path) => "a verdict slip is not judged",
-            // One that cannot be asked gets its line when it is opened.
+            _ if files::is_draft(entry.file_name()) => "a draft that luux left behind",
+            _ if is_slip(path) => "a verdict slip",
+            // A file whose metadata cannot be read gets its line when it is opened.
             _ => return self.file(path, false, choice),
         };
         self.skipped.push((path.to_path_buf(), reason));
     }
 }
 
-/// The most bytes that are read to see whether a file is a slip.
+/// Larger files are not tested for being a slip.
 const SLIP_MOST: u64 = 64;
 
-/// Whether a file has the name of a slip, moved aside or not, and is one.
+/// Whether a file has the name of a slip, even of one moved aside, and is one.
 fn is_slip(path: &Path) -> bool {
     let name = path.file_name().unwrap_or(OsStr::new("")).as_bytes();
     (name.ends_with(b".slip") || name.windows(9).any(|part| part == b".slip.old"))

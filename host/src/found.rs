@@ -1,5 +1,5 @@
-//! What a refusal found: the values, counts and lengths that stand where the rule looks, or the header at which reading stopped. They are
-//! read from the rows and bytes by tag and item; which rule is broken, and at which frame, is the library's answer.
+//! What a refusal found: the values, counts and lengths where the rule looks, or the header at which reading stopped. They are read from the
+//! rows and bytes by tag and item; the library says which rule is broken, and at which frame.
 
 use serde::{Deserialize, Serialize};
 use serde_json::{json, Value as Json};
@@ -8,25 +8,21 @@ use crate::codes::{Code, Coded};
 use crate::head::has_long_header;
 use crate::library::Answer;
 use crate::looks::{Look, Place, LOOKS};
-use crate::names::{called, tag_text};
+use crate::names::{called, tag_text, tags};
 use crate::table::{Row, Table};
 use crate::values::{counted, Source};
 
-const SHARED_GROUPS: u32 = 0x5200_9229;
-const SOP_CLASS: u32 = 0x0008_0016;
-const MEDIA_SOP_CLASS: u32 = 0x0002_0002;
-
-/// The most characters of a value, items of a sequence, and findings, that are told.
+/// The most characters of a value, items of a sequence, and findings, that are printed.
 const MOST: usize = 400;
 const MOST_ITEMS: usize = 64;
 const MOST_FINDINGS: usize = 100;
 
-/// One thing that was found, or found absent.
+/// One thing that was found, or is absent.
 #[derive(Serialize, Deserialize)]
 pub struct Finding {
-    /// Its tag; 0 where it has none.
+    /// Its tag; 0 if it has none.
     pub tag: u32,
-    /// Its row; 0 where it has none.
+    /// Its row; 0 if it has none.
     pub row: u32,
     pub text: String,
 }
@@ -48,12 +44,12 @@ impl Finding {
     }
 }
 
-/// All findings in a line.
+/// All findings on one line.
 pub fn line(found: &[Finding]) -> String {
     found.iter().map(|finding| finding.text.as_str()).collect::<Vec<_>>().join("; ")
 }
 
-/// An item in which elements are looked for: its row, 0 for the root, and what it is called, nothing for the root.
+/// An item in which elements are looked for: its row and what it is called; for the root 0 and nothing.
 #[derive(Clone)]
 struct Holder {
     row: u32,
@@ -61,8 +57,8 @@ struct Holder {
 }
 
 impl Holder {
-    /// What it is called behind a word; nothing for the root.
-    fn behind(&self, word: &str) -> String {
+    /// What it is called, after a word; nothing for the root.
+    fn after(&self, word: &str) -> String {
         match self.called.as_str() {
             "" => String::new(),
             called => format!(" {word} {called}"),
@@ -83,7 +79,7 @@ impl<'a> Search<'a> {
     }
 
     fn shared(&self) -> Option<Holder> {
-        let item = self.source.table.items(0, SHARED_GROUPS).next()?;
+        let item = self.source.table.items(0, tags::SHARED_FUNCTIONAL_GROUPS_SEQUENCE).next()?;
         Some(Holder { row: item.number, called: String::from("the shared item") })
     }
 
@@ -133,7 +129,7 @@ impl<'a> Search<'a> {
         }
     }
 
-    /// An element, told in some way, or that it is absent.
+    /// An element, as `tell` prints it, or that it is absent.
     fn element(
         &mut self,
         place: Place,
@@ -146,9 +142,9 @@ impl<'a> Search<'a> {
             return;
         };
         let text = match &row {
-            Some(row) => format!("{}{}", tell(&self.source, row), holder.behind("in")),
+            Some(row) => format!("{}{}", tell(&self.source, row), holder.after("in")),
             None if given => return,
-            None => format!("{} absent{}", called(tag), holder.behind("from")),
+            None => format!("{} absent{}", called(tag), holder.after("from")),
         };
         self.add(Finding::of(tag, row.as_ref(), text));
     }
@@ -159,7 +155,7 @@ impl<'a> Search<'a> {
         };
         let items = self.source.table.members(sequence.number);
         for (place, item) in items.take(MOST_ITEMS).enumerate() {
-            let called = format!("item {} of {}{}", place + 1, tag_text(tag), holder.behind("of"));
+            let called = format!("item {} of {}{}", place + 1, tag_text(tag), holder.after("of"));
             for look in looks {
                 self.look(look, &Holder { row: item.number, called: called.clone() });
             }
@@ -173,7 +169,7 @@ impl<'a> Search<'a> {
         };
         for row in table.members(own.row).filter(Row::is_sequence) {
             if table.element(shared.row, row.tag).map_or(false, |other| other.is_sequence()) {
-                let text = format!("{}{}{}", called(row.tag), shared.behind("in"), own.behind("and in"));
+                let text = format!("{}{}{}", called(row.tag), shared.after("in"), own.after("and in"));
                 self.add(Finding::of(row.tag, Some(&row), text));
             }
         }
@@ -188,7 +184,7 @@ impl<'a> Search<'a> {
             Some((row, self.own(frame)?))
         };
         if let Some((row, holder)) = shared.or_else(own) {
-            self.add(Finding::of(tag, Some(&row), format!("{}{}", called(tag), holder.behind("in"))));
+            self.add(Finding::of(tag, Some(&row), format!("{}{}", called(tag), holder.after("in"))));
         }
     }
 
@@ -230,7 +226,7 @@ impl Source<'_> {
         }
     }
 
-    /// A value that is one number, in digits or in two bytes.
+    /// A value that is one number, as text or in two bytes.
     fn number(&self, row: &Row) -> Option<u64> {
         self.value(row, MOST).trim_matches('"').trim().parse().ok()
     }
@@ -251,7 +247,7 @@ fn hexadecimal(bytes: &[u8]) -> String {
     bytes.iter().map(|byte| format!("{byte:02X}")).collect::<Vec<_>>().join(" ")
 }
 
-/// The two letters of a VR, or two bytes that are none.
+/// The two letters of a VR, or two bytes that are no letters.
 fn letters(bytes: &[u8]) -> String {
     match bytes.iter().all(u8::is_ascii_alphanumeric) {
         true => format!("\"{}\"", String::from_utf8_lossy(bytes)),
@@ -266,12 +262,12 @@ fn length_text(length: u32) -> String {
     }
 }
 
-/// A header, as far as there are bytes of it. An item or delimiter has no VR; how long a length is depends on the VR.
+/// A header, as far as its bytes go. Items and delimiters have no VR; the size of a length depends on the VR.
 fn header(bytes: &[u8]) -> Finding {
     let Some(&[a, b, c, d, e, f, g, h]) = bytes.get(..8) else {
         return Finding::plain(match bytes {
-            [] => String::from("no byte is left"),
-            few => format!("{} left, {}", counted(few.len(), "byte"), hexadecimal(few)),
+            [] => String::from("no bytes left"),
+            few => format!("{} left: {}", counted(few.len(), "byte"), hexadecimal(few)),
         });
     };
     let tag = u32::from_le_bytes([c, d, a, b]);
@@ -291,16 +287,14 @@ fn header(bytes: &[u8]) -> Finding {
                 12,
             )
         }
-        (_, None) if has_long_header(vr) => {
-            (format!("{}, VR {}, and no length", called(tag), letters(&vr)), bytes.len())
-        }
+        (_, None) if has_long_header(vr) => (format!("{}, VR {}, no length", called(tag), letters(&vr)), bytes.len()),
         _ => (format!("{}, VR {}, length {}", called(tag), letters(&vr), u16::from_le_bytes([g, h])), 8),
     };
-    let behind = counted(bytes.len() - size.min(bytes.len()), "byte");
-    Finding { tag, row: 0, text: format!("{text}, with {behind} of the data set behind that header") }
+    let after = counted(bytes.len() - size.min(bytes.len()), "byte");
+    Finding { tag, row: 0, text: format!("{text}, followed by {after}") }
 }
 
-/// What stands where reading stopped, and which element of the root it follows where that is known.
+/// The header at which reading stopped, and the element of the root before it, if that is known.
 pub fn by_code(data: &[u8], answer: &Answer, before: Table) -> Vec<Finding> {
     match answer.code() {
         code if code.is_of_a_header() => {
@@ -319,7 +313,7 @@ pub fn by_code(data: &[u8], answer: &Answer, before: Table) -> Vec<Finding> {
     }
 }
 
-/// What stands in a file's head where it is refused. The head's elements read as a data set of their own.
+/// What was found in a file's head that is refused. The elements of a head read as a data set of their own.
 pub fn by_head(file: &[u8], answer: &Answer, head: &Source, data: &Source) -> Vec<Finding> {
     match (answer.code(), file.get(128..132)) {
         (Code::NotAFile, Some(mark)) => vec![Finding::plain(format!("bytes 128 to 131 are {}", hexadecimal(mark)))],
@@ -327,7 +321,7 @@ pub fn by_head(file: &[u8], answer: &Answer, head: &Source, data: &Source) -> Ve
         (Code::BadHead, _) => vec![header(file.get(132..).unwrap_or_default())],
         (Code::OtherSopClass, _) => {
             let mut found = Vec::new();
-            for (source, tag) in [(head, MEDIA_SOP_CLASS), (data, SOP_CLASS)] {
+            for (source, tag) in [(head, tags::MEDIA_STORAGE_SOP_CLASS_UID), (data, tags::SOP_CLASS_UID)] {
                 let row = source.table.root(tag);
                 let text = row.as_ref().map_or_else(|| format!("{} absent", called(tag)), |row| source.told(row));
                 found.push(Finding { tag, row: 0, text });

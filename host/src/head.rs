@@ -1,5 +1,5 @@
-//! Files and bare data sets, and what is said of them. Display text only: which bytes are the data set, and whether a file's head is
-//! good, is the library's answer.
+//! Files and bare data sets, and what is printed about them. The library says which bytes are the data set, and whether a file's head is
+//! good; the text here is only for display.
 
 use serde::{Deserialize, Serialize};
 
@@ -8,11 +8,12 @@ use crate::codes::{Code, Coded};
 use crate::found::{self, Finding};
 use crate::identity::Identity;
 use crate::library::{self, Answer};
+use crate::names::tags;
 use crate::sentences;
 use crate::table::Table;
 use crate::values::Source;
 
-/// What the named files are. It is said by the caller and never guessed.
+/// What the files are. The user says so; it is never guessed.
 #[derive(Clone, Copy, PartialEq, Eq)]
 pub enum Form {
     /// DICOM files with their heads.
@@ -44,7 +45,7 @@ impl Form {
         }
     }
 
-    /// Where the data set starts. Of a file whose head is refused, 0.
+    /// Where the data set starts; 0 in a file whose head is refused.
     pub fn start(self, content: &[u8]) -> usize {
         match self {
             Form::File => library::data_set(content).start,
@@ -53,11 +54,11 @@ impl Form {
     }
 }
 
-/// What the library answered about a file, and what helps the sender.
+/// The library's answer about a file, and what helps the sender.
 #[derive(Serialize, Deserialize)]
 pub struct Judged {
     pub answer: Answer,
-    /// The row of the frame's item, where a rule is broken at a frame; else 0.
+    /// The row of the frame's item if a rule is broken at a frame; else 0.
     pub item_row: u32,
     /// Where the data set starts in the file; nothing for a bare data set.
     pub start: Option<usize>,
@@ -72,7 +73,7 @@ impl Judged {
         let item_row = table.frame_item(answer.frame).map_or(0, |item| item.number);
         let start = (form == Form::File).then(|| form.start(content));
         let hint = match answer.code() {
-            Code::NotAFile => Some(String::from("a bare data set is taken with --bare")),
+            Code::NotAFile => Some(String::from("to read a data set without a head, use --bare")),
             Code::OtherTransferSyntax => Some(wanted(content)),
             _ => None,
         };
@@ -80,7 +81,7 @@ impl Judged {
         Judged { answer, item_row, start, hint, found, identity }
     }
 
-    /// The answer in a line, with what was found and the hint where there are such.
+    /// The answer on a line, with what was found and the hint, if there are any.
     pub fn line(&self) -> String {
         let mut text = sentences::answer(&self.answer, self.item_row, self.start);
         if !self.found.is_empty() {
@@ -97,7 +98,7 @@ impl Judged {
     }
 }
 
-/// The rows of a data set, or of what stands before the header at which reading it stops; none where that does not read by itself.
+/// The rows of a data set, or of the part before the header at which reading stops; none if that part does not read by itself.
 fn rows_of(data: &[u8]) -> (RowBuffer, u32) {
     let mut buffer = RowBuffer::default();
     let mut end = data.len();
@@ -116,8 +117,8 @@ fn rows_of(data: &[u8]) -> (RowBuffer, u32) {
     (buffer, 0)
 }
 
-/// A file's head without its mark, and the data set behind it, as the head's own length says; nothing where that says nothing. For print: of
-/// a head that is refused the library says no start.
+/// A file's head without its mark, and the data set after it, by the length that the head gives; nothing if it gives none. Only for print:
+/// the library gives no start for a head that it refuses.
 fn parts(form: Form, content: &[u8]) -> (&[u8], &[u8]) {
     let length = match content.get(132..144) {
         _ if form == Form::Bare => return (&[], content),
@@ -128,10 +129,10 @@ fn parts(form: Form, content: &[u8]) -> (&[u8], &[u8]) {
     (&content[132..end], &content[end..])
 }
 
-/// What a refusal found, and what the run is called by.
+/// What a refusal found, and what identifies the run.
 fn quoted(form: Form, content: &[u8], answer: &Answer, table: Table) -> (Vec<Finding>, Identity) {
     let (head, data) = parts(form, content);
-    // With these codes the library hands the rows over and says how many.
+    // With these codes the library has written the rows and says how many there are.
     if matches!(answer.code(), Code::Done | Code::RuleBroken) {
         let source = Source::of(data, table);
         return (found::by_rule(source, answer), Identity::of(&source));
@@ -150,19 +151,17 @@ pub fn has_long_header(vr: [u8; 2]) -> bool {
     matches!(&vr, b"OB" | b"OD" | b"OF" | b"OL" | b"OV" | b"OW" | b"SQ" | b"SV" | b"UC" | b"UN" | b"UR" | b"UT" | b"UV")
 }
 
-/// Which transfer syntax it is, and which the sender should send.
+/// Which transfer syntax it is, and which one to ask for.
 fn wanted(content: &[u8]) -> String {
-    let found = match uid(content, TRANSFER_SYNTAX) {
+    let found = match uid(content, tags::TRANSFER_SYNTAX_UID) {
         Some(uid) => match syntax_name(&uid) {
             Some(name) => format!("it is {name} ({uid})"),
             None => format!("it is {uid}"),
         },
         None => String::from("its head names another"),
     };
-    format!("{found}; ask the sender for Explicit VR Little Endian (1.2.840.10008.1.2.1), not compressed")
+    format!("{found}; ask the sender for Explicit VR Little Endian (1.2.840.10008.1.2.1), uncompressed")
 }
-
-const TRANSFER_SYNTAX: u32 = 0x0002_0010;
 
 /// The value of a UID in a file's head, for print.
 pub fn uid(content: &[u8], tag: u32) -> Option<String> {
@@ -187,7 +186,7 @@ pub fn uid(content: &[u8], tag: u32) -> Option<String> {
     }
 }
 
-/// A UID without the byte that makes its length even.
+/// A UID without its padding.
 pub fn uid_text(value: &[u8]) -> Option<String> {
     let letters = value.iter().take_while(|&&byte| byte != 0);
     Some(letters.map(|&byte| if byte.is_ascii_graphic() { byte as char } else { '?' }).take(64).collect())

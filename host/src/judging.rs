@@ -1,4 +1,4 @@
-//! `luux judge`: several files at a time, one line for each in the order in which they were found.
+//! `luux judge`: several files in parallel, one line for each, in the order in which they were found.
 
 use std::collections::{BTreeMap, HashMap};
 use std::io::{self, Write};
@@ -6,7 +6,6 @@ use std::path::{Path, PathBuf};
 use std::sync::atomic::{AtomicBool, Ordering};
 use std::sync::mpsc::{channel, Sender};
 use std::thread;
-use std::time::Duration;
 
 use indicatif::{ProgressBar, ProgressDrawTarget, ProgressStyle};
 use rayon::iter::{ParallelBridge, ParallelIterator};
@@ -15,54 +14,38 @@ use serde_json::Value;
 use crate::buffer::RowBuffer;
 use crate::codes::Coded;
 use crate::files::{self, State};
-use crate::finding::{Choice, Finding, Found};
+use crate::finding::{Finding, Found, Inputs};
 use crate::found;
-use crate::head::{Form, Judged};
+use crate::head::Judged;
 use crate::keeping::{self, Keeping, Kept};
 use crate::library::STACK;
 use crate::looking::{self, Looked, What};
 use crate::output::{line, note, note_of, Object, Status};
 use crate::settling::Settling;
+use crate::values::counted;
 
 /// What `luux judge` was asked.
 pub struct Wanted {
-    pub named: Vec<PathBuf>,
-    pub form: Form,
-    pub choice: Choice,
+    pub inputs: Inputs,
     pub keeping: Keeping,
-    pub settle: Option<Duration>,
-    pub timeout: Option<Duration>,
     pub json: bool,
     pub jobs: usize,
-    /// Whether the run's identity is told below its line, and whether the patient's is.
+    /// Whether to print the run's identity below its line, and whether to print the patient's.
     pub long: bool,
     pub patient: bool,
-    /// Whether the sum of the searches is told of what is accepted.
+    /// Whether to print the sum of the searches of an accepted run.
     pub searches: bool,
 }
 
 impl Wanted {
-    /// To judge what is named, and nothing else.
-    pub fn of(named: Vec<PathBuf>, form: Form, jobs: usize) -> Result<Wanted, String> {
-        let choice = Choice::of(&[], &[])?;
+    /// Lines about these files, and nothing else.
+    pub fn lines(inputs: Inputs, jobs: usize) -> Wanted {
         let keeping = Keeping::default();
-        Ok(Wanted {
-            named,
-            form,
-            choice,
-            keeping,
-            settle: None,
-            timeout: None,
-            json: false,
-            jobs,
-            long: false,
-            patient: false,
-            searches: false,
-        })
+        Wanted { inputs, keeping, json: false, jobs, long: false, patient: false, searches: false }
     }
 }
 
-/// What is said of one file.
+/// What is printed about one file.
 struct Report {
     looked: Looked,
     kept: Kept,
@@ -96,7 +79,7 @@ impl Report {
         text
     }
 
-    /// The lines below the first: what the run is called by.
+    /// The lines below the first: what identifies the run.
     fn identity(&self, patient: bool) -> String {
         match &self.looked {
             Looked::Judged(judged) => judged.identity.lines(patient),
@@ -104,7 +87,7 @@ impl Report {
         }
     }
 
-    /// One object: `path`, `verdict`, then the answer's numbers and its sentence, or the error.
+    /// One object: `path`, `verdict`, then the numbers and the sentence of the answer, or the error.
     fn json(&self, path: &Path, patient: bool) -> String {
         let mut object = Object::about(path);
         match &self.looked {
@@ -151,7 +134,7 @@ struct Batch<'a> {
 
 impl<'a> Batch<'a> {
     fn of(wanted: &'a Wanted, found: &'a [Found]) -> Batch<'a> {
-        Batch { wanted, found, settling: Settling::of(found, wanted.settle) }
+        Batch { wanted, found, settling: Settling::of(found, wanted.inputs.settle) }
     }
 
     fn look(&self, number: usize, buffer: &mut RowBuffer) -> Looked {
@@ -162,13 +145,14 @@ impl<'a> Batch<'a> {
         if let Some(why) = self.settling.arriving(number) {
             return Looked::Arriving(why);
         }
-        let looked = match self.wanted.timeout {
+        let inputs = &self.wanted.inputs;
+        let looked = match inputs.timeout {
             Some(limit) => {
-                looking::within(limit, What::Verdict, &one.path, self.wanted.form).unwrap_or_else(Looked::Trouble)
+                looking::within(limit, What::Verdict, &one.path, inputs.form).unwrap_or_else(Looked::Trouble)
             }
-            None => looking::here(&one.path, self.wanted.form, buffer),
+            None => looking::here(&one.path, inputs.form, buffer),
         };
-        // With --settle, one that changed meanwhile is arriving too.
+        // With --settle, a file that changed meanwhile is arriving too.
         match looked {
             Looked::Trouble(trouble) => match self.settling.arriving(number) {
                 Some(why) => Looked::Arriving(why),
@@ -189,11 +173,11 @@ impl<'a> Batch<'a> {
         Report { looked, kept, named: one.named }
     }
 
-    /// Judges one file after another on as many threads as were asked for, until there is none left, or none wanted.
+    /// Judges one file after another on as many threads as were asked for, until none is left or `stop` is set.
     fn judge(&self, stop: &AtomicBool, reports: &Sender<(usize, Report)>) {
         let one = |buffer: &mut RowBuffer, number: usize| {
             if !stop.load(Ordering::Relaxed) {
-                // Nobody listens only where nothing is wanted any more.
+                // Nobody receives only when no more lines are wanted.
                 let _ = reports.send((number, self.report(number, buffer)));
             }
         };
@@ -202,7 +186,7 @@ impl<'a> Batch<'a> {
             rayon::ThreadPoolBuilder::new().stack_size(STACK).num_threads(self.wanted.jobs.min(self.found.len()));
         match pool.build() {
             Ok(pool) => pool.install(|| numbers.par_bridge().for_each_init(RowBuffer::default, one)),
-            // Without threads the same is done one by one.
+            // Without threads the files are judged one by one.
             Err(_) => {
                 let mut buffer = RowBuffer::default();
                 numbers.for_each(|number| one(&mut buffer, number));
@@ -211,7 +195,7 @@ impl<'a> Batch<'a> {
     }
 }
 
-/// Two different files whose slips would be one file.
+/// Two different files whose slips would have the same name.
 fn same_slip<'a>(found: &'a [Found], folder: &Path) -> Option<(&'a Path, &'a Path)> {
     let mut taken: HashMap<PathBuf, &Path> = HashMap::new();
     for one in found {
@@ -228,7 +212,7 @@ fn same_slip<'a>(found: &'a [Found], folder: &Path) -> Option<(&'a Path, &'a Pat
     None
 }
 
-/// A bar on standard error, where that is a terminal and there is more than one file.
+/// A progress bar on standard error, if that is a terminal and there is more than one file.
 pub fn progress(files: usize) -> ProgressBar {
     if files < 2 {
         return ProgressBar::hidden();
@@ -240,7 +224,7 @@ pub fn progress(files: usize) -> ProgressBar {
     bar
 }
 
-/// How many files got which end.
+/// How many files ended in which way.
 #[derive(Default)]
 struct Counts {
     accepted: usize,
@@ -270,10 +254,9 @@ impl Counts {
     }
 
     fn text(&self, finding: &Finding) -> String {
-        let files = self.files();
         let mut text = format!(
-            "{files} {}: {} accepted, {} refused, {} could not be read",
-            if files == 1 { "file" } else { "files" },
+            "{}: {} accepted, {} refused, {} could not be read",
+            counted(self.files(), "file"),
             self.accepted,
             self.refused,
             self.unread
@@ -281,7 +264,10 @@ impl Counts {
         for (count, what) in [
             (self.others, "not ours"),
             (self.arriving, "arriving"),
-            (self.slips_lost, "slips could not be written"),
+            (
+                self.slips_lost,
+                if self.slips_lost == 1 { "slip could not be written" } else { "slips could not be written" },
+            ),
             (self.not_moved, "could not be moved"),
             (finding.skipped.len(), "skipped"),
             (finding.left_out, "left out by --include or --exclude"),
@@ -332,8 +318,8 @@ impl Printing<'_> {
     }
 }
 
-/// Judges on several threads, and prints on this one. Where standard output cannot be written, the threads stop too; but they go on
-/// where slips are to be written or files to be moved.
+/// Judges on several threads, and prints on this one. If standard output cannot be written, the threads stop too, unless slips are to be
+/// written or files to be moved.
 fn judge_all(batch: &Batch, printing: &mut Printing) -> io::Result<()> {
     let stop = AtomicBool::new(false);
     let goes_on = batch.wanted.keeping.folders().next().is_some();
@@ -342,7 +328,7 @@ fn judge_all(batch: &Batch, printing: &mut Printing) -> io::Result<()> {
         let (stop, here) = (&stop, reports.clone());
         let judge = move || batch.judge(stop, &reports);
         if thread::Builder::new().stack_size(STACK).spawn_scoped(scope, judge).is_err() {
-            // Without threads the same is done first, and printed then.
+            // Without another thread all files are judged first, and then printed.
             batch.judge(stop, &here);
         }
         drop(here);
@@ -357,25 +343,28 @@ fn judge_all(batch: &Batch, printing: &mut Printing) -> io::Result<()> {
     })
 }
 
-/// What was named, unless there is nothing to judge or two files would share a slip.
+/// The files, unless there are none or two would share a slip.
 fn find(wanted: &Wanted) -> Option<Finding> {
-    let finding = Finding::of(&wanted.named, wanted.keeping.folders(), &wanted.choice);
-    for (path, reason) in &finding.skipped {
-        note_of(path, &format!("skipped: {reason}"));
-    }
+    let finding = wanted.inputs.find(wanted.keeping.folders());
     if finding.found.is_empty() {
-        note("nothing was judged: there is no file in what was named");
+        note("nothing was judged: no files were found");
         return None;
     }
     if let Some((one, other)) = wanted.keeping.slips.as_deref().and_then(|folder| same_slip(&finding.found, folder)) {
-        note_of(one, "its slip would have the same name as that of the next file; judge them in two runs");
-        note_of(other, "nothing was judged");
+        note_of(
+            one,
+            &format!(
+                "its slip would have the same name as that of {}; judge the two separately",
+                files::printed(other)
+            ),
+        );
+        note("nothing was judged");
         return None;
     }
     Some(finding)
 }
 
-/// Judges what was named and prints the lines. An error is one of standard output.
+/// Judges the files and prints the lines. An error is one of standard output.
 pub fn run(wanted: &Wanted, out: &mut dyn Write) -> io::Result<Status> {
     let finding = match find(wanted) {
         Some(finding) => finding,
@@ -405,7 +394,7 @@ pub fn run(wanted: &Wanted, out: &mut dyn Write) -> io::Result<Status> {
         writeln!(printing.out, "{summary}")?;
     }
     if printing.counts.others == printing.counts.files() {
-        note("nothing was judged: there is no run in what was named");
+        note("nothing was judged: no runs were found");
         return Ok(Status::Failed);
     }
     Ok(printing.status)

@@ -13,16 +13,16 @@ use crate::output::Object;
 /// Where slips are written, and where files are moved to.
 #[derive(Default, clap::Args)]
 pub struct Keeping {
-    /// Write the verdict on each FILE to DIR/FILE.slip, folders as in FILE
+    /// Write the verdict on each FILE to DIR/FILE.slip, keeping the folders of FILE
     ///
-    /// A slip is written whole or not at all. A file that gets no verdict on its data set gets none; an older slip of it is moved aside, to
+    /// A slip is written whole or not at all. A file without a verdict on its data set gets no slip; an older slip of it is moved aside, to
     /// FILE.slip.old.
     #[arg(long, value_name = "DIR")]
     pub slips: Option<PathBuf>,
-    /// Move each accepted FILE to DIR/FILE, by renaming, never over a file that is there
+    /// Move each accepted FILE to DIR/FILE by renaming it; existing files are never overwritten
     #[arg(long, value_name = "DIR")]
     pub move_accepted: Option<PathBuf>,
-    /// Move each refused FILE to DIR/FILE, likewise
+    /// Move each refused FILE to DIR/FILE in the same way
     #[arg(long, value_name = "DIR")]
     pub move_refused: Option<PathBuf>,
 }
@@ -36,12 +36,12 @@ pub struct Kept {
 }
 
 impl Keeping {
-    /// The folders that are filled.
+    /// The folders that luux fills.
     pub fn folders(&self) -> impl Iterator<Item = &Path> {
         [&self.slips, &self.move_accepted, &self.move_refused].into_iter().flatten().map(PathBuf::as_path)
     }
 
-    /// Keeps what is to be kept of a file that was in a state before it was looked at.
+    /// Keeps what is to be kept of a file. `before` is the state that it had before it was judged.
     pub fn keep(&self, path: &Path, before: Option<State>, looked: &Looked) -> Kept {
         let mut kept = Kept::default();
         let verdict = match looked {
@@ -59,7 +59,7 @@ impl Keeping {
             verdict.and_then(
                 |answer| if answer.is_done() { self.move_accepted.as_ref() } else { self.move_refused.as_ref() },
             );
-        // One whose slip is missing stays for the next time.
+        // A file whose slip is missing stays for the next time.
         if let (Some(folder), false) = (folder, kept.failed()) {
             let to = under(folder, path);
             let moved = rename(path, before, &to);
@@ -82,7 +82,7 @@ impl Kept {
         self.slip_failed() || self.move_failed()
     }
 
-    /// What is said of it behind the verdict: further sentences where that is one, else parts of the same line.
+    /// What follows the verdict on its line: sentences if the verdict ends in one, else more parts of it.
     pub fn behind(&self, verdict: &str) -> String {
         let mut text = String::new();
         for part in self.parts() {
@@ -97,16 +97,16 @@ impl Kept {
     fn parts(&self) -> Vec<String> {
         let mut parts = Vec::new();
         if let Some((path, Err(trouble))) = &self.slip {
-            parts.push(format!("its slip {} cannot be written: {trouble}", shown(path)));
+            parts.push(format!("its slip {} cannot be written: {trouble}", files::printed(path)));
         }
         match &self.aside {
-            Some(Ok(path)) => parts.push(format!("its old slip was moved aside to {}", shown(path))),
+            Some(Ok(path)) => parts.push(format!("its old slip was moved aside to {}", files::printed(path))),
             Some(Err(trouble)) => parts.push(format!("its old slip cannot be moved aside: {trouble}")),
             None => {}
         }
         match &self.moved {
-            Some((path, Ok(()))) => parts.push(format!("moved to {}", shown(path))),
-            Some((path, Err(trouble))) => parts.push(format!("not moved to {}: {trouble}", shown(path))),
+            Some((path, Ok(()))) => parts.push(format!("moved to {}", files::printed(path))),
+            Some((path, Err(trouble))) => parts.push(format!("not moved to {}: {trouble}", files::printed(path))),
             None => {}
         }
         parts
@@ -131,11 +131,7 @@ impl Kept {
     }
 }
 
-fn shown(path: &Path) -> String {
-    String::from_utf8_lossy(&files::printed(path)).into_owned()
-}
-
-/// A path as it was named, under a folder. Of `/` and `..` nothing is kept.
+/// A path as it was named, under a folder. Any `/` at its start and any `..` are left out.
 fn under(folder: &Path, file: &Path) -> PathBuf {
     let mut path = folder.to_path_buf();
     path.extend(file.components().filter(|part| matches!(part, Component::Normal(_))));
@@ -161,7 +157,7 @@ fn write_slip(path: &Path, answer: Answer) -> Result<(), String> {
     }
 }
 
-/// Moves a slip, if there is one, to a name that no file has.
+/// Moves a slip, if there is one, to a name that no file has yet.
 fn set_aside(slip: &Path) -> Option<Result<PathBuf, String>> {
     if fs::symlink_metadata(slip).is_err() {
         return None;
@@ -178,21 +174,21 @@ fn set_aside(slip: &Path) -> Option<Result<PathBuf, String>> {
     None
 }
 
-/// The number of the error that a file cannot be renamed into another file system.
+/// EXDEV: a file cannot be renamed into another file system.
 const OTHER_DEVICE: i32 = 18;
 
-/// Moves a file that is still in the state in which it was before it was judged.
+/// Moves a file that still has the state that it had before it was judged.
 fn rename(path: &Path, before: Option<State>, to: &Path) -> Result<(), String> {
     if fs::symlink_metadata(path).map_or(false, |about| about.file_type().is_symlink()) {
         return Err(String::from("it is a link"));
     }
     if before.is_none() || State::at(path).ok() != before {
-        return Err(String::from("it changed since it was judged"));
+        return Err(String::from("it has changed since it was judged"));
     }
     let made = to.parent().map_or(Ok(()), fs::create_dir_all);
     made.and_then(|()| files::rename_new(path, to)).map_err(|error| match error.raw_os_error() {
-        _ if error.kind() == io::ErrorKind::AlreadyExists => String::from("there is a file of that name"),
-        Some(OTHER_DEVICE) => String::from("it is on another file system, and files are only renamed"),
+        _ if error.kind() == io::ErrorKind::AlreadyExists => String::from("that file exists already"),
+        Some(OTHER_DEVICE) => String::from("it is on another file system, and luux only renames files"),
         _ => files::trouble(&error),
     })
 }

@@ -1,9 +1,9 @@
-//! The calls of the proved library that the tool makes, memory for files and rows, the lease on a file and its mapping. All `unsafe` code of
-//! the host is here.
+//! The calls of the proved library that the tool makes, memory for files and rows, and leases and mappings of files. All `unsafe` code of the
+//! host is here.
 //!
-//! `include/luuxidgaan.h` says what the calls answer. Of the caller they ask two things: each pointer has as many
-//! elements behind it as its size says, and buffers do not overlap. Slices are so: a shared slice is not changed while
-//! it is lent, and a mutable one is nobody else's.
+//! `include/luuxidgaan.h` says what the calls answer. They ask two things of the caller: each pointer leads to as many
+//! elements as its size says, and buffers do not overlap. Slices guarantee both: a shared slice does not change while it is lent, and
+//! a mutable one belongs to nobody else.
 
 #![allow(unsafe_code)]
 
@@ -72,29 +72,17 @@ pub struct Compared {
     pub count: u32,
 }
 
-impl Coded for Answer {
-    fn number(&self) -> u32 {
-        self.code
-    }
+macro_rules! coded {
+    ($($answer:ty),+) => {
+        $(impl Coded for $answer {
+            fn number(&self) -> u32 {
+                self.code
+            }
+        })+
+    };
 }
 
-impl Coded for Slip {
-    fn number(&self) -> u32 {
-        self.code
-    }
-}
-
-impl Coded for Part {
-    fn number(&self) -> u32 {
-        self.code
-    }
-}
-
-impl Coded for Rewritten {
-    fn number(&self) -> u32 {
-        self.code
-    }
-}
+coded!(Answer, Slip, Part, Rewritten);
 
 impl Coded for Compared {
     fn number(&self) -> u32 {
@@ -102,14 +90,14 @@ impl Coded for Compared {
     }
 }
 
-/// The same refusal, as an answer.
+/// The same code and offset as an answer.
 impl From<Rewritten> for Answer {
     fn from(refused: Rewritten) -> Answer {
         Answer { code: refused.code, offset: refused.offset, ..Answer::default() }
     }
 }
 
-/// The stack that a thread has which makes calls. The header says that one takes 1,070,000 bytes at most.
+/// The stack of a thread that makes calls. The header says that no call needs more than 1,070,000 bytes.
 pub const STACK: usize = 2 << 20;
 
 /// The bytes of a slip.
@@ -194,7 +182,7 @@ pub fn read(data: &[u8], rows: &mut [u32]) -> Answer {
     unsafe { xa_read(data.as_ptr(), data.len(), rows.as_mut_ptr(), rows.len()) }
 }
 
-/// How many rows a data set has; none where it does not read.
+/// How many rows a data set has; 0 if it does not read.
 pub fn count(data: &[u8]) -> usize {
     // Sound: the call reads within `data` alone and writes nothing.
     let answer = unsafe { xa_count(data.as_ptr(), data.len()) };
@@ -290,13 +278,13 @@ pub fn read_slip(slip: &[u8]) -> Slip {
     unsafe { xa_read_slip(slip.as_ptr(), slip.len()) }
 }
 
-/// Memory of our own that no allocator keeps: it goes back to the system as soon as it is dropped, and pages that nobody writes to
-/// take none. It is all zeros at first.
+/// Zeroed memory that bypasses the allocator: it goes back to the system as soon as it is dropped, and pages that nobody writes to
+/// take none.
 #[derive(Default)]
 pub struct Memory(Option<memmap2::MmapMut>);
 
 impl Memory {
-    /// So many bytes, if there is memory for them.
+    /// `size` bytes, if there is memory for them.
     pub fn of(size: usize) -> io::Result<Memory> {
         if size == 0 {
             return Ok(Memory(None));
@@ -314,7 +302,7 @@ impl Memory {
 
     /// The same bytes as numbers.
     pub fn numbers(&self) -> &[u32] {
-        // Sound: any four bytes are a number. Pages start at multiples of four, so no byte is left over in front.
+        // Sound: any four bytes are a number. Pages start at multiples of four, so no byte is skipped in front.
         unsafe { self.bytes().align_to().1 }
     }
 
@@ -324,17 +312,17 @@ impl Memory {
     }
 }
 
-/// A lease on a file (fcntl(2), F_SETLEASE). While it is held nobody has the file open for writing, nor a mapping of it to write to; whoever
-/// opens it so is held back until it is given back, but not longer than /proc/sys/fs/lease-break-time says.
+/// A lease on a file (fcntl(2), F_SETLEASE). While it is held nobody has the file open for writing or mapped to write; whoever opens it for
+/// writing waits until the lease is given back, but no longer than /proc/sys/fs/lease-break-time says.
 pub struct Lease<'a>(&'a File);
 
-/// Numbers of Linux that the crate has not; they are the same on every machine that Debian runs on.
+/// Numbers of Linux that the crate libc lacks; they are the same on every machine that Debian runs on.
 const SET_SIGNAL: libc::c_int = 10;
 const SET_LEASE: libc::c_int = 1024;
 const GET_LEASE: libc::c_int = 1025;
 
 fn control(file: &File, what: libc::c_int, value: libc::c_int) -> io::Result<libc::c_int> {
-    // Sound: the file is open as long as it is borrowed, and with these words the call takes a number and follows no pointer.
+    // Sound: the file stays open while it is borrowed, and these commands take a number and follow no pointer.
     match unsafe { libc::fcntl(file.as_raw_fd(), what, value) } {
         -1 => Err(io::Error::last_os_error()),
         answer => Ok(answer),
@@ -342,15 +330,15 @@ fn control(file: &File, what: libc::c_int, value: libc::c_int) -> io::Result<lib
 }
 
 impl Lease<'_> {
-    /// The lease. The error is `WouldBlock` where somebody has the file open for writing; another where there are no leases, or none for us.
+    /// Takes the lease. The error is `WouldBlock` if somebody has the file open for writing, and another if we cannot have leases.
     pub fn take(file: &File) -> io::Result<Lease<'_>> {
-        // Whoever wants to write is told to us by a signal. The usual one would end the process; this one does nothing.
+        // A signal says that somebody wants to write. The usual one would end the process; this one does nothing.
         control(file, SET_SIGNAL, libc::SIGURG)?;
         control(file, SET_LEASE, libc::F_RDLCK as libc::c_int)?;
         Ok(Lease(file))
     }
 
-    /// Whether nobody asked to write since it was taken.
+    /// Whether nobody has asked to write since it was taken.
     pub fn holds(&self) -> bool {
         control(self.0, GET_LEASE, 0).ok() == Some(libc::F_RDLCK as libc::c_int)
     }
@@ -358,16 +346,16 @@ impl Lease<'_> {
 
 impl Drop for Lease<'_> {
     fn drop(&mut self) {
-        // One that was taken away from us is gone already.
+        // A lease that was broken is gone already.
         let _ = control(self.0, SET_LEASE, libc::F_UNLCK as libc::c_int);
     }
 }
 
-/// The bytes of a file, without a copy of them.
+/// The bytes of a file, not copied.
 pub struct Mapping(Option<memmap2::Mmap>);
 
 impl Mapping {
-    /// Maps a regular file. One without bytes cannot be mapped, and needs no mapping.
+    /// Maps a regular file. An empty file cannot be mapped, and needs no mapping.
     pub fn of(file: &File) -> io::Result<Mapping> {
         if file.metadata()?.len() == 0 {
             return Ok(Mapping(None));

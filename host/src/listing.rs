@@ -1,4 +1,4 @@
-//! `luux rows` and `luux slip read`: what a data set holds, and what a slip records.
+//! `luux rows` and `luux slip read`: the rows of a data set, and the verdict that a slip records.
 
 use std::io::{self, BufWriter, Write};
 use std::path::{Path, PathBuf};
@@ -6,7 +6,7 @@ use std::path::{Path, PathBuf};
 use crate::buffer::RowBuffer;
 use crate::codes::Coded;
 use crate::files::Opened;
-use crate::head::{self, Judged};
+use crate::head::{Form, Judged};
 use crate::identity;
 use crate::library::{self, Slip};
 use crate::names;
@@ -15,20 +15,20 @@ use crate::sentences;
 use crate::table::Row;
 use crate::values::Source;
 
-/// How the rows are listed.
+/// How rows are listed.
 #[derive(Clone, Copy)]
-pub enum Form {
+pub enum Layout {
     /// The numbers of each row, as the program `rowlist` prints them.
     Numbers,
-    /// What stands in what.
+    /// The nesting.
     Tree,
 }
 
-/// What is told of a row besides its numbers.
+/// What is printed about a row besides its numbers.
 #[derive(Clone, Copy, PartialEq, Eq)]
 pub enum Names {
     No,
-    /// Its name and a short value, but for the patient's.
+    /// Its name and a short value, unless that is the patient's.
     Known,
     /// Its name and a short value.
     Patient,
@@ -59,11 +59,11 @@ impl Names {
 }
 
 /// Lists the rows of a data set. Offsets count from its start.
-pub fn rows(path: &Path, kind: head::Form, form: Form, names: Names, out: &mut dyn Write) -> io::Result<Status> {
+pub fn rows(path: &Path, form: Form, layout: Layout, names: Names, out: &mut dyn Write) -> io::Result<Status> {
     let mut buffer = RowBuffer::default();
     let read = Opened::open(path).and_then(|opened| {
-        let answer = buffer.read(kind, opened.bytes())?;
-        let judged = Judged::of(kind, opened.bytes(), answer, buffer.table(answer.rows));
+        let answer = buffer.read(form, opened.bytes())?;
+        let judged = Judged::of(form, opened.bytes(), answer, buffer.table(answer.rows));
         opened.unchanged().map(|()| (opened, judged))
     });
     let (opened, table) = match read {
@@ -77,12 +77,12 @@ pub fn rows(path: &Path, kind: head::Form, form: Form, names: Names, out: &mut d
             return Ok(Status::Failed);
         }
     };
-    let source = Source::of(&opened.bytes()[kind.start(opened.bytes())..], table);
+    let source = Source::of(&opened.bytes()[form.start(opened.bytes())..], table);
     let mut out = BufWriter::new(out);
     writeln!(out, "rows {}", table.count())?;
-    match form {
-        Form::Numbers => numbers(&source, names, &mut out)?,
-        Form::Tree => tree(&source, names, &mut out)?,
+    match layout {
+        Layout::Numbers => numbers(&source, names, &mut out)?,
+        Layout::Tree => tree(&source, names, &mut out)?,
     }
     out.flush()?;
     Ok(Status::Fine)
@@ -97,7 +97,7 @@ fn numbers(source: &Source, names: Names, out: &mut dyn Write) -> io::Result<()>
     Ok(())
 }
 
-/// A row in which the next ones stand.
+/// A row that contains the next ones.
 struct Holder {
     row: Row,
     /// How many members of it were listed.
@@ -106,7 +106,7 @@ struct Holder {
     more: bool,
 }
 
-/// Each row behind its number, under the row that it stands in.
+/// Each row after its number, under the row that contains it.
 fn tree(source: &Source, names: Names, out: &mut dyn Write) -> io::Result<()> {
     let table = source.table;
     let wide = table.count().to_string().len();
@@ -121,7 +121,7 @@ fn tree(source: &Source, names: Names, out: &mut dyn Write) -> io::Result<()> {
             holder.members += 1;
             holder.members
         });
-        // Nothing is drawn before what stands at the root.
+        // No branches are drawn at the root.
         let mut branch: String =
             holders.iter().skip(1).map(|holder| if holder.more { "|   " } else { "    " }).collect();
         if !holders.is_empty() {
@@ -138,7 +138,7 @@ fn tree(source: &Source, names: Names, out: &mut dyn Write) -> io::Result<()> {
     Ok(())
 }
 
-/// The slip in a file; or why there is none, and how bad that is.
+/// The slip in a file; or why there is none, and the exit status for that.
 fn slip_in(path: &Path) -> Result<Slip, (String, Status)> {
     let read = Opened::open(path).and_then(|opened| {
         let slip = library::read_slip(opened.bytes());

@@ -1,4 +1,4 @@
-//! Looking at one file: here, or within a time in a process of its own.
+//! Looking at one file: in this process, or within a time limit in a process of its own.
 
 use std::io::{self, Read, Write};
 use std::os::unix::process::{CommandExt, ExitStatusExt};
@@ -26,7 +26,7 @@ use crate::report;
 pub enum Looked {
     /// What the library answered.
     Judged(Judged),
-    /// The same, and what the file is, since it is certainly no run.
+    /// The same, and what the file is: certainly no run.
     Other(Judged, String),
     /// Why it is not judged yet.
     Arriving(String),
@@ -34,7 +34,7 @@ pub enum Looked {
     Trouble(String),
 }
 
-/// Judges a file within the memory that its bytes take and so much more; or says how much more it takes.
+/// Judges a file within the memory for its bytes and `more`; or says how much more it needs.
 fn attempt(path: &Path, form: Form, more: u64, buffer: &mut RowBuffer) -> Result<Looked, NoRoom> {
     let mut opened = match Opened::with_room(path, more) {
         Ok(opened) => opened,
@@ -51,7 +51,7 @@ fn judge(opened: &Opened, form: Form, buffer: &mut RowBuffer) -> Result<Looked, 
     let judged = Judged::of(form, content, answer, buffer.table(answer.rows));
     let what = match form {
         Form::File => other::what(content, &answer, buffer),
-        // It was said that these are data sets.
+        // With --bare the user says that every file is a data set.
         Form::Bare => None,
     };
     opened.unchanged()?;
@@ -61,7 +61,7 @@ fn judge(opened: &Opened, form: Form, buffer: &mut RowBuffer) -> Result<Looked, 
     })
 }
 
-/// Looks at a file here.
+/// Looks at a file in this process.
 pub fn here(path: &Path, form: Form, buffer: &mut RowBuffer) -> Looked {
     let mut more = 0;
     for _ in 0..2 {
@@ -72,14 +72,14 @@ pub fn here(path: &Path, form: Form, buffer: &mut RowBuffer) -> Looked {
             Err(NoRoom(bytes)) => more = bytes,
         }
     }
-    Looked::Trouble(format!("cannot be judged: there is no memory for its rows, {more} bytes"))
+    Looked::Trouble(format!("cannot be judged: not enough memory for its rows, {more} bytes"))
 }
 
-/// What one process says to another.
+/// What one process tells another.
 #[derive(Serialize, Deserialize)]
 enum Said<T> {
     Looked(T),
-    /// It takes so many bytes of memory, more than were granted.
+    /// It needs so many bytes of memory, more than were granted.
     Needs(u64),
 }
 
@@ -88,7 +88,7 @@ enum Said<T> {
 pub enum What {
     /// For `judge`: `Looked`.
     Verdict,
-    /// For `report`: what is said of the run, and its pictures.
+    /// For `report`: the verdict on the run, and its pictures.
     Entry,
     /// For `duplicates`: the hash of its canonical form.
     Form,
@@ -96,13 +96,13 @@ pub enum What {
     Equal,
 }
 
-/// Looks at a file in a process of its own, for so long at most. The time begins when there is memory for it.
+/// Looks at a file in a process of its own, for at most `limit`. The time starts when there is memory for the file.
 pub fn within<T: DeserializeOwned>(limit: Duration, what: What, path: &Path, form: Form) -> Result<T, String> {
-    // One that cannot be asked is told by the other process.
+    // If the size is not known, the other process reports why.
     let size = State::at(path).map_or(0, |state| state.size());
     let own = if files::are_mapped() { 0 } else { size };
     let mut bytes = own + most_room(size);
-    // Room for as many rows as there can be, where that is free; else for those that there are.
+    // Room for as many rows as there can be, if that is free; else for those that there are.
     let mut granted = Granted::now(bytes).or_else(|_| {
         bytes = own;
         Granted::wait_for(own)
@@ -119,10 +119,10 @@ pub fn within<T: DeserializeOwned>(limit: Duration, what: What, path: &Path, for
         drop(granted);
         granted = Granted::wait_for(bytes);
     }
-    Err(format!("cannot be judged: there is no memory for {bytes} bytes"))
+    Err(format!("cannot be judged: not enough memory for {bytes} bytes"))
 }
 
-/// The same where nothing else is looked at: all memory is the other process's.
+/// The same when no other file is looked at: the other process may use all memory.
 pub fn within_alone<T: DeserializeOwned>(
     limit: Duration,
     what: What,
@@ -147,7 +147,7 @@ fn ask<T: DeserializeOwned>(
 ) -> Result<Said<T>, String> {
     let child = start(what, paths, form, bytes);
     let said = child.and_then(|child| wait(child, limit));
-    said.unwrap_or_else(|error| Err(format!("cannot be looked at in a process of its own: {error}")))
+    said.unwrap_or_else(|error| Err(format!("cannot be read in a process of its own: {error}")))
 }
 
 fn start(what: What, paths: &[&Path], form: Form, bytes: u64) -> io::Result<Child> {
@@ -164,7 +164,7 @@ const LISTENER: usize = 128 << 10;
 
 /// What the other process says, or why there is nothing.
 fn wait<T: DeserializeOwned>(mut child: Child, limit: Duration) -> io::Result<Result<Said<T>, String>> {
-    // It may say more than the pipe holds, so somebody listens from the start.
+    // The answer may be longer than the pipe holds, so somebody listens from the start.
     let pipe = child.stdout.take();
     let listener = thread::Builder::new().stack_size(LISTENER).spawn(move || {
         let mut said = Vec::new();
@@ -172,14 +172,14 @@ fn wait<T: DeserializeOwned>(mut child: Child, limit: Duration) -> io::Result<Re
     })?;
     let Some(status) = child.wait_timeout(limit)? else {
         child.kill()?;
-        // Where a disk hangs, the process stays until the disk answers. Neither it nor the listener is waited for.
+        // If a disk hangs, the process stays until the disk answers. Nobody waits for it or for the listener.
         child.wait_timeout(Duration::from_secs(1))?;
-        return Ok(Err(format!("took more than {} seconds, the --timeout; there is no verdict", limit.as_secs_f64())));
+        return Ok(Err(format!("took longer than the --timeout of {} s; there is no verdict", limit.as_secs_f64())));
     };
     let said = listener.join().unwrap_or_else(|_| Ok(Vec::new()))?;
     Ok(serde_json::from_slice(&said).map_err(|_| {
         let how = status.signal().map_or_else(|| status.to_string(), |signal| format!("signal {signal}"));
-        format!("its judging ended with {how}; there is no verdict")
+        format!("the process that judged it ended with {how}; there is no verdict")
     }))
 }
 
@@ -191,7 +191,7 @@ fn say<T: Serialize>(looked: Result<T, NoRoom>, own: u64, out: &mut dyn Write) -
     Ok(serde_json::to_writer(out, &said)?)
 }
 
-/// The other process: looks at a file once, within the memory that was granted, and says what it saw.
+/// The other process: looks at a file once, within the memory that was granted, and tells what it found.
 pub fn run(what: What, paths: &[PathBuf], form: Form, out: &mut dyn Write) -> io::Result<Status> {
     let [path, others @ ..] = paths else {
         return Ok(Status::Failed);

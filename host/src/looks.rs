@@ -1,7 +1,7 @@
-//! Where to look for what a broken rule was broken by: for each rule, in the order of the sentences in `sentences.rs`, the elements that its
-//! sentence names. Data for print alone: no rule is asked here, and what is found is told whether it is good or bad.
+//! Where to look for what broke a rule: for each rule, in the order of the sentences in `sentences.rs`, the elements that its sentence names.
+//! This is only for print: no rule is judged here, and what is found is printed whether it is good or bad.
 
-/// Where an element stands.
+/// Where an element is.
 #[derive(Clone, Copy)]
 pub enum Place {
     Root,
@@ -9,16 +9,16 @@ pub enum Place {
     Shared,
     /// The frame's own item of the per-frame functional groups.
     Own,
-    /// The frame's own item where the element is there, and else the shared one.
+    /// The frame's own item if it has the element, else the shared one.
     Group,
-    /// The item that is gone through.
+    /// The item that `Each` is at.
     Here,
 }
 
 pub enum Look {
     /// The value, or that the element is absent.
     Value(Place, u32),
-    /// The value where the element is there.
+    /// The value, if the element is there.
     Given(Place, u32),
     /// A value at the root that counts something.
     Count(u32, &'static str),
@@ -32,84 +32,86 @@ pub enum Look {
     Both,
     /// The lowest frame that has a group.
     First(u32),
-    /// The product of numbers at the root, each with what it counts; the last one counts bits, and the product is told in bytes.
+    /// The product of numbers at the root, each with what it counts; the last one counts bits, and the product is printed in bytes.
     Product(&'static [(u32, &'static str)]),
 }
 
+use crate::names::tags::*;
 use Look::{Both, Bytes, Count, Each, First, Given, Items, Product, Value};
 use Place::{Group, Here, Own, Root, Shared};
 
-const SOP_CLASS: u32 = 0x0008_0016;
-const IMAGE_TYPE: u32 = 0x0008_0008;
-const PLANES: u32 = 0x0018_9410;
-const PLANE: u32 = 0x0018_9457;
-const PHOTOMETRIC: u32 = 0x0028_0004;
-const FRAMES: u32 = 0x0028_0008;
-const ROWS: u32 = 0x0028_0010;
-const COLUMNS: u32 = 0x0028_0011;
-const ALLOCATED: u32 = 0x0028_0100;
-const STORED: u32 = 0x0028_0101;
-const LOSSY: u32 = 0x0028_2110;
-const CONTENT: u32 = 0x0020_9111;
-const VOI: u32 = 0x0028_9132;
-const MASKS: u32 = 0x0028_6100;
-const OPERATION: u32 = 0x0028_6101;
-const SHIFT: u32 = 0x0028_6114;
-const FRAME_SHIFT: u32 = 0x0028_9415;
-const ID: u32 = 0x0028_9416;
-const PROPERTIES: u32 = 0x0028_9443;
-const LUTS: u32 = 0x0028_9422;
-
 /// Rule 1 first.
 pub const LOOKS: [&[Look]; 39] = [
-    &[Value(Root, SOP_CLASS)],
-    &[Value(Root, 0x0008_0060), Value(Root, SOP_CLASS)],
+    &[Value(Root, SOP_CLASS_UID)],
+    &[Value(Root, MODALITY), Value(Root, SOP_CLASS_UID)],
     &[Value(Root, IMAGE_TYPE)],
-    &[Value(Root, PLANES)],
-    &[Value(Root, PLANES), Value(Root, IMAGE_TYPE)],
-    &[Value(Root, PLANE), Value(Root, PLANES)],
-    &[Value(Root, PLANE), Value(Root, PLANES)],
-    &[Value(Root, 0x0008_002A)],
-    &[Value(Root, 0x0028_0002)],
-    &[Value(Root, PHOTOMETRIC)],
+    &[Value(Root, PLANES_IN_ACQUISITION)],
+    &[Value(Root, PLANES_IN_ACQUISITION), Value(Root, IMAGE_TYPE)],
+    &[Value(Root, PLANE_IDENTIFICATION), Value(Root, PLANES_IN_ACQUISITION)],
+    &[Value(Root, PLANE_IDENTIFICATION), Value(Root, PLANES_IN_ACQUISITION)],
+    &[Value(Root, ACQUISITION_DATETIME)],
+    &[Value(Root, SAMPLES_PER_PIXEL)],
+    &[Value(Root, PHOTOMETRIC_INTERPRETATION)],
     &[Value(Root, ROWS), Value(Root, COLUMNS)],
-    &[Value(Root, ALLOCATED), Value(Root, STORED)],
-    &[Value(Root, 0x0028_0102), Value(Root, STORED)],
-    &[Value(Root, 0x0028_0103)],
-    &[Value(Root, FRAMES)],
-    &[Value(Root, 0x0018_9004)],
-    &[Value(Root, 0x0028_0301)],
-    &[Value(Root, LOSSY)],
-    &[Value(Root, LOSSY), Value(Root, 0x0028_2112), Value(Root, 0x0028_2114)],
-    &[Items(Root, 0x0008_9410), Value(Root, PLANES)],
-    &[Value(Root, 0x2050_0020), Value(Root, PHOTOMETRIC)],
-    &[Value(Root, 0x0018_0060), Value(Root, 0x0018_115A), Value(Root, 0x0018_1155)],
-    &[Value(Root, 0x0018_9332), Value(Root, 0x0018_9328), Value(Root, 0x0018_9330)],
-    &[Value(Root, 0x0018_1508)],
-    &[Items(Root, 0x5200_9229)],
-    &[Items(Root, 0x5200_9230), Count(FRAMES, "frame")],
+    &[Value(Root, BITS_ALLOCATED), Value(Root, BITS_STORED)],
+    &[Value(Root, HIGH_BIT), Value(Root, BITS_STORED)],
+    &[Value(Root, PIXEL_REPRESENTATION)],
+    &[Value(Root, NUMBER_OF_FRAMES)],
+    &[Value(Root, CONTENT_QUALIFICATION)],
+    &[Value(Root, BURNED_IN_ANNOTATION)],
+    &[Value(Root, LOSSY_IMAGE_COMPRESSION)],
+    &[
+        Value(Root, LOSSY_IMAGE_COMPRESSION),
+        Value(Root, LOSSY_IMAGE_COMPRESSION_RATIO),
+        Value(Root, LOSSY_IMAGE_COMPRESSION_METHOD),
+    ],
+    &[Items(Root, REFERENCED_OTHER_PLANE_SEQUENCE), Value(Root, PLANES_IN_ACQUISITION)],
+    &[Value(Root, PRESENTATION_LUT_SHAPE), Value(Root, PHOTOMETRIC_INTERPRETATION)],
+    &[Value(Root, KVP), Value(Root, RADIATION_MODE), Value(Root, RADIATION_SETTING)],
+    &[Value(Root, EXPOSURE_IN_MAS), Value(Root, EXPOSURE_TIME_IN_MS), Value(Root, X_RAY_TUBE_CURRENT_IN_MA)],
+    &[Value(Root, POSITIONER_TYPE)],
+    &[Items(Root, SHARED_FUNCTIONAL_GROUPS_SEQUENCE)],
+    &[Items(Root, PER_FRAME_FUNCTIONAL_GROUPS_SEQUENCE), Count(NUMBER_OF_FRAMES, "frame")],
     &[Both],
-    &[Items(Shared, CONTENT), Items(Own, CONTENT)],
-    &[Items(Group, 0x0018_9412)],
+    &[Items(Shared, FRAME_CONTENT_SEQUENCE), Items(Own, FRAME_CONTENT_SEQUENCE)],
+    &[Items(Group, XA_XRF_FRAME_CHARACTERISTICS_SEQUENCE)],
     &[
-        Items(Group, VOI),
-        Each(Group, VOI, &[Value(Here, 0x0028_1050), Value(Here, 0x0028_1051), Given(Here, 0x0028_1056)]),
+        Items(Group, FRAME_VOI_LUT_SEQUENCE),
+        Each(
+            Group,
+            FRAME_VOI_LUT_SEQUENCE,
+            &[Value(Here, WINDOW_CENTER), Value(Here, WINDOW_WIDTH), Given(Here, VOI_LUT_FUNCTION)],
+        ),
     ],
-    &[Items(Root, MASKS), Each(Root, MASKS, &[Value(Here, OPERATION)])],
-    &[Each(Root, MASKS, &[Given(Here, 0x0028_6102)]), Count(FRAMES, "frame")],
+    &[Items(Root, MASK_SUBTRACTION_SEQUENCE), Each(Root, MASK_SUBTRACTION_SEQUENCE, &[Value(Here, MASK_OPERATION)])],
+    &[Each(Root, MASK_SUBTRACTION_SEQUENCE, &[Given(Here, APPLICABLE_FRAME_RANGE)]), Count(NUMBER_OF_FRAMES, "frame")],
     &[
-        Each(Root, MASKS, &[Value(Here, OPERATION), Given(Here, 0x0028_6110), Given(Here, 0x0028_6112)]),
-        Count(FRAMES, "frame"),
+        Each(
+            Root,
+            MASK_SUBTRACTION_SEQUENCE,
+            &[Value(Here, MASK_OPERATION), Given(Here, MASK_FRAME_NUMBERS), Given(Here, CONTRAST_FRAME_AVERAGING)],
+        ),
+        Count(NUMBER_OF_FRAMES, "frame"),
     ],
-    &[Each(Root, MASKS, &[Value(Here, OPERATION), Given(Here, 0x0028_6120)])],
-    &[Each(Root, MASKS, &[Given(Here, SHIFT)])],
-    &[First(FRAME_SHIFT), Each(Root, MASKS, &[Value(Here, ID)])],
-    &[Items(Group, FRAME_SHIFT), Each(Group, FRAME_SHIFT, &[Value(Here, ID), Value(Here, SHIFT)])],
-    &[Bytes(Root, 0x7FE0_0010), Product(&[(FRAMES, "frame"), (ROWS, "row"), (COLUMNS, "column"), (ALLOCATED, "bit")])],
+    &[Each(Root, MASK_SUBTRACTION_SEQUENCE, &[Value(Here, MASK_OPERATION), Given(Here, TID_OFFSET)])],
+    &[Each(Root, MASK_SUBTRACTION_SEQUENCE, &[Given(Here, MASK_SUB_PIXEL_SHIFT)])],
+    &[First(FRAME_PIXEL_SHIFT_SEQUENCE), Each(Root, MASK_SUBTRACTION_SEQUENCE, &[Value(Here, SUBTRACTION_ITEM_ID)])],
     &[
-        Items(Group, PROPERTIES),
-        Each(Group, PROPERTIES, &[Value(Here, 0x0028_1040)]),
-        Items(Group, LUTS),
-        Each(Group, LUTS, &[Value(Here, 0x0028_9474), Value(Here, 0x0028_3002), Bytes(Here, 0x0028_3006)]),
+        Items(Group, FRAME_PIXEL_SHIFT_SEQUENCE),
+        Each(Group, FRAME_PIXEL_SHIFT_SEQUENCE, &[Value(Here, SUBTRACTION_ITEM_ID), Value(Here, MASK_SUB_PIXEL_SHIFT)]),
+    ],
+    &[
+        Bytes(Root, PIXEL_DATA),
+        Product(&[(NUMBER_OF_FRAMES, "frame"), (ROWS, "row"), (COLUMNS, "column"), (BITS_ALLOCATED, "bit")]),
+    ],
+    &[
+        Items(Group, FRAME_PIXEL_DATA_PROPERTIES_SEQUENCE),
+        Each(Group, FRAME_PIXEL_DATA_PROPERTIES_SEQUENCE, &[Value(Here, PIXEL_INTENSITY_RELATIONSHIP)]),
+        Items(Group, PIXEL_INTENSITY_RELATIONSHIP_LUT_SEQUENCE),
+        Each(
+            Group,
+            PIXEL_INTENSITY_RELATIONSHIP_LUT_SEQUENCE,
+            &[Value(Here, LUT_FUNCTION), Value(Here, LUT_DESCRIPTOR), Bytes(Here, LUT_DATA)],
+        ),
     ],
 ];

@@ -1,7 +1,7 @@
-//! How much memory files take while they are looked at: what is taken together stays within `--memory`.
+//! The memory that files take: all of it together stays within `--memory`.
 //!
-//! Whoever wants memory waits in a line, so that a large file is not passed over again and again by small ones. Nobody
-//! waits while holding some: what does not fit beside what is held is asked for anew, all at once.
+//! Requests for memory queue, so that small files do not overtake a large one for ever. Nobody waits while holding memory: whoever needs more
+//! than is free gives back what is held, and asks for all of it at once.
 
 use std::fs;
 use std::sync::{Condvar, Mutex, MutexGuard};
@@ -9,7 +9,7 @@ use std::sync::{Condvar, Mutex, MutexGuard};
 struct State {
     limit: u64,
     used: u64,
-    /// The number of the next one who comes, and of the one whose turn it is.
+    /// The number of the next request, and of the one whose turn it is.
     next: u64,
     turn: u64,
 }
@@ -21,12 +21,12 @@ fn state() -> MutexGuard<'static, State> {
     STATE.lock().unwrap_or_else(|poisoned| poisoned.into_inner())
 }
 
-/// Sets the most that is taken together.
+/// Sets the limit.
 pub fn limit_to(bytes: u64) {
     state().limit = bytes;
 }
 
-/// The most that is taken together.
+/// The most that all files may take together.
 pub fn limit() -> u64 {
     state().limit
 }
@@ -36,7 +36,7 @@ pub fn limit() -> u64 {
 pub struct Granted(u64);
 
 impl Granted {
-    /// So many bytes, as soon as they are free. There is an error only where they never will be.
+    /// Waits until so many bytes are free. It is an error if they never can be.
     pub fn wait_for(bytes: u64) -> Result<Granted, String> {
         let mut state = state();
         if bytes > state.limit {
@@ -62,7 +62,7 @@ impl Granted {
         }
     }
 
-    /// Makes it as many bytes in all, if they are free now.
+    /// Grows to so many bytes in all, if they are free now.
     pub fn grow_to(&mut self, bytes: u64) -> bool {
         let mut state = state();
         let more = bytes.saturating_sub(self.0);
@@ -74,12 +74,12 @@ impl Granted {
         fits
     }
 
-    /// Gives back what is more than so many bytes.
+    /// Gives back all but so many bytes.
     pub fn shrink_to(&mut self, bytes: u64) {
         drop(self.split(self.0.saturating_sub(bytes)));
     }
 
-    /// Takes so many bytes of it, or all of it, for something else.
+    /// Splits off so many bytes, or all if there are fewer.
     pub fn split(&mut self, bytes: u64) -> Granted {
         let taken = bytes.min(self.0);
         self.0 -= taken;
@@ -96,12 +96,12 @@ impl Drop for Granted {
     }
 }
 
-/// What is said where memory does not suffice.
+/// The message when there is not enough memory.
 pub fn too_much(bytes: u64, limit: u64) -> String {
-    format!("it takes {bytes} bytes of memory, and --memory allows {limit}; allow more, or use a larger machine")
+    format!("it needs {bytes} bytes of memory, but --memory allows {limit}; allow more, or use a larger machine")
 }
 
-/// A quarter of the machine, or of what a container leaves of it.
+/// A quarter of the machine's memory, or of the container's.
 pub fn quarter() -> u64 {
     let whole = machine().into_iter().chain(container()).min();
     whole.map_or(1 << 30, |bytes| bytes / 4)
@@ -117,6 +117,9 @@ fn container() -> Option<u64> {
     fs::read_to_string("/sys/fs/cgroup/memory.max").ok()?.trim().parse().ok()
 }
 
+/// The message for a wrong number of bytes.
+const WRONG: &str = "expected a number of bytes, with or without K, M or G after it, such as 800M";
+
 /// A number of bytes, such as 800M or 2G.
 pub fn bytes(text: &str) -> Result<u64, &'static str> {
     let digits = text.trim_end_matches(|letter: char| letter.is_ascii_alphabetic());
@@ -125,12 +128,10 @@ pub fn bytes(text: &str) -> Result<u64, &'static str> {
         "K" | "k" => 1 << 10,
         "M" => 1 << 20,
         "G" => 1 << 30,
-        _ => return Err("a number of bytes, or one with K, M or G behind it, such as 800M"),
+        _ => return Err(WRONG),
     };
     let number: Option<u64> = digits.parse().ok();
-    number
-        .and_then(|number| number.checked_mul(factor))
-        .ok_or("a number of bytes, or one with K, M or G behind it, such as 800M")
+    number.and_then(|number| number.checked_mul(factor)).ok_or(WRONG)
 }
 
 #[cfg(test)]
@@ -148,7 +149,7 @@ mod tests {
         }
     }
 
-    /// What is granted is taken, given back in part, split, and given back at the end. There is one limit for all, so this is one test.
+    /// Memory is granted, given back in part, split, and given back at the end. There is one limit for all, so this is one test.
     #[test]
     fn grants() {
         limit_to(100);

@@ -1,24 +1,23 @@
-//! What is no run, though it lies in the folder of runs: files that are certainly something else.
+//! Files in a folder of runs that are certainly no runs.
 //!
-//! A file is only told apart where its own bytes say what it is. What might be a damaged run stays refused.
+//! Only a file whose own bytes say what it is counts as something else. Whatever might be a damaged run stays refused.
 
 use crate::buffer::RowBuffer;
 use crate::codes::{Code, Coded};
 use crate::head::{self, Form};
 use crate::library::Answer;
+use crate::names::tags;
 
-const MEDIA_CLASS: u32 = 0x0002_0002;
-const SOP_CLASS: u32 = 0x0008_0016;
 const DIRECTORY: &str = "1.2.840.10008.1.3.10";
 const OURS: [&str; 2] = ["1.2.840.10008.5.1.4.1.1.12.1.1", "1.2.840.10008.5.1.4.1.1.12.2.1"];
 
-/// What a file is that was not accepted, where it is certainly no run.
+/// What a refused file is, if it is certainly no run.
 pub fn what(content: &[u8], answer: &Answer, buffer: &mut RowBuffer) -> Option<String> {
     match answer.code() {
         Code::Done | Code::BadHead => None,
         Code::NotAFile => plain(content).map(String::from),
         code => {
-            let class = head::uid(content, MEDIA_CLASS)?;
+            let class = head::uid(content, tags::MEDIA_STORAGE_SOP_CLASS_UID)?;
             let certain = match code {
                 // The data set names the same class.
                 Code::RuleBroken => true,
@@ -40,7 +39,7 @@ pub fn what(content: &[u8], answer: &Answer, buffer: &mut RowBuffer) -> Option<S
     }
 }
 
-/// Whether two UIDs are as long and differ in one letter at most, as one does that was damaged.
+/// Whether two UIDs are equally long and differ in one character at most, as after damage.
 fn is_near(one: &str, other: &str) -> bool {
     one.len() == other.len() && one.bytes().zip(other.bytes()).filter(|(one, other)| one != other).count() <= 1
 }
@@ -49,12 +48,12 @@ fn is_near(one: &str, other: &str) -> bool {
 fn data_class(content: &[u8], buffer: &mut RowBuffer) -> Option<String> {
     let data = &content[Form::File.start(content)..];
     let answer = buffer.read(Form::Bare, data).ok()?;
-    let row = buffer.table(answer.rows).root(SOP_CLASS)?;
+    let row = buffer.table(answer.rows).root(tags::SOP_CLASS_UID)?;
     let start = row.offset as usize;
     head::uid_text(data.get(start..start + row.length as usize)?)
 }
 
-/// How files start that are no DICOM files, and what they are.
+/// How files of other kinds start, and what they are.
 const STARTS: [(&[u8], &str); 11] = [
     (b"\x89PNG\r\n\x1a\n", "a picture (PNG)"),
     (b"\xFF\xD8\xFF", "a picture (JPEG)"),
@@ -69,7 +68,7 @@ const STARTS: [(&[u8], &str); 11] = [
     (b"\0\0\0\x01Bud1", "a .DS_Store"),
 ];
 
-/// How much of a file is looked at to see whether it is text.
+/// How much of a file is read to see whether it is text.
 const TEXT: usize = 1 << 16;
 
 fn plain(content: &[u8]) -> Option<&'static str> {
@@ -88,8 +87,8 @@ fn plain(content: &[u8]) -> Option<&'static str> {
     is_text(&content[..content.len().min(TEXT)]).then_some("text")
 }
 
-/// Whether bytes are text, in UTF-8, in UTF-16 with its mark, or with one byte a letter: no byte is a control character but
-/// for the blanks. A data set has such bytes in its first header.
+/// Whether bytes are text in UTF-8, in UTF-16 with its mark, or with one byte per character: they have no control characters but white space.
+/// A data set has control characters in its first header.
 fn is_text(bytes: &[u8]) -> bool {
     let wide = bytes.starts_with(b"\xFF\xFE") || bytes.starts_with(b"\xFE\xFF");
     let blank = |byte: u8| matches!(byte, b'\t' | b'\n' | b'\r' | 0x0C | 0x1B);

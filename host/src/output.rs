@@ -1,4 +1,4 @@
-//! Printing, where the reader of a pipe may leave at any time.
+//! Printing. The reader of a pipe may leave at any time.
 
 use std::io::{self, Write};
 use std::os::unix::ffi::OsStrExt;
@@ -26,32 +26,30 @@ pub enum Status {
 
 /// A line about a file.
 pub fn line(out: &mut dyn Write, path: &Path, text: &str) -> io::Result<()> {
-    let mut whole = files::printed(path);
-    whole.extend_from_slice(b": ");
-    whole.extend_from_slice(text.as_bytes());
-    whole.push(b'\n');
-    out.write_all(&whole)
+    out.write_all(format!("{}: {text}\n", files::printed(path)).as_bytes())
 }
 
-/// A line on standard error. Where that is closed, there is nobody to tell.
+/// A line on standard error, in one piece. If that is closed, nobody wants to know.
 pub fn note(text: &str) {
-    let _ = writeln!(io::stderr(), "luux: {text}");
+    let _ = io::stderr().write_all(format!("luux: {text}\n").as_bytes());
 }
 
 /// A line about a file on standard error.
 pub fn note_of(path: &Path, text: &str) {
-    let mut whole = b"luux: ".to_vec();
-    whole.extend(files::printed(path));
-    whole.extend_from_slice(format!(": {text}\n").as_bytes());
-    let _ = io::stderr().write_all(&whole);
+    note(&format!("{}: {text}", files::printed(path)));
 }
 
-/// A JSON object, its fields in the order in which they are put.
+/// The line about a file that cannot be written.
+pub fn note_unwritten(path: &Path, error: &io::Error) {
+    note_of(path, &format!("cannot be written: {}", files::trouble(error)));
+}
+
+/// A JSON object; its fields keep the order in which they are put.
 #[derive(Default)]
 pub struct Object(Map<String, Value>);
 
 impl Object {
-    /// One that is about a file.
+    /// An object about a file.
     pub fn about(path: &Path) -> Object {
         let mut object = Object::default();
         object.put_path("path", path);
@@ -62,7 +60,7 @@ impl Object {
         self.0.insert(String::from(name), value.into());
     }
 
-    /// A path. Where it is not UTF-8, its bytes follow in hexadecimal, since no JSON string can hold them.
+    /// A path. If it is not UTF-8, its bytes follow in hexadecimal, since no JSON string can hold them.
     pub fn put_path(&mut self, name: &str, path: &Path) {
         self.put(name, path.to_string_lossy());
         if path.to_str().is_none() {
@@ -82,16 +80,16 @@ impl Object {
         self.put("sentence", sentences::meaning(answer));
     }
 
-    /// What stands in place of an answer where there is none.
+    /// What takes the place of a missing answer.
     pub fn put_trouble(&mut self, trouble: &str) {
         self.put("verdict", "none");
         self.put("error", trouble);
     }
 
-    /// A line of it.
+    /// The object on a line.
     pub fn line(&self) -> String {
         let mut text = Vec::new();
-        // Nothing can go wrong: it is written to memory, and its keys are strings.
+        // This cannot fail: it writes to memory, and the keys are strings.
         let _ = self.0.serialize(&mut Serializer::with_formatter(&mut text, Escaping(CompactFormatter)));
         text.push(b'\n');
         String::from_utf8_lossy(&text).into_owned()
@@ -104,7 +102,7 @@ impl From<Object> for Value {
     }
 }
 
-/// Escapes what is not shown as itself, so that a line stays a line on any terminal.
+/// Escapes characters that are not printed as themselves, so that a line stays a line on any terminal.
 struct Escaping(CompactFormatter);
 
 impl Formatter for Escaping {

@@ -1,4 +1,4 @@
-//! `luux contact` and `luux linear`, and what all pictures need: frames as the library drew or mapped them, in PNG or PGM files or as text.
+//! `luux contact` and `luux linear`, and what all pictures share: frames as the library drew or mapped them, in PNG or PGM files or as text.
 //!
 //! No cell is computed here. A contact sheet takes every k-th cell of every k-th row of a drawn frame.
 
@@ -11,16 +11,12 @@ use crate::codes::{Code, Coded};
 use crate::files::{self, Opened};
 use crate::head::{self, Judged};
 use crate::library::{Answer, Compared, SHEET_NUMBERS};
+use crate::names::tags;
 use crate::other;
 use crate::output::{line, note_of, Status};
 use crate::sentences;
 use crate::table::Table;
 use crate::values::Source;
-
-const ROWS: u32 = 0x0028_0010;
-const COLUMNS: u32 = 0x0028_0011;
-const MASKS: u32 = 0x0028_6100;
-const OPERATION: u32 = 0x0028_6101;
 
 /// Why there is no picture, in words.
 pub enum Failure {
@@ -36,12 +32,12 @@ impl From<String> for Failure {
     }
 }
 
-/// What a cell is: a grey level of 8 bits, or a number of 16.
+/// A cell: an 8-bit grey level or a 16-bit number.
 pub trait Cell: Copy {
     const DEPTH: png::BitDepth;
     const HIGHEST: u16;
 
-    /// The cells as files have them, the high byte first.
+    /// The cells as files store them, the high byte first.
     fn bytes(cells: &[Self]) -> Cow<'_, [u8]>;
 }
 
@@ -75,7 +71,7 @@ impl<C: Cell> Image<C> {
         let mut cells = Vec::new();
         let size = width.saturating_mul(height);
         if cells.try_reserve_exact(size).is_err() {
-            return Err(format!("there is no memory for a picture of {width} x {height}"));
+            return Err(format!("not enough memory for a picture of {width} x {height}"));
         }
         cells.resize(size, cell);
         Ok(Image { width, height, cells })
@@ -115,15 +111,15 @@ impl<C: Cell> Image<C> {
         Image { width: self.width + other.width, height: self.height, cells }
     }
 
-    /// The file's content, in the form that its name asks for.
-    pub fn encoded(&self, form: Form) -> Result<Vec<u8>, String> {
+    /// The content of a file in a format.
+    pub fn encoded(&self, format: Format) -> Result<Vec<u8>, String> {
         let mut content = Vec::new();
-        match form {
-            Form::Pgm => {
+        match format {
+            Format::Pgm => {
                 content.extend(format!("P5\n{} {}\n{}\n", self.width, self.height, C::HIGHEST).into_bytes());
                 content.extend(C::bytes(&self.cells).iter());
             }
-            Form::Png => {
+            Format::Png => {
                 let mut encoder = png::Encoder::new(&mut content, self.width as u32, self.height as u32);
                 encoder.set_color(png::ColorType::Grayscale);
                 encoder.set_depth(C::DEPTH);
@@ -132,35 +128,36 @@ impl<C: Cell> Image<C> {
                 encoder
                     .write_header()
                     .and_then(|mut writer| writer.write_image_data(&C::bytes(&self.cells)))
-                    .map_err(|error| format!("cannot be made a PNG: {error}"))?;
+                    .map_err(|error| format!("cannot be encoded as PNG: {error}"))?;
             }
         }
         Ok(content)
     }
 }
 
-/// Of how many cells one is taken so that no side is longer than `side`.
+/// One in how many cells is taken so that no side is longer than `side`.
 fn step_for(width: usize, height: usize, side: usize) -> usize {
     ((width.max(height) + side - 1) / side).max(1)
 }
 
-/// What a picture is written as.
-#[derive(Clone, Copy, PartialEq, Eq, clap::ValueEnum)]
-pub enum Form {
+/// The format of a picture's file.
+#[derive(Clone, Copy, Debug, PartialEq, Eq, clap::ValueEnum)]
+pub enum Format {
     Png,
     Pgm,
 }
 
-pub fn form_of(path: &Path) -> Option<Form> {
+/// The format that the ending of a name gives.
+pub fn format_of(path: &Path) -> Option<Format> {
     let ending = path.extension()?.to_str()?.to_ascii_lowercase();
     match ending.as_str() {
-        "png" => Some(Form::Png),
-        "pgm" => Some(Form::Pgm),
+        "png" => Some(Format::Png),
+        "pgm" => Some(Format::Pgm),
         _ => None,
     }
 }
 
-/// The verdict on a file with its run, or with what it is where it is certainly none; or why there is no verdict.
+/// The verdict on a file, with its run if that is accepted, else with what the file is if it is certainly no run; or why there is no verdict.
 pub type Looked = Result<(Judged, Result<Run, Option<String>>), String>;
 
 /// An accepted run, ready to be drawn from.
@@ -174,7 +171,7 @@ pub struct Run {
     height: usize,
     frames: u64,
     rows: u32,
-    /// A copy of the file in which no mask applies, where one was asked for.
+    /// A copy of the file in which no mask applies, once one was needed.
     unmasked: Option<Vec<u8>>,
 }
 
@@ -184,8 +181,7 @@ impl Run {
         run.map_err(|_| Failure::Refused(judged.line()))
     }
 
-    /// The verdict on a file, and the run where it is accepted; else what the file is, where it is certainly no run. It waits until there is
-    /// memory for it, so it is only for one who holds none.
+    /// The same with the verdict. It waits until there is enough memory, so only a caller who holds none may use it.
     pub fn judged(path: &Path, form: head::Form) -> Looked {
         let mut more = 0;
         for _ in 0..2 {
@@ -194,11 +190,11 @@ impl Run {
                 Err(NoRoom(bytes)) => more = bytes,
             }
         }
-        Err(format!("cannot be judged: there is no memory for its rows, {more} bytes"))
+        Err(format!("cannot be judged: not enough memory for its rows, {more} bytes"))
     }
 
-    /// The same within the memory that its bytes take and so much more; or how much more it takes. Width, height and the number of frames are
-    /// taken from the rows.
+    /// The same within the memory for its bytes and `more`; or how much more it needs. Width, height and the number of frames come from
+    /// the rows.
     pub fn attempt(path: &Path, form: head::Form, more: u64) -> Result<Looked, NoRoom> {
         let mut opened = match Opened::with_room(path, more) {
             Ok(opened) => opened,
@@ -216,20 +212,20 @@ impl Run {
         let table = buffer.table(answer.rows);
         let judged = Judged::of(form, content, answer, table);
         if !answer.is_done() {
-            // With --bare it was said that these are data sets.
+            // With --bare the user says that every file is a data set.
             let what = if form == head::Form::File { other::what(content, &answer, &mut buffer) } else { None };
             return opened.unchanged().map(|()| (judged, Err(what)));
         }
         let start = form.start(content);
         let data = &content[start..];
-        // Of an accepted run the per-frame groups have one item for each frame.
+        // In an accepted run the per-frame groups have one item for each frame.
         let frames = table.frame_items().count() as u64;
-        match (number_of(data, table, ROWS), number_of(data, table, COLUMNS)) {
+        match (number_of(data, table, tags::ROWS), number_of(data, table, tags::COLUMNS)) {
             (Some(height), Some(width)) => {
                 let run = Run { opened, form, start, buffer, width, height, frames, rows: answer.rows, unmasked: None };
                 Ok((judged, Ok(run)))
             }
-            _ => Err(String::from("its rows do not say how large a frame is")),
+            _ => Err(String::from("its rows do not give the size of a frame")),
         }
     }
 
@@ -240,8 +236,8 @@ impl Run {
         self.done(answer).map(|()| (image, answer.masked == 1))
     }
 
-    /// A frame without its mask, as the library draws it from a copy in which each mask item's operation is NONE: windowed as the frame
-    /// is, neither subtracted nor moved. The word fits into the value of each operation that an accepted run has.
+    /// A frame without its mask, as the library draws it from a copy in which the operation of each mask item is NONE: with the same window,
+    /// neither subtracted nor moved. NONE fits into the value of every operation that an accepted run can have.
     pub fn draw_unmasked(&mut self, frame: u64) -> Result<Image<u8>, Failure> {
         if self.unmasked.is_none() {
             self.unmasked = Some(self.without_masks()?);
@@ -251,7 +247,7 @@ impl Run {
         let answer = self.buffer.show(self.form, copy, frame, &mut image.cells)?;
         match self.done(answer) {
             Ok(()) if answer.masked == 0 => Ok(image),
-            Ok(()) => Err(Failure::Trouble(String::from("a copy of it without masks was drawn masked"))),
+            Ok(()) => Err(Failure::Trouble(String::from("its copy without masks was drawn masked"))),
             Err(failure) => Err(failure),
         }
     }
@@ -260,12 +256,12 @@ impl Run {
         let content = self.opened.bytes();
         let mut copy = Vec::new();
         if copy.try_reserve_exact(content.len()).is_err() {
-            return Err(format!("there is no memory for a copy of {} bytes", content.len()));
+            return Err(format!("not enough memory for a copy of {} bytes", content.len()));
         }
         copy.extend_from_slice(content);
         let table = self.buffer.table(self.rows);
-        for item in table.items(0, MASKS) {
-            let Some(operation) = table.element(item.number, OPERATION) else {
+        for item in table.items(0, tags::MASK_SUBTRACTION_SEQUENCE) {
+            let Some(operation) = table.element(item.number, tags::MASK_OPERATION) else {
                 continue;
             };
             let at = self.start + operation.offset as usize;
@@ -284,7 +280,7 @@ impl Run {
         self.done(answer).map(|()| image)
     }
 
-    /// A number in digits at the root.
+    /// The number that an element at the root has as text.
     pub fn number(&self, tag: u32) -> Option<u32> {
         let source = Source::of(&self.opened.bytes()[self.start..], self.buffer.table(self.rows));
         source.text(&source.table.root(tag)?).trim().parse().ok()
@@ -313,13 +309,13 @@ impl Run {
         self.done(answer).map(|()| numbers)
     }
 
-    /// Whether a call was done, on a file that stayed as it was.
+    /// Whether a call did what it was asked, on a file that has not changed.
     fn done(&self, answer: Answer) -> Result<(), Failure> {
         self.opened.unchanged()?;
         match answer.code() {
             Code::Done => Ok(()),
             Code::NoSuchFrame => {
-                let text = format!("{}; it has frames 1 to {}", sentences::answer(&answer, 0, None), self.frames);
+                let text = format!("{}; the run has frames 1 to {}", sentences::answer(&answer, 0, None), self.frames);
                 Err(Failure::Refused(text))
             }
             _ => Err(Failure::Refused(sentences::answer(&answer, 0, None))),
@@ -336,16 +332,16 @@ fn number_of(data: &[u8], table: Table, tag: u32) -> Option<usize> {
     }
 }
 
-/// Frames that are spread evenly over the run, the first and the last among them.
+/// At most `most` frames, spread evenly over the run, from the first to the last.
 pub fn chosen(frames: u64, most: u64) -> Vec<u64> {
     let count = frames.min(most);
     (0..count).map(|k| 1 + k * (frames - 1) / (count - 1).max(1)).collect()
 }
 
-/// Frames on a contact sheet, and in one line of it.
+/// The most frames on a contact sheet, and in one line of it.
 const SHEET: u64 = 24;
 const ACROSS: usize = 6;
-/// The longest side of a frame on it, and what is left between frames.
+/// The longest side of a frame on it, and the gap between frames.
 const SIDE: usize = 192;
 const GAP: usize = 4;
 /// A label is the frame's number in digits of 3 x 5 dots, each dot 2 x 2 cells.
@@ -403,7 +399,7 @@ fn sheet_of(run: &mut Run) -> Result<(Image<u8>, Vec<u64>), Failure> {
     Ok((sheet, frames))
 }
 
-/// Says why there is no picture.
+/// Says why there is no picture: a refusal on standard output, anything else on standard error.
 pub fn explain(path: &Path, failure: Failure, out: &mut dyn Write) -> io::Result<Status> {
     match failure {
         Failure::Refused(text) => {
@@ -417,6 +413,16 @@ pub fn explain(path: &Path, failure: Failure, out: &mut dyn Write) -> io::Result
     }
 }
 
+/// The same with nothing on standard output, which is for the result alone.
+pub fn explain_aside(path: &Path, failure: Failure) -> Status {
+    let (text, status) = match failure {
+        Failure::Refused(text) => (text, Status::Refused),
+        Failure::Trouble(trouble) => (trouble, Status::Failed),
+    };
+    note_of(path, &text);
+    status
+}
+
 /// Writes an image and says so.
 pub fn write<C: Cell>(
     image: &Image<C>,
@@ -425,9 +431,9 @@ pub fn write<C: Cell>(
     about: &str,
     out: &mut dyn Write,
 ) -> io::Result<Status> {
-    let content = match form_of(to) {
+    let content = match format_of(to) {
         None => Err(String::from("its name must end in .png or .pgm")),
-        Some(form) => image.encoded(form),
+        Some(format) => image.encoded(format),
     };
     write_file(content, from, to, &format!("{} x {}, {about}", image.width, image.height), out)
 }
@@ -441,7 +447,7 @@ pub fn write_file(
     out: &mut dyn Write,
 ) -> io::Result<Status> {
     let written = match content {
-        Ok(_) if files::is_same(from, to) => Err(String::from("it is the run itself; name another file")),
+        Ok(_) if files::is_same(from, to) => Err(String::from("it is the input itself; name another file")),
         Ok(content) => files::write_whole(to, &content, false).map_err(|error| files::trouble(&error)),
         Err(trouble) => Err(trouble),
     };
@@ -479,7 +485,7 @@ pub fn linear(path: &Path, form: head::Form, frame: u64, to: Option<&Path>, out:
     }
 }
 
-/// Prints one frame's numbers, a line for each row with commas between them. Nothing but numbers goes to standard output.
+/// Prints the numbers of a frame, a line for each row, separated by commas. Nothing else goes to standard output.
 pub fn linear_text(path: &Path, form: head::Form, frame: u64, out: &mut dyn Write) -> io::Result<Status> {
     match Run::open(path, form).and_then(|mut run| run.map(frame)) {
         Ok(image) => {
@@ -489,17 +495,18 @@ pub fn linear_text(path: &Path, form: head::Form, frame: u64, out: &mut dyn Writ
             }
             Ok(Status::Fine)
         }
-        Err(Failure::Refused(text)) => {
-            note_of(path, &text);
-            Ok(Status::Refused)
-        }
-        Err(failure) => explain(path, failure, out),
+        Err(failure) => Ok(explain_aside(path, failure)),
     }
 }
 
 /// Whether a picture of this name can be made; asked before anything is drawn.
 pub fn is_picture_name(path: &Path) -> bool {
-    form_of(path).is_some()
+    format_of(path).is_some()
+}
+
+/// What is said of any other name.
+pub fn wrong_name(path: &Path) -> String {
+    format!("{}: the name of a picture must end in .png or .pgm", path.display())
 }
 
 #[cfg(test)]
@@ -521,12 +528,14 @@ mod tests {
         assert_eq!(image.sampled(2).cells, [1, 3]);
         assert_eq!(image.sampled(3).cells, image.cells);
         assert_eq!(image.beside(&image).cells, [1, 2, 3, 1, 2, 3, 4, 5, 6, 4, 5, 6]);
-        assert_eq!(image.encoded(Form::Pgm).unwrap(), b"P5\n3 2\n255\n\x01\x02\x03\x04\x05\x06");
+        assert_eq!(image.encoded(Format::Pgm).unwrap(), b"P5\n3 2\n255\n\x01\x02\x03\x04\x05\x06");
     }
 
     #[test]
-    fn forms_go_by_the_name() {
-        assert!(form_of(Path::new("a.PNG")) == Some(Form::Png) && form_of(Path::new("a.pgm")) == Some(Form::Pgm));
-        assert!(form_of(Path::new("png")).is_none() && !is_picture_name(Path::new("a.jpg")));
+    fn formats_go_by_the_name() {
+        assert!(
+            format_of(Path::new("a.PNG")) == Some(Format::Png) && format_of(Path::new("a.pgm")) == Some(Format::Pgm)
+        );
+        assert!(format_of(Path::new("png")).is_none() && !is_picture_name(Path::new("a.jpg")));
     }
 }

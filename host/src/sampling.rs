@@ -1,6 +1,6 @@
 //! `luux sheet`: the sampling sheet of a run, as numbers, as JSON, as a small plot in the terminal, or as a picture.
 //!
-//! Every number comes from the library; the mean is the sum divided by the number of cells.
+//! Every number comes from the library, but the mean: that is the sum of all levels divided by the number of cells.
 
 use std::io::{self, Write};
 use std::path::Path;
@@ -12,7 +12,7 @@ use crate::picture::{self, Failure, Image, Run};
 
 const LEVELS: usize = 256;
 
-/// What was sampled of a run.
+/// The sampling sheet of some frames.
 struct Sheet {
     first: u64,
     last: u64,
@@ -70,13 +70,13 @@ impl Sheet {
 pub enum Print {
     /// A line about them, and a small plot.
     Plot,
-    /// All of them, a number a line, as the program `sheet_one` does.
+    /// All of them, one per line, as the program `sheet_one` prints them.
     Numbers,
     /// One JSON object.
     Json,
 }
 
-/// What is wanted: what the file is, the frames, all of them where none are named, and how to hand the sheet over.
+/// What `luux sheet` was asked. Without `frames`, all of them.
 pub struct Wanted<'a> {
     pub form: Form,
     pub frames: Option<(u64, u64)>,
@@ -91,12 +91,12 @@ fn sample(path: &Path, form: Form, frames: Option<(u64, u64)>) -> Result<Sheet, 
     Ok(Sheet { first, last, numbers })
 }
 
-/// The plot in the terminal: its columns and lines, and the eighths of a line.
+/// The plot in the terminal: its columns and lines, and the characters for eighths of a line.
 const COLUMNS: usize = 64;
 const LINES: usize = 8;
 const EIGHTHS: [char; 9] = [' ', '▁', '▂', '▃', '▄', '▅', '▆', '▇', '█'];
 
-/// Each column is the counts of four levels, the highest as high as the plot. A count above 0 is never an empty column.
+/// Each column is the counts of four levels; the highest is as high as the plot. A column with a count above 0 is never empty.
 fn print_plot(sheet: &Sheet, out: &mut dyn Write) -> io::Result<()> {
     let width = LEVELS / COLUMNS;
     let columns: Vec<u64> = sheet.counts().chunks(width).map(|levels| levels.iter().sum()).collect();
@@ -130,7 +130,7 @@ fn print_json(path: &Path, sheet: &Sheet, out: &mut dyn Write) -> io::Result<()>
     out.write_all(object.line().as_bytes())
 }
 
-/// The picture: columns of a level each, three cells wide, in a frame; marks below for the lowest and highest level and the mean.
+/// The picture: a column for each level, three cells wide, within a margin; marks below for the lowest, highest and mean level.
 const WIDE: usize = 3;
 const HIGH: usize = 320;
 const MARGIN: usize = 12;
@@ -144,7 +144,7 @@ fn plotted(sheet: &Sheet) -> Result<Image<u8>, String> {
     let mut image = Image::new(width, height, PAPER)?;
     let foot = MARGIN + HIGH;
     let most = sheet.counts().iter().copied().max().unwrap_or(1).max(1);
-    // The mean stands behind the columns, the lowest and highest level below them.
+    // The mean is drawn behind the columns, the lowest and highest level below them.
     let mean = MARGIN + ((sheet.mean() + 0.5) * WIDE as f64) as usize;
     for y in (MARGIN..foot).filter(|y| y % 4 < 2) {
         image.put(mean, y, PALE);
@@ -173,7 +173,7 @@ fn plotted(sheet: &Sheet) -> Result<Image<u8>, String> {
     Ok(image)
 }
 
-/// The picture of all frames' sheet, and a line about it.
+/// The picture of the sheet of all frames, and a line about it.
 pub fn plot(run: &mut Run) -> Result<(Image<u8>, String), Failure> {
     let (first, last) = (1, run.frames());
     let sheet = Sheet { first, last, numbers: run.sample(first, last)? };
@@ -184,10 +184,7 @@ pub fn plot(run: &mut Run) -> Result<(Image<u8>, String), Failure> {
 pub fn run(path: &Path, wanted: &Wanted, out: &mut dyn Write) -> io::Result<Status> {
     let sheet = match sample(path, wanted.form, wanted.frames) {
         Ok(sheet) => sheet,
-        Err(Failure::Refused(text)) if !matches!(wanted.print, Print::Plot) => {
-            note_of(path, &text);
-            return Ok(Status::Refused);
-        }
+        Err(failure) if !matches!(wanted.print, Print::Plot) => return Ok(picture::explain_aside(path, failure)),
         Err(failure) => return picture::explain(path, failure, out),
     };
     match wanted.print {

@@ -1,4 +1,4 @@
-//! What is printed about rules and answers. Display text only: nothing is decided by it.
+//! What is printed about rules and answers. It is only for display; nothing depends on it.
 
 use crate::codes::{Code, Coded};
 use crate::library::Answer;
@@ -20,20 +20,20 @@ pub fn meaning(given: &Answer) -> &'static str {
     }
 }
 
-/// An answer in a line: accepted, or the rule, frame and sentence, or the code and place and what it means. Where the row of the
-/// frame's item is known, and not 0, it is told too. With `start`, where a file's data set starts, a place is told from the file's start as well.
+/// An answer on a line: accepted; or the rule, the frame and the sentence; or the code, the offset and the meaning. The row of the frame's
+/// item is added unless it is 0. With `start`, where a file's data set starts, an offset is also given from the start of the file.
 pub fn answer(given: &Answer, item_row: u32, start: Option<usize>) -> String {
-    told(given, &item(given.frame, item_row), start)
+    text(given, &item(given.frame, item_row), start)
 }
 
-/// The verdict that a slip records, in a line, with its row count.
+/// The verdict that a slip records, on a line, with its row count.
 pub fn slip(verdict: &Answer, rows: Option<u32>) -> String {
     let count = rows.map_or_else(|| String::from("not known"), |count| count.to_string());
-    told(verdict, &format!(", rows {count}"), None)
+    text(verdict, &format!(", rows {count}"), None)
 }
 
-/// An answer in a line: its numbers, what else there is to tell, and what it means.
-fn told(given: &Answer, more: &str, start: Option<usize>) -> String {
+/// An answer on a line: its numbers, `more`, and its meaning.
+fn text(given: &Answer, more: &str, start: Option<usize>) -> String {
     let numbers = match given.code() {
         Code::Done => return format!("accepted{more}"),
         code if code.is_of_a_header() => {
@@ -66,7 +66,7 @@ mod build;
 mod tests {
     use super::*;
 
-    /// The table is the program's, and a source of another form is not taken for one.
+    /// The table is the program's, and a source in another form is refused.
     #[test]
     fn the_build_takes_the_sentences() {
         let source = include_str!("../../crates/judge_one/src/sentence.rt");

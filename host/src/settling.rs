@@ -1,4 +1,5 @@
-//! Files that still arrive: with `--settle` they are told by their age, by what changes between two looks, and by who writes to them.
+//! Files that are still arriving: with `--settle` they are recognised by their age, by changes between two looks, and by programs that write
+//! to them.
 
 use std::thread;
 use std::time::Duration;
@@ -6,19 +7,19 @@ use std::time::Duration;
 use crate::files::{self, State};
 use crate::finding::Found;
 
-/// The least time between two looks at a file, by which one that grows is told.
+/// The least time between two looks at a file, to see whether it grows.
 const LOOK: Duration = Duration::from_secs(1);
 
-/// The files that were found, and how each was seen first.
+/// The files that were found, and their states at the first look.
 pub struct Settling<'a> {
     found: &'a [Found],
     settle: Option<Duration>,
-    /// The state of each, where `settle` is given.
+    /// The state of each file, if `settle` is given.
     seen: Vec<Option<State>>,
 }
 
 impl<'a> Settling<'a> {
-    /// Looks at the files for the first time, and waits so long that one that grows is another at the second look.
+    /// Looks at the files for the first time, and waits until one that grows would have changed.
     pub fn of(found: &'a [Found], settle: Option<Duration>) -> Settling<'a> {
         let mut seen = Vec::new();
         if let Some(settle) = settle {
@@ -28,13 +29,13 @@ impl<'a> Settling<'a> {
         Settling { found, settle, seen }
     }
 
-    /// Why the file of a place is not looked at yet.
+    /// Why the file at an index counts as arriving, if it does.
     pub fn arriving(&self, place: usize) -> Option<String> {
         let settle = self.settle?;
         let path = &self.found[place].path;
         let now = State::at(path).ok()?;
         if self.seen[place] != Some(now) {
-            return Some(String::from("it was written to while luux looked"));
+            return Some(String::from("it changed while luux was watching"));
         }
         let age = now.age();
         if age < settle {

@@ -1,12 +1,11 @@
-//! A row table, and where things stand in it.
+//! A table of rows, and how to find things in it.
 
 use crate::library::ROW_WIDTH;
-use crate::names;
+use crate::names::{self, tags};
 
-const PER_FRAME_GROUPS: u32 = 0x5200_9230;
 const SQ: u32 = (b'S' as u32) << 8 | b'Q' as u32;
 
-/// A row, in the words of the header. Rows are numbered from 1; 0 as a parent is the root.
+/// A row, as `luuxidgaan.h` describes it. Rows are numbered from 1; parent 0 is the root.
 pub struct Row {
     pub number: u32,
     pub tag: u32,
@@ -71,33 +70,33 @@ impl<'a> Table<'a> {
         (1..=self.count()).filter_map(move |number| self.row(number))
     }
 
-    /// The rows that stand directly in the row of a number, or at the root: what is below each is stepped over.
+    /// The rows directly below a row, or at the root.
     pub fn members(self, holder: u32) -> impl Iterator<Item = Row> + 'a {
         let first = self.row(holder.saturating_add(1)).filter(|row| row.parent == holder);
         std::iter::successors(first, move |row| self.row(row.last() + 1).filter(|row| row.parent == holder))
     }
 
-    /// The element of a tag in the item of a row, or at the root.
+    /// The element with a tag in an item, or at the root.
     pub fn element(self, holder: u32, tag: u32) -> Option<Row> {
         self.members(holder).take_while(|row| row.tag <= tag).find(|row| row.tag == tag)
     }
 
-    /// The element of a tag at the root.
+    /// The element with a tag at the root.
     pub fn root(self, tag: u32) -> Option<Row> {
         self.element(0, tag)
     }
 
-    /// The items of the sequence of a tag in the item of a row, or at the root.
+    /// The items of the sequence with a tag in an item, or at the root.
     pub fn items(self, holder: u32, tag: u32) -> impl Iterator<Item = Row> + 'a {
         self.element(holder, tag).into_iter().flat_map(move |sequence| self.members(sequence.number))
     }
 
     /// The items of the per-frame functional groups.
     pub fn frame_items(self) -> impl Iterator<Item = Row> + 'a {
-        self.items(0, PER_FRAME_GROUPS)
+        self.items(0, tags::PER_FRAME_FUNCTIONAL_GROUPS_SEQUENCE)
     }
 
-    /// The row of a frame's item; frames count from 1.
+    /// The row of a frame's item; frames are counted from 1.
     pub fn frame_item(self, frame: u32) -> Option<Row> {
         self.frame_items().nth((frame as usize).checked_sub(1)?)
     }

@@ -1,10 +1,9 @@
-//! Values of elements in print: short, on one line, in the run's own character set. Display only: nothing is decided by it.
+//! Values of elements in print: short, on one line, in the run's own character set. They are only for display; nothing depends on them.
 
 use encoding_rs::Encoding;
 
+use crate::names::tags;
 use crate::table::{Row, Table};
-
-const SPECIFIC_CHARACTER_SET: u32 = 0x0008_0005;
 
 /// A data set and its rows, ready to be quoted from.
 #[derive(Clone, Copy)]
@@ -17,7 +16,7 @@ pub struct Source<'a> {
 impl<'a> Source<'a> {
     pub fn of(data: &'a [u8], table: Table<'a>) -> Source<'a> {
         let plain = Source { data, table, letters: encoding_rs::WINDOWS_1252 };
-        let named = table.root(SPECIFIC_CHARACTER_SET).map_or_else(String::new, |row| plain.text(&row));
+        let named = table.root(tags::SPECIFIC_CHARACTER_SET).map_or_else(String::new, |row| plain.text(&row));
         Source { letters: encoding(&named), ..plain }
     }
 
@@ -26,7 +25,7 @@ impl<'a> Source<'a> {
         self.data.get(start..start.saturating_add(row.length as usize)).unwrap_or_default()
     }
 
-    /// The letters of a value, without the padding at its end and with control characters as `\x0A`.
+    /// The text of a value, without the padding at its end and with control characters as `\x0A`.
     pub fn text(&self, row: &Row) -> String {
         let bytes = self.bytes(row);
         let end = bytes.iter().rposition(|&byte| byte != 0 && byte != b' ').map_or(0, |last| last + 1);
@@ -40,7 +39,7 @@ impl<'a> Source<'a> {
         text
     }
 
-    /// A value in at most so many characters: text in quotes, numbers with a backslash between them, otherwise how much there is.
+    /// A value in at most so many characters: text in quotes, numbers separated by backslashes, otherwise the number of items or bytes.
     pub fn value(&self, row: &Row, most: usize) -> String {
         if row.is_item() {
             return String::new();
@@ -60,7 +59,7 @@ impl<'a> Source<'a> {
     }
 }
 
-/// Characters that turn the direction of a line or break it.
+/// Characters that change the direction of a line or break it.
 fn is_steering(letter: char) -> bool {
     matches!(letter, '\u{200E}' | '\u{200F}' | '\u{2028}'..='\u{202E}' | '\u{2066}'..='\u{2069}')
 }
@@ -70,7 +69,7 @@ pub fn counted(count: usize, what: &str) -> String {
     format!("{count} {what}{}", if count == 1 { "" } else { "s" })
 }
 
-/// The start of a text, with dots where there is more of it.
+/// The start of a text, with dots if there is more of it.
 pub fn shortened(text: &str, most: usize) -> String {
     match text.char_indices().nth(most) {
         Some((place, _)) => format!("{}...", &text[..place]),
@@ -105,7 +104,7 @@ fn each<const SIZE: usize>(bytes: &[u8], print: impl Fn([u8; SIZE]) -> String) -
     whole.then(|| bytes.chunks_exact(SIZE).filter_map(|chunk| chunk.try_into().ok()).map(print).collect())
 }
 
-/// The numbers of a value, where its VR has numbers and its length is a whole count of them.
+/// The numbers of a value, if its VR has numbers and its length is a whole count of them.
 fn numbers(vr: &str, bytes: &[u8]) -> Option<Vec<String>> {
     match vr {
         "US" => each(bytes, |number| u16::from_le_bytes(number).to_string()),
@@ -121,8 +120,8 @@ fn numbers(vr: &str, bytes: &[u8]) -> Option<Vec<String>> {
     }
 }
 
-/// The encoding of a Specific Character Set (PS3.3 C.12.1.1.2). Where it has several values, they take turns by escape sequences, which
-/// only the encodings of ISO 2022 follow.
+/// The encoding of a Specific Character Set (PS3.3 C.12.1.1.2). If it has several values, escape sequences switch between them, which only the
+/// encodings of ISO 2022 follow.
 fn encoding(named: &str) -> &'static Encoding {
     let terms: Vec<&str> = named.split('\\').map(str::trim).collect();
     let has =

@@ -2,6 +2,7 @@
 
 import argparse
 import faulthandler
+import mmap
 import os
 import sys
 import tempfile
@@ -23,6 +24,11 @@ def enough_numbers(data):
 def exact_numbers(data):
     """As many numbers as the rows of a data set take; 0 where it does not read."""
     return reading.NUMBERS_IN_A_ROW * reading.read(data, enough_numbers(data)).answer.rows
+
+
+def zeros(size):
+    """Zero bytes that take no memory until they are written to."""
+    return mmap.mmap(-1, size, flags=mmap.MAP_PRIVATE | mmap.MAP_ANONYMOUS)
 
 
 class DifferenceFound(Exception):
@@ -85,6 +91,15 @@ class Comparison:
         if len(small) <= 200:
             lines.append("  " + small.hex(" "))
         raise DifferenceFound("\n".join(lines))
+
+    def too_large(self, name, expected, observed):
+        """One byte more than a data set may have is code 7. `expected` and `observed` take the bytes and the length of the row buffer."""
+        memory = zeros(reading.MAXIMUM_SIZE + 1)
+        outcome = expected(memory, reading.NUMBERS_IN_A_ROW)
+        answer = getattr(outcome[0], "answer", outcome[0])  # xa_compare has its answer within another
+        self.must_equal("size limit: the reference", answer.code, 7)
+        self.must_be_right(f"{name} of too many bytes", observed(memory, reading.NUMBERS_IN_A_ROW).difference(outcome))
+        self.note(("code", 7))
 
     def must_be_right(self, name, difference):
         """For what is not an input of bytes, or has its expectation written out: a difference in words, or None."""

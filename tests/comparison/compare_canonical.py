@@ -1,7 +1,6 @@
 """Compares xa_canonical with the reference: answers, row buffers, targets, and what must stay untouched. What is written is also held to
 the claims of Q-10: read back, written again, written from other lengths, judged and drawn."""
 
-import mmap
 import random
 
 from generators import enhanced_xa as xa
@@ -10,7 +9,7 @@ from generators.mutations import CHANGES
 from reference import canonical, drawing, reading
 from reference.canonical import CanonicalAnswer
 
-from .common import DifferenceFound, run_as_program
+from .common import DifferenceFound, run_as_program, zeros
 from .compare_read import cut_and_joined, flipped
 
 AMPLE = 1 << 20
@@ -141,7 +140,7 @@ def compare_size_limit(comparison):
     head = objects.element_header(0x7FE00010, "OW", limit - 12)
     for name, size, start, expected in (("as large as allowed", limit, head, CanonicalAnswer(21, length=limit)),
                                         ("too large", limit + 1, head, CanonicalAnswer(7)), ("too large, and faulty", limit + 1, bytes(8), CanonicalAnswer(7))):
-        memory = mmap.mmap(-1, size, flags=mmap.MAP_PRIVATE | mmap.MAP_ANONYMOUS)
+        memory = zeros(size)
         memory[:len(start)] = start
         outcome = canonical.write_canonical(memory, 20, 16)
         comparison.must_equal(f"{name}: the reference", outcome.answer, expected)

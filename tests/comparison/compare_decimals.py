@@ -8,6 +8,7 @@ import random
 
 from generators import enhanced_xa as xa
 from generators.mutations import BAD_DECIMALS, GOOD_CENTERS, GOOD_WIDTHS, SMALL_WIDTHS
+from reference import attributes as tags
 from reference import drawing, rules
 from reference.values import UNIT, millionths
 
@@ -139,7 +140,7 @@ def compare_by_hand(comparison, probe, rng):
 
 
 def compare_characters(comparison, probe, rng):
-    """Every byte in every place of some numbers: only digits, signs, point, E and e may stand there, and spaces outside."""
+    """Every byte in every place of some numbers: only digits, signs, point, E and e are allowed there, and spaces around."""
     for number in ("1", "12.5", "-2.5E3"):
         for at in range(len(number) + 1):
             for byte in range(256):
@@ -171,18 +172,20 @@ def compare_random(comparison, probe, rng, count):
 
 
 def compare_many_values(comparison, rng):
-    """Thousands of values in one window: all good, and one of them bad, wherever it stands."""
+    """Thousands of values in one window: all good, and one of them bad, in any place."""
     good = [word for word in (random_string(rng) for _ in range(12_000)) if millionths(word.strip(" ").encode()) is not None][:3000]
     shape = xa.Shape(frames=2, rows=1, columns=1, voi="absent", extras=False)
     for bad in (None, 0, 1, len(good) // 2, len(good) - 1):
-        for tag in (xa.CENTER, xa.WIDTH):
-            values = good if tag == xa.CENTER else [word for word in good if millionths(word.strip(" ").encode()) >= UNIT]
+        for tag in (tags.WINDOW_CENTER, tags.WINDOW_WIDTH):
+            values = good if tag == tags.WINDOW_CENTER else [word for word in good if millionths(word.strip(" ").encode()) >= UNIT]
             if bad is not None:
                 place = bad * (len(values) - 1) // (len(good) - 1)
                 values = values[:place] + [rng.choice(BAD_DECIMALS)] + values[place + 1:]
             model = xa.build(rng, shape)
             other = xa.text("DS", *["5"] * len(values))
-            model[xa.PER_FRAME][1][1][xa.VOI] = xa.sq({xa.CENTER: other, xa.WIDTH: other, tag: xa.text("DS", *values)})
+            model[tags.PER_FRAME_FUNCTIONAL_GROUPS_SEQUENCE][1][1][tags.FRAME_VOI_LUT_SEQUENCE] = xa.sq({tags.WINDOW_CENTER: other,
+                                                                                                         tags.WINDOW_WIDTH: other,
+                                                                                                         tag: xa.text("DS", *values)})
             data = xa.encode_at_random(rng, model)
             outcome = rules.judge(data, exact_numbers(data))
             expected = (0, 0, 0) if bad is None else (9, 30, 2)

@@ -7,9 +7,10 @@ import struct
 
 from generators import enhanced_xa as xa
 from generators import objects, outside
+from reference import attributes as tags
 from reference import files, reading
 
-from .common import DifferenceFound, run_as_program
+from .common import DifferenceFound, run_as_program, zeros
 
 LARGE = 1 << 40
 CALLS = ("xa_data_set", "xa_read_file", "xa_judge_file", "xa_show_file")
@@ -166,7 +167,7 @@ def compare_group_lengths(comparison, rng, sample):
         meant(name, check_amply(comparison, f"group length {name}", bytes(128) + b"DICM" + first + behind), 16)
     twice = objects.element(GROUP_LENGTH, "UL", size)
     meant("twice", check_amply(comparison, "group length twice", file_of([twice] + parts, sample.data)), 16)
-    # What stands between a group length that is too short and the data set belongs to the data set, by the paper's letter.
+    # After a group length that is too short, the rest of the head belongs to the data set, by the paper's letter.
     short = sample.with_elements(IMPLEMENTATION=None)
     start = files.data_set(short)[1]
     moved = bytearray(short[:start] + sample.elements[IMPLEMENTATION] + short[start:])
@@ -202,7 +203,7 @@ def compare_elements(comparison, rng, sample):
 
 
 def compare_sequences(comparison, rng, sample, count):
-    """Sequences in the head, of both lengths, good and broken; what stands in them is free."""
+    """Sequences in the head, of both lengths, good and broken; their content is free."""
     parts = list(sample.elements.values())
     inner = objects.element(0x00080016, "UI", b"1\0") + objects.element(0x7FE00010, "OW", b"\0\0")
     for depth in range(1, 11):
@@ -238,7 +239,7 @@ def compare_classes(comparison, rng):
     sample = Sample(rng, sop_class="XA")
     for (head_name, in_head), (name, in_data) in itertools.product(values.items(), values.items()):
         model = dict(sample.model)
-        model[xa.SOP_CLASS_UID] = ("UI", in_data)
+        model[tags.SOP_CLASS_UID] = ("UI", in_data)
         elements = dict(sample.elements)
         elements[SOP_CLASS] = objects.element(SOP_CLASS, "UI", in_head)
         codes = check_amply(comparison, f"class {head_name}, {name}", file_of(elements.values(), objects.encode(model)))
@@ -252,9 +253,9 @@ def compare_classes(comparison, rng):
                           ("backslash", ("UI", padded(uid + b"\\"))), ("LO", ("LO", padded(uid))), ("sequence", ("SQ", [{}])),
                           ("no items", ("SQ", []))):
         model = dict(sample.model)
-        model.pop(xa.SOP_CLASS_UID)
+        model.pop(tags.SOP_CLASS_UID)
         if element:
-            model[xa.SOP_CLASS_UID] = element
+            model[tags.SOP_CLASS_UID] = element
         for in_head in (uid, b"\0\0"):
             elements = dict(sample.elements)
             elements[SOP_CLASS] = objects.element(SOP_CLASS, "UI", padded(in_head))
@@ -286,7 +287,7 @@ def compare_orders(comparison, rng):
         sample = Sample(rng, extras=False)
         model = dict(sample.model)
         if 9 in faults:
-            model[xa.MODALITY] = xa.text("CS", "CT")
+            model[tags.MODALITY] = xa.text("CS", "CT")
         data = objects.encode(model)
         kind = 1 + number % 6
         if "reading" in faults:
@@ -308,7 +309,7 @@ def compare_orders(comparison, rng):
 
 
 def compare_good(comparison, rng, count):
-    """Good files with any preamble, all frames and many rooms; and files with random damage behind the head."""
+    """Good files with any preamble, all frames and many buffers; and files with random damage after the head."""
     for number in range(count):
         sample = Sample(rng)
         preamble = rng.choice((bytes(128), rng.randbytes(128), b"DICM" * 32, sample.data[:128].ljust(128, b"\0")))
@@ -334,7 +335,7 @@ def compare_sizes(comparison):
     for size, code in ((reading.MAXIMUM_SIZE, 18), (reading.MAXIMUM_SIZE + 1, 7)):
         front = file_of(elements, objects.element_header(0x00080008, "OB", reading.MAXIMUM_SIZE - 12))
         start = files.data_set(front)[1]
-        memory = mmap.mmap(-1, start + size, flags=mmap.MAP_PRIVATE | mmap.MAP_ANONYMOUS)
+        memory = zeros(start + size)
         memory[:len(front)] = front
         outcome = files.read_file(memory, 70)
         comparison.must_equal("size limit: the reference", outcome.answer.code, code)

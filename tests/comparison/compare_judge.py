@@ -2,16 +2,16 @@
 
 import copy
 import dataclasses
-import mmap
 import random
 
 from generators import enhanced_xa as xa
 from generators import objects, outside, reading_cases
 from generators.mutations import CHANGES
+from reference import attributes as tags
 from reference import reading, rules
 from reference.answers import Answer
 
-from .common import DifferenceFound, exact_numbers, run_as_program
+from .common import DifferenceFound, exact_numbers, run_as_program, zeros
 from .compare_read import cut_and_joined, flipped
 
 
@@ -42,7 +42,7 @@ def check_model(comparison, name, model, rng):
 
 
 def meant(name, answer, rule, frame):
-    """The verdict that a change was made for, worked out by whoever wrote the change, not by the reference."""
+    """The verdict that a change was made for, as the author of the change worked it out, not the reference."""
     expected = (9, rule, frame) if rule else (0, 0, 0)
     if (answer.code, answer.rule, answer.frame) != expected:
         raise DifferenceFound(f"the comparison itself is at fault: {name} gives {answer}, meant were {expected}")
@@ -231,16 +231,16 @@ def filler(rng):
         return ("LO", rng.choice((b"", b"ab", b"abcd")))
     if kind == 5:
         return xa.sq(*({} for _ in range(rng.choice((0, 1, 3, rng.randrange(40))))))
-    nested = xa.sq({xa.ROWS: xa.us(0), xa.VOI: xa.sq({})})
+    nested = xa.sq({tags.ROWS: xa.us(0), tags.FRAME_VOI_LUT_SEQUENCE: xa.sq({})})
     for _ in range(rng.randrange(4)):
-        nested = xa.sq({xa.VOI: nested, xa.PIXEL_DATA: ("OW", b"")}, *({} for _ in range(rng.randrange(3))))
+        nested = xa.sq({tags.FRAME_VOI_LUT_SEQUENCE: nested, tags.PIXEL_DATA: ("OW", b"")}, *({} for _ in range(rng.randrange(3))))
     return nested
 
 
 def widen(rng, level, count, parity, taken):
     """So many more elements in a data set, of tags with this lowest bit that nothing in the object has: near to those that it has,
     and anywhere, but in turn only below the last of them, only above the first."""
-    near = sorted(level) or [xa.VOI]
+    near = sorted(level) or [tags.FRAME_VOI_LUT_SEQUENCE]
     lowest, highest = rng.choice(((0, near[-1]), (near[0], 0xFFFFFFFF), (0, 0xFFFFFFFF), (0, 0xFFFFFFFF)))
     made = 0
     while made < count:
@@ -255,15 +255,17 @@ def levels_of(model):
     """The data sets that rules look into, each with the lowest bit that its own fillers get: the shared item's is another than the
     frames', so that rule 27 stays as it is."""
     yield model, 0
-    for item in model[xa.SHARED][1]:
+    for item in model[tags.SHARED_FUNCTIONAL_GROUPS_SEQUENCE][1]:
         yield item, 0
-    for item in model[xa.PER_FRAME][1]:
+    for item in model[tags.PER_FRAME_FUNCTIONAL_GROUPS_SEQUENCE][1]:
         yield item, 1
-    for level in (*model[xa.SHARED][1], *model[xa.PER_FRAME][1]):
-        for tag in (xa.VOI, xa.FRAME_SHIFT, xa.LUTS, xa.PROPERTIES):
+    for level in (*model[tags.SHARED_FUNCTIONAL_GROUPS_SEQUENCE][1], *model[tags.PER_FRAME_FUNCTIONAL_GROUPS_SEQUENCE][1]):
+        for tag in (tags.FRAME_VOI_LUT_SEQUENCE, tags.FRAME_PIXEL_SHIFT_SEQUENCE, tags.PIXEL_INTENSITY_RELATIONSHIP_LUT_SEQUENCE,
+                    tags.FRAME_PIXEL_DATA_PROPERTIES_SEQUENCE):
             for item in level[tag][1] if tag in level and isinstance(level[tag][1], list) else ():
                 yield item, 0
-    for item in model[xa.MASKS][1] if xa.MASKS in model and isinstance(model[xa.MASKS][1], list) else ():
+    _, masks = model.get(tags.MASK_SUBTRACTION_SEQUENCE, ("SQ", []))
+    for item in masks if isinstance(masks, list) else ():
         yield item, 0
 
 
@@ -275,7 +277,7 @@ def compare_wide_items(comparison, rng, rounds):
         frame = rng.choice(frames_of(change))
         model = xa.build(rng, xa.random_shape(rng, **change.shape))
         change.edit(model, frame)
-        taken = {tag for _, tag in places(model)} | {value for name, value in vars(xa).items() if name.isupper() and isinstance(value, int)}
+        taken = {tag for _, tag in places(model)} | {value for name, value in vars(tags).items() if name.isupper()}
         levels = list(levels_of(model))
         wide = rng.choice((1, 10, 100, 100, 300, 1000))
         for level, parity in rng.sample(levels, min(len(levels), rng.choice((1, 2, 3)))):
@@ -294,22 +296,22 @@ def compare_large(comparison, rng):
     for frames, left_out in ((900, 812), (900, None)):
         model = xa.build(rng, xa.random_shape(rng, frames=frames, rows=2, columns=2))
         if left_out:
-            del model[xa.PER_FRAME][1][left_out - 1]
+            del model[tags.PER_FRAME_FUNCTIONAL_GROUPS_SEQUENCE][1][left_out - 1]
         meant("900 frames", check_model(comparison, f"{frames} frames, {left_out} left out", model, rng), 26 if left_out else 0, 0)
     shape = xa.random_shape(rng, frames=65_535, rows=1, columns=1, bits_allocated=8, bits_stored=8, voi="shared", masks=("AVG_SUB",),
                             frame_shift="absent", characteristics="absent", extras=False)
     model = xa.build(rng, shape)
-    model[xa.MASKS][1][0][xa.RANGE] = xa.us(1, 65_535)
-    model[xa.MASKS][1][0][xa.ITEM_ID] = xa.us(1)
+    model[tags.MASK_SUBTRACTION_SEQUENCE][1][0][tags.APPLICABLE_FRAME_RANGE] = xa.us(1, 65_535)
+    model[tags.MASK_SUBTRACTION_SEQUENCE][1][0][tags.SUBTRACTION_ITEM_ID] = xa.us(1)
     meant("65,535 frames", check_model(comparison, "65,535 frames", model, rng), 0, 0)
-    last = model[xa.PER_FRAME][1][-1]
-    last[xa.FRAME_SHIFT] = xa.sq({})
+    last = model[tags.PER_FRAME_FUNCTIONAL_GROUPS_SEQUENCE][1][-1]
+    last[tags.FRAME_PIXEL_SHIFT_SEQUENCE] = xa.sq({})
     meant("65,535 frames", check_model(comparison, "65,535 frames, the last broken", model, rng), 37, 65_535)
 
 
 def compare_size_limit(comparison):
     for size, code in ((reading.MAXIMUM_SIZE, 9), (reading.MAXIMUM_SIZE + 1, 7)):
-        memory = mmap.mmap(-1, size, flags=mmap.MAP_PRIVATE | mmap.MAP_ANONYMOUS)
+        memory = zeros(size)
         head = objects.element_header(0x00080008, "OB", reading.MAXIMUM_SIZE - 12)
         memory[:len(head)] = head
         outcome = rules.judge(memory, reading.NUMBERS_IN_A_ROW)

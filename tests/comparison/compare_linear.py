@@ -1,14 +1,14 @@
 """Compares xa_linear, xa_root_level and xa_root_entry with the reference: every frame and number of accepted objects, refusals
 that touch no number, and the square root derivation over all cells and levels."""
 
-import mmap
 import random
 import struct
 
 from generators import enhanced_xa as xa
 from generators import reading_cases
 from generators.mutations import CHANGES
-from reference import intensity, reading
+from reference import attributes as tags
+from reference import intensity
 
 from .common import DifferenceFound, exact_numbers, run_as_program
 
@@ -31,7 +31,7 @@ def check_linear(comparison, name, data, frame, row_buffer_length, values_buffer
 
 
 def size_of(model):
-    rows, columns = (struct.unpack("<H", model[tag][1])[0] for tag in (xa.ROWS, xa.COLUMNS))
+    rows, columns = (struct.unpack("<H", model[tag][1])[0] for tag in (tags.ROWS, tags.COLUMNS))
     return rows * columns
 
 
@@ -41,7 +41,7 @@ def check_every_frame(comparison, name, model, rng, codes=None):
     data = xa.encode_at_random(rng, model)
     count, size = exact_numbers(data), size_of(model)
     numbers = {}
-    for frame in range(1, len(model[xa.PER_FRAME][1]) + 1):
+    for frame in range(1, len(model[tags.PER_FRAME_FUNCTIONAL_GROUPS_SEQUENCE][1]) + 1):
         answer, numbers[frame] = check_linear(comparison, name, data, frame, count + rng.choice((0, 0, 9)), size + rng.choice((0, 0, 1, 40)))
         wanted = (0, 20) if codes is None else (codes[frame],)
         if answer.code not in wanted:
@@ -83,8 +83,8 @@ def plain_shape(rng, **fixed):
 
 def table(entries, first):
     """A TO_LINEAR item; an entry count of 65,536 is written as 0."""
-    return {xa.LUT_FUNCTION: xa.text("CS", "TO_LINEAR"), xa.LUT_DESCRIPTOR: xa.us(len(entries) % 65536, first, 16),
-            xa.LUT_DATA: ("OW", struct.pack(f"<{len(entries)}H", *entries))}
+    return {tags.LUT_FUNCTION: xa.text("CS", "TO_LINEAR"), tags.LUT_DESCRIPTOR: xa.us(len(entries) % 65536, first, 16),
+            tags.LUT_DATA: ("OW", struct.pack(f"<{len(entries)}H", *entries))}
 
 
 def cells_about(first, count, stored):
@@ -105,10 +105,10 @@ def compare_edges(comparison, rng):
                 shape = plain_shape(rng, bits_allocated=8 if stored == 8 else 16, bits_stored=stored, frames=1, rows=1, columns=len(cells),
                                     pixel_vr="OW")
                 model = xa.build(rng, shape)
-                model[xa.SHARED][1][0][xa.LUTS] = xa.sq(table(entries, first))
+                model[tags.SHARED_FUNCTIONAL_GROUPS_SEQUENCE][1][0][tags.PIXEL_INTENSITY_RELATIONSHIP_LUT_SEQUENCE] = xa.sq(table(entries, first))
                 unused = 0 if stored in (8, 16) else 2 ** 16 - 2 ** stored
                 content = b"".join((cell + unused * (place % 2)).to_bytes(1 if stored == 8 else 2, "little") for place, cell in enumerate(cells))
-                model[xa.PIXEL_DATA] = ("OW", content + bytes(len(content) % 2))
+                model[tags.PIXEL_DATA] = ("OW", content + bytes(len(content) % 2))
                 name = f"{count} entries from cell {first}, {stored} bits"
                 numbers = check_every_frame(comparison, name, model, rng, {1: 0})[1]
                 # Below the first the first entry, above the last the last, worked out here once more.
@@ -123,25 +123,25 @@ def compare_whose_table(comparison, rng):
     """Of three frames: each its own table, one for all, one that only some see."""
     def model_of():
         model = xa.build(rng, plain_shape(rng, bits_allocated=8, bits_stored=8, frames=3, rows=1, columns=2, pixel_vr="OB"))
-        model[xa.PIXEL_DATA] = ("OB", bytes((7, 8) * 3))
-        return model, model[xa.SHARED][1][0], model[xa.PER_FRAME][1]
+        model[tags.PIXEL_DATA] = ("OB", bytes((7, 8) * 3))
+        return model, model[tags.SHARED_FUNCTIONAL_GROUPS_SEQUENCE][1][0], model[tags.PER_FRAME_FUNCTIONAL_GROUPS_SEQUENCE][1]
 
     luts = lambda *tables: xa.sq(*tables)
     model, shared, own = model_of()
     for number, item in enumerate(own):
-        item[xa.LUTS] = luts(table([100 * number, 1, 2, 3], 7))
+        item[tags.PIXEL_INTENSITY_RELATIONSHIP_LUT_SEQUENCE] = luts(table([100 * number, 1, 2, 3], 7))
     numbers = check_every_frame(comparison, "own tables", model, rng, {1: 0, 2: 0, 3: 0})
     comparison.must_equal("own tables", numbers, {1: (0, 1), 2: (100, 1), 3: (200, 1)})
     model, shared, own = model_of()
-    shared[xa.LUTS] = luts(table([9, 5], 8))
+    shared[tags.PIXEL_INTENSITY_RELATIONSHIP_LUT_SEQUENCE] = luts(table([9, 5], 8))
     numbers = check_every_frame(comparison, "a shared table", model, rng, {1: 0, 2: 0, 3: 0})
     comparison.must_equal("a shared table", numbers, {1: (9, 9), 2: (9, 9), 3: (9, 9)})
     model, shared, own = model_of()
-    own[1][xa.LUTS] = luts({}, table([40, 50], 7), {xa.LUT_FUNCTION: xa.text("CS", "TO_LOG")})
+    own[1][tags.PIXEL_INTENSITY_RELATIONSHIP_LUT_SEQUENCE] = luts({}, table([40, 50], 7), {tags.LUT_FUNCTION: xa.text("CS", "TO_LOG")})
     numbers = check_every_frame(comparison, "one own table, among other items", model, rng, {1: 20, 2: 0, 3: 20})
     comparison.must_equal("one own table, among other items", numbers, {1: (), 2: (40, 50), 3: ()})
     model, shared, own = model_of()
-    shared[xa.LUTS] = luts({xa.LUT_FUNCTION: xa.text("CS", "TO_LOG")})
+    shared[tags.PIXEL_INTENSITY_RELATIONSHIP_LUT_SEQUENCE] = luts({tags.LUT_FUNCTION: xa.text("CS", "TO_LOG")})
     check_every_frame(comparison, "a shared table of another function", model, rng, {1: 20, 2: 20, 3: 20})
 
 
@@ -150,8 +150,8 @@ def compare_masked(comparison, rng):
     for photometric in ("MONOCHROME1", "MONOCHROME2"):
         model = xa.build(rng, plain_shape(rng, bits_allocated=8, bits_stored=8, frames=3, rows=2, columns=4, masks=("AVG_SUB",), ranges=False,
                                           voi="shared", photometric=photometric, pixel_vr="OB"))
-        model[xa.SHARED][1][0][xa.LUTS] = xa.sq(table(list(range(1000, 1256)), 0))
-        cells = model[xa.PIXEL_DATA][1]
+        model[tags.SHARED_FUNCTIONAL_GROUPS_SEQUENCE][1][0][tags.PIXEL_INTENSITY_RELATIONSHIP_LUT_SEQUENCE] = xa.sq(table(list(range(1000, 1256)), 0))
+        cells = model[tags.PIXEL_DATA][1]
         numbers = check_every_frame(comparison, f"masked, {photometric}", model, rng, {1: 0, 2: 0, 3: 0})
         comparison.must_equal("stored cells", numbers, {frame: tuple(1000 + cell for cell in cells[8 * frame - 8:8 * frame]) for frame in (1, 2, 3)})
 
@@ -173,7 +173,7 @@ def check_refusals(comparison, name, rng):
     """An accepted object whose frame 2 alone has a table, with frame numbers and buffers that are refused, one thing and several
     at once: 8 before 10, 10 before 20, 20 before 11."""
     model = xa.build(rng, plain_shape(rng, frames=3))
-    model[xa.PER_FRAME][1][1][xa.LUTS] = xa.sq(table([1, 2, 3], 0))
+    model[tags.PER_FRAME_FUNCTIONAL_GROUPS_SEQUENCE][1][1][tags.PIXEL_INTENSITY_RELATIONSHIP_LUT_SEQUENCE] = xa.sq(table([1, 2, 3], 0))
     data = xa.encode_at_random(rng, model)
     count, size = exact_numbers(data), size_of(model)
     cases = [(frame, count, room, 10) for frame in (0, 4, 65_538, 2 ** 32 + 2, 2 ** 64 - 1) for room in (size, 0)]
@@ -206,20 +206,16 @@ def compare_odd_data(comparison, rng):
     for extra in (-1, 1):
         model = xa.build(rng, plain_shape(rng, frames=1))
         item = table([1, 2, 3], 0)
-        item[xa.LUT_DATA] = ("OW", bytes(6 + extra))
-        model[xa.SHARED][1][0][xa.LUTS] = xa.sq(item)
+        item[tags.LUT_DATA] = ("OW", bytes(6 + extra))
+        model[tags.SHARED_FUNCTIONAL_GROUPS_SEQUENCE][1][0][tags.PIXEL_INTENSITY_RELATIONSHIP_LUT_SEQUENCE] = xa.sq(item)
         data = xa.encode_at_random(rng, model)
         answer, _ = check_linear(comparison, f"LUT Data of {6 + extra} bytes", data, 1, 1000, 1000)
         comparison.must_equal("an odd length", answer.code, 4)
 
 
 def compare_size_limit(comparison):
-    memory = mmap.mmap(-1, reading.MAXIMUM_SIZE + 1, flags=mmap.MAP_PRIVATE | mmap.MAP_ANONYMOUS)
-    outcome = intensity.linear(memory, 1, reading.NUMBERS_IN_A_ROW, 8)
-    comparison.must_equal("size limit: the reference", outcome.answer.code, 7)
-    observed = comparison.library.call_on_mapping("xa_linear", memory, reading.NUMBERS_IN_A_ROW)
-    comparison.must_be_right("map too many bytes", observed.difference(outcome))
-    comparison.note(("code", 7))
+    comparison.too_large("a map", lambda memory, length: intensity.linear(memory, 1, length, 8),
+                         lambda memory, length: comparison.library.call_on_mapping("xa_linear", memory, length))
 
 
 def run(comparison, arguments):

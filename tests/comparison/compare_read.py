@@ -1,6 +1,5 @@
 """Compares xa_read and xa_count with the reference: answers, row buffers, and what must stay untouched."""
 
-import mmap
 import random
 import re
 
@@ -9,7 +8,7 @@ from reference import parents, reading
 from reference.answers import Answer
 from reference.reading import NUMBERS_IN_A_ROW
 
-from .common import DifferenceFound, enough_numbers, run_as_program
+from .common import DifferenceFound, enough_numbers, run_as_program, zeros
 from .library import HEADER
 
 
@@ -221,7 +220,7 @@ def compare_size_limit(comparison):
         ("too large, and faulty", limit + 1, bytes(8), Answer(7)),
     )
     for name, size, head, expected in cases:
-        memory = mmap.mmap(-1, size, flags=mmap.MAP_PRIVATE | mmap.MAP_ANONYMOUS)
+        memory = zeros(size)
         memory[:len(head)] = head
         comparison.must_equal(f"{name}: count", comparison.library.count_on_mapping(memory), expected)
         comparison.note(("counted", expected.code))

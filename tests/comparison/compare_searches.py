@@ -6,15 +6,18 @@ import random
 from generators import enhanced_xa as xa
 from generators import objects, reading_cases, search_cases
 from generators.mutations import CHANGES
+from reference import attributes as tags
 from reference import comparing, drawing, files, intensity, reading, searches, sheet
 
 from .common import DifferenceFound, exact_numbers, run_as_program
 from .compare_files import CLASSES, elements_of, file_of
 from .compare_judge import check_judge, levels_of, meant, places, widen
 
-GROUPS = {"characteristics": xa.CHARACTERISTICS, "voi": xa.VOI, "frame_shift": xa.FRAME_SHIFT, "properties": xa.PROPERTIES, "luts": xa.LUTS}
+GROUPS = {"characteristics": tags.XA_XRF_FRAME_CHARACTERISTICS_SEQUENCE, "voi": tags.FRAME_VOI_LUT_SEQUENCE,
+          "frame_shift": tags.FRAME_PIXEL_SHIFT_SEQUENCE, "properties": tags.FRAME_PIXEL_DATA_PROPERTIES_SEQUENCE,
+          "luts": tags.PIXEL_INTENSITY_RELATIONSHIP_LUT_SEQUENCE}
 BOTH = "both"  # a sequence in every frame, and in the shared item another VR, which rule 27 allows
-KNOWN_TAGS = {value for name, value in vars(xa).items() if name.isupper() and isinstance(value, int) and value > 0xFFFF}
+KNOWN_TAGS = {value for name, value in vars(tags).items() if name.isupper()}
 
 
 # ---------------------------------------------------------------------------------------------------------------------
@@ -36,10 +39,10 @@ def check(comparison, name, model, rng):
     data = xa.encode_at_random(rng, model)
     room = exact_numbers(data) + rng.choice((0, 0, 7))
     answer = check_judge(comparison, name, data, room)
-    in_file = check_file(comparison, name, data, model[xa.SOP_CLASS_UID][1].rstrip(b"\0") if xa.SOP_CLASS_UID in model else CLASSES["XA"], room)
+    in_file = check_file(comparison, name, data, model[tags.SOP_CLASS_UID][1].rstrip(b"\0") if tags.SOP_CLASS_UID in model else CLASSES["XA"], room)
     if answer.code == 0:
         comparison.must_equal(f"{name}: the same of its file", in_file, answer)
-        frames = len(model[xa.PER_FRAME][1])
+        frames = len(model[tags.PER_FRAME_FUNCTIONAL_GROUPS_SEQUENCE][1])
         if not 0 < answer.searches <= searches.most(frames, answer.rows):
             raise DifferenceFound(f"{name}: {answer.searches} is above {searches.most(frames, answer.rows)}, or 0")
         share = answer.searches / searches.most(frames, answer.rows)
@@ -66,8 +69,8 @@ def compare_by_hand(comparison, rng):
 
 def place_in_both(model, tag):
     """Every frame has the group as a sequence; the shared item has the tag with another VR."""
-    if all(tag in item for item in model[xa.PER_FRAME][1]):
-        model[xa.SHARED][1][0][tag] = ("LO", b"ab")
+    if all(tag in item for item in model[tags.PER_FRAME_FUNCTIONAL_GROUPS_SEQUENCE][1]):
+        model[tags.SHARED_FUNCTIONAL_GROUPS_SEQUENCE][1][0][tag] = ("LO", b"ab")
 
 
 def compare_places(comparison, rng, rounds):
@@ -99,8 +102,9 @@ def compare_masks(comparison, rng):
         for frame_shift in ("absent", "frames", "shared"):
             masks = tuple(rng.choice(xa.OPERATIONS) for _ in range(count))
             model = xa.build(rng, xa.random_shape(rng, masks=masks, frame_shift=frame_shift))
-            for item in model.get(xa.MASKS, xa.sq())[1]:
-                surround(rng, item, (xa.OPERATION, xa.RANGE, xa.MASK_FRAMES, xa.AVERAGING, xa.SHIFT, xa.TID_OFFSET, xa.ITEM_ID))
+            for item in model.get(tags.MASK_SUBTRACTION_SEQUENCE, xa.sq())[1]:
+                surround(rng, item, (tags.MASK_OPERATION, tags.APPLICABLE_FRAME_RANGE, tags.MASK_FRAME_NUMBERS, tags.CONTRAST_FRAME_AVERAGING,
+                                     tags.MASK_SUB_PIXEL_SHIFT, tags.TID_OFFSET, tags.SUBTRACTION_ITEM_ID))
             accepted(comparison, f"{count} mask items, Frame Pixel Shift {frame_shift}", model, rng)
             comparison.note(("mask items", count))
 
@@ -110,13 +114,14 @@ def compare_luts(comparison, rng):
     for count in range(1, 7):
         for place in ("shared", "frames", "some"):
             model = xa.build(rng, xa.random_shape(rng, luts=place))
-            for level in (*model[xa.SHARED][1], *model[xa.PER_FRAME][1]):
-                if xa.LUTS in level:
-                    while len(level[xa.LUTS][1]) < count:
-                        other = rng.choice(({}, {xa.LUT_FUNCTION: xa.text("CS", "TO_LOG")}, {xa.LUT_DATA: ("OW", b"")}, {xa.LUT_DESCRIPTOR: xa.us(1)}))
-                        level[xa.LUTS][1].insert(rng.randrange(2), dict(other))
-                    for item in level[xa.LUTS][1]:
-                        surround(rng, item, (xa.LUT_FUNCTION, xa.LUT_DESCRIPTOR, xa.LUT_DATA))
+            for level in (*model[tags.SHARED_FUNCTIONAL_GROUPS_SEQUENCE][1], *model[tags.PER_FRAME_FUNCTIONAL_GROUPS_SEQUENCE][1]):
+                if tags.PIXEL_INTENSITY_RELATIONSHIP_LUT_SEQUENCE in level:
+                    while len(level[tags.PIXEL_INTENSITY_RELATIONSHIP_LUT_SEQUENCE][1]) < count:
+                        other = rng.choice(({}, {tags.LUT_FUNCTION: xa.text("CS", "TO_LOG")}, {tags.LUT_DATA: ("OW", b"")},
+                                            {tags.LUT_DESCRIPTOR: xa.us(1)}))
+                        level[tags.PIXEL_INTENSITY_RELATIONSHIP_LUT_SEQUENCE][1].insert(rng.randrange(2), dict(other))
+                    for item in level[tags.PIXEL_INTENSITY_RELATIONSHIP_LUT_SEQUENCE][1]:
+                        surround(rng, item, (tags.LUT_FUNCTION, tags.LUT_DESCRIPTOR, tags.LUT_DATA))
             accepted(comparison, f"LUT groups of {count} items, {place}", model, rng)
             comparison.note(("LUT items", count))
 
@@ -133,17 +138,19 @@ def surround(rng, level, sought, share=0.5):
 
 
 SOUGHT_IN_ROOT = tuple(tag for tag in KNOWN_TAGS if tag not in GROUPS.values())
-SOUGHT_IN_FRAMES = (xa.FRAME_CONTENT, *GROUPS.values())
+SOUGHT_IN_FRAMES = (tags.FRAME_CONTENT_SEQUENCE, *GROUPS.values())
 
 
 def sought_in(model):
     """The data sets that are searched, each with the tags that are sought there."""
     yield model, SOUGHT_IN_ROOT
-    for level in (*model[xa.SHARED][1], *model[xa.PER_FRAME][1]):
+    for level in (*model[tags.SHARED_FUNCTIONAL_GROUPS_SEQUENCE][1], *model[tags.PER_FRAME_FUNCTIONAL_GROUPS_SEQUENCE][1]):
         yield level, SOUGHT_IN_FRAMES
-        for tag, sought in ((xa.VOI, (xa.CENTER, xa.WIDTH, xa.FUNCTION)), (xa.FRAME_SHIFT, (xa.ITEM_ID, xa.SHIFT)),
-                            (xa.LUTS, (xa.LUT_FUNCTION, xa.LUT_DESCRIPTOR, xa.LUT_DATA)), (xa.PROPERTIES, (xa.RELATIONSHIP,)),
-                            (xa.CHARACTERISTICS, ()), (xa.FRAME_CONTENT, ())):
+        for tag, sought in ((tags.FRAME_VOI_LUT_SEQUENCE, (tags.WINDOW_CENTER, tags.WINDOW_WIDTH, tags.VOI_LUT_FUNCTION)),
+                            (tags.FRAME_PIXEL_SHIFT_SEQUENCE, (tags.SUBTRACTION_ITEM_ID, tags.MASK_SUB_PIXEL_SHIFT)),
+                            (tags.PIXEL_INTENSITY_RELATIONSHIP_LUT_SEQUENCE, (tags.LUT_FUNCTION, tags.LUT_DESCRIPTOR, tags.LUT_DATA)),
+                            (tags.FRAME_PIXEL_DATA_PROPERTIES_SEQUENCE, (tags.PIXEL_INTENSITY_RELATIONSHIP,)),
+                            (tags.XA_XRF_FRAME_CHARACTERISTICS_SEQUENCE, ()), (tags.FRAME_CONTENT_SEQUENCE, ())):
             for item in level[tag][1] if tag in level else ():
                 yield item, sought
 
@@ -163,9 +170,10 @@ def compare_one_more(comparison, rng):
     """One element more, plain or with rows below it, at each place of the root, the shared item, an item of a frame and a mask item."""
     shape = xa.random_shape(rng, frames=2, masks=("AVG_SUB", "TID"), voi="shared", frame_shift="frames", luts="some", extras=False)
     model = xa.build(rng, shape)
-    for level in (model, model[xa.SHARED][1][0], model[xa.PER_FRAME][1][1], model[xa.MASKS][1][0]):
+    for level in (model, model[tags.SHARED_FUNCTIONAL_GROUPS_SEQUENCE][1][0], model[tags.PER_FRAME_FUNCTIONAL_GROUPS_SEQUENCE][1][1],
+                  model[tags.MASK_SUBTRACTION_SEQUENCE][1][0]):
         for tag in sorted({0x00020001, 0xFFFF0001, *(tag + step for tag in KNOWN_TAGS for step in (-1, 1))} - KNOWN_TAGS - set(level)):
-            level[tag] = rng.choice((("LO", b""), xa.sq(), xa.sq({xa.ROWS: xa.us(1)}, {})))
+            level[tag] = rng.choice((("LO", b""), xa.sq(), xa.sq({tags.ROWS: xa.us(1)}, {})))
             accepted(comparison, f"one more at {tag:08X}", model, rng)
             del level[tag]
 
@@ -173,14 +181,15 @@ def compare_one_more(comparison, rng):
 def compare_wide(comparison, rng, count):
     """Data sets of up to a thousand elements, the shared item among them; first one whose sum goes beyond 16 bits."""
     model = xa.build(rng, xa.random_shape(rng, frames=12, **{group: "absent" for group in GROUPS}))
-    model[xa.SHARED][1][0].update({0x00110000 + number * 2: ("LO", b"") for number in range(1000)})
+    model[tags.SHARED_FUNCTIONAL_GROUPS_SEQUENCE][1][0].update({0x00110000 + number * 2: ("LO", b"") for number in range(1000)})
     if accepted(comparison, "a wide shared item", model, rng) < 2 ** 16:
         raise DifferenceFound("the comparison itself is at fault: the sum of a wide shared item is too small")
     for number in range(count):
         model = xa.build(rng, xa.random_shape(rng))
         taken = {tag for _, tag in places(model)} | KNOWN_TAGS
         levels = list(levels_of(model))
-        chosen = rng.sample(levels, min(len(levels), rng.choice((1, 2, 4)))) + [(model[xa.SHARED][1][0], 0)] * rng.randrange(2)
+        chosen = rng.sample(levels, min(len(levels), rng.choice((1, 2, 4)))) + [(model[tags.SHARED_FUNCTIONAL_GROUPS_SEQUENCE][1][0],
+                                                                                 0)] * rng.randrange(2)
         for level, parity in chosen:
             widen(rng, level, rng.choice((1, 10, 100, 300, 1000)), parity, taken)
         accepted(comparison, f"wide {number}", model, rng)
@@ -217,7 +226,7 @@ def compare_other_calls(comparison, rng, count):
         model = search_cases.FULL if number == 0 else xa.build(rng, xa.random_shape(rng, frames=2, luts="frames"))
         data = xa.encode_at_random(rng, model)
         room, name, library = exact_numbers(data), f"object {number}", comparison.library
-        file = file_of(elements_of(model[xa.SOP_CLASS_UID][1].rstrip(b"\0")).values(), data)
+        file = file_of(elements_of(model[tags.SOP_CLASS_UID][1].rstrip(b"\0")).values(), data)
         calls = (
             ("xa_read", data, lambda one: library.call_with_rows("xa_read", one, room).difference(reading.read(one, room))),
             ("xa_show", data, lambda one: library.show(one, 2, room, 64).difference(drawing.show(one, 2, room, 64))),
@@ -245,7 +254,7 @@ def compare_large(comparison, rng):
     frames, wide = 6000, 100_000
     model = xa.build(rng, xa.random_shape(rng, frames=frames, rows=1, columns=1, voi="shared", frame_shift="absent", luts="absent",
                                           properties="absent", characteristics="shared", masks=(), extras=False))
-    model[xa.SHARED][1][0].update({0x00110000 + number * 2: ("LO", b"") for number in range(wide)})
+    model[tags.SHARED_FUNCTIONAL_GROUPS_SEQUENCE][1][0].update({0x00110000 + number * 2: ("LO", b"") for number in range(wide)})
     data = objects.encode(model)
     total = searches.searches(reading.read_data_set(data))
     if not 2 ** 32 < total <= searches.most(frames, reading.read(data, len(data)).answer.rows):

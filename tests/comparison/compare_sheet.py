@@ -1,14 +1,14 @@
 """Compares xa_sheet with the reference: sheets of whole runs and of parts of them, refusals that come with zeros, windows that change
 from frame to frame, and the sheet held against the pictures of xa_show."""
 
-import mmap
 import random
 import struct
 
 from generators import enhanced_xa as xa
 from generators import reading_cases
 from generators.mutations import CHANGES
-from reference import reading, sheet
+from reference import attributes as tags
+from reference import sheet
 
 from .common import DifferenceFound, exact_numbers, run_as_program
 
@@ -30,14 +30,14 @@ def check_sheet(comparison, name, data, first, last, row_buffer_length, sheet_le
 
 
 def size_of(model):
-    rows, columns = (struct.unpack("<H", model[tag][1])[0] for tag in (xa.ROWS, xa.COLUMNS))
+    rows, columns = (struct.unpack("<H", model[tag][1])[0] for tag in (tags.ROWS, tags.COLUMNS))
     return rows * columns
 
 
 def check_done(comparison, name, model, rng):
     """An accepted object: the sheet of all frames, of each by itself, and of parts; what the request says of their numbers."""
     data = xa.encode_at_random(rng, model)
-    room, size, frames = exact_numbers(data), size_of(model), len(model[xa.PER_FRAME][1])
+    room, size, frames = exact_numbers(data), size_of(model), len(model[tags.PER_FRAME_FUNCTIONAL_GROUPS_SEQUENCE][1])
     parts = {(1, frames), (1, 1), (frames, frames)} | {tuple(sorted(rng.choices(range(1, frames + 1), k=2))) for _ in range(3)}
     for first, last in sorted(parts):
         outcome = check_sheet(comparison, name, data, first, last, room + rng.choice((0, 0, 9)), NUMBERS + rng.choice((0, 0, 1, 5)))
@@ -54,7 +54,7 @@ def check_done(comparison, name, model, rng):
 def check_pictures(comparison, name, model, rng):
     """The sheet of two frames against what xa_show draws of them."""
     data = xa.encode_at_random(rng, model)
-    room, size, frames = exact_numbers(data), size_of(model), len(model[xa.PER_FRAME][1])
+    room, size, frames = exact_numbers(data), size_of(model), len(model[tags.PER_FRAME_FUNCTIONAL_GROUPS_SEQUENCE][1])
     counts = [0] * 256
     first = rng.randrange(1, frames + 1)
     last = min(frames, first + 1)
@@ -77,10 +77,11 @@ def compare_windows(comparison, rng):
                 shape = xa.random_shape(rng, bits_allocated=8 if stored == 8 else 16, bits_stored=stored, frames=7, rows=rows, columns=columns,
                                         voi="frames", masks=rng.choice(((), ("AVG_SUB",), ("TID",))), extras=False)
                 model = xa.build(rng, shape)
-                windows = [item[xa.VOI] for item in model[xa.PER_FRAME][1] if xa.VOI in item]
+                windows = [item[tags.FRAME_VOI_LUT_SEQUENCE] for item in model[tags.PER_FRAME_FUNCTIONAL_GROUPS_SEQUENCE][1]
+                           if tags.FRAME_VOI_LUT_SEQUENCE in item]
                 if turn and windows:
-                    for place, item in enumerate(model[xa.PER_FRAME][1]):
-                        item[xa.VOI] = windows[(place // turn) % len(windows)]
+                    for place, item in enumerate(model[tags.PER_FRAME_FUNCTIONAL_GROUPS_SEQUENCE][1]):
+                        item[tags.FRAME_VOI_LUT_SEQUENCE] = windows[(place // turn) % len(windows)]
                 check_done(comparison, f"windows, {stored} bits, {rows} × {columns}, turn {turn}", model, rng)
 
 
@@ -123,12 +124,8 @@ def compare_changes(comparison, rng):
 
 
 def compare_size_limit(comparison):
-    memory = mmap.mmap(-1, reading.MAXIMUM_SIZE + 1, flags=mmap.MAP_PRIVATE | mmap.MAP_ANONYMOUS)
-    outcome = sheet.sheet(memory, 1, 1, reading.NUMBERS_IN_A_ROW)
-    comparison.must_equal("size limit: the reference", outcome.answer.code, 7)
-    observed = comparison.library.sheet_on_mapping(memory, reading.NUMBERS_IN_A_ROW, NUMBERS)
-    comparison.must_be_right("sheet of too many bytes", observed.difference(outcome))
-    comparison.note(("code", 7))
+    comparison.too_large("a sheet", lambda memory, length: sheet.sheet(memory, 1, 1, length),
+                         lambda memory, length: comparison.library.sheet_on_mapping(memory, length, NUMBERS))
 
 
 def run(comparison, arguments):

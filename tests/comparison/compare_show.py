@@ -1,6 +1,5 @@
 """Compares xa_show with the reference: every frame and sample of accepted objects, and refusals that touch no image."""
 
-import mmap
 import random
 import struct
 import tempfile
@@ -8,7 +7,8 @@ import tempfile
 from generators import enhanced_xa as xa
 from generators import outside, reading_cases
 from generators.mutations import CHANGES
-from reference import drawing, reading
+from reference import attributes as tags
+from reference import drawing
 
 from .common import DifferenceFound, enough_numbers, exact_numbers, run_as_program
 
@@ -33,9 +33,9 @@ def check_every_frame(comparison, name, model, rng, frames=None):
     """An accepted object: each of its frames must be drawn. Answers (frame, masked or native) of each."""
     data = xa.encode_at_random(rng, model)
     count = exact_numbers(data)
-    rows, columns = (struct.unpack("<H", model[tag][1])[0] for tag in (xa.ROWS, xa.COLUMNS))
+    rows, columns = (struct.unpack("<H", model[tag][1])[0] for tag in (tags.ROWS, tags.COLUMNS))
     drawn = {}
-    for frame in frames or range(1, len(model[xa.PER_FRAME][1]) + 1):
+    for frame in frames or range(1, len(model[tags.PER_FRAME_FUNCTIONAL_GROUPS_SEQUENCE][1]) + 1):
         answer = check_show(comparison, name, data, frame, count + rng.choice((0, 0, 9)), rows * columns + rng.choice((0, 0, 1, 40)))
         if answer.code != 0:
             raise DifferenceFound(f"the comparison itself is at fault: {name}, frame {frame} is not drawn: {answer}")
@@ -47,8 +47,8 @@ def check_refusals(comparison, name, model, rng):
     """An accepted object with frame numbers and buffers that are refused, one thing and several at once."""
     data = xa.encode_at_random(rng, model)
     count = exact_numbers(data)
-    rows, columns = (struct.unpack("<H", model[tag][1])[0] for tag in (xa.ROWS, xa.COLUMNS))
-    frames = len(model[xa.PER_FRAME][1])
+    rows, columns = (struct.unpack("<H", model[tag][1])[0] for tag in (tags.ROWS, tags.COLUMNS))
+    frames = len(model[tags.PER_FRAME_FUNCTIONAL_GROUPS_SEQUENCE][1])
     size = rows * columns
     no_frames = (0, frames + 1, 256 * 256 + 1, 2 ** 31 + 1, 2 ** 32, 2 ** 32 + 1, 2 ** 63, 2 ** 64 - 1)
     cases = [(frame, count, size, 10) for frame in no_frames]
@@ -96,15 +96,16 @@ def compare_windows(comparison, rng):
                 shape = base_shape(rng, bits_allocated=8 if stored == 8 else 16, bits_stored=stored, frames=2, rows=16, columns=16,
                                    photometric=photometric, masks=("AVG_SUB",), ranges=False, shifts=False, pixel_vr="OW")
                 model = xa.build(rng, shape)
-                model[xa.MASKS][1][0][xa.RANGE] = xa.us(2, 2)
-                model[xa.MASKS][1][0][xa.MASK_FRAMES] = xa.us(1)
+                model[tags.MASK_SUBTRACTION_SEQUENCE][1][0][tags.APPLICABLE_FRAME_RANGE] = xa.us(2, 2)
+                model[tags.MASK_SUBTRACTION_SEQUENCE][1][0][tags.MASK_FRAME_NUMBERS] = xa.us(1)
                 values = every_value(stored)
-                model[xa.PIXEL_DATA] = ("OW", values + rng.randbytes(len(values)))
-                place = rng.choice((model[xa.SHARED][1], model[xa.PER_FRAME][1]))
+                model[tags.PIXEL_DATA] = ("OW", values + rng.randbytes(len(values)))
+                place = rng.choice((model[tags.SHARED_FUNCTIONAL_GROUPS_SEQUENCE][1], model[tags.PER_FRAME_FUNCTIONAL_GROUPS_SEQUENCE][1]))
                 for item in place:
-                    item[xa.VOI] = xa.sq({xa.CENTER: xa.padded(rng, "DS", center, "1"), xa.WIDTH: xa.padded(rng, "DS", width, "7")})
+                    item[tags.FRAME_VOI_LUT_SEQUENCE] = xa.sq({tags.WINDOW_CENTER: xa.padded(rng, "DS", center, "1"),
+                                                               tags.WINDOW_WIDTH: xa.padded(rng, "DS", width, "7")})
                     if function:
-                        item[xa.VOI][1][0][xa.FUNCTION] = xa.padded(rng, "CS", function)
+                        item[tags.FRAME_VOI_LUT_SEQUENCE][1][0][tags.VOI_LUT_FUNCTION] = xa.padded(rng, "CS", function)
                 drawn = check_every_frame(comparison, f"window {function} {center}, {width}, {stored} bits, {photometric}", model, rng)
                 comparison.must_equal("native, then masked", drawn, {1: 0, 2: 1})
 
@@ -113,7 +114,7 @@ def compare_no_window(comparison, rng):
     for stored in range(8, 17):
         shape = base_shape(rng, bits_allocated=8 if stored == 8 else 16, bits_stored=stored, frames=1, rows=16, columns=16, pixel_vr="OW")
         model = xa.build(rng, shape)
-        model[xa.PIXEL_DATA] = ("OW", every_value(stored))
+        model[tags.PIXEL_DATA] = ("OW", every_value(stored))
         check_every_frame(comparison, f"no window, {stored} bits", model, rng)
 
 
@@ -122,11 +123,11 @@ def compare_averages(comparison, rng):
     for count in range(1, 65):
         shape = base_shape(rng, masks=("AVG_SUB",), frames=rng.choice((2, 5, 20)), rows=2, columns=3, voi=rng.choice(xa.PLACES))
         model = xa.build(rng, shape)
-        item = model[xa.MASKS][1][0]
-        item.pop(xa.RANGE, None)
-        item[xa.MASK_FRAMES] = xa.us(*(rng.randrange(1, shape.frames + 1) for _ in range(count)))
+        item = model[tags.MASK_SUBTRACTION_SEQUENCE][1][0]
+        item.pop(tags.APPLICABLE_FRAME_RANGE, None)
+        item[tags.MASK_FRAME_NUMBERS] = xa.us(*(rng.randrange(1, shape.frames + 1) for _ in range(count)))
         if count == 64:
-            model[xa.PIXEL_DATA] = (model[xa.PIXEL_DATA][0], b"\xFF" * len(model[xa.PIXEL_DATA][1]))
+            model[tags.PIXEL_DATA] = (model[tags.PIXEL_DATA][0], b"\xFF" * len(model[tags.PIXEL_DATA][1]))
         drawn = check_every_frame(comparison, f"average of {count}", model, rng, frames=[1, shape.frames])
         comparison.must_equal("all masked", set(drawn.values()), {1})
 
@@ -143,10 +144,11 @@ def compare_average_rounding(comparison, rng):
             shape = base_shape(rng, bits_allocated=16, bits_stored=stored, frames=count, rows=1, columns=len(sums), masks=("AVG_SUB",),
                                ranges=False, shifts=False)
             model = xa.build(rng, shape)
-            model[xa.MASKS][1][0][xa.MASK_FRAMES] = xa.us(*range(1, count + 1))
-            model[xa.SHARED][1][0][xa.VOI] = xa.sq({xa.CENTER: xa.text("DS", str(2 ** (stored - 1))), xa.WIDTH: xa.text("DS", "10")})
+            model[tags.MASK_SUBTRACTION_SEQUENCE][1][0][tags.MASK_FRAME_NUMBERS] = xa.us(*range(1, count + 1))
+            model[tags.SHARED_FUNCTIONAL_GROUPS_SEQUENCE][1][0][tags.FRAME_VOI_LUT_SEQUENCE] = xa.sq({tags.WINDOW_CENTER: xa.text("DS",
+                                                                                                                                  str(2 ** (stored - 1))), tags.WINDOW_WIDTH: xa.text("DS", "10")})
             junk = 65536 - top - 1  # unused high bits, set in every second sample
-            model[xa.PIXEL_DATA] = ("OW", b"".join(struct.pack("<H", q + (frame < r) + junk * (frame % 2))
+            model[tags.PIXEL_DATA] = ("OW", b"".join(struct.pack("<H", q + (frame < r) + junk * (frame % 2))
                                                    for frame in range(count) for q, r in sums))
             drawn = check_every_frame(comparison, f"rounding of an average of {count}", model, rng, frames=[count])
             comparison.must_equal("masked", drawn, {count: 1})
@@ -161,45 +163,49 @@ def compare_shifts(comparison, rng, rounds):
             rows, columns = 67, 70
         shape = base_shape(rng, masks=("AVG_SUB",), frames=2, rows=rows, columns=columns, ranges=False)
         model = xa.build(rng, shape)
-        item = model[xa.MASKS][1][0]
-        item[xa.MASK_FRAMES] = xa.us(1)
-        item.pop(xa.SHIFT, None)
+        item = model[tags.MASK_SUBTRACTION_SEQUENCE][1][0]
+        item[tags.MASK_FRAME_NUMBERS] = xa.us(1)
+        item.pop(tags.MASK_SUB_PIXEL_SHIFT, None)
         pair = [float(rng.choice(numbers)), float(rng.choice(numbers))]
         other = [rng.randrange(-256, 257) / 4, rng.choice((0.0, -0.0, rng.randrange(-256, 257) / 4))]
         kind = number % 5
         if kind in (0, 1, 2):
-            item[xa.SHIFT] = xa.fl(*pair)  # 0: the item's alone
+            item[tags.MASK_SUB_PIXEL_SHIFT] = xa.fl(*pair)  # 0: the item's alone
         if kind in (1, 2, 3):
-            item[xa.ITEM_ID] = xa.us(7)  # 1: the frame's own wins; 2: its group names another ID; 3: the frame's alone
+            item[tags.SUBTRACTION_ITEM_ID] = xa.us(7)  # 1: the frame's own wins; 2: its group names another ID; 3: the frame's alone
             named = 7 if kind != 2 else 8
-            members = [{xa.ITEM_ID: xa.us(named), xa.SHIFT: xa.fl(*other)}, {xa.ITEM_ID: xa.us(3), xa.SHIFT: xa.fl(9.0, 9.0)}]
+            members = [{tags.SUBTRACTION_ITEM_ID: xa.us(named), tags.MASK_SUB_PIXEL_SHIFT: xa.fl(*other)},
+                       {tags.SUBTRACTION_ITEM_ID: xa.us(3), tags.MASK_SUB_PIXEL_SHIFT: xa.fl(9.0, 9.0)}]
             rng.shuffle(members)
-            for place in rng.choice((model[xa.SHARED][1], model[xa.PER_FRAME][1])):
-                place[xa.FRAME_SHIFT] = xa.sq(*members)
+            for place in rng.choice((model[tags.SHARED_FUNCTIONAL_GROUPS_SEQUENCE][1], model[tags.PER_FRAME_FUNCTIONAL_GROUPS_SEQUENCE][1])):
+                place[tags.FRAME_PIXEL_SHIFT_SEQUENCE] = xa.sq(*members)
         check_every_frame(comparison, f"shift {pair}, frame's own {other}, kind {kind}", model, rng)
 
 
 def each_level_its_own(rng, model):
     """Samples and a window so that every masked x is drawn as a level of its own: a mask that is off by one shows."""
-    stored = struct.unpack("<H", model[xa.BITS_STORED][1])[0]
+    stored = struct.unpack("<H", model[tags.BITS_STORED][1])[0]
     size = 1 if stored == 8 else 2
     low = rng.randrange(2 ** stored - 120)
-    length = len(model[xa.PIXEL_DATA][1])
+    length = len(model[tags.PIXEL_DATA][1])
     samples = b"".join(rng.randrange(low, low + 120).to_bytes(size, "little") for _ in range(length // size))
-    model[xa.PIXEL_DATA] = (model[xa.PIXEL_DATA][0], samples)
-    model[xa.SHARED][1][0][xa.VOI] = xa.sq({xa.CENTER: xa.text("DS", str(2 ** (stored - 1))), xa.WIDTH: xa.text("DS", "256")})
+    model[tags.PIXEL_DATA] = (model[tags.PIXEL_DATA][0], samples)
+    model[tags.SHARED_FUNCTIONAL_GROUPS_SEQUENCE][1][0][tags.FRAME_VOI_LUT_SEQUENCE] = xa.sq({tags.WINDOW_CENTER: xa.text("DS",
+                                                                                                                          str(2 ** (stored - 1))),
+                                                                                              tags.WINDOW_WIDTH: xa.text("DS", "256")})
 
 
 def moved(rng, model, pair, own):
     """The mask is moved by this pair: by the frame's own where `own` says so, else by the mask item's."""
-    item = model[xa.MASKS][1][0]
+    item = model[tags.MASK_SUBTRACTION_SEQUENCE][1][0]
     if not own:
-        item[xa.SHIFT] = xa.fl(*pair)
+        item[tags.MASK_SUB_PIXEL_SHIFT] = xa.fl(*pair)
         return
-    item[xa.SHIFT] = xa.fl(*(rng.randrange(-256, 257) / 4 for _ in range(2)))
-    item[xa.ITEM_ID] = xa.us(7)
-    for place in rng.choice((model[xa.SHARED][1], model[xa.PER_FRAME][1])):
-        place[xa.FRAME_SHIFT] = xa.sq({xa.ITEM_ID: xa.us(8), xa.SHIFT: xa.fl(0.5, 0.5)}, {xa.ITEM_ID: xa.us(7), xa.SHIFT: xa.fl(*pair)})
+    item[tags.MASK_SUB_PIXEL_SHIFT] = xa.fl(*(rng.randrange(-256, 257) / 4 for _ in range(2)))
+    item[tags.SUBTRACTION_ITEM_ID] = xa.us(7)
+    for place in rng.choice((model[tags.SHARED_FUNCTIONAL_GROUPS_SEQUENCE][1], model[tags.PER_FRAME_FUNCTIONAL_GROUPS_SEQUENCE][1])):
+        place[tags.FRAME_PIXEL_SHIFT_SEQUENCE] = xa.sq({tags.SUBTRACTION_ITEM_ID: xa.us(8), tags.MASK_SUB_PIXEL_SHIFT: xa.fl(0.5, 0.5)},
+                                                       {tags.SUBTRACTION_ITEM_ID: xa.us(7), tags.MASK_SUB_PIXEL_SHIFT: xa.fl(*pair)})
 
 
 def quartered(rng, operation, count, rows, columns, pair, own, stored):
@@ -207,9 +213,9 @@ def quartered(rng, operation, count, rows, columns, pair, own, stored):
     model = xa.build(rng, base_shape(rng, masks=(operation,), frames=count + 1, rows=rows, columns=columns, ranges=False, shifts=False,
                                      bits_allocated=8 if stored == 8 else 16, bits_stored=stored, pixel_vr="OW"))
     if operation == "AVG_SUB":
-        model[xa.MASKS][1][0][xa.MASK_FRAMES] = xa.us(*range(1, count + 1))
+        model[tags.MASK_SUBTRACTION_SEQUENCE][1][0][tags.MASK_FRAME_NUMBERS] = xa.us(*range(1, count + 1))
     else:
-        model[xa.MASKS][1][0][xa.TID_OFFSET] = xa.ss(1)
+        model[tags.MASK_SUBTRACTION_SEQUENCE][1][0][tags.TID_OFFSET] = xa.ss(1)
     each_level_its_own(rng, model)
     moved(rng, model, pair, own)
     return model
@@ -264,10 +270,10 @@ def compare_tid(comparison, rng):
         for frames in (1, 3, 5):
             shape = base_shape(rng, masks=("TID",), frames=frames, ranges=False)
             model = xa.build(rng, shape)
-            item = model[xa.MASKS][1][0]
-            item.pop(xa.TID_OFFSET, None)
+            item = model[tags.MASK_SUBTRACTION_SEQUENCE][1][0]
+            item.pop(tags.TID_OFFSET, None)
             if offset is not None:
-                item[xa.TID_OFFSET] = xa.ss(offset)
+                item[tags.TID_OFFSET] = xa.ss(offset)
             drawn = check_every_frame(comparison, f"TID {offset}", model, rng)
             step = 1 if offset is None else offset
             comparison.must_equal(f"TID {offset}: masked or native", drawn,
@@ -278,10 +284,10 @@ def compare_first_item(comparison, rng):
     """The first mask item whose range holds f applies, also where it makes the frame native."""
     shape = base_shape(rng, masks=("TID", "NONE", "AVG_SUB", "AVG_SUB"), frames=9, ranges=False)
     model = xa.build(rng, shape)
-    items = model[xa.MASKS][1]
-    items[0][xa.TID_OFFSET] = xa.ss(2)
+    items = model[tags.MASK_SUBTRACTION_SEQUENCE][1]
+    items[0][tags.TID_OFFSET] = xa.ss(2)
     for item, pairs in zip(items, ((2, 3), (3, 5, 9, 9), (5, 7), (4, 4, 8, 9))):
-        item[xa.RANGE] = xa.us(*pairs)
+        item[tags.APPLICABLE_FRAME_RANGE] = xa.us(*pairs)
     drawn = check_every_frame(comparison, "first mask item", model, rng)
     # Frame 1: no item. 2: TID of frame 0. 3: TID of frame 1. 4, 5, 9: NONE. 6, 7: third item. 8: fourth.
     comparison.must_equal("first mask item", drawn, {1: 0, 2: 0, 3: 1, 4: 0, 5: 0, 6: 1, 7: 1, 8: 1, 9: 0})
@@ -318,12 +324,8 @@ def compare_refused(comparison, rng):
 
 
 def compare_size_limit(comparison):
-    memory = mmap.mmap(-1, reading.MAXIMUM_SIZE + 1, flags=mmap.MAP_PRIVATE | mmap.MAP_ANONYMOUS)
-    outcome = drawing.show(memory, 1, reading.NUMBERS_IN_A_ROW, 16)
-    comparison.must_equal("size limit: the reference", outcome.answer.code, 7)
-    observed = comparison.library.call_on_mapping("xa_show", memory, reading.NUMBERS_IN_A_ROW)
-    comparison.must_be_right("show too many bytes", observed.difference(outcome))
-    comparison.note(("code", 7))
+    comparison.too_large("a picture", lambda memory, length: drawing.show(memory, 1, length, 16),
+                         lambda memory, length: comparison.library.call_on_mapping("xa_show", memory, length))
 
 
 def compare_pixel_intensity(comparison, rng):
@@ -331,7 +333,7 @@ def compare_pixel_intensity(comparison, rng):
     table = {0x00283002: xa.us(256, 0, 16), 0x00283006: ("OW", bytes(reversed(range(256))) * 2), 0x00289474: xa.text("CS", "TO_LINEAR")}
     for where in ("shared", "frames"):
         model = xa.build(rng, base_shape(rng, bits_allocated=8, bits_stored=8, masks=("AVG_SUB",), voi="shared", frames=3))
-        for item in model[xa.SHARED][1] if where == "shared" else model[xa.PER_FRAME][1]:
+        for item in model[tags.SHARED_FUNCTIONAL_GROUPS_SEQUENCE][1] if where == "shared" else model[tags.PER_FRAME_FUNCTIONAL_GROUPS_SEQUENCE][1]:
             item[0x00289422] = xa.sq(table)
             item[0x00289443] = xa.sq({0x00281040: xa.text("CS", "LOG")})
         check_every_frame(comparison, "TO_LINEAR table", model, rng)
@@ -354,7 +356,7 @@ def compare_rewritten(comparison, rng, folder):
     """An accepted object as other programs write it: it is accepted, and each frame is drawn as of our own bytes."""
     model = xa.build(rng, xa.random_shape(rng, frames=3))
     original = xa.encode_at_random(rng, model)
-    rows, columns = (struct.unpack("<H", model[tag][1])[0] for tag in (xa.ROWS, xa.COLUMNS))
+    rows, columns = (struct.unpack("<H", model[tag][1])[0] for tag in (tags.ROWS, tags.COLUMNS))
     written = 0
     for writer, data in outside.rewritten(folder, original):
         count = exact_numbers(data)
@@ -367,28 +369,35 @@ def compare_rewritten(comparison, rng, folder):
     return written
 
 
-def compare_windowed(comparison, rng, folder):
-    """Native frames with a window, drawn by dcmtk as well. It cuts off where step 6 rounds, so a level may be one higher here."""
-    drawn = 0
+def drawn_by_dcmtk(rng, folder):
+    """(name, data set, frame, cells) of native frames with a window as dcmtk's dcm2pnm draws them. It cuts off where step 6 rounds, so
+    its levels may be one lower."""
     for center, width in (("40", "10"), ("128", "256"), ("2048", "4096"), ("1000", "2500.5"), ("100.25", "30.75"), ("30000", "65535")):
         for stored in (8, 12, 16):
             shape = base_shape(rng, bits_allocated=8 if stored == 8 else 16, bits_stored=stored, frames=2, rows=16, columns=16,
                                photometric=rng.choice(("MONOCHROME1", "MONOCHROME2")), pixel_vr="OW")
             model = xa.build(rng, shape)
             values = every_value(stored)
-            model[xa.PIXEL_DATA] = ("OW", values + values[::-1] if stored == 8 else values * 2)
-            model[xa.SHARED][1][0][xa.VOI] = xa.sq({xa.CENTER: xa.text("DS", center), xa.WIDTH: xa.text("DS", width)})
+            model[tags.PIXEL_DATA] = ("OW", values + values[::-1] if stored == 8 else values * 2)
+            model[tags.SHARED_FUNCTIONAL_GROUPS_SEQUENCE][1][0][tags.FRAME_VOI_LUT_SEQUENCE] = xa.sq({tags.WINDOW_CENTER: xa.text("DS", center),
+                                                                                                      tags.WINDOW_WIDTH: xa.text("DS", width)})
             data = xa.encode_at_random(rng, model)
-            count = exact_numbers(data)
             for frame in (1, 2):
-                name = f"window {center}, {width}, {stored} bits, frame {frame}, also drawn by dcmtk"
-                check_show(comparison, name, data, frame, count, 256)
-                ours = drawing.show(data, frame, count, 256).image
-                theirs = outside.windowed_by_dcmtk(folder, data, frame, center, width)
-                comparison.must_equal(f"{name}: size", len(theirs), 256)
-                far = [(place, one, other) for place, (one, other) in enumerate(zip(ours, theirs)) if abs(one - other) > 1]
-                comparison.must_equal(f"{name}: levels that differ by more than one", far, [])
-                drawn += 1
+                name = f"window {center}, {width}, {stored} bits, frame {frame}, drawn by dcmtk"
+                yield name, data, frame, outside.windowed_by_dcmtk(folder, data, frame, center, width)
+
+
+def compare_windowed(comparison, rng, folder):
+    """Frames that dcmtk draws as well."""
+    drawn = 0
+    for name, data, frame, theirs in drawn_by_dcmtk(rng, folder):
+        count = exact_numbers(data)
+        check_show(comparison, name, data, frame, count, 256)
+        ours = drawing.show(data, frame, count, 256).image
+        comparison.must_equal(f"{name}: size", len(theirs), 256)
+        far = [(place, one, other) for place, (one, other) in enumerate(zip(ours, theirs)) if abs(one - other) > 1]
+        comparison.must_equal(f"{name}: levels that differ by more than one", far, [])
+        drawn += 1
     return drawn
 
 

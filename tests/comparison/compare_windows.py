@@ -128,7 +128,7 @@ def compare_every_level(windows, rng):
 
 
 def compare_edges(windows, rng):
-    """Windows whose edges stand exactly on a sample, and a millionth beside it."""
+    """Windows whose edges are exactly at a sample, and a millionth beside it."""
     for function, photometric in kinds():
         less = 0 if function == b"LINEAR_EXACT" else UNIT  # the upper edge is at C + W / 2 - u for LINEAR
         for width in (UNIT, 2 * UNIT, 2 * UNIT + 2, 10 * UNIT, least_width(function) + 1, least_width(function) + 2 * rng.randrange(UNIT)):
@@ -151,7 +151,7 @@ def compare_words(comparison, rng):
 
 
 def compare_characters(comparison):
-    """Every byte in every place of both words, and behind them."""
+    """Every byte in every place of both words, and after them."""
     probe = Probe(comparison.library, 1, "MONOCHROME2", True)
     for word in (b"LINEAR", b"LINEAR_EXACT"):
         for at in range(len(word) + 1):

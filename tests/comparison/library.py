@@ -17,7 +17,7 @@ from reference.answers import Answer
 from reference.canonical import CanonicalAnswer
 from reference.comparing import Compared
 
-GUARD = 64  # bytes in front of and behind a buffer
+GUARD = 64  # bytes before and after a buffer
 ROOT = os.path.dirname(os.path.dirname(os.path.dirname(os.path.abspath(__file__))))
 HEADER = os.path.join(ROOT, "include", "luuxidgaan.h")
 
@@ -319,7 +319,7 @@ class Library:
 
     def write_slip(self, verdict, slip_buffer_length, flag=1, unknown=ROWS_NOT_KNOWN):
         """The code answered, and the slip buffer. `flag` says that the rows are known; where they are None, the flag handed
-        over is 0 and `unknown` stands in their place."""
+        over is 0 and `unknown` takes their place."""
         slip = GuardedBuffer(slip_buffer_length)
         if verdict.rows is None:
             verdict, flag = verdict._replace(rows=unknown), 0

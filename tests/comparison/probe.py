@@ -8,9 +8,10 @@ from generators import enhanced_xa as xa
 from generators import objects
 
 from .common import exact_numbers
+from reference import attributes as tags
 
 FIELD = 26  # bytes of each value of the window: shorter ones are padded with spaces
-PLACES = {xa.CENTER: "DS", xa.WIDTH: "DS", xa.FUNCTION: "CS"}
+PLACES = {tags.WINDOW_CENTER: "DS", tags.WINDOW_WIDTH: "DS", tags.VOI_LUT_FUNCTION: "CS"}
 
 
 class Probe:
@@ -19,10 +20,11 @@ class Probe:
     def __init__(self, library, samples=1, photometric="MONOCHROME2", function=False):
         shape = xa.Shape(bits_stored=16, frames=1, rows=1, columns=samples, photometric=photometric, voi="absent", extras=False)
         model = xa.build(random.Random(1), shape)
-        tags = [xa.CENTER, xa.WIDTH] + ([xa.FUNCTION] if function else [])
-        marks = {tag: bytes([number + 1]) * FIELD for number, tag in enumerate(tags)}
-        model[xa.PER_FRAME][1][0][xa.VOI] = xa.sq({tag: (PLACES[tag], mark) for tag, mark in marks.items()})
-        model[xa.PIXEL_DATA] = ("OW", bytes(2 * samples))
+        places = [tags.WINDOW_CENTER, tags.WINDOW_WIDTH] + ([tags.VOI_LUT_FUNCTION] if function else [])
+        marks = {tag: bytes([number + 1]) * FIELD for number, tag in enumerate(places)}
+        model[tags.PER_FRAME_FUNCTIONAL_GROUPS_SEQUENCE][1][0][tags.FRAME_VOI_LUT_SEQUENCE] = xa.sq({tag: (PLACES[tag], mark) for tag,
+                                                                                                     mark in marks.items()})
+        model[tags.PIXEL_DATA] = ("OW", bytes(2 * samples))
         data = objects.encode(model)
         self.places = [data.index(mark) for mark in marks.values()]
         self.pixels = len(data) - 2 * samples

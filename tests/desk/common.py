@@ -1,4 +1,4 @@
-"""What the tests of the desk tool share: made runs, pictures that are read back, and a folder in which commands run."""
+"""What the tests of the desk tool share: generated runs, readers of pictures, and a folder in which commands run."""
 
 import os
 import random
@@ -14,6 +14,7 @@ from generators import enhanced_xa as xa
 from generators.mutations import CHANGES
 from generators.objects import element, encode
 from reference.parents import table_of
+from reference import attributes as tags
 from reference import reading
 
 TESTS = os.path.dirname(os.path.dirname(os.path.abspath(__file__)))
@@ -21,8 +22,8 @@ ROOT = os.path.dirname(TESTS)
 WRAPPER = os.path.join(ROOT, "luux")
 TOOL = os.path.join(ROOT, "host", "target", "release", "luux")
 NOBODY = 65534
-LARGE = 10_000_000  # numbers in the reference's row buffer, more than any object here takes
-OWN_MEMORY = 32 << 20  # what the tool may take beside the mapped file
+LARGE = 10_000_000  # numbers in the reference's row buffer, more than any object here needs
+OWN_MEMORY = 32 << 20  # what the tool may take besides the mapped file
 FINE, REFUSED, FAILED = 0, 1, 2
 
 # What each rule asks, by its number, from the source of the program judge_one.
@@ -31,7 +32,7 @@ with open(os.path.join(ROOT, "crates", "judge_one", "src", "sentence.rt"), encod
 
 
 # ---------------------------------------------------------------------------------------------------------------------
-# Made runs
+# Generated runs
 
 
 def good_run(seed=1, **shape):
@@ -40,14 +41,14 @@ def good_run(seed=1, **shape):
 
 def item_left_out(seed=2):
     model = xa.build(random.Random(seed), xa.Shape(frames=5, extras=False))
-    del model[xa.PER_FRAME][1][2]
+    del model[tags.PER_FRAME_FUNCTIONAL_GROUPS_SEQUENCE][1][2]
     return encode(model)
 
 
 def content_left_out(frame):
     """Rule 28 is broken at the frame."""
     model = xa.build(random.Random(3), xa.Shape(frames=7, extras=False))
-    del model[xa.PER_FRAME][1][frame - 1][xa.FRAME_CONTENT]
+    del model[tags.PER_FRAME_FUNCTIONAL_GROUPS_SEQUENCE][1][frame - 1][tags.FRAME_CONTENT_SEQUENCE]
     return encode(model)
 
 
@@ -89,13 +90,13 @@ def rows_of(data):
 def item_row(data, frame):
     """The number, from 1, of the row of a frame's item: among the rows whose parent is the per-frame sequence at the root."""
     rows = list(enumerate(rows_of(data), 1))
-    sequence, = (number for number, row in rows if row[0] == xa.PER_FRAME and row[6] == 0)
+    sequence, = (number for number, row in rows if row[0] == tags.PER_FRAME_FUNCTIONAL_GROUPS_SEQUENCE and row[6] == 0)
     return [number for number, row in rows if row[6] == sequence][frame - 1]
 
 
 def expected_line(answer, data, start=None):
-    """What judge says of an answer. The meaning of a code is the tool's own text, so only its beginning is held to. `start` is where a
-    file's data set starts."""
+    """What judge prints for an answer. The meaning of a code is the tool's own text, so only the start of the line is compared. `start` is
+    where a file's data set starts."""
     if answer.code == 0:
         return "accepted"
     if answer.code == 9:
@@ -160,7 +161,7 @@ def read_pgm(path, size=1):
 
 
 class Desk(unittest.TestCase):
-    """A temporary folder, which commands run in. Where `bare`, runs are data sets without a head, and the tool is told so."""
+    """A temporary folder in which commands run. If `bare`, runs are data sets without a head, and commands get --bare."""
 
     bare = True
 
@@ -179,7 +180,7 @@ class Desk(unittest.TestCase):
             file.write(content)
 
     def luux(self, *words, status=FINE, tool=TOOL, **options):
-        """Runs a command, expects its exit status, and answers its output as bytes."""
+        """Runs a command, checks its exit status, and returns its output as bytes."""
         if self.bare and words and words[0] in ("judge", "rows", "show", "contact", "canonical", "duplicates", "linear", "sheet", "compare", "movie", "report"):
             words = (words[0], "--bare", *words[1:])
         done = subprocess.run([tool, *words], cwd=self.folder, capture_output=True, timeout=100, **options)
@@ -188,12 +189,12 @@ class Desk(unittest.TestCase):
         return done
 
     def lines(self, *words, found=False, **options):
-        """The lines of a command, without what a refusal found unless that is asked for; it has tests of its own."""
+        """The lines of a command, without what a refusal found unless `found`; that has tests of its own."""
         lines = self.luux(*words, **options).stdout.decode().splitlines()
         return lines if found else [re.sub(r" Found: .*?\.($| Moved to | Not moved | Its )", r"\1", line) for line in lines]
 
     def check_json(self, one, answer):
-        """An object of --json tells these fields of an answer; whatever others it names are the answer's too."""
+        """An object of --json has these fields of an answer; any others that it shares with the answer are equal too."""
         self.assertLessEqual({"code", "offset", "rows", "rule", "frame", "searches"}, one.keys())
         named = {name: value for name, value in answer._asdict().items() if name in one}
         self.assertEqual({name: one[name] for name in named}, named)

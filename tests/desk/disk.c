@@ -1,4 +1,4 @@
-/* A stand-in for bad storage. Preloaded, it makes calls on files fail or linger, by what stands in their paths:
+/* A stand-in for bad storage. Preloaded, it makes calls on files fail or hang, by words in their paths:
  *
  *   bad-sector   reading past byte 4096 fails with EIO
  *   slow-disk    each read takes a minute

@@ -6,7 +6,7 @@ import subprocess
 import tempfile
 import unittest
 
-from desk.common import FAILED, FINE, REFUSED, TOOL, Desk, good_run, with_head
+from desk.common import FAILED, FINE, REFUSED, Desk, good_run, with_head
 
 HERE = os.path.dirname(os.path.abspath(__file__))
 
@@ -78,18 +78,18 @@ class TestDisks(Desk):
         self.assertEqual(said[-1], f"6 files: {6 - len(bad)} accepted, 0 refused, {len(bad)} could not be read")
         # Mapped, the process of the file ends by a signal, and the batch goes on.
         for line in self.lines("judge", "--map", "--timeout", "20", *(f"disk/{name}.dcm" for name in "abcdef"), status=FAILED)[:-1]:
-            self.assertRegex(line, r"^disk/[a-f]\.dcm: (accepted|its judging ended with signal 7; there is no verdict)$")
+            self.assertRegex(line, r"^disk/[a-f]\.dcm: (accepted|the process that judged it ended with signal 7; there is no verdict)$")
 
     def test_a_disk_that_hangs(self):
         for name in ("runs/a.dcm", "runs/slow-disk.dcm", "runs/c.dcm"):
             self.put(name, with_head(good_run()))
         said = self.with_bad_disk("judge", "runs", "--timeout", "1", status=FAILED).stdout.decode().splitlines()
         self.assertEqual(said, ["runs/a.dcm: accepted", "runs/c.dcm: accepted",
-                                "runs/slow-disk.dcm: took more than 1 seconds, the --timeout; there is no verdict",
+                                "runs/slow-disk.dcm: took longer than the --timeout of 1 s; there is no verdict",
                                 "3 files: 2 accepted, 0 refused, 1 could not be read"])
 
     def test_a_full_disk(self):
-        """Slips, pictures and canonical forms that cannot be written leave nothing behind, and what was there stays."""
+        """Slips, pictures and canonical forms that cannot be written leave nothing behind, and older files stay."""
         for name in ("runs/a.dcm", "runs/b.dcm"):
             self.put(name, with_head(good_run()))
         for place, trouble in (("full-disk", "No space left on device"), ("lost-disk", "Input/output error")):

@@ -1,4 +1,4 @@
-"""Folders as they are: with files that are not ours, names that are hostile, and verdicts that are kept beside them."""
+"""Real folders: files that are not ours, hostile names, slips and files that are moved."""
 
 import json
 import os
@@ -7,10 +7,9 @@ import struct
 import subprocess
 import unittest
 
-from generators import enhanced_xa as xa
-from desk.common import CLASSES, FAILED, FINE, LARGE, REFUSED, TOOL, Desk, content_left_out, good_run, item_left_out, with_head
-from generators.objects import element, encode, item, sequence
-from reference import drawing, files, rules, slips
+from desk.common import CLASSES, FAILED, LARGE, REFUSED, TOOL, Desk, good_run, item_left_out, with_head
+from generators.objects import element, item, sequence
+from reference import drawing, files, slips
 
 CT = b"1.2.840.10008.5.1.4.1.1.2"
 DIRECTORY = b"1.2.840.10008.1.3.10"
@@ -89,8 +88,8 @@ class TestOthers(Desk):
         self.luux("judge", "run.dcm", "in")
         self.assertEqual(self.lines("judge", "run.dcm", "notes.txt", status=REFUSED)[1], "notes.txt: not ours: text")
         done = self.luux("judge", "in", status=FAILED)
-        self.assertIn(b"there is no run in what was named", done.stderr)
-        # Bare data sets are what it was said that they are.
+        self.assertIn(b"no runs were found", done.stderr)
+        # With --bare every file is a data set.
         self.assertTrue(self.lines("judge", "--bare", "in", status=REFUSED)[0].startswith("in/notes.txt: code "))
 
     def test_duplicates(self):
@@ -98,12 +97,12 @@ class TestOthers(Desk):
         self.put("night/b.dcm", with_head(good_run()))
         self.put("night/notes.txt", b"notes")
         done = self.luux("duplicates", "night")
-        self.assertTrue(done.stdout.endswith(b"3 files: 2 with an equal in 1 group, 0 refused, 0 could not be read, 1 not ours\n"))
+        self.assertTrue(done.stdout.endswith(b"3 files: 2 equal in 1 group, 0 refused, 0 could not be read, 1 not ours\n"))
         self.assertIn(b"night/notes.txt: not ours: text", done.stderr)
         self.luux("duplicates", "night/notes.txt", "night", status=REFUSED)
 
     def test_code_18_from_every_command(self):
-        """A good data set behind a head of another class is refused by all."""
+        """A good data set with a head of another class is refused by every command."""
         data = good_run(frames=2, rows=2, columns=2)
         self.put("run.dcm", with_head(data, CLASSES["XRF"] if CLASSES["XA"] in data else CLASSES["XA"]))
         self.put("run.xa", data)
@@ -164,7 +163,7 @@ class TestMoving(Desk):
         words = ("judge", "in", "--move-accepted", "done", "--move-refused", "in/bad", "--slips", "slips")
         said = self.lines(*words, status=REFUSED)
         self.assertEqual(said[1], "in/good.dcm: accepted; moved to done/in/good.dcm")
-        # Behind a sentence stands a sentence.
+        # A sentence is followed by a sentence.
         self.assertTrue(said[3].endswith(" says. Moved to in/bad/in/sub/bad.dcm."), said[3])
         self.assertEqual(os.stat(self.path("done", "in", "good.dcm")).st_ino, number)
         found = sorted(os.path.relpath(os.path.join(folder, name), self.folder) for folder, _, names in os.walk(self.folder) for name in names)
@@ -172,16 +171,16 @@ class TestMoving(Desk):
                                  "slips/in/sub/bad.dcm.slip"])
         # What was moved into the folder is not judged again.
         done = self.luux(*words, status=FAILED)
-        self.assertIn(b"in/bad: skipped: a folder that luux writes to is not judged", done.stderr)
+        self.assertIn(b"in/bad: skipped: luux writes to this folder", done.stderr)
 
     def test_never_over_a_file(self):
         self.put("in/good.dcm", with_head(good_run()))
         self.put("done/in/good.dcm", b"another")
         said = self.lines("judge", "in", "--move-accepted", "done", status=FAILED)
-        self.assertEqual(said, ["in/good.dcm: accepted; not moved to done/in/good.dcm: there is a file of that name",
+        self.assertEqual(said, ["in/good.dcm: accepted; not moved to done/in/good.dcm: that file exists already",
                                 "1 file: 1 accepted, 0 refused, 0 could not be read, 1 could not be moved"])
         found = json.loads(self.lines("judge", "in", "--move-accepted", "done", "--json", status=FAILED)[0])
-        self.assertEqual((found["verdict"], found["move_error"]), ("accepted", "there is a file of that name"))
+        self.assertEqual((found["verdict"], found["move_error"]), ("accepted", "that file exists already"))
         with open(self.path("done", "in", "good.dcm"), "rb") as file:
             self.assertEqual(file.read(), b"another")
         self.assertTrue(os.path.exists(self.path("in", "good.dcm")))
@@ -194,7 +193,7 @@ class TestMoving(Desk):
         if os.path.isdir("/dev/shm") and os.stat("/dev/shm").st_dev != os.stat(self.folder).st_dev:
             place = f"/dev/shm/{os.path.basename(self.folder)}"
             said = self.lines("judge", "runs", "--move-accepted", place, status=FAILED)[0]
-            self.assertTrue(said.endswith("it is on another file system, and files are only renamed"), said)
+            self.assertTrue(said.endswith("it is on another file system, and luux only renames files"), said)
             os.removedirs(os.path.join(place, "runs"))
         self.assertTrue(os.path.exists(self.path("runs", "good.dcm")))
 
@@ -245,7 +244,7 @@ class TestKeepingSlips(Desk):
         self.put("in/run.dcm", with_head(good_run()))
         self.put("in/.luux-abc.tmp", b"half")
         done = self.luux("judge", "in", "--slips", "in")
-        self.assertIn(b"in/.luux-abc.tmp: skipped: a draft of luux", done.stderr)
+        self.assertIn(b"in/.luux-abc.tmp: skipped: a draft that luux left behind", done.stderr)
         self.assertEqual(sorted(os.listdir(self.path("in"))), [".luux-abc.tmp", "in", "run.dcm"])
 
     def test_permissions_are_those_that_the_user_gives(self):
@@ -290,7 +289,7 @@ HOSTILE = {
 
 class TestHostileNames(Desk):
     def test_lines(self):
-        """Each name in print is as listed, is one line, and leads back to the name."""
+        """Each name is printed as listed, on one line, and can be read back."""
         for name in HOSTILE:
             self.put(b"in/" + os.fsencode(name), good_run())
         said = self.luux("judge", "in", "--slips", "s").stdout.decode("utf-8")
@@ -312,7 +311,7 @@ class TestHostileNames(Desk):
         self.assertEqual(names, {b"in/" + os.fsencode(name) for name in HOSTILE})
 
     def test_random_names(self):
-        """No two names look the same: what is printed leads back to the bytes."""
+        """No two names look the same: the bytes can be read back from what is printed."""
         rng = random.Random(7)
         letters = ["a", "\\", "x", "u", "{", "}", "0", "A", "\n", "\x85", "\u202e", "\u2028", "é", " "]
         names = {b"in/" + b"".join(rng.choice([rng.choice(letters).encode(), rng.randbytes(1).replace(b"/", b"_").replace(b"\0", b"_")])
@@ -325,7 +324,7 @@ class TestHostileNames(Desk):
 
 
 def back(shown):
-    """The bytes of a name in print."""
+    """The bytes of a printed name."""
     made, at = b"", 0
     while at < len(shown):
         if shown[at] != "\\":

@@ -8,6 +8,7 @@ import struct
 from generators import enhanced_xa as xa
 from generators.mutations import CHANGES
 from generators.objects import element, element_header, encode, item_header
+from reference import attributes as tags
 from reference import rules
 
 from .common import LARGE, REFUSED, SENTENCES, Desk, good_run, item_left_out, rows_of, with_head
@@ -43,22 +44,22 @@ class TestFound(Desk):
     def test_items_and_frames(self):
         """The sender left out one of 900 items."""
         def left_out(model):
-            del model[xa.PER_FRAME][1][811]
+            del model[tags.PER_FRAME_FUNCTIONAL_GROUPS_SEQUENCE][1][811]
         self.assertEqual(self.found(changed(left_out, frames=900, rows=1, columns=1)), [
             "899 items in Per-frame Functional Groups Sequence (5200,9230)", "900 frames by Number of Frames (0028,0008)"])
         self.assertEqual(self.found(item_left_out())[0][:7], "4 items")
 
     def test_both_lengths(self):
         def shortened(model):
-            vr, value = model[xa.PIXEL_DATA]
-            model[xa.PIXEL_DATA] = (vr, value[:-4])
+            vr, value = model[tags.PIXEL_DATA]
+            model[tags.PIXEL_DATA] = (vr, value[:-4])
         self.assertEqual(self.found(changed(shortened, frames=3, rows=4, columns=5)), [
             "116 bytes in Pixel Data (7FE0,0010) OW", "3 frames x 4 rows x 5 columns x 16 bits are 120 bytes"])
 
     def test_a_word(self):
-        for tag, name, rule in ((xa.MODALITY, "Modality", 2), (xa.PHOTOMETRIC, "Photometric Interpretation", 10),
-                                (xa.CONTENT_QUALIFICATION, "Content Qualification", 16), (xa.BURNED_IN, "Burned In Annotation", 17),
-                                (xa.LOSSY, "Lossy Image Compression", 18)):
+        for tag, name, rule in ((tags.MODALITY, "Modality", 2), (tags.PHOTOMETRIC_INTERPRETATION, "Photometric Interpretation", 10),
+                                (tags.CONTENT_QUALIFICATION, "Content Qualification", 16), (tags.BURNED_IN_ANNOTATION, "Burned In Annotation", 17),
+                                (tags.LOSSY_IMAGE_COMPRESSION, "Lossy Image Compression", 18)):
             called = f"{name} {tag_text(tag)}"
             for value, text in ((("CS", b"ODD WORD"), f'{called} CS "ODD WORD"'), (("LO", b"XA"), f'{called} LO "XA"'),
                                 (("CS", b""), f"{called} CS empty"), (("CS", b"A\\B "), f'{called} CS "A\\B"'),
@@ -70,36 +71,36 @@ class TestFound(Desk):
 
     def test_numbers(self):
         def odd(model):
-            model[xa.BITS_STORED] = xa.us(17)
+            model[tags.BITS_STORED] = xa.us(17)
         self.assertEqual(self.found(changed(odd)), ["Bits Allocated (0028,0100) US 16", "Bits Stored (0028,0101) US 17"])
 
     def test_the_item_of_a_frame(self):
-        """A group is told as the frame's own or the shared one; an item by its number."""
+        """A group is named as the frame's own or the shared one, an item by its number."""
         def lost(model):
-            del model[xa.PER_FRAME][1][3][xa.VOI][1][0][xa.WIDTH]
+            del model[tags.PER_FRAME_FUNCTIONAL_GROUPS_SEQUENCE][1][3][tags.FRAME_VOI_LUT_SEQUENCE][1][0][tags.WINDOW_WIDTH]
         texts = self.found(changed(lost, voi="frames"))
         self.assertEqual(texts[0], "1 item in Frame VOI LUT Sequence (0028,9132) in frame 4")
         self.assertEqual(texts[2], "Window Width (0028,1051) absent from item 1 of (0028,9132) of frame 4")
 
         def lost_for_all(model):
-            del model[xa.SHARED][1][0][xa.VOI][1][0][xa.WIDTH]
+            del model[tags.SHARED_FUNCTIONAL_GROUPS_SEQUENCE][1][0][tags.FRAME_VOI_LUT_SEQUENCE][1][0][tags.WINDOW_WIDTH]
         self.assertEqual(self.found(changed(lost_for_all, voi="shared"))[2],
                          "Window Width (0028,1051) absent from item 1 of (0028,9132) of the shared item")
 
         def twice(model):
-            model[xa.PER_FRAME][1][2][xa.VOI] = model[xa.SHARED][1][0][xa.VOI]
+            model[tags.PER_FRAME_FUNCTIONAL_GROUPS_SEQUENCE][1][2][tags.FRAME_VOI_LUT_SEQUENCE] = model[tags.SHARED_FUNCTIONAL_GROUPS_SEQUENCE][1][0][tags.FRAME_VOI_LUT_SEQUENCE]
         self.assertEqual(self.found(changed(twice, voi="shared")), ["Frame VOI LUT Sequence (0028,9132) in the shared item and in frame 3"])
 
     def test_mask_items(self):
         def odd(model):
-            for item, word in zip(model[xa.MASKS][1], ("AVG_SUB", " REV_TID")):
-                item[xa.OPERATION] = xa.text("CS", word)
+            for item, word in zip(model[tags.MASK_SUBTRACTION_SEQUENCE][1], ("AVG_SUB", " REV_TID")):
+                item[tags.MASK_OPERATION] = xa.text("CS", word)
         self.assertEqual(self.found(changed(odd, masks=("AVG_SUB", "TID"))), [
             "2 items in Mask Subtraction Sequence (0028,6100)", 'Mask Operation (0028,6101) CS "AVG_SUB" in item 1 of (0028,6100)',
             'Mask Operation (0028,6101) CS " REV_TID" in item 2 of (0028,6100)'])
 
     def test_every_way_to_break_a_rule(self):
-        """Whatever is broken: each finding names an element that the rule speaks of, in its row, with its value or as absent."""
+        """Each finding names an element of the rule's sentence, with its row and its value, or as absent."""
         rng = random.Random(21)
         answers = []
         for number, change in enumerate(CHANGES):
@@ -125,7 +126,7 @@ class TestFound(Desk):
             if "tag" not in finding:
                 self.assertEqual(rule, 38)
                 continue
-            if rule != 27:  # which sequences stand twice, its sentence cannot say
+            if rule != 27:  # its sentence cannot say which sequences are repeated
                 self.assertIn(finding["tag"], spoken | {"(0008,0016)"} if rule == 2 else spoken)
             self.assertIn(finding["tag"], finding["text"])
             if finding["row"] == 0:
@@ -137,7 +138,7 @@ class TestFound(Desk):
                                 (rule, finding, self.values(data, rows, finding["row"])))
 
     def values(self, data, rows, number):
-        """How an element may be told: its value, or how much of it there is."""
+        """How an element may be printed: its value, or its size."""
         tag, vr, _, offset, length, _, _ = rows[number - 1]
         vr = chr(vr >> 8) + chr(vr & 255)
         value = data[offset:offset + length]
@@ -159,14 +160,14 @@ class TestFound(Desk):
     def test_where_reading_stopped(self):
         first = element(0x00080060, "CS", b"XA")
         for data, texts in (
-                (first + b"\x28\0\x10\0ZZ\2\0\1\0", ['Rows (0028,0010), VR "ZZ", length 2, with 2 bytes of the data set behind that header',
+                (first + b"\x28\0\x10\0ZZ\2\0\1\0", ['Rows (0028,0010), VR "ZZ", length 2, followed by 2 bytes',
                                                     "the element before it is Modality (0008,0060)"]),
-                (first + element(0x00080008, "CS", b"XA"), ['Image Type (0008,0008), VR "CS", length 2, with 2 bytes of the data set behind that header',
+                (first + element(0x00080008, "CS", b"XA"), ['Image Type (0008,0008), VR "CS", length 2, followed by 2 bytes',
                                                            "the element before it is Modality (0008,0060)"]),
-                (first + b"\1\2\3", ["3 bytes left, 01 02 03", "the element before it is Modality (0008,0060)"]),
-                (element_header(0x7FE00010, "OW", 1000), ['Pixel Data (7FE0,0010), VR "OW", length 1000, with 0 bytes of the data set behind that header']),
-                (element_header(0x7FE00010, "OB", 0xFFFFFFFF), ['Pixel Data (7FE0,0010), VR "OB", undefined length, with 0 bytes of the data set behind that header']),
-                (item_header(0), ["Item (FFFE,E000), length 0, with 0 bytes of the data set behind that header"])):
+                (first + b"\1\2\3", ["3 bytes left: 01 02 03", "the element before it is Modality (0008,0060)"]),
+                (element_header(0x7FE00010, "OW", 1000), ['Pixel Data (7FE0,0010), VR "OW", length 1000, followed by 0 bytes']),
+                (element_header(0x7FE00010, "OB", 0xFFFFFFFF), ['Pixel Data (7FE0,0010), VR "OB", undefined length, followed by 0 bytes']),
+                (item_header(0), ["Item (FFFE,E000), length 0, followed by 0 bytes"])):
             self.assertEqual(self.found(data), texts)
 
     def test_files(self):
@@ -175,14 +176,14 @@ class TestFound(Desk):
         self.assertEqual(self.found(b"\1" * 100), ["the file has 100 bytes"])
         self.assertEqual(self.found(b"\1" * 200), ["bytes 128 to 131 are 01 01 01 01"])
         self.assertEqual(self.found(bytes(128) + b"DICM" + element(0x00020010, "UI", b"1.2\0")),
-                         ['Transfer Syntax UID (0002,0010), VR "UI", length 4, with 4 bytes of the data set behind that header'])
+                         ['Transfer Syntax UID (0002,0010), VR "UI", length 4, followed by 4 bytes'])
         self.assertEqual(self.found(with_head(good_run(), b"1.2.3\0")), [
             'Media Storage SOP Class UID (0002,0002) UI "1.2.3"', 'SOP Class UID (0008,0016) UI "1.2.840.10008.5.1.4.1.1.12.1.1"'])
 
     def test_no_end_of_items(self):
-        """What is told stays short, whatever there is."""
+        """The line stays short, however much there is."""
         def many(model):
-            model[xa.MASKS] = xa.sq(*({xa.OPERATION: xa.text("CS", "X" * 600)} for _ in range(5000)))
+            model[tags.MASK_SUBTRACTION_SEQUENCE] = xa.sq(*({tags.MASK_OPERATION: xa.text("CS", "X" * 600)} for _ in range(5000)))
         texts = self.found(changed(many))
         self.assertEqual(texts[0], "5000 items in Mask Subtraction Sequence (0028,6100)")
         self.assertLess(len("; ".join(texts)), 40_000)

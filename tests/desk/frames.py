@@ -1,4 +1,4 @@
-"""`luux show` of several frames, to folders and standard output, `luux movie`, and frames beside themselves without their mask."""
+"""`luux show` of several frames, to folders and standard output; `luux movie`; and --both."""
 
 import os
 import random
@@ -7,19 +7,20 @@ import zlib
 
 from generators import enhanced_xa as xa
 from generators.objects import encode
+from reference import attributes as tags
 from reference import drawing
 
 from .common import FAILED, LARGE, REFUSED, Desk, content_left_out, good_run, read_pgm, read_png, unfilter
 
 
 def split_pngs(content):
-    """PNG files that stand one behind the other."""
+    """Concatenated PNG files."""
     parts = content.split(b"\x89PNG\r\n\x1a\n")
     return [b"\x89PNG\r\n\x1a\n" + part for part in parts[1:]]
 
 
 def animation(path):
-    """Width, height, frames a second, and the cells of each frame of an animated PNG of 8-bit grey."""
+    """Width, height, frames per second, and the cells of each frame of an animated 8-bit grey PNG."""
     with open(path, "rb") as file:
         content = file.read()
     at, frames, count, delays = 8, [], None, []
@@ -57,7 +58,7 @@ def unpacked(width, height, packed):
 
 def without_masks(model):
     """The same run with no mask item."""
-    return encode({tag: value for tag, value in model.items() if tag != xa.MASKS})
+    return encode({tag: value for tag, value in model.items() if tag != tags.MASK_SUBTRACTION_SEQUENCE})
 
 
 def beside(width, left, right):
@@ -103,10 +104,10 @@ class TestFrames(Desk):
         self.assertEqual(done.stdout, b"".join(b"P5\n9 6\n255\n" + self.drawn(frame)[0] for frame in (2, 3)))
 
     def test_refused(self):
-        """Nothing is written where a frame is none of the run; with `-` only pictures go to standard output."""
+        """Nothing is written if a frame is not in the run; with `-` only pictures go to standard output."""
         for frames, out in (("0-3", "out"), ("5-13", "out"), ("13", "x.png")):
             self.assertEqual(self.lines("show", "run.xa", frames, "-o", out, status=REFUSED),
-                             ["run.xa: code 10: no such frame; it has frames 1 to 12"])
+                             ["run.xa: code 10: no such frame; the run has frames 1 to 12"])
             self.assertIn(b"code 10", self.luux("show", "run.xa", frames, "-o", "-", status=REFUSED).stderr)
         for words in (("4-2",), ("1-",), ("some",), ("1-2", "-o", "x.png"), ("1", "-o", "x.jpg"), ("1", "--as", "jpg")):
             self.assertIn(b"error:", self.luux("show", "run.xa", *words, status=FAILED).stderr)
@@ -132,12 +133,12 @@ class TestFrames(Desk):
             self.assertEqual(file.read(), self.data)
 
     def test_both_for_every_operation(self):
-        """However an operation is padded and wherever its item stands, no mask is left."""
+        """No mask is left, however the operation is padded and wherever its item is."""
         rng = random.Random(42)
         for _ in range(25):
             model = xa.build(rng, xa.random_shape(rng, masks=tuple(rng.choice(("NONE", "AVG_SUB", "TID")) for _ in range(3)), frames=3))
             data = xa.encode_at_random(rng, model)
-            width, height = struct.unpack("<HH", model[xa.COLUMNS][1] + model[xa.ROWS][1])
+            width, height = struct.unpack("<HH", model[tags.COLUMNS][1] + model[tags.ROWS][1])
             self.put("some.xa", data)
             self.luux("show", "some.xa", "2", "--both", "-o", "x.pgm")
             native = self.drawn(2, without_masks(model))[0]
@@ -145,9 +146,10 @@ class TestFrames(Desk):
 
     def test_movie(self):
         plain = without_masks(self.model)
-        self.assertEqual(self.lines("movie", "run.xa", "-o", "x.png"), ["x.png: 9 x 6, frames 1 to 12, 10 a second"])
+        self.assertEqual(self.lines("movie", "run.xa", "-o", "x.png"), ["x.png: 9 x 6, frames 1 to 12, 10 per second"])
         self.assertEqual(animation(self.path("x.png")), (9, 6, 10, [self.drawn(frame)[0] for frame in range(1, 13)]))
-        self.assertEqual(self.lines("movie", "run.xa", "3-5", "--both", "--rate", "25"), ["run.xa.movie.png: 18 x 6, frames 3 to 5, beside native, 25 a second"])
+        self.assertEqual(self.lines("movie", "run.xa", "3-5", "--both", "--rate", "25"),
+                         ["run.xa.movie.png: 18 x 6, frames 3 to 5, beside native, 25 per second"])
         self.assertEqual(animation(self.path("run.xa.movie.png")),
                          (18, 6, 25, [beside(9, self.drawn(frame)[0], self.drawn(frame, plain)[0]) for frame in (3, 4, 5)]))
         self.luux("movie", "run.xa", "4", "-o", "x.png")
@@ -157,15 +159,15 @@ class TestFrames(Desk):
         for tag, rate in ((0x00180040, 15), (0x00082144, 30)):
             self.model[tag] = xa.text("IS", str(rate))
             self.put("run.xa", encode(self.model))
-            self.assertIn(f", {rate} a second", self.lines("movie", "run.xa", "-o", "x.png")[0])
+            self.assertIn(f", {rate} per second", self.lines("movie", "run.xa", "-o", "x.png")[0])
         self.model[0x00082144] = xa.text("IS", "0")
         self.put("run.xa", encode(self.model))
-        self.assertIn(", 15 a second", self.lines("movie", "run.xa", "-o", "x.png")[0])
+        self.assertIn(", 15 per second", self.lines("movie", "run.xa", "-o", "x.png")[0])
 
     def test_no_movie(self):
         self.assertIn(b"must end in .png", self.luux("movie", "run.xa", "-o", "x.gif", status=FAILED).stderr)
         self.assertIn("code 10", self.lines("movie", "run.xa", "10-13", "-o", "x.png", status=REFUSED)[0])
         self.put("run.png", good_run())
-        self.assertIn(b"it is the run itself", self.luux("movie", "run.png", "-o", "run.png", status=FAILED).stderr)
+        self.assertIn(b"it is the input itself", self.luux("movie", "run.png", "-o", "run.png", status=FAILED).stderr)
         self.luux("movie", "gone.xa", "-o", "x.png", status=FAILED)
         self.assertFalse(os.path.exists(self.path("x.png")))

@@ -16,7 +16,6 @@ import random
 import struct
 import subprocess
 import sys
-import unittest
 
 TESTS = os.path.dirname(os.path.dirname(os.path.abspath(__file__)))
 if __name__ == "__main__":
@@ -24,7 +23,7 @@ if __name__ == "__main__":
 
 from generators import enhanced_xa as xa  # noqa: E402
 from desk.common import CLASSES, LARGE, TOOL, Desk, with_head  # noqa: E402
-from reference import canonical, drawing, files, intensity, reading, rules, sheet, slips  # noqa: E402
+from reference import canonical, files, intensity, rules, sheet, slips  # noqa: E402
 from reference.answers import Answer  # noqa: E402
 
 BATCH = 250  # files that one luux judge gets

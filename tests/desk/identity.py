@@ -1,4 +1,4 @@
-"""What a run is called by; and that of the patient nothing is told unasked."""
+"""What identifies a run; and nothing about the patient is printed unless asked for."""
 
 import json
 import random
@@ -7,6 +7,7 @@ from generators import enhanced_xa as xa
 from generators.objects import element, encode
 
 from .common import FINE, REFUSED, Desk, with_head
+from reference import attributes as tags
 
 TAGS = {"sop_instance_uid": (0x00080018, "UI", "1.2.3.4.5"), "study_instance_uid": (0x0020000D, "UI", "1.2.3.4"),
         "institution_name": (0x00080080, "LO", "Klinikum Süd"), "station_name": (0x00081010, "SH", "ANGIO 2"),
@@ -45,7 +46,7 @@ class TestIdentity(Desk):
 
     def test_nothing_of_the_patient(self):
         """In no output of judge, rows, show, sheet or slips, good or refused, and in no file that is written."""
-        broken = model(more={xa.MODALITY: xa.text("CS", "OT"), 0x00101002: xa.sq({0x00100020: xa.text("LO", "SECRET-78")})})
+        broken = model(more={tags.MODALITY: xa.text("CS", "OT"), 0x00101002: xa.sq({0x00100020: xa.text("LO", "SECRET-78")})})
         self.put("good.xa", encode(model()))
         self.put("bad.xa", encode(broken))
         said = b""
@@ -64,12 +65,12 @@ class TestIdentity(Desk):
     def test_absent(self):
         made = model()
         for tag, _, _ in TAGS.values():
-            if tag != xa.ACQUISITION_DATE_TIME:
+            if tag != tags.ACQUISITION_DATE_TIME:
                 del made[tag]
         self.assertEqual(self.told(encode(made)), {"acquisition_datetime": "20240305050000"})
 
     def test_a_run_that_does_not_read(self):
-        """What stands before the refused header is quoted; where that says no instance, the head does."""
+        """The part before the refused header is quoted; if it gives no instance, the head does."""
         self.assertEqual(self.told(encode(model())[:-2], status=REFUSED)["institution_name"], "Klinikum Süd")
         self.bare = False
         head = with_head(b"")
@@ -79,9 +80,9 @@ class TestIdentity(Desk):
         self.assertEqual(self.told(bytes(named) + b"\0" * 7, status=REFUSED), {"sop_instance_uid": "9.8.7"})
 
     def test_another_syntax(self):
-        """Who sent compressed pixels is told."""
+        """The sender of compressed pixels is named."""
         self.bare = False
-        data = encode(model(more={xa.PIXEL_DATA: ("OB", b"")}))
+        data = encode(model(more={tags.PIXEL_DATA: ("OB", b"")}))
         said = self.told(with_head(data, syntax=b"1.2.840.10008.1.2.4.50"), status=REFUSED)
         self.assertEqual(said["institution_name"], "Klinikum Süd")
 

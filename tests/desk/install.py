@@ -9,7 +9,7 @@ import unittest
 
 from generators import enhanced_xa as xa
 from desk.common import CLASSES, LARGE, ROOT, Desk, good_run, with_head
-from generators.objects import encode
+from reference import attributes as tags
 from reference import drawing
 
 HERE = os.path.dirname(os.path.abspath(__file__))
@@ -93,7 +93,7 @@ class TestInstall(Desk):
                 self.assertIn("\\-\\-settle", file.read())
 
     def test_units(self):
-        """The tests that stand beside the tool's own functions."""
+        """The unit tests beside the tool's own functions."""
         said = self.run_quietly("cargo", "test", "--offline", "--quiet", "--target-dir", os.path.join(ROOT, "host", "target"),
                                 cwd=os.path.join(ROOT, "host"))
         self.assertRegex(said, r"test result: ok\. [1-9]\d* passed; 0 failed; 0 ignored")
@@ -131,8 +131,8 @@ class TestInstall(Desk):
         for _ in range(60):
             shape = xa.random_shape(rng, frames=3, luts=rng.choice(("shared", "frames")), properties="shared")
             model = xa.build(rng, shape)
-            for one in model[xa.SHARED][1] if shape.luts == "shared" else model[xa.PER_FRAME][1]:
-                one[xa.LUTS] = xa.sq(*xa.lut_items(rng, True))
+            for one in model[tags.SHARED_FUNCTIONAL_GROUPS_SEQUENCE][1] if shape.luts == "shared" else model[tags.PER_FRAME_FUNCTIONAL_GROUPS_SEQUENCE][1]:
+                one[tags.PIXEL_INTENSITY_RELATIONSHIP_LUT_SEQUENCE] = xa.sq(*xa.lut_items(rng, True))
             for name, size in self.stack_of(xa.encode_at_random(rng, model), 2).items():
                 most[name] = max(most.get(name, 0), size)
         self.assertLessEqual(set(stated) - {"all others"}, set(most))

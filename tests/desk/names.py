@@ -39,7 +39,7 @@ class TestRowNames(Desk):
                 self.assertIn(f" {known[row[0]][2]}: ", line)
 
     def test_any_bytes(self):
-        """Values that are none of their VR, and no end of them, are told on one line each."""
+        """Wrong values for their VR, and long ones, are printed on one line each."""
         rng = random.Random(31)
         self.put("run.xa", b"".join(element(0x00090000 + 2 * number, rng.choice(("US", "FL", "FD", "AT", "LO", "UI", "OB", "PN", "IS")), rng.randbytes(rng.randrange(50) * 2))
                                     for number in range(2000)))

@@ -10,6 +10,7 @@ import unittest
 
 from generators import enhanced_xa as xa
 from generators.objects import encode
+from reference import attributes as tags
 from reference import drawing, sheet
 
 from . import browser
@@ -24,7 +25,7 @@ def run(seed, institution, station, edit=None, **shape):
     model = xa.build(random.Random(seed), xa.Shape(**{"extras": False, "frames": 9, "rows": 20, "columns": 30, "masks": ("AVG_SUB",), **shape}))
     model[0x00080005] = xa.text("CS", "ISO_IR 192")
     for tag, vr, value in ((0x00080018, "UI", f"1.2.3.{seed}"), (0x0020000D, "UI", f"1.9.{seed}"), (0x00080080, "LO", institution),
-                           (0x00081010, "SH", station), (xa.ACQUISITION_DATE_TIME, "DT", f"202403{31 - seed:02d}0500{seed:02d}"),
+                           (0x00081010, "SH", station), (tags.ACQUISITION_DATE_TIME, "DT", f"202403{31 - seed:02d}0500{seed:02d}"),
                            (0x00100010, "PN", "Secret^Person")):
         raw = value.encode()
         if raw:
@@ -35,15 +36,15 @@ def run(seed, institution, station, edit=None, **shape):
 
 
 def item_lost(model):
-    del model[xa.PER_FRAME][1][4]
+    del model[tags.PER_FRAME_FUNCTIONAL_GROUPS_SEQUENCE][1][4]
 
 
 def width_lost(model):
-    del model[xa.PER_FRAME][1][6][xa.VOI][1][0][xa.WIDTH]
+    del model[tags.PER_FRAME_FUNCTIONAL_GROUPS_SEQUENCE][1][6][tags.FRAME_VOI_LUT_SEQUENCE][1][0][tags.WINDOW_WIDTH]
 
 
 def another_word(model):
-    model[xa.MODALITY] = xa.text("CS", "OT")
+    model[tags.MODALITY] = xa.text("CS", "OT")
 
 
 class Reported(Desk):
@@ -118,7 +119,7 @@ class TestReport(Reported):
             self.assertIn('alt="frame 1, native" width="44" height="87"', file.read())
 
     def test_no_network(self):
-        """Nothing is fetched: no address stands in the page but its own data and anchors."""
+        """Nothing is fetched: the page has no addresses but its own data and anchors."""
         for address in re.findall(r'(?:src|href|action)="([^"]*)"', self.page):
             self.assertRegex(address, r"^(data:image/png;base64,|#letter-\d+$)")
         self.assertIn("default-src 'none'", self.page)
@@ -127,7 +128,7 @@ class TestReport(Reported):
 
     def test_trouble(self):
         os.mkdir(self.path("none"))
-        self.assertIn(b"nothing is reported on", self.luux("report", "none", status=FAILED).stderr)
+        self.assertIn(b"nothing was reported", self.luux("report", "none", status=FAILED).stderr)
         self.assertIn(b"cannot be written", self.luux("report", "runs", "-o", "no/such/page.html", status=FAILED).stderr)
         # The page and the table are no runs, and a run is never written over.
         self.assertIn("10 files", self.lines("report", "runs", "-o", "runs/page.html", "--csv")[0])
@@ -137,7 +138,7 @@ class TestReport(Reported):
             self.assertEqual(file.read(), self.runs["runs/c.dcm"])
 
     def test_what_is_not_ours(self):
-        """Files that are certainly no runs are told as such, and count for no sender and in no letter."""
+        """Files that are certainly no runs are listed as such, and count for no sender and no letter."""
         self.put("runs/notes.txt", b"no run\n")
         self.assertEqual(self.lines("report", "runs", "-o", "page.html", "--csv")[0],
                          "page.html: 11 files of 5 senders: 3 accepted, 6 refused, 1 could not be read, 1 not ours")
@@ -150,7 +151,7 @@ class TestReport(Reported):
         def stripped(*words):
             self.luux("report", "runs", "-o", "x.html", *words, status=FINE)
             with open(self.path("x.html"), encoding="utf-8") as file:
-                return re.sub(r"looked at [-0-9: ]* UTC", "", file.read())
+                return re.sub(r"made [-0-9: ]* UTC", "", file.read())
         self.assertEqual(stripped("--jobs", "1"), stripped("--jobs", "5"))
 
 
@@ -238,11 +239,11 @@ class TestReportInABrowser(Reported):
         letters = dict(letters)
         self.assertEqual(set(letters), {"Klinikum Nord, ANGIO-1", "Klinikum Nord, ANGIO-2", "Hôpital Saint-Luc, XA3", f"{HOSTILE}, =1+1"})
         text = letters["Klinikum Nord, ANGIO-2"]
-        self.assertTrue(text.startswith("Institution Name: Klinikum Nord\nStation Name: ANGIO-2\n\nOf 1 run that came from you, 1 was refused by"), text)
+        self.assertTrue(text.startswith("Institution Name: Klinikum Nord\nStation Name: ANGIO-2\n\nOur import desk refused the run that you sent. Please correct it and send it again."), text)
         for part in ("1. File: runs/b.dcm", "SOP Instance UID: 1.2.3.3", "Study Instance UID: 1.9.3",
                      "Rule 30, frame 7 (item 7 of (5200,9230), row ", f": {SENTENCES[30]}", "Window Width (0028,1051) absent from item 1 of (0028,9132) of frame 7"):
             self.assertIn(part, text)
-        self.assertIn("Of 3 runs that came from you, 2 were refused", letters["Hôpital Saint-Luc, XA3"])
+        self.assertIn("Our import desk refused 2 of the 3 runs that you sent. Please correct them", letters["Hôpital Saint-Luc, XA3"])
         self.assertIn("2. File: runs/e.dcm", letters["Hôpital Saint-Luc, XA3"])
         page.click("#letters section:last-child .copy")
         self.assertEqual(page.run("new Promise(r => setTimeout(() => r(document.querySelector('#letters section:last-child .copy').innerText), 200))"), "Copied")

@@ -1,4 +1,4 @@
-"""Memory: files that are looked at together stay within --memory, and a file gets room for just its rows."""
+"""Memory: files in use at the same time stay within --memory, and a file gets room for exactly its rows."""
 
 import os
 import resource
@@ -9,7 +9,7 @@ from desk.common import FAILED, FINE, REFUSED, ROOT, SENTENCES, TOOL, Desk, good
 from generators.objects import element_header, item_header
 
 ROW = 28  # bytes
-OWN = 24 << 20  # what the tool takes besides, with the stacks of its threads
+OWN = 24 << 20  # what the tool takes besides, stacks included
 WORST = 48 << 20  # bytes of the worst file in the gate; the largest there is has 1 GiB
 LARGEST = 1 << 30
 
@@ -61,14 +61,14 @@ class TestMemory(Desk):
         for more in ((), ("--timeout", "60")):
             self.assertEqual(self.luux(*words, *more, "--memory", "50M", status=REFUSED, preexec_fn=limited((50 << 20) + OWN)).stdout, wanted)
         said = self.luux(*words, status=FAILED, preexec_fn=limited((50 << 20) + OWN)).stdout
-        self.assertIn(b"cannot be read: there is no memory for 20971520 bytes", said)
+        self.assertIn(b"cannot be read: not enough memory for 20971520 bytes", said)
 
     def test_one_that_is_too_large(self):
-        """It gets a line, by whatever command, and the others are judged."""
+        """It gets a line from every command, and the other files are judged."""
         self.put("runs/a.dcm", with_head(good_run()))
         self.put("runs/b.dcm", with_head(good_run()))
         os.truncate(self.path("runs", "b.dcm"), 5_000_000)
-        line = "cannot be read: it takes 5000000 bytes of memory, and --memory allows 4194304"
+        line = "cannot be read: it needs 5000000 bytes of memory, but --memory allows 4194304"
         for more in ((), ("--timeout", "60")):
             said = self.lines("judge", "runs", "--memory", "4M", *more, status=FAILED)
             self.assertEqual(said[0], "runs/a.dcm: accepted")
@@ -81,7 +81,7 @@ class TestMemory(Desk):
             self.assertIn(b"such as 800M", self.luux("judge", "runs", f"--memory={wrong}", status=FAILED).stderr)
 
     def test_rows_count(self):
-        """Rows are part of what a file takes: where they do not fit beside others, it waits; where they never fit, it is told."""
+        """Rows count as memory of a file: it waits while they do not fit beside others, and is refused if they never do."""
         items = 100_000
         data = element_header(0x00081140, "SQ", 8 * items) + item_header(0) * items
         for number in range(6):
@@ -93,7 +93,7 @@ class TestMemory(Desk):
             self.assertEqual(said[-1], "6 files: 0 accepted, 6 refused, 0 could not be read")
             said = self.lines(*words, "--memory", str(takes - 1), status=FAILED)
             self.assertEqual(said[-1], "6 files: 0 accepted, 0 refused, 6 could not be read")
-            self.assertIn(f"takes {takes} bytes of memory", said[0])
+            self.assertIn(f"needs {takes} bytes of memory", said[0])
 
     def test_rows_are_given_back(self):
         """Room that was lent for more rows than there are is free again for the next file: each is looked at though others are held."""

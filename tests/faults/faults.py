@@ -21,6 +21,16 @@ def answer_changed(**changes):
     return change
 
 
+def answer_at_code(at, /, **fields):
+    """Other fields of the answer wherever it has this code."""
+    return StandIn(lambda o, data: o._replace(answer=o.answer._replace(**fields)) if o.answer.code == at else o)
+
+
+def at_code(at, /, **written):
+    """Something else written wherever the answer has this code."""
+    return StandIn(lambda o, data: o._replace(**written) if o.answer.code == at else o)
+
+
 def row_number_changed(which, function):
     def change(outcome, data):
         numbers = list(outcome.rows)
@@ -92,13 +102,13 @@ READ_FAULTS = {
     "count refused a byte late": counted_otherwise(offset=lambda a: a.offset + (0 < a.code < 7)),
     "another version": StandIn(version=2),
     "row count one more": StandIn(answer_changed(rows=lambda a: a.rows + (a.code == 0))),
-    "row count told with code 8": StandIn(answer_changed(rows=lambda a: 1 if a.code == 8 else a.rows)),
-    "code 4 told as 1": StandIn(answer_changed(code=lambda a: 1 if a.code == 4 else a.code)),
+    "row count given with code 8": answer_at_code(8, rows=1),
+    "code 4 given as 1": answer_at_code(4, code=1),
     "place of code 2 one element early": StandIn(answer_changed(offset=lambda a: max(0, a.offset - 10 * (a.code == 2)))),
     "masked not 0": StandIn(answer_changed(masked=lambda a: 1)),
     "depth one more": StandIn(row_number_changed(2, lambda value: value + 1)),
     "length of an undefined sequence with its delimiter": StandIn(row_number_changed(4, lambda v: v + 8 if v == 34 else v)),
-    "rows below not told": StandIn(row_number_changed(5, lambda value: 0)),
+    "rows below not given": StandIn(row_number_changed(5, lambda value: 0)),
     "parents counted from 0": StandIn(row_number_changed(6, lambda value: max(0, value - 1))),
     "parents one more": StandIn(row_number_changed(6, lambda value: value + 1 if value else 0)),
     "the sequence in place of the item": StandIn(parents_changed(sequence_for_item)),
@@ -203,8 +213,8 @@ JUDGE_FAULTS = {
     "the highest frame": judge_by(highest_frame),
     "the last broken rule": judge_by(last_broken_rule),
     "the shared group preferred": judge_by(shared_preferred),
-    "row count not told with code 9": StandIn(answer_changed(rows=lambda a: 0 if a.code == 9 else a.rows)),
-    "rows not written with code 9": StandIn(lambda o, data: o._replace(rows=()) if o.answer.code == 9 else o),
+    "row count not given with code 9": answer_at_code(9, rows=0),
+    "rows not written with code 9": at_code(9, rows=()),
     "frame named for rule 26": StandIn(answer_changed(frame=lambda a: 1 if a.rule == 26 else a.frame)),
     **{f"rule {number} skipped": with_rules({number: always}) for number in rules.RULES},
 }
@@ -313,26 +323,31 @@ SLIP_FAULTS = {
     "version 1 no longer read": StandIn(read_slip=lambda slip: (13, Answer(0)) if slip[:5] == b"XAV\1\0" else slips.read_slip(slip)),
     "version not looked at": StandIn(read_slip=lambda slip: slips.read_slip(slip[:3] + b"\2\0" + slip[5:])),
     "mark not looked at": StandIn(read_slip=lambda slip: slips.read_slip(b"XAV" + slip[3:])),
-    "fields told with 14": StandIn(read_slip=lambda slip: (14, Answer(slip[5])) if slips.read_slip(slip)[0] == 14
+    "fields given with 14": StandIn(read_slip=lambda slip: (14, Answer(slip[5])) if slips.read_slip(slip)[0] == 14
                                    else slips.read_slip(slip)),
 }
 
 
 
-def drawn_with(**functions):
-    """A show in which some functions of the reference's steps are others."""
+def with_others(module, call, functions):
+    """A call during which some functions of a module of the reference are replaced by others."""
 
-    def show(*arguments):
-        kept = {name: getattr(drawing, name) for name in functions}
+    def changed(*arguments):
+        kept = {name: getattr(module, name) for name in functions}
         for name, function in functions.items():
-            setattr(drawing, name, function)
+            setattr(module, name, function)
         try:
-            return drawing.show(*arguments)
+            return call(*arguments)
         finally:
             for name, function in kept.items():
-                setattr(drawing, name, function)
+                setattr(module, name, function)
 
-    return StandIn(show=show)
+    return changed
+
+
+def drawn_with(**functions):
+    """Draws with other functions in place of some of the reference's."""
+    return StandIn(show=with_others(drawing, drawing.show, functions))
 
 
 def high_bits_left(self, frame, row, column):
@@ -453,12 +468,12 @@ SHOW_FAULTS = {
     "nothing written": StandIn(lambda o, data: o._replace(image=b"")),
     "frame 1 for every frame": StandIn(show=frame_1_for_all),
     "a byte too many written": StandIn(lambda o, data: o._replace(image=o.image + b"\0") if o.image else o),
-    "image touched at code 10": StandIn(lambda o, data: o._replace(image=b"\0") if o.answer.code == 10 else o),
-    "image touched at code 9": StandIn(lambda o, data: o._replace(image=b"\0") if o.answer.code == 9 else o),
-    "image touched at code 2": StandIn(lambda o, data: o._replace(image=b"\0") if o.answer.code == 2 else o),
-    "rows not written at code 11": StandIn(lambda o, data: o._replace(rows=()) if o.answer.code == 11 else o),
-    "row count told with code 10": StandIn(answer_changed(rows=lambda a: 5 if a.code == 10 else a.rows)),
-    "masked told as native": StandIn(answer_changed(masked=lambda a: 0)),
+    "image touched at code 10": at_code(10, image=b"\0"),
+    "image touched at code 9": at_code(9, image=b"\0"),
+    "image touched at code 2": at_code(2, image=b"\0"),
+    "rows not written at code 11": at_code(11, rows=()),
+    "row count given with code 10": answer_at_code(10, rows=5),
+    "masked given as native": StandIn(answer_changed(masked=lambda a: 0)),
     "16-bit frame number": StandIn(show=frame_wrapped),
     "image buffer before frame": StandIn(show=small_image_first),
     "the TO_LINEAR table used": StandIn(show=to_linear_used),
@@ -502,38 +517,27 @@ def with_end_marks(data, row_buffer_length, target_length):
 
 CANONICAL_FAULTS = {
     "lengths and end marks kept": StandIn(write_canonical=with_end_marks),
-    "length not told with code 21": StandIn(answer_changed(length=lambda a: 0 if a.code == 21 else a.length)),
+    "length not given with code 21": answer_at_code(21, length=0),
     "length of what was read": StandIn(lambda o, data: o._replace(answer=o.answer._replace(length=len(data))) if o.answer.code == 21 else o),
-    "row count told with code 21": StandIn(answer_changed(rows=lambda a: 1 if a.code == 21 else a.rows)),
-    "offset not told": StandIn(answer_changed(offset=lambda a: 0)),
+    "row count given with code 21": answer_at_code(21, rows=1),
+    "offset not given": StandIn(answer_changed(offset=lambda a: 0)),
     "target touched at code 21": StandIn(lambda o, data: o._replace(target=b"\0") if o.answer.code == 21 and o.answer.length > 1 else o),
-    "target touched at code 2": StandIn(lambda o, data: o._replace(target=b"\0") if o.answer.code == 2 else o),
+    "target touched at code 2": at_code(2, target=b"\0"),
     "a byte too many written": StandIn(lambda o, data: o._replace(target=o.target + b"\0") if o.target else o),
     "last byte not written": StandIn(lambda o, data: o._replace(target=o.target[:-1])),
     "nothing written": StandIn(lambda o, data: o._replace(target=b"")),
-    "rows not written at code 21": StandIn(lambda o, data: o._replace(rows=()) if o.answer.code == 21 else o),
+    "rows not written at code 21": at_code(21, rows=()),
     "row buffer touched at code 8": StandIn(after=touched(
         lambda o, data, rows, length: last_number_of(rows, length) if o.answer.code == 8 else None)),
-    "code 21 told as 11": StandIn(answer_changed(code=lambda a: 11 if a.code == 21 else a.code)),
+    "code 21 given as 11": answer_at_code(21, code=11),
     "another form judged otherwise": StandIn(judge=lambda data, length: rules.judge(data, length) if b"\xFF\xFF\xFF\xFF" in bytes(data[:1 << 16])
                                              else rules.judge(data, length)._replace(answer=Answer(8))),
 }
 
 
 def mapped_with(**functions):
-    """A mapping in which some names of the reference's are others."""
-
-    def linear(*arguments):
-        kept = {name: getattr(intensity, name) for name in functions}
-        for name, function in functions.items():
-            setattr(intensity, name, function)
-        try:
-            return intensity.linear(*arguments)
-        finally:
-            for name, function in kept.items():
-                setattr(intensity, name, function)
-
-    return StandIn(linear=linear)
+    """Maps with other functions in place of some of the reference's."""
+    return StandIn(linear=with_others(intensity, intensity.linear, functions))
 
 
 def cut_to_8_bits(self, frame):
@@ -607,12 +611,12 @@ LINEAR_FAULTS = {
     "frame 1 for every frame": another_linear(
         lambda o, data, frame, rows, room: o if o.answer.code else o._replace(values=intensity.linear(data, 1, rows, room).values)),
     "a number too many written": StandIn(lambda o, data: o._replace(values=o.values + (0,)) if o.values else o),
-    "values touched at code 20": StandIn(lambda o, data: o._replace(values=(0,)) if o.answer.code == 20 else o),
-    "values touched at code 11": StandIn(lambda o, data: o._replace(values=(0,)) if o.answer.code == 11 else o),
-    "values touched at code 9": StandIn(lambda o, data: o._replace(values=(0,)) if o.answer.code == 9 else o),
-    "rows not written at code 20": StandIn(lambda o, data: o._replace(rows=()) if o.answer.code == 20 else o),
-    "row count told with code 20": StandIn(answer_changed(rows=lambda a: 5 if a.code == 20 else a.rows)),
-    "code 20 told as 10": StandIn(answer_changed(code=lambda a: 10 if a.code == 20 else a.code)),
+    "values touched at code 20": at_code(20, values=(0,)),
+    "values touched at code 11": at_code(11, values=(0,)),
+    "values touched at code 9": at_code(9, values=(0,)),
+    "rows not written at code 20": at_code(20, rows=()),
+    "row count given with code 20": answer_at_code(20, rows=5),
+    "code 20 given as 10": answer_at_code(20, code=10),
     "zeros where there is no item": StandIn(lambda o, data: o._replace(answer=Answer(0, rows=len(o.rows) // NUMBERS_IN_A_ROW))
                                             if o.answer.code == 20 else o),
     "11 before 20": another_linear(room_before_item),
@@ -692,15 +696,15 @@ FILE_FAULTS = {
     "18 before 8": files_with(inside=class_first),
     "the data set's start off by the group length element": files_with(read_head=lambda file: (READ_HEAD(file)[0] - 12, READ_HEAD(file)[1])),
     "several UIDs": files_with(single_uid=any_values),
-    "18 not told": files_with(inside=lambda file, length, call: call(file[files.read_head(file)[0]:]) if files.data_set(file)[0] == 0
+    "18 not given": files_with(inside=lambda file, length, call: call(file[files.read_head(file)[0]:]) if files.data_set(file)[0] == 0
                               else INSIDE(file, length, call)),
-    "15 told as 16": StandIn(answer_changed(code=lambda a: 16 if a.code == 15 else a.code), data_set=lambda file: (
+    "15 given as 16": StandIn(answer_changed(code=lambda a: 16 if a.code == 15 else a.code), data_set=lambda file: (
         files.data_set(file)[0], files.data_set(file)[1])),
-    "start told with 16": StandIn(data_set=lambda file: (files.data_set(file)[0], files.data_set(file)[1] or 144)),
-    "rows not written at code 18": StandIn(lambda o, data: o._replace(rows=()) if o.answer.code == 18 else o),
-    "row count told with code 18": StandIn(answer_changed(rows=lambda a: 5 if a.code == 18 else a.rows)),
-    "a picture at code 18": StandIn(lambda o, data: o._replace(image=b"\0") if o.answer.code == 18 else o),
-    "rows touched at code 16": StandIn(lambda o, data: o._replace(rows=(0,)) if o.answer.code == 16 else o),
+    "start given with 16": StandIn(data_set=lambda file: (files.data_set(file)[0], files.data_set(file)[1] or 144)),
+    "rows not written at code 18": at_code(18, rows=()),
+    "row count given with code 18": answer_at_code(18, rows=5),
+    "a picture at code 18": at_code(18, image=b"\0"),
+    "rows touched at code 16": at_code(16, rows=(0,)),
     "places from the file's start": StandIn(lambda o, data: o._replace(answer=o.answer._replace(offset=o.answer.offset + files.data_set(data)[1]))
                                             if 1 <= o.answer.code <= 6 else o),
 }
@@ -736,27 +740,9 @@ def other_frames(first, last):
     return StandIn(sample=sample)
 
 
-def native_cells(data, a, b, *rooms):
-    """The counts of native cells for masked ones."""
-    draw = sheet.draw
-    sheet.draw = lambda root, frame: (draw(root, frame)[0], unmasked(root, frame))
-    try:
-        return sheet.sheet(data, a, b, *rooms)
-    finally:
-        sheet.draw = draw
-
-
-def unmasked(root, frame):
-    kept = drawing.mask_samples
-    drawing.mask_samples = lambda *arguments: None
-    try:
-        return drawing.draw(root, frame)[1]
-    finally:
-        drawing.mask_samples = kept
-
-
-def told_as(code, other):
-    return StandIn(answer_changed(code=lambda a: other if a.code == code else a.code))
+unmasked = with_others(drawing, drawing.draw, {"mask_samples": lambda *arguments: None})
+# Counts native cells for masked ones.
+native_cells = with_others(sheet, sheet.sheet, {"draw": lambda root, frame: (drawing.draw(root, frame)[0], unmasked(root, frame)[1])})
 
 
 SHEET_FAULTS = {
@@ -767,7 +753,7 @@ SHEET_FAULTS = {
     "frame b + 1 too": other_frames(0, 1),
     "frame b left out": other_frames(0, -1),
     "a refusal that leaves counts": StandIn(lambda o, data: o._replace(sheet=(1, *o.sheet[1:])) if o.answer.code == 10 and o.sheet else o),
-    "a refusal that writes nothing": StandIn(lambda o, data: o._replace(sheet=()) if o.answer.code == 19 else o),
+    "a refusal that writes nothing": at_code(19, sheet=()),
     "a number too many written": StandIn(lambda o, data: o._replace(sheet=o.sheet + (0,)) if o.sheet else o),
     "a small buffer touched": StandIn(lambda o, data: o if o.sheet or o.answer.code != 11 else o._replace(sheet=(0,))),
     "masked frames counted": another_sheet(lambda n: n[:256] + [max(0, n[256] - 1)] + n[257:]),
@@ -775,10 +761,10 @@ SHEET_FAULTS = {
     "highest off by one": moved_number(258, -1),
     "sum of counts": another_sheet(lambda n: n[:259] + [sum(n[:256])]),
     "32-bit sum": another_sheet(lambda n: n[:259] + [n[259] % 2 ** 16]),
-    "rows not written at code 19": StandIn(lambda o, data: o._replace(rows=()) if o.answer.code == 19 else o),
-    "row count told with code 19": StandIn(answer_changed(rows=lambda a: 5 if a.code == 19 else a.rows)),
-    "19 told as 10": told_as(19, 10),
-    "10 told as 19": told_as(10, 19),
+    "rows not written at code 19": at_code(19, rows=()),
+    "row count given with code 19": answer_at_code(19, rows=5),
+    "19 given as 10": answer_at_code(19, code=10),
+    "10 given as 19": answer_at_code(10, code=19),
     "16-bit frame numbers": StandIn(sample=lambda data, a, b, *rooms: sheet.sheet(data, a % 65536, b % 65536, *rooms)),
 }
 
@@ -834,9 +820,9 @@ PICTURE_FAULTS = {
     "a tolerance of 8 bits": StandIn(compare=lambda data, f, cells, t, room: comparing.compare(data, f, cells, t % 256, room)),
     "a tolerance of 32 bits": StandIn(compare=lambda data, f, cells, t, room: comparing.compare(data, f, cells, t % 2 ** 32, room)),
     "frame 1 for every frame": StandIn(compare=lambda data, f, cells, t, room: comparing.compare(data, 1 if f in (2, 3) else f, cells, t, room)),
-    "the first place told with yes": compared_otherwise(lambda c: c._replace(first=1) if c.same else c),
-    "row count told with code 22": compared_otherwise(lambda c: c._replace(answer=c.answer._replace(rows=4)) if c.answer.code == 22 else c),
-    "masked told": compared_otherwise(lambda c: c._replace(answer=c.answer._replace(masked=1)) if c.answer.code == 0 else c),
+    "the first place given with yes": compared_otherwise(lambda c: c._replace(first=1) if c.same else c),
+    "row count given with code 22": compared_otherwise(lambda c: c._replace(answer=c.answer._replace(rows=4)) if c.answer.code == 22 else c),
+    "masked given": compared_otherwise(lambda c: c._replace(answer=c.answer._replace(masked=1)) if c.answer.code == 0 else c),
     "rows not written at code 23": StandIn(compare=lambda *arguments: (lambda found, rows: (found, () if found.answer.code == 23 else rows))(
         *comparing.compare(*arguments))),
 }
@@ -849,27 +835,27 @@ def seen_of_patient(change):
     return StandIn(lambda o, data: change(o, sum(data[data.index(PATIENT_ID):][4:16]) % 5) if PATIENT_ID in data else o)
 
 
-def told_of_patient(field):
+def given_by_patient(field):
     return seen_of_patient(lambda o, n: o._replace(answer=o.answer._replace(**{field: getattr(o.answer, field) + n})) if o.answer.code in (0, 9) else o)
 
 
 PRIVACY_FAULTS = {
-    "a rule by Patient ID": told_of_patient("rule"),
-    "a frame by Patient ID": told_of_patient("frame"),
-    "a row count by Patient ID": told_of_patient("rows"),
-    "masked by Patient ID": told_of_patient("masked"),
+    "a rule by Patient ID": given_by_patient("rule"),
+    "a frame by Patient ID": given_by_patient("frame"),
+    "a row count by Patient ID": given_by_patient("rows"),
+    "masked by Patient ID": given_by_patient("masked"),
     "a picture by Patient ID": seen_of_patient(lambda o, n: o._replace(image=bytes([n]) + o.image[1:]) if o.image else o),
     "a sheet by Patient ID": seen_of_patient(lambda o, n: o._replace(sheet=(n, *o.sheet[1:])) if o.sheet else o),
     "intensities by Patient ID": seen_of_patient(lambda o, n: o._replace(values=(n, *o.values[1:])) if o.values else o),
 }
 
-def told_by_others(call):
+def given_by_others(call):
     """A call of another name that reports searches with code 0."""
-    def told(*arguments):
+    def given(*arguments):
         outcome = call(*arguments)
         return outcome._replace(answer=outcome.answer._replace(searches=1)) if outcome.answer.code == 0 else outcome
 
-    return told
+    return given
 
 
 def compared_with_searches(*arguments):
@@ -881,18 +867,18 @@ SEARCH_FAULTS = {
     "no sum": StandIn(answer_changed(searches=lambda a: 0)),
     "one more": StandIn(answer_changed(searches=lambda a: a.searches + 1 if a.searches else 0)),
     "a sum of 16 bits": StandIn(answer_changed(searches=lambda a: a.searches % 2 ** 16)),
-    "told with code 9": StandIn(answer_changed(searches=lambda a: a.rows if a.code == 9 else a.searches)),
-    "told with code 8": StandIn(answer_changed(searches=lambda a: 1 if a.code == 8 else a.searches)),
-    "not told of files": StandIn(judge_file=lambda *given: (lambda o: o._replace(answer=o.answer._replace(searches=0)))(files.judge_file(*given))),
-    "told with code 18": StandIn(judge_file=lambda *given: (lambda o: o._replace(answer=o.answer._replace(
+    "given with code 9": StandIn(answer_changed(searches=lambda a: a.rows if a.code == 9 else a.searches)),
+    "given with code 8": answer_at_code(8, searches=1),
+    "not given by judge_file": StandIn(judge_file=lambda *given: (lambda o: o._replace(answer=o.answer._replace(searches=0)))(files.judge_file(*given))),
+    "given with code 18": StandIn(judge_file=lambda *given: (lambda o: o._replace(answer=o.answer._replace(
         searches=1 if o.answer.code == 18 else o.answer.searches)))(files.judge_file(*given))),
-    "told by read": StandIn(read=told_by_others(reading.read)),
-    "told by show": StandIn(show=told_by_others(drawing.show)),
-    "told by sheet": StandIn(sample=told_by_others(sheet.sheet)),
-    "told by linear": StandIn(linear=told_by_others(intensity.linear)),
-    "told by compare": StandIn(compare=compared_with_searches),
-    "told by read_file": StandIn(read_file=told_by_others(files.read_file)),
-    "told by show_file": StandIn(show_file=told_by_others(files.show_file)),
+    "given by read": StandIn(read=given_by_others(reading.read)),
+    "given by show": StandIn(show=given_by_others(drawing.show)),
+    "given by sheet": StandIn(sample=given_by_others(sheet.sheet)),
+    "given by linear": StandIn(linear=given_by_others(intensity.linear)),
+    "given by compare": StandIn(compare=compared_with_searches),
+    "given by read_file": StandIn(read_file=given_by_others(files.read_file)),
+    "given by show_file": StandIn(show_file=given_by_others(files.show_file)),
 }
 
 FAULTS = {"read": READ_FAULTS, "judge": JUDGE_FAULTS, "slips": SLIP_FAULTS, "decimals": DECIMAL_FAULTS, "windows": WINDOW_FAULTS,

@@ -1,4 +1,4 @@
-"""Shows that the comparisons can fail: a stand-in without fault passes, and each stand-in with a fault is found out."""
+"""Shows that the comparisons can fail: a stand-in without a fault passes, and each stand-in with a fault is detected."""
 
 import argparse
 import shutil
@@ -12,7 +12,7 @@ from comparison.common import Comparison, DifferenceFound
 from comparison.library import TELLS_SEARCHES, Library
 
 from .faults import FAULTS
-from .mutants import MUTATIONS, mutant
+from .mutants import mutants
 from .stand_in import StandIn
 
 COUNTS = {"read": 60, "judge": 100, "slips": 200, "decimals": 200, "windows": 40, "show": 30, "canonical": 40,
@@ -37,14 +37,12 @@ def attempt(name, stand_in, folder):
 def stand_ins(name, folder):
     """(what is wrong, the stand-in) for each fault that a comparison has to find."""
     yield from FAULTS[name].items()
-    for number, (comparison, file, text, other) in enumerate(MUTATIONS):
-        if comparison == name:
-            yield f"{file}: {text!r} changed to {other!r}", mutant(folder, number, file, text, other)
+    yield from mutants(folder, name)
 
 
 def main():
     parser = argparse.ArgumentParser(description=__doc__)
-    parser.add_argument("--only", help="one comparison", choices=list(RUNS))
+    parser.add_argument("--only", help="only this comparison", choices=list(RUNS))
     parser.add_argument("--verbose", action="store_true", help="show how each fault was found")
     arguments = parser.parse_args()
     folder = tempfile.mkdtemp(prefix="luuxidgaan-tests-")

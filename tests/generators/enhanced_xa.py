@@ -3,62 +3,9 @@
 import dataclasses
 import struct
 
-from .objects import encode
+from reference import attributes as tags
 
-# The generator has its own list of tags, apart from the reference's, so that a slip in one of them shows.
-IMAGE_TYPE = 0x00080008
-SOP_CLASS_UID = 0x00080016
-ACQUISITION_DATE_TIME = 0x0008002A
-MODALITY = 0x00080060
-OTHER_PLANE = 0x00089410
-KVP = 0x00180060
-RADIATION_SETTING = 0x00181155
-RADIATION_MODE = 0x0018115A
-POSITIONER_TYPE = 0x00181508
-CONTENT_QUALIFICATION = 0x00189004
-EXPOSURE_TIME = 0x00189328
-TUBE_CURRENT = 0x00189330
-EXPOSURE = 0x00189332
-PLANES = 0x00189410
-CHARACTERISTICS = 0x00189412
-PLANE_IDENTIFICATION = 0x00189457
-FRAME_CONTENT = 0x00209111
-SAMPLES_PER_PIXEL = 0x00280002
-PHOTOMETRIC = 0x00280004
-NUMBER_OF_FRAMES = 0x00280008
-ROWS = 0x00280010
-COLUMNS = 0x00280011
-BITS_ALLOCATED = 0x00280100
-BITS_STORED = 0x00280101
-HIGH_BIT = 0x00280102
-PIXEL_REPRESENTATION = 0x00280103
-BURNED_IN = 0x00280301
-RELATIONSHIP = 0x00281040
-CENTER = 0x00281050
-WIDTH = 0x00281051
-FUNCTION = 0x00281056
-LOSSY = 0x00282110
-LOSSY_RATIO = 0x00282112
-LOSSY_METHOD = 0x00282114
-LUT_DESCRIPTOR = 0x00283002
-LUT_DATA = 0x00283006
-MASKS = 0x00286100
-OPERATION = 0x00286101
-RANGE = 0x00286102
-MASK_FRAMES = 0x00286110
-AVERAGING = 0x00286112
-SHIFT = 0x00286114
-TID_OFFSET = 0x00286120
-VOI = 0x00289132
-FRAME_SHIFT = 0x00289415
-ITEM_ID = 0x00289416
-LUTS = 0x00289422
-PROPERTIES = 0x00289443
-LUT_FUNCTION = 0x00289474
-LUT_SHAPE = 0x20500020
-SHARED = 0x52009229
-PER_FRAME = 0x52009230
-PIXEL_DATA = 0x7FE00010
+from .objects import encode
 
 
 # ---------------------------------------------------------------------------------------------------------------------
@@ -97,7 +44,7 @@ def sq(*items):
 
 @dataclasses.dataclass
 class Shape:
-    """What an object is like. Where a functional group stands: "shared", "frames", "some" (of the frames), "absent"."""
+    """What an object is like. Where a functional group is: "shared", "frames", "some" (of the frames), "absent"."""
 
     sop_class: str = "XA"
     image_type: str = "ORIGINAL"
@@ -223,10 +170,10 @@ def random_center(rng, stored):
 def voi_item(rng, shape):
     count = shape.windows
     width = random_small_width if shape.function == "LINEAR_EXACT" else random_width
-    item = {CENTER: padded(rng, "DS", *(random_center(rng, shape.bits_stored) for _ in range(count))),
-            WIDTH: padded(rng, "DS", *(width(rng, shape.bits_stored) for _ in range(count)))}
+    item = {tags.WINDOW_CENTER: padded(rng, "DS", *(random_center(rng, shape.bits_stored) for _ in range(count))),
+            tags.WINDOW_WIDTH: padded(rng, "DS", *(width(rng, shape.bits_stored) for _ in range(count)))}
     if shape.function:
-        item[FUNCTION] = padded(rng, "CS", shape.function)
+        item[tags.VOI_LUT_FUNCTION] = padded(rng, "CS", shape.function)
     return item
 
 
@@ -238,27 +185,27 @@ def random_shift(rng):
 
 
 def mask_item(rng, shape, operation, item_id):
-    model = {OPERATION: padded(rng, "CS", operation)}
+    model = {tags.MASK_OPERATION: padded(rng, "CS", operation)}
     if shape.ranges and rng.random() < 0.6:
         numbers = []
         for _ in range(rng.choice((1, 1, 2, 3))):
             numbers += sorted(rng.randrange(1, shape.frames + 1) for _ in range(2))
-        model[RANGE] = us(*numbers)
+        model[tags.APPLICABLE_FRAME_RANGE] = us(*numbers)
     if shape.shifts and rng.random() < 0.6:
-        model[SHIFT] = random_shift(rng)
+        model[tags.MASK_SUB_PIXEL_SHIFT] = random_shift(rng)
     if operation == "AVG_SUB":
         count = rng.choice((1, 1, 2, 3, 4, 7, 64, rng.randrange(1, 65)))
-        model[MASK_FRAMES] = us(*(rng.randrange(1, shape.frames + 1) for _ in range(count)))
+        model[tags.MASK_FRAME_NUMBERS] = us(*(rng.randrange(1, shape.frames + 1) for _ in range(count)))
         if rng.random() < 0.4:
-            model[AVERAGING] = us(1)
+            model[tags.CONTRAST_FRAME_AVERAGING] = us(1)
     if operation == "TID" and rng.random() < 0.7:
-        model[TID_OFFSET] = ss(rng.choice((1, -1, 0, 2, -2, 3, shape.frames, -shape.frames, 32767, -32768)))
+        model[tags.TID_OFFSET] = ss(rng.choice((1, -1, 0, 2, -2, 3, shape.frames, -shape.frames, 32767, -32768)))
     if operation != "TID" and rng.random() < 0.1:
-        model[TID_OFFSET] = ss()  # read for TID only
+        model[tags.TID_OFFSET] = ss()  # read for TID only
     if operation != "AVG_SUB" and rng.random() < 0.1:
-        model[MASK_FRAMES] = us(0)  # read for AVG_SUB only
+        model[tags.MASK_FRAME_NUMBERS] = us(0)  # read for AVG_SUB only
     if item_id is not None:
-        model[ITEM_ID] = us(item_id)
+        model[tags.SUBTRACTION_ITEM_ID] = us(item_id)
     return model
 
 
@@ -268,32 +215,33 @@ def frame_shift_items(rng, ids):
     chosen += [one for one in rng.sample(range(1000, 1010), rng.choice((0, 1, 2)))]
     chosen = chosen or [2000]
     rng.shuffle(chosen)
-    return [{ITEM_ID: us(one), SHIFT: random_shift(rng)} for one in chosen]
+    return [{tags.SUBTRACTION_ITEM_ID: us(one), tags.MASK_SUB_PIXEL_SHIFT: random_shift(rng)} for one in chosen]
 
 
 def lut_items(rng, with_linear):
     """Items of a Pixel Intensity Relationship LUT Sequence: at most one TO_LINEAR item, and others, of which nothing is asked."""
-    others = ({}, {LUT_FUNCTION: padded(rng, "CS", "TO_LOG"), LUT_DESCRIPTOR: us(9)}, {LUT_FUNCTION: text("LO", "TO_LINEAR")},
-              {LUT_FUNCTION: text("CS", "TO_LINEAR", "TO_LINEAR"), LUT_DATA: ("OW", b"")})
+    others = ({}, {tags.LUT_FUNCTION: padded(rng, "CS", "TO_LOG"), tags.LUT_DESCRIPTOR: us(9)}, {tags.LUT_FUNCTION: text("LO", "TO_LINEAR")},
+              {tags.LUT_FUNCTION: text("CS", "TO_LINEAR", "TO_LINEAR"), tags.LUT_DATA: ("OW", b"")})
     items = [rng.choice(others) for _ in range(rng.choice((0, 0, 1, 2)))]
     if with_linear:
         count = rng.choice((1, 2, 3, 17, 256))
-        items.append({LUT_FUNCTION: padded(rng, "CS", "TO_LINEAR"), LUT_DESCRIPTOR: us(count, rng.choice((0, 0, 1, 100, 65535)), 16),
-                      LUT_DATA: ("OW", rng.randbytes(2 * count))})
+        items.append({tags.LUT_FUNCTION: padded(rng, "CS", "TO_LINEAR"), tags.LUT_DESCRIPTOR: us(count, rng.choice((0, 0, 1, 100, 65535)), 16),
+                      tags.LUT_DATA: ("OW", rng.randbytes(2 * count))})
     rng.shuffle(items)
     return items or [{}]
 
 
 def properties_item(rng, may_be_log):
     words = ("LIN", "DISP", "SQRT", "LOG\\LOG", "log") + ("LOG",) * 5 * may_be_log
-    return rng.choice(({RELATIONSHIP: padded(rng, "CS", *rng.choice(words).split("\\"))}, {RELATIONSHIP: text("LO", "LOG")}, {}))
+    return rng.choice(({tags.PIXEL_INTENSITY_RELATIONSHIP: padded(rng, "CS", *rng.choice(words).split("\\"))},
+                       {tags.PIXEL_INTENSITY_RELATIONSHIP: text("LO", "LOG")}, {}))
 
 
 def place_group(rng, shape, model, where, tag, make):
     """Puts a functional group where the shape wants it. `make` builds its items."""
     if where == "shared":
-        model[SHARED][1][0][tag] = sq(*make())
-    for item in model[PER_FRAME][1]:
+        model[tags.SHARED_FUNCTIONAL_GROUPS_SEQUENCE][1][0][tag] = sq(*make())
+    for item in model[tags.PER_FRAME_FUNCTIONAL_GROUPS_SEQUENCE][1]:
         if where == "frames" or (where == "some" and rng.random() < 0.5):
             item[tag] = sq(*make())
 
@@ -302,66 +250,68 @@ def build(rng, shape):
     """The model of an object that breaks no rule."""
     xrf = shape.sop_class == "XRF"
     model = {
-        SOP_CLASS_UID: padded(rng, "UI", "1.2.840.10008.5.1.4.1.1.12." + ("2.1" if xrf else "1.1")),
-        MODALITY: padded(rng, "CS", "RF" if xrf else "XA"),
-        IMAGE_TYPE: padded(rng, "CS", shape.image_type, rng.choice(("PRIMARY", "")), rng.choice(("", "SINGLE A")), "NONE",
+        tags.SOP_CLASS_UID: padded(rng, "UI", "1.2.840.10008.5.1.4.1.1.12." + ("2.1" if xrf else "1.1")),
+        tags.MODALITY: padded(rng, "CS", "RF" if xrf else "XA"),
+        tags.IMAGE_TYPE: padded(rng, "CS", shape.image_type, rng.choice(("PRIMARY", "")), rng.choice(("", "SINGLE A")), "NONE",
                            *rng.choice(((), ("EXTRA",), ("", "NONE")))),
-        PLANES: padded(rng, "CS", shape.planes),
-        ACQUISITION_DATE_TIME: text("DT", "20240501050000"),
-        SAMPLES_PER_PIXEL: us(1),
-        PHOTOMETRIC: padded(rng, "CS", shape.photometric),
-        ROWS: us(shape.rows),
-        COLUMNS: us(shape.columns),
-        BITS_ALLOCATED: us(shape.bits_allocated),
-        BITS_STORED: us(shape.bits_stored),
-        HIGH_BIT: us(shape.bits_stored - 1),
-        PIXEL_REPRESENTATION: us(0),
-        NUMBER_OF_FRAMES: padded(rng, "IS", rng.choice(("", "+", "0", "+00")) + str(shape.frames)),
-        CONTENT_QUALIFICATION: padded(rng, "CS", rng.choice(("PRODUCT", "RESEARCH", "SERVICE"))),
-        BURNED_IN: padded(rng, "CS", "NO"),
-        LOSSY: padded(rng, "CS", shape.lossy),
-        LUT_SHAPE: padded(rng, "CS", "INVERSE" if shape.photometric == "MONOCHROME1" else "IDENTITY"),
-        SHARED: sq({}),
-        PER_FRAME: sq(*({FRAME_CONTENT: sq({0x00209156: us(number % 65536)} if shape.frames < 100 else {})}
+        tags.PLANES_IN_ACQUISITION: padded(rng, "CS", shape.planes),
+        tags.ACQUISITION_DATE_TIME: text("DT", "20240501050000"),
+        tags.SAMPLES_PER_PIXEL: us(1),
+        tags.PHOTOMETRIC_INTERPRETATION: padded(rng, "CS", shape.photometric),
+        tags.ROWS: us(shape.rows),
+        tags.COLUMNS: us(shape.columns),
+        tags.BITS_ALLOCATED: us(shape.bits_allocated),
+        tags.BITS_STORED: us(shape.bits_stored),
+        tags.HIGH_BIT: us(shape.bits_stored - 1),
+        tags.PIXEL_REPRESENTATION: us(0),
+        tags.NUMBER_OF_FRAMES: padded(rng, "IS", rng.choice(("", "+", "0", "+00")) + str(shape.frames)),
+        tags.CONTENT_QUALIFICATION: padded(rng, "CS", rng.choice(("PRODUCT", "RESEARCH", "SERVICE"))),
+        tags.BURNED_IN_ANNOTATION: padded(rng, "CS", "NO"),
+        tags.LOSSY_IMAGE_COMPRESSION: padded(rng, "CS", shape.lossy),
+        tags.PRESENTATION_LUT_SHAPE: padded(rng, "CS", "INVERSE" if shape.photometric == "MONOCHROME1" else "IDENTITY"),
+        tags.SHARED_FUNCTIONAL_GROUPS_SEQUENCE: sq({}),
+        tags.PER_FRAME_FUNCTIONAL_GROUPS_SEQUENCE: sq(*({tags.FRAME_CONTENT_SEQUENCE: sq({0x00209156: us(number % 65536)} if shape.frames < 100
+                                                                                         else {})}
                         for number in range(1, shape.frames + 1))),
     }
     if shape.planes != "UNDEFINED":
         single = shape.planes == "SINGLE PLANE"
-        model[PLANE_IDENTIFICATION] = padded(rng, "CS", rng.choice(("MONOPLANE", "PLANE A") if single
+        model[tags.PLANE_IDENTIFICATION] = padded(rng, "CS", rng.choice(("MONOPLANE", "PLANE A") if single
                                                                     else ("PLANE A", "PLANE B")))
     if shape.planes == "BIPLANE":
-        model[OTHER_PLANE] = sq(rng.choice(({}, {0x00081155: text("UI", "1.2.3")})))
+        model[tags.REFERENCED_OTHER_PLANE_SEQUENCE] = sq(rng.choice(({}, {0x00081155: text("UI", "1.2.3")})))
     if shape.lossy == "01":
-        model[LOSSY_RATIO] = padded(rng, "DS", *rng.choice((("10",), ("10", "2.5"), ("junk",))))
-        model[LOSSY_METHOD] = padded(rng, "CS", "ISO_10918_1")
+        model[tags.LOSSY_IMAGE_COMPRESSION_RATIO] = padded(rng, "DS", *rng.choice((("10",), ("10", "2.5"), ("junk",))))
+        model[tags.LOSSY_IMAGE_COMPRESSION_METHOD] = padded(rng, "CS", "ISO_10918_1")
     if shape.image_type == "ORIGINAL":
-        model[KVP] = padded(rng, "DS", "80")
-        model[RADIATION_MODE] = padded(rng, "CS", rng.choice(("PULSED", "CONTINUOUS")))
-        model[RADIATION_SETTING] = padded(rng, "CS", rng.choice(("SC", "GR")))
+        model[tags.KVP] = padded(rng, "DS", "80")
+        model[tags.RADIATION_MODE] = padded(rng, "CS", rng.choice(("PULSED", "CONTINUOUS")))
+        model[tags.RADIATION_SETTING] = padded(rng, "CS", rng.choice(("SC", "GR")))
         exposure = rng.choice(("whole", "parts", "all"))
         if exposure != "parts":
-            model[EXPOSURE] = fd(1.5)
+            model[tags.EXPOSURE_IN_MAS] = fd(1.5)
         if exposure != "whole":
-            model[EXPOSURE_TIME] = fd(10.0)
-            model[TUBE_CURRENT] = fd(20.0)
+            model[tags.EXPOSURE_TIME_IN_MS] = fd(10.0)
+            model[tags.X_RAY_TUBE_CURRENT_IN_MA] = fd(20.0)
         if xrf:
-            model[POSITIONER_TYPE] = padded(rng, "CS", "COLUMN")
-    place_group(rng, shape, model, shape.characteristics, CHARACTERISTICS, lambda: [{}])
-    place_group(rng, shape, model, shape.voi, VOI, lambda: [voi_item(rng, shape)])
+            model[tags.POSITIONER_TYPE] = padded(rng, "CS", "COLUMN")
+    place_group(rng, shape, model, shape.characteristics, tags.XA_XRF_FRAME_CHARACTERISTICS_SEQUENCE, lambda: [{}])
+    place_group(rng, shape, model, shape.voi, tags.FRAME_VOI_LUT_SEQUENCE, lambda: [voi_item(rng, shape)])
     with_ids = shape.frame_shift != "absent"
     ids = rng.sample((0, 1, 2, 3, 65535, *range(100, 120)), len(shape.masks)) if with_ids else []
     if shape.masks:
-        model[MASKS] = sq(*(mask_item(rng, shape, operation, ids[number] if with_ids else rng.choice((None, 7)))
+        model[tags.MASK_SUBTRACTION_SEQUENCE] = sq(*(mask_item(rng, shape, operation, ids[number] if with_ids else rng.choice((None, 7)))
                             for number, operation in enumerate(shape.masks)))
-    place_group(rng, shape, model, shape.frame_shift, FRAME_SHIFT, lambda: frame_shift_items(rng, ids))
+    place_group(rng, shape, model, shape.frame_shift, tags.FRAME_PIXEL_SHIFT_SEQUENCE, lambda: frame_shift_items(rng, ids))
     # LOG asks for a table at every frame.
     logarithmic = shape.luts in ("shared", "frames") and rng.random() < 0.5
-    place_group(rng, shape, model, shape.properties, PROPERTIES, lambda: [properties_item(rng, logarithmic)])
-    place_group(rng, shape, model, shape.luts, LUTS, lambda: lut_items(rng, logarithmic or rng.random() < 0.8))
+    place_group(rng, shape, model, shape.properties, tags.FRAME_PIXEL_DATA_PROPERTIES_SEQUENCE, lambda: [properties_item(rng, logarithmic)])
+    place_group(rng, shape, model, shape.luts, tags.PIXEL_INTENSITY_RELATIONSHIP_LUT_SEQUENCE,
+                lambda: lut_items(rng, logarithmic or rng.random() < 0.8))
     if shape.extras:
         add_extras(rng, model)
     length = shape.frames * shape.rows * shape.columns * (shape.bits_allocated // 8)
-    model[PIXEL_DATA] = (shape.pixel_vr, random_pixels(rng, shape, length) + rng.randbytes(length % 2))
+    model[tags.PIXEL_DATA] = (shape.pixel_vr, random_pixels(rng, shape, length) + rng.randbytes(length % 2))
     return model
 
 
@@ -383,19 +333,19 @@ def add_extras(rng, model):
         0x00090010: text("LO", "PRIVATE"),
         0x00091001: ("UN", b"\1\2"),
         0x00100010: text("PN", "Doe^Jane"),
-        0x00081140: sq({MODALITY: text("CS", "CT"), ROWS: us(0)}, {}),
-        0x00289415: sq({ITEM_ID: us(1)}),  # a Frame Pixel Shift at the root is none of a frame
+        0x00081140: sq({tags.MODALITY: text("CS", "CT"), tags.ROWS: us(0)}, {}),
+        0x00289415: sq({tags.SUBTRACTION_ITEM_ID: us(1)}),  # a Frame Pixel Shift at the root is none of a frame
         0xFFFF0010: text("LO", "last"),
     }
     for tag, value in extras.items():
         if rng.random() < 0.4:
             model[tag] = value
     if rng.random() < 0.4:
-        model[SHARED][1][0][0x00189477] = sq({})
+        model[tags.SHARED_FUNCTIONAL_GROUPS_SEQUENCE][1][0][0x00189477] = sq({})
     if rng.random() < 0.4:
-        for item in model[PER_FRAME][1]:
-            item[0x00189504] = rng.choice((sq(), sq({VOI: sq()}), text("LO", "x")))
-    for item in model.get(MASKS, sq())[1]:
+        for item in model[tags.PER_FRAME_FUNCTIONAL_GROUPS_SEQUENCE][1]:
+            item[0x00189504] = rng.choice((sq(), sq({tags.FRAME_VOI_LUT_SEQUENCE: sq()}), text("LO", "x")))
+    for item in model.get(tags.MASK_SUBTRACTION_SEQUENCE, sq())[1]:
         if rng.random() < 0.2:
             item[0x00286190] = text("ST", "a mask")
 

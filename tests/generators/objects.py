@@ -27,7 +27,7 @@ def element_header(tag, vr, length):
 
 
 def element(tag, vr, value=b"", length=None):
-    """An element. `length` stands in for the true length where a wrong one is wanted."""
+    """An element. `length` replaces the true length if a wrong one is wanted."""
     return element_header(tag, vr, len(value) if length is None else length) + value
 
 
@@ -83,7 +83,7 @@ def random_tags(rng, count):
 
 
 def random_model(rng, depth=0, width=5):
-    """A random data set that reads well: no sequence stands deeper than depth 7."""
+    """A random data set that reads well: no sequence is deeper than depth 7."""
     model = {}
     for tag in random_tags(rng, rng.choice((0, 1, 1, 2, 3, width))):
         if depth < 8 and rng.random() < 0.35:
@@ -96,7 +96,7 @@ def random_model(rng, depth=0, width=5):
 
 
 def nest(rng, content, depth, undefined=None):
-    """Content put into `depth` sequences, one in the other, with neighbours before and behind at random.
+    """Content put into `depth` sequences, one in the other, with neighbours before and after at random.
 
     Lengths are undefined at random, or all as `undefined` says.
     """

@@ -1,6 +1,7 @@
 """Objects made by others: the test files of Debian's python3-pydicom and dcmtk, whole and without their heads; what dcmtk's and
 pydicom's writers make of ours; and images drawn by dcmtk and windowed by pydicom."""
 
+import functools
 import os
 import shutil
 import struct
@@ -135,21 +136,26 @@ def dcmtk_data_sets(folder):
 
 PYTHON = "/usr/bin/python3"  # Debian's own, which finds python3-pydicom
 
-PYDICOM_REWRITES = """
+# Programs that read a bare data set with pydicom and write it again: each reads, does something with it, and writes.
+PYDICOM_READS = """
 import sys, pydicom
 data_set = pydicom.dcmread(sys.argv[1], force=True)
-for element in data_set.iterall():
-    element.value
-data_set.is_little_endian = True
-data_set.is_implicit_VR = False
-pydicom.dcmwrite(sys.argv[2], data_set, write_like_original=True)
+as_read = True
 """
 
+PYDICOM_WRITES = """
+data_set.is_little_endian = True
+data_set.is_implicit_VR = False
+pydicom.dcmwrite(sys.argv[2], data_set, write_like_original=as_read)
+"""
 
-# Each sequence and item is told to have a defined length, where the file had another.
-PYDICOM_DEFINED = """
-import sys, pydicom
+PYDICOM_VISITS = """
+for element in data_set.iterall():
+    element.value
+"""
 
+# Each sequence and item gets a defined length.
+PYDICOM_DEFINES = """
 def define(data_set):
     for element in data_set:
         if element.VR == "SQ":
@@ -158,85 +164,85 @@ def define(data_set):
                 item.is_undefined_length_sequence_item = False
                 define(item)
 
-data_set = pydicom.dcmread(sys.argv[1], force=True)
 define(data_set)
-data_set.is_little_endian = True
-data_set.is_implicit_VR = False
-pydicom.dcmwrite(sys.argv[2], data_set, write_like_original=True)
+"""
+
+# The data set gets a file head.
+PYDICOM_HEADS = """
+data_set.file_meta = pydicom.dataset.FileMetaDataset()
+data_set.file_meta.MediaStorageSOPClassUID = data_set.SOPClassUID
+data_set.file_meta.MediaStorageSOPInstanceUID = "1.2.3.4"
+data_set.file_meta.TransferSyntaxUID = "1.2.840.10008.1.2.1"
+as_read = False
 """
 
 
+@functools.cache
+def has_modules(names):
+    """Whether Debian's Python has these modules."""
+    return os.path.exists(PYTHON) and subprocess.run([PYTHON, "-c", f"import {names}"], capture_output=True).returncode == 0
+
+
 def has_pydicom():
-    return os.path.exists(PYTHON) and subprocess.run([PYTHON, "-c", "import pydicom"], capture_output=True).returncode == 0
+    return has_modules("pydicom")
 
 
 def has_pydicom_windows():
     """pydicom's windowing needs numpy."""
-    return os.path.exists(PYTHON) and subprocess.run([PYTHON, "-c", "import numpy, pydicom"], capture_output=True).returncode == 0
+    return has_modules("numpy, pydicom")
 
 
 def has_dcmtk():
     return bool(shutil.which("dcmconv") and shutil.which("dcm2pnm"))
 
 
-def rewritten(folder, data_set):
-    """(writer, data set): the same object as other programs write it."""
-    source = os.path.join(folder, "bare.xa")
-    target = os.path.join(folder, "rewritten.xa")
-    with open(source, "wb") as file:
+def bare_file(folder, data_set):
+    """The path of a file with a data set and nothing else."""
+    path = os.path.join(folder, "bare.xa")
+    with open(path, "wb") as file:
         file.write(data_set)
-    writers = []
-    if has_dcmtk():
-        writers += [(f"dcmtk, {name}", ["dcmconv", "-f", "-te", "-F", "+te", switch, source, target])
-                    for name, switch in (("defined lengths", "+e"), ("undefined lengths", "-e"))]
-    if has_pydicom():
-        writers.append(("pydicom", [PYTHON, "-W", "ignore", "-c", PYDICOM_REWRITES, source, target]))
-    for name, command in writers:
-        subprocess.run(command, check=True, capture_output=True)
-        with open(target, "rb") as file:
-            yield name, file.read()
+    return path
 
 
-def written_defined(folder, data_set):
-    """(writer, data set): the same object as other programs write it with defined lengths throughout. A writer that refuses it is left out."""
-    source = os.path.join(folder, "bare.xa")
-    target = os.path.join(folder, "defined.xa")
-    with open(source, "wb") as file:
-        file.write(data_set)
-    writers = []
-    if has_dcmtk():
-        writers.append(("dcmconv +e", ["dcmconv", "-f", "-te", "-F", "+te", "+e", source, target]))
-    if has_pydicom():
-        writers.append(("pydicom", [PYTHON, "-W", "ignore", "-c", PYDICOM_DEFINED, source, target]))
-    for name, command in writers:
-        if subprocess.run(command, capture_output=True).returncode == 0:
+def pydicom_program(*parts):
+    """A command that runs a program of these parts; the paths of its input and output follow."""
+    return [PYTHON, "-W", "ignore", "-c", "".join((PYDICOM_READS, *parts, PYDICOM_WRITES))]
+
+
+def outputs(writers, target, required=False):
+    """(writer, content): the target after the commands of each writer. A writer that fails is left out, or an error if `required`."""
+    for name, commands in writers:
+        if all(subprocess.run(command, check=required, capture_output=True).returncode == 0 for command in commands):
             with open(target, "rb") as file:
                 yield name, file.read()
 
 
-# Writes the data set of a bare file into a file of its own, with a head.
-PYDICOM_WRITES = """
-import sys, pydicom
-from pydicom.dataset import FileMetaDataset
-data_set = pydicom.dcmread(sys.argv[1], force=True)
-for element in data_set.iterall():
-    element.value
-data_set.file_meta = FileMetaDataset()
-data_set.file_meta.MediaStorageSOPClassUID = data_set.SOPClassUID
-data_set.file_meta.MediaStorageSOPInstanceUID = "1.2.3.4"
-data_set.file_meta.TransferSyntaxUID = "1.2.840.10008.1.2.1"
-data_set.is_little_endian = True
-data_set.is_implicit_VR = False
-pydicom.dcmwrite(sys.argv[2], data_set, write_like_original=False)
-"""
+def rewritten(folder, data_set):
+    """(writer, data set): the same object as other programs write it."""
+    source, target = bare_file(folder, data_set), os.path.join(folder, "rewritten.xa")
+    writers = []
+    if has_dcmtk():
+        writers += [(f"dcmtk, {name}", [["dcmconv", "-f", "-te", "-F", "+te", switch, source, target]])
+                    for name, switch in (("defined lengths", "+e"), ("undefined lengths", "-e"))]
+    if has_pydicom():
+        writers.append(("pydicom", [[*pydicom_program(PYDICOM_VISITS), source, target]]))
+    return outputs(writers, target, required=True)
+
+
+def written_defined(folder, data_set):
+    """(writer, data set): the same object as other programs write it with defined lengths throughout. A writer that refuses it is left out."""
+    source, target = bare_file(folder, data_set), os.path.join(folder, "defined.xa")
+    writers = []
+    if has_dcmtk():
+        writers.append(("dcmconv +e", [["dcmconv", "-f", "-te", "-F", "+te", "+e", source, target]]))
+    if has_pydicom():
+        writers.append(("pydicom", [[*pydicom_program(PYDICOM_DEFINES), source, target]]))
+    return outputs(writers, target)
 
 
 def written_files(folder, data_set):
     """(writer, content): files of an object, each with a head, as other programs write them. A writer that refuses the object is left out."""
-    source = os.path.join(folder, "bare.xa")
-    target = os.path.join(folder, "written.dcm")
-    with open(source, "wb") as file:
-        file.write(data_set)
+    source, target = bare_file(folder, data_set), os.path.join(folder, "written.dcm")
     writers = []
     if has_dcmtk():
         writers += [(f"dcmconv, {name}", [["dcmconv", "-f", "-te", "+te", "+F", *switches, source, target]])
@@ -244,13 +250,10 @@ def written_files(folder, data_set):
         writers.append(("dcmodify", [["dcmconv", "-f", "-te", "+te", "+F", source, target],
                                      ["dcmodify", "-nb", "-i", "(0010,0010)=Other^Name", target]]))
     if has_pydicom():
-        writers.append(("pydicom", [[PYTHON, "-W", "ignore", "-c", PYDICOM_WRITES, source, target]]))
+        writers.append(("pydicom", [[*pydicom_program(PYDICOM_VISITS, PYDICOM_HEADS), source, target]]))
     if shutil.which("gdcmconv"):
         writers.append(("gdcm", [["dcmconv", "-f", "-te", "+te", "+F", source, target + ".in"], ["gdcmconv", "--raw", target + ".in", target]]))
-    for name, commands in writers:
-        if all(subprocess.run(command, capture_output=True).returncode == 0 for command in commands):
-            with open(target, "rb") as file:
-                yield name, file.read()
+    return outputs(writers, target)
 
 
 # A grey picture of 2 x 2 in JPEG's plainest form would be encapsulated; a BMP becomes plain pixels.
@@ -266,17 +269,12 @@ def other_files(folder):
     target = os.path.join(folder, "picture.dcm")
     with open(source, "wb") as file:
         file.write(BITMAP)
-    if subprocess.run(["img2dcm", "-i", "BMP", source, target], capture_output=True).returncode == 0:
-        with open(target, "rb") as file:
-            yield "img2dcm", file.read()
+    yield from outputs([("img2dcm", [["img2dcm", "-i", "BMP", source, target]])], target)
 
 
 def windowed_by_dcmtk(folder, data_set, frame, center, width):
     """The grey levels of a frame as dcm2pnm draws it with a window, row by row."""
-    source = os.path.join(folder, "bare.xa")
-    target = os.path.join(folder, "drawn.pgm")
-    with open(source, "wb") as file:
-        file.write(data_set)
+    source, target = bare_file(folder, data_set), os.path.join(folder, "drawn.pgm")
     subprocess.run(["dcm2pnm", "-f", "-te", "+F", str(frame), "+Ww", center, width, "+opb", source, target], check=True,
                    capture_output=True)
     with open(target) as file:

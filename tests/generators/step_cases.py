@@ -92,8 +92,9 @@ def listing(data):
 # Objects that are accepted, and objects that one change broke
 
 # What the steps read of the root.
-READ = (xa.PHOTOMETRIC, xa.NUMBER_OF_FRAMES, xa.ROWS, xa.COLUMNS, xa.BITS_ALLOCATED, xa.BITS_STORED, xa.MASKS, xa.SHARED, xa.PER_FRAME,
-        xa.PIXEL_DATA)
+READ = (tags.PHOTOMETRIC_INTERPRETATION, tags.NUMBER_OF_FRAMES, tags.ROWS, tags.COLUMNS, tags.BITS_ALLOCATED, tags.BITS_STORED,
+        tags.MASK_SUBTRACTION_SEQUENCE, tags.SHARED_FUNCTIONAL_GROUPS_SEQUENCE, tags.PER_FRAME_FUNCTIONAL_GROUPS_SEQUENCE,
+        tags.PIXEL_DATA)
 # No step reads the tables of beam intensity, and they would fill what the program reads.
 NO_TABLES = {"properties": "absent", "luts": "absent"}
 
@@ -109,17 +110,17 @@ def accepted():
 
 def an_item_for_each_frame(model):
     """Frame k takes mask item k, the frames after the last item none, so that every item is asked for."""
-    for number, item in enumerate(model.get(xa.MASKS, sq())[1], start=1):
-        item[xa.RANGE] = us(number, number)
-        if xa.MASK_FRAMES in item:
-            item[xa.MASK_FRAMES] = us(2, 1)
+    for number, item in enumerate(model.get(tags.MASK_SUBTRACTION_SEQUENCE, sq())[1], start=1):
+        item[tags.APPLICABLE_FRAME_RANGE] = us(number, number)
+        if tags.MASK_FRAME_NUMBERS in item:
+            item[tags.MASK_FRAME_NUMBERS] = us(2, 1)
 
 
 def only_read(model):
     """What the steps read, so that the case is small. Every rule that asks for something else is broken then."""
-    for item in model.get(xa.PER_FRAME, ("", b""))[1] or ():
+    for item in model.get(tags.PER_FRAME_FUNCTIONAL_GROUPS_SEQUENCE, ("", b""))[1] or ():
         if isinstance(item, dict):
-            item.pop(xa.FRAME_CONTENT, None)
+            item.pop(tags.FRAME_CONTENT_SEQUENCE, None)
     return {tag: value for tag, value in model.items() if tag in READ}
 
 
@@ -162,9 +163,10 @@ def broken():
 def base():
     """Three frames of 1 × 2 samples of 8 bits. One mask item, which averages frames 1 and 3; no other group."""
     return {
-        xa.PHOTOMETRIC: text("CS", "MONOCHROME2"), xa.NUMBER_OF_FRAMES: text("IS", "3"), xa.ROWS: us(1), xa.COLUMNS: us(2),
-        xa.BITS_ALLOCATED: us(8), xa.BITS_STORED: us(8), xa.MASKS: sq({xa.OPERATION: text("CS", "AVG_SUB"), xa.MASK_FRAMES: us(1, 3)}),
-        xa.SHARED: sq({}), xa.PER_FRAME: sq({}, {}, {}), xa.PIXEL_DATA: ("OB", bytes(6)),
+        tags.PHOTOMETRIC_INTERPRETATION: text("CS", "MONOCHROME2"), tags.NUMBER_OF_FRAMES: text("IS", "3"), tags.ROWS: us(1), tags.COLUMNS: us(2),
+        tags.BITS_ALLOCATED: us(8), tags.BITS_STORED: us(8), tags.MASK_SUBTRACTION_SEQUENCE: sq({tags.MASK_OPERATION: text("CS", "AVG_SUB"),
+                                                                                                 tags.MASK_FRAME_NUMBERS: us(1, 3)}),
+        tags.SHARED_FUNCTIONAL_GROUPS_SEQUENCE: sq({}), tags.PER_FRAME_FUNCTIONAL_GROUPS_SEQUENCE: sq({}, {}, {}), tags.PIXEL_DATA: ("OB", bytes(6)),
     }
 
 
@@ -185,31 +187,31 @@ class Edits:
 
     @classmethod
     def mask(cls, changes):
-        return lambda model: cls.change(model[xa.MASKS][1][0], changes)
+        return lambda model: cls.change(model[tags.MASK_SUBTRACTION_SEQUENCE][1][0], changes)
 
     @classmethod
     def own(cls, changes, frame=1):
-        return lambda model: cls.change(model[xa.PER_FRAME][1][frame - 1], changes)
+        return lambda model: cls.change(model[tags.PER_FRAME_FUNCTIONAL_GROUPS_SEQUENCE][1][frame - 1], changes)
 
     @classmethod
     def shared(cls, changes):
-        return lambda model: cls.change(model[xa.SHARED][1][0], changes)
+        return lambda model: cls.change(model[tags.SHARED_FUNCTIONAL_GROUPS_SEQUENCE][1][0], changes)
 
 
 root, mask, own, shared = Edits.root, Edits.mask, Edits.own, Edits.shared
 
 
 def window(center, width):
-    return {xa.CENTER: text("DS", center), xa.WIDTH: text("DS", width)}
+    return {tags.WINDOW_CENTER: text("DS", center), tags.WINDOW_WIDTH: text("DS", width)}
 
 
 def pair(item_id, *floats):
-    return {xa.ITEM_ID: us(item_id), xa.SHIFT: fl(*floats)}
+    return {tags.SUBTRACTION_ITEM_ID: us(item_id), tags.MASK_SUB_PIXEL_SHIFT: fl(*floats)}
 
 
 def voi(*items):
     """Frame 1 has a VOI group."""
-    return own({xa.VOI: sq(*items)})
+    return own({tags.FRAME_VOI_LUT_SEQUENCE: sq(*items)})
 
 
 def windowed(center, width):
@@ -218,163 +220,175 @@ def windowed(center, width):
 
 def with_function(value):
     """Frame 1 has a VOI group with a function."""
-    return voi({**window("40", "0.5"), xa.FUNCTION: value})
+    return voi({**window("40", "0.5"), tags.VOI_LUT_FUNCTION: value})
 
 
 def moved_by(*items):
     """Frame 1 has a Frame Pixel Shift."""
-    return own({xa.FRAME_SHIFT: sq(*items)})
+    return own({tags.FRAME_PIXEL_SHIFT_SEQUENCE: sq(*items)})
 
 
 def mask_id(number, more={}):
-    return mask({xa.ITEM_ID: us(number), **more})
+    return mask({tags.SUBTRACTION_ITEM_ID: us(number), **more})
 
 
-TID = {xa.OPERATION: text("CS", "TID"), xa.MASK_FRAMES: None}
-SEVERAL = sq({xa.RANGE: us(3, 3), xa.OPERATION: text("CS", "NONE")}, {xa.RANGE: us(9, 9, 2, 2)}, {xa.OPERATION: text("CS", "TID")},
-             {xa.RANGE: ss(1, 1)})
+TID = {tags.MASK_OPERATION: text("CS", "TID"), tags.MASK_FRAME_NUMBERS: None}
+SEVERAL = sq({tags.APPLICABLE_FRAME_RANGE: us(3, 3), tags.MASK_OPERATION: text("CS", "NONE")}, {tags.APPLICABLE_FRAME_RANGE: us(9, 9, 2, 2)},
+             {tags.MASK_OPERATION: text("CS", "TID")},
+             {tags.APPLICABLE_FRAME_RANGE: ss(1, 1)})
 
-# Name, edits, line (0: the data set's, 1 to 5: frames 0 to 4), what stands in it.
+# Name, edits, line (0: the data set's, 1 to 5: frames 0 to 4), what it contains.
 SPECIAL = [
     ("base", (), 0, "size 1 2 1 8 inverse no pixels 6"),
     ("frame 0", (), 1, "frame 0 part item 1 AVG_SUB masks 1 3 tid native shift - window -"),
     ("frame 1", (), 2, "frame 1 whole item 1 AVG_SUB masks 1 3 tid native shift none 0 0 window LINEAR 128000000 256000000"),
     ("frame 4, without an item", (), 5, "frame 4 part item 1 AVG_SUB masks 1 3 tid 3 shift lacks window lacks"),
     # Frames and samples (D-2, D-3, D-8).
-    ("a frame beyond N", (root({xa.NUMBER_OF_FRAMES: text("IS", "1")}),), 4, "frame 3 whole item 1 AVG_SUB masks 1 3 tid native"),
-    ("no Number of Frames", (root({xa.NUMBER_OF_FRAMES: None}),), 3, "frame 2 whole item 1 AVG_SUB masks 1 3 tid lacks shift none 0 0"),
-    ("Number of Frames x", (root({xa.NUMBER_OF_FRAMES: text("IS", "x")}),), 3, "tid lacks"),
-    ("Number of Frames -3", (root({xa.NUMBER_OF_FRAMES: text("IS", "-3")}),), 3, "tid native"),
-    ("Number of Frames of VR US", (root({xa.NUMBER_OF_FRAMES: us(3)}),), 3, "tid lacks"),
-    ("Number of Frames twice", (root({xa.NUMBER_OF_FRAMES: text("IS", "3\\3")}),), 3, "tid lacks"),
-    ("Number of Frames of 11 digits", (root({xa.NUMBER_OF_FRAMES: text("IS", "99999999999")}),), 3, "tid 1"),
-    ("Rows 0", (root({xa.ROWS: us(0)}),), 5, "frame 4 whole"),
-    ("Rows 0, frame 0", (root({xa.ROWS: us(0)}),), 1, "frame 0 part"),
-    ("Rows twice", (root({xa.ROWS: us(1, 1)}),), 0, "size lacks inverse no pixels 6"),
-    ("Rows twice, frame 1", (root({xa.ROWS: us(1, 1)}),), 2, "frame 1 - item 1"),
-    ("no Columns", (root({xa.COLUMNS: None}),), 0, "size lacks"),
-    ("Columns of VR SS", (root({xa.COLUMNS: ss(2)}),), 0, "size lacks"),
-    ("Bits Allocated 0", (root({xa.BITS_ALLOCATED: us(0)}),), 0, "size lacks"),
-    ("Bits Allocated 12", (root({xa.BITS_ALLOCATED: us(12)}),), 0, "size lacks"),
-    ("Bits Allocated 24", (root({xa.BITS_ALLOCATED: us(24)}),), 0, "size 1 2 3 8"),
-    ("Bits Allocated 24, one frame", (root({xa.BITS_ALLOCATED: us(24)}),), 3, "frame 2 part"),
-    ("Bits Allocated 65528", (root({xa.BITS_ALLOCATED: us(65528)}),), 0, "size 1 2 8191 8"),
-    ("65535 × 65535 samples of 8191 bytes", (root({xa.ROWS: us(65535), xa.COLUMNS: us(65535), xa.BITS_ALLOCATED: us(65528)}),), 2, "frame 1 part"),
-    ("Bits Stored 0", (root({xa.BITS_STORED: us(0)}),), 0, "size 1 2 1 0"),
-    ("Bits Stored 0, masked", (root({xa.BITS_STORED: us(0)}),), 2, "item 1 AVG_SUB masks 1 3"),
-    ("Bits Stored 0, window", (root({xa.BITS_STORED: us(0)}),), 2, "window LINEAR 500000 1000000"),
-    ("Bits Stored 0, native", (root({xa.BITS_STORED: us(0), xa.MASKS: None}),), 2, "frame 1 whole native window LINEAR 500000 1000000"),
-    ("Bits Stored 0, VOI", (root({xa.BITS_STORED: us(0)}), own({xa.VOI: sq(window("0", "2"))})), 2, "window LINEAR 0 2000000"),
-    ("Bits Stored 1", (root({xa.BITS_STORED: us(1)}),), 2, "window LINEAR 1000000 2000000"),
-    ("Bits Stored 16", (root({xa.BITS_STORED: us(16)}),), 2, "window LINEAR 32768000000 65536000000"),
-    ("Bits Stored 17", (root({xa.BITS_STORED: us(17)}),), 0, "size 1 2 1 17"),
-    ("Bits Stored 17, window", (root({xa.BITS_STORED: us(17)}),), 2, "window -"),
-    ("no Pixel Data", (root({xa.PIXEL_DATA: None}),), 0, "pixels lacks"),
-    ("no Pixel Data, frame 1", (root({xa.PIXEL_DATA: None}),), 2, "frame 1 - item 1"),
-    ("Pixel Data of VR UN", (root({xa.PIXEL_DATA: ("UN", bytes(6))}),), 0, "pixels lacks"),
-    ("Pixel Data a sequence", (root({xa.PIXEL_DATA: sq({})}),), 0, "pixels lacks"),
-    ("Pixel Data empty", (root({xa.PIXEL_DATA: ("OW", b"")}),), 0, "pixels 0"),
-    ("Pixel Data empty, frame 1", (root({xa.PIXEL_DATA: ("OW", b"")}),), 2, "frame 1 part"),
-    ("Pixel Data too short", (root({xa.PIXEL_DATA: ("OB", bytes(4))}),), 4, "frame 3 part"),
-    ("Pixel Data longer", (root({xa.PIXEL_DATA: ("OW", bytes(8))}),), 5, "frame 4 whole"),
+    ("a frame beyond N", (root({tags.NUMBER_OF_FRAMES: text("IS", "1")}),), 4, "frame 3 whole item 1 AVG_SUB masks 1 3 tid native"),
+    ("no Number of Frames", (root({tags.NUMBER_OF_FRAMES: None}),), 3, "frame 2 whole item 1 AVG_SUB masks 1 3 tid lacks shift none 0 0"),
+    ("Number of Frames x", (root({tags.NUMBER_OF_FRAMES: text("IS", "x")}),), 3, "tid lacks"),
+    ("Number of Frames -3", (root({tags.NUMBER_OF_FRAMES: text("IS", "-3")}),), 3, "tid native"),
+    ("Number of Frames of VR US", (root({tags.NUMBER_OF_FRAMES: us(3)}),), 3, "tid lacks"),
+    ("Number of Frames twice", (root({tags.NUMBER_OF_FRAMES: text("IS", "3\\3")}),), 3, "tid lacks"),
+    ("Number of Frames of 11 digits", (root({tags.NUMBER_OF_FRAMES: text("IS", "99999999999")}),), 3, "tid 1"),
+    ("Rows 0", (root({tags.ROWS: us(0)}),), 5, "frame 4 whole"),
+    ("Rows 0, frame 0", (root({tags.ROWS: us(0)}),), 1, "frame 0 part"),
+    ("Rows twice", (root({tags.ROWS: us(1, 1)}),), 0, "size lacks inverse no pixels 6"),
+    ("Rows twice, frame 1", (root({tags.ROWS: us(1, 1)}),), 2, "frame 1 - item 1"),
+    ("no Columns", (root({tags.COLUMNS: None}),), 0, "size lacks"),
+    ("Columns of VR SS", (root({tags.COLUMNS: ss(2)}),), 0, "size lacks"),
+    ("Bits Allocated 0", (root({tags.BITS_ALLOCATED: us(0)}),), 0, "size lacks"),
+    ("Bits Allocated 12", (root({tags.BITS_ALLOCATED: us(12)}),), 0, "size lacks"),
+    ("Bits Allocated 24", (root({tags.BITS_ALLOCATED: us(24)}),), 0, "size 1 2 3 8"),
+    ("Bits Allocated 24, one frame", (root({tags.BITS_ALLOCATED: us(24)}),), 3, "frame 2 part"),
+    ("Bits Allocated 65528", (root({tags.BITS_ALLOCATED: us(65528)}),), 0, "size 1 2 8191 8"),
+    ("65535 × 65535 samples of 8191 bytes", (root({tags.ROWS: us(65535), tags.COLUMNS: us(65535), tags.BITS_ALLOCATED: us(65528)}),), 2,
+     "frame 1 part"),
+    ("Bits Stored 0", (root({tags.BITS_STORED: us(0)}),), 0, "size 1 2 1 0"),
+    ("Bits Stored 0, masked", (root({tags.BITS_STORED: us(0)}),), 2, "item 1 AVG_SUB masks 1 3"),
+    ("Bits Stored 0, window", (root({tags.BITS_STORED: us(0)}),), 2, "window LINEAR 500000 1000000"),
+    ("Bits Stored 0, native", (root({tags.BITS_STORED: us(0), tags.MASK_SUBTRACTION_SEQUENCE: None}),), 2,
+     "frame 1 whole native window LINEAR 500000 1000000"),
+    ("Bits Stored 0, VOI", (root({tags.BITS_STORED: us(0)}), own({tags.FRAME_VOI_LUT_SEQUENCE: sq(window("0", "2"))})), 2, "window LINEAR 0 2000000"),
+    ("Bits Stored 1", (root({tags.BITS_STORED: us(1)}),), 2, "window LINEAR 1000000 2000000"),
+    ("Bits Stored 16", (root({tags.BITS_STORED: us(16)}),), 2, "window LINEAR 32768000000 65536000000"),
+    ("Bits Stored 17", (root({tags.BITS_STORED: us(17)}),), 0, "size 1 2 1 17"),
+    ("Bits Stored 17, window", (root({tags.BITS_STORED: us(17)}),), 2, "window -"),
+    ("no Pixel Data", (root({tags.PIXEL_DATA: None}),), 0, "pixels lacks"),
+    ("no Pixel Data, frame 1", (root({tags.PIXEL_DATA: None}),), 2, "frame 1 - item 1"),
+    ("Pixel Data of VR UN", (root({tags.PIXEL_DATA: ("UN", bytes(6))}),), 0, "pixels lacks"),
+    ("Pixel Data a sequence", (root({tags.PIXEL_DATA: sq({})}),), 0, "pixels lacks"),
+    ("Pixel Data empty", (root({tags.PIXEL_DATA: ("OW", b"")}),), 0, "pixels 0"),
+    ("Pixel Data empty, frame 1", (root({tags.PIXEL_DATA: ("OW", b"")}),), 2, "frame 1 part"),
+    ("Pixel Data too short", (root({tags.PIXEL_DATA: ("OB", bytes(4))}),), 4, "frame 3 part"),
+    ("Pixel Data longer", (root({tags.PIXEL_DATA: ("OW", bytes(8))}),), 5, "frame 4 whole"),
     # Mask items (D-1, D-4).
-    ("no mask items", (root({xa.MASKS: None}),), 2, "frame 1 whole native window"),
-    ("mask sequence empty", (root({xa.MASKS: sq()}),), 2, "native"),
-    ("mask sequence of VR UN", (root({xa.MASKS: ("UN", b"")}),), 2, "frame 1 whole lacks window"),
-    ("several mask items, frame 1", (root({xa.MASKS: SEVERAL}),), 2, "item 3 TID masks lacks tid native"),
-    ("several mask items, frame 2", (root({xa.MASKS: SEVERAL}),), 3, "item 2 lacks masks lacks tid 1"),
-    ("several mask items, frame 3", (root({xa.MASKS: SEVERAL}),), 4, "item 1 NONE masks lacks tid 2"),
-    ("a bad range after one that holds", (root({xa.MASKS: sq({xa.RANGE: us(1, 1)}, {xa.RANGE: us()})}),), 2, "item 1 lacks"),
-    ("a bad range before one that holds", (root({xa.MASKS: sq({xa.RANGE: us()}, {xa.RANGE: us(1, 1)})}),), 2, "whole lacks window"),
-    ("no range holds", (mask({xa.RANGE: us(2, 1, 4, 9)}),), 4, "frame 3 whole native"),
-    ("a range from 0", (mask({xa.RANGE: us(0, 9)}),), 1, "frame 0 part item 1"),
-    ("range of half a pair", (mask({xa.RANGE: us(1, 1, 1)}),), 2, "whole lacks window"),
-    ("range of one number", (mask({xa.RANGE: us(1)}),), 2, "whole lacks window"),
-    ("range empty", (mask({xa.RANGE: us()}),), 2, "whole lacks window"),
-    ("range of VR SS", (mask({xa.RANGE: ss(1, 1)}),), 2, "whole lacks window"),
-    ("range a sequence", (mask({xa.RANGE: sq({})}),), 2, "whole lacks window"),
-    ("operation REV_TID", (mask({xa.OPERATION: text("CS", "REV_TID")}),), 2, "item 1 lacks masks 1 3 tid native shift none"),
-    ("operation in spaces", (mask({xa.OPERATION: text("CS", "  TID ")}),), 2, "item 1 TID"),
-    ("operation twice", (mask({xa.OPERATION: text("CS", "TID\\TID")}),), 2, "item 1 lacks"),
-    ("no operation", (mask({xa.OPERATION: None}),), 2, "item 1 lacks"),
-    ("operation empty", (mask({xa.OPERATION: text("CS", "")}),), 2, "item 1 lacks"),
-    ("operation of VR LO", (mask({xa.OPERATION: text("LO", "TID")}),), 2, "item 1 lacks"),
+    ("no mask items", (root({tags.MASK_SUBTRACTION_SEQUENCE: None}),), 2, "frame 1 whole native window"),
+    ("mask sequence empty", (root({tags.MASK_SUBTRACTION_SEQUENCE: sq()}),), 2, "native"),
+    ("mask sequence of VR UN", (root({tags.MASK_SUBTRACTION_SEQUENCE: ("UN", b"")}),), 2, "frame 1 whole lacks window"),
+    ("several mask items, frame 1", (root({tags.MASK_SUBTRACTION_SEQUENCE: SEVERAL}),), 2, "item 3 TID masks lacks tid native"),
+    ("several mask items, frame 2", (root({tags.MASK_SUBTRACTION_SEQUENCE: SEVERAL}),), 3, "item 2 lacks masks lacks tid 1"),
+    ("several mask items, frame 3", (root({tags.MASK_SUBTRACTION_SEQUENCE: SEVERAL}),), 4, "item 1 NONE masks lacks tid 2"),
+    ("a bad range after one that holds", (root({tags.MASK_SUBTRACTION_SEQUENCE: sq({tags.APPLICABLE_FRAME_RANGE: us(1, 1)},
+                                                                                   {tags.APPLICABLE_FRAME_RANGE: us()})}),), 2, "item 1 lacks"),
+    ("a bad range before one that holds", (root({tags.MASK_SUBTRACTION_SEQUENCE: sq({tags.APPLICABLE_FRAME_RANGE: us()},
+                                                                                    {tags.APPLICABLE_FRAME_RANGE: us(1, 1)})}),), 2,
+     "whole lacks window"),
+    ("no range holds", (mask({tags.APPLICABLE_FRAME_RANGE: us(2, 1, 4, 9)}),), 4, "frame 3 whole native"),
+    ("a range from 0", (mask({tags.APPLICABLE_FRAME_RANGE: us(0, 9)}),), 1, "frame 0 part item 1"),
+    ("range of half a pair", (mask({tags.APPLICABLE_FRAME_RANGE: us(1, 1, 1)}),), 2, "whole lacks window"),
+    ("range of one number", (mask({tags.APPLICABLE_FRAME_RANGE: us(1)}),), 2, "whole lacks window"),
+    ("range empty", (mask({tags.APPLICABLE_FRAME_RANGE: us()}),), 2, "whole lacks window"),
+    ("range of VR SS", (mask({tags.APPLICABLE_FRAME_RANGE: ss(1, 1)}),), 2, "whole lacks window"),
+    ("range a sequence", (mask({tags.APPLICABLE_FRAME_RANGE: sq({})}),), 2, "whole lacks window"),
+    ("operation REV_TID", (mask({tags.MASK_OPERATION: text("CS", "REV_TID")}),), 2, "item 1 lacks masks 1 3 tid native shift none"),
+    ("operation in spaces", (mask({tags.MASK_OPERATION: text("CS", "  TID ")}),), 2, "item 1 TID"),
+    ("operation twice", (mask({tags.MASK_OPERATION: text("CS", "TID\\TID")}),), 2, "item 1 lacks"),
+    ("no operation", (mask({tags.MASK_OPERATION: None}),), 2, "item 1 lacks"),
+    ("operation empty", (mask({tags.MASK_OPERATION: text("CS", "")}),), 2, "item 1 lacks"),
+    ("operation of VR LO", (mask({tags.MASK_OPERATION: text("LO", "TID")}),), 2, "item 1 lacks"),
     # Mask frames.
-    ("no mask frames", (mask({xa.MASK_FRAMES: None}),), 2, "AVG_SUB masks lacks"),
-    ("mask frames empty", (mask({xa.MASK_FRAMES: us()}),), 2, "AVG_SUB masks lacks"),
-    ("mask frames of VR SS", (mask({xa.MASK_FRAMES: ss(1)}),), 2, "AVG_SUB masks lacks"),
-    ("mask frame 0", (mask({xa.MASK_FRAMES: us(0)}),), 2, "AVG_SUB masks 0 tid"),
-    ("mask frame 65535", (mask({xa.MASK_FRAMES: us(1, 65535)}),), 2, "AVG_SUB masks 1 65535 tid"),
-    ("65 mask frames", (mask({xa.MASK_FRAMES: us(*range(65))}),), 2, "masks " + " ".join(str(k) for k in range(65)) + " tid"),
+    ("no mask frames", (mask({tags.MASK_FRAME_NUMBERS: None}),), 2, "AVG_SUB masks lacks"),
+    ("mask frames empty", (mask({tags.MASK_FRAME_NUMBERS: us()}),), 2, "AVG_SUB masks lacks"),
+    ("mask frames of VR SS", (mask({tags.MASK_FRAME_NUMBERS: ss(1)}),), 2, "AVG_SUB masks lacks"),
+    ("mask frame 0", (mask({tags.MASK_FRAME_NUMBERS: us(0)}),), 2, "AVG_SUB masks 0 tid"),
+    ("mask frame 65535", (mask({tags.MASK_FRAME_NUMBERS: us(1, 65535)}),), 2, "AVG_SUB masks 1 65535 tid"),
+    ("65 mask frames", (mask({tags.MASK_FRAME_NUMBERS: us(*range(65))}),), 2, "masks " + " ".join(str(k) for k in range(65)) + " tid"),
     # TID offsets.
     ("TID offset absent", (mask(TID),), 4, "item 1 TID masks lacks tid 2"),
-    ("TID offset empty", (mask({**TID, xa.TID_OFFSET: ss()}),), 4, "tid lacks"),
-    ("TID offset twice", (mask({**TID, xa.TID_OFFSET: ss(1, 1)}),), 4, "tid lacks"),
-    ("TID offset of VR US", (mask({**TID, xa.TID_OFFSET: us(1)}),), 4, "tid lacks"),
-    ("TID offset 0", (mask({**TID, xa.TID_OFFSET: ss(0)}),), 4, "tid 3"),
-    ("TID offset 0, frame 0", (mask({**TID, xa.TID_OFFSET: ss(0)}),), 1, "tid native"),
-    ("TID offset 0, frame 4", (mask({**TID, xa.TID_OFFSET: ss(0)}),), 5, "tid native"),
-    ("TID offset -2", (mask({**TID, xa.TID_OFFSET: ss(-2)}),), 2, "tid 3"),
-    ("TID offset -2, beyond N", (mask({**TID, xa.TID_OFFSET: ss(-2)}),), 3, "tid native"),
-    ("TID offset 3", (mask({**TID, xa.TID_OFFSET: ss(3)}),), 4, "tid native"),
-    ("TID offset 32767", (mask({**TID, xa.TID_OFFSET: ss(32767)}),), 4, "tid native"),
-    ("TID offset -32768", (mask({**TID, xa.TID_OFFSET: ss(-32768)}),), 4, "tid native"),
-    ("TID offset -32768 of many", (mask({**TID, xa.TID_OFFSET: ss(-32768)}), root({xa.NUMBER_OF_FRAMES: text("IS", "65535")})), 4, "tid 32771"),
+    ("TID offset empty", (mask({**TID, tags.TID_OFFSET: ss()}),), 4, "tid lacks"),
+    ("TID offset twice", (mask({**TID, tags.TID_OFFSET: ss(1, 1)}),), 4, "tid lacks"),
+    ("TID offset of VR US", (mask({**TID, tags.TID_OFFSET: us(1)}),), 4, "tid lacks"),
+    ("TID offset 0", (mask({**TID, tags.TID_OFFSET: ss(0)}),), 4, "tid 3"),
+    ("TID offset 0, frame 0", (mask({**TID, tags.TID_OFFSET: ss(0)}),), 1, "tid native"),
+    ("TID offset 0, frame 4", (mask({**TID, tags.TID_OFFSET: ss(0)}),), 5, "tid native"),
+    ("TID offset -2", (mask({**TID, tags.TID_OFFSET: ss(-2)}),), 2, "tid 3"),
+    ("TID offset -2, beyond N", (mask({**TID, tags.TID_OFFSET: ss(-2)}),), 3, "tid native"),
+    ("TID offset 3", (mask({**TID, tags.TID_OFFSET: ss(3)}),), 4, "tid native"),
+    ("TID offset 32767", (mask({**TID, tags.TID_OFFSET: ss(32767)}),), 4, "tid native"),
+    ("TID offset -32768", (mask({**TID, tags.TID_OFFSET: ss(-32768)}),), 4, "tid native"),
+    ("TID offset -32768 of many", (mask({**TID, tags.TID_OFFSET: ss(-32768)}), root({tags.NUMBER_OF_FRAMES: text("IS", "65535")})), 4, "tid 32771"),
     # The frame's item and the shared one.
-    ("no shared item", (root({xa.SHARED: sq()}),), 2, "shift lacks window lacks"),
-    ("shared groups absent", (root({xa.SHARED: None}),), 2, "shift lacks window lacks"),
-    ("two shared items", (root({xa.SHARED: sq({}, {})}),), 2, "shift lacks window lacks"),
-    ("shared groups of VR UN", (root({xa.SHARED: ("UN", b"")}),), 2, "shift lacks window lacks"),
-    ("no shared item, groups in the frame", (root({xa.SHARED: sq()}), own({xa.VOI: sq(window("1", "2")), xa.FRAME_SHIFT: sq(pair(1, 5.0, 6.0))}),
+    ("no shared item", (root({tags.SHARED_FUNCTIONAL_GROUPS_SEQUENCE: sq()}),), 2, "shift lacks window lacks"),
+    ("shared groups absent", (root({tags.SHARED_FUNCTIONAL_GROUPS_SEQUENCE: None}),), 2, "shift lacks window lacks"),
+    ("two shared items", (root({tags.SHARED_FUNCTIONAL_GROUPS_SEQUENCE: sq({}, {})}),), 2, "shift lacks window lacks"),
+    ("shared groups of VR UN", (root({tags.SHARED_FUNCTIONAL_GROUPS_SEQUENCE: ("UN", b"")}),), 2, "shift lacks window lacks"),
+    ("no shared item, groups in the frame", (root({tags.SHARED_FUNCTIONAL_GROUPS_SEQUENCE: sq()}),
+                                             own({tags.FRAME_VOI_LUT_SEQUENCE: sq(window("1", "2")),
+                                                  tags.FRAME_PIXEL_SHIFT_SEQUENCE: sq(pair(1, 5.0, 6.0))}),
                                              mask_id(1)), 2, "shift frame 20 24 window LINEAR 1000000 2000000"),
-    ("item 2 missing", (root({xa.PER_FRAME: sq({})}),), 3, "shift lacks window lacks"),
-    ("per-frame groups absent", (root({xa.PER_FRAME: None}),), 2, "shift lacks window lacks"),
-    ("per-frame groups of VR OB", (root({xa.PER_FRAME: ("OB", bytes(8))}),), 2, "shift lacks window lacks"),
+    ("item 2 missing", (root({tags.PER_FRAME_FUNCTIONAL_GROUPS_SEQUENCE: sq({})}),), 3, "shift lacks window lacks"),
+    ("per-frame groups absent", (root({tags.PER_FRAME_FUNCTIONAL_GROUPS_SEQUENCE: None}),), 2, "shift lacks window lacks"),
+    ("per-frame groups of VR OB", (root({tags.PER_FRAME_FUNCTIONAL_GROUPS_SEQUENCE: ("OB", bytes(8))}),), 2, "shift lacks window lacks"),
     # Shifts (D-5).
-    ("the item's shift", (mask({xa.SHIFT: fl(-64.0, 64.0)}),), 2, "shift item -256 256"),
-    ("minus zeros", (mask({xa.SHIFT: GOOD_SHIFTS["minus zeros"]}),), 2, "shift item 0 0"),
-    ("NaN", (mask({xa.SHIFT: NOT_A_NUMBER}),), 2, "shift item other 0"),
-    ("an eighth", (mask({xa.SHIFT: fl(3.0, 0.125)}),), 2, "shift item 12 other"),
-    ("quarters", (mask({xa.SHIFT: fl(-3.25, 0.75)}),), 2, "shift item -13 3"),
-    ("65", (mask({xa.SHIFT: fl(65.0, -65.0)}),), 2, "shift item other other"),
-    ("one number", (mask({xa.SHIFT: fl(1.0)}),), 2, "shift lacks"),
-    ("three numbers", (mask({xa.SHIFT: fl(1.0, 2.0, 3.0)}),), 2, "shift lacks"),
-    ("an empty shift", (mask({xa.SHIFT: fl()}),), 2, "shift lacks"),
-    ("a shift of VR FD", (mask({xa.SHIFT: ("FD", bytes(8))}),), 2, "shift lacks"),
+    ("the item's shift", (mask({tags.MASK_SUB_PIXEL_SHIFT: fl(-64.0, 64.0)}),), 2, "shift item -256 256"),
+    ("minus zeros", (mask({tags.MASK_SUB_PIXEL_SHIFT: GOOD_SHIFTS["minus zeros"]}),), 2, "shift item 0 0"),
+    ("NaN", (mask({tags.MASK_SUB_PIXEL_SHIFT: NOT_A_NUMBER}),), 2, "shift item other 0"),
+    ("an eighth", (mask({tags.MASK_SUB_PIXEL_SHIFT: fl(3.0, 0.125)}),), 2, "shift item 12 other"),
+    ("quarters", (mask({tags.MASK_SUB_PIXEL_SHIFT: fl(-3.25, 0.75)}),), 2, "shift item -13 3"),
+    ("65", (mask({tags.MASK_SUB_PIXEL_SHIFT: fl(65.0, -65.0)}),), 2, "shift item other other"),
+    ("one number", (mask({tags.MASK_SUB_PIXEL_SHIFT: fl(1.0)}),), 2, "shift lacks"),
+    ("three numbers", (mask({tags.MASK_SUB_PIXEL_SHIFT: fl(1.0, 2.0, 3.0)}),), 2, "shift lacks"),
+    ("an empty shift", (mask({tags.MASK_SUB_PIXEL_SHIFT: fl()}),), 2, "shift lacks"),
+    ("a shift of VR FD", (mask({tags.MASK_SUB_PIXEL_SHIFT: ("FD", bytes(8))}),), 2, "shift lacks"),
     ("group empty", (moved_by(),), 2, "shift lacks"),
-    ("group of VR UN", (own({xa.FRAME_SHIFT: ("UN", b"")}),), 2, "shift lacks"),
-    ("group in the frame names the ID", (mask_id(7, {xa.SHIFT: fl(1.0, 1.0)}), moved_by(pair(8, 2.0, 2.0), pair(7, 3.0, -4.0))), 2,
+    ("group of VR UN", (own({tags.FRAME_PIXEL_SHIFT_SEQUENCE: ("UN", b"")}),), 2, "shift lacks"),
+    ("group in the frame names the ID", (mask_id(7, {tags.MASK_SUB_PIXEL_SHIFT: fl(1.0, 1.0)}), moved_by(pair(8, 2.0, 2.0), pair(7, 3.0, -4.0))), 2,
      "shift frame 12 -16"),
-    ("group in the frame names another", (mask_id(9, {xa.SHIFT: fl(1.0, 1.0)}), moved_by(pair(8, 2.0, 2.0), pair(7, 3.0, -4.0))), 2,
+    ("group in the frame names another", (mask_id(9, {tags.MASK_SUB_PIXEL_SHIFT: fl(1.0, 1.0)}), moved_by(pair(8, 2.0, 2.0), pair(7, 3.0, -4.0))), 2,
      "shift item 4 4"),
     ("group names another, no shift of the item", (mask_id(9), moved_by(pair(8, 2.0, 2.0))), 2, "shift none 0 0"),
-    ("group names another, the item's shift is bad", (mask_id(9, {xa.SHIFT: fl()}), moved_by(pair(8, 2.0, 2.0))), 2, "shift lacks"),
-    ("group names the ID, the item's shift is bad", (mask_id(8, {xa.SHIFT: fl()}), moved_by(pair(8, 2.0, 2.0))), 2, "shift frame 8 8"),
+    ("group names another, the item's shift is bad", (mask_id(9, {tags.MASK_SUB_PIXEL_SHIFT: fl()}), moved_by(pair(8, 2.0, 2.0))), 2, "shift lacks"),
+    ("group names the ID, the item's shift is bad", (mask_id(8, {tags.MASK_SUB_PIXEL_SHIFT: fl()}), moved_by(pair(8, 2.0, 2.0))), 2,
+     "shift frame 8 8"),
     ("group names the ID twice", (mask_id(8), moved_by(pair(8, 2.0, 2.0), pair(8, 3.0, 3.0))), 2, "shift frame 8 8"),
     ("no ID in the mask item", (moved_by(pair(8, 2.0, 2.0)),), 2, "shift lacks"),
     ("no ID in the mask item, frame without a group", (moved_by(pair(8, 2.0, 2.0)),), 3, "shift none 0 0"),
     ("no ID before the one that is equal", (mask_id(7), moved_by({}, pair(7, 3.0, 3.0))), 2, "shift lacks"),
     ("no ID after the one that is equal", (mask_id(7), moved_by(pair(7, 3.0, 3.0), {})), 2, "shift frame 12 12"),
-    ("two IDs", (mask_id(7), moved_by({xa.ITEM_ID: us(7, 7), xa.SHIFT: fl(1.0, 1.0)})), 2, "shift lacks"),
-    ("the named item has no shift", (mask_id(7), moved_by({xa.ITEM_ID: us(7)})), 2, "shift lacks"),
-    ("the named item has NaN", (mask_id(7), moved_by({xa.ITEM_ID: us(7), xa.SHIFT: NOT_A_NUMBER})), 2, "shift frame other 0"),
-    ("a shared group", (mask_id(7), shared({xa.FRAME_SHIFT: sq(pair(7, 5.0, 6.0))})), 4, "shift frame 20 24"),
-    ("a shared group, hidden", (mask_id(7), shared({xa.FRAME_SHIFT: sq(pair(7, 5.0, 6.0))}), own({xa.FRAME_SHIFT: ("LO", b"")}, 3)), 4, "shift lacks"),
+    ("two IDs", (mask_id(7), moved_by({tags.SUBTRACTION_ITEM_ID: us(7, 7), tags.MASK_SUB_PIXEL_SHIFT: fl(1.0, 1.0)})), 2, "shift lacks"),
+    ("the named item has no shift", (mask_id(7), moved_by({tags.SUBTRACTION_ITEM_ID: us(7)})), 2, "shift lacks"),
+    ("the named item has NaN", (mask_id(7), moved_by({tags.SUBTRACTION_ITEM_ID: us(7), tags.MASK_SUB_PIXEL_SHIFT: NOT_A_NUMBER})), 2,
+     "shift frame other 0"),
+    ("a shared group", (mask_id(7), shared({tags.FRAME_PIXEL_SHIFT_SEQUENCE: sq(pair(7, 5.0, 6.0))})), 4, "shift frame 20 24"),
+    ("a shared group, hidden", (mask_id(7), shared({tags.FRAME_PIXEL_SHIFT_SEQUENCE: sq(pair(7, 5.0, 6.0))}),
+                                own({tags.FRAME_PIXEL_SHIFT_SEQUENCE: ("LO", b"")}, 3)), 4, "shift lacks"),
     # Windows (D-6).
     ("window", (windowed("40", "400"),), 2, "window LINEAR 40000000 400000000"),
-    ("window of the shared group", (shared({xa.VOI: sq(window("-.5", "+1.25"))}),), 2, "window LINEAR -500000 1250000"),
-    ("window of the shared group, hidden", (shared({xa.VOI: sq(window("1", "2"))}), own({xa.VOI: ("UN", b"")})), 2, "window lacks"),
+    ("window of the shared group", (shared({tags.FRAME_VOI_LUT_SEQUENCE: sq(window("-.5", "+1.25"))}),), 2, "window LINEAR -500000 1250000"),
+    ("window of the shared group, hidden", (shared({tags.FRAME_VOI_LUT_SEQUENCE: sq(window("1", "2"))}),
+                                            own({tags.FRAME_VOI_LUT_SEQUENCE: ("UN", b"")})), 2, "window lacks"),
     ("VOI group empty", (voi(),), 2, "window lacks"),
     ("VOI group of two items", (voi(window("1", "2"), window("1", "2")),), 2, "window lacks"),
     ("VOI item empty", (voi({}),), 2, "window lacks"),
-    ("no width", (voi({xa.CENTER: text("DS", "1")}),), 2, "window lacks"),
-    ("no centre", (voi({xa.WIDTH: text("DS", "1")}),), 2, "window lacks"),
+    ("no width", (voi({tags.WINDOW_CENTER: text("DS", "1")}),), 2, "window lacks"),
+    ("no centre", (voi({tags.WINDOW_WIDTH: text("DS", "1")}),), 2, "window lacks"),
     ("width 0", (windowed("40", "0"),), 2, "window LINEAR 40000000 0"),
     ("width negative", (windowed("40", "-7.5"),), 2, "window LINEAR 40000000 -7500000"),
     ("centre -0", (windowed("-0", "-0"),), 2, "window LINEAR 0 0"),
     ("centre empty", (windowed("", "1"),), 2, "window lacks"),
     ("centre blank", (windowed("  ", "1"),), 2, "window lacks"),
-    ("centre of VR IS", (voi({xa.CENTER: text("IS", "1"), xa.WIDTH: text("DS", "1")}),), 2, "window lacks"),
+    ("centre of VR IS", (voi({tags.WINDOW_CENTER: text("IS", "1"), tags.WINDOW_WIDTH: text("DS", "1")}),), 2, "window lacks"),
     ("first values good, others not", (windowed("1\\x", "0.001\\\\8"),), 2, "window LINEAR 1000000 1000"),
     ("first centre bad", (windowed("1E\\1", "1\\1"),), 2, "window lacks"),
     ("first width bad", (windowed("1", ".\\1"),), 2, "window lacks"),
@@ -391,21 +405,23 @@ SPECIAL = [
     # VOI LUT Function (Q-3).
     ("LINEAR", (with_function(text("CS", "LINEAR")),), 2, "window LINEAR 40000000 500000"),
     ("LINEAR_EXACT", (with_function(text("CS", " LINEAR_EXACT ")),), 2, "window LINEAR_EXACT 40000000 500000"),
-    ("LINEAR_EXACT of the shared group", (shared({xa.VOI: sq({**window("1", "-2"), xa.FUNCTION: text("CS", "LINEAR_EXACT")})}),), 2,
+    ("LINEAR_EXACT of the shared group", (shared({tags.FRAME_VOI_LUT_SEQUENCE: sq({**window("1", "-2"),
+                                                                                   tags.VOI_LUT_FUNCTION: text("CS", "LINEAR_EXACT")})}),), 2,
      "window LINEAR_EXACT 1000000 -2000000"),
-    ("LINEAR_EXACT, width 0", (voi({**window("1", "0"), xa.FUNCTION: text("CS", "LINEAR_EXACT")}),), 2, "window LINEAR_EXACT 1000000 0"),
-    ("LINEAR_EXACT, centre bad", (voi({**window("x", "1"), xa.FUNCTION: text("CS", "LINEAR_EXACT")}),), 2, "window lacks"),
-    ("LINEAR_EXACT beside the VOI group", (windowed("1", "2"), own({xa.FUNCTION: text("CS", "LINEAR_EXACT")})), 2, "window LINEAR 1000000 2000000"),
-    ("SIGMOID beside the VOI group", (windowed("1", "2"), root({xa.FUNCTION: text("CS", "SIGMOID")})), 2, "window LINEAR 1000000 2000000"),
+    ("LINEAR_EXACT, width 0", (voi({**window("1", "0"), tags.VOI_LUT_FUNCTION: text("CS", "LINEAR_EXACT")}),), 2, "window LINEAR_EXACT 1000000 0"),
+    ("LINEAR_EXACT, centre bad", (voi({**window("x", "1"), tags.VOI_LUT_FUNCTION: text("CS", "LINEAR_EXACT")}),), 2, "window lacks"),
+    ("LINEAR_EXACT beside the VOI group", (windowed("1", "2"), own({tags.VOI_LUT_FUNCTION: text("CS", "LINEAR_EXACT")})), 2,
+     "window LINEAR 1000000 2000000"),
+    ("SIGMOID beside the VOI group", (windowed("1", "2"), root({tags.VOI_LUT_FUNCTION: text("CS", "SIGMOID")})), 2, "window LINEAR 1000000 2000000"),
     # Photometric Interpretation (D-7).
-    ("MONOCHROME1", (root({xa.PHOTOMETRIC: text("CS", " MONOCHROME1 ")}),), 0, "inverse yes"),
-    ("RGB", (root({xa.PHOTOMETRIC: text("CS", "RGB")}),), 0, "inverse no"),
-    ("blank", (root({xa.PHOTOMETRIC: text("CS", "  ")}),), 0, "inverse no"),
-    ("empty", (root({xa.PHOTOMETRIC: ("CS", b"")}),), 0, "inverse lacks"),
-    ("MONOCHROME1 twice", (root({xa.PHOTOMETRIC: text("CS", "MONOCHROME1\\MONOCHROME1")}),), 0, "inverse lacks"),
-    ("a backslash", (root({xa.PHOTOMETRIC: text("CS", "MONOCHROME1\\")}),), 0, "inverse lacks"),
-    ("of VR LO", (root({xa.PHOTOMETRIC: text("LO", "MONOCHROME1")}),), 0, "inverse lacks"),
-    ("absent", (root({xa.PHOTOMETRIC: None}),), 0, "inverse lacks"),
+    ("MONOCHROME1", (root({tags.PHOTOMETRIC_INTERPRETATION: text("CS", " MONOCHROME1 ")}),), 0, "inverse yes"),
+    ("RGB", (root({tags.PHOTOMETRIC_INTERPRETATION: text("CS", "RGB")}),), 0, "inverse no"),
+    ("blank", (root({tags.PHOTOMETRIC_INTERPRETATION: text("CS", "  ")}),), 0, "inverse no"),
+    ("empty", (root({tags.PHOTOMETRIC_INTERPRETATION: ("CS", b"")}),), 0, "inverse lacks"),
+    ("MONOCHROME1 twice", (root({tags.PHOTOMETRIC_INTERPRETATION: text("CS", "MONOCHROME1\\MONOCHROME1")}),), 0, "inverse lacks"),
+    ("a backslash", (root({tags.PHOTOMETRIC_INTERPRETATION: text("CS", "MONOCHROME1\\")}),), 0, "inverse lacks"),
+    ("of VR LO", (root({tags.PHOTOMETRIC_INTERPRETATION: text("LO", "MONOCHROME1")}),), 0, "inverse lacks"),
+    ("absent", (root({tags.PHOTOMETRIC_INTERPRETATION: None}),), 0, "inverse lacks"),
 ]
 SPECIAL += [(f"function {word!r}", (with_function(text("CS", word)),), 2, "window lacks") for word in BAD_FUNCTIONS]
 SPECIAL += [(f"function of VR {name}", (with_function(value),), 2, "window lacks") for name, value in OTHER_VRS.items()]
@@ -414,13 +430,13 @@ for number, word in enumerate(BAD_DECIMALS):
     as_width = (f"width {word!r}", (windowed("1", word + "\\1"),), 2, "window lacks")
     SPECIAL.append(as_width if number % 2 else as_center)
 for name, value in BAD_IDS.items():
-    SPECIAL.append((f"ID of the mask item {name}", (mask({xa.ITEM_ID: value}), moved_by(pair(1, 2.0, 2.0))), 2, "shift lacks"))
-    its_id = {} if value is None else {xa.ITEM_ID: value}
-    SPECIAL.append((f"ID of the frame's item {name}", (mask_id(1), moved_by({**its_id, xa.SHIFT: fl(1.0, 1.0)})), 2, "shift lacks"))
+    SPECIAL.append((f"ID of the mask item {name}", (mask({tags.SUBTRACTION_ITEM_ID: value}), moved_by(pair(1, 2.0, 2.0))), 2, "shift lacks"))
+    its_id = {} if value is None else {tags.SUBTRACTION_ITEM_ID: value}
+    SPECIAL.append((f"ID of the frame's item {name}", (mask_id(1), moved_by({**its_id, tags.MASK_SUB_PIXEL_SHIFT: fl(1.0, 1.0)})), 2, "shift lacks"))
 for name, value in BAD_SHIFTS.items():
     two = value[0] == "FL" and len(value[1]) == 8
-    SPECIAL.append((f"shift of the mask item: {name}", (mask({xa.SHIFT: value}),), 2, "shift item" if two else "shift lacks"))
-    SPECIAL.append((f"shift of the frame: {name}", (mask_id(7), moved_by({xa.ITEM_ID: us(7), xa.SHIFT: value})), 2,
+    SPECIAL.append((f"shift of the mask item: {name}", (mask({tags.MASK_SUB_PIXEL_SHIFT: value}),), 2, "shift item" if two else "shift lacks"))
+    SPECIAL.append((f"shift of the frame: {name}", (mask_id(7), moved_by({tags.SUBTRACTION_ITEM_ID: us(7), tags.MASK_SUB_PIXEL_SHIFT: value})), 2,
                     "shift frame" if two else "shift lacks"))
 
 

@@ -1,4 +1,5 @@
-"""Tags of the attributes that rules and drawing steps name, by their PS3.6 keywords."""
+"""Tags of the attributes that rules and drawing steps name, by their PS3.6 keywords. The generators use this table too; the library has its
+own, so that a wrong tag in either shows."""
 
 IMAGE_TYPE = 0x00080008
 SOP_CLASS_UID = 0x00080016

@@ -37,14 +37,14 @@ def element_length(element):
 
 
 def content_length(element):
-    """The length that stands in an element's header: that of its value, or of its items as they are written."""
+    """The length in an element's header: that of its value, or of its items as they are written."""
     if element.items is None:
         return element.value_length
     return sum(8 + item_length(item) for item in element.items)
 
 
 def item_length(item):
-    """The length that stands in an item's header."""
+    """The length in an item's header."""
     return sum(element_length(element) for element in item.elements)
 
 

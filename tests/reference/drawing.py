@@ -172,7 +172,7 @@ def chosen_shift(root, item, frame):
     """Step 4. The shift is no shift, the item's two numbers, or the frame's own two where its group names the item's ID
     (an absent group names none); the frame's own win, and where neither are present there is no shift.
 
-    Says which, and the two numbers as they stand."""
+    Says which, and the two numbers unchanged."""
     own = naming_item(root, item, frame)
     if own is not None:
         return "frame", needed(own.float_pair(tags.MASK_SUB_PIXEL_SHIFT), "a frame's shift")

@@ -1,9 +1,9 @@
-"""Files: document 02, Q-1. The head is tested, then the data set behind it goes to the calls of document 01."""
+"""Files: document 02, Q-1. The head is tested, then the data set after it goes to the calls of document 01."""
 
 from . import drawing, reading, rules
 from .answers import BAD_HEAD, NO_MARK, OTHER_TRANSFER_SYNTAX, ROW_BUFFER_TOO_SMALL, SOP_CLASSES_DIFFER, Answer, Outcome
 
-HEAD_START = 132  # behind 128 bytes of anything and "DICM"
+HEAD_START = 132  # after 128 bytes of anything and "DICM"
 HEAD_GROUP = 0x0002
 GROUP_LENGTH = 0x00020000
 MEDIA_STORAGE_SOP_CLASS_UID = 0x00020002
@@ -72,7 +72,7 @@ def data_set(file):
 
 
 def inside(file, row_buffer_length, call):
-    """What a call on a file comes to; `call` takes the data set. 18 stands between 8 and 9 and leaves what 9 leaves."""
+    """The outcome of a call on a file; `call` takes the data set. 18 comes between 8 and 9, and the rows are written as with 9."""
     try:
         start, sop_class = read_head(file)
     except HeadRefusal as refusal:

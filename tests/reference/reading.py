@@ -33,7 +33,7 @@ class Refusal(Exception):
 
 
 class Element:
-    """An element: its tag, VR, and where its value stands. A sequence also has its items."""
+    """An element: its tag, its VR, and where its value is. A sequence also has its items."""
 
     def __init__(self, tag, vr, value_offset, value_length, items):
         self.tag = tag
@@ -93,7 +93,7 @@ def read_elements(data, offset, end, depth, delimited):
 
 
 def read_element(data, offset, end, depth, tag):
-    """The element whose header stands at `offset`, from check 4 on, and the offset behind it."""
+    """The element whose header is at `offset`, from check 4 on, and the offset after it."""
     vr = bytes(data[offset + 4:offset + 6]).decode("latin-1")
     # Check 4.
     if vr not in LONG_VRS and vr not in SHORT_VRS:

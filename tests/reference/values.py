@@ -10,7 +10,7 @@ from fractions import Fraction
 
 
 class Level:
-    """The root of a data set, or an item: its elements, and the bytes that their values stand in."""
+    """The root of a data set, or an item: its elements, and the bytes that hold their values."""
 
     def __init__(self, data, elements):
         self.data = data
@@ -33,7 +33,7 @@ class Level:
         return element is not None and element.vr == vr and element.value_length != 0
 
     def value(self, tag, vr):
-        """The value's bytes if the element is had, else None."""
+        """The bytes of the value if the data set has the element with this VR, else None."""
         if not self.has(tag, vr):
             return None
         element = self.find(tag)

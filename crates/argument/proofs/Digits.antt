@@ -9,7 +9,7 @@ use lib.Seq.{drop-length}
 use borrow.Author.Tests.{le-leb, lt-leb}
 use types.Run.{OneOf, miss}
 use denote.Enum.Declared.{tagOf}
-use Rattle.value.proofs.Lists.{from-next}
+use Rattle.basics.proofs.Lists.{from-next}
 use Rattle.argument.specs.declared.Decimal.{Decimal}
 use Rattle.argument.specs.declared.Decimal.the-variants.{Number, TooLarge, NotNumber}
 use Rattle.argument.proofs.Decimal.{the-type}

@@ -1,5 +1,6 @@
 pub mod Bytes
 pub mod Vr
+pub mod Tags
 pub mod Limits
 pub mod Fields
 pub mod Contracts

@@ -1,12 +1,13 @@
-// The base of every other crate: numbers in bytes, VRs, and how large a data set may be. specs/ defines each, and the fields of an
+// The base of every other crate: numbers in bytes, tags, VRs, and how large a data set may be. specs/ defines each, and the fields of an
 // answer. No function of this crate is a public call: each requires that the bytes it reads exist.
 ghost use mathlib.Core.Path.{_≡_};
 ghost use Prim.Native.Nat.{_+_, _≤_, _<_};
 ghost use lib.ListN.{length};
-ghost use Rattle.basics.specs.Bytes.{le16, le32, tagAt, vrAt};
+ghost use Rattle.basics.specs.Bytes.{sameBytes, le16, le32, tagAt, vrAt};
 ghost use Rattle.basics.specs.Vr.{formOf};
 ghost use Rattle.basics.specs.Contracts.{FormsAfter};
 
+pub mod tags;
 pub mod vrs;
 
 // The most bytes that a data set may have.
@@ -25,6 +26,24 @@ pub fn wider(x: u32) -> usize
     ensures { λ r. ⌜ r ≡ x ⌝ }
 {
     x as usize
+}
+
+// Whether two runs of bytes are the same.
+pub fn same_bytes(a: &[u8], b: &[u8]) -> bool
+    ensures { λ r. ⌜ r ≡ sameBytes (now (a .entry)) (now (b .entry)) ⌝ }
+{
+    let n = a.len();
+    if n != b.len() {
+        return false;
+    }
+    let mut i = 0;
+    while i < n {
+        if a[i] != b[i] {
+            return false;
+        }
+        i += 1;
+    }
+    true
 }
 
 pub fn u16_at(s: &[u8], p: usize) -> usize

@@ -9,16 +9,18 @@ use mathlib.Core.List.{List, _++_, map}
 use lib.ListN.{length, take, drop}
 use lib.Seq.{sets-eq, slice}
 use lib.Dec.{ltb}
+use Rattle.basics.specs.Limits.{largest}
+use Rattle.basics.specs.Bytes.{IsBytes}
 use Rattle.dataset.specs.declared.ReadAnswer.the-variants as answer
 use Rattle.dataset.specs.Reading.{Reading, tooLarge, refusedAt, read, readingOf}
-use Rattle.dataset.specs.Answer.{answerOf, bufferOf}
+use Rattle.dataset.specs.Answer.{answerOf, bufferOf, width}
 use Rattle.dataset.specs.Tree.{rowsIn, rowsOf}
 use Rattle.node.specs.Nodes.{nodeOf, nodesOf}
 use Rattle.node.proofs.Laws.{next-within}
 use Rattle.node.proofs.After.{after-reading, nodes-read}
 use Rattle.canonical.specs.declared.CanonicalAnswer.the-variants as canonical
-use Rattle.canonical.specs.Contracts.{Sized, Fitting, Wrote}
-use Rattle.canonical.specs.Written.{Bytes, writtenSize, writtenOf}
+use Rattle.canonical.specs.Contracts.{Sized, Fitting, WroteNodes}
+use Rattle.canonical.specs.Written.{writtenSize, writtenOf}
 use Rattle.canonical.specs.Answer.{canonicalOf, targetOf}
 use Rattle.canonical.proofs.Shape.{shape-size}
 use Rattle.canonical.proofs.Read.{Readable, reading-shape}
@@ -29,32 +31,32 @@ use Rattle.canonical.proofs.Members.{wrote-all}
 
 record Few (s : List ℕ) (size : ℕ) : Type 0 where
   fits : size ≤ length s
-  small : size ≤ 1073741824
+  small : size ≤ largest
 
-nodes-few : (s : List ℕ) → Bytes s → Few s (writtenSize (nodesOf s))
+nodes-few : (s : List ℕ) → IsBytes s → Few s (writtenSize (nodesOf s))
 unfolding nodesOf rowsOf writtenSize
 nodes-few s bytes = go (readingOf s) (reading-shape s bytes)
   where
     go : (o : Reading) → Readable s bytes o → Few s (writtenSize (map (nodeOf s) (rowsIn o)))
     go tooLarge r = record { fits = omega arith; small = omega arith }
     go (refusedAt code offset) r = record { fits = omega arith; small = omega arith }
-    go (read rows)
-        r = record { fits = omega (arith, shape-size (r .shape), r .fits); small = omega (arith, shape-size (r .shape), r .fits, r .small) }
+    go (read rows) r =
+        record { fits = omega (arith, shape-size (r .shape), r .fits); small = omega (arith, shape-size (r .shape), r .fits, r .small) }
 
 -- The canonical form is no longer than the data set.
-pub form-fits : (s : List ℕ) → Bytes s → length (writtenOf (nodesOf s)) ≤ length s
+pub form-fits : (s : List ℕ) → IsBytes s → length (writtenOf (nodesOf s)) ≤ length s
 form-fits s bytes = omega (arith, length-written (nodesOf s), nodes-few s bytes .fits)
 
-pub form-small : (s : List ℕ) → Bytes s → length (writtenOf (nodesOf s)) ≤ 1073741824
+pub form-small : (s : List ℕ) → IsBytes s → length (writtenOf (nodesOf s)) ≤ largest
 form-small s bytes = omega (arith, length-written (nodesOf s), nodes-few s bytes .small)
 
 -- What holds once reading has answered with n rows.
 pub record Ready (s buffer : List ℕ) (n : ℕ) : Type 0 where
-  pub room : 7 * n ≤ length buffer
-  pub sized : Sized s (take (7 * n) buffer)
+  pub room : width * n ≤ length buffer
+  pub sized : Sized s (take (width * n) buffer)
   pub count : n ≡ length (nodesOf s)
 
-pub ready : (s before buffer : List ℕ) (n : ℕ) → Bytes s → answer.Done n ≡ answerOf (readingOf s) before
+pub ready : (s before buffer : List ℕ) (n : ℕ) → IsBytes s → answer.Done n ≡ answerOf (readingOf s) before
     → buffer ≡ bufferOf (readingOf s) before → Ready s buffer n
 ready s before buffer n bytes e f =
     let t = after-reading s before buffer n e f in
@@ -72,7 +74,7 @@ fitting-all s target {buffer} {n} r h =
     record {
       low = omega arith;
       high = omega (arith, r .count);
-      whole = λ k l m. omega (arith, r .count, next-within s (take (7 * n) buffer) (r .sized .table) k (omega (arith, r .count)));
+      whole = λ k l m. omega (arith, r .count, next-within s (take (width * n) buffer) (r .sized .table) k (omega (arith, r .count)));
       room = omega (arith, ltb-false (length target) (writtenSize (nodesOf s)) h);
     }
 
@@ -86,7 +88,7 @@ module _ (s before target : List ℕ) (n : ℕ) (e : answer.Done n ≡ answerOf 
       (omega (arith, length-written (nodesOf s), ltb-true (length target) (writtenSize (nodesOf s)) h)) in
       (rw (← e, f, q), rw (← e, f))
 
-  pub done-answer : (size : ℕ) (after : List ℕ) → Wrote (nodesOf s) target after 0 0 n size
+  pub done-answer : (size : ℕ) (after : List ℕ) → WroteNodes (nodesOf s) target after 0 0 n size
       → ltb (length target) (writtenSize (nodesOf s)) ≡ false
       → (canonical.Done n size ≡ canonicalOf s before target) × (after ≡ targetOf s before target)
   unfolding canonicalOf targetOf

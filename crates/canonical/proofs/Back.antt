@@ -1,6 +1,6 @@
 -- From the bytes of a shape to their reading: what stands at each header, then level by level.
 use mathlib.Core.Path.{_≡_, refl, sym, ap, _∙_, subst}
-use mathlib.Core.Bool.{Bool, true, false, cond}
+use mathlib.Core.Bool.{Bool, true, false}
 use Prim.Native.Nat.{ℕ, zero, suc, _+_, _-_, _*_, _/_, _%_, _≤_, _<_}
 use native.Mathlib.Omega.{arith}
 use borrow.Author.Tests.{eqb-true, eq-eqb, ne-eqb, le-ltb}
@@ -13,16 +13,16 @@ use Rattle.dataset.specs.declared.Head.{Head}
 use Rattle.dataset.specs.declared.Head.the-variants as head
 use Rattle.basics.specs.Bytes.{le16, le32, tagAt, vrAt, le}
 use Rattle.basics.specs.Vr.{formOf, SQ}
-use Rattle.dataset.specs.Header.{when, undefined, itemTag, cursor, headerBy, levelBy, definedBy, longBy, typedAt, taggedAt, sizedBy}
+use Rattle.dataset.specs.Header.{when, undefined, itemTag, cursor, headerBy, nestedBy, definedBy, longBy, typedAt, taggedAt, sizedBy}
 use Rattle.dataset.specs.Header.{memberAt, elementAt, itemAt}
 use Rattle.dataset.specs.Tree.{Kind, elements, items}
-use Rattle.dataset.specs.Reading.{Row, row, Run, done, level, valueRun, elementsAt, itemsAt, read, whole, readingOf}
+use Rattle.dataset.specs.Reading.{Row, row, Run, done, level, valueRun, elementsAt, itemsAt, read, whole, readingOf, depths}
 use Rattle.basics.specs.Limits.{largest}
 use Rattle.dataset.proofs.Level.{level-on, level-end, value-plain}
 use Rattle.node.specs.Nodes.{Node, nodeOf}
 use Rattle.canonical.specs.Written.{letters, lengthOf, header, headSize}
 use Rattle.canonical.proofs.Shape.{Tag, Shape, none, leaf, sequence, item, Form, no, short, long, form, vr-not-0, length-header}
-use Rattle.canonical.proofs.Shape.{shape-even, head-short, head-long, sq-long, item-short, node}
+use Rattle.canonical.proofs.Shape.{shape-even, head-short, head-long, head-least, sq-long, item-short, node}
 
 -- ---- Numbers that were written
 
@@ -42,8 +42,8 @@ module _ (t : List ℕ) (at : ℕ) (xs : List ℕ) (here : drop at t ≡ xs) whe
 
 -- ---- The checks, on what was written
 
-level-head : (tag vr levels : ℕ) (v : Cursor) → (vr ≡ SQ → levels ≡ 0 → ⊥) → levelBy tag vr levels v ≡ head.Header tag vr v
-unfolding levelBy when
+level-head : (tag vr levels : ℕ) (v : Cursor) → (vr ≡ SQ → levels ≡ 0 → ⊥) → nestedBy tag vr levels v ≡ head.Header tag vr v
+unfolding nestedBy when
 level-head tag vr levels v n = go (eqb vr SQ) refl (eqb levels 0) refl
   where
     go : (a : Bool) → eqb vr SQ ≡ a → (b : Bool) → eqb levels 0 ≡ b
@@ -169,14 +169,6 @@ item-back t at end size more here even small fits =
 
 -- ---- Level by level
 
-head-eight : (vr : ℕ) → 8 ≤ headSize vr
-unfolding headSize
-head-eight vr = go (eqb (formOf vr) 2)
-  where
-    go : (b : Bool) → 8 ≤ cond b 12 8
-    go true = omega arith
-    go false = omega arith
-
 past : (t : List ℕ) (at n : ℕ) (xs ys : List ℕ) → drop at t ≡ xs ++ ys → length xs ≡ n → drop (at + n) t ≡ ys
 past t at n xs ys here e = sym (drop-drop n at t) ∙ ap (λ (l : List ℕ). drop n l) here ∙ drop-at xs ys n e
 
@@ -256,12 +248,13 @@ ends t items levels end least = rw (eq-eqb end end refl)
 
 module _ (t : List ℕ) (small : length t ≤ largest) where
   ended : (kind : Kind) (levels first end least : ℕ) (before : List Row) (turns : ℕ) → 0 < turns
-      → Comes t (level (headOf kind levels t end) (inOf kind levels t) (8 - levels) first turns end least before) end before []
+      → Comes t (level (headOf kind levels t end) (inOf kind levels t) (depths - levels) first turns end least before) end before []
   ended kind levels first end least before zero h = absurd (omega arith)
   ended kind levels first end least before (suc turns) h =
       record {
         rows = [];
-        is = level-end (headOf kind levels t end) (inOf kind levels t) (8 - levels) first turns end least before 0 0 (cursor end end false)
+        is = level-end (headOf kind levels t end) (inOf kind levels t) (depths - levels) first turns end least before 0 0
+            (cursor end end false)
             (ends t kind levels end least)
             ∙ ap (done end end) (sym (append-nil before));
         nodes = refl;
@@ -270,10 +263,11 @@ module _ (t : List ℕ) (small : length t ≤ largest) where
   shape-comes : {kind : Kind} {levels least : ℕ} {ns : List Node} {bs : List ℕ} → Shape kind levels least ns bs
       → (first at end turns : ℕ) (post : List ℕ) (before : List Row) → drop at t ≡ bs ++ post → at + length bs ≡ end → end ≤ length t
       → end < at + turns
-      → Comes t (level (headOf kind levels t end) (inOf kind levels t) (8 - levels) first turns at least before) end before ns
+      → Comes t (level (headOf kind levels t end) (inOf kind levels t) (depths - levels) first turns at least before) end before ns
   shape-comes (none {kind} {levels} {least}) first at end turns post before here e q f =
       subst
-      (λ (p : ℕ). Comes t (level (headOf kind levels t end) (inOf kind levels t) (8 - levels) first turns p least before) end before [])
+      (λ (p : ℕ).
+      Comes t (level (headOf kind levels t end) (inOf kind levels t) (depths - levels) first turns p least before) end before [])
       (sym at-end) (ended kind levels first end least before turns (omega arith))
     where
       at-end : at ≡ end
@@ -283,16 +277,16 @@ module _ (t : List ℕ) (small : length t ≤ largest) where
       let stop : ℕ = at + k + length value in
       let d = parts t at k end (header tag vr (length value)) value after post here (length-header tag vr (length value)) e in
       let z = d .sum in
-      step t (headOf elements levels t end) (inOf elements levels t) (8 - levels) first end turns at least before tag vr
+      step t (headOf elements levels t end) (inOf elements levels t) (depths - levels) first end turns at least before tag vr
       (cursor (at + k) stop false) stop []
-      (node tag vr (8 - levels) 0 value) [] rest
+      (node tag vr (depths - levels) 0 value) [] rest
       (element-back t at end least levels tag vr (length value) (value ++ (after ++ post)) (d .whole) (l .ascends) (l .tagged) (l .letters)
       (λ s _. absurd (l .plain s)) (l .even) (l .known) (l .short)
       (omega arith) (omega arith))
       (value-plain levels t (first + length before + 1) vr (cursor (at + k) stop false) (l .plain)) refl
-      (leaf-node t tag vr (8 - levels) (at + k) (stop - (at + k)) first value (after ++ post) (l .plain) (vr-not-0 vr (l .known))
+      (leaf-node t tag vr (depths - levels) (at + k) (stop - (at + k)) first value (after ++ post) (l .plain) (vr-not-0 vr (l .known))
       (d .at-inner) (omega arith))
-      (omega (arith, head-eight vr)) (omega arith) f
+      (omega (arith, head-least vr)) (omega arith) f
       (λ turns before w. shape-comes r first stop end turns post before (d .at-after) z q w)
   shape-comes (sequence {levels} {least} {tag} {below} {rest} {inner} {after} h g b r) first at end turns post before here e q f =
       let k : ℕ = headSize SQ in
@@ -301,15 +295,16 @@ module _ (t : List ℕ) (small : length t ≤ largest) where
       let z = d .sum in
       let c = shape-comes b (first + length before + 1) (at + k) stop (length t + 1) (after ++ post) [] (d .at-inner) refl (omega arith)
       (omega arith) in
-      step t (headOf elements (suc levels) t end) (inOf elements (suc levels) t) (8 - suc levels) first end turns at least before tag SQ
+      step t (headOf elements (suc levels) t end) (inOf elements (suc levels) t) (depths - suc levels) first end turns at least before tag
+      SQ
       (cursor (at + k) stop false) stop (c .rows)
-      (node tag SQ (8 - suc levels) (length below) []) below rest
+      (node tag SQ (depths - suc levels) (length below) []) below rest
       (element-back t at end least (suc levels) tag SQ (length inner) (inner ++ (after ++ post)) (d .whole) h g (omega arith)
       (λ _ y. absurd (omega arith)) (shape-even b)
       (λ y. absurd (omega (arith, sq-long))) (λ y. absurd (omega (arith, sq-long))) (omega arith) (omega arith))
       (value-sq levels t (first + length before + 1) (cursor (at + k) stop false) ∙ c .is) (c .nodes)
-      (ap (λ (n : ℕ). node tag SQ (8 - suc levels) n []) (count t (c .rows) below (c .nodes)))
-      (omega (arith, head-eight SQ)) (omega arith) f
+      (ap (λ (n : ℕ). node tag SQ (depths - suc levels) n []) (count t (c .rows) below (c .nodes)))
+      (omega (arith, head-least SQ)) (omega arith) f
       (λ turns before w. shape-comes r first stop end turns post before (d .at-after) z q w)
   shape-comes (item {levels} {least} {below} {rest} {inner} {after} b r) first at end turns post before here e q f =
       let stop : ℕ = at + 8 + length inner in
@@ -318,12 +313,12 @@ module _ (t : List ℕ) (small : length t ≤ largest) where
       let z = d .sum in
       let c = shape-comes b (first + length before + 1) (at + 8) stop (length t + 1) (after ++ post) [] (d .at-inner) refl (omega arith)
       (omega arith) in
-      step t (headOf items levels t end) (inOf items levels t) (8 - levels) first end turns at least before itemTag 0
+      step t (headOf items levels t end) (inOf items levels t) (depths - levels) first end turns at least before itemTag 0
       (cursor (at + 8) stop false) stop (c .rows)
-      (node itemTag 0 (8 - levels) (length below) []) below rest
+      (node itemTag 0 (depths - levels) (length below) []) below rest
       (item-back t at end (length inner) (inner ++ (after ++ post)) (d .whole) (shape-even b) (omega arith) (omega arith))
       (c .is) (c .nodes)
-      (ap (λ (n : ℕ). node itemTag 0 (8 - levels) n []) (count t (c .rows) below (c .nodes)))
+      (ap (λ (n : ℕ). node itemTag 0 (depths - levels) n []) (count t (c .rows) below (c .nodes)))
       (omega arith) (omega arith) f
       (λ turns before w. shape-comes r first stop end turns post before (d .at-after) z q w)
 

@@ -11,16 +11,16 @@ use Rattle.dataset.proofs.Laws.{row-nested}
 use Rattle.dataset.specs.Answer.{flat}
 use Rattle.node.specs.Nodes.{Node, nodesOf, nodeAt, nextNode, noNode}
 use Rattle.node.proofs.Laws.{table, nodes-count, node-is, next-within}
-use Rattle.canonical.specs.Contracts.{Put, Fitting, Wrote}
+use Rattle.canonical.specs.Contracts.{Put, Fitting, WroteNodes}
 use Rattle.canonical.specs.Written.{header, headSize, ownSize, writtenSize, nodeBytes, writtenOf}
 use Rattle.canonical.proofs.Shape.{length-header}
 use Rattle.canonical.proofs.Sizes.{size-next, size-split, own-is}
 
-pub wrote-none : (ns : List Node) (target : List ℕ) (i at : ℕ) → Wrote ns target target i at i at
+pub wrote-none : (ns : List Node) (target : List ℕ) (i at : ℕ) → WroteNodes ns target target i at i at
 wrote-none ns target i at = record { place = refl; kept = refl; rest = refl }
 
-pub wrote-then : {ns : List Node} {t t₁ t₂ : List ℕ} {i at j p k q : ℕ} → Wrote ns t t₁ i at j p → Wrote ns t₁ t₂ j p k q
-    → Wrote ns t t₂ i at k q
+pub wrote-then : {ns : List Node} {t t₁ t₂ : List ℕ} {i at j p k q : ℕ} → WroteNodes ns t t₁ i at j p → WroteNodes ns t₁ t₂ j p k q
+    → WroteNodes ns t t₂ i at k q
 wrote-then a b = record { place = b .place ∙ a .place; kept = b .kept ∙ a .kept; rest = b .rest ∙ a .rest }
 
 module _ (ns : List Node) (i : ℕ) (h : i < length ns) where
@@ -47,9 +47,9 @@ module _ (ns : List Node) (i : ℕ) (h : i < length ns) where
 
   pub wrote-node : {t t₁ t₂ t₃ : List ℕ} {at inside p end next tag vr size : ℕ} {value : List ℕ}
       → tag ≡ node .tag → vr ≡ node .vr → value ≡ node .value → next ≡ i + 1 + node .descendants → inside ≡ at + headSize vr
-      → Put t t₁ inside value → p ≡ inside + length value → Wrote ns t₁ t₂ (i + 1) p next end → size ≡ end - inside
+      → Put t t₁ inside value → p ≡ inside + length value → WroteNodes ns t₁ t₂ (i + 1) p next end → size ≡ end - inside
       → Put t₂ t₃ at (header tag vr size)
-      → inside ≤ end → Wrote ns t t₃ i at next end
+      → inside ≤ end → WroteNodes ns t t₃ i at next end
   unfolding nodeBytes writtenOf
   wrote-node {t} {t₁} {t₂} {t₃} {at} {inside} {p} {end} {next} {tag} {vr} {size} {value} a b c e f x q w z y g =
       let k : size
@@ -76,14 +76,14 @@ module _ (ns : List Node) (i : ℕ) (h : i < length ns) where
   -- A node with nothing below it.
   pub wrote-leaf : {t t₁ t₂ : List ℕ} {at inside next tag vr : ℕ} {value : List ℕ}
       → tag ≡ node .tag → vr ≡ node .vr → value ≡ node .value → next ≡ i + 1 + node .descendants → next ≡ i + 1 → inside ≡ at + headSize vr
-      → Put t t₁ inside value → Put t₁ t₂ at (header tag vr (length value)) → Wrote ns t t₂ i at next (inside + length value)
+      → Put t t₁ inside value → Put t₁ t₂ at (header tag vr (length value)) → WroteNodes ns t t₂ i at next (inside + length value)
   wrote-leaf {t} {t₁} {t₂} {at} {inside} {next} {tag} {vr} {value} a b c e n f x y =
       wrote-node a b c e f x refl
-      (subst (λ (k : ℕ). Wrote ns t₁ t₁ (i + 1) (inside + length value) k (inside + length value)) (sym n)
+      (subst (λ (k : ℕ). WroteNodes ns t₁ t₁ (i + 1) (inside + length value) k (inside + length value)) (sym n)
       (wrote-none ns t₁ (i + 1) (inside + length value)))
       (omega arith) y (omega arith)
 
-pub wrote-all : {ns : List Node} {t t₁ : List ℕ} {n at : ℕ} → Wrote ns t t₁ 0 0 n at → n ≡ length ns
+pub wrote-all : {ns : List Node} {t t₁ : List ℕ} {n at : ℕ} → WroteNodes ns t t₁ 0 0 n at → n ≡ length ns
     → (at ≡ writtenSize ns) × Put t t₁ 0 (writtenOf ns)
 unfolding writtenSize writtenOf
 wrote-all {ns} {t} {t₁} {n} {at} w e =
@@ -98,7 +98,7 @@ wrote-all {ns} {t} {t₁} {n} {at} w e =
 pub record Going (ns : List Node) (target₀ target : List ℕ) (from start to i at : ℕ) : Type 0 where
   pub low : from ≤ i
   pub high : i ≤ to
-  pub wrote : Wrote ns target₀ target from start i at
+  pub wrote : WroteNodes ns target₀ target from start i at
 
 pub going-first : {ns : List Node} {target : List ℕ} {from to start : ℕ} → Fitting ns target from to start
     → Going ns target target from start to from start
@@ -142,7 +142,7 @@ module _ (s : List ℕ) {target₀ target : List ℕ} {from start to i at : ℕ}
   turn-next e = (omega arith, omega (arith, f .whole i (g .low) h))
 
   pub turn-end : {target₁ target₂ : List ℕ} {p next end : ℕ} → next ≡ nextNode (nodesOf s) i
-      → Wrote (nodesOf s) target₁ target₂ (i + 1) p next end → p ≤ end
+      → WroteNodes (nodesOf s) target₁ target₂ (i + 1) p next end → p ≤ end
   turn-end {target₁} {target₂} {p} {next} {end} e w =
       let d : drop next (nodesOf s) ≡ drop (nodeAt (nodesOf s) i .descendants) (drop (i + 1) (nodesOf s)) =
       ap (λ (k : ℕ). drop k (nodesOf s)) e ∙ sym (drop-drop (nodeAt (nodesOf s) i .descendants) (i + 1) (nodesOf s)) in
@@ -150,13 +150,13 @@ module _ (s : List ℕ) {target₀ target : List ℕ} {from start to i at : ℕ}
       ≡ writtenSize (drop (nodeAt (nodesOf s) i .descendants) (drop (i + 1) (nodesOf s))) = ap writtenSize d in
       omega (arith, w .place, size-split (nodeAt (nodesOf s) i .descendants) (drop (i + 1) (nodesOf s)))
 
-  pub going-next : {target₁ : List ℕ} {next end : ℕ} → next ≡ nextNode (nodesOf s) i → Wrote (nodesOf s) target target₁ i at next end
+  pub going-next : {target₁ : List ℕ} {next end : ℕ} → next ≡ nextNode (nodesOf s) i → WroteNodes (nodesOf s) target target₁ i at next end
       → Going (nodesOf s) target₀ target₁ from start to next end
   going-next e w =
       record { low = omega (arith, g .low); high = omega (arith, f .whole i (g .low) h); wrote = wrote-then (g .wrote) w }
 
 pub going-last : {ns : List Node} {target₀ target : List ℕ} {from start to i at : ℕ} → Going ns target₀ target from start to i at → to ≤ i
-    → Wrote ns target₀ target from start to at
+    → WroteNodes ns target₀ target from start to at
 going-last {ns} {target₀} {target} {from} {start} {to} {i} {at} g h =
     let e : i ≡ to = omega (arith, g .high) in
-    subst (λ (k : ℕ). Wrote ns target₀ target from start k at) e (g .wrote)
+    subst (λ (k : ℕ). WroteNodes ns target₀ target from start k at) e (g .wrote)

@@ -43,14 +43,6 @@ value-last {target₀} {target} {value} {at} {i} l h =
 
 -- ---- A header
 
-pub head-is : (vr : ℕ) → formOf vr ≡ 2 → headSize vr ≡ 12
-unfolding headSize
-head-is vr f = rw f
-
-pub head-else : (vr : ℕ) → (formOf vr ≡ 2 → ⊥) → headSize vr ≡ 8
-unfolding headSize
-head-else vr f = rw (ne-eqb (formOf vr) 2 f)
-
 pub form-long : (vr : ℕ) → headSize vr ≡ 12 → formOf vr ≡ 2
 unfolding headSize
 form-long vr = go (eqb (formOf vr) 2) refl
@@ -58,14 +50,6 @@ form-long vr = go (eqb (formOf vr) 2) refl
     go : (b : Bool) → eqb (formOf vr) 2 ≡ b → _≡_ {A = ℕ} (cond b 12 8) 12 → formOf vr ≡ 2
     go true e h = eqb-true (formOf vr) 2 e
     go false e h = absurd (omega (arith, h))
-
-pub head-least : (vr : ℕ) → 8 ≤ headSize vr
-unfolding headSize
-head-least vr = go (eqb (formOf vr) 2)
-  where
-    go : (b : Bool) → 8 ≤ cond b 12 8
-    go true = omega arith
-    go false = omega arith
 
 pub put-then : {t t₁ t₂ : List ℕ} {at p : ℕ} {xs ys : List ℕ} → Put t t₁ at xs → Put t₁ t₂ p ys → p ≡ at + length xs
     → Put t t₂ at (xs ++ ys)

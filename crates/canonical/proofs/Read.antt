@@ -7,21 +7,22 @@ use borrow.Author.Tests.{eqb-true, eqb-false, ltb-false, ne-eqb}
 use lib.Dec.{eqb, ltb}
 use mathlib.Core.List.{List, [], _∷_, _++_, map, append-assoc, append-nil, map-append}
 use lib.ListN.{length, take, drop, length-append, length-take, length-drop, length-map}
-use lib.Seq.{getD-drop}
 use Rattle.dataset.specs.declared.Cursor.{Cursor}
 use Rattle.dataset.specs.declared.Head.{Head}
 use Rattle.dataset.specs.declared.Head.the-variants as head
-use Rattle.basics.specs.Bytes.{le16, le32, tagAt, vrAt}
+use Rattle.basics.specs.Bytes.{IsBytes, le16, le32, tagAt, vrAt}
+use Rattle.basics.proofs.Bytes.{take-bytes, drop-bytes}
 use Rattle.basics.specs.Vr.{formOf, SQ}
-use Rattle.dataset.specs.Header.{when, itemTag, cursor, moved, headerBy, delimiterBy, levelBy, definedBy, longBy, typedAt, taggedAt}
+use Rattle.dataset.specs.Header.{when, itemTag, cursor, moved, headerBy, delimiterBy, nestedBy, definedBy, longBy, typedAt, taggedAt}
 use Rattle.dataset.specs.Header.{sizedBy, memberAt, elementAt, itemAt}
 use Rattle.dataset.specs.Reading.{Row, row, Run, done, refused, onHead, onRun, level, valueRun, elementsAt, itemsAt, Reading, tooLarge}
+use Rattle.dataset.specs.Reading.{depths}
 use Rattle.dataset.specs.Reading.{refusedAt, read, whole, readingOf}
 use Rattle.basics.specs.Limits.{largest}
 use Rattle.dataset.specs.Tree.{Kind, elements, items}
 use Rattle.dataset.proofs.Level.{value-plain}
 use Rattle.node.specs.Nodes.{nodeOf, holdsNodes}
-use Rattle.canonical.specs.Written.{Bytes, header, headSize}
+use Rattle.canonical.specs.Written.{header, headSize}
 use Rattle.canonical.proofs.Back.{value-sq}
 use Rattle.canonical.proofs.Shape.{Tag, Leaf, Shape, none, leaf, sequence, item, node, Form, no, short, long, form, vr-not-0}
 use Rattle.canonical.proofs.Shape.{length-header, head-short, head-long, item-short}
@@ -89,8 +90,8 @@ module _ (kind : Kind) (least levels : ℕ) (c : Cursor) where
 
 module _ (c : Cursor) (least levels tag vr : ℕ) (up : least ≤ tag) (good : Tag tag) (known : formOf vr ≡ 0 → ⊥) (word : vr < 65536) where
   level-says : (v : Cursor) → ((vr ≡ SQ → levels ≡ 0 → ⊥) → Element c least levels tag vr v)
-      → Says elements least levels c (levelBy tag vr levels v)
-  unfolding levelBy
+      → Says elements least levels c (nestedBy tag vr levels v)
+  unfolding nestedBy
   level-says v g =
       by-test elements least levels c _ _ _
       (λ _. by-test elements least levels c _ _ _ (λ _. tt) (λ f. g (λ _. eqb-false levels 0 f)))
@@ -140,7 +141,7 @@ module _ (c : Cursor) (least levels tag vr : ℕ) (up : least ≤ tag) (good : T
         (λ _. tt))
         (λ _. defined-says len (λ g. absurd (omega arith)))
 
-module _ (s : List ℕ) (bytes : Bytes s) where
+module _ (s : List ℕ) (bytes : IsBytes s) where
   le16-small : (p : ℕ) → le16 s p < 65536
   unfolding le16
   le16-small p = omega (arith, bytes p, bytes (p + 1))
@@ -183,7 +184,7 @@ module _ (s : List ℕ) (bytes : Bytes s) where
         (le16-small _)))
 
     sized-says : (len : ℕ) → Says items least levels c (sizedBy c len)
-    unfolding sizedBy definedBy levelBy
+    unfolding sizedBy definedBy nestedBy
     sized-says len =
         by-test items least levels c _ _ _ (λ _. record { tagged = refl; plain = refl; start = omega arith; high = omega arith })
         (λ _. by-test items least levels c _ _ _ (λ _. tt)
@@ -226,14 +227,14 @@ record Grown (s : List ℕ) (kind : Kind) (levels least at end tag : ℕ) (new :
 abbrev Grows : List ℕ → Kind → ℕ → ℕ → ℕ → ℕ → Head → (ℕ → ℕ → Cursor → Run) → Type 0
 Grows s kind levels least at end (head.Header tag vr v) inside = (first n stop next : ℕ) (below : List Row)
     → inside n vr v ≡ done stop next below
-    → Grown s kind levels least at end tag (row tag vr (8 - levels) (v .at) (stop - v .at) (length below) first ∷ below) next
+    → Grown s kind levels least at end tag (row tag vr (depths - levels) (v .at) (stop - v .at) (length below) first ∷ below) next
 Grows s kind levels least at end (head.End tag vr next) inside = (at ≤ next .at) × (next .at ≤ end)
 Grows s kind levels least at end (head.Refused code) inside = Unit {0}
 
 module _ (s : List ℕ) (kind : Kind) (levels end first : ℕ) (at-head : ℕ → ℕ → Head) (inside : ℕ → ℕ → Cursor → Run)
     (grows : (at least : ℕ) → Grows s kind levels least at end (at-head at least) inside) where
   level-makes : (turns at least : ℕ) (before : List Row)
-      → Makes s kind levels least at end before (level at-head inside (8 - levels) first turns at least before)
+      → Makes s kind levels least at end before (level at-head inside (depths - levels) first turns at least before)
   unfolding level
   level-makes zero at least before = tt
   level-makes (suc turns) at least before =
@@ -241,7 +242,7 @@ module _ (s : List ℕ) (kind : Kind) (levels end first : ℕ) (at-head : ℕ �
     where
       Next : Type 0
       Next = (next tag : ℕ) (new : List Row) → Makes s kind levels (tag + 1) next end (before ++ new)
-          (level at-head inside (8 - levels) first turns next (tag + 1) (before ++ new))
+          (level at-head inside (depths - levels) first turns next (tag + 1) (before ++ new))
 
       joins : (tag next : ℕ) (new : List Row) → Grown s kind levels least at end tag new next
           → (o : Run) → Makes s kind levels (tag + 1) next end (before ++ new) o → Makes s kind levels least at end before o
@@ -260,37 +261,28 @@ module _ (s : List ℕ) (kind : Kind) (levels end first : ℕ) (at-head : ℕ �
 
       on-run : Next → (tag vr : ℕ) (v : Cursor) (o : Run)
           → ((stop next : ℕ) (below : List Row) → o ≡ done stop next below
-          → Grown s kind levels least at end tag (row tag vr (8 - levels) (v .at) (stop - v .at) (length below) first ∷ below) next)
+          → Grown s kind levels least at end tag (row tag vr (depths - levels) (v .at) (stop - v .at) (length below) first ∷ below) next)
           → Makes s kind levels least at end before (onRun o (λ stop next below.
-          level at-head inside (8 - levels) first turns next (tag + 1)
-          (before ++ (row tag vr (8 - levels) (v .at) (stop - v .at) (length below) first ∷ below))))
+          level at-head inside (depths - levels) first turns next (tag + 1)
+          (before ++ (row tag vr (depths - levels) (v .at) (stop - v .at) (length below) first ∷ below))))
       on-run k tag vr v (refused code offset) g = tt
       on-run k tag vr v (done stop next below) g =
-          let new : List Row = row tag vr (8 - levels) (v .at) (stop - v .at) (length below) first ∷ below in
-          joins tag next new (g stop next below refl) (level at-head inside (8 - levels) first turns next (tag + 1) (before ++ new))
+          let new : List Row = row tag vr (depths - levels) (v .at) (stop - v .at) (length below) first ∷ below in
+          joins tag next new (g stop next below refl) (level at-head inside (depths - levels) first turns next (tag + 1) (before ++ new))
           (k next tag new)
 
       on-head : Next → (h : Head) → Grows s kind levels least at end h inside → Makes s kind levels least at end before (onHead h
           (λ code. refused code at)
           (λ next. done at next before)
           (λ tag vr v. onRun (inside (first + length before + 1) vr v) (λ stop next below.
-          level at-head inside (8 - levels) first turns next (tag + 1)
-          (before ++ (row tag vr (8 - levels) (v .at) (stop - v .at) (length below) first ∷ below)))))
+          level at-head inside (depths - levels) first turns next (tag + 1)
+          (before ++ (row tag vr (depths - levels) (v .at) (stop - v .at) (length below) first ∷ below)))))
       on-head k (head.Refused code) g = tt
       on-head k (head.End tag vr next) g =
           record { rest = []; bytes = []; is = sym (append-nil before); shape = none; fits = omega arith; close = g .0; high = g .1 }
       on-head k (head.Header tag vr v) g = on-run k tag vr v (inside (first + length before + 1) vr v) (g first (first + length before + 1))
 
 -- ---- Elements and items
-
-bytes-take : (n : ℕ) (l : List ℕ) → Bytes l → Bytes (take n l)
-bytes-take zero l b k = omega arith
-bytes-take (suc n) [] b k = omega arith
-bytes-take (suc n) (x ∷ l) b zero = b 0
-bytes-take (suc n) (x ∷ l) b (suc k) = bytes-take n l (λ j. b (suc j)) k
-
-bytes-drop : (n : ℕ) (l : List ℕ) → Bytes l → Bytes (drop n l)
-bytes-drop n l b k = rw (getD-drop n l k 0) (b (n + k))
 
 module _ (s : List ℕ) where
   -- The nodes of a container in front of others.
@@ -299,7 +291,7 @@ module _ (s : List ℕ) where
       ≡ node tag vr depth (length (map (nodeOf s) below)) [] ∷ (map (nodeOf s) below ++ map (nodeOf s) rest)
   container tag vr depth at size first below rest h = rw (h, map-append (nodeOf s) below rest, length-map below (nodeOf s))
 
-  module _ (bytes : Bytes s) where
+  module _ (bytes : IsBytes s) where
     leaf-of : (c : Cursor) (least levels tag vr : ℕ) (v : Cursor) → Element c least levels tag vr v → c .end ≤ length s → (vr ≡ SQ → ⊥)
         → (length (take (v .end - v .at) (drop (v .at) s)) ≡ v .end - v .at) × Leaf least tag vr (take (v .end - v .at) (drop (v .at) s))
     leaf-of c least levels tag vr v g room n =
@@ -314,13 +306,13 @@ module _ (s : List ℕ) where
             plain = n;
             even = rw e (g .even n);
             short = λ f. rw e (g .short f);
-            bytes = bytes-take (v .end - v .at) (drop (v .at) s) (bytes-drop (v .at) s bytes);
+            bytes = take-bytes (v .end - v .at) (drop (v .at) s) (drop-bytes (v .at) s bytes);
           },
         )
 
     leaf-grows : (c : Cursor) (least levels tag vr first : ℕ) (v : Cursor) → Element c least levels tag vr v → c .end ≤ length s
         → (vr ≡ SQ → ⊥)
-        → Grown s elements levels least (c .at) (c .end) tag (row tag vr (8 - levels) (v .at) (v .end - v .at) 0 first ∷ []) (v .end)
+        → Grown s elements levels least (c .at) (c .end) tag (row tag vr (depths - levels) (v .at) (v .end - v .at) 0 first ∷ []) (v .end)
     leaf-grows c least levels tag vr first v g room n =
         let l = leaf-of c least levels tag vr v g room n in
         let value : List ℕ = take (v .end - v .at) (drop (v .at) s) in
@@ -338,7 +330,7 @@ module _ (s : List ℕ) where
     sequence-grows : (c : Cursor) (least levels tag first : ℕ) (v : Cursor) → Element c least (suc levels) tag SQ v
         → (stop next : ℕ) (below : List Row) → Made s items levels 0 (v .at) (v .end) [] stop next below
         → Grown s elements (suc levels) least (c .at) (c .end) tag
-        (row tag SQ (8 - suc levels) (v .at) (stop - v .at) (length below) first ∷ below) next
+        (row tag SQ (depths - suc levels) (v .at) (stop - v .at) (length below) first ∷ below) next
     sequence-grows c least levels tag first v g stop next below m =
         let b : Shape items levels 0 (map (nodeOf s) below) (m .bytes) = rw (m .is) (m .shape) in
         record {
@@ -346,7 +338,7 @@ module _ (s : List ℕ) where
           grow = λ rest after w. (
             header tag SQ (length (m .bytes)) ++ (m .bytes ++ after),
             (
-              rw (container tag SQ (8 - suc levels) (v .at) (stop - v .at) first below rest refl)
+              rw (container tag SQ (depths - suc levels) (v .at) (stop - v .at) first below rest refl)
                   (sequence (g .ascends) (g .tagged) b w),
               simp (length-append, length-header) (omega (arith, g .start, m .fits, m .close)),
             ),
@@ -356,7 +348,7 @@ module _ (s : List ℕ) where
     item-grows : (c : Cursor) (least levels first : ℕ) (v : Cursor) → Item c itemTag 0 v
         → (stop next : ℕ) (below : List Row) → Made s elements levels 0 (v .at) (v .end) [] stop next below
         → Grown s items levels least (c .at) (c .end) itemTag
-        (row itemTag 0 (8 - levels) (v .at) (stop - v .at) (length below) first ∷ below) next
+        (row itemTag 0 (depths - levels) (v .at) (stop - v .at) (length below) first ∷ below) next
     item-grows c least levels first v g stop next below m =
         let b : Shape elements levels 0 (map (nodeOf s) below) (m .bytes) = rw (m .is) (m .shape) in
         record {
@@ -364,7 +356,7 @@ module _ (s : List ℕ) where
           grow = λ rest after w. (
             header itemTag 0 (length (m .bytes)) ++ (m .bytes ++ after),
             (
-              rw (container itemTag 0 (8 - levels) (v .at) (stop - v .at) first below rest refl)
+              rw (container itemTag 0 (depths - levels) (v .at) (stop - v .at) first below rest refl)
                   (item b w),
               simp (length-append, length-header) (omega (arith, item-short, g .start, m .fits, m .close)),
             ),
@@ -383,14 +375,15 @@ module _ (s : List ℕ) where
     value-grows : (levels : ℕ) → Deeper levels → (c : Cursor) (least : ℕ) → c .end ≤ length s
         → (tag vr : ℕ) (v : Cursor) → Element c least levels tag vr v → (t : Bool) → eqb vr SQ ≡ t
         → (first n stop next : ℕ) (below : List Row) → valueRun levels s n vr v ≡ done stop next below
-        → Grown s elements levels least (c .at) (c .end) tag (row tag vr (8 - levels) (v .at) (stop - v .at) (length below) first ∷ below)
+        → Grown s elements levels least (c .at) (c .end) tag
+        (row tag vr (depths - levels) (v .at) (stop - v .at) (length below) first ∷ below)
         next
     value-grows zero deeper c least room tag vr v g true q first n stop next below e = absurd (g .deep (eqb-true vr SQ q) refl)
     value-grows (suc levels) deeper c least room tag vr v g true q first n stop next below e =
         let z : vr ≡ SQ = eqb-true vr SQ q in
         subst (λ (x : ℕ). Element c least (suc levels) tag x v → valueRun (suc levels) s n x v ≡ done stop next below
         → Grown s elements (suc levels) least (c .at) (c .end) tag
-        (row tag x (8 - suc levels) (v .at) (stop - v .at) (length below) first ∷ below) next) (sym z)
+        (row tag x (depths - suc levels) (v .at) (stop - v .at) (length below) first ∷ below) next) (sym z)
         (λ g e. sequence-grows c least levels tag first v g stop next below
         (done-of items levels 0 (v .at) (v .end) [] (itemsAt levels s n v) (deeper n v (omega (arith, g .high))) stop next below
         (sym (value-sq levels s n v) ∙ e))) g e

@@ -5,17 +5,20 @@ use mathlib.Core.Bool.{Bool, true, false, cond}
 use Prim.Native.Nat.{ℕ, zero, suc, _+_, _-_, _/_, _%_, _≤_, _<_}
 use native.Mathlib.Omega.{arith}
 use native.Mathlib.Nat.{zero-add, add-zero}
-use borrow.Author.Tests.{eqb-true}
+use borrow.Author.Tests.{ne-eqb, eqb-true}
 use lib.Dec.{eqb}
 use mathlib.Core.List.{List, [], _∷_, _++_, append-assoc, append-nil}
 use lib.ListN.{length, take, length-append}
 use lib.Seq.{take-append-seam}
+use Rattle.dataset.specs.Reading.{depths}
 use Rattle.basics.specs.Vr.{formOf, listed, SQ}
 use Rattle.dataset.specs.Header.{itemTag}
 use Rattle.dataset.specs.Tree.{Kind, elements, items}
+use Rattle.dataset.proofs.Laws.{item-formless}
 use Rattle.node.specs.Nodes.{Node}
-use Rattle.canonical.specs.Written.{Bytes, letters, lengthOf, header, headSize, ownSize, writtenSize, nodeBytes, writtenOf}
-use Rattle.basics.specs.Bytes.{le}
+use Rattle.canonical.specs.Written.{letters, lengthOf, header, headSize, ownSize, writtenSize, nodeBytes, writtenOf}
+use Rattle.basics.specs.Bytes.{IsBytes, le}
+use Rattle.basics.proofs.Bytes.{append-bytes, le-bytes}
 
 -- A tag of 32 bits that is no item's and no end mark's.
 pub record Tag (tag : ℕ) : Type 0 where
@@ -31,7 +34,7 @@ pub record Leaf (least tag vr : ℕ) (value : List ℕ) : Type 0 where
   pub plain : vr ≡ SQ → ⊥
   pub even : length value % 2 ≡ 0
   pub short : formOf vr ≡ 1 → length value < 65536
-  pub bytes : Bytes value
+  pub bytes : IsBytes value
 
 abbrev pub node : ℕ → ℕ → ℕ → ℕ → List ℕ → Node
 node tag vr depth descendants value = record { tag = tag; vr = vr; depth = depth; descendants = descendants; value = value }
@@ -42,17 +45,17 @@ pub data Shape : Kind → ℕ → ℕ → List Node → List ℕ → Type 0 wher
   leaf : {levels least tag vr : ℕ} {value : List ℕ} {rest : List Node} {after : List ℕ}
       → Leaf least tag vr value
       → Shape elements levels (tag + 1) rest after
-      → Shape elements levels least (node tag vr (8 - levels) 0 value ∷ rest) (header tag vr (length value) ++ (value ++ after))
+      → Shape elements levels least (node tag vr (depths - levels) 0 value ∷ rest) (header tag vr (length value) ++ (value ++ after))
   sequence : {levels least tag : ℕ} {below rest : List Node} {inner after : List ℕ}
       → least ≤ tag → Tag tag
       → Shape items levels 0 below inner
       → Shape elements (suc levels) (tag + 1) rest after
-      → Shape elements (suc levels) least (node tag SQ (8 - suc levels) (length below) [] ∷ (below ++ rest))
+      → Shape elements (suc levels) least (node tag SQ (depths - suc levels) (length below) [] ∷ (below ++ rest))
       (header tag SQ (length inner) ++ (inner ++ after))
   item : {levels least : ℕ} {below rest : List Node} {inner after : List ℕ}
       → Shape elements levels 0 below inner
       → Shape items levels (itemTag + 1) rest after
-      → Shape items levels least (node itemTag 0 (8 - levels) (length below) [] ∷ (below ++ rest))
+      → Shape items levels least (node itemTag 0 (depths - levels) (length below) [] ∷ (below ++ rest))
       (header itemTag 0 (length inner) ++ (inner ++ after))
 
 -- ---- A header's length
@@ -71,12 +74,8 @@ form vr = go (listed _ vr) (listed _ vr) refl
     go false true e = short e
     go false false e = no e
 
-formless : (vr : ℕ) → vr ≡ 0 → formOf vr ≡ 0
-unfolding formOf listed
-formless vr e = rw e
-
 pub vr-not-0 : (vr : ℕ) → (formOf vr ≡ 0 → ⊥) → vr ≡ 0 → ⊥
-vr-not-0 vr n e = n (formless vr e)
+vr-not-0 vr n e = n (item-formless vr e)
 
 pub head-short : (vr : ℕ) → formOf vr ≡ 1 → headSize vr ≡ 8
 unfolding headSize
@@ -85,6 +84,18 @@ head-short vr f = rw f
 pub head-long : (vr : ℕ) → formOf vr ≡ 2 → headSize vr ≡ 12
 unfolding headSize
 head-long vr f = rw f
+
+pub head-else : (vr : ℕ) → (formOf vr ≡ 2 → ⊥) → headSize vr ≡ 8
+unfolding headSize
+head-else vr f = rw (ne-eqb (formOf vr) 2 f)
+
+pub head-least : (vr : ℕ) → 8 ≤ headSize vr
+unfolding headSize
+head-least vr = go (eqb (formOf vr) 2)
+  where
+    go : (b : Bool) → 8 ≤ cond b 12 8
+    go true = omega arith
+    go false = omega arith
 
 pub sq-long : formOf SQ ≡ 2
 unfolding formOf listed
@@ -101,7 +112,7 @@ length-header tag vr size = go (eqb vr 0) refl (eqb (formOf vr) 2) refl
     go : (a : Bool) → eqb vr 0 ≡ a → (b : Bool) → eqb (formOf vr) 2 ≡ b
         → length (le 2 (tag / 65536) ++ (le 2 (tag % 65536) ++ cond a (le 4 size) (letters vr ++ cond b (le 2 0 ++ le 4 size) (le 2 size))))
         ≡ cond b 12 8
-    go true e true f = absurd (omega (arith, formless vr (eqb-true vr 0 e), eqb-true (formOf vr) 2 f))
+    go true e true f = absurd (omega (arith, item-formless vr (eqb-true vr 0 e), eqb-true (formOf vr) 2 f))
     go true e false f = refl
     go false e true f = refl
     go false e false f = refl
@@ -169,43 +180,32 @@ shape-even (item {below = below} {rest = rest} {inner = inner} {after = after} b
 
 -- ---- They are bytes
 
-bytes-append : (xs ys : List ℕ) → Bytes xs → Bytes ys → Bytes (xs ++ ys)
-bytes-append [] ys a b k = b k
-bytes-append (x ∷ xs) ys a b zero = a 0
-bytes-append (x ∷ xs) ys a b (suc k) = bytes-append xs ys (λ j. a (suc j)) b k
-
-bytes-le : (n x : ℕ) → Bytes (le n x)
-unfolding le
-bytes-le zero x k = omega arith
-bytes-le (suc n) x zero = omega arith
-bytes-le (suc n) x (suc k) = bytes-le n (x / 256) k
-
-bytes-letters : (vr : ℕ) → Bytes (letters vr)
+letters-bytes : (vr : ℕ) → IsBytes (letters vr)
 unfolding letters
-bytes-letters vr zero = omega arith
-bytes-letters vr (suc zero) = omega arith
-bytes-letters vr (suc (suc k)) = omega arith
+letters-bytes vr zero = omega arith
+letters-bytes vr (suc zero) = omega arith
+letters-bytes vr (suc (suc k)) = omega arith
 
-bytes-header : (tag vr size : ℕ) → Bytes (header tag vr size)
+header-bytes : (tag vr size : ℕ) → IsBytes (header tag vr size)
 unfolding header lengthOf
-bytes-header tag vr size =
-    bytes-append (le 2 (tag / 65536)) (le 2 (tag % 65536) ++ lengthOf vr size) (bytes-le 2 (tag / 65536))
-    (bytes-append (le 2 (tag % 65536)) (lengthOf vr size) (bytes-le 2 (tag % 65536)) (go (eqb vr 0) (eqb (formOf vr) 2)))
+header-bytes tag vr size =
+    append-bytes (le 2 (tag / 65536)) (le 2 (tag % 65536) ++ lengthOf vr size) (le-bytes 2 (tag / 65536))
+    (append-bytes (le 2 (tag % 65536)) (lengthOf vr size) (le-bytes 2 (tag % 65536)) (go (eqb vr 0) (eqb (formOf vr) 2)))
   where
-    go : (a b : Bool) → Bytes (cond a (le 4 size) (letters vr ++ cond b (le 2 0 ++ le 4 size) (le 2 size)))
-    go true b = bytes-le 4 size
-    go false true = bytes-append (letters vr) (le 2 0 ++ le 4 size) (bytes-letters vr)
-        (bytes-append (le 2 0) (le 4 size) (bytes-le 2 0) (bytes-le 4 size))
-    go false false = bytes-append (letters vr) (le 2 size) (bytes-letters vr) (bytes-le 2 size)
+    go : (a b : Bool) → IsBytes (cond a (le 4 size) (letters vr ++ cond b (le 2 0 ++ le 4 size) (le 2 size)))
+    go true b = le-bytes 4 size
+    go false true = append-bytes (letters vr) (le 2 0 ++ le 4 size) (letters-bytes vr)
+        (append-bytes (le 2 0) (le 4 size) (le-bytes 2 0) (le-bytes 4 size))
+    go false false = append-bytes (letters vr) (le 2 size) (letters-bytes vr) (le-bytes 2 size)
 
-pub shape-bytes : {kind : Kind} {levels least : ℕ} {ns : List Node} {bs : List ℕ} → Shape kind levels least ns bs → Bytes bs
+pub shape-bytes : {kind : Kind} {levels least : ℕ} {ns : List Node} {bs : List ℕ} → Shape kind levels least ns bs → IsBytes bs
 shape-bytes none = λ k. omega arith
 shape-bytes (leaf {tag = tag} {vr = vr} {value = value} {after = after} l r) =
-    bytes-append (header tag vr (length value)) (value ++ after) (bytes-header tag vr (length value))
-    (bytes-append value after (l .bytes) (shape-bytes r))
+    append-bytes (header tag vr (length value)) (value ++ after) (header-bytes tag vr (length value))
+    (append-bytes value after (l .bytes) (shape-bytes r))
 shape-bytes (sequence {tag = tag} {inner = inner} {after = after} h t b r) =
-    bytes-append (header tag SQ (length inner)) (inner ++ after) (bytes-header tag SQ (length inner))
-    (bytes-append inner after (shape-bytes b) (shape-bytes r))
+    append-bytes (header tag SQ (length inner)) (inner ++ after) (header-bytes tag SQ (length inner))
+    (append-bytes inner after (shape-bytes b) (shape-bytes r))
 shape-bytes (item {inner = inner} {after = after} b r) =
-    bytes-append (header itemTag 0 (length inner)) (inner ++ after) (bytes-header itemTag 0 (length inner))
-    (bytes-append inner after (shape-bytes b) (shape-bytes r))
+    append-bytes (header itemTag 0 (length inner)) (inner ++ after) (header-bytes itemTag 0 (length inner))
+    (append-bytes inner after (shape-bytes b) (shape-bytes r))

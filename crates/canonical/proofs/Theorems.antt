@@ -7,6 +7,8 @@ use mathlib.Core.Bool.{Bool, true, false, cond}
 use mathlib.Core.List.{List, map}
 use lib.ListN.{length}
 use lib.Dec.{leb}
+use Rattle.basics.specs.Limits.{mostRows, largest}
+use Rattle.basics.specs.Bytes.{IsBytes}
 use Rattle.dataset.specs.Reading.{Row, Reading, read, readingOf}
 use Rattle.dataset.specs.Tree.{rowsOf}
 use Rattle.dataset.specs.Answer.{answerOf}
@@ -14,7 +16,7 @@ use Rattle.dataset.specs.declared.ReadAnswer.{ReadAnswer}
 use Rattle.dataset.specs.declared.ReadAnswer.the-variants as answer
 use Rattle.dataset.proofs.Laws.{Small, answer-small}
 use Rattle.node.specs.Nodes.{nodeOf, nodesOf}
-use Rattle.canonical.specs.Written.{Bytes, writtenOf}
+use Rattle.canonical.specs.Written.{writtenOf}
 use Rattle.canonical.specs.declared.CanonicalAnswer.{CanonicalAnswer}
 use Rattle.canonical.specs.declared.CanonicalAnswer.the-variants as canonical
 use Rattle.canonical.specs.Answer.{answerFor, canonicalOf, fieldsOf}
@@ -29,13 +31,13 @@ pub record Returns (s w : List ℕ) : Type 0 where
   pub reads : readingOf w ≡ read rows
   pub nodes : nodesOf w ≡ nodesOf s
   pub fits : length w ≤ length s
-  pub bytes : Bytes w
+  pub bytes : IsBytes w
 
 nodes-are : (s : List ℕ) (rows : List Row) → readingOf s ≡ read rows → nodesOf s ≡ map (nodeOf s) rows
 unfolding nodesOf rowsOf
 nodes-are s rows e = rw e
 
-pub written-returns : (s : List ℕ) → Bytes s → (rows : List Row) → readingOf s ≡ read rows → Returns s (writtenOf (nodesOf s))
+pub written-returns : (s : List ℕ) → IsBytes s → (rows : List Row) → readingOf s ≡ read rows → Returns s (writtenOf (nodesOf s))
 written-returns s bytes rows e =
     let r = subst (λ (o : Reading). Readable s bytes o) e (reading-shape s bytes) in
     let n : nodesOf s ≡ map (nodeOf s) rows = nodes-are s rows e in
@@ -53,21 +55,21 @@ written-returns s bytes rows e =
 
 pub record SmallAnswer (a : CanonicalAnswer) : Type 0 where
   pub code : fieldsOf a .answer .code ≤ 21
-  pub offset : fieldsOf a .answer .offset ≤ 1073741824
-  pub rows : fieldsOf a .answer .rows ≤ 134217728
-  pub size : fieldsOf a .size ≤ 1073741824
+  pub offset : fieldsOf a .answer .offset ≤ largest
+  pub rows : fieldsOf a .answer .rows ≤ mostRows
+  pub size : fieldsOf a .size ≤ largest
 
-pub canonical-small : (s rows target : List ℕ) → Bytes s → SmallAnswer (canonicalOf s rows target)
+pub canonical-small : (s rows target : List ℕ) → IsBytes s → SmallAnswer (canonicalOf s rows target)
 unfolding canonicalOf
 canonical-small s rows target bytes =
     go (answerOf (readingOf s) rows) (answer-small s rows) (form-small s bytes)
   where
-    by-room : (n size : ℕ) → n ≤ 134217728 → size ≤ 1073741824 → (t : Bool)
+    by-room : (n size : ℕ) → n ≤ mostRows → size ≤ largest → (t : Bool)
         → SmallAnswer (cond t (canonical.Done n size) (canonical.NoTargetRoom size))
     by-room n size h k true = record { code = omega arith; offset = omega arith; rows = h; size = k }
     by-room n size h k false = record { code = omega arith; offset = omega arith; rows = omega arith; size = k }
 
-    go : (a : ReadAnswer) → Small a → length (writtenOf (nodesOf s)) ≤ 1073741824 → SmallAnswer (answerFor (writtenOf (nodesOf s)) target a)
+    go : (a : ReadAnswer) → Small a → length (writtenOf (nodesOf s)) ≤ largest → SmallAnswer (answerFor (writtenOf (nodesOf s)) target a)
     go (answer.Done n) h k = by-room n (length (writtenOf (nodesOf s))) h k (leb (length (writtenOf (nodesOf s))) (length target))
     go (answer.Refused code offset) h k = record { code = omega (arith, h .1 .0); offset = h .1 .1; rows = omega arith; size = omega arith }
     go answer.TooLarge h k = record { code = omega arith; offset = omega arith; rows = omega arith; size = omega arith }

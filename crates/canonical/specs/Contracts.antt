@@ -30,7 +30,7 @@ pub record Fitting (ns : List Node) (target : List ℕ) (from to start : ℕ) : 
 
 -- The nodes from `from` up to `to` are written from `start` on, and the next one goes to `at`: once the rest is there, all nodes from
 -- `from` on are written.
-pub record Wrote (ns : List Node) (before after : List ℕ) (from start to at : ℕ) : Type 0 where
+pub record WroteNodes (ns : List Node) (before after : List ℕ) (from start to at : ℕ) : Type 0 where
   pub place : at + writtenSize (drop to ns) ≡ start + writtenSize (drop from ns)
   pub kept : length after ≡ length before
   pub rest : sets after at (writtenOf (drop to ns)) ≡ sets before start (writtenOf (drop from ns))

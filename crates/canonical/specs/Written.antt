@@ -1,17 +1,13 @@
 -- The canonical form of a data set: written with defined lengths throughout and no delimiters (document 02, Q-10: no end marks). It is a
 -- function of the data set's nodes alone, that is of tags, VRs, depths, rows below and, except for sequences and items, values.
-use Prim.Native.Nat.{ℕ, _+_, _/_, _%_, _<_}
+use Prim.Native.Nat.{ℕ, _+_, _/_, _%_}
 use mathlib.Core.Bool.{cond}
 use mathlib.Core.List.{List, [], _∷_, _++_}
-use lib.ListN.{length, take, getD}
+use lib.ListN.{length, take}
 use lib.Dec.{eqb}
 use Rattle.basics.specs.Bytes.{le}
 use Rattle.basics.specs.Vr.{formOf}
 use Rattle.node.specs.Nodes.{Node}
-
--- A list of bytes: beyond its end it counts as zeros.
-abbrev pub Bytes : List ℕ → Type 0
-Bytes s = (k : ℕ) → getD s k 0 < 256
 
 -- ---- Headers
 

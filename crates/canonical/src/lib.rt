@@ -10,13 +10,13 @@ ghost use Rattle.basics.specs.Limits.{largest};
 ghost use Rattle.basics.specs.Fields.{Answers};
 ghost use Rattle.dataset.specs.Answer.{bufferOf};
 ghost use Rattle.node.specs.Nodes.{nodesOf, nodeAt};
-ghost use Rattle.canonical.specs.Contracts.{Put, Sized, Fitting, Wrote};
+ghost use Rattle.canonical.specs.Contracts.{Put, Sized, Fitting, WroteNodes};
 ghost use Rattle.canonical.specs.Answer.{canonicalOf, targetOf, fieldsOf};
-ghost use Rattle.canonical.specs.Written.{Bytes, letters, lengthOf, header, headSize, ownSize, writtenSize};
-ghost use Rattle.basics.specs.Bytes.{le};
+ghost use Rattle.canonical.specs.Written.{letters, lengthOf, header, headSize, ownSize, writtenSize};
+ghost use Rattle.basics.specs.Bytes.{IsBytes, le};
 use dataset::ReadAnswer;
 
-// ---- Bytes into the target
+// ---- IsBytes into the target
 
 // A number as two bytes, and as four.
 fn put_u16(target: &mut [u8], at: usize, x: usize)
@@ -141,7 +141,7 @@ fn put_members(
     start: usize,
 ) -> usize
     requires { ⌜ Sized (now bytes) (now rows) × Fitting (nodesOf (now bytes)) (now target) from to start ⌝ }
-    ensures { λ r. ⌜ Wrote (nodesOf (now (bytes .entry))) (now (target .entry)) (now (target .exit)) from start to r ⌝ }
+    ensures { λ r. ⌜ WroteNodes (nodesOf (now (bytes .entry))) (now (target .entry)) (now (target .exit)) from start to r ⌝ }
 {
     let mut i = from;
     let mut at = start;
@@ -172,7 +172,7 @@ fn put_members(
 
 // Each byte is below 256. That is known where a byte is read; it is stated here for callers that read none.
 pub fn byte_bounds(bytes: &[u8])
-    ensures { λ _. ⌜ Bytes (now (bytes .entry)) ⌝ }
+    ensures { λ _. ⌜ IsBytes (now (bytes .entry)) ⌝ }
 {
     if 0 < bytes.len() {
         basics::wide(bytes[0]);

@@ -30,7 +30,8 @@ use Rattle.canonical.specs.Written.{writtenOf}
 use Rattle.canonical.specs.Answer.{answerFor, targetBy, canonicalOf, targetOf, fieldsOf}
 use Rattle.canonical.specs.declared.CanonicalAnswer.the-variants as canonical
 use Rattle.canonical.proofs.Theorems.{written-returns}
-use Rattle.canonical_same.specs.Canonical.{canonicalForm, ReadsWell, rowOf, valueOf, AgreeAt, Agree, Alike, Answered, Canonical}
+use Rattle.canonical_same.specs.Canonical.{canonicalForm, ReadsWell, rowIn, valueBytes, AgreeAt, Agree, AnswersAlike, Answered}
+use Rattle.canonical_same.specs.Canonical.{Canonical}
 
 -- ---- The same nodes: judged and drawn alike
 
@@ -67,7 +68,7 @@ module _ (s t : List ℕ) (a : ReadsWell s) (b : ReadsWell t) (n : nodesOf s ≡
   unfolding compareOf
   compare-same frame cells tolerance rows = rw (n, judge-same rows)
 
-  alike : Alike s t
+  alike : AnswersAlike s t
   alike = record {
     judged = judge-same;
     searches = searches-same;
@@ -79,25 +80,25 @@ module _ (s t : List ℕ) (a : ReadsWell s) (b : ReadsWell t) (n : nodesOf s ≡
 
 -- ---- The same nodes: the rows agree, and the other way round
 
-node-row : (s : List ℕ) (i : ℕ) → i < length (rowsOf s) → nodeAt (nodesOf s) i ≡ nodeOf s (rowOf s i)
+node-row : (s : List ℕ) (i : ℕ) → i < length (rowsOf s) → nodeAt (nodesOf s) i ≡ nodeOf s (rowIn s i)
 node-row s i h = node-is s (reading.flat (rowsOf s)) (table s (reading.flat (rowsOf s)) refl) i (omega (arith, nodes-count s))
 
 module _ (s t : List ℕ) (n : nodesOf s ≡ nodesOf t) where
   rows-count : length (rowsOf s) ≡ length (rowsOf t)
   rows-count = sym (nodes-count s) ∙ ap length n ∙ nodes-count t
 
-  node-same : (i : ℕ) → i < length (rowsOf s) → nodeOf s (rowOf s i) ≡ nodeOf t (rowOf t i)
+  node-same : (i : ℕ) → i < length (rowsOf s) → nodeOf s (rowIn s i) ≡ nodeOf t (rowIn t i)
   node-same i h = sym (node-row s i h) ∙ ap (λ (ns : List Node). nodeAt ns i) n ∙ node-row t i (omega (arith, rows-count))
 
-  value-same : (i : ℕ) → i < length (rowsOf s) → (rowOf s i .vr ≡ SQ → ⊥) → (rowOf s i .vr ≡ 0 → ⊥) → valueOf s i ≡ valueOf t i
+  value-same : (i : ℕ) → i < length (rowsOf s) → (rowIn s i .vr ≡ SQ → ⊥) → (rowIn s i .vr ≡ 0 → ⊥) → valueBytes s i ≡ valueBytes t i
   value-same i h a b =
-      let v : rowOf s i .vr ≡ rowOf t i .vr = ap (λ (x : Node). x .vr) (node-same i h) in
+      let v : rowIn s i .vr ≡ rowIn t i .vr = ap (λ (x : Node). x .vr) (node-same i h) in
       let e = ap (λ (x : Node). x .value) (node-same i h) in
       rw (
-        ne-eqb (rowOf s i .vr) SQ a,
-        ne-eqb (rowOf s i .vr) 0 b,
-        ne-eqb (rowOf t i .vr) SQ (λ z. a (v ∙ z)),
-        ne-eqb (rowOf t i .vr) 0 (λ z. b (v ∙ z)),
+        ne-eqb (rowIn s i .vr) SQ a,
+        ne-eqb (rowIn s i .vr) 0 b,
+        ne-eqb (rowIn t i .vr) SQ (λ z. a (v ∙ z)),
+        ne-eqb (rowIn t i .vr) 0 (λ z. b (v ∙ z)),
       ) at e
 
   agree : Agree s t
@@ -126,11 +127,11 @@ node-of : (n m : Node) → n .tag ≡ m .tag → n .vr ≡ m .vr → n .depth �
     → n ≡ m
 node-of n m a b c d e = λ i. record { tag = a i; vr = b i; depth = c i; descendants = d i; value = e i }
 
-agree-node : (s t : List ℕ) (i : ℕ) → AgreeAt s t i → nodeOf s (rowOf s i) ≡ nodeOf t (rowOf t i)
+agree-node : (s t : List ℕ) (i : ℕ) → AgreeAt s t i → nodeOf s (rowIn s i) ≡ nodeOf t (rowIn t i)
 agree-node s t i a =
-    node-of (nodeOf s (rowOf s i)) (nodeOf t (rowOf t i)) (a .tag) (a .vr) (a .depth) (a .below)
-    (value-held (rowOf s i .vr) (valueOf s i) (valueOf t i) (a .value)
-    ∙ ap (λ (vr : ℕ). cond (eqb vr SQ || eqb vr 0) [] (valueOf t i)) (a .vr))
+    node-of (nodeOf s (rowIn s i)) (nodeOf t (rowIn t i)) (a .tag) (a .vr) (a .depth) (a .below)
+    (value-held (rowIn s i .vr) (valueBytes s i) (valueBytes t i) (a .value)
+    ∙ ap (λ (vr : ℕ). cond (eqb vr SQ || eqb vr 0) [] (valueBytes t i)) (a .vr))
 
 agree-nodes : (s t : List ℕ) → Agree s t → nodesOf s ≡ nodesOf t
 agree-nodes s t a =
@@ -155,7 +156,7 @@ module _ (rows more : List Row) (i : ℕ) (e : (j : ℕ) → j < i → nextRow r
   parent-same (inr (p, (k, x))) (inl y) = absurd (omega (arith, y .least p k (x .low), x .high, e p (x .low)))
   parent-same (inr (p, (k, x))) (inr (q, (l, y))) = x .is ∙ ap suc (one-innermost p q x y) ∙ sym (y .is)
 
-parents-same : (s t : List ℕ) → Agree s t → (i : ℕ) → i < length (rowsOf s) → rowOf s i .parent ≡ rowOf t i .parent
+parents-same : (s t : List ℕ) → Agree s t → (i : ℕ) → i < length (rowsOf s) → rowIn s i .parent ≡ rowIn t i .parent
 parents-same s t a i h =
     parent-same (rowsOf s) (rowsOf t) i (λ j l. ap (λ (k : ℕ). j + 1 + k) (a .each j (omega arith) .below))
     (placed (rows-members s) i (omega arith) h)

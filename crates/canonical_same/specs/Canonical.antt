@@ -19,6 +19,7 @@ use mathlib.Core.Path.{_≡_}
 use Prim.Native.Nat.{ℕ, _≤_, _<_}
 use mathlib.Core.List.{List, _++_}
 use lib.ListN.{length, take, drop}
+use Rattle.basics.specs.Bytes.{IsBytes}
 use Rattle.basics.specs.Vr.{SQ}
 use Rattle.dataset.specs.Reading.{Row, read, readingOf}
 use Rattle.dataset.specs.Answer as reading
@@ -30,7 +31,7 @@ use Rattle.searches.specs.Reported.{reportedOf}
 use Rattle.display.specs.Show.{showOf, imageOf}
 use Rattle.sheet.specs.Answer.{sheetOf}
 use Rattle.compare.specs.Answer.{compareOf}
-use Rattle.canonical.specs.Written.{Bytes, writtenOf}
+use Rattle.canonical.specs.Written.{writtenOf}
 use Rattle.canonical.specs.Answer.{canonicalOf, targetOf, fieldsOf}
 use Rattle.canonical.specs.declared.CanonicalAnswer.the-variants as canonical
 
@@ -40,24 +41,24 @@ canonicalForm s = writtenOf (nodesOf s)
 
 -- A list of bytes that reads well.
 pub record ReadsWell (s : List ℕ) : Type 0 where
-  pub bytes : Bytes s
+  pub bytes : IsBytes s
   pub rows : List Row
   pub reads : readingOf s ≡ read rows
 
 -- Row i, and the bytes of its value.
-abbrev pub rowOf : List ℕ → ℕ → Row
-rowOf s i = rowAt (rowsOf s) i
+abbrev pub rowIn : List ℕ → ℕ → Row
+rowIn s i = rowAt (rowsOf s) i
 
-abbrev pub valueOf : List ℕ → ℕ → List ℕ
-valueOf s i = take (rowOf s i .size) (drop (rowOf s i .offset) s)
+abbrev pub valueBytes : List ℕ → ℕ → List ℕ
+valueBytes s i = take (rowIn s i .size) (drop (rowIn s i .offset) s)
 
 -- Row i has the same tag, VR, depth and rows below in both, and the same value if it is an element that is not SQ. An item's VR is 0.
 pub record AgreeAt (s t : List ℕ) (i : ℕ) : Type 0 where
-  pub tag : rowOf s i .tag ≡ rowOf t i .tag
-  pub vr : rowOf s i .vr ≡ rowOf t i .vr
-  pub depth : rowOf s i .depth ≡ rowOf t i .depth
-  pub below : rowOf s i .descendants ≡ rowOf t i .descendants
-  pub value : (rowOf s i .vr ≡ SQ → ⊥) → (rowOf s i .vr ≡ 0 → ⊥) → valueOf s i ≡ valueOf t i
+  pub tag : rowIn s i .tag ≡ rowIn t i .tag
+  pub vr : rowIn s i .vr ≡ rowIn t i .vr
+  pub depth : rowIn s i .depth ≡ rowIn t i .depth
+  pub below : rowIn s i .descendants ≡ rowIn t i .descendants
+  pub value : (rowIn s i .vr ≡ SQ → ⊥) → (rowIn s i .vr ≡ 0 → ⊥) → valueBytes s i ≡ valueBytes t i
 
 -- Equally many rows, which agree one by one.
 pub record Agree (s t : List ℕ) : Type 0 where
@@ -65,7 +66,7 @@ pub record Agree (s t : List ℕ) : Type 0 where
   pub each : (i : ℕ) → i < length (rowsOf s) → AgreeAt s t i
 
 -- Judged, drawn, sampled and compared alike, with any buffers, frame numbers, cells and tolerance.
-pub record Alike (s t : List ℕ) : Type 0 where
+pub record AnswersAlike (s t : List ℕ) : Type 0 where
   pub judged : (rows : List ℕ) → judgeOf s rows ≡ judgeOf t rows
   pub searches : (rows : List ℕ) → reportedOf s rows ≡ reportedOf t rows
   pub shown : (frame : ℕ) (rows image : List ℕ) → showOf s frame rows image ≡ showOf t frame rows image
@@ -78,10 +79,10 @@ pub record Alike (s t : List ℕ) : Type 0 where
 pub record Written (s w : List ℕ) : Type 0 where
   pub reads : ReadsWell w
   pub agrees : Agree s w
-  pub parents : (i : ℕ) → i < length (rowsOf s) → rowOf s i .parent ≡ rowOf w i .parent
+  pub parents : (i : ℕ) → i < length (rowsOf s) → rowIn s i .parent ≡ rowIn w i .parent
   pub no-longer : length w ≤ length s
   pub again : canonicalForm w ≡ w
-  pub alike : Alike s w
+  pub alike : AnswersAlike s w
 
 -- What the call answers for a data set whose canonical form is w, and the target afterwards.
 pub record Answered (s w rows target : List ℕ) : Type 0 where
@@ -97,5 +98,5 @@ pub record Answered (s w rows target : List ℕ) : Type 0 where
 pub record Canonical : Type 0 where
   pub written : (s : List ℕ) → ReadsWell s → Written s (canonicalForm s)
   pub same : (s t : List ℕ) → Agree s t → canonicalForm s ≡ canonicalForm t
-  pub duplicates : (s t : List ℕ) → ReadsWell s → ReadsWell t → canonicalForm s ≡ canonicalForm t → Agree s t × Alike s t
+  pub duplicates : (s t : List ℕ) → ReadsWell s → ReadsWell t → canonicalForm s ≡ canonicalForm t → Agree s t × AnswersAlike s t
   pub answered : (s rows target : List ℕ) → Answered s (canonicalForm s) rows target

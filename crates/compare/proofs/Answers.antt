@@ -12,12 +12,12 @@ use Rattle.conformance.specs.Judging.{judgeOf}
 use Rattle.conformance.specs.declared.JudgeAnswer.{JudgeAnswer}
 use Rattle.display.specs.Show.{imageSize, pictureOf}
 use Rattle.display.proofs.Answers.{none-frame, high-frame, low-frame}
-use Rattle.compare.specs.declared.Differing.{Differing}
+use Rattle.differences.specs.declared.Differing.{Differing}
 use Rattle.compare.specs.declared.CompareAnswer.the-variants as answer
-use Rattle.compare.specs.Differences.{isOff, howMany, firstOff}
+use Rattle.differences.specs.Differences.{isOff, howMany, firstOff}
 use Rattle.compare.specs.Answer.{comparedBy, acceptedAnswer, answerFor, compareOf}
-use Rattle.compare.specs.Contracts.{along, nothing}
-use Rattle.compare.proofs.Places.{seen-all}
+use Rattle.differences.specs.Contracts.{along, noneOff}
+use Rattle.differences.proofs.Places.{seen-all}
 
 -- What `compare` answers, by what the judge answered.
 pub compare-by : (s : List ℕ) (f : ℕ) (cells : List ℕ) (t : ℕ) (before : List ℕ) (j : JudgeAnswer) → j ≡ judgeOf s before
@@ -27,7 +27,7 @@ compare-by s f cells t before j e = ap (answerFor (nodesOf s) f cells t) e
 
 -- ---- Yes or no
 
-module _ (n : ℕ) (off : ℕ → Bool) (size : ℕ) (d : Differing) (e : d ≡ along off 0 size nothing) where
+module _ (n : ℕ) (off : ℕ → Bool) (size : ℕ) (d : Differing) (e : d ≡ along off 0 size noneOff) where
   count-is : d .count ≡ howMany off size
   count-is = ap (λ (x : Differing). x .count) (e ∙ seen-all off size)
 
@@ -73,7 +73,7 @@ module _ (ns : List Node) (f : ℕ) (cells : List ℕ) (t count : ℕ) where
         unfolding acceptedAnswer
         is-compared h = rw (e, le-leb 1 f low, le-leb f n high, eq-eqb (length cells) (imageSize ns) size, le-leb t 255 h)
 
-        module _ (most : t ≤ 255) (d : Differing) (is : d ≡ along (isOff t (pictureOf ns f .samples) cells) 0 (imageSize ns) nothing) where
+        module _ (most : t ≤ 255) (d : Differing) (is : d ≡ along (isOff t (pictureOf ns f .samples) cells) 0 (imageSize ns) noneOff) where
           pub is-same : d .count ≡ 0 → answer.Same count ≡ acceptedAnswer ns f cells t count
           is-same z = same-by count (isOff t (pictureOf ns f .samples) cells) (imageSize ns) d is z ∙ is-compared most
 

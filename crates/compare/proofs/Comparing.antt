@@ -10,27 +10,25 @@ use lib.ListN.{length, getD, take, drop}
 use lib.Seq.{take-append-seam}
 use lib.Dec.{leb, eqb}
 use borrow.Author.Tests.{le-leb, leb-true, leb-false, eq-eqb, eqb-true, eqb-false, not-false}
+use Rattle.value.specs.Number.{numberOr0}
+use Rattle.basics.proofs.Tests.{and-both}
+use Rattle.basics.specs.Bytes.{IsBytes}
 use Rattle.dataset.specs.Tree.{rowsOf}
 use Rattle.node.specs.Nodes.{nodesOf}
 use Rattle.element.specs.Frames.{framesOf}
-use Rattle.conformance.specs.Judging.{numberOf}
 use Rattle.steps.specs.Steps.{Picture}
 use Rattle.display.specs.Show as show
 use Rattle.display.specs.Show.{isFrameOf, imageSize, pictureIn, pictureOf, showOf, imageOf}
-use Rattle.display.specs.Drawing.{Bytes, IsFrame, Whole}
+use Rattle.display.specs.Drawing.{IsFrame, Whole}
 use Rattle.display.proofs.Codes.{was-frame, judged-accepted, was-judged}
 use Rattle.display.proofs.Drawing.{drawing}
 use Rattle.compare.specs.declared.CompareAnswer.{CompareAnswer}
 use Rattle.compare.specs.declared.CompareAnswer.the-variants as answer
-use Rattle.compare.specs.Differences.{within, isOff, howMany, firstOff}
+use Rattle.differences.specs.Differences.{within, isOff, howMany, firstOff}
 use Rattle.compare.specs.Answer.{comparedBy, acceptedAnswer, answerFor, compareOf, fieldsOf}
 use Rattle.compare.specs.Comparing.{Comparable, Near, Names, Own, Comparing}
 
 -- ---- Places
-
-both : (p q : Bool) → p && q ≡ true → (p ≡ true) × (q ≡ true)
-both true q h = (refl, h)
-both false q h = let z : _≡_ {A = ℕ} 0 1 = cc in absurd (omega arith)
 
 some-place : (k : ℕ) → (k ≡ 0 → ⊥) → 1 ≤ k
 some-place zero d = absurd (d refl)
@@ -90,7 +88,7 @@ module _ (s : List ℕ) (f : ℕ) (cells : List ℕ) (t : ℕ) where
   on-near : (i : ℕ) → isOff t (pictureOf (nodesOf s) f .samples) cells i ≡ false → Near s f cells t i
   unfolding isOff
   on-near i e =
-      let b = both (leb (getD ours i 0) (getD cells i 0 + t)) (leb (getD cells i 0) (getD ours i 0 + t))
+      let b = and-both (leb (getD ours i 0) (getD cells i 0 + t)) (leb (getD cells i 0) (getD ours i 0 + t))
       (not-false (within t (getD ours i 0) (getD cells i 0)) e) in
       record { below = leb-true (getD ours i 0) (getD cells i 0 + t) (b .0); above = leb-true (getD cells i 0) (getD ours i 0 + t) (b .1) }
 
@@ -156,7 +154,7 @@ module _ (s : List ℕ) (f : ℕ) (cells : List ℕ) (t : ℕ) where
   accepted-answer n i size most =
       rw (
         le-leb 1 f (i .low),
-        le-leb f (numberOf (framesOf (nodesOf s))) (i .high),
+        le-leb f (numberOr0 (framesOf (nodesOf s))) (i .high),
         eq-eqb (length cells) (imageSize (nodesOf s)) size,
         le-leb t 255 most,
       )
@@ -173,8 +171,8 @@ module _ (s : List ℕ) (f : ℕ) (cells : List ℕ) (t : ℕ) where
       go : (p q r : Bool) → isFrameOf (nodesOf s) f ≡ p → eqb (length cells) (imageSize (nodesOf s)) ≡ q → leb t 255 ≡ r
           → fieldsOf (cond p (cond q (cond r (comparedBy n off (imageSize (nodesOf s))) answer.WrongTolerance) answer.WrongSize)
           answer.NoFrame) .answer .code ≡ 0 → Asked
-      go true true true a b c
-          e = record { frame = was-frame s f a; size = eqb-true (length cells) (imageSize (nodesOf s)) b; tolerance = leb-true t 255 c }
+      go true true true a b c e =
+          record { frame = was-frame s f a; size = eqb-true (length cells) (imageSize (nodesOf s)) b; tolerance = leb-true t 255 c }
       go true true false a b c e = absurd (omega (arith, e))
       go true false r a b c e = absurd (omega (arith, e))
       go false q r a b c e = absurd (omega (arith, e))
@@ -248,7 +246,7 @@ larger s f cells t buffer u h most e =
 
 -- ---- Our own picture
 
-own-cells : (s : List ℕ) → Bytes s → (f : ℕ) (buffer image : List ℕ) → show.fieldsOf (showOf s f buffer image) .code ≡ 0
+own-cells : (s : List ℕ) → IsBytes s → (f : ℕ) (buffer image : List ℕ) → show.fieldsOf (showOf s f buffer image) .code ≡ 0
     → (take (imageSize (nodesOf s)) (imageOf s f buffer image) ≡ pictureOf (nodesOf s) f .samples)
     × (length (pictureOf (nodesOf s) f .samples) ≡ imageSize (nodesOf s))
 unfolding pictureOf
@@ -268,7 +266,7 @@ own-cells s b f buffer image e =
       ap length q ∙ p .size,
     )
 
-own : (s : List ℕ) → Bytes s → (f : ℕ) (buffer image : List ℕ) → Own s f buffer image
+own : (s : List ℕ) → IsBytes s → (f : ℕ) (buffer image : List ℕ) → Own s f buffer image
 own s b f buffer image =
     record {
       passes = λ e.

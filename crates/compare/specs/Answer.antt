@@ -13,7 +13,7 @@ use Rattle.conformance.specs.declared.JudgeAnswer.the-variants as judged
 use Rattle.display.specs.Show.{isFrameOf, imageSize, pictureOf}
 use Rattle.compare.specs.declared.CompareAnswer.{CompareAnswer}
 use Rattle.compare.specs.declared.CompareAnswer.the-variants as answer
-use Rattle.compare.specs.Differences.{isOff, howMany, firstOff}
+use Rattle.differences.specs.Differences.{isOff, howMany, firstOff}
 
 -- The answer for an object with n rows, by which of `size` places are off.
 unfoldable pub comparedBy : ℕ → (ℕ → Bool) → ℕ → CompareAnswer
@@ -48,8 +48,8 @@ pub record Compared : Type 0 where
   pub count : ℕ
 
 -- An answer that names no cell; an answer of yes; and one of no.
-abbrev pub plain : Fields → Compared
-plain a = record { answer = a; same = 0; first = 0; count = 0 }
+abbrev pub withoutCell : Fields → Compared
+withoutCell a = record { answer = a; same = 0; first = 0; count = 0 }
 
 abbrev pub yes : ℕ → Compared
 yes rows = record { answer = counted rows; same = 1; first = 0; count = 0 }
@@ -60,10 +60,10 @@ no rows first count = record { answer = counted rows; same = 0; first = first; c
 abbrev pub fieldsOf : CompareAnswer → Compared
 fieldsOf (answer.Same n) = yes n
 fieldsOf (answer.Differs n first count) = no n first count
-fieldsOf (answer.Broken n rule frame) = plain (broken n rule frame)
-fieldsOf (answer.Refused code offset) = plain (placed code offset)
-fieldsOf answer.TooLarge = plain (codeAlone 7)
-fieldsOf answer.NoRoom = plain (codeAlone 8)
-fieldsOf answer.NoFrame = plain (codeAlone 10)
-fieldsOf answer.WrongSize = plain (codeAlone 22)
-fieldsOf answer.WrongTolerance = plain (codeAlone 23)
+fieldsOf (answer.Broken n rule frame) = withoutCell (broken n rule frame)
+fieldsOf (answer.Refused code offset) = withoutCell (placed code offset)
+fieldsOf answer.TooLarge = withoutCell (codeAlone 7)
+fieldsOf answer.NoRoom = withoutCell (codeAlone 8)
+fieldsOf answer.NoFrame = withoutCell (codeAlone 10)
+fieldsOf answer.WrongSize = withoutCell (codeAlone 22)
+fieldsOf answer.WrongTolerance = withoutCell (codeAlone 23)

@@ -7,13 +7,14 @@ use mathlib.Core.Path.{_≡_}
 use mathlib.Core.List.{List}
 use Prim.Native.Nat.{ℕ, _+_, _*_, _≤_, _<_}
 use lib.ListN.{length, getD, take}
+use Rattle.basics.specs.Bytes.{IsBytes}
 use Rattle.dataset.specs.Answer.{width}
 use Rattle.dataset.specs.Tree.{rowsOf}
 use Rattle.node.specs.Nodes.{nodesOf}
 use Rattle.display.specs.Show as show
 use Rattle.display.specs.Show.{imageSize, pictureOf, showOf, imageOf}
-use Rattle.display.specs.Drawing.{Bytes, IsAccepted, IsFrame}
-use Rattle.compare.specs.Differences.{isOff, howMany}
+use Rattle.display.specs.Drawing.{IsAccepted, IsFrame}
+use Rattle.differences.specs.Differences.{isOff, howMany}
 use Rattle.compare.specs.Answer.{compareOf, fieldsOf}
 
 -- What can be compared.
@@ -37,7 +38,7 @@ pub record Names (s : List ℕ) (f : ℕ) (cells : List ℕ) (t first count : �
   pub all : count ≡ howMany (isOff t (pictureOf (nodesOf s) f .samples) cells) (length cells)
   pub some : 1 ≤ count
 
-pub record Promise (s : List ℕ) (f : ℕ) (cells : List ℕ) (t : ℕ) (buffer : List ℕ) : Type 0 where
+pub record ComparePromise (s : List ℕ) (f : ℕ) (cells : List ℕ) (t : ℕ) (buffer : List ℕ) : Type 0 where
   -- What can be compared is compared,
   pub done : Comparable s f cells t buffer → fieldsOf (compareOf s f cells t buffer) .answer .code ≡ 0
   -- and nothing else is.
@@ -63,5 +64,5 @@ pub record Own (s : List ℕ) (f : ℕ) (buffer image : List ℕ) : Type 0 where
 
 -- For every data set, given as bytes, every number, and any cells, tolerance and buffers.
 pub record Comparing : Type 0 where
-  pub promise : (s : List ℕ) → Bytes s → (f : ℕ) (cells : List ℕ) (t : ℕ) (buffer : List ℕ) → Promise s f cells t buffer
-  pub own : (s : List ℕ) → Bytes s → (f : ℕ) (buffer image : List ℕ) → Own s f buffer image
+  pub promise : (s : List ℕ) → IsBytes s → (f : ℕ) (cells : List ℕ) (t : ℕ) (buffer : List ℕ) → ComparePromise s f cells t buffer
+  pub own : (s : List ℕ) → IsBytes s → (f : ℕ) (buffer image : List ℕ) → Own s f buffer image

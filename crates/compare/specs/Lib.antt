@@ -1,4 +1,2 @@
-pub mod Differences
 pub mod Answer
 pub mod Comparing
-pub mod Contracts

@@ -1,7 +1,7 @@
 // Compares another workstation's picture of a frame with ours, cell by cell. No image is kept: each line is drawn by itself.
 ghost use mathlib.Core.Path.{_≡_};
-ghost use mathlib.Core.Bool.{true, not};
-ghost use Prim.Native.Nat.{ℕ, _+_, _*_, _/_, _%_, _≤_, _<_};
+ghost use mathlib.Core.Bool.{true};
+ghost use Prim.Native.Nat.{ℕ, _*_, _/_, _%_, _≤_, _<_};
 ghost use lib.ListN.{length, getD};
 ghost use Rattle.dataset.specs.Reading.{readingOf};
 ghost use Rattle.basics.specs.Fields.{Answers};
@@ -19,11 +19,11 @@ ghost use Rattle.lines.specs.Contracts.{shadesOf, Shaded, MaskedBy};
 ghost use Rattle.display.specs.Contracts.{shadeBy, MasksReady, IsObject, IsScene, IsPixels, IsPlan};
 ghost use Rattle.display.specs.Show.{imageSize, pictureOf};
 ghost use Rattle.sheet.specs.Contracts.{FrameReady};
-ghost use Rattle.compare.specs.Differences.{within, isOff};
+ghost use Rattle.differences.specs.Differences.{isOff};
+ghost use Rattle.differences.specs.Contracts.{along, noneOff, met, Against};
 ghost use Rattle.compare.specs.Answer.{acceptedAnswer, compareOf, fieldsOf};
-ghost use Rattle.compare.specs.Contracts.{seen, along, nothing, met, Against, LineOf};
-use basics::wide;
 use conformance::JudgeAnswer;
+use differences::Differing;
 use display::Masking;
 use display::Plan;
 use display::Scene;
@@ -49,71 +49,6 @@ pub enum CompareAnswer {
     WrongTolerance,
 }
 
-// How many cells were off so far, and the first of them; 0 if none was.
-pub struct Differing {
-    pub first: usize,
-    pub count: usize,
-}
-
-// ---- A line against its cells
-
-// Whether two levels are not within the tolerance of each other.
-fn is_off(ours: usize, theirs: usize, tolerance: usize) -> bool
-    requires { ⌜ (ours < 256) × ((theirs < 256) × (tolerance ≤ 255)) ⌝ }
-    ensures { λ r. ⌜ r ≡ not (within tolerance ours theirs) ⌝ }
-{
-    if theirs + tolerance < ours {
-        true
-    } else {
-        ours + tolerance < theirs
-    }
-}
-
-// One more cell, at a place.
-fn look(off: bool, place: usize, sofar: Differing) -> Differing
-    requires { ⌜ (sofar .count ≤ place) × (place < 18446744073709551615) ⌝ }
-    ensures { λ r. ⌜ r ≡ seen off place sofar ⌝ }
-{
-    let first = sofar.first;
-    let count = sofar.count;
-    if off {
-        if count == 0 {
-            Differing {
-                first: place,
-                count: count + 1,
-            }
-        } else {
-            Differing {
-                first,
-                count: count + 1,
-            }
-        }
-    } else {
-        sofar
-    }
-}
-
-// A line of ours against the cells from place `at` on.
-fn compare_line(
-    line: &[u8],
-    cells: &[u8],
-    at: usize,
-    tolerance: usize,
-    sofar: Differing,
-) -> Differing
-    requires { ⌜ LineOf (now line) (now cells) at tolerance sofar ⌝ }
-    ensures { λ r. ⌜ r ≡ along (λ k. not (within tolerance (getD (now (line .entry)) k 0) (getD (now (cells .entry)) (at + k) 0))) at (length (now (line .entry))) sofar ⌝ }
-{
-    let mut now = sofar;
-    for k in 0..line.len() {
-        let place = at + k;
-        let off = is_off(wide(line[k]), wide(cells[place]), tolerance);
-        let next = look(off, place, now);
-        now = next;
-    }
-    now
-}
-
 // ---- A frame, line by line
 
 // A frame that takes no mask.
@@ -136,7 +71,13 @@ fn compare_native(
     let mut now = Differing { first: 0, count: 0 };
     for row in 0..height {
         lines::native_line(pixels, g, frame, row, shades, table, line);
-        let next = compare_line(&line[..columns], cells, row * columns, tolerance, now);
+        let next = differences::compare_line(
+            &line[..columns],
+            cells,
+            row * columns,
+            tolerance,
+            now,
+        );
         now = next;
     }
     now
@@ -181,7 +122,13 @@ fn compare_whole(
             sums,
             line,
         );
-        let next = compare_line(&line[..columns], cells, row * columns, tolerance, now);
+        let next = differences::compare_line(
+            &line[..columns],
+            cells,
+            row * columns,
+            tolerance,
+            now,
+        );
         now = next;
     }
     now
@@ -230,7 +177,13 @@ fn compare_quarters(
             lower,
             line,
         );
-        let next = compare_line(&line[..columns], cells, row * columns, tolerance, now);
+        let next = differences::compare_line(
+            &line[..columns],
+            cells,
+            row * columns,
+            tolerance,
+            now,
+        );
         now = next;
     }
     now
@@ -467,7 +420,7 @@ fn compare_planned(
         × (IsScene (nodesOf (now bytes)) c
         × (IsPlan (nodesOf (now bytes)) frame (c .g .stored) own
         × ((1 ≤ frame) × ((frame ≤ n) × Against (now cells) tolerance (imageSize (nodesOf (now bytes)))))))) ⌝ }
-    ensures { λ r. ⌜ r ≡ along (isOff tolerance (pictureOf (nodesOf (now (bytes .entry))) frame .samples) (now (cells .entry))) 0 (imageSize (nodesOf (now (bytes .entry)))) nothing ⌝ }
+    ensures { λ r. ⌜ r ≡ along (isOff tolerance (pictureOf (nodesOf (now (bytes .entry))) frame .samples) (now (cells .entry))) 0 (imageSize (nodesOf (now (bytes .entry)))) noneOff ⌝ }
 {
     let mut table: [u8; 131072] = [0; 131072];
     let mut upper: [u32; pixel::LONGEST] = [0; pixel::LONGEST];
@@ -510,7 +463,7 @@ fn compare_picture(
 ) -> Differing
     requires { ⌜ Table (now bytes) (now rows)
         × (IsObject (now bytes) n × ((1 ≤ frame) × ((frame ≤ n) × Against (now cells) tolerance (imageSize (nodesOf (now bytes)))))) ⌝ }
-    ensures { λ r. ⌜ r ≡ along (isOff tolerance (pictureOf (nodesOf (now (bytes .entry))) frame .samples) (now (cells .entry))) 0 (imageSize (nodesOf (now (bytes .entry)))) nothing ⌝ }
+    ensures { λ r. ⌜ r ≡ along (isOff tolerance (pictureOf (nodesOf (now (bytes .entry))) frame .samples) (now (cells .entry))) 0 (imageSize (nodesOf (now (bytes .entry)))) noneOff ⌝ }
 {
     let scene = display::scene_of(bytes, rows, n);
     let own = display::plan_for(bytes, rows, scene, frame, n);

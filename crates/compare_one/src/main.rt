@@ -4,6 +4,7 @@
 use argument::Decimal;
 use compare::CompareAnswer;
 use printing::print_broken;
+use printing::print_code;
 use printing::print_field;
 use printing::print_unread;
 ghost use mathlib.Core.Path.{_≡_};
@@ -21,8 +22,8 @@ fn input() -> [u8; 131_073]
 }
 
 fn print_no(first: usize, count: usize) {
-    print_field(b"no first", first);
-    print_field(b" count", count);
+    print_field(1, b"no first", first);
+    print_field(1, b" count", count);
     io::write_all(1, b"\n");
 }
 
@@ -32,23 +33,13 @@ fn print_answer(answer: CompareAnswer) {
             io::write_all(1, b"yes\n");
         }
         CompareAnswer::Differs(_, first, count) => print_no(first, count),
-        CompareAnswer::Broken(rows, rule, frame) => print_broken(rows, rule, frame),
-        CompareAnswer::Refused(code, offset) => print_unread(code, offset),
-        CompareAnswer::TooLarge => {
-            io::write_all(1, b"code 7\n");
-        }
-        CompareAnswer::NoRoom => {
-            io::write_all(1, b"code 8\n");
-        }
-        CompareAnswer::NoFrame => {
-            io::write_all(1, b"code 10\n");
-        }
-        CompareAnswer::WrongSize => {
-            io::write_all(1, b"code 22\n");
-        }
-        CompareAnswer::WrongTolerance => {
-            io::write_all(1, b"code 23\n");
-        }
+        CompareAnswer::Broken(rows, rule, frame) => print_broken(1, rows, rule, frame),
+        CompareAnswer::Refused(code, offset) => print_unread(1, code, offset),
+        CompareAnswer::TooLarge => print_code(1, 7),
+        CompareAnswer::NoRoom => print_code(1, 8),
+        CompareAnswer::NoFrame => print_code(1, 10),
+        CompareAnswer::WrongSize => print_code(1, 22),
+        CompareAnswer::WrongTolerance => print_code(1, 23),
     }
 }
 

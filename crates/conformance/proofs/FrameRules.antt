@@ -4,7 +4,7 @@ use mathlib.Core.Path.{_≡_, refl, sym, ap, _∙_, subst}
 use Prim.Native.Nat.{ℕ, _-_, _≤_, _<_}
 use native.Mathlib.Omega.{arith}
 use mathlib.Core.List.{List}
-use mathlib.Core.Bool.{Bool, true, false, not, _&&_, _||_}
+use mathlib.Core.Bool.{Bool, true, false, not, _&&_, _||_, true≢false}
 use lib.ListN.{drop}
 use lib.Dec.{eqb, leb}
 use borrow.Author.Tests.{le-leb, eqb-true, eqb-false, leb-true}
@@ -15,7 +15,7 @@ use Rattle.node.specs.Nodes.{Node, inside}
 use Rattle.node.specs.Find.{holds, ifPresent, orElse, find, holdsOr}
 use Rattle.node.proofs.Walks.{members-end, members-next}
 use Rattle.element.specs.declared.Items.{Items}
-use Rattle.element.specs.Tags
+use Rattle.basics.specs.Tags
 use Rattle.element.specs.Elements.{first, oneItem}
 use Rattle.element.specs.Contracts.{Along}
 use Rattle.element.specs.Frames.{sharedItem, frameItem, frameItems}
@@ -24,9 +24,6 @@ use Rattle.rules.specs.Intensity.{isLutGroup, hasLinear, isLog, item39, rule39}
 use Rattle.rules.specs.All.{ruleList, ruleAt}
 use Rattle.intensity.specs.Contracts.{grade, gradeOn, agree, relationOf, tableOf, relationIn, tableIn}
 use Rattle.rules_frame.specs.Contracts.{groupTag, groupFits, groupIn, itemBy, itemGrades, itemRule}
-
-true-not-false : true ≡ false → ⊥
-true-not-false w = let u : _≡_ {A = ℕ} 0 1 = cc in omega arith
 
 -- What is asked of the items may be put in other words.
 at-same : (ns : List Node) (f : ℕ) (p q : ℕ → ℕ → Bool) → ((s i : ℕ) → p s i ≡ q s i) → atFrame ns f p ≡ atFrame ns f q
@@ -140,10 +137,10 @@ module _ (ns : List Node) (f : ℕ) where
       range : (a b c d : Bool) → leb 27 rule ≡ a → leb rule 30 ≡ b → c ≡ false → d ≡ false → (a && b) || (c || d) ≡ true
           → (27 ≤ rule) × (rule ≤ 30)
       range true true c d x y z u t = (leb-true 27 rule x, leb-true rule 30 y)
-      range true false true d x y z u t = absurd (true-not-false z)
-      range true false false d x y z u t = absurd (true-not-false (sym t ∙ u))
-      range false b true d x y z u t = absurd (true-not-false z)
-      range false b false d x y z u t = absurd (true-not-false (sym t ∙ u))
+      range true false true d x y z u t = absurd (true≢false z)
+      range true false false d x y z u t = absurd (true≢false (sym t ∙ u))
+      range false b true d x y z u t = absurd (true≢false z)
+      range false b false d x y z u t = absurd (true≢false (sym t ∙ u))
 
       go : (a : Bool) → eqb rule 37 ≡ a → (z : Bool) → eqb rule 39 ≡ z → (b : Bool) → eqb rule 27 ≡ b → (c : Bool) → eqb rule 28 ≡ c
           → (d : Bool) → eqb rule 29 ≡ d → (e : Bool) → eqb rule 30 ≡ e → Goal rule

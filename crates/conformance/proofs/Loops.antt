@@ -1,6 +1,6 @@
 -- The search over rules and frames, at the counts that the loops have.
 use mathlib.Core.Path.{_≡_, refl, sym, ap, _∙_, subst}
-use mathlib.Core.Bool.{Bool, true, false, cond}
+use mathlib.Core.Bool.{Bool, true, false, cond, true≢false}
 use mathlib.Core.List.{List}
 use Prim.Native.Nat.{ℕ, zero, suc, _+_, _-_, _<_, _≤_}
 use native.Mathlib.Omega.{arith}
@@ -8,6 +8,7 @@ use lib.ListN.{drop}
 use lib.Seq.{drop-drop}
 use lib.Dec.{eqb, leb}
 use borrow.Author.Tests.{le-leb, leb-true, leb-false, eqb-true, eqb-false}
+use Rattle.value.specs.Number.{numberOr0}
 use Rattle.verdict.specs.Verdict.{lastRule, perFrame}
 use Rattle.node.specs.Nodes.{Node, members}
 use Rattle.element.specs.declared.Items.{Items}
@@ -16,13 +17,10 @@ use Rattle.element.specs.Frames.{framesOf, frameItems}
 use Rattle.rules.specs.All.{ruleAt}
 use Rattle.conformance.specs.declared.Finding.{Finding}
 use Rattle.conformance.specs.declared.Finding.the-variants.{Accepted, Broken}
-use Rattle.conformance.specs.Judging.{numberOf, firstFrame, frameCount, lowest, firstBroken}
+use Rattle.conformance.specs.Judging.{firstFrame, frameCount, lowest, firstBroken}
 use Rattle.conformance.specs.Contracts.{endRule, endFrame, Asked}
 
 -- ---- Which rules are asked once
-
-true-not-false : true ≡ false → ⊥
-true-not-false w = let u : _≡_ {A = ℕ} 0 1 = cc in omega arith
 
 is-per-frame-range : (rule : ℕ) → 27 ≤ rule → rule ≤ 30 → perFrame rule ≡ true
 unfolding perFrame
@@ -41,14 +39,14 @@ pub once-mask : (rule : ℕ) → perFrame rule ≡ false → 26 < rule → 31 �
 once-mask rule h l = go (leb rule 30) refl
   where
     go : (b : Bool) → leb rule 30 ≡ b → 31 ≤ rule
-    go true e = absurd (true-not-false (sym (is-per-frame-range rule (omega arith) (leb-true rule 30 e)) ∙ h))
+    go true e = absurd (true≢false (sym (is-per-frame-range rule (omega arith) (leb-true rule 30 e)) ∙ h))
     go false e = omega (arith, leb-false rule 30 e)
 
 pub once-last : (rule : ℕ) → perFrame rule ≡ false → 36 < rule → rule ≤ lastRule → rule ≡ 38
 once-last rule h l m = go (eqb rule 37) refl (eqb rule 39) refl
   where
     not : (k : ℕ) → perFrame k ≡ true → eqb rule k ≡ true → ⊥
-    not k p e = true-not-false (sym p ∙ subst (λ (x : ℕ). perFrame x ≡ false) (eqb-true rule k e) h)
+    not k p e = true≢false (sym p ∙ subst (λ (x : ℕ). perFrame x ≡ false) (eqb-true rule k e) h)
 
     go : (b : Bool) → eqb rule 37 ≡ b → (c : Bool) → eqb rule 39 ≡ c → rule ≡ 38
     go true e c f = absurd (not 37 is-per-frame-37 e)
@@ -76,9 +74,9 @@ module _ (ns : List Node) (after : Finding) (rule f e : ℕ) where
   unfolding lowest
   frames-done h = rw (none f e h)
 
-frame-span : (ns : List Node) (rule : ℕ) → frameCount ns rule ≡ endFrame (numberOf (framesOf ns)) rule - firstFrame rule
+frame-span : (ns : List Node) (rule : ℕ) → frameCount ns rule ≡ endFrame (numberOr0 (framesOf ns)) rule - firstFrame rule
 unfolding frameCount firstFrame
-frame-span ns rule = go (perFrame rule) (numberOf (framesOf ns))
+frame-span ns rule = go (perFrame rule) (numberOr0 (framesOf ns))
   where
     go : (t : Bool) (n : ℕ) → cond t n 1 ≡ cond t (n + 1) 1 - cond t 1 0
     go true n = omega arith
@@ -89,7 +87,7 @@ rule-left r h = omega arith
 
 pub rules-start : (ns : List Node) (r : ℕ) → r < endRule
     → firstBroken ns (endRule - r) r
-    ≡ lowest ns r (endFrame (numberOf (framesOf ns)) r - firstFrame r) (firstFrame r) (firstBroken ns (endRule - (r + 1)) (r + 1))
+    ≡ lowest ns r (endFrame (numberOr0 (framesOf ns)) r - firstFrame r) (firstFrame r) (firstBroken ns (endRule - (r + 1)) (r + 1))
 unfolding firstBroken
 rules-start ns r h = rw (rule-left r h, ← frame-span ns r)
 
@@ -113,7 +111,7 @@ module _ (ns : List Node) where
       }
     where
       zero-frame : (t : Bool) → t ≡ false → frame < cond t (n + 1) 1 → frame ≡ 0
-      zero-frame true q l = absurd (true-not-false q)
+      zero-frame true q l = absurd (true≢false q)
       zero-frame false q l = omega arith
 
   pub along-start : {c : Items} (a : ℕ) → Along ns (frameItems ns) c → Along ns (drop (a - a) (frameItems ns)) c

@@ -3,13 +3,12 @@
 use Prim.Native.Nat.{ℕ, zero, suc, _+_}
 use mathlib.Core.List.{List}
 use mathlib.Core.Bool.{cond}
+use Rattle.value.specs.Number.{numberOr0}
 use Rattle.dataset.specs.Reading.{readingOf}
 use Rattle.basics.specs.Fields.{Fields, codeAlone, placed, counted, broken}
 use Rattle.dataset.specs.Answer.{answerOf}
 use Rattle.dataset.specs.declared.ReadAnswer.{ReadAnswer}
 use Rattle.dataset.specs.declared.ReadAnswer.the-variants as read
-use Rattle.value.specs.declared.Num.{Num}
-use Rattle.value.specs.declared.Num.the-variants.{Is, None}
 use Rattle.verdict.specs.Verdict.{lastRule, perFrame}
 use Rattle.verdict.specs.declared.RowCount.the-variants.{Known}
 use Rattle.verdict.specs.declared.Verdict.{Verdict}
@@ -24,15 +23,11 @@ use Rattle.conformance.specs.declared.JudgeAnswer.the-variants as judged
 -- ---- The first broken rule, and at that rule the lowest frame
 
 -- A rule that is asked at each frame is asked at frames 1 to N, any other once, at frame 0.
-abbrev pub numberOf : Num → ℕ
-numberOf (Is n) = n
-numberOf None = 0
-
 unfoldable pub firstFrame : ℕ → ℕ
 firstFrame rule = cond (perFrame rule) 1 0
 
 unfoldable pub frameCount : List Node → ℕ → ℕ
-frameCount ns rule = cond (perFrame rule) (numberOf (framesOf ns)) 1
+frameCount ns rule = cond (perFrame rule) (numberOr0 (framesOf ns)) 1
 
 -- At `left` frames from f on: the lowest at which the rule is broken; `otherwise` if there is none.
 unfoldable pub lowest : List Node → ℕ → ℕ → ℕ → Finding → Finding

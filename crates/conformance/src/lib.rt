@@ -3,6 +3,7 @@ ghost use mathlib.Core.Path.{_≡_};
 ghost use Prim.Native.Nat.{_+_, _-_, _*_, _≤_, _<_};
 ghost use mathlib.Core.Bool.{true, false};
 ghost use lib.ListN.{length, drop};
+ghost use Rattle.value.specs.Number.{numberOr0};
 ghost use Rattle.dataset.specs.Reading.{readingOf};
 ghost use Rattle.basics.specs.Fields.{Answers};
 ghost use Rattle.dataset.specs.Answer.{bufferOf};
@@ -13,7 +14,7 @@ ghost use Rattle.node.specs.Contracts.{Table};
 ghost use Rattle.element.specs.Frames.{framesOf, sharedItem, frameItems};
 ghost use Rattle.element.specs.Contracts.{Along};
 ghost use Rattle.rules.specs.All.{ruleAt};
-ghost use Rattle.conformance.specs.Judging.{numberOf, firstFrame, findingOf, judgeOf, verdictOf, fieldsOf};
+ghost use Rattle.conformance.specs.Judging.{firstFrame, findingOf, judgeOf, verdictOf, fieldsOf};
 ghost use Rattle.conformance.specs.Contracts.{noPart, okFor, Asked, endFrame};
 use dataset::ReadAnswer;
 use element::Items;
@@ -143,7 +144,7 @@ fn rule_holds(
 // Number of Frames, or 0.
 fn frame_total(bytes: &[u8], rows: &[u32]) -> usize
     requires { ⌜ Table (now bytes) (now rows) ⌝ }
-    ensures { λ r. ⌜ (r ≡ numberOf (framesOf (nodesOf (now (bytes .entry))))) × (r < 100000000000) ⌝ }
+    ensures { λ r. ⌜ (r ≡ numberOr0 (framesOf (nodesOf (now (bytes .entry))))) × (r < 100000000000) ⌝ }
 {
     match element::frame_count(bytes, rows) {
         Num::Is(n) => n,

@@ -8,9 +8,9 @@ use mathlib.Core.List.{List, [], _∷_, _++_}
 use lib.ListN.{length, set, drop}
 use lib.Seq.{sets, set-set, set-comm, sets-eq}
 use Rattle.dataset.specs.Reading.{Row}
-use Rattle.dataset.specs.Answer.{flat}
+use Rattle.dataset.specs.Answer.{flat, width}
 
-pub length-flat : (rs : List Row) → length (flat rs) ≡ 7 * length rs
+pub length-flat : (rs : List Row) → length (flat rs) ≡ width * length rs
 length-flat [] = refl
 length-flat (r ∷ rs) = omega (arith, length-flat rs)
 
@@ -46,15 +46,15 @@ sets-over (x ∷ xs) (y ∷ ys) l i h =
 
 -- The rows below row n, then row n itself.
 pub row-over : (buffer : List ℕ) (n : ℕ) (r : Row) (below : List Row)
-    → sets (sets buffer (7 * (n + 1)) (flat below)) (7 * n) (flat (r ∷ [])) ≡ sets buffer (7 * n) (flat (r ∷ below))
+    → sets (sets buffer (width * (n + 1)) (flat below)) (width * n) (flat (r ∷ [])) ≡ sets buffer (width * n) (flat (r ∷ below))
 row-over buffer n r below =
-    sym (sets-swap (flat (r ∷ [])) buffer (7 * n) (7 * (n + 1)) (flat below) (omega arith))
-    ∙ ap (λ (k : ℕ). sets (sets buffer (7 * n) (flat (r ∷ []))) k (flat below)) (omega arith)
-    ∙ sym (sets-append (flat (r ∷ [])) buffer (7 * n) (flat below))
+    sym (sets-swap (flat (r ∷ [])) buffer (width * n) (width * (n + 1)) (flat below) (omega arith))
+    ∙ ap (λ (k : ℕ). sets (sets buffer (width * n) (flat (r ∷ []))) k (flat below)) (omega arith)
+    ∙ sym (sets-append (flat (r ∷ [])) buffer (width * n) (flat below))
 
 -- Rows written from the buffer's start.
-pub rows-first : (buffer : List ℕ) (rows : List Row) → 7 * length rows ≤ length buffer
-    → sets buffer (7 * 0) (flat rows) ≡ flat rows ++ drop (7 * length rows) buffer
+pub rows-first : (buffer : List ℕ) (rows : List Row) → width * length rows ≤ length buffer
+    → sets buffer (width * 0) (flat rows) ≡ flat rows ++ drop (width * length rows) buffer
 rows-first buffer rows h =
-    let e : 0 + length (flat rows) ≡ 7 * length rows = omega (arith, length-flat rows) in
+    let e : 0 + length (flat rows) ≡ width * length rows = omega (arith, length-flat rows) in
     sets-eq (flat rows) buffer 0 (omega (arith, length-flat rows)) ∙ ap (λ (k : ℕ). flat rows ++ drop k buffer) e

@@ -9,11 +9,13 @@ use borrow.Author.Tests.{ltb-true, ltb-false}
 use lib.Dec.{ltb}
 use mathlib.Core.List.{List, [], _∷_, _++_}
 use lib.ListN.{length, getD, List·getD-append}
+use lib.Seq.{getD-append-add}
+use Rattle.basics.specs.Limits.{mostRows, largest}
 use Rattle.dataset.specs.declared.ReadAnswer.{ReadAnswer}
 use Rattle.dataset.specs.declared.ReadAnswer.the-variants as answer
 use Rattle.basics.specs.Vr.{formOf, listed, SQ}
-use Rattle.dataset.specs.Reading.{Row, Reading, tooLarge, refusedAt, read, readingOf}
-use Rattle.dataset.specs.Answer.{flat, fits, answerOf}
+use Rattle.dataset.specs.Reading.{Row, Reading, tooLarge, refusedAt, read, readingOf, depths}
+use Rattle.dataset.specs.Answer.{flat, fits, answerOf, width}
 use Rattle.dataset.specs.Tree.{rowsOf, rowAt, nextRow, Kind, elements, items, Member, kindInside, depthInside, Members}
 use Rattle.dataset.proofs.Tree.{Reads, reading-reads, rows-read, rows-members}
 
@@ -21,15 +23,15 @@ use Rattle.dataset.proofs.Tree.{Reads, reading-reads, rows-read, rows-m
 
 -- The numbers of an answer are small.
 abbrev pub Small : ReadAnswer → Type 0
-Small (answer.Done n) = n ≤ 134217728
-Small (answer.Refused code offset) = (1 ≤ code) × ((code ≤ 6) × (offset ≤ 1073741824))
+Small (answer.Done n) = n ≤ mostRows
+Small (answer.Refused code offset) = (1 ≤ code) × ((code ≤ 6) × (offset ≤ largest))
 Small answer.TooLarge = Unit {0}
 Small answer.NoRoom = Unit {0}
 
 pub answer-small : (s buffer : List ℕ) → Small (answerOf (readingOf s) buffer)
 answer-small s buffer = by-reading (readingOf s) (reading-reads s)
   where
-    by-room : (t : Bool) (n : ℕ) → n ≤ 134217728 → Small (cond t (answer.Done n) answer.NoRoom)
+    by-room : (t : Bool) (n : ℕ) → n ≤ mostRows → Small (cond t (answer.Done n) answer.NoRoom)
     by-room true n h = h
     by-room false n h = tt
 
@@ -38,14 +40,14 @@ answer-small s buffer = by-reading (readingOf s) (reading-reads s)
     by-reading (refusedAt code offset) r = r
     by-reading (read rows) r = by-room (fits rows buffer) (length rows) (r .small)
 
--- The seven numbers of row i stand at 7 i, whatever follows the rows.
-pub number-at : (rows : List Row) (rest : List ℕ) (i k : ℕ) → i < length rows → k < 7
-    → getD (flat rows ++ rest) (7 * i + k) 0 ≡ getD (flat (rowAt rows i ∷ [])) k 0
+-- The numbers of row i stand side by side, whatever follows the rows.
+pub number-at : (rows : List Row) (rest : List ℕ) (i k : ℕ) → i < length rows → k < width
+    → getD (flat rows ++ rest) (width * i + k) 0 ≡ getD (flat (rowAt rows i ∷ [])) k 0
 number-at [] rest i k h l = absurd (omega arith)
 number-at (r ∷ rs) rest zero k h l = rw (zero-add k) (List·getD-append (flat (r ∷ [])) (flat rs ++ rest) 0 k l)
 number-at (r ∷ rs) rest (suc i) k h l =
-    let e : 7 * suc i + k ≡ suc (suc (suc (suc (suc (suc (suc (7 * i + k))))))) = omega arith in
-    rw e (number-at rs rest i k (omega arith) l)
+    let e : width * suc i + k ≡ width + (width * i + k) = omega arith in
+    rw e (getD-append-add (flat (r ∷ [])) (flat rs ++ rest) (width * i + k) 0 ∙ number-at rs rest i k (omega arith) l)
 
 -- ---- The members of one container, step by step
 
@@ -188,7 +190,7 @@ next-ascends {rows} {size} (Members.member {kind} {depth} {holder} {least} {i = 
 pub row-count : (s : List ℕ) → 8 * length (rowsOf s) ≤ length s
 row-count s = rows-read s .sparse
 
-pub row-few : (s : List ℕ) → length (rowsOf s) ≤ 134217728
+pub row-few : (s : List ℕ) → length (rowsOf s) ≤ mostRows
 row-few s = rows-read s .small
 
 module _ (s : List ℕ) (i : ℕ) (h : i < length (rowsOf s)) where
@@ -198,7 +200,7 @@ module _ (s : List ℕ) (i : ℕ) (h : i < length (rowsOf s)) where
   pub row-within : rowAt (rowsOf s) i .offset + rowAt (rowsOf s) i .size ≤ length s
   row-within = found .first .here .within
 
-  pub row-deep : rowAt (rowsOf s) i .depth ≤ 8
+  pub row-deep : rowAt (rowsOf s) i .depth ≤ depths
   row-deep = found .first .here .deep
 
   pub row-next : nextRow (rowsOf s) i ≤ length (rowsOf s)

@@ -17,7 +17,7 @@ use Rattle.dataset.specs.declared.Walk.the-variants as walk
 use Rattle.dataset.specs.declared.Leaf.{Leaf}
 use Rattle.dataset.specs.Header.{moved}
 use Rattle.dataset.specs.Reading.{Row, row, Run, done, refused, onHead, onRun, level, valueRun, itemsAt}
-use Rattle.dataset.specs.Answer.{flat}
+use Rattle.dataset.specs.Answer.{flat, width}
 use Rattle.dataset.specs.Contracts.{Within, RunWithin, Walked, Replaced, LeafWalked}
 use Rattle.dataset.proofs.Buffer.{length-flat, flat-append, sets-append, sets-over, row-over}
 
@@ -61,7 +61,7 @@ pub record Below (o : Run) (v : Cursor) (first : ℕ) (buffer after : List ℕ) 
   pub is : o ≡ done stop next rows
   pub count : m ≡ first + length rows
   pub within : RunWithin v (done stop next rows)
-  pub wrote : 7 * m ≤ length buffer → after ≡ sets buffer (7 * first) (flat rows)
+  pub wrote : width * m ≤ length buffer → after ≡ sets buffer (width * first) (flat rows)
 
 pub below : (o : Run) {v : Cursor} {first : ℕ} {buffer after : List ℕ} {stop next m : ℕ}
     → Walked o v first buffer after (walk.Done stop next m)
@@ -176,7 +176,7 @@ pub record Inv (head : ℕ → ℕ → Head) (inside : ℕ → ℕ → Cursor �
   pub count : n ≡ first + length rows
   pub few : start + 8 * length rows ≤ at
   pub kept : length buffer ≡ length buffer₀
-  pub wrote : 7 * n ≤ length buffer₀ → buffer ≡ sets buffer₀ (7 * first) (flat rows)
+  pub wrote : width * n ≤ length buffer₀ → buffer ≡ sets buffer₀ (width * first) (flat rows)
 
 module _ (head : ℕ → ℕ → Head) (inside : ℕ → ℕ → Cursor → Run) (depth : ℕ) (o : Run) (c : Cursor) (first : ℕ) (buffer₀ : List ℕ) where
   abbrev pub Here : List ℕ → ℕ → ℕ → ℕ → Type 0
@@ -248,8 +248,8 @@ module _ (head : ℕ → ℕ → Head) (inside : ℕ → ℕ → Cursor → Run)
         by-run (refused code offset) e = tt
         by-run (done stop next all) e = λ h.
             let g : length (i .rows) ≤ length all = level-grows head inside depth first (i .turns) at least (i .rows) stop next all e in
-            ap (λ (b : List ℕ). sets b (7 * first) (flat all)) (i .wrote (omega (arith, i .count)))
-            ∙ sets-over (flat (i .rows)) (flat all) buffer₀ (7 * first) (omega (arith, length-flat (i .rows), length-flat all))
+            ap (λ (b : List ℕ). sets b (width * first) (flat all)) (i .wrote (omega (arith, i .count)))
+            ∙ sets-over (flat (i .rows)) (flat all) buffer₀ (width * first) (omega (arith, length-flat (i .rows), length-flat all))
 
     -- The next turn, and the rows that it has more.
     pub record Next (tag vr : ℕ) (v : Cursor) (after : List ℕ) (stop next m : ℕ) : Type 0 where
@@ -272,8 +272,8 @@ module _ (head : ℕ → ℕ → Head) (inside : ℕ → ℕ → Cursor → Run)
 
       pub onward : {stop next m : ℕ} {buffer₂ : List ℕ} → length buffer₁ ≡ length buffer → length buffer₂ ≡ length buffer₁
           → Walked (inside (n + 1) vr v) v (n + 1) buffer buffer₁ (walk.Done stop next m)
-          → (7 * n + 7 ≤ length buffer₁
-          → buffer₂ ≡ sets buffer₁ (7 * n) (flat (row tag vr depth (v .at) (stop - v .at) (m - n - 1) first ∷ [])))
+          → (width * n + width ≤ length buffer₁
+          → buffer₂ ≡ sets buffer₁ (width * n) (flat (row tag vr depth (v .at) (stop - v .at) (m - n - 1) first ∷ [])))
           → Next tag vr v buffer₂ stop next m
       onward {stop} {next} {m} {buffer₂} l₁ l₂ u put =
           let b = below (inside (n + 1) vr v) u in
@@ -296,27 +296,28 @@ module _ (head : ℕ → ℕ → Head) (inside : ℕ → ℕ → Cursor → Run)
                   few = simp length-append (omega (arith, i .few, b .within, w));
                   kept = l₂ ∙ l₁ ∙ i .kept;
                   wrote = λ h.
-                      let e₀ : buffer ≡ sets buffer₀ (7 * first) (flat (i .rows)) = i .wrote (omega (arith, b .count)) in
-                      let e₁ : buffer₁ ≡ sets buffer (7 * (n + 1)) (flat (b .rows)) = b .wrote (omega (arith, i .kept)) in
-                      let e₂ : buffer₂ ≡ sets buffer₁ (7 * n) (flat (row tag vr depth (v .at) (stop - v .at) (m - n - 1) first ∷ [])) = put
+                      let e₀ : buffer ≡ sets buffer₀ (width * first) (flat (i .rows)) = i .wrote (omega (arith, b .count)) in
+                      let e₁ : buffer₁ ≡ sets buffer (width * (n + 1)) (flat (b .rows)) = b .wrote (omega (arith, i .kept)) in
+                      let e₂ : buffer₂
+                      ≡ sets buffer₁ (width * n) (flat (row tag vr depth (v .at) (stop - v .at) (m - n - 1) first ∷ [])) = put
                       (omega (arith, i .kept, b .count)) in
-                      let f : 7 * n ≡ 7 * first + length (flat (i .rows)) = omega (arith, length-flat (i .rows), i .count) in
+                      let f : width * n ≡ width * first + length (flat (i .rows)) = omega (arith, length-flat (i .rows), i .count) in
                       e₂
-                      ∙ ap (λ (x : ℕ). sets buffer₁ (7 * n) (flat (row tag vr depth (v .at) (stop - v .at) x first ∷ []))) (sym size)
-                      ∙ ap (λ (x : List ℕ). sets x (7 * n) (flat (r ∷ []))) e₁
+                      ∙ ap (λ (x : ℕ). sets buffer₁ (width * n) (flat (row tag vr depth (v .at) (stop - v .at) x first ∷ []))) (sym size)
+                      ∙ ap (λ (x : List ℕ). sets x (width * n) (flat (r ∷ []))) e₁
                       ∙ row-over buffer n r (b .rows)
-                      ∙ ap (λ (x : List ℕ). sets x (7 * n) (flat (r ∷ b .rows))) e₀
-                      ∙ ap (λ (x : ℕ). sets (sets buffer₀ (7 * first) (flat (i .rows))) x (flat (r ∷ b .rows))) f
-                      ∙ sym (sets-append (flat (i .rows)) buffer₀ (7 * first) (flat (r ∷ b .rows)))
-                      ∙ ap (λ (x : List ℕ). sets buffer₀ (7 * first) x) (sym (flat-append (i .rows) (r ∷ b .rows)));
+                      ∙ ap (λ (x : List ℕ). sets x (width * n) (flat (r ∷ b .rows))) e₀
+                      ∙ ap (λ (x : ℕ). sets (sets buffer₀ (width * first) (flat (i .rows))) x (flat (r ∷ b .rows))) f
+                      ∙ sym (sets-append (flat (i .rows)) buffer₀ (width * first) (flat (r ∷ b .rows)))
+                      ∙ ap (λ (x : List ℕ). sets buffer₀ (width * first) x) (sym (flat-append (i .rows) (r ∷ b .rows)));
                 };
             more = refl;
           }
 
       pub again : {stop next m : ℕ} {buffer₂ : List ℕ} → length buffer₁ ≡ length buffer → length buffer₂ ≡ length buffer₁
           → Walked (inside (n + 1) vr v) v (n + 1) buffer buffer₁ (walk.Done stop next m)
-          → (7 * n + 7 ≤ length buffer₁
-          → buffer₂ ≡ sets buffer₁ (7 * n) (flat (row tag vr depth (v .at) (stop - v .at) (m - n - 1) first ∷ [])))
+          → (width * n + width ≤ length buffer₁
+          → buffer₂ ≡ sets buffer₁ (width * n) (flat (row tag vr depth (v .at) (stop - v .at) (m - n - 1) first ∷ [])))
           → Here buffer₂ next m (tag + 1)
       again l₁ l₂ u put = onward l₁ l₂ u put .here
 

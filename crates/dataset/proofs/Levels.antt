@@ -9,7 +9,7 @@ use Rattle.dataset.specs.declared.Cursor.{Cursor}
 use Rattle.dataset.specs.declared.Head.{Head}
 use Rattle.dataset.specs.declared.Head.the-variants as head
 use Rattle.basics.specs.Vr.{SQ}
-use Rattle.dataset.specs.Header.{when, headerBy, delimiterBy, levelBy, definedBy, longBy, typedAt, taggedAt, elementAt}
+use Rattle.dataset.specs.Header.{when, headerBy, delimiterBy, nestedBy, definedBy, longBy, typedAt, taggedAt, elementAt}
 
 abbrev Leveled : ℕ → Head → Type 0
 Leveled levels (head.Header tag vr v) = vr ≡ SQ → 1 ≤ levels
@@ -27,8 +27,8 @@ module _ (levels : ℕ) where
   delimiter-leveled c tag due len =
       by-test _ _ _ (λ _. by-test _ _ _ (λ _. by-test _ _ _ (λ _. tt) (λ _. tt)) (λ _. tt)) (λ _. tt)
 
-  level-leveled : (tag vr : ℕ) (v : Cursor) → Leveled levels (levelBy tag vr levels v)
-  unfolding levelBy
+  level-leveled : (tag vr : ℕ) (v : Cursor) → Leveled levels (nestedBy tag vr levels v)
+  unfolding nestedBy
   level-leveled tag vr v =
       by-test _ _ _ (λ _. by-test _ _ _ (λ _. tt) (λ n _. let m : levels ≡ 0 → ⊥ = eqb-false levels 0 n in omega (arith, m)))
       (λ n e. absurd (eqb-false vr SQ n e))

@@ -15,11 +15,11 @@ use Rattle.dataset.specs.declared.Head.{Head}
 use Rattle.dataset.specs.declared.Head.the-variants as head
 use Rattle.basics.specs.Vr.{formOf, SQ}
 use Rattle.basics.specs.Bytes.{le32}
-use Rattle.dataset.specs.Header.{when, itemTag, cursor, moved, headerBy, delimiterBy, levelBy, definedBy, longBy, typedAt, taggedAt}
+use Rattle.dataset.specs.Header.{when, itemTag, cursor, moved, headerBy, delimiterBy, nestedBy, definedBy, longBy, typedAt, taggedAt}
 use Rattle.dataset.specs.Header.{sizedBy, memberAt, elementAt, itemAt}
-use Rattle.dataset.specs.Reading.{Row, row, Run, done, refused, onHead, onRun, level, valueRun, elementsAt, itemsAt, Reading}
+use Rattle.dataset.specs.Reading.{Row, row, Run, done, refused, onHead, onRun, level, valueRun, elementsAt, itemsAt, Reading, depths}
 use Rattle.dataset.specs.Reading.{tooLarge, refusedAt, read, whole, readingOf}
-use Rattle.basics.specs.Limits.{largest}
+use Rattle.basics.specs.Limits.{largest, mostRows}
 use Rattle.dataset.proofs.Levels.{sequence-level}
 use Rattle.dataset.specs.Tree.{rowsIn, rowsOf, noRow, rowAt, nextRow, Kind, elements, items, Member, kindInside, depthInside, Members}
 
@@ -66,8 +66,8 @@ module _ (kind : Kind) (least : ℕ) (c : Cursor) where
 
   module _ (tag vr : ℕ) (named : Named kind least tag vr) (start : ℕ) (p : c .at + 8 ≤ start) where
     level-moves : (levels stop : ℕ) (delimited : Bool) → start ≤ stop → stop ≤ c .end
-        → Moves kind least c (levelBy tag vr levels (cursor start stop delimited))
-    unfolding levelBy
+        → Moves kind least c (nestedBy tag vr levels (cursor start stop delimited))
+    unfolding nestedBy
     level-moves levels stop delimited q r =
         by-test _ _ _ (λ _. by-test _ _ _ (λ _. omega arith) (λ _. (p, (q, (r, named))))) (λ _. (p, (q, (r, named))))
 
@@ -156,7 +156,8 @@ Inside size kind depth first vr v o = Adds size (kindInside kind) (depthInside k
     × Childless kind depth vr (v .at) o
 
 named-member : (size : ℕ) (kind : Kind) (depth holder least tag vr at stop next : ℕ) (below : List Row) → Named kind least tag vr
-    → Childless kind depth vr at (done stop next below) → Leveled kind depth vr → depth ≤ 8 → at + 8 * length below ≤ stop → stop ≤ size
+    → Childless kind depth vr at (done stop next below) → Leveled kind depth vr → depth ≤ depths → at + 8 * length below ≤ stop
+    → stop ≤ size
     → Member size kind depth holder least (row tag vr depth at (stop - at) (length below) holder)
 named-member size elements depth holder least tag vr at stop next below n b u d p q =
     record {
@@ -199,7 +200,7 @@ member-first size kind depth holder from least at next end before r below m d f 
     }
 
 module _ (size : ℕ) (kind : Kind) (depth first : ℕ) (header : ℕ → ℕ → Head) (inside : ℕ → ℕ → Cursor → Run) (c : Cursor)
-    (high : c .end ≤ size) (deep : depth ≤ 8)
+    (high : c .end ≤ size) (deep : depth ≤ depths)
     (moves : (at least : ℕ) → at ≤ c .end → Moves kind least (moved c at) (header at least))
     (leveled : (at least tag vr : ℕ) (v : Cursor) → header at least ≡ head.Header tag vr v → Leveled kind depth vr)
     (value : (n vr : ℕ) (v : Cursor) → v .at ≤ v .end → v .end ≤ size → Inside size kind depth n vr v (inside n vr v)) where
@@ -342,43 +343,44 @@ items-inside : (size depth first vr : ℕ) (v : Cursor) (o : Run) → vr ≡ SQ 
 items-inside size depth first vr v (refused code offset) e a b = (a, tt)
 items-inside size depth first vr v (done stop next below) e a b = (a, (λ n. absurd (n e), λ _ _. b))
 
-elements-adds : (levels : ℕ) (s : List ℕ) → levels ≤ 8
+elements-adds : (levels : ℕ) (s : List ℕ) → levels ≤ depths
     → ((n vr : ℕ) (v : Cursor) → v .at ≤ v .end → v .end ≤ length s
-    → Inside (length s) elements (8 - levels) n vr v (valueRun levels s n vr v))
+    → Inside (length s) elements (depths - levels) n vr v (valueRun levels s n vr v))
     → (first : ℕ) (c : Cursor) → c .at ≤ c .end → c .end ≤ length s
-    → Adds (length s) elements (8 - levels) first first 0 (c .at) (c .end) [] (elementsAt levels s first c)
+    → Adds (length s) elements (depths - levels) first first 0 (c .at) (c .end) [] (elementsAt levels s first c)
 elements-adds levels s d inside first c p q =
-    level-adds (length s) elements (8 - levels) first (λ at least. elementAt s (moved c at) least levels) (valueRun levels s) c q
+    level-adds (length s) elements (depths - levels) first (λ at least. elementAt s (moved c at) least levels) (valueRun levels s) c q
     (omega arith)
     (λ at least r. header-moves elements least (moved c at) _ r (λ k. tagged-moves s (moved c at) k _ least levels))
     (λ at least tag vr v e q. let k : 1 ≤ levels = sequence-level levels s (moved c at) least e q in omega (arith, d, k)) inside
     (length s + 1) first (c .at) 0 [] (sym (add-zero first)) p (omega arith)
 
-value-inside : (levels : ℕ) (s : List ℕ) → levels ≤ 8 → (first vr : ℕ) (v : Cursor) → v .at ≤ v .end → v .end ≤ length s
-    → Inside (length s) elements (8 - levels) first vr v (valueRun levels s first vr v)
+value-inside : (levels : ℕ) (s : List ℕ) → levels ≤ depths → (first vr : ℕ) (v : Cursor) → v .at ≤ v .end → v .end ≤ length s
+    → Inside (length s) elements (depths - levels) first vr v (valueRun levels s first vr v)
 unfolding valueRun
 value-inside zero s d first vr v p q = leaf-inside (length s) 8 first vr v p (λ _ h. omega (arith, h))
 value-inside (suc levels) s d first vr v p q =
-    let e : 8 - levels ≡ (8 - suc levels) + 1 = omega arith in
-    by-cond (eqb vr SQ) (length s) (8 - suc levels) first vr v (itemsAt levels s first v) (done (v .end) (v .end) [])
-    (λ t. items-inside (length s) (8 - suc levels) first vr v (itemsAt levels s first v) (eqb-true vr SQ t)
+    let e : depths - levels ≡ (depths - suc levels) + 1 = omega arith in
+    by-cond (eqb vr SQ) (length s) (depths - suc levels) first vr v (itemsAt levels s first v) (done (v .end) (v .end) [])
+    (λ t. items-inside (length s) (depths - suc levels) first vr v (itemsAt levels s first v) (eqb-true vr SQ t)
     (subst (λ (n : ℕ). Adds (length s) items n first first 0 (v .at) (v .end) [] (itemsAt levels s first v)) e
-    (level-adds (length s) items (8 - levels) first (λ at least. itemAt s (moved v at)) (λ n _ c. elementsAt levels s n c) v q (omega arith)
+    (level-adds (length s) items (depths - levels) first (λ at least. itemAt s (moved v at)) (λ n _ c. elementsAt levels s n c) v q
+    (omega arith)
     (λ at least r. header-moves items least (moved v at) _ r (λ k. member-moves s (moved v at) k _ least))
     (λ at least tag r w e. tt)
     (λ n r c k l. (
       elements-adds levels s (omega arith) (value-inside levels s (omega arith)) n c k l,
-      level-bare (λ at least. elementAt s (moved c at) least levels) (valueRun levels s) (8 - levels) n (length s + 1) (c .at) 0,
+      level-bare (λ at least. elementAt s (moved c at) least levels) (valueRun levels s) (depths - levels) n (length s + 1) (c .at) 0,
     ))
     (length s + 1) first (v .at) 0 [] (sym (add-zero first)) p (omega arith)))
-    (level-bare (λ at least. itemAt s (moved v at)) (λ n _ c. elementsAt levels s n c) (8 - levels) first (length s + 1) (v .at) 0))
-    (λ t. leaf-inside (length s) (8 - suc levels) first vr v p (λ e _. eqb-false vr SQ t e))
+    (level-bare (λ at least. itemAt s (moved v at)) (λ n _ c. elementsAt levels s n c) (depths - levels) first (length s + 1) (v .at) 0))
+    (λ t. leaf-inside (length s) (depths - suc levels) first vr v p (λ e _. eqb-false vr SQ t e))
 
 -- What a reading says: rows that are a forest, and no more than one to 8 bytes; or a code 1 to 6 within the data set.
 pub record Rows (s : List ℕ) (rows : List Row) : Type 0 where
   pub forest : Forest (length s) elements 0 0 0 0 rows
   pub sparse : 8 * length rows ≤ length s
-  pub small : length rows ≤ 134217728
+  pub small : length rows ≤ mostRows
 
 abbrev pub Reads : List ℕ → Reading → Type 0
 Reads s tooLarge = Unit {0}

@@ -59,21 +59,21 @@ delimiterBy c tag due len =
     (Refused 5)
 
 -- Check 8: no SQ at depth 8, where no level is left below it.
-unfoldable pub levelBy : ℕ → ℕ → ℕ → Cursor → Head
-levelBy tag vr levels value = when (eqb vr SQ) (when (eqb levels 0) (Refused 6) (Header tag vr value)) (Header tag vr value)
+unfoldable pub nestedBy : ℕ → ℕ → ℕ → Cursor → Head
+nestedBy tag vr levels value = when (eqb vr SQ) (when (eqb levels 0) (Refused 6) (Header tag vr value)) (Header tag vr value)
 
 -- Checks 7 and 8, for a value of a defined length that starts at `start`.
 unfoldable pub definedBy : Cursor → ℕ → ℕ → ℕ → ℕ → ℕ → Head
 definedBy c tag vr start len levels =
     when (eqb (len % 2) 1) (Refused 4)
     (when (ltb (c .end - start) len) (Refused 1)
-    (levelBy tag vr levels (cursor start (start + len) false)))
+    (nestedBy tag vr levels (cursor start (start + len) false)))
 
 -- Checks 6 to 8, for a value with a 32-bit length.
 unfoldable pub longBy : Cursor → ℕ → ℕ → ℕ → ℕ → ℕ → Head
 longBy c tag vr start len levels =
     when (eqb len undefined)
-    (when (eqb vr SQ) (levelBy tag vr levels (cursor start (c .end) true)) (Refused 5))
+    (when (eqb vr SQ) (nestedBy tag vr levels (cursor start (c .end) true)) (Refused 5))
     (definedBy c tag vr start len levels)
 
 -- Checks 4 to 8, for an element of the tag and VR, the VR's form and the 16 bits after the VR: a short form has its

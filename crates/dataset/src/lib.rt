@@ -5,9 +5,9 @@ ghost use Prim.Native.Nat.{_+_, _-_, _*_, _≤_, _<_};
 ghost use mathlib.Core.List.{[], _∷_};
 ghost use lib.ListN.{length};
 ghost use lib.Seq.{sets};
-ghost use Rattle.dataset.specs.Header.{moved, delimiterBy, levelBy, definedBy, longBy, typedAt, taggedAt, sizedBy, memberAt};
+ghost use Rattle.dataset.specs.Header.{moved, delimiterBy, nestedBy, definedBy, longBy, typedAt, taggedAt, sizedBy, memberAt};
 ghost use Rattle.dataset.specs.Header.{elementAt, itemAt};
-ghost use Rattle.dataset.specs.Reading.{elementsAt, itemsAt, readingOf, row};
+ghost use Rattle.dataset.specs.Reading.{depths, elementsAt, itemsAt, readingOf, row};
 ghost use Rattle.basics.specs.Limits.{largest};
 ghost use Rattle.basics.specs.Fields.{Answers};
 ghost use Rattle.dataset.specs.Answer.{width, answerOf, countOf, bufferOf, flat, fieldsOf};
@@ -36,7 +36,7 @@ pub const BELOW: usize = 5;
 pub const PARENT: usize = 6;
 
 // How deep sequences may nest.
-const DEPTHS: usize = 8;
+pub const DEPTHS: usize = 8;
 
 const UNDEFINED: usize = 0xFFFF_FFFF;
 
@@ -70,7 +70,7 @@ pub enum Walk {
 }
 
 // The result of a walk along an item that is abandoned at a sequence: as in `Walk`, or abandoned.
-pub enum Leaf {
+enum Leaf {
     Done(usize, usize, usize),
     Refused(usize, usize),
     Nested,
@@ -118,10 +118,10 @@ impl Cursor {
     }
 
     // A value within the cursor's end; a sequence needs a level below it.
-    fn level(self, tag: usize, vr: usize, levels: usize, value: Cursor) -> Head
+    fn nested(self, tag: usize, vr: usize, levels: usize, value: Cursor) -> Head
         requires { ⌜ (self .at + 8 ≤ value .at)
             × ((value .at ≤ value .end) × ((value .end ≤ self .end) × ((tag < 4294967296) × (vr < 65536)))) ⌝ }
-        ensures { λ r. ⌜ r ≡ levelBy tag vr levels value ⌝ }
+        ensures { λ r. ⌜ r ≡ nestedBy tag vr levels value ⌝ }
         ensures { λ r. ⌜ Within self r ⌝ }
     {
         if vr == vrs::SQ {
@@ -152,7 +152,7 @@ impl Cursor {
             end: start + len,
             delimited: false,
         };
-        self.level(tag, vr, levels, value)
+        self.nested(tag, vr, levels, value)
     }
 
     // A value with a 32-bit length, which may be undefined.
@@ -168,7 +168,7 @@ impl Cursor {
                     end: self.end,
                     delimited: true,
                 };
-                return self.level(tag, vr, levels, value);
+                return self.nested(tag, vr, levels, value);
             }
             return Head::Refused(5);
         }
@@ -302,11 +302,11 @@ fn put_row(
     m: usize,
     first: usize,
 )
-    requires { ⌜ (levels ≤ 8)
+    requires { ⌜ (levels ≤ depths)
         × ((8 * n + 8 ≤ start) × ((start ≤ stop) × ((n < m) × ((first ≤ n) × ((tag < 4294967296) × (vr < 65536)))))) ⌝ }
     requires { ⌜ (width * n + width ≤ length (now rows) → (stop ≤ largest) × (m ≤ largest)) ⌝ }
     ensures { λ _. ⌜ (width * n + width ≤ length (now (rows .entry))
-        → now (rows .exit) ≡ sets (now (rows .entry)) (width * n) (flat (row tag vr (8 - levels) start (stop - start) (m - n - 1) first ∷ []))) ⌝ }
+        → now (rows .exit) ≡ sets (now (rows .entry)) (width * n) (flat (row tag vr (depths - levels) start (stop - start) (m - n - 1) first ∷ []))) ⌝ }
 {
     let i = WIDTH * n;
     if i + WIDTH <= rows.len() {

@@ -15,7 +15,7 @@ use Rattle.pixel.specs.Pixel.{isFrame}
 use Rattle.window.specs.declared.Window.{Window}
 use Rattle.window.specs.Contracts.{Drawable}
 use Rattle.steps.specs.Steps.{geometryOf, pixelsOf, windowFor, inverseOf, maskFor}
-pub use Rattle.display.specs.Contracts.{AllWithin, Sound, Gives}
+pub use Rattle.display.specs.Contracts.{AllWithin, SoundMask, Gives}
 
 -- A US of the root is a number of two bytes: so it is where the nodes hold bytes.
 abbrev pub SmallRoot : List Node → Type 0

@@ -13,7 +13,8 @@ use Rattle.value.specs.Number.{isNumber}
 use Rattle.value.specs.Contracts.{SizeBelow}
 use Rattle.shift.specs.declared.Shift.{Shift}
 use Rattle.shift.specs.declared.Moves.{Moves}
-use Rattle.shift.specs.Shift.{isShort, isShiftOf, movesOf, shortMovesOf}
+use Rattle.shift.specs.Shift.{largestMove, isShort, isShiftOf, movesOf, shortMovesOf}
+use Rattle.shift.specs.Contracts.{tooFar}
 use Rattle.shift.proofs.Laws.{moves-short}
 use Rattle.node.specs.Nodes.{Node}
 use Rattle.steps.specs.Given.{check, then}
@@ -24,12 +25,12 @@ use Rattle.steps.specs.declared.Operation.the-variants as operation
 use Rattle.steps.specs.declared.Told.{Told}
 use Rattle.steps.specs.Contracts.{operationOf, IsTold}
 use Rattle.steps.specs.Steps.{Mask, shiftFor, movesFor, applyingTo, maskBy, maskFor, native as noMask, masked as maskOf}
-use Rattle.display.specs.Contracts.{Short, Sound, Gives, GivesMoves, averageBy, tidBy, operated}
-use Rattle.display.proofs.Given.{never}
+use Rattle.display.specs.Contracts.{Short, SoundMask, Gives, GivesMoves, averageBy, tidBy, operated}
+use Rattle.steps.proofs.Given.{never, same-some}
 
-short-is : (x : Signed) → isNumber x ≡ true → SizeBelow 257 x → isShort x ≡ true
-short-is (signed.Plus n) e h = le-leb n 256 (omega arith)
-short-is (signed.Minus n) e h = le-leb n 256 (omega arith)
+short-is : (x : Signed) → isNumber x ≡ true → SizeBelow tooFar x → isShort x ≡ true
+short-is (signed.Plus n) e h = le-leb n largestMove (omega arith)
+short-is (signed.Minus n) e h = le-leb n largestMove (omega arith)
 short-is signed.None e h = e
 
 is-shift : (s : Shift) → Short (movesOf s) → isShiftOf s ≡ true
@@ -62,7 +63,13 @@ pub gives-moves : (n : ℕ) (ks : List ℕ) (o : Option Moves) → Gives n (then
 gives-moves n ks none g = absurd (never (g .mask))
 gives-moves n ks (some mv) g =
     let q : g .m ≡ maskOf ks mv = cc in
-    record { m = mv; is = refl; short = subst (Sound n) q (g .sound) .1 .1 .1 }
+    record { m = mv; is = refl; short = subst (SoundMask n) q (g .sound) .1 .1 .1 }
+
+-- What a step gives is sound.
+pub gives-sound : (n : ℕ) (m : Mask) (o : Option Mask) → o ≡ some m → Gives n o → SoundMask n m
+gives-sound n m o e g =
+    let q : g .m ≡ m = same-some (g .mask) e in
+    subst (SoundMask n) q (g .sound)
 
 pub gives-same : (n : ℕ) (o p : Option Mask) → o ≡ p → Gives n o → Gives n p
 gives-same n o p e g = subst (Gives n) e g

@@ -4,7 +4,7 @@ use mathlib.Core.Path.{_≡_, refl, sym, ap, _∙_, subst}
 use mathlib.Core.Bool.{Bool, true, false, cond, _&&_}
 use mathlib.Core.List.{List, [], _∷_}
 use mathlib.Core.Option.{Option, none, some}
-use Prim.Native.Nat.{ℕ, zero, suc, _≤_, _<_}
+use Prim.Native.Nat.{ℕ, _≤_, _<_}
 use package.native.Mathlib.Omega.{arith}
 use lib.ListN.{length}
 use lib.Dec.{eqb, leb}
@@ -13,8 +13,7 @@ use Rattle.basics.specs.Vr.{SQ, FL}
 use Rattle.value.specs.declared.Num.{Num}
 use Rattle.value.specs.declared.Num.the-variants.{Is, None}
 use Rattle.value.specs.Text.{ascii}
-use Rattle.value.specs.Number.{isNumber}
-use Rattle.shift.specs.declared.Shift.{Shift}
+use Rattle.value.specs.Number.{isNumber, numberOr0}
 use Rattle.shift.specs.declared.Shift.the-variants as shift
 use Rattle.shift.specs.declared.Moves.{Moves}
 use Rattle.shift.specs.Shift.{itemShift, frameShift}
@@ -22,17 +21,18 @@ use Rattle.shift.specs.Whole.{wholeMovesOf, isWholeShiftOf, isWholeShift, moves
 use Rattle.shift.proofs.Laws.{as-item, shift-length}
 use Rattle.shift.proofs.Agree.{whole-moves, whole-shift, whole-item, whole-frame, whole-both, whole-numbers}
 use Rattle.verdict.specs.Verdict.{perFrame}
-use Rattle.basics.proofs.Tests.{false-is-true, and-both}
+use Rattle.basics.proofs.Tests.{false-is-true, and-both, both}
 use Rattle.node.specs.Nodes.{Node, nodesOf, nodeAt, root, inside}
 use Rattle.node.specs.Find.{holds, ifPresent, find, findVr}
-use Rattle.element.specs.Tags
+use Rattle.node.proofs.Tests.{holds-more, present-more}
+use Rattle.basics.specs.Tags
 use Rattle.element.specs.Elements.{valueAt, every}
-use Rattle.element.specs.Frames.{framesOf, frameItem, sharedItem, groupOf, maskItems, idIn, operationIs}
+use Rattle.element.specs.Frames.{framesOf, frameItem, sharedItem, groupOf, maskItems, operationIs}
 use Rattle.rules.specs.Frame.{hasId, isShiftItem, isShiftGroup, item37, rule37}
 use Rattle.rules.specs.Mask.{isShiftAt, shiftFits, rule35, rule36}
 use Rattle.rules.specs.All.{ruleList, ruleAt}
 use Rattle.conformance.specs.declared.Finding.the-variants.{Accepted}
-use Rattle.conformance.specs.Judging.{numberOf, firstFrame, frameCount, findingOf}
+use Rattle.conformance.specs.Judging.{firstFrame, frameCount, findingOf}
 use Rattle.conformance.proofs.First.{holds-accepted}
 use Rattle.pixel.specs.declared.Geometry.{Geometry}
 use Rattle.pixel.specs.Pixel.{samplesOf, isFrame}
@@ -42,30 +42,23 @@ use Rattle.pixel.proofs.Quarters.{agree}
 use Rattle.window.specs.declared.Window.{Window}
 use Rattle.steps.specs.declared.Applying.{Applying}
 use Rattle.steps.specs.declared.Applying.the-variants.{Item, Nothing}
-use Rattle.steps.specs.Given.{need, check, then, collect}
-use Rattle.steps.specs.Steps.{Mask, native, masked, geometryOf, pixelsOf, applyingTo, averageFrames, tidFrame, naming, ownIn, itemShiftAt}
-use Rattle.steps.specs.Steps.{shiftFrom, shiftFor, movesFor, onTid, maskBy, maskOn, maskFor, windowFor, inverseOf, maskedCell, pictureBy}
+use Rattle.steps.specs.Given.{need, check, then}
+use Rattle.steps.specs.Steps.{Mask, native, masked, geometryOf, pixelsOf, applyingTo, averageFrames, tidFrame, itemShiftAt}
+use Rattle.steps.specs.Steps.{shiftFor, movesFor, onTid, maskBy, maskOn, maskFor, windowFor, inverseOf, maskedCell, pictureBy}
 use Rattle.steps.specs.Steps.{stepsOf}
 use Rattle.display.specs.Before.{wasShiftAt, shiftFitted, rule35Before, wasShiftItem, wasShiftGroup, item37Before, rule37Before}
 use Rattle.display.specs.Before.{ruleBefore, AcceptedBefore, movesBefore, onTidBefore, maskByBefore, maskOnBefore, maskForBefore}
 use Rattle.display.specs.Before.{maskedCellBefore, pictureBefore, stepsBefore, KeepsPictures, SamePictures}
-use Rattle.display.proofs.Given.{never, check-some, then-some}
+use Rattle.steps.proofs.Given.{never, checked, check-some, then-some, collect-same}
+use Rattle.steps.proofs.Laws.{to-picture}
 use Rattle.display.proofs.Small.{us-in-small}
 use Rattle.display.proofs.Objects.{object, windowed}
 use Rattle.display.proofs.Masks as applying
-use Rattle.display.proofs.Masks.{had, both-true, checked, Among, every-at, Applies, nothing, applies, Named, unnamed, named, names}
-use Rattle.display.proofs.Masks.{id-had, shift-ids, group-for, r31, r36, ranges, masking}
+use Rattle.display.proofs.Masks.{Among, every-at, Applies, nothing, applies, GivesShift, shift-by, ranges, masking}
+use Rattle.display.proofs.Rules.{r31, r36}
 use Rattle.display.proofs.Lacking.{nothing-lacks}
 
 -- ---- Rules
-
-present-more : (o : Num) (p q : ℕ → Bool) → ((k : ℕ) → p k ≡ true → q k ≡ true) → ifPresent o p ≡ true → ifPresent o q ≡ true
-present-more None p q f e = e
-present-more (Is k) p q f e = f k e
-
-holds-more : (o : Num) (p q : ℕ → Bool) → ((k : ℕ) → p k ≡ true → q k ≡ true) → holds o p ≡ true → holds o q ≡ true
-holds-more None p q f e = e
-holds-more (Is k) p q f e = f k e
 
 every-more : (l : List ℕ) (p q : ℕ → Bool) → ((k : ℕ) → p k ≡ true → q k ≡ true) → every p l ≡ true → every q l ≡ true
 unfolding every
@@ -180,11 +173,6 @@ mask-for-now ns f m e =
     on Nothing e = let d : native ≡ m = cc in ap some (ap inQuarters d)
     on (Item j) e = mask-now ns f j m e
 
-collect-same : (f h : ℕ → Num) (n : ℕ) → ((i : ℕ) → i < n → f i ≡ h i) → collect f n ≡ collect h n
-unfolding collect
-collect-same f h zero e = refl
-collect-same f h (suc n) e = rw (collect-same f h n (λ i l. e i (omega arith)), e n (omega arith))
-
 -- Cell for cell.
 cell-same : (g : Geometry) (v : List ℕ) (f : ℕ) (ks : List ℕ) (m : Moves) (w : Window) (inverse : Bool) (i : ℕ) → i < samplesOf g
     → maskedCellBefore g v f ks m w inverse i ≡ maskedCell g v f ks (movesInQuarters m) w inverse i
@@ -206,16 +194,13 @@ picture-same g v f w inverse (masked ks m) = rw (collect-same (maskedCellBefore 
 module _ (ns : List Node) (f : ℕ) (g : Geometry) (v : List ℕ) (w : Window) (inverse : Bool)
     (isG : geometryOf ns ≡ some g) (isV : pixelsOf ns ≡ some v) (frame : isFrame g v f ≡ true) (isW : windowFor ns f (g .stored) ≡ some w)
     (isI : inverseOf ns ≡ some inverse) where
-  to-picture : (m : Mask) → maskFor ns f ≡ some m → stepsOf ns f ≡ pictureBy g v f w inverse m
-  unfolding stepsOf
-  to-picture m e = rw (isG, isV, frame, e, isW, isI)
-
   to-before : (m : Mask) → maskForBefore ns f ≡ some m → stepsBefore ns f ≡ pictureBefore g v f w inverse m
   unfolding stepsBefore
   to-before m e = rw (isG, isV, frame, e, isW, isI)
 
   same-steps : (m : Mask) → maskForBefore ns f ≡ some m → stepsBefore ns f ≡ stepsOf ns f
-  same-steps m e = to-before m e ∙ picture-same g v f w inverse m ∙ sym (to-picture (inQuarters m) (mask-for-now ns f m e))
+  same-steps m e = to-before m e ∙ picture-same g v f w inverse m ∙
+      sym (to-picture ns f g v w inverse isG isV frame isW isI (inQuarters m) (mask-for-now ns f m e))
 
 -- Where the steps of whole pixels give a picture, for any data set, those of quarters give the same.
 pub same-pictures : SamePictures
@@ -229,70 +214,49 @@ same-pictures ns f p e =
     let i = then-some (inverseOf ns) _ (w .1 .1) in
     sym (same-steps ns f (g .0) (v .0) (w .0) (i .0) (g .1 .0) (v .1 .0) (t .0) (w .1 .0) (i .1 .0) (m .0) (m .1 .0)) ∙ e
 
--- ---- Of an accepted object the steps of whole pixels had-none nothing
-
-abbrev Wholly : Option Shift → Type 0
-Wholly o = (s : Shift) × ((o ≡ some s) × (isWholeShiftOf s ≡ true))
+-- ---- Of an accepted object the steps of whole pixels lacked nothing
 
 module _ (ns : List Node) where
-  item-whole : (o : Num) → ifPresent o (wasShiftAt ns) ≡ true → Wholly (itemShiftAt ns o)
+  item-whole : (o : Num) → ifPresent o (wasShiftAt ns) ≡ true → GivesShift isWholeShiftOf (itemShiftAt ns o)
   unfolding wasShiftAt isWholeShiftOf wholeMovesOf
   item-whole None e = (shift.None, (refl, refl))
   item-whole (Is k) e =
       let a = and-both (eqb (nodeAt ns k .vr) FL) _ e in (
         itemShift (valueAt ns k),
         (
-          checked _ _ (both-true _ _ (a .0) (eq-eqb _ _ (shift-length (valueAt ns k) (whole-shift (valueAt ns k) (a .1))))),
+          checked _ _ (both (a .0) (eq-eqb _ _ (shift-length (valueAt ns k) (whole-shift (valueAt ns k) (a .1))))),
           whole-item (valueAt ns k) (a .1),
         ),
       )
 
   frame-whole : (o : Num) → holds o (λ x. isWholeShift (valueAt ns x)) ≡ true
-      → Wholly (need o (λ x. check (eqb (length (valueAt ns x)) 8) (some (frameShift (valueAt ns x)))))
+      → GivesShift isWholeShiftOf (need o (λ x. check (eqb (length (valueAt ns x)) 8) (some (frameShift (valueAt ns x)))))
   frame-whole None e = absurd (false-is-true e)
   frame-whole (Is x) e = (
     frameShift (valueAt ns x),
     (checked _ _ (eq-eqb _ _ (shift-length (valueAt ns x) (whole-shift (valueAt ns x) e))), whole-frame (valueAt ns x) e),
   )
 
-  named-whole : (j : ℕ) (l : List ℕ) (o : Option Num) → every (wasShiftItem ns) l ≡ true → shiftFitted ns j ≡ true → Named l o
-      → Wholly (then o (shiftFrom ns j))
-  unfolding shiftFitted wasShiftItem
-  named-whole j l o e w (unnamed q) = rw q (item-whole (find ns Tags.MaskSubPixelShift (inside ns j)) w)
-  named-whole j l o e w (named k m q) = rw q
-      (frame-whole (findVr ns Tags.MaskSubPixelShift FL (inside ns k)) (and-both (hasId ns k) _ (every-at (wasShiftItem ns) m e) .1))
-
-  own-whole : (j : ℕ) (o : Num) → shiftFitted ns j ≡ true → ifPresent o (wasShiftGroup ns) ≡ true → ((g : ℕ) → o ≡ Is g → hasId ns j ≡ true)
-      → Wholly (then (ownIn ns j o) (shiftFrom ns j))
-  unfolding shiftFitted wasShiftGroup
-  own-whole j None w e i = item-whole (find ns Tags.MaskSubPixelShift (inside ns j)) w
-  own-whole j (Is g) w e i =
+  group-items : (g : ℕ) → wasShiftGroup ns g ≡ true → every (wasShiftItem ns) (inside ns g) ≡ true
+  unfolding wasShiftGroup
+  group-items g e =
       let a = and-both (eqb (nodeAt ns g .vr) SQ) _ e in
       let b = and-both (leb 1 (length (inside ns g))) _ (a .1) in
-      let c = and-both (every (wasShiftItem ns) (inside ns g)) _ (b .1) in
-      let x = id-had ns j (i g refl) in
-      let y : need (idIn ns j) (λ id. naming ns id (inside ns g)) ≡ naming ns (x .0) (inside ns g) = rw (x .1) in
-      let q : ownIn ns j (Is g) ≡ naming ns (x .0) (inside ns g) = checked _ _ (both-true _ _ (a .0) (b .0)) ∙ y in
-      named-whole j (inside ns g) (ownIn ns j (Is g)) (c .0) w
-      (rw q (names ns (x .0) (inside ns g) (every-more (inside ns g) (wasShiftItem ns) (isShiftItem ns) (item ns) (c .0))))
+      and-both (every (wasShiftItem ns) (inside ns g)) _ (b .1) .0
 
   shift-whole : (f j : ℕ) → rule36 ns ≡ true → rule37Before ns f ≡ true → Among j (maskItems ns) → shiftFitted ns j ≡ true
-      → Wholly (shiftFor ns f j)
-  unfolding shiftFor rule37Before item37Before
+      → GivesShift isWholeShiftOf (shiftFor ns f j)
+  unfolding rule37Before item37Before shiftFitted wasShiftItem
   shift-whole f j r e m w =
-      let s = had (sharedItem ns) _ e in
-      let i = had (frameItem ns f) _ (s .1 .1) in
-      let fits : ifPresent (groupOf ns Tags.FramePixelShiftSequence (s .0) (i .0)) (wasShiftGroup ns) ≡ true = i .1 .1 in
-      rw (group-for ns f Tags.FramePixelShiftSequence (s .0) (i .0) (s .1 .0) (i .1 .0))
-      (own-whole j (groupOf ns Tags.FramePixelShiftSequence (s .0) (i .0)) w fits (λ g q.
-      every-at (hasId ns) m (shift-ids ns r f (s .0) (i .0) g (s .1 .0) (i .1 .0) q
-      (group ns g (subst (λ (x : Num). ifPresent x (wasShiftGroup ns) ≡ true) q fits)))))
+      shift-by ns isWholeShiftOf j (item-whole (find ns Tags.MaskSubPixelShift (inside ns j)) w) (wasShiftGroup ns) (group ns)
+      (λ g k h a. frame-whole (findVr ns Tags.MaskSubPixelShift FL (inside ns k))
+      (and-both (hasId ns k) _ (every-at (wasShiftItem ns) a (group-items g h)) .1)) f r e m
 
-  moves-before : (f j : ℕ) → Wholly (shiftFor ns f j) → (m : Moves) × (movesBefore ns f j ≡ some m)
+  moves-before : (f j : ℕ) → GivesShift isWholeShiftOf (shiftFor ns f j) → (m : Moves) × (movesBefore ns f j ≡ some m)
   unfolding movesBefore
   moves-before f j (s, (q, e)) = (wholeMovesOf s, rw q (checked _ _ (whole-both s e)))
 
-  -- The mask of an item whose steps lack nothing now had-none nothing then.
+  -- The mask of an item whose steps lack nothing now lacked nothing then.
   mask-before : (f j : ℕ) (x : Moves) → movesBefore ns f j ≡ some x → (m : Mask) → maskBy ns f j ≡ some m
       → (k : Mask) × (maskByBefore ns f j ≡ some k)
   unfolding maskByBefore maskBy
@@ -359,7 +323,7 @@ keeps-pictures s b ok =
     record {
       accepted = now-ok;
       pictures = λ f low high.
-          let h : f ≤ o .n = subst (λ (x : Num). f ≤ numberOf x) (o .frames) high in
+          let h : f ≤ o .n = subst (λ (x : Num). f ≤ numberOr0 x) (o .frames) high in
           let d = nothing-lacks s b now-ok f low high in
           let w = windowed ns now-ok o f low h in
           let m = masking ns now-ok (o .n) (o .frames) (o .some-frame) (o .few-frames) f low h in

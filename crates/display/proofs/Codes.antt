@@ -1,31 +1,30 @@
 -- What a call that judges first says of the judge's answer: an accepted object with room for its rows is answered as accepted,
 -- and a call whose code is 0 was answered so. It serves every call that keeps the judge's codes.
 use mathlib.Core.Path.{_≡_, refl, ap, subst}
-use mathlib.Core.Bool.{Bool, true, false, cond, _&&_}
+use mathlib.Core.Bool.{Bool, true, false, cond}
 use mathlib.Core.List.{List}
 use Prim.Native.Nat.{ℕ, _*_, _≤_}
 use native.Mathlib.Omega.{arith}
 use lib.ListN.{length}
 use lib.Dec.{leb}
 use borrow.Author.Tests.{le-leb, leb-true}
+use Rattle.value.specs.Number.{numberOr0}
+use Rattle.basics.proofs.Tests.{and-both}
 use Rattle.dataset.specs.Reading.{Row, Reading, tooLarge, refusedAt, read, readingOf}
 use Rattle.dataset.specs.Answer.{width, answerOf}
 use Rattle.dataset.specs.Tree.{rowsIn, rowsOf}
 use Rattle.dataset.specs.declared.ReadAnswer.the-variants as answer
 use Rattle.dataset.proofs.Laws.{Small, answer-small}
+use Rattle.basics.proofs.Tests.{and-both}
 use Rattle.node.specs.Nodes.{nodesOf}
 use Rattle.element.specs.Frames.{framesOf}
 use Rattle.conformance.specs.declared.Finding.{Finding}
 use Rattle.conformance.specs.declared.Finding.the-variants as finding
 use Rattle.conformance.specs.declared.JudgeAnswer.{JudgeAnswer}
 use Rattle.conformance.specs.declared.JudgeAnswer.the-variants as judged
-use Rattle.conformance.specs.Judging.{numberOf, findingOf, answerFor, judgeOf}
+use Rattle.conformance.specs.Judging.{findingOf, answerFor, judgeOf}
 use Rattle.display.specs.Show.{isFrameOf}
 use Rattle.display.specs.Drawing.{IsAccepted, IsFrame}
-
-both : (p q : Bool) → p && q ≡ true → (p ≡ true) × (q ≡ true)
-both true q h = (refl, h)
-both false q h = let z : _≡_ {A = ℕ} 0 1 = cc in absurd (omega arith)
 
 room-answer : (rows : List Row) (buffer : List ℕ) → width * length rows ≤ length buffer
     → answerOf (read rows) buffer ≡ answer.Done (length rows)
@@ -34,8 +33,8 @@ room-answer rows buffer h = rw (le-leb (width * length rows) (length buffer) h)
 -- The number that passes the test of code 10 is that of a frame.
 pub was-frame : (s : List ℕ) (f : ℕ) → isFrameOf (nodesOf s) f ≡ true → IsFrame s f
 was-frame s f e =
-    let b = both (leb 1 f) (leb f (numberOf (framesOf (nodesOf s)))) e in
-    record { low = leb-true 1 f (b .0); high = leb-true f (numberOf (framesOf (nodesOf s))) (b .1) }
+    let b = and-both (leb 1 f) (leb f (numberOr0 (framesOf (nodesOf s)))) e in
+    record { low = leb-true 1 f (b .0); high = leb-true f (numberOr0 (framesOf (nodesOf s))) (b .1) }
 
 -- A call's code by the judge's answer: the judge's own, but where the object is accepted.
 pub record Keeps (of : JudgeAnswer → ℕ) : Type 0 where
@@ -71,8 +70,8 @@ module _ (s buffer : List ℕ) where
     where
       go : (x : Finding) (t : Bool) → leb (width * length rows) (length buffer) ≡ t
           → of (answerFor x (cond t (answer.Done (length rows)) answer.NoRoom)) ≡ 0 → Back of (read rows) x
-      go finding.Accepted true p
-          e = record { rows = rows; reads = refl; sound = refl; room = leb-true (width * length rows) (length buffer) p; code = e }
+      go finding.Accepted true p e =
+          record { rows = rows; reads = refl; sound = refl; room = leb-true (width * length rows) (length buffer) p; code = e }
       go (finding.Broken rule frame) true p e = absurd (omega (arith, e, k .broken (length rows) rule frame))
       go x false p e = absurd (omega (arith, e, k .no-room))
 

@@ -10,15 +10,16 @@ use native.Mathlib.Omega.{arith}
 use lib.ListN.{length, drop}
 use lib.Dec.{leb}
 use borrow.Author.Tests.{le-leb, leb-true}
+use Rattle.value.specs.Number.{numberOr0}
+use Rattle.basics.specs.Bytes.{IsBytes}
 use Rattle.dataset.specs.Tree.{rowsOf}
 use Rattle.node.specs.Nodes.{nodesOf}
 use Rattle.element.specs.Frames.{framesOf}
-use Rattle.conformance.specs.Judging.{numberOf}
 use Rattle.steps.specs.Steps.{Picture, stepsOf}
 use Rattle.display.specs.declared.ShowAnswer.{ShowAnswer}
 use Rattle.display.specs.declared.ShowAnswer.the-variants as shown
 use Rattle.display.specs.Show.{isFrameOf, imageSize, pictureOf, acceptedAnswer, answerFor as shownFor, showOf, imageOf, fieldsOf}
-use Rattle.display.specs.Drawing.{Bytes, IsAccepted, IsFrame, HasRoom, Whole, HandsBack, Drawing}
+use Rattle.display.specs.Drawing.{IsAccepted, IsFrame, HasRoom, Whole, HandsBack, Drawing}
 use Rattle.display.proofs.Codes.{was-frame, judged-accepted, was-judged}
 use Rattle.display.proofs.Lacking.{nothing-lacks}
 
@@ -31,7 +32,7 @@ module _ (s : List ℕ) (f : ℕ) (buffer image : List ℕ) where
   answer-drawn n i r =
       rw (
         le-leb 1 f (i .low),
-        le-leb f (numberOf (framesOf (nodesOf s))) (i .high),
+        le-leb f (numberOr0 (framesOf (nodesOf s))) (i .high),
         le-leb (imageSize (nodesOf s)) (length image) (r .cells),
       )
 
@@ -92,7 +93,7 @@ module _ (s : List ℕ) (f : ℕ) (buffer image : List ℕ) where
 
 -- ---- The claim
 
-pub drawing : (s : List ℕ) → Bytes s → (f : ℕ) → Drawing s f
+pub drawing : (s : List ℕ) → IsBytes s → (f : ℕ) → Drawing s f
 drawing s b f =
     record {
       drawable = whole;

@@ -1,11 +1,11 @@
 -- What an accepted answer of the judge says: the rows stand in the buffer, and no rule is broken.
-use mathlib.Core.Path.{_≡_, refl, ap}
+use mathlib.Core.Path.{_≡_, refl, sym, ap, _∙_}
 use mathlib.Core.List.{List}
 use Prim.Native.Nat.{ℕ, _*_, _≤_}
 use native.Mathlib.Omega.{arith}
 use lib.ListN.{length, take}
 use Rattle.dataset.specs.Reading.{readingOf}
-use Rattle.dataset.specs.Answer.{answerOf, bufferOf}
+use Rattle.dataset.specs.Answer.{width, answerOf, bufferOf}
 use Rattle.dataset.specs.declared.ReadAnswer.{ReadAnswer}
 use Rattle.dataset.specs.declared.ReadAnswer.the-variants as read
 use Rattle.node.specs.Nodes.{nodesOf}
@@ -16,7 +16,10 @@ use Rattle.conformance.specs.declared.JudgeAnswer.{JudgeAnswer}
 use Rattle.conformance.specs.declared.JudgeAnswer.the-variants as judged
 use Rattle.conformance.specs.Judging.{findingOf, answerFor, judgeOf}
 use Rattle.node.proofs.After.{after-reading}
-use Rattle.display.specs.Show.{pictureOf, answerFor as shownFor, imageBy, showOf, imageOf}
+use Rattle.basics.specs.Fields.{Answers}
+use Rattle.basics.proofs.Promised.{promised}
+use Rattle.display.specs.declared.ShowAnswer.{ShowAnswer}
+use Rattle.display.specs.Show.{pictureOf, answerFor as shownFor, imageBy, showOf, imageOf, fieldsOf}
 
 pub accepted-parts : (f : Finding) (r : ReadAnswer) (n : ℕ) → judged.Accepted n ≡ answerFor f r → (read.Done n ≡ r) × (f ≡ finding.Accepted)
 accepted-parts finding.Accepted (read.Done m) n e =
@@ -28,11 +31,20 @@ accepted-parts f read.TooLarge n e = let z : _≡_ {A = ℕ} 0 1 = cc in absurd 
 accepted-parts f read.NoRoom n e = let z : _≡_ {A = ℕ} 0 1 = cc in absurd (omega arith)
 
 pub after-judging : (s before buffer : List ℕ) (n : ℕ) → judged.Accepted n ≡ judgeOf s before → buffer ≡ bufferOf (readingOf s) before
-    → ((7 * n ≤ length buffer) × Table s (take (7 * n) buffer)) × (findingOf (nodesOf s) ≡ finding.Accepted)
+    → ((width * n ≤ length buffer) × Table s (take (width * n) buffer)) × (findingOf (nodesOf s) ≡ finding.Accepted)
 unfolding judgeOf
 after-judging s before buffer n e f =
     let p = accepted-parts (findingOf (nodesOf s)) (answerOf (readingOf s) before) n e in
     (after-reading s before buffer n (p .0) f, p .1)
+
+-- A call that judges first answers and leaves what the judge's answer says. The answer `told` is the judge's, taken apart; r is what the
+-- call then answered, and `end` what it left.
+pub judged-by : {A F : Type 0} (fieldsOf : A → F) (answer : JudgeAnswer → A) (left : A → List ℕ) (told : JudgeAnswer) {r : A}
+    {end : List ℕ} → r ≡ answer told → end ≡ left r → {a x : JudgeAnswer} → a ≡ told → a ≡ x → {rows after : List ℕ} → rows ≡ after
+    → Answers fieldsOf r (answer x) × ((rows ≡ after) × (end ≡ left (answer x)))
+judged-by fieldsOf answer left told e l p q w =
+    let same = e ∙ ap answer (sym p ∙ q) in
+    (promised same, (w, l ∙ ap left same))
 
 -- What `show` answers and leaves in the image buffer, by what the judge answered.
 module _ (s : List ℕ) (f : ℕ) (before image : List ℕ) (a : JudgeAnswer) (e : a ≡ judgeOf s before) where
@@ -43,3 +55,11 @@ module _ (s : List ℕ) (f : ℕ) (before image : List ℕ) (a : JudgeAnswer) (e
   pub image-by : imageBy (pictureOf (nodesOf s) f) image (shownFor (nodesOf s) f image a) ≡ imageOf s f before image
   unfolding imageOf
   image-by = ap (imageBy (pictureOf (nodesOf s) f) image) shown-by
+
+module _ (s : List ℕ) (f : ℕ) (before image : List ℕ) where
+  pub show-answers : (told : JudgeAnswer) {r : ShowAnswer} {end : List ℕ} → r ≡ shownFor (nodesOf s) f image told
+      → end ≡ imageBy (pictureOf (nodesOf s) f) image r → {a : JudgeAnswer} → a ≡ told → a ≡ judgeOf s before → {rows : List ℕ}
+      → rows ≡ bufferOf (readingOf s) before
+      → Answers fieldsOf r (showOf s f before image) × ((rows ≡ bufferOf (readingOf s) before) × (end ≡ imageOf s f before image))
+  unfolding showOf imageOf
+  show-answers told e l p q w = judged-by fieldsOf (shownFor (nodesOf s) f image) (imageBy (pictureOf (nodesOf s) f) image) told e l p q w

@@ -10,6 +10,8 @@ use lib.ListN.{length, length-append}
 use lib.IntN.{ℤ, pos, _+ℤ_, _-ℤ_}
 use lib.Dec.{eqb, leb}
 use borrow.Author.Tests.{ne-eqb, le-leb}
+use Rattle.value.specs.Number.{numberOr0}
+use Rattle.basics.specs.Bytes.{IsBytes}
 use Rattle.value.specs.declared.Num.{Num}
 use Rattle.value.specs.declared.Num.the-variants.{Is, None}
 use Rattle.shift.specs.declared.Moves.{Moves}
@@ -24,18 +26,19 @@ use Rattle.window.proofs.Laws.{leveled, shadeNumber, shaded-is}
 use Rattle.steps.specs.Given.{need, check, collect}
 use Rattle.steps.specs.Steps.{Picture, Mask, nativeCell, maskedCell, areFrames, pictureBy, geometryOf, stepsOf, native as noMask}
 use Rattle.steps.specs.Steps.{masked as maskBy}
-use Rattle.element.specs.Tags
+use Rattle.basics.specs.Tags
 use Rattle.element.specs.Elements.{usIn}
 use Rattle.element.specs.Frames.{framesOf}
 use Rattle.conformance.specs.declared.Finding.the-variants.{Accepted}
-use Rattle.conformance.specs.Judging.{numberOf, findingOf}
+use Rattle.conformance.specs.Judging.{findingOf}
 use Rattle.display.specs.Show.{imageSize}
-use Rattle.display.proofs.Given.{never}
-use Rattle.display.specs.Drawing.{Bytes, AllLevels, Whole}
+use Rattle.steps.proofs.Given.{never}
+use Rattle.steps.proofs.Laws.{to-picture}
+use Rattle.display.specs.Drawing.{AllLevels, Whole}
 use Rattle.display.proofs.Small.{us-in-small}
 use Rattle.display.proofs.Objects.{object, windowed}
 use Rattle.display.proofs.Masks.{masking}
-use Rattle.display.proofs.Accepted.{Object, Windowed, AllWithin, Sound, Masking}
+use Rattle.display.proofs.Accepted.{Object, Windowed, AllWithin, SoundMask, Masking}
 
 -- ---- Cells that all answer
 
@@ -120,15 +123,14 @@ pub record Drawn (ns : List Node) (f : ℕ) (g : Geometry) : Type 0 where
 
 module _ (ns : List Node) (f : ℕ) (o : Object ns) (low : 1 ≤ f) (high : f ≤ o .n) (w : Windowed ns f (o .g .stored))
     (k : Masking ns f (o .n)) where
-  to-picture : stepsOf ns f ≡ pictureBy (o .g) (o .v) f (w .w) (o .inverse) (k .m)
-  unfolding stepsOf
-  to-picture = rw (o .geometry, o .pixels, o .whole f low high, k .mask, w .window, o .photometric)
-
   pub drawn : Drawn ns f (o .g)
   unfolding pictureBy
-  drawn = go (k .m) (k .sound) to-picture
+  drawn =
+      go (k .m) (k .sound)
+      (to-picture ns f (o .g) (o .v) (w .w) (o .inverse) (o .geometry) (o .pixels) (o .whole f low high) (w .window) (o .photometric) (k .m)
+      (k .mask))
     where
-      go : (m : Mask) → Sound (o .n) m → stepsOf ns f ≡ pictureBy (o .g) (o .v) f (w .w) (o .inverse) m → Drawn ns f (o .g)
+      go : (m : Mask) → SoundMask (o .n) m → stepsOf ns f ≡ pictureBy (o .g) (o .v) f (w .w) (o .inverse) m → Drawn ns f (o .g)
       go noMask s e =
           let c = collect-all (nativeCell (o .g) (o .v) f (w .w) (o .inverse)) (samplesOf (o .g))
           (λ i h. native-cell (o .g) (o .v) f (w .w) (w .drawable) (o .inverse) i) in
@@ -156,7 +158,7 @@ size-given : (r c a b : Num) (g : Geometry)
     → need r (λ r. need c (λ c.
     need a (λ a. need b (λ b. check (leb 8 a && eqb (a % 8) 0) (some (record { rows = r; columns = c; width = a / 8; stored = b }))))))
     ≡ some g
-    → samplesOf g ≡ numberOf r * numberOf c
+    → samplesOf g ≡ numberOr0 r * numberOr0 c
 size-given (Is r) (Is c) (Is a) (Is b) g e = size-checked (leb 8 a && eqb (a % 8) 0)
     (record { rows = r; columns = c; width = a / 8; stored = b }) g e
 size-given (Is r) (Is c) (Is a) None g e = absurd (never e)
@@ -169,11 +171,11 @@ unfolding geometryOf
 geometry-size ns g e = size-given (usIn ns Tags.Rows (root ns)) (usIn ns Tags.Columns (root ns)) (usIn ns Tags.BitsAllocated (root ns))
     (usIn ns Tags.BitsStored (root ns)) g e
 
-pub nothing-lacks : (s : List ℕ) → Bytes s → findingOf (nodesOf s) ≡ Accepted → (f : ℕ) → 1 ≤ f → f ≤ numberOf (framesOf (nodesOf s))
+pub nothing-lacks : (s : List ℕ) → IsBytes s → findingOf (nodesOf s) ≡ Accepted → (f : ℕ) → 1 ≤ f → f ≤ numberOr0 (framesOf (nodesOf s))
     → Whole (nodesOf s) f
 nothing-lacks s b ok f low high =
     let ns = nodesOf s in
     let o = object ns (λ tag k e. us-in-small s b tag k (root ns) e) ok in
-    let h : f ≤ o .n = subst (λ (x : Num). f ≤ numberOf x) (o .frames) high in
+    let h : f ≤ o .n = subst (λ (x : Num). f ≤ numberOr0 x) (o .frames) high in
     let d = drawn ns f o low h (windowed ns ok o f low h) (masking ns ok (o .n) (o .frames) (o .some-frame) (o .few-frames) f low h) in
     record { p = d .p; is = d .is; size = d .size ∙ geometry-size ns (o .g) (o .geometry); levels = d .levels }

@@ -1,6 +1,6 @@
 -- What the proofs of the drawing use; the drawing part of demand 3 stands in Drawing.
-pub mod Given
 pub mod Accepted
+pub mod Rules
 pub mod Objects
 pub mod Masks
 pub mod Lacking

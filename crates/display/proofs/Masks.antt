@@ -21,45 +21,34 @@ use Rattle.shift.specs.declared.Shift.{Shift}
 use Rattle.shift.specs.declared.Shift.the-variants as shift
 use Rattle.shift.specs.declared.Moves.{Moves}
 use Rattle.shift.specs.Shift.{largestMove, isShort, itemShift, frameShift, movesOf, isShiftOf, isFrameShift}
+use Rattle.shift.specs.Contracts.{tooFar}
 use Rattle.shift.proofs.Laws.{moves-both, as-item, shift-length, item-is, frame-is}
-use Rattle.verdict.specs.Verdict.{lastRule, perFrame}
-use Rattle.basics.proofs.Tests.{false-is-true, and-both}
+use Rattle.basics.proofs.Tests.{false-is-true, and-both, both}
 use Rattle.node.specs.Nodes.{Node, nodeAt, nextNode, root, inside}
-use Rattle.node.specs.Find.{holds, ifPresent, andThen, orElse, find, findVr, ofVr, filled}
+use Rattle.node.proofs.Tests.{holds-is, holds-of}
+use Rattle.node.specs.Find.{holds, ifPresent, andThen, find, findVr, ofVr, filled}
 use Rattle.node.proofs.Walks.{members-end}
-use Rattle.element.specs.Tags
+use Rattle.basics.specs.Tags
 use Rattle.element.specs.Elements as elements
 use Rattle.element.specs.Elements.{valueAt, first, insideOf, itemsIn, every}
 use Rattle.element.specs.Frames.{framesOf, frameItems, frameItem, sharedItem, groupOf, maskItems, idIn, operationIs}
-use Rattle.rules.specs.Frame.{hasId, uniqueIds, isShiftItem, isShiftGroup, item37, rule37}
+use Rattle.rules.specs.Frame.{atFrame, hasId, uniqueIds, isShiftItem, isShiftGroup, item37, rule37}
 use Rattle.rules.specs.Mask.{isOperation, isMask, rule31, isRange, rangeFits, rule32, allFrames, areMaskFrames, averageFits, averagesFit}
 use Rattle.rules.specs.Mask.{rule33, isOffset, offsetFits, rule34, isShiftAt, shiftFits, rule35, hasShiftGroup, anyShift, masksHaveIds}
 use Rattle.rules.specs.Mask.{rule36}
-use Rattle.rules.specs.All.{ruleList, ruleAt}
 use Rattle.conformance.specs.declared.Finding.the-variants.{Accepted}
-use Rattle.conformance.specs.Judging.{firstFrame, frameCount, findingOf}
-use Rattle.conformance.proofs.First.{accepted-holds}
+use Rattle.conformance.specs.Judging.{findingOf}
 use Rattle.steps.specs.declared.Applying.{Applying}
 use Rattle.steps.specs.declared.Applying.the-variants.{Item, Nothing}
 use Rattle.steps.specs.Given.{need, check, then}
-use Rattle.steps.specs.Steps.{orShared, groupFor, inPairs, rangeHas, rangeHolds, firstHolding, onMask, applyingTo, averageFrames, offsetAt}
+use Rattle.steps.specs.Steps.{inPairs, rangeHas, rangeHolds, firstHolding, onMask, applyingTo, averageFrames, offsetAt}
 use Rattle.steps.specs.Steps.{offsetOf, less, tidFrame, naming, ownIn, itemShiftAt, shiftFrom, shiftFor, movesFor, Mask, native, masked}
 use Rattle.steps.specs.Steps.{onTid, maskBy, maskOn, maskFor}
-use Rattle.display.proofs.Accepted.{AllWithin, Sound, Masking}
+use Rattle.steps.proofs.Given.{checked}
+use Rattle.display.proofs.Accepted.{AllWithin, SoundMask, Masking}
+use Rattle.display.proofs.Rules.{at-items, group-is, r31, r32, r33, r34, r35, r36, r37}
 
--- ---- What a test that holds says
-
-pub had : (o : Num) (p : ℕ → Bool) → holds o p ≡ true → (n : ℕ) × ((o ≡ Is n) × (p n ≡ true))
-had None p e = absurd (false-is-true e)
-had (Is n) p e = (n, (refl, e))
-
-pub held : (o : Num) (p : ℕ → Bool) (n : ℕ) → o ≡ Is n → holds o p ≡ true → p n ≡ true
-held o p n q e = subst (λ (x : Num). holds x p ≡ true) q e
-
-pub both-true : (a b : Bool) → a ≡ true → b ≡ true → (a && b) ≡ true
-both-true true true p q = refl
-both-true true false p q = q
-both-true false b p q = p
+-- ---- Tests
 
 true-either : (a b : Bool) → a ≡ true → (a || b) ≡ true
 true-either true b e = refl
@@ -72,10 +61,6 @@ true-or false b e = e
 where-true : (t a : Bool) → t ≡ true → cond t a true ≡ true → a ≡ true
 where-true true a p e = e
 where-true false a p e = absurd (false-is-true p)
-
-pub checked : {A : Type 0} (t : Bool) (x : Option A) → t ≡ true → check t x ≡ x
-checked true x e = refl
-checked false x e = absurd (false-is-true e)
 
 -- ---- Members
 
@@ -118,7 +103,7 @@ module _ (ns : List Node) (f n : ℕ) where
   range-has (Is r) e =
       let a = and-both (eqb (nodeAt ns r .vr) US) _ e in
       let b = and-both (leb 4 (length (valueAt ns r)) && eqb (length (valueAt ns r) % 4) 0) _ (a .1) in
-      (inPairs f (usValues (valueAt ns r)), checked _ _ (both-true _ _ (a .0) (b .0)))
+      (inPairs f (usValues (valueAt ns r)), checked _ _ (both (a .0) (b .0)))
 
   range-holds : (j : ℕ) → rangeFits ns n j ≡ true → (h : Bool) × (rangeHolds ns f j ≡ some h)
   unfolding rangeFits rangeHolds
@@ -167,26 +152,28 @@ operations : (ns : List Node) → rule31 ns ≡ true → every (isOperation ns) 
 unfolding rule31 maskItems itemsIn
 operations ns e = operations-in ns (find ns Tags.MaskSubtractionSequence (root ns)) e
 
--- ---- Step 4: two whole numbers of at most 64
+-- ---- Step 4: two moves of at most the largest
 
-abbrev Shifted : Option Shift → Type 0
-Shifted o = (s : Shift) × ((o ≡ some s) × (isShiftOf s ≡ true))
+-- A shift that a step gives, of which `fit` holds.
+abbrev pub GivesShift : (Shift → Bool) → Option Shift → Type 0
+GivesShift fit o = (s : Shift) × ((o ≡ some s) × (fit s ≡ true))
 
 abbrev SoundMoves : Moves → Type 0
 SoundMoves m =
-    (isNumber (m .vertical) ≡ true) × ((isNumber (m .horizontal) ≡ true) × (SizeBelow 257 (m .vertical) × SizeBelow 257 (m .horizontal)))
+    (isNumber (m .vertical) ≡ true)
+    × ((isNumber (m .horizontal) ≡ true) × (SizeBelow tooFar (m .vertical) × SizeBelow tooFar (m .horizontal)))
 
 short-number : (w : Signed) → isShort w ≡ true → isNumber w ≡ true
 short-number (signed.Plus k) e = refl
 short-number (signed.Minus k) e = refl
 short-number signed.None e = e
 
-short-size : (w : Signed) → isShort w ≡ true → SizeBelow 257 w
+short-size : (w : Signed) → isShort w ≡ true → SizeBelow tooFar w
 short-size (signed.Plus k) e = omega (arith, leb-true k largestMove e)
 short-size (signed.Minus k) e = omega (arith, leb-true k largestMove e)
 short-size signed.None e = tt
 
-moves : (ns : List Node) (f j : ℕ) → Shifted (shiftFor ns f j) → (m : Moves) × ((movesFor ns f j ≡ some m) × SoundMoves m)
+moves : (ns : List Node) (f j : ℕ) → GivesShift isShiftOf (shiftFor ns f j) → (m : Moves) × ((movesFor ns f j ≡ some m) × SoundMoves m)
 unfolding movesFor
 moves ns f j (s, (q, e)) =
     let b = moves-both s e in
@@ -194,7 +181,7 @@ moves ns f j (s, (q, e)) =
     let h : isNumber (movesOf s .horizontal) ≡ true = short-number (movesOf s .horizontal) (b .1) in (
       movesOf s,
       (
-        rw q (checked _ _ (both-true _ _ v h)),
+        rw q (checked _ _ (both v h)),
         (v, (h, (short-size (movesOf s .vertical) (b .0), short-size (movesOf s .horizontal) (b .1)))),
       ),
     )
@@ -204,31 +191,31 @@ pub data Named (l : List ℕ) (o : Option Num) : Type 0 where
   named : (k : ℕ) → Among k l → o ≡ some (Is k) → Named l o
 
 module _ (ns : List Node) where
-  item-shift : (o : Num) → ifPresent o (isShiftAt ns) ≡ true → Shifted (itemShiftAt ns o)
+  item-shift : (o : Num) → ifPresent o (isShiftAt ns) ≡ true → GivesShift isShiftOf (itemShiftAt ns o)
   unfolding isShiftAt isShiftOf movesOf
   item-shift None e = (shift.None, (refl, refl))
   item-shift (Is k) e =
       let a = and-both (eqb (nodeAt ns k .vr) FL) _ e in (
         itemShift (valueAt ns k),
-        (checked _ _ (both-true _ _ (a .0) (eq-eqb _ _ (shift-length (valueAt ns k) (a .1)))), item-is (valueAt ns k) (a .1)),
+        (checked _ _ (both (a .0) (eq-eqb _ _ (shift-length (valueAt ns k) (a .1)))), item-is (valueAt ns k) (a .1)),
       )
 
   frame-at : (o : Num) → holds o (λ x. isFrameShift (valueAt ns x)) ≡ true
-      → Shifted (need o (λ x. check (eqb (length (valueAt ns x)) 8) (some (frameShift (valueAt ns x)))))
+      → GivesShift isShiftOf (need o (λ x. check (eqb (length (valueAt ns x)) 8) (some (frameShift (valueAt ns x)))))
   frame-at None e = absurd (false-is-true e)
   frame-at (Is x) e =
       let v = valueAt ns x in
       let a = sym (as-item v) ∙ e in
       (frameShift v, (checked _ _ (eq-eqb _ _ (shift-length v a)), frame-is v a))
 
-  frame-shift : (k : ℕ) → isShiftItem ns k ≡ true → (j : ℕ) → Shifted (shiftFrom ns j (Is k))
+  frame-shift : (k : ℕ) → isShiftItem ns k ≡ true → (j : ℕ) → GivesShift isShiftOf (shiftFrom ns j (Is k))
   unfolding isShiftItem
   frame-shift k e j = frame-at (findVr ns Tags.MaskSubPixelShift FL (inside ns k)) (and-both (hasId ns k) _ e .1)
 
-  pub id-had : (j : ℕ) → hasId ns j ≡ true → (x : ℕ) × (idIn ns j ≡ Is x)
+  pub id-is : (j : ℕ) → hasId ns j ≡ true → (x : ℕ) × (idIn ns j ≡ Is x)
   unfolding hasId
-  id-had j e =
-      let x = had (idIn ns j) _ e in
+  id-is j e =
+      let x = holds-is (idIn ns j) _ e in
       (x .0, x .1 .0)
 
   name-next : (id k : ℕ) (l : List ℕ) (x : ℕ) → idIn ns k ≡ Is x → Named l (naming ns id l) → (t : Bool) → eqb x id ≡ t
@@ -244,27 +231,8 @@ module _ (ns : List Node) where
   names id (k ∷ l) e =
       let a = and-both (isShiftItem ns k) _ e in
       let b = and-both (hasId ns k) _ (a .0) in
-      let x = id-had k (b .0) in
+      let x = id-is k (b .0) in
       name-next id k l (x .0) (x .1) (names id l (a .1)) (eqb (x .0) id) refl
-
-  by-name : (j : ℕ) (l : List ℕ) (o : Option Num) → every (isShiftItem ns) l ≡ true → shiftFits ns j ≡ true → Named l o
-      → Shifted (then o (shiftFrom ns j))
-  unfolding shiftFits
-  by-name j l o e w (unnamed q) = rw q (item-shift (find ns Tags.MaskSubPixelShift (inside ns j)) w)
-  by-name j l o e w (named k m q) = rw q (frame-shift k (every-at (isShiftItem ns) m e) j)
-
-  own-shift : (j : ℕ) (o : Num) → shiftFits ns j ≡ true → ifPresent o (isShiftGroup ns) ≡ true → ((g : ℕ) → o ≡ Is g → hasId ns j ≡ true)
-      → Shifted (then (ownIn ns j o) (shiftFrom ns j))
-  unfolding shiftFits isShiftGroup
-  own-shift j None w e i = item-shift (find ns Tags.MaskSubPixelShift (inside ns j)) w
-  own-shift j (Is g) w e i =
-      let a = and-both (eqb (nodeAt ns g .vr) SQ) _ e in
-      let b = and-both (leb 1 (length (inside ns g))) _ (a .1) in
-      let c = and-both (every (isShiftItem ns) (inside ns g)) _ (b .1) in
-      let x = id-had j (i g refl) in
-      let y : need (idIn ns j) (λ id. naming ns id (inside ns g)) ≡ naming ns (x .0) (inside ns g) = rw (x .1) in
-      let q : ownIn ns j (Is g) ≡ naming ns (x .0) (inside ns g) = checked _ _ (both-true _ _ (a .0) (b .0)) ∙ y in
-      by-name j (inside ns g) (ownIn ns j (Is g)) (c .0) w (rw q (names (x .0) (inside ns g) (c .0)))
 
   -- A group that is there and fits is filled, so that rule 36 asks every mask item for its ID.
   group-filled : (g : ℕ) → isShiftGroup ns g ≡ true → (eqb (nodeAt ns g .vr) SQ ≡ true) × (filled ns g ≡ true)
@@ -303,37 +271,71 @@ module _ (ns : List Node) where
   shift-ids r f s i g p q h e =
       let t : anyShift ns s
       ≡ true = some-at (hasShiftGroup ns s) (first-among (f - 1) i (frameItems ns) (item-first f i q)) (has-group s i g h e) in
-      let u : cond (anyShift ns s) (masksHaveIds ns) true ≡ true = held (sharedItem ns) _ s p r in
+      let u : cond (anyShift ns s) (masksHaveIds ns) true ≡ true = holds-of (sharedItem ns) _ s p r in
       and-both (every (hasId ns) (maskItems ns)) _ (where-true _ _ t u) .0
 
-  pub group-for : (f tag s i : ℕ) → sharedItem ns ≡ Is s → frameItem ns f ≡ Is i → groupFor ns f tag ≡ some (groupOf ns tag s i)
-  unfolding groupFor
-  group-for f tag s i p q = rw q (go (find ns tag (inside ns i)))
-    where
-      go : (o : Num) → orShared ns tag o ≡ some (orElse o (find ns tag (inside ns s)))
-      go None = rw p
-      go (Is g) = refl
+  group-items : (g : ℕ) → isShiftGroup ns g ≡ true → every (isShiftItem ns) (inside ns g) ≡ true
+  unfolding isShiftGroup
+  group-items g e =
+      let a = and-both (eqb (nodeAt ns g .vr) SQ) _ e in
+      let b = and-both (leb 1 (length (inside ns g))) _ (a .1) in
+      and-both (every (isShiftItem ns) (inside ns g)) _ (b .1) .0
 
-  shift-for : (f j : ℕ) → rule36 ns ≡ true → rule37 ns f ≡ true → Among j (maskItems ns) → shiftFits ns j ≡ true → Shifted (shiftFor ns f j)
-  unfolding shiftFor rule37 item37
-  shift-for f j r e m w =
-      let s = had (sharedItem ns) _ e in
-      let i = had (frameItem ns f) _ (s .1 .1) in
-      let fits : ifPresent (groupOf ns Tags.FramePixelShiftSequence (s .0) (i .0)) (isShiftGroup ns) ≡ true = i .1 .1 in
-      rw (group-for f Tags.FramePixelShiftSequence (s .0) (i .0) (s .1 .0) (i .1 .0))
-      (own-shift j (groupOf ns Tags.FramePixelShiftSequence (s .0) (i .0)) w fits (λ g q.
-      every-at (hasId ns) m
-      (shift-ids r f (s .0) (i .0) g (s .1 .0) (i .1 .0) q (subst (λ (x : Num). ifPresent x (isShiftGroup ns) ≡ true) q fits))))
+-- The shift that step 4 takes, whatever is asked of shifts: the mask item's own, or that of the item in the frame's group that names it.
+module _ (ns : List Node) (fit : Shift → Bool) (j : ℕ)
+    (own : GivesShift fit (itemShiftAt ns (find ns Tags.MaskSubPixelShift (inside ns j)))) where
+  by-name : (l : List ℕ) (o : Option Num) → ((k : ℕ) → Among k l → GivesShift fit (shiftFrom ns j (Is k))) → Named l o
+      → GivesShift fit (then o (shiftFrom ns j))
+  by-name l o each (unnamed q) = rw q own
+  by-name l o each (named k m q) = rw q (each k m)
+
+  in-group : (g : ℕ) → isShiftGroup ns g ≡ true → hasId ns j ≡ true
+      → ((k : ℕ) → Among k (inside ns g) → GivesShift fit (shiftFrom ns j (Is k)))
+      → GivesShift fit (then (ownIn ns j (Is g)) (shiftFrom ns j))
+  unfolding isShiftGroup
+  in-group g e i each =
+      let a = and-both (eqb (nodeAt ns g .vr) SQ) _ e in
+      let b = and-both (leb 1 (length (inside ns g))) _ (a .1) in
+      let c = and-both (every (isShiftItem ns) (inside ns g)) _ (b .1) in
+      let x = id-is ns j i in
+      let y : need (idIn ns j) (λ id. naming ns id (inside ns g)) ≡ naming ns (x .0) (inside ns g) = rw (x .1) in
+      let q : ownIn ns j (Is g) ≡ naming ns (x .0) (inside ns g) = checked _ _ (both (a .0) (b .0)) ∙ y in
+      by-name (inside ns g) (ownIn ns j (Is g)) each (rw q (names ns (x .0) (inside ns g) (c .0)))
+
+  -- What is asked of the group is no less than rule 37 asks.
+  module _ (asked : ℕ → Bool) (ruled : (g : ℕ) → asked g ≡ true → isShiftGroup ns g ≡ true)
+      (each : (g k : ℕ) → asked g ≡ true → Among k (inside ns g) → GivesShift fit (shiftFrom ns j (Is k))) where
+    own-or-named : (o : Num) → ifPresent o asked ≡ true → ((g : ℕ) → o ≡ Is g → isShiftGroup ns g ≡ true → hasId ns j ≡ true)
+        → GivesShift fit (then (ownIn ns j o) (shiftFrom ns j))
+    own-or-named None e ids = own
+    own-or-named (Is g) e ids = in-group g (ruled g e) (ids g refl (ruled g e)) (λ k m. each g k e m)
+
+    pub shift-by : (f : ℕ) → rule36 ns ≡ true
+        → atFrame ns f (λ s i. ifPresent (groupOf ns Tags.FramePixelShiftSequence s i) asked) ≡ true
+        → Among j (maskItems ns) → GivesShift fit (shiftFor ns f j)
+    unfolding shiftFor
+    shift-by f r e m =
+        let at = at-items ns f (λ s i. ifPresent (groupOf ns Tags.FramePixelShiftSequence s i) asked) e in
+        rw (group-is ns f Tags.FramePixelShiftSequence (at .s) (at .i) (at .shared) (at .item))
+        (own-or-named (groupOf ns Tags.FramePixelShiftSequence (at .s) (at .i)) (at .holds)
+        (λ g q h. every-at (hasId ns) m (shift-ids ns r f (at .s) (at .i) g (at .shared) (at .item) q h)))
+
+shift-for : (ns : List Node) (f j : ℕ) → rule36 ns ≡ true → rule37 ns f ≡ true → Among j (maskItems ns) → shiftFits ns j ≡ true
+    → GivesShift isShiftOf (shiftFor ns f j)
+unfolding rule37 item37 shiftFits
+shift-for ns f j r e m w =
+    shift-by ns isShiftOf j (item-shift ns (find ns Tags.MaskSubPixelShift (inside ns j)) w) (isShiftGroup ns) (λ g h. h)
+    (λ g k h a. frame-shift ns k (every-at (isShiftItem ns) a (group-items ns g h)) j) f r e m
 
 -- ---- Step 3: the mask frames
 
-within : (n : ℕ) (l : List ℕ) → allFrames n l ≡ true → AllWithin n l
+all-within : (n : ℕ) (l : List ℕ) → allFrames n l ≡ true → AllWithin n l
 unfolding allFrames
-within n [] e = tt
-within n (k ∷ l) e =
+all-within n [] e = tt
+all-within n (k ∷ l) e =
     let a = and-both (leb 1 k && leb k n) _ e in
     let b = and-both (leb 1 k) (leb k n) (a .0) in
-    ((leb-true 1 k (b .0), leb-true k n (b .1)), within n l (a .1))
+    ((leb-true 1 k (b .0), leb-true k n (b .1)), all-within n l (a .1))
 
 module _ (ns : List Node) (n j : ℕ) where
   average-at : (o : Num) → holds o (λ k. areMaskFrames n (valueAt ns k)) ≡ true
@@ -347,7 +349,7 @@ module _ (ns : List Node) (n j : ℕ) where
       let b = and-both (leb 1 (length (usValues (valueAt ns k))) && leb (length (usValues (valueAt ns k))) 64) _ (a .1) in
       let c = and-both (leb 1 (length (usValues (valueAt ns k)))) _ (b .0) in (
         usValues (valueAt ns k),
-        (checked _ _ (both-true _ _ (a .0) (c .0)), (leb-true _ _ (c .0), (leb-true _ _ (c .1), within n _ (b .1)))),
+        (checked _ _ (both (a .0) (c .0)), (leb-true _ _ (c .0), (leb-true _ _ (c .1), all-within n _ (b .1)))),
       )
 
   averages : operationIs ns (ascii "AVG_SUB") j ≡ true → averagesFit ns n j ≡ true
@@ -370,7 +372,7 @@ module _ (ns : List Node) (n j : ℕ) where
 -- ---- Steps 2 to 4 together
 
 abbrev Masks : ℕ → Option Mask → Type 0
-Masks n o = (m : Mask) × ((o ≡ some m) × Sound n m)
+Masks n o = (m : Mask) × ((o ≡ some m) × SoundMask n m)
 
 module _ (ns : List Node) (f n j : ℕ) (m : Moves) (moved : movesFor ns f j ≡ some m) (sound : SoundMoves m) where
   by-average : (o : Option (List ℕ)) (ks : List ℕ) → o ≡ some ks → 1 ≤ length ks → length ks ≤ 64 → AllWithin n ks
@@ -406,60 +408,28 @@ module _ (ns : List Node) (f n j : ℕ) (m : Moves) (moved : movesFor ns f j ≡
       go false p false q false r = absurd (false-is-true (rw (p, q, r) at op))
 
 module _ (ns : List Node) (ok : findingOf ns ≡ Accepted) where
-  once : (rule : ℕ) → 1 ≤ rule → rule ≤ lastRule → perFrame rule ≡ false → ruleAt ns rule 0 ≡ true
-  unfolding firstFrame frameCount
-  once rule a b e = accepted-holds ns ok rule a (omega arith) 0 (rw e (omega arith)) (rw e (omega arith))
-
-  pub r31 : rule31 ns ≡ true
-  unfolding ruleAt ruleList perFrame
-  r31 = once 31 (omega arith) (omega arith) refl
-
-  r32 : rule32 ns ≡ true
-  unfolding ruleAt ruleList perFrame
-  r32 = once 32 (omega arith) (omega arith) refl
-
-  r33 : rule33 ns ≡ true
-  unfolding ruleAt ruleList perFrame
-  r33 = once 33 (omega arith) (omega arith) refl
-
-  r34 : rule34 ns ≡ true
-  unfolding ruleAt ruleList perFrame
-  r34 = once 34 (omega arith) (omega arith) refl
-
-  r35 : rule35 ns ≡ true
-  unfolding ruleAt ruleList perFrame
-  r35 = once 35 (omega arith) (omega arith) refl
-
-  pub r36 : rule36 ns ≡ true
-  unfolding ruleAt ruleList perFrame
-  r36 = once 36 (omega arith) (omega arith) refl
-
   module _ (n : ℕ) (count : framesOf ns ≡ Is n) where
-    r37 : (f : ℕ) → 1 ≤ f → f ≤ n → rule37 ns f ≡ true
-    unfolding ruleAt ruleList perFrame firstFrame frameCount
-    r37 f a b = accepted-holds ns ok 37 (omega arith) (omega arith) f a (rw count (omega arith))
-
     pub ranges : every (rangeFits ns n) (maskItems ns) ≡ true
     unfolding rule32
-    ranges = held (framesOf ns) _ n count r32
+    ranges = holds-of (framesOf ns) _ n count (r32 ns ok)
 
     averages-fit : every (averagesFit ns n) (maskItems ns) ≡ true
     unfolding rule33
-    averages-fit = held (framesOf ns) _ n count r33
+    averages-fit = holds-of (framesOf ns) _ n count (r33 ns ok)
 
     offsets-fit : every (offsetFits ns) (maskItems ns) ≡ true
     unfolding rule34
-    offsets-fit = r34
+    offsets-fit = r34 ns ok
 
     shifts-fit : every (shiftFits ns) (maskItems ns) ≡ true
     unfolding rule35
-    shifts-fit = r35
+    shifts-fit = r35 ns ok
 
     module _ (f : ℕ) (low : 1 ≤ f) (high : f ≤ n) where
       by-item : (j : ℕ) → Among j (maskItems ns) → Masks n (maskBy ns f j)
       by-item j a =
-          let m = moves ns f j (shift-for ns f j r36 (r37 f low high) a (every-at (shiftFits ns) a shifts-fit)) in
-          mask-by ns f n j (m .0) (m .1 .0) (m .1 .1) count (every-at (isOperation ns) a (operations ns r31))
+          let m = moves ns f j (shift-for ns f j (r36 ns ok) (r37 ns ok n f count low high) a (every-at (shiftFits ns) a shifts-fit)) in
+          mask-by ns f n j (m .0) (m .1 .0) (m .1 .1) count (every-at (isOperation ns) a (operations ns (r31 ns ok)))
           (every-at (averagesFit ns n) a averages-fit) (every-at (offsetFits ns) a offsets-fit)
 
       mask-on : (o : Option Applying) → Applies (maskItems ns) o → Masks n (then o (maskOn ns f))
@@ -468,7 +438,7 @@ module _ (ns : List Node) (ok : findingOf ns ≡ Accepted) where
 
       mask-for : Masks n (maskFor ns f)
       unfolding maskFor
-      mask-for = mask-on (applyingTo ns f) (applies ns f n r31 ranges)
+      mask-for = mask-on (applyingTo ns f) (applies ns f n (r31 ns ok) ranges)
 
 -- What demand 3 asks of steps 2 to 4.
 pub masking : (ns : List Node) → findingOf ns ≡ Accepted → (n : ℕ) → framesOf ns ≡ Is n → 1 ≤ n → n ≤ 65535 → (f : ℕ) → 1 ≤ f → f ≤ n

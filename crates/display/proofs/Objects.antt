@@ -11,153 +11,38 @@ use native.Mathlib.Omega.{arith}
 use lib.Dec.{eqb, leb}
 use lib.ListN.{length, getD}
 use borrow.Author.Tests.{le-leb, leb-true, eqb-true}
+use Rattle.basics.specs.Bytes.{sameBytes}
 use Rattle.value.specs.declared.Num.{Num}
 use Rattle.value.specs.declared.Num.the-variants.{Is, None}
 use Rattle.value.specs.declared.Signed.{Signed}
 use Rattle.value.specs.declared.Signed.the-variants as signed
-use Rattle.value.specs.Text.{ascii, equal, valuesOf, valueOf, isSingle, trimStart, trimEnd}
+use Rattle.value.specs.Text.{ascii, valuesOf, valueOf, isSingle, trimStart, trimEnd}
 use Rattle.value.specs.Words.{isWord, wordAt, isFunction}
 use Rattle.value.specs.Number.{unit, all, allDecimals, allWidths, decimalOf, isNumber, leastWidth, isWidth}
 use Rattle.value.proofs.Laws.{decimalOf-below}
 use Rattle.value.proofs.Parts.{values-some}
-use Rattle.verdict.specs.Verdict.{lastRule, perFrame}
 use Rattle.basics.proofs.Tests.{false-is-true, and-both, or-either}
 use Rattle.node.specs.Nodes.{Node, nodeAt, root, inside}
-use Rattle.node.specs.Find.{holds, ifPresent, orElse, find, findVr}
-use Rattle.element.specs.Tags
+use Rattle.node.specs.Find.{holds, ifPresent, find, findVr}
+use Rattle.node.proofs.Tests.{same-is, holds-is}
+use Rattle.basics.specs.Tags
 use Rattle.basics.specs.Vr.{CS, DS, OB, OW}
 use Rattle.element.specs.Elements.{valueAt, usIn, theItem, functionIn}
-use Rattle.element.specs.Frames.{framesOf, sharedItem, frameItem, groupOf}
+use Rattle.element.specs.Frames.{framesOf, groupOf}
 use Rattle.rules.specs.Root.{photometricIs, bitsFit, rule10, rule11, rule12, rule15}
-use Rattle.rules.specs.Frame.{atFrame, item27, item30, isVoi, hasWindow, isWindow, rule27, rule30, rule37}
-use Rattle.rules.specs.Mask.{rule31, rule32, rule33, rule34, rule35, rule36}
+use Rattle.rules.specs.Frame.{item30, isVoi, hasWindow, isWindow, rule30}
 use Rattle.rules.specs.Pixels.{padded, isPixelVr, isPixelData, rule38}
-use Rattle.rules.specs.Intensity.{rule39}
-use Rattle.rules.specs.All.{ruleList, ruleAt}
 use Rattle.conformance.specs.declared.Finding.the-variants.{Accepted}
-use Rattle.conformance.specs.Judging.{firstFrame, frameCount, findingOf}
-use Rattle.conformance.proofs.First.{accepted-holds}
+use Rattle.conformance.specs.Judging.{findingOf}
 use Rattle.pixel.specs.declared.Geometry.{Geometry}
 use Rattle.pixel.specs.Pixel.{isFrame}
 use Rattle.window.specs.declared.Window.{Window}
 use Rattle.window.specs.Window.{fullWindow}
 use Rattle.window.specs.Contracts.{Drawable}
 use Rattle.window.proofs.Laws.{power-small}
-use Rattle.steps.specs.Steps.{geometryOf, pixelsOf, orShared, groupFor, windowIn, windowOn, windowFor, inverseOf}
+use Rattle.steps.specs.Steps.{geometryOf, pixelsOf, groupFor, windowIn, windowOn, windowFor, inverseOf}
 use Rattle.display.proofs.Accepted.{SmallRoot, Object, Windowed}
-
--- ---- Reads
-
--- What a test that holds found.
-pub had : (o : Num) (p : ℕ → Bool) → holds o p ≡ true → (n : ℕ) × ((o ≡ Is n) × (p n ≡ true))
-had None p e = absurd (false-is-true e)
-had (Is n) p e = (n, (refl, e))
-
--- A read has one answer.
-pub same-is : {o : Num} {a b : ℕ} → o ≡ Is a → o ≡ Is b → a ≡ b
-same-is p q = cc
-
--- What is asked of the shared item and of a frame's item: both are there.
-pub record AtItems (ns : List Node) (f : ℕ) (asked : ℕ → ℕ → Bool) : Type 0 where
-  pub s : ℕ
-  pub i : ℕ
-  pub shared : sharedItem ns ≡ Is s
-  pub item : frameItem ns f ≡ Is i
-  pub holds : asked s i ≡ true
-
-pub at-items : (ns : List Node) (f : ℕ) (asked : ℕ → ℕ → Bool) → atFrame ns f asked ≡ true → AtItems ns f asked
-at-items ns f asked e =
-    let a = had (sharedItem ns) (λ s. holds (frameItem ns f) (λ i. asked s i)) e in
-    let b = had (frameItem ns f) (λ i. asked (a .0) i) (a .1 .1) in
-    record { s = a .0; i = b .0; shared = a .1 .0; item = b .1 .0; holds = b .1 .1 }
-
--- A frame's group, where both items are there.
-pub group-is : (ns : List Node) (f tag s i : ℕ) → sharedItem ns ≡ Is s → frameItem ns f ≡ Is i
-    → groupFor ns f tag ≡ some (groupOf ns tag s i)
-unfolding groupFor
-group-is ns f tag s i a b = rw b (go (find ns tag (inside ns i)))
-  where
-    go : (o : Num) → orShared ns tag o ≡ some (orElse o (find ns tag (inside ns s)))
-    go None = rw a
-    go (Is g) = refl
-
--- ---- The rules of an accepted object
-
-module _ (ns : List Node) (ok : findingOf ns ≡ Accepted) where
-  pub at-once : (rule : ℕ) → 1 ≤ rule → rule ≤ lastRule → perFrame rule ≡ false → ruleAt ns rule 0 ≡ true
-  unfolding firstFrame frameCount
-  at-once rule a b e = accepted-holds ns ok rule a (omega arith) 0 (rw e (omega arith)) (rw e (omega arith))
-
-  pub at-frame : (rule n f : ℕ) → 1 ≤ rule → rule ≤ lastRule → perFrame rule ≡ true → framesOf ns ≡ Is n → 1 ≤ f → f ≤ n
-      → ruleAt ns rule f ≡ true
-  unfolding firstFrame frameCount
-  at-frame rule n f a b e c l h = accepted-holds ns ok rule a (omega arith) f (rw e (omega arith)) (rw (e, c) (omega arith))
-
-  pub r10 : rule10 ns ≡ true
-  unfolding ruleAt ruleList perFrame
-  r10 = at-once 10 (omega arith) (omega arith) refl
-
-  pub r11 : rule11 ns ≡ true
-  unfolding ruleAt ruleList perFrame
-  r11 = at-once 11 (omega arith) (omega arith) refl
-
-  pub r12 : rule12 ns ≡ true
-  unfolding ruleAt ruleList perFrame
-  r12 = at-once 12 (omega arith) (omega arith) refl
-
-  pub r15 : rule15 ns ≡ true
-  unfolding ruleAt ruleList perFrame
-  r15 = at-once 15 (omega arith) (omega arith) refl
-
-  pub r31 : rule31 ns ≡ true
-  unfolding ruleAt ruleList perFrame
-  r31 = at-once 31 (omega arith) (omega arith) refl
-
-  pub r32 : rule32 ns ≡ true
-  unfolding ruleAt ruleList perFrame
-  r32 = at-once 32 (omega arith) (omega arith) refl
-
-  pub r33 : rule33 ns ≡ true
-  unfolding ruleAt ruleList perFrame
-  r33 = at-once 33 (omega arith) (omega arith) refl
-
-  pub r34 : rule34 ns ≡ true
-  unfolding ruleAt ruleList perFrame
-  r34 = at-once 34 (omega arith) (omega arith) refl
-
-  pub r35 : rule35 ns ≡ true
-  unfolding ruleAt ruleList perFrame
-  r35 = at-once 35 (omega arith) (omega arith) refl
-
-  pub r36 : rule36 ns ≡ true
-  unfolding ruleAt ruleList perFrame
-  r36 = at-once 36 (omega arith) (omega arith) refl
-
-  pub r38 : rule38 ns ≡ true
-  unfolding ruleAt ruleList perFrame
-  r38 = at-once 38 (omega arith) (omega arith) refl
-
-  module _ (n f : ℕ) (count : framesOf ns ≡ Is n) (low : 1 ≤ f) (high : f ≤ n) where
-    pub r27 : rule27 ns f ≡ true
-    unfolding ruleAt ruleList perFrame
-    r27 = at-frame 27 n f (omega arith) (omega arith) refl count low high
-
-    pub r30 : rule30 ns f ≡ true
-    unfolding ruleAt ruleList perFrame
-    r30 = at-frame 30 n f (omega arith) (omega arith) refl count low high
-
-    pub r37 : rule37 ns f ≡ true
-    unfolding ruleAt ruleList perFrame
-    r37 = at-frame 37 n f (omega arith) (omega arith) refl count low high
-
-    pub r39 : rule39 ns f ≡ true
-    unfolding ruleAt ruleList perFrame
-    r39 = at-frame 39 n f (omega arith) (omega arith) refl count low high
-
-    -- The item of the frame.
-    pub item-of : (i : ℕ) × (frameItem ns f ≡ Is i)
-    unfolding rule27
-    item-of = let a = at-items ns f (item27 ns) r27 in (a .i, a .item)
+use Rattle.display.proofs.Rules.{at-items, group-is, r10, r11, r12, r15, r30, r38}
 
 -- ---- Rules 10 to 12, 15 and 38: the object
 
@@ -212,7 +97,7 @@ single v word e = and-both (isSingle v) (wordAt v 0 word) e .0
 
 -- And it has a letter.
 no-letter : (c : ℕ) (word : List ℕ) → isWord [] (c ∷ word) ≡ false
-unfolding isWord wordAt valuesOf trimEnd trimStart equal
+unfolding isWord wordAt valuesOf trimEnd trimStart sameBytes
 no-letter c word = refl
 
 lettered : (v word : List ℕ) → isWord [] word ≡ false → isWord v word ≡ true → leb 1 (length v) ≡ true
@@ -232,7 +117,7 @@ photometric-of ns e = go (or-either (photometricIs ns (ascii "MONOCHROME1")) (ph
         → holds (findVr ns Tags.PhotometricInterpretation CS (root ns)) (λ i. isWord (valueAt ns i) w) ≡ true
         → (t : Bool) × (inverseOf ns ≡ some t)
     word w n h =
-        let a = had (findVr ns Tags.PhotometricInterpretation CS (root ns)) (λ i. isWord (valueAt ns i) w) h in (
+        let a = holds-is (findVr ns Tags.PhotometricInterpretation CS (root ns)) (λ i. isWord (valueAt ns i) w) h in (
           isWord (valueAt ns (a .0)) (ascii "MONOCHROME1"),
           inverse-is ns (a .0) (a .1 .0) (lettered (valueAt ns (a .0)) w n (a .1 .1)) (single (valueAt ns (a .0)) w (a .1 .1)),
         )
@@ -268,24 +153,24 @@ module _ (ns : List Node) where
   facts : rule11 ns ≡ true → rule12 ns ≡ true → rule15 ns ≡ true → rule38 ns ≡ true → Facts ns
   unfolding rule11 rule12 rule15 rule38 isPixelData
   facts e11 e12 e15 e38 =
-      let n₀ = had (framesOf ns) _ e38 in
-      let r₀ = had (usIn ns Tags.Rows (root ns)) _ (n₀ .1 .1) in
-      let c₀ = had (usIn ns Tags.Columns (root ns)) _ (r₀ .1 .1) in
-      let a₀ = had (usIn ns Tags.BitsAllocated (root ns)) _ (c₀ .1 .1) in
-      let p₀ = had (find ns Tags.PixelData (root ns)) _ (a₀ .1 .1) in
+      let n₀ = holds-is (framesOf ns) _ e38 in
+      let r₀ = holds-is (usIn ns Tags.Rows (root ns)) _ (n₀ .1 .1) in
+      let c₀ = holds-is (usIn ns Tags.Columns (root ns)) _ (r₀ .1 .1) in
+      let a₀ = holds-is (usIn ns Tags.BitsAllocated (root ns)) _ (c₀ .1 .1) in
+      let p₀ = holds-is (find ns Tags.PixelData (root ns)) _ (a₀ .1 .1) in
       let x₀ = and-both (isPixelVr (nodeAt ns (p₀ .0) .vr) (a₀ .0)) _ (p₀ .1 .1) in
-      let n₁ = had (framesOf ns) _ e15 in
+      let n₁ = holds-is (framesOf ns) _ e15 in
       let f₁ = and-both (leb 1 (n₁ .0)) (leb (n₁ .0) 65535) (n₁ .1 .1) in
       let n-is : n₁ .0 ≡ n₀ .0 = same-is (n₁ .1 .0) (n₀ .1 .0) in
       let low : 1 ≤ n₁ .0 = leb-true _ _ (f₁ .0) in
       let high : n₁ .0 ≤ 65535 = leb-true _ _ (f₁ .1) in
       let g₁ = and-both (holds (usIn ns Tags.Rows (root ns)) (λ r. leb 1 r)) _ e11 in
-      let r₁ = had (usIn ns Tags.Rows (root ns)) _ (g₁ .0) in
-      let c₁ = had (usIn ns Tags.Columns (root ns)) _ (g₁ .1) in
+      let r₁ = holds-is (usIn ns Tags.Rows (root ns)) _ (g₁ .0) in
+      let c₁ = holds-is (usIn ns Tags.Columns (root ns)) _ (g₁ .1) in
       let r-is : r₁ .0 ≡ r₀ .0 = same-is (r₁ .1 .0) (r₀ .1 .0) in
       let c-is : c₁ .0 ≡ c₀ .0 = same-is (c₁ .1 .0) (c₀ .1 .0) in
-      let a₁ = had (usIn ns Tags.BitsAllocated (root ns)) _ e12 in
-      let b₁ = had (usIn ns Tags.BitsStored (root ns)) _ (a₁ .1 .1) in
+      let a₁ = holds-is (usIn ns Tags.BitsAllocated (root ns)) _ e12 in
+      let b₁ = holds-is (usIn ns Tags.BitsStored (root ns)) _ (a₁ .1 .1) in
       let a-is : a₁ .0 ≡ a₀ .0 = same-is (a₁ .1 .0) (a₀ .1 .0) in
       record {
         n = n₀ .0;
@@ -391,8 +276,8 @@ module _ (ns : List Node) (is : List ℕ) where
   window-in : hasWindow ns is ≡ true → (w : Window) × ((windowIn ns is ≡ some w) × Drawable w)
   unfolding hasWindow isWindow allDecimals allWidths
   window-in e =
-      let c = had (findVr ns Tags.WindowCenter DS is) _ e in
-      let w = had (findVr ns Tags.WindowWidth DS is) _ (c .1 .1) in
+      let c = holds-is (findVr ns Tags.WindowCenter DS is) _ e in
+      let w = holds-is (findVr ns Tags.WindowWidth DS is) _ (c .1 .1) in
       let f = and-both (isFunction (functionIn ns is)) _ (w .1 .1) in
       let t = and-both (eqb (length (valuesOf (valueAt ns (c .0)))) (length (valuesOf (valueAt ns (w .0))))) _ (f .1) in
       let u = and-both (allDecimals (valueAt ns (c .0))) (allWidths (leastWidth (functionIn ns is)) (valueAt ns (w .0))) (t .1) in
@@ -431,7 +316,7 @@ window-on : (ns : List Node) (stored : ℕ) → stored ≤ 16 → (o : Num) → 
 unfolding isVoi
 window-on ns stored h None e = (fullWindow stored, (refl, full-drawable stored h))
 window-on ns stored h (Is g) e =
-    let j = had (theItem ns g) (λ i. hasWindow ns (inside ns i)) e in
+    let j = holds-is (theItem ns g) (λ i. hasWindow ns (inside ns i)) e in
     let w = window-in ns (inside ns (j .0)) (j .1 .1) in
     (w .0, (item-window ns stored g (j .0) (w .0) (j .1 .0) (w .1 .0), w .1 .1))
 

@@ -11,12 +11,11 @@ use Rattle.pixel.specs.declared.Geometry.{Geometry}
 use Rattle.pixel.specs.Pixel.{isFrame}
 use Rattle.pixel.specs.Contracts.{Masks}
 
-low-high : (t : ℕ) → t < 65536 → t % 256 + 256 * (t / 256 % 256) ≡ t
-low-high t h = omega arith
-
 pub pair-values : (t : ℕ) → t < 65536 → usValues (t % 256 ∷ t / 256 % 256 ∷ []) ≡ t ∷ []
 unfolding usValues
-pair-values t h = ap (λ (k : ℕ). k ∷ []) (low-high t h)
+pair-values t h =
+    let e : t % 256 + 256 * (t / 256 % 256) ≡ t = omega arith in
+    ap (λ (k : ℕ). k ∷ []) e
 
 pub pair-masks : (v : List ℕ) (g : Geometry) (t : ℕ) → t < 65536 → isFrame g v t ≡ true → Masks v g (t % 256 ∷ t / 256 % 256 ∷ [])
 pair-masks v g t h f =

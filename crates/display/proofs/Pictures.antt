@@ -9,7 +9,6 @@ use native.Mathlib.Omega.{arith}
 use lib.ListN.{length, length-append, drop, getD, set}
 use lib.Seq.{drop-cons, set-at}
 use lib.IntN.{ℤ, pos, negsuc, _+ℤ_, _-ℤ_}
-use native.Mathlib.Nat.{pow-suc}
 use lib.Pow.{pow-pos}
 use borrow.Author.Tests.{le-leb}
 use Rattle.value.specs.declared.Num.{Num}
@@ -23,7 +22,7 @@ use Rattle.pixel.proofs.Blend.{are-inside, blended-most}
 use Rattle.window.specs.declared.Window.{Window}
 use Rattle.window.specs.Window.{levelOf, shaded}
 use Rattle.window.specs.Contracts.{Drawable, shadeAt, Filled}
-use Rattle.window.proofs.Laws.{leveled, shaded-is, shade-is}
+use Rattle.window.proofs.Laws.{power-twice, leveled, shaded-is, shade-is}
 use Rattle.window.proofs.Gaps.{Gap, shift, whole, plus, gap}
 use Rattle.steps.specs.Given.{collect}
 use Rattle.steps.specs.Steps.{nativeCell, maskedCell}
@@ -62,11 +61,6 @@ same (pos m) (negsuc n) a b p q = absurd (omega (arith, p .is, q .is))
 same (negsuc m) (pos n) a b p q = absurd (omega (arith, p .is, q .is))
 same (negsuc m) (negsuc n) a b p q = ap negsuc (omega (arith, p .is, q .is))
 
-twice : (s : ℕ) → 2 ^ (s + 1) ≡ 2 ^ s + 2 ^ s
-twice s =
-    let e : s + 1 ≡ suc s = omega arith in
-    rw (e, pow-suc 2 s) (omega arith)
-
 -- The shade at a place whose x is the cell's.
 shade-cell : (w : Window) → Drawable w → (stored : ℕ) (inverse : Bool) (i : ℕ) (x : ℤ)
     → pos (i + 2 ^ (stored - 1)) -ℤ pos (2 ^ stored - 1) ≡ x
@@ -86,7 +80,7 @@ module _ (g : Geometry) (v : List ℕ) (f : ℕ) (low : 1 ≤ g .stored) (w : Wi
       let q : ℕ = 2 ^ g .stored - 1 in
       let h : p ≤ q = half-low (g .stored) low in
       let m : s ≤ q = sample-most g v f i in
-      let k : s + (q - p) < 2 ^ (g .stored + 1) - 1 = omega (arith, twice (g .stored), pow-pos (g .stored)) in
+      let k : s + (q - p) < 2 ^ (g .stored + 1) - 1 = omega (arith, power-twice (g .stored), pow-pos (g .stored)) in
       let x : pos (s + (q - p) + p) -ℤ pos q ≡ pos s = same (pos (s + (q - p) + p) -ℤ pos q) (pos s) (s + (q - p) + p) q
       (gap (s + (q - p) + p) q) (shift (whole s) (s + (q - p) + p) q (omega arith)) in
       shade-cell w d (g .stored) inverse (s + (q - p)) (pos s) x ∙ ap Is (sym (t .value (s + (q - p)) k))
@@ -102,7 +96,7 @@ module _ (g : Geometry) (v : List ℕ) (f : ℕ) (low : 1 ≤ g .stored) (w : Wi
       let h : p ≤ q = half-low (g .stored) low in
       let m : s ≤ q = sample-most g v f i in
       let n : a ≤ q = blended-most g mv i v ks one few in
-      let k : s + q - a < 2 ^ (g .stored + 1) - 1 = omega (arith, twice (g .stored), pow-pos (g .stored)) in
+      let k : s + q - a < 2 ^ (g .stored + 1) - 1 = omega (arith, power-twice (g .stored), pow-pos (g .stored)) in
       let x : pos (s + q - a + p) -ℤ pos q ≡ pos s -ℤ pos a +ℤ pos p =
       same (pos (s + q - a + p) -ℤ pos q) (pos s -ℤ pos a +ℤ pos p) (s + q - a + p) q (gap (s + q - a + p) q)
       (shift (plus (gap s a) (whole p)) (s + q - a + p) q (omega arith)) in

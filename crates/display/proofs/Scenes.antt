@@ -9,6 +9,7 @@ use lib.Dec.{eqb}
 use lib.ListN.{length, take, drop}
 use native.Mathlib.Omega.{arith}
 use borrow.Author.Tests.{eqb-true}
+use Rattle.value.specs.Number.{numberOr0}
 use Rattle.dataset.specs.Reading.{Row}
 use Rattle.dataset.specs.Tree.{rowsOf, rowAt}
 use Rattle.basics.proofs.Tests.{or-either}
@@ -16,20 +17,19 @@ use Rattle.node.specs.Nodes.{Node, nodesOf, nodeAt, nodeOf, valueIn, root}
 use Rattle.node.specs.Find.{find}
 use Rattle.node.specs.Contracts.{Table}
 use Rattle.node.proofs.Laws.{node-is}
-use Rattle.element.specs.Tags
+use Rattle.basics.specs.Tags
 use Rattle.basics.specs.Vr.{OB, OW}
 use Rattle.pixel.specs.declared.Geometry.{Geometry}
 use Rattle.value.specs.declared.Num.{Num}
 use Rattle.value.specs.declared.Num.the-variants.{Is, None}
 use Rattle.element.specs.Elements.{valueAt}
-use Rattle.conformance.specs.Judging.{numberOf}
 use Rattle.pixel.specs.Pixel.{samplesOf}
 use Rattle.pixel.proofs.Laws.{frames-fit}
 use Rattle.steps.specs.Given.{check}
 use Rattle.steps.specs.Steps.{Picture, geometryOf, pixelsOf, maskFor}
 use Rattle.display.specs.Show.{imageSize, pictureIn, pictureOf}
 use Rattle.display.specs.Drawing.{Whole}
-use Rattle.display.proofs.Given.{never, check-some}
+use Rattle.steps.proofs.Given.{never, same-some, check-some}
 use Rattle.display.proofs.Lacking.{nothing-lacks}
 use Rattle.display.proofs.Accepted.{Windowed}
 use Rattle.display.proofs.Whole as whole
@@ -82,7 +82,7 @@ objects s n f h low high = whole.all s (h .bytes) (h .sound) f n (h .frames) low
 
 module _ (ns : List Node) (f n : ℕ) (g : Geometry) (a : whole.All ns f n) (e : geometryOf ns ≡ some g) where
   same-geometry : a .o .g ≡ g
-  same-geometry = whole.same-some (a .o .geometry) e
+  same-geometry = same-some (a .o .geometry) e
 
   pub stored-most : g .stored ≤ 16
   stored-most = subst (λ (x : Geometry). x .stored ≤ 16) same-geometry (a .o .stored-high)
@@ -110,7 +110,7 @@ module _ (s : List ℕ) (n f : ℕ) (h : IsObject s n) (low : 1 ≤ f) (high : f
   unfolding pictureOf
   picture-size =
       let w : Whole (nodesOf s) f = nothing-lacks s (h .bytes) (h .sound) f low
-      (subst (λ (x : Num). f ≤ numberOf x) (sym (h .frames)) high) in
+      (subst (λ (x : Num). f ≤ numberOr0 x) (sym (h .frames)) high) in
       ap (λ (p : Option Picture). length (pictureIn p .samples)) (w .is) ∙ (w .size ∙ sym (based .size))
 
   module _ (p : Plan) (r : IsPlan (nodesOf s) f (c .g .stored) p) where

@@ -6,7 +6,8 @@ use Prim.Native.Nat.{ℕ, zero, suc, _+_, _*_, _<_}
 use native.Mathlib.Omega.{arith}
 use lib.ListN.{length, getD, take, drop}
 use lib.Dec.{eqb}
-use Rattle.basics.specs.Bytes.{le16}
+use Rattle.basics.specs.Bytes.{IsBytes, le16}
+use Rattle.basics.proofs.Bytes.{none-bytes, take-bytes, drop-bytes}
 use Rattle.dataset.specs.Reading.{Row}
 use Rattle.dataset.specs.Tree.{rowsOf}
 use Rattle.value.specs.declared.Num.{Num}
@@ -15,41 +16,20 @@ use Rattle.value.specs.Number.{usOf}
 use Rattle.node.specs.Nodes.{holdsNodes, nodeOf, nodesOf, noNode, nodeAt}
 use Rattle.node.specs.Find.{andThen, findVr}
 use Rattle.element.specs.Elements.{usIn}
-use Rattle.display.specs.Drawing.{Bytes}
 
-none-bytes : Bytes []
-none-bytes i = omega arith
-
-rest-bytes : (c : ℕ) (s : List ℕ) → Bytes (c ∷ s) → Bytes s
-rest-bytes c s b i = b (suc i)
-
-drop-bytes : (k : ℕ) (s : List ℕ) → Bytes s → Bytes (drop k s)
-drop-bytes zero s b = b
-drop-bytes (suc k) [] b = none-bytes
-drop-bytes (suc k) (c ∷ s) b = drop-bytes k s (rest-bytes c s b)
-
-take-bytes : (k : ℕ) (s : List ℕ) → Bytes s → Bytes (take k s)
-take-bytes zero s b = none-bytes
-take-bytes (suc k) [] b = none-bytes
-take-bytes (suc k) (c ∷ s) b = more (take-bytes k s (rest-bytes c s b))
-  where
-    more : Bytes (take k s) → Bytes (c ∷ take k s)
-    more h zero = b zero
-    more h (suc i) = h i
-
-value-bytes : (s : List ℕ) → Bytes s → (r : Row) → Bytes (nodeOf s r .value)
+value-bytes : (s : List ℕ) → IsBytes s → (r : Row) → IsBytes (nodeOf s r .value)
 value-bytes s b r = go (holdsNodes (r .vr))
   where
-    go : (t : Bool) → Bytes (cond t [] (take (r .size) (drop (r .offset) s)))
+    go : (t : Bool) → IsBytes (cond t [] (take (r .size) (drop (r .offset) s)))
     go true = none-bytes
     go false = take-bytes (r .size) (drop (r .offset) s) (drop-bytes (r .offset) s b)
 
-node-bytes : (s : List ℕ) → Bytes s → (rs : List Row) (i : ℕ) → Bytes (getD (map (nodeOf s) rs) i noNode .value)
+node-bytes : (s : List ℕ) → IsBytes s → (rs : List Row) (i : ℕ) → IsBytes (getD (map (nodeOf s) rs) i noNode .value)
 node-bytes s b [] i = none-bytes
 node-bytes s b (r ∷ rs) zero = value-bytes s b r
 node-bytes s b (r ∷ rs) (suc i) = node-bytes s b rs i
 
-us-small : (v : List ℕ) → Bytes v → (k : ℕ) → usOf v ≡ Is k → k < 65536
+us-small : (v : List ℕ) → IsBytes v → (k : ℕ) → usOf v ≡ Is k → k < 65536
 unfolding usOf le16
 us-small v b k e = go (eqb (length v) 2) e
   where
@@ -59,7 +39,7 @@ us-small v b k e = go (eqb (length v) 2) e
         omega (arith, b 0, b (0 + 1))
     go false e = let z : _≡_ {A = ℕ} 0 1 = cc in absurd (omega arith)
 
-pub us-in-small : (s : List ℕ) → Bytes s → (tag k : ℕ) (is : List ℕ) → usIn (nodesOf s) tag is ≡ Is k → k < 65536
+pub us-in-small : (s : List ℕ) → IsBytes s → (tag k : ℕ) (is : List ℕ) → usIn (nodesOf s) tag is ≡ Is k → k < 65536
 unfolding nodesOf
 us-in-small s b tag k is e = go (findVr (nodesOf s) tag 0x5553 is) e
   where

@@ -1,11 +1,12 @@
 -- All that drawing frame f of an accepted object rests on, in one place.
-use mathlib.Core.Path.{_≡_, _∙_, subst}
+use mathlib.Core.Path.{_≡_, sym, _∙_, subst}
 use mathlib.Core.Bool.{true}
 use mathlib.Core.List.{List, [], _∷_}
 use mathlib.Core.Option.{Option, some}
 use Prim.Native.Nat.{ℕ, zero, suc, _≤_, _<_}
 use lib.ListN.{length, getD}
 use native.Mathlib.Omega.{arith}
+use Rattle.basics.specs.Bytes.{IsBytes}
 use Rattle.value.specs.declared.Num.the-variants.{Is}
 use Rattle.node.specs.Nodes.{Node, nodesOf, root}
 use Rattle.element.specs.Frames.{framesOf}
@@ -19,13 +20,14 @@ use Rattle.pixel.specs.Contracts.{Shaped}
 use Rattle.steps.specs.Steps.{Mask, geometryOf, pixelsOf, maskFor, masked as maskOf}
 use Rattle.display.specs.declared.Masking.{Masking}
 use Rattle.display.specs.declared.Masking.the-variants as masking
-use Rattle.display.specs.Contracts.{AllWithin, Sound, Gives, maskingOf, MaskingBelow, MasksReady}
+use Rattle.display.specs.Contracts.{AllWithin, Gives, maskingOf, MaskingBelow, MasksReady}
 use Rattle.display.specs.Show.{imageSize}
-use Rattle.display.proofs.Given.{never}
+use Rattle.steps.proofs.Given.{never, same-some}
 use Rattle.display.proofs.Lacking.{geometry-size}
-use Rattle.display.specs.Drawing.{Bytes}
 use Rattle.display.proofs.Small.{us-in-small}
-use Rattle.display.proofs.Objects.{object, windowed, same-is}
+use Rattle.node.proofs.Tests.{same-is}
+use Rattle.display.proofs.Answering.{gives-sound}
+use Rattle.display.proofs.Objects.{object, windowed}
 use Rattle.display.proofs.Masks as masks
 use Rattle.display.proofs.Accepted.{Object, Windowed}
 
@@ -36,7 +38,7 @@ pub record All (ns : List Node) (f n : ℕ) : Type 0 where
   pub win : Windowed ns f (o .g .stored)
   pub mask : Gives n (maskFor ns f)
 
-pub all : (s : List ℕ) → Bytes s → findingOf (nodesOf s) ≡ Accepted → (f n : ℕ) → framesOf (nodesOf s) ≡ Is n → 1 ≤ f → f ≤ n
+pub all : (s : List ℕ) → IsBytes s → findingOf (nodesOf s) ≡ Accepted → (f n : ℕ) → framesOf (nodesOf s) ≡ Is n → 1 ≤ f → f ≤ n
     → All (nodesOf s) f n
 all s b ok f n frames low high =
     let ns = nodesOf s in
@@ -45,10 +47,6 @@ all s b ok f n frames low high =
     let h : f ≤ o .n = omega arith in
     let m = masks.masking ns ok (o .n) (o .frames) (o .some-frame) (o .few-frames) f low h in
     record { o = o; n-is = q; high = h; win = windowed ns ok o f low h; mask = subst (λ (k : ℕ). Gives k (maskFor ns f)) q m }
-
--- Two answers of one step are the same.
-pub same-some : {A : Type 0} {x : Option A} {a b : A} → x ≡ some a → x ≡ some b → a ≡ b
-same-some e f = cc
 
 -- ---- What painting is asked
 
@@ -59,15 +57,10 @@ all-at n (x ∷ ks) a (suc k) h = all-at n ks (a .1) k (omega arith)
 
 module _ (ns : List Node) (v : List ℕ) (g : Geometry) (n : ℕ) (whole : (k : ℕ) → 1 ≤ k → k ≤ n → isFrame g v k ≡ true)
     (few : n ≤ 65535) where
-  sound-of : (m : Mask) (o : Option Mask) → some m ≡ o → Gives n o → Sound n m
-  sound-of m o e q =
-      let u : q .m ≡ m = cc (q .mask) in
-      subst (Sound n) u (q .sound)
-
   pub masks-ready : (k : Masking) (o : Option Mask) → maskingOf ns k ≡ o → MaskingBelow (length ns) k → Gives n o → MasksReady ns v g k
   masks-ready masking.Native o e b q = tt
   masks-ready (masking.Average k m) o e b q =
-      let s = sound-of (maskOf (usValues (valueAt ns k)) m) o e q in (
+      let s = gives-sound n (maskOf (usValues (valueAt ns k)) m) o (sym e) q in (
         b,
         (
           record {
@@ -80,7 +73,7 @@ module _ (ns : List Node) (v : List ℕ) (g : Geometry) (n : ℕ) (whole : (k : 
         ),
       )
   masks-ready (masking.One t m) o e b q =
-      let s = sound-of (maskOf (t ∷ []) m) o e q in (
+      let s = gives-sound n (maskOf (t ∷ []) m) o (sym e) q in (
         omega (arith, s .1 .1 .0 .0 .1),
         (whole t (s .1 .1 .0 .0 .0) (s .1 .1 .0 .0 .1), record { vertical = s .1 .1 .1 .1 .1 .0; horizontal = s .1 .1 .1 .1 .1 .1 }),
       )

@@ -12,23 +12,24 @@ use mathlib.Core.Option.{Option, none, some}
 use lib.ListN.{length}
 use lib.Dec.{eqb, leb, ltb}
 use lib.IntN.{pos, _+ℤ_, _-ℤ_}
+use Rattle.basics.specs.Bytes.{IsBytes}
 use Rattle.basics.specs.Vr.{SQ, FL}
 use Rattle.value.specs.declared.Num.{Num}
 use Rattle.value.specs.declared.Num.the-variants.{Is, None}
 use Rattle.value.specs.Text.{ascii}
-use Rattle.value.specs.Number.{isNumber}
+use Rattle.value.specs.Number.{isNumber, numberOr0}
 use Rattle.shift.specs.declared.Moves.{Moves}
 use Rattle.shift.specs.Whole.{wholeMovesOf, isWholeShift}
 use Rattle.verdict.specs.Verdict.{lastRule}
 use Rattle.node.specs.Nodes.{Node, nodesOf, nodeAt, inside}
 use Rattle.node.specs.Find.{holds, ifPresent, find, findVr}
-use Rattle.element.specs.Tags
+use Rattle.basics.specs.Tags
 use Rattle.element.specs.Elements.{valueAt, every}
 use Rattle.element.specs.Frames.{framesOf, groupOf, maskItems, operationIs}
 use Rattle.rules.specs.Frame.{atFrame, hasId, uniqueIds}
 use Rattle.rules.specs.All.{ruleAt}
 use Rattle.conformance.specs.declared.Finding.the-variants.{Accepted}
-use Rattle.conformance.specs.Judging.{numberOf, firstFrame, frameCount, findingOf}
+use Rattle.conformance.specs.Judging.{firstFrame, frameCount, findingOf}
 use Rattle.pixel.specs.declared.Geometry.{Geometry}
 use Rattle.pixel.specs.Pixel.{samplesOf, isFrame, sampleAt, maskAt}
 use Rattle.pixel.specs.Whole.{sourceOf}
@@ -39,7 +40,6 @@ use Rattle.steps.specs.declared.Applying.the-variants.{Item, Nothing}
 use Rattle.steps.specs.Given.{check, then, collect}
 use Rattle.steps.specs.Steps.{Picture, Mask, native, masked, geometryOf, pixelsOf, applyingTo, averageFrames, tidFrame, shiftFor, windowFor}
 use Rattle.steps.specs.Steps.{inverseOf, nativeCell, areFrames, stepsOf}
-use Rattle.display.specs.Drawing.{Bytes}
 
 -- ---- Rule 35: two whole numbers in -64..64
 
@@ -135,12 +135,12 @@ pub record DrawnAlike (ns : List Node) (f : ℕ) : Type 0 where
   pub before : stepsBefore ns f ≡ some p
   pub after : stepsOf ns f ≡ some p
 
-pub record Kept (s : List ℕ) : Type 0 where
+pub record PicturesKept (s : List ℕ) : Type 0 where
   pub accepted : findingOf (nodesOf s) ≡ Accepted
-  pub pictures : (f : ℕ) → 1 ≤ f → f ≤ numberOf (framesOf (nodesOf s)) → DrawnAlike (nodesOf s) f
+  pub pictures : (f : ℕ) → 1 ≤ f → f ≤ numberOr0 (framesOf (nodesOf s)) → DrawnAlike (nodesOf s) f
 
 abbrev pub KeepsPictures : Type 0
-KeepsPictures = (s : List ℕ) → Bytes s → AcceptedBefore (nodesOf s) → Kept s
+KeepsPictures = (s : List ℕ) → IsBytes s → AcceptedBefore (nodesOf s) → PicturesKept s
 
 abbrev pub SamePictures : Type 0
 SamePictures = (ns : List Node) (f : ℕ) (p : Picture) → stepsBefore ns f ≡ some p → stepsOf ns f ≡ some p

@@ -5,6 +5,7 @@ use mathlib.Core.List.{List, [], _∷_}
 use mathlib.Core.Option.{Option, none, some}
 use Prim.Native.Nat.{ℕ, _≤_, _<_}
 use lib.ListN.{length}
+use Rattle.basics.specs.Bytes.{IsBytes}
 use Rattle.value.specs.Number.{usValues, isNumber}
 use Rattle.value.specs.Contracts.{SizeBelow, Below}
 use Rattle.shift.specs.declared.Moves.{Moves}
@@ -29,13 +30,14 @@ use mathlib.Core.Logic.{_⊎_}
 use Rattle.value.specs.declared.Num.{Num}
 use Rattle.value.specs.declared.Num.the-variants.{Is}
 use Rattle.node.specs.Find.{find}
-use Rattle.element.specs.Tags
+use Rattle.basics.specs.Tags
 use Rattle.basics.specs.Vr.{OB, OW}
 use Rattle.element.specs.Frames.{framesOf, frameItem}
 use Rattle.conformance.specs.declared.Finding.the-variants as finding
 use Rattle.conformance.specs.Judging.{findingOf}
 use Rattle.window.specs.Contracts.{Drawable}
-use Rattle.display.specs.Drawing.{Bytes}
+use Rattle.node.specs.Contracts.{Table}
+use Rattle.display.specs.Show.{imageSize}
 use Rattle.display.specs.declared.Scene.{Scene}
 use Rattle.display.specs.declared.Plan.{Plan}
 
@@ -53,15 +55,15 @@ abbrev pub Short : Moves → Type 0
 Short m = (isNumber (m .vertical) ≡ true)
     × ((isNumber (m .horizontal) ≡ true) × (SizeBelow tooFar (m .vertical) × SizeBelow tooFar (m .horizontal)))
 
-abbrev pub Sound : ℕ → Mask → Type 0
-Sound n noMask = Unit {0}
-Sound n (maskOf ks m) = (1 ≤ length ks) × ((length ks ≤ 64) × (AllWithin n ks × Short m))
+abbrev pub SoundMask : ℕ → Mask → Type 0
+SoundMask n noMask = Unit {0}
+SoundMask n (maskOf ks m) = (1 ≤ length ks) × ((length ks ≤ 64) × (AllWithin n ks × Short m))
 
 -- A step that gives such a mask.
 pub record Gives (n : ℕ) (o : Option Mask) : Type 0 where
   pub m : Mask
   pub mask : o ≡ some m
-  pub sound : Sound n m
+  pub sound : SoundMask n m
 
 pub record GivesMoves (o : Option Moves) : Type 0 where
   pub m : Moves
@@ -131,10 +133,18 @@ MasksReady ns v g masking.Lacks = ⊥
 
 -- An accepted object of n frames.
 pub record IsObject (s : List ℕ) (n : ℕ) : Type 0 where
-  pub bytes : Bytes s
+  pub bytes : IsBytes s
   pub sound : findingOf (nodesOf s) ≡ finding.Accepted
   pub frames : framesOf (nodesOf s) ≡ Is n
   pub some-frame : 1 ≤ n
+
+-- Frame f of an accepted object of n frames can be drawn: its rows are there, and the image has room for its cells.
+pub record DrawReady (s rows : List ℕ) (f n : ℕ) (image : List ℕ) : Type 0 where
+  pub table : Table s rows
+  pub object : IsObject s n
+  pub low : 1 ≤ f
+  pub high : f ≤ n
+  pub room : imageSize (nodesOf s) ≤ length image
 
 -- What all frames share.
 pub record IsScene (ns : List Node) (c : Scene) : Type 0 where

@@ -11,21 +11,18 @@ use mathlib.Core.Path.{_≡_}
 use mathlib.Core.Bool.{cond}
 use mathlib.Core.List.{List, [], _∷_, _++_}
 use mathlib.Core.Option.{some}
-use Prim.Native.Nat.{ℕ, _*_, _≤_, _<_}
-use lib.ListN.{length, getD, drop}
+use Prim.Native.Nat.{ℕ, _*_, _≤_}
+use lib.ListN.{length, drop}
+use Rattle.value.specs.Number.{numberOr0}
 use Rattle.dataset.specs.Reading.{Row, readingOf, read}
 use Rattle.dataset.specs.Answer.{width}
 use Rattle.dataset.specs.Tree.{rowsOf}
 use Rattle.node.specs.Nodes.{Node, nodesOf}
 use Rattle.element.specs.Frames.{framesOf}
 use Rattle.conformance.specs.declared.Finding.the-variants.{Accepted}
-use Rattle.conformance.specs.Judging.{numberOf, findingOf}
+use Rattle.conformance.specs.Judging.{findingOf}
 use Rattle.steps.specs.Steps.{Picture, stepsOf}
 use Rattle.display.specs.Show.{imageSize, showOf, imageOf, fieldsOf}
-
--- Every number of the list is a byte.
-abbrev pub Bytes : List ℕ → Type 0
-Bytes s = (i : ℕ) → getD s i 0 < 256
 
 -- Accepted, whatever the buffers.
 pub record IsAccepted (s : List ℕ) : Type 0 where
@@ -36,7 +33,7 @@ pub record IsAccepted (s : List ℕ) : Type 0 where
 -- One of the frames 1 to N.
 pub record IsFrame (s : List ℕ) (f : ℕ) : Type 0 where
   pub low : 1 ≤ f
-  pub high : f ≤ numberOf (framesOf (nodesOf s))
+  pub high : f ≤ numberOr0 (framesOf (nodesOf s))
 
 -- Room as codes 8 and 11 count it: seven numbers for each row, and a byte for each cell.
 pub record HasRoom (s buffer image : List ℕ) : Type 0 where

@@ -6,12 +6,13 @@ use mathlib.Core.List.{List, [], _++_}
 use mathlib.Core.Option.{Option, none, some}
 use lib.ListN.{length, drop}
 use lib.Dec.{leb}
+use Rattle.value.specs.Number.{numberOr0}
 use Rattle.basics.specs.Fields.{Fields, codeAlone, placed, drawn, broken}
 use Rattle.node.specs.Nodes.{Node, nodesOf, root}
-use Rattle.element.specs.Tags
+use Rattle.basics.specs.Tags
 use Rattle.element.specs.Elements.{usIn}
 use Rattle.element.specs.Frames.{framesOf}
-use Rattle.conformance.specs.Judging.{numberOf, judgeOf}
+use Rattle.conformance.specs.Judging.{judgeOf}
 use Rattle.conformance.specs.declared.JudgeAnswer.{JudgeAnswer}
 use Rattle.conformance.specs.declared.JudgeAnswer.the-variants as judged
 use Rattle.steps.specs.Steps.{Picture, stepsOf}
@@ -20,11 +21,11 @@ use Rattle.display.specs.declared.ShowAnswer.the-variants as shown
 
 -- The frame is one of 1 to N.
 abbrev pub isFrameOf : List Node → ℕ → Bool
-isFrameOf ns f = leb 1 f && leb f (numberOf (framesOf ns))
+isFrameOf ns f = leb 1 f && leb f (numberOr0 (framesOf ns))
 
 -- Rows × Columns.
 abbrev pub imageSize : List Node → ℕ
-imageSize ns = numberOf (usIn ns Tags.Rows (root ns)) * numberOf (usIn ns Tags.Columns (root ns))
+imageSize ns = numberOr0 (usIn ns Tags.Rows (root ns)) * numberOr0 (usIn ns Tags.Columns (root ns))
 
 -- The picture that the steps give. If they lack something, which never happens for a frame of an accepted object (proofs/Drawing), it is
 -- empty.

@@ -5,15 +5,16 @@ ghost use mathlib.Core.Bool.{true, false};
 ghost use mathlib.Core.Option.{some};
 ghost use mathlib.Core.List.{_++_};
 ghost use lib.ListN.{length, drop, getD};
+ghost use Rattle.value.specs.Number.{numberOr0};
 ghost use Rattle.value.specs.declared.Num.the-variants as num;
 ghost use Rattle.conformance.specs.declared.Finding.the-variants as finding;
 ghost use Rattle.dataset.specs.Reading.{readingOf};
 ghost use Rattle.basics.specs.Fields.{Answers};
 ghost use Rattle.dataset.specs.Answer.{bufferOf};
-ghost use Rattle.conformance.specs.Judging.{numberOf, findingOf};
+ghost use Rattle.conformance.specs.Judging.{findingOf};
 ghost use Rattle.display.specs.Show.{imageSize, imageBy, pictureOf, acceptedAnswer, showOf, imageOf, fieldsOf};
 ghost use Rattle.display.specs.Contracts.{IsObject, IsScene, IsItem, IsApplying, IsPlan, Gives, GivesMoves, GivesInverse, averageBy};
-ghost use Rattle.display.specs.Contracts.{tidBy, maskingOf, MaskingBelow, ToldBy, isMasked, shadeBy, MasksReady};
+ghost use Rattle.display.specs.Contracts.{DrawReady, tidBy, maskingOf, MaskingBelow, ToldBy, isMasked, shadeBy, MasksReady};
 ghost use Rattle.value.specs.Contracts.{Below};
 ghost use Rattle.node.specs.Nodes.{nodesOf};
 ghost use Rattle.node.specs.Contracts.{Table};
@@ -22,11 +23,11 @@ ghost use Rattle.element.specs.Elements.{valueAt};
 ghost use Rattle.pixel.specs.Pixel.{samplesOf};
 ghost use Rattle.pixel.specs.Contracts.{painted};
 ghost use Rattle.lines.specs.Contracts.{shadesOf, Shaded};
-ghost use Rattle.painting.specs.Contracts.{Ready};
+ghost use Rattle.painting.specs.Contracts.{CanPaint};
 ghost use Rattle.steps.specs.Steps.{applyingTo, inverseOf, movesFor, maskBy, maskFor};
 ghost use Rattle.steps.specs.Contracts.{ApplyingBelow, IsShared, IsTold};
+use basics::tags;
 use conformance::JudgeAnswer;
-use element::tags;
 use lines::Shades;
 use pixel::Geometry;
 use shift::Moves;
@@ -179,7 +180,7 @@ fn told_for(bytes: &[u8], rows: &[u32], applies: Applying) -> Told
 }
 
 // Steps 3 and 4 once it is known which mask item applies and what it says, the same for all frames. If none applies the frame is native.
-pub fn mask_on(
+fn mask_on(
     bytes: &[u8],
     rows: &[u32],
     frame: usize,
@@ -219,7 +220,7 @@ fn paint(
 ) -> bool
     requires { ⌜ Table (now bytes) (now rows)
         × ((p < length (nodesOf (now bytes)))
-        × (Ready (valueAt (nodesOf (now bytes)) p) g frame (now image)
+        × (CanPaint (valueAt (nodesOf (now bytes)) p) g frame (now image)
         × (MasksReady (nodesOf (now bytes)) (valueAt (nodesOf (now bytes)) p) g masking
         × (Shaded shades (g .stored) (now table) × (shades .filled ≡ true))))) ⌝ }
     ensures { λ r. ⌜ r ≡ isMasked masking ⌝ }
@@ -369,11 +370,7 @@ pub fn plan_for(bytes: &[u8], rows: &[u32], c: Scene, frame: usize, n: usize) ->
 
 // Draws a frame of an accepted object of n frames; answers whether it is masked.
 fn draw(bytes: &[u8], rows: &[u32], frame: usize, n: usize, image: &mut [u8]) -> bool
-    requires { ⌜ Table (now bytes) (now rows)
-        × (((i : ℕ) → getD (now bytes) i 0 < 256)
-        × ((findingOf (nodesOf (now bytes)) ≡ finding.Accepted)
-        × ((framesOf (nodesOf (now bytes)) ≡ num.Is n)
-        × ((1 ≤ frame) × ((frame ≤ n) × (imageSize (nodesOf (now bytes)) ≤ length (now image))))))) ⌝ }
+    requires { ⌜ DrawReady (now bytes) (now rows) frame n (now image) ⌝ }
     ensures { λ r. ⌜ r ≡ pictureOf (nodesOf (now (bytes .entry))) frame .masked ⌝ }
     ensures { λ _. ⌜ now (image .exit) ≡ pictureOf (nodesOf (now (bytes .entry))) frame .samples ++ drop (length (pictureOf (nodesOf (now (bytes .entry))) frame .samples)) (now (image .entry)) ⌝ }
 {
@@ -396,7 +393,7 @@ fn draw(bytes: &[u8], rows: &[u32], frame: usize, n: usize, image: &mut [u8]) ->
 // A number, or 0 if it is lacking.
 fn number_of(n: Num) -> usize
     requires { ⌜ Below 65536 n ⌝ }
-    ensures { λ r. ⌜ (r ≡ numberOf n) × (r < 65536) ⌝ }
+    ensures { λ r. ⌜ (r ≡ numberOr0 n) × (r < 65536) ⌝ }
 {
     match n {
         Num::Is(k) => k,

@@ -16,13 +16,13 @@ module _ (p : ℕ → Bool) (ns : List Node) (i to : ℕ) where
   unfolding every
   every-end h = rw (members-end ns i to h)
 
-  pub every-no : i < to → p i ≡ false → every p (members ns i to) ≡ false
+  pub every-not : i < to → p i ≡ false → every p (members ns i to) ≡ false
   unfolding every
-  every-no h e = rw (members-next ns i to h, e)
+  every-not h e = rw (members-next ns i to h, e)
 
-  pub every-later : i < to → p i ≡ true → every p (members ns i to) ≡ every p (members ns (nextNode ns i) to)
+  pub every-next : (next : ℕ) → next ≡ nextNode ns i → i < to → p i ≡ true → every p (members ns i to) ≡ every p (members ns next to)
   unfolding every
-  every-later h e = rw (members-next ns i to h, e)
+  every-next next n h e = rw (members-next ns i to h, e, n)
 
   pub some-end : to ≤ i → some p (members ns i to) ≡ false
   unfolding some
@@ -32,9 +32,9 @@ module _ (p : ℕ → Bool) (ns : List Node) (i to : ℕ) where
   unfolding some
   some-here h e = rw (members-next ns i to h, e)
 
-  pub some-later : i < to → p i ≡ false → some p (members ns i to) ≡ some p (members ns (nextNode ns i) to)
+  pub some-next : (next : ℕ) → next ≡ nextNode ns i → i < to → p i ≡ false → some p (members ns i to) ≡ some p (members ns next to)
   unfolding some
-  some-later h e = rw (members-next ns i to h, e)
+  some-next next n h e = rw (members-next ns i to h, e, n)
 
 -- At least one member, or none.
 module _ (ns : List Node) (i to : ℕ) where

@@ -14,7 +14,7 @@ use Rattle.value.specs.declared.Function.the-variants as function
 use Rattle.value.specs.Words.{isWord, isUid, functionOf}
 use Rattle.node.specs.Nodes.{Node, nodeAt, inside}
 use Rattle.node.specs.Find.{holds, andThen, find, findVr}
-use Rattle.element.specs.Tags.{VOILUTFunction}
+use Rattle.basics.specs.Tags.{VOILUTFunction}
 
 abbrev pub valueAt : List Node → ℕ → List ℕ
 valueAt ns i = nodeAt ns i .value

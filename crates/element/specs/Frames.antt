@@ -11,8 +11,8 @@ use Rattle.value.specs.declared.Signed.the-variants as signed
 use Rattle.value.specs.Number.{isOf}
 use Rattle.node.specs.Nodes.{Node, root, inside}
 use Rattle.node.specs.Find.{andThen, orElse, find, findVr}
-use Rattle.element.specs.Tags.{NumberOfFrames, SharedFunctionalGroupsSequence, PerFrameFunctionalGroupsSequence}
-use Rattle.element.specs.Tags.{MaskSubtractionSequence, MaskOperation, SubtractionItemID}
+use Rattle.basics.specs.Tags.{NumberOfFrames, SharedFunctionalGroupsSequence, PerFrameFunctionalGroupsSequence}
+use Rattle.basics.specs.Tags.{MaskSubtractionSequence, MaskOperation, SubtractionItemID}
 use Rattle.basics.specs.Vr.{IS}
 use Rattle.element.specs.Elements.{valueAt, usIn, csIs, theItem, itemsIn, first}
 

@@ -1,7 +1,6 @@
 // Reads of one element by its tag, items of sequences, frames and their functional groups: the vocabulary of the rules and the drawing
 // steps.
-pub mod tags;
-
+use basics::tags;
 ghost use mathlib.Core.Path.{_≡_};
 ghost use Prim.Native.Nat.{_+_, _≤_, _<_};
 ghost use lib.ListN.{length, drop};
@@ -282,7 +281,7 @@ pub fn function_in(bytes: &[u8], rows: &[u32], item: usize) -> Function
 // ---- Frames
 
 // A signed number as a count: a negative one counts as 0.
-fn counted(n: Signed) -> Num
+fn as_count(n: Signed) -> Num
     requires { ⌜ SizeBelow 100000000000 n ⌝ }
     ensures { λ r. ⌜ r ≡ asCount n ⌝ }
     ensures { λ r. ⌜ Below 100000000000 r ⌝ }
@@ -302,7 +301,7 @@ pub fn frame_count(bytes: &[u8], rows: &[u32]) -> Num
 {
     match find_vr_root(bytes, rows, tags::NUMBER_OF_FRAMES, vrs::IS) {
         Num::None => Num::None,
-        Num::Is(i) => counted(value::is_of(node::value(bytes, rows, i))),
+        Num::Is(i) => as_count(value::is_of(node::value(bytes, rows, i))),
     }
 }
 

@@ -10,7 +10,7 @@ use Rattle.conformance.specs.declared.JudgeAnswer.{JudgeAnswer}
 use Rattle.conformance.specs.declared.JudgeAnswer.the-variants as judged
 use Rattle.conformance.specs.Judging.{judgeOf}
 use Rattle.searches.specs.Searches.{searchesOf}
-use Rattle.searches.specs.Contracts.{Left}
+use Rattle.searches.specs.Contracts.{RowsLeft}
 use Rattle.searches.proofs.After.{rows-left}
 use Rattle.file.specs.declared.JudgeFileAnswer.{JudgeFileAnswer}
 use Rattle.file.specs.declared.JudgeFileAnswer.the-variants as judgeFile
@@ -18,7 +18,7 @@ use Rattle.file.specs.declared.CountedFile.{CountedFile}
 use Rattle.file.specs.File.{sameClass, judgeIn, judgePart}
 use Rattle.file.specs.Searches.{searchesIn, countedPart, LeftIn}
 
-left-with : (s rows : List ℕ) (same : Bool) (j : JudgeAnswer) → Left s rows j → LeftIn s rows (judgeIn same j)
+left-with : (s rows : List ℕ) (same : Bool) (j : JudgeAnswer) → RowsLeft s rows j → LeftIn s rows (judgeIn same j)
 left-with s rows true (judged.Accepted n) l = l
 left-with s rows false (judged.Accepted n) l = tt
 left-with s rows true (judged.Broken n rule frame) l = tt
@@ -34,7 +34,7 @@ left-in s class before buffer a e f =
     subst (λ (x : JudgeFileAnswer). LeftIn s buffer x) (sym e)
     (left-with s buffer (sameClass class (nodesOf s)) (judgeOf s before) (rows-left s before buffer (judgeOf s before) refl f))
 
-pub left-judged : (s rows : List ℕ) {a : JudgeFileAnswer} {j : JudgeAnswer} → a ≡ judgeFile.Judged j → LeftIn s rows a → Left s rows j
+pub left-judged : (s rows : List ℕ) {a : JudgeFileAnswer} {j : JudgeAnswer} → a ≡ judgeFile.Judged j → LeftIn s rows a → RowsLeft s rows j
 left-judged s rows e l = subst (λ (x : JudgeFileAnswer). LeftIn s rows x) e l
 
 pub counted-part : (s class buffer : List ℕ) (a : JudgeFileAnswer) (n : ℕ) → a ≡ judgePart s class buffer

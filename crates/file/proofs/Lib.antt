@@ -1,4 +1,3 @@
--- What the proofs of several functions use, and the theorem on files.
+-- What the proofs of several functions use.
 pub mod After
 pub mod Counted
-pub mod Files

@@ -14,7 +14,7 @@ use Rattle.value.specs.Text.{trimEnd}
 use Rattle.node.specs.Nodes.{Node, nodesOf, root}
 use Rattle.node.specs.Find.{has}
 use Rattle.basics.specs.Vr.{UI}
-use Rattle.element.specs.Tags
+use Rattle.basics.specs.Tags
 use Rattle.element.specs.Elements.{uiIs}
 use Rattle.conformance.specs.Judging as judging
 use Rattle.conformance.specs.declared.JudgeAnswer.{JudgeAnswer}

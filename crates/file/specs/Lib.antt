@@ -1,4 +1,3 @@
 pub mod File
 pub mod Part
 pub mod Searches
-pub mod Files

@@ -9,7 +9,7 @@ use Rattle.meta.specs.declared.Meta.{Meta}
 use Rattle.meta.specs.declared.Meta.the-variants as head
 use Rattle.searches.specs.Searches.{searchesOf}
 use Rattle.searches.specs.Reported.{Reported, ifAccepted}
-use Rattle.searches.specs.Contracts.{Left}
+use Rattle.searches.specs.Contracts.{RowsLeft}
 use Rattle.file.specs.declared.JudgeFileAnswer.{JudgeFileAnswer}
 use Rattle.file.specs.declared.JudgeFileAnswer.the-variants as judgeFile
 use Rattle.file.specs.declared.CountedFile.{CountedFile}
@@ -46,7 +46,7 @@ countedPart s class buffer =
 
 -- If judging accepted, the row buffer begins with its rows.
 abbrev pub LeftIn : List ℕ → List ℕ → JudgeFileAnswer → Type 0
-LeftIn s rows (judgeFile.Judged a) = Left s rows a
+LeftIn s rows (judgeFile.Judged a) = RowsLeft s rows a
 LeftIn s rows judgeFile.NoMark = Unit {0}
 LeftIn s rows judgeFile.BadHead = Unit {0}
 LeftIn s rows judgeFile.OtherSyntax = Unit {0}

@@ -1,9 +1,9 @@
 // Reading, judging and drawing files: the head, then the data set in place, then their SOP classes. specs/File says what each call
 // answers and what its buffers then hold.
+use basics::tags;
 use conformance::JudgeAnswer;
 use dataset::ReadAnswer;
 use display::ShowAnswer;
-use element::tags;
 use meta::Meta;
 ghost use mathlib.Core.Path.{_≡_};
 ghost use Prim.Native.Nat.{_≤_};

@@ -8,21 +8,22 @@ use native.Mathlib.Omega.{arith}
 use lib.ListN.{getD, take, drop}
 use lib.Seq.{getD-take, getD-drop}
 use denote.Ref.{RefT}
+use Rattle.basics.specs.Bytes.{leNumber}
 use Rattle.dataset.specs.Tree.{rowsOf, rowAt}
 use Rattle.pixel.specs.declared.Geometry.{Geometry}
-use Rattle.pixel.specs.Pixel.{leBytes, samplesOf, sampleAt}
+use Rattle.pixel.specs.Pixel.{samplesOf, sampleAt}
 use Rattle.pixel.specs.Contracts.{cellAt}
 use Rattle.pixel.proofs.Laws.{sample-cell}
 use Rattle.frame.specs.declared.FrameView.{FrameView}
 use Rattle.frame.specs.View.{Part, IsView, InDataSet, frameSize}
 use Rattle.frame.proofs.Laws.{part-part}
 
-le-part : (k : ℕ) (v : List ℕ) (at n p : ℕ) → p + k ≤ n → leBytes k (take n (drop at v)) p ≡ leBytes k v (at + p)
-unfolding leBytes
+le-part : (k : ℕ) (v : List ℕ) (at n p : ℕ) → p + k ≤ n → leNumber k (take n (drop at v)) p ≡ leNumber k v (at + p)
+unfolding leNumber
 le-part zero v at n p h = refl
 le-part (suc k) v at n p h =
     let a : getD (take n (drop at v)) p 0 ≡ getD v (at + p) 0 = getD-take n (drop at v) p 0 (omega arith) ∙ getD-drop at v p 0 in
-    let b : leBytes k (take n (drop at v)) (p + 1) ≡ leBytes k v (at + (p + 1)) = le-part k v at n (p + 1) (omega arith) in
+    let b : leNumber k (take n (drop at v)) (p + 1) ≡ leNumber k v (at + (p + 1)) = le-part k v at n (p + 1) (omega arith) in
     let e : at + (p + 1) ≡ at + p + 1 = omega arith in
     rw (a, b, e)
 
@@ -32,7 +33,7 @@ pub cell-part : (g : Geometry) (v : List ℕ) (j n c : ℕ) → c * g .width + g
 unfolding cellAt
 cell-part g v j n c h =
     ap (λ (x : ℕ). x % 2 ^ g .stored)
-    (le-part (g .width) v (j * g .width) n (c * g .width) h ∙ ap (leBytes (g .width) v) (sym (add-mul j c (g .width))))
+    (le-part (g .width) v (j * g .width) n (c * g .width) h ∙ ap (leNumber (g .width) v) (sym (add-mul j c (g .width))))
 
 -- What `value_part` and `view` say together: p is the row of the pixel bytes.
 pub in-data-set : (bytes pixels : RefT (List ℕ)) (p : ℕ) (g : Geometry) (f : ℕ) (v : FrameView)

@@ -2,7 +2,7 @@
 use mathlib.Core.Path.{_≡_, refl, sym}
 use Prim.Native.Nat.{ℕ, zero, suc, _≤_, _<_}
 use mathlib.Core.List.{List, [], _∷_}
-use mathlib.Core.Bool.{Bool, true, false, not, _&&_}
+use mathlib.Core.Bool.{Bool, true, false, not, _&&_, and-false, and-assoc}
 use lib.ListN.{length, getD, set, replicate, length-replicate}
 use lib.Seq.{getD-set-same, getD-set-other}
 use lib.Dec.{eqb}
@@ -64,14 +64,6 @@ clear-all : (marks l : List ℕ) → ((k : ℕ) → getD marks k 0 ≡ 0) → cl
 unfolding clear
 clear-all marks [] h = refl
 clear-all marks (x ∷ l) h = rw (h x) (clear-all marks l h)
-
-and-false : (b : Bool) → (b && false) ≡ false
-and-false true = refl
-and-false false = refl
-
-and-assoc : (a b c : Bool) → ((a && b) && c) ≡ (a && (b && c))
-and-assoc true b c = refl
-and-assoc false b c = refl
 
 clear-same : (marks : List ℕ) (x y : ℕ) (l : List ℕ) → x < length marks → x ≡ y
     → clear (set marks x 1) (y ∷ l) ≡ (clear marks (y ∷ l) && not (isIn x (y ∷ l)))

@@ -3,9 +3,9 @@ use mathlib.Core.Path.{_≡_}
 use Prim.Native.Nat.{ℕ}
 use mathlib.Core.List.{List, map}
 use lib.ListN.{length, getD}
+use Rattle.value.specs.Number.{numberOr0}
 use Rattle.node.specs.Nodes.{Node}
 use Rattle.element.specs.Frames.{idIn}
-use Rattle.rules.specs.Frame.{numberOr0}
 
 -- The ID of an item, 0 if it has none; the IDs of items.
 abbrev pub idOf : List Node → ℕ → ℕ

@@ -6,7 +6,7 @@ ghost use Rattle.node.specs.Nodes.{nodesOf, members};
 ghost use Rattle.node.specs.Contracts.{Table};
 ghost use Rattle.rules.specs.Frame.{isIn, uniqueIds, hasId};
 ghost use Rattle.ids.specs.Contracts.{AllZero, idOf, idsOf};
-use element::tags;
+use basics::tags;
 use value::Num;
 
 // Up to this many items are compared in pairs; the IDs of more are marked in a table.

@@ -8,7 +8,7 @@ use Rattle.node.specs.Nodes.{Node, inside, members}
 use Rattle.node.specs.Find.{find}
 use Rattle.value.specs.declared.Num.{Num}
 use Rattle.value.specs.declared.Num.the-variants.{Is, None}
-use Rattle.element.specs.Tags
+use Rattle.basics.specs.Tags
 use Rattle.element.specs.Elements.{oneItem}
 use Rattle.rules.specs.Intensity.{areLuts, isLutGroup, hasLinear, isLog, isLinear, linearAmong}
 use mathlib.Core.Path.{_≡_}

@@ -6,9 +6,9 @@ ghost use Rattle.node.specs.Nodes.{nodesOf, members};
 ghost use Rattle.node.specs.Contracts.{Table};
 ghost use Rattle.rules.specs.Intensity.{isLinear, linearAmong, entryCount, isLut, hasLut};
 ghost use Rattle.intensity.specs.Contracts.{agree, relationOf, lutsOf, tableOf, relationIn, tableIn, Stops};
+use basics::tags;
 use basics::u16_at;
 use basics::vrs;
-use element::tags;
 use value::Num;
 
 // ---- The TO_LINEAR items

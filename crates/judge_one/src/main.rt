@@ -8,7 +8,7 @@ use printing::print_field;
 use room::input;
 
 fn print_accepted(rows: usize) {
-    print_field(b"accepted\ncode 0 rows", rows);
+    print_field(1, b"accepted\ncode 0 rows", rows);
     io::write_all(1, b"\n");
 }
 
@@ -17,22 +17,22 @@ fn print_item(frame: usize, row: usize) {
     if row == 0 {
         return;
     }
-    print_field(b", item", frame);
-    print_field(b" of (5200,9230), row", row);
+    print_field(1, b", item", frame);
+    print_field(1, b" of (5200,9230), row", row);
 }
 
 fn print_broken(rows: usize, rule: usize, frame: usize, row: usize) {
-    print_field(b"refused\ncode 9 rule", rule);
-    print_field(b" frame", frame);
-    print_field(b" rows", rows);
+    print_field(1, b"refused\ncode 9 rule", rule);
+    print_field(1, b" frame", frame);
+    print_field(1, b" rows", rows);
     print_item(frame, row);
     io::write_all(1, b"\n");
     sentence::print_sentence(rule);
 }
 
 fn print_unread(code: usize, offset: usize) {
-    print_field(b"refused\ncode", code);
-    print_field(b" place", offset);
+    print_field(1, b"refused\ncode", code);
+    print_field(1, b" place", offset);
     io::write_all(1, b"\n");
 }
 

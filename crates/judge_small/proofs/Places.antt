@@ -7,7 +7,7 @@ use lib.ListN.{length, take}
 use types.Run.{OneOf, miss}
 use denote.Enum.Declared.{tagOf}
 use Rattle.dataset.specs.Reading.{readingOf}
-use Rattle.dataset.specs.Answer.{answerOf, bufferOf}
+use Rattle.dataset.specs.Answer.{answerOf, bufferOf, width}
 use Rattle.dataset.specs.declared.ReadAnswer.{ReadAnswer}
 use Rattle.dataset.specs.declared.ReadAnswer.the-variants as read
 use Rattle.node.specs.Nodes.{Node, nodesOf}
@@ -34,12 +34,12 @@ broken-read f read.NoRoom n rule frame e = let z : _≡_ {A = ℕ} 0 1 = cc in a
 
 pub after-broken : (s before buffer : List ℕ) (n rule frame : ℕ) → judged.Broken n rule frame ≡ judgeOf s before
     → buffer ≡ bufferOf (readingOf s) before
-    → (7 * n ≤ length buffer) × Table s (take (7 * n) buffer)
+    → (width * n ≤ length buffer) × Table s (take (width * n) buffer)
 unfolding judgeOf
 after-broken s before buffer n rule frame e f =
     after-reading s before buffer n (broken-read (findingOf (nodesOf s)) (answerOf (readingOf s) before) n rule frame e) f
 
-pub roomy-located : (s buffer : List ℕ) → 7 * length s ≤ 8 * length buffer → (a : JudgeAnswer) → a ≡ judgeOf s buffer
+pub roomy-located : (s buffer : List ℕ) → width * length s ≤ 8 * length buffer → (a : JudgeAnswer) → a ≡ judgeOf s buffer
     → located (nodesOf s) a ≡ locatedOf s
 roomy-located s buffer h a e = ap (located (nodesOf s)) (e ∙ roomy s buffer h)
 

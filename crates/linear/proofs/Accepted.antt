@@ -7,24 +7,26 @@ use Prim.Native.Nat.{ℕ, _≤_}
 use native.Mathlib.Omega.{arith}
 use lib.ListN.{length}
 use lib.Dec.{eqb, leb}
+use Rattle.basics.specs.Bytes.{IsBytes}
 use Rattle.basics.specs.Vr.{SQ}
 use Rattle.value.specs.declared.Num.{Num}
 use Rattle.value.specs.declared.Num.the-variants.{Is, None}
 use Rattle.basics.proofs.Tests.{and-both}
 use Rattle.node.specs.Nodes.{Node, nodesOf, nodeAt, root, inside}
 use Rattle.node.specs.Find.{holds, ifPresent}
-use Rattle.element.specs.Tags
+use Rattle.basics.specs.Tags
 use Rattle.element.specs.Elements.{every, oneItem, first}
 use Rattle.element.specs.Frames.{framesOf, groupOf}
 use Rattle.rules.specs.Intensity.{linearAmong, hasLut, areLuts, isLutGroup, hasLinear, isLog, item39, rule39}
 use Rattle.conformance.specs.declared.Finding.the-variants.{Accepted}
 use Rattle.conformance.specs.Judging.{findingOf}
 use Rattle.display.specs.Show.{imageSize}
-use Rattle.display.specs.Drawing.{Bytes}
 use Rattle.display.proofs.Small.{us-in-small}
-use Rattle.display.proofs.Objects.{object, at-items, group-is, r39, same-is}
+use Rattle.node.proofs.Tests.{same-is}
+use Rattle.display.proofs.Objects.{object}
+use Rattle.display.proofs.Rules.{at-items, group-is, r39}
 use Rattle.display.proofs.Lacking.{geometry-size}
-use Rattle.display.proofs.Given.{check-some}
+use Rattle.steps.proofs.Given.{check-some}
 use Rattle.linear.specs.Mapping.{linearOn, linearFor}
 use Rattle.linear.specs.Contracts.{Mappable}
 
@@ -61,7 +63,7 @@ item-lut ns ok n f j count low high e =
     let d = and-both (ifPresent g (isLutGroup ns)) (not (holds p (isLog ns)) || holds g (hasLinear ns)) (b .1) in
     on-group ns g j (d .0) (rw (group-is ns f Tags.PixelIntensityRelationshipLUTSequence (a .s) (a .i) (a .shared) (a .item)) at e)
 
-pub mappable : (s : List ℕ) → Bytes s → findingOf (nodesOf s) ≡ Accepted → (n f j : ℕ) → framesOf (nodesOf s) ≡ Is n → 1 ≤ f → f ≤ n
+pub mappable : (s : List ℕ) → IsBytes s → findingOf (nodesOf s) ≡ Accepted → (n f j : ℕ) → framesOf (nodesOf s) ≡ Is n → 1 ≤ f → f ≤ n
     → linearFor (nodesOf s) f ≡ some (Is j) → (most : ℕ) → imageSize (nodesOf s) ≤ most → Mappable (nodesOf s) f j most
 mappable s b ok n f j count low high e most room =
     let ns = nodesOf s in

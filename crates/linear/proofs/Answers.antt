@@ -1,20 +1,25 @@
 -- Which answer an accepted object gets: codes 10, 20 and 11 where their tests say so, and else the numbers.
-use mathlib.Core.Path.{_≡_, ap}
+use mathlib.Core.Path.{_≡_}
 use mathlib.Core.List.{List}
 use mathlib.Core.Option.{none, some}
 use Prim.Native.Nat.{ℕ, _≤_, _<_}
 use lib.ListN.{length}
 use borrow.Author.Tests.{le-leb, lt-leb}
 use Rattle.value.specs.declared.Num.the-variants.{Is, None}
+use Rattle.basics.specs.Fields.{Answers}
+use Rattle.dataset.specs.Reading.{readingOf}
+use Rattle.dataset.specs.Answer.{bufferOf}
 use Rattle.node.specs.Nodes.{Node, nodesOf}
 use Rattle.element.specs.Frames.{framesOf}
 use Rattle.conformance.specs.declared.JudgeAnswer.{JudgeAnswer}
 use Rattle.conformance.specs.Judging.{judgeOf}
 use Rattle.display.specs.Show.{imageSize}
+use Rattle.display.proofs.Judged.{judged-by}
 use Rattle.display.proofs.Answers.{none-frame, low-frame, high-frame}
+use Rattle.linear.specs.declared.LinearAnswer.{LinearAnswer}
 use Rattle.linear.specs.declared.LinearAnswer.the-variants as linear
 use Rattle.linear.specs.Mapping.{linearFor, isMapped, mappingBy, mappingOf}
-use Rattle.linear.specs.Answer.{entriesIn, entriesOf, acceptedAnswer, answerFor, linearOf, valuesBy, valuesOf}
+use Rattle.linear.specs.Answer.{entriesIn, entriesOf, acceptedAnswer, answerFor, linearOf, valuesBy, valuesLeft, fieldsOf}
 
 -- The numbers by the item.
 pub entries-are : (ns : List Node) (f j : ℕ) → linearFor ns f ≡ some (Is j) → entriesOf ns f ≡ entriesIn (mappingBy ns f j)
@@ -54,11 +59,11 @@ module _ (ns : List Node) (f : ℕ) (values : List ℕ) (count : ℕ) where
         is-mapped k = rw (e, le-leb 1 f low, le-leb f n high, h, le-leb (imageSize ns) (length values) k)
 
 -- What `linear` answers and leaves in the values buffer, by what the judge answered.
-module _ (s : List ℕ) (f : ℕ) (before values : List ℕ) (a : JudgeAnswer) (e : a ≡ judgeOf s before) where
-  pub linear-by : answerFor (nodesOf s) f values a ≡ linearOf s f before values
-  unfolding linearOf
-  linear-by = ap (answerFor (nodesOf s) f values) e
-
-  pub values-by : valuesBy (entriesOf (nodesOf s) f) values (answerFor (nodesOf s) f values a) ≡ valuesOf s f before values
-  unfolding valuesOf
-  values-by = ap (valuesBy (entriesOf (nodesOf s) f) values) linear-by
+module _ (s : List ℕ) (f : ℕ) (before values : List ℕ) where
+  pub linear-answers : (told : JudgeAnswer) {r : LinearAnswer} {end : List ℕ} → r ≡ answerFor (nodesOf s) f values told
+      → end ≡ valuesBy (entriesOf (nodesOf s) f) values r → {a : JudgeAnswer} → a ≡ told → a ≡ judgeOf s before → {rows : List ℕ}
+      → rows ≡ bufferOf (readingOf s) before
+      → Answers fieldsOf r (linearOf s f before values) × ((rows ≡ bufferOf (readingOf s) before) × (end ≡ valuesLeft s f before values))
+  unfolding linearOf valuesLeft
+  linear-answers told e l p q w =
+      judged-by fieldsOf (answerFor (nodesOf s) f values) (valuesBy (entriesOf (nodesOf s) f) values) told e l p q w

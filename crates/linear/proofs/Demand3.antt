@@ -9,14 +9,15 @@ use native.Mathlib.Omega.{arith}
 use lib.ListN.{length, drop}
 use lib.Dec.{leb}
 use borrow.Author.Tests.{le-leb, leb-true}
+use Rattle.value.specs.Number.{numberOr0}
+use Rattle.basics.specs.Bytes.{IsBytes}
 use Rattle.dataset.specs.Tree.{rowsOf}
 use Rattle.node.specs.Nodes.{Node, nodesOf, root}
 use Rattle.element.specs.Frames.{framesOf}
-use Rattle.conformance.specs.Judging.{numberOf}
 use Rattle.value.specs.declared.Num.{Num}
 use Rattle.value.specs.declared.Num.the-variants.{Is, None}
 use Rattle.display.specs.Show.{isFrameOf, imageSize}
-use Rattle.display.specs.Drawing.{Bytes, IsAccepted, IsFrame, HasRoom}
+use Rattle.display.specs.Drawing.{IsAccepted, IsFrame, HasRoom}
 use Rattle.display.proofs.Codes.{was-frame, judged-accepted, was-judged}
 use Rattle.display.proofs.Objects.{object}
 use Rattle.display.proofs.Small.{us-in-small}
@@ -25,7 +26,7 @@ use Rattle.display.proofs.Drawing as display
 use Rattle.linear.specs.declared.LinearAnswer.{LinearAnswer}
 use Rattle.linear.specs.declared.LinearAnswer.the-variants as linear
 use Rattle.linear.specs.Mapping.{linearFor, isItem, isMapped, mappingBy, mappingOf}
-use Rattle.linear.specs.Answer.{entriesOf, acceptedAnswer, answerFor as linearFrom, linearOf, valuesOf, fieldsOf}
+use Rattle.linear.specs.Answer.{entriesOf, acceptedAnswer, answerFor as linearFrom, linearOf, valuesLeft, fieldsOf}
 use Rattle.linear.specs.Demand3.{Mapped, Measured, Demand3}
 use Rattle.linear.proofs.Accepted.{mappable}
 use Rattle.linear.proofs.Maps as maps
@@ -39,7 +40,7 @@ module _ (s : List ℕ) (f : ℕ) (buffer values : List ℕ) where
   answer-mapped n i m r =
       rw (
         le-leb 1 f (i .low),
-        le-leb f (numberOf (framesOf (nodesOf s))) (i .high),
+        le-leb f (numberOr0 (framesOf (nodesOf s))) (i .high),
         m,
         le-leb (imageSize (nodesOf s)) (length values) (r .cells),
       )
@@ -85,8 +86,8 @@ module _ (s : List ℕ) (f : ℕ) (buffer values : List ℕ) where
   entries-is l e = rw e
 
   values-is : (a : IsAccepted s) → IsFrame s f → isMapped (nodesOf s) f ≡ true → HasRoom s buffer values
-      → valuesOf s f buffer values ≡ entriesOf (nodesOf s) f ++ drop (length (entriesOf (nodesOf s) f)) values
-  unfolding valuesOf
+      → valuesLeft s f buffer values ≡ entriesOf (nodesOf s) f ++ drop (length (entriesOf (nodesOf s) f)) values
+  unfolding valuesLeft
   values-is a i m r = rw (maps-to a i m r)
 
   handed : (a : IsAccepted s) → IsFrame s f → isMapped (nodesOf s) f ≡ true → HasRoom s buffer values → Mapped (nodesOf s) f
@@ -97,8 +98,8 @@ module _ (s : List ℕ) (f : ℕ) (buffer values : List ℕ) where
         is = w .is;
         rows = ap (λ (x : LinearAnswer). fieldsOf x .rows) (maps-to a i m r);
         numbers =
-            subst (λ (n : ℕ). valuesOf s f buffer values ≡ w .l ++ drop n values) (w .size)
-            (subst (λ (x : List ℕ). valuesOf s f buffer values ≡ x ++ drop (length x) values) (entries-is (w .l) (w .is))
+            subst (λ (n : ℕ). valuesLeft s f buffer values ≡ w .l ++ drop n values) (w .size)
+            (subst (λ (x : List ℕ). valuesLeft s f buffer values ≡ x ++ drop (length x) values) (entries-is (w .l) (w .is))
             (values-is a i m r));
       }
 
@@ -114,12 +115,12 @@ mapping-by : (ns : List Node) (f j : ℕ) → linearFor ns f ≡ some (Is j) →
 unfolding mappingOf
 mapping-by ns f j e = rw e
 
-whole : (s : List ℕ) → Bytes s → (f : ℕ) → IsAccepted s → IsFrame s f → isMapped (nodesOf s) f ≡ true → Mapped (nodesOf s) f
+whole : (s : List ℕ) → IsBytes s → (f : ℕ) → IsAccepted s → IsFrame s f → isMapped (nodesOf s) f ≡ true → Mapped (nodesOf s) f
 unfolding isMapped
 whole s b f a i m =
     let ns = nodesOf s in
     let o = object ns (λ tag k e. us-in-small s b tag k (root ns) e) (a .sound) in
-    let h : f ≤ o .n = subst (λ (x : Num). f ≤ numberOf x) (o .frames) (i .high) in
+    let h : f ≤ o .n = subst (λ (x : Num). f ≤ numberOr0 x) (o .frames) (i .high) in
     let j = item-of (linearFor ns f) m in
     let p = mappable s b (a .sound) (o .n) f (j .0) (o .frames) (i .low) h (j .1) (imageSize ns) (omega arith) in
     let t = maps.by-mappable ns f (j .0) (imageSize ns) p in

@@ -11,7 +11,7 @@ use Rattle.value.specs.declared.Num.the-variants.{Is, None}
 use Rattle.basics.proofs.Tests.{false-is-true}
 use Rattle.node.specs.Nodes.{Node, inside}
 use Rattle.node.specs.Find.{findVr}
-use Rattle.element.specs.Tags
+use Rattle.basics.specs.Tags
 use Rattle.basics.specs.Vr.{US, OW}
 use Rattle.element.specs.Elements.{valueAt}
 use Rattle.rules.specs.Intensity.{isLut, hasLut}
@@ -19,9 +19,8 @@ use Rattle.pixel.specs.declared.Geometry.{Geometry}
 use Rattle.pixel.specs.Pixel.{samplesOf, isFrame, sampleAt}
 use Rattle.pixel.specs.Contracts.{painted, Shaped}
 use Rattle.steps.specs.Steps.{geometryOf, pixelsOf}
-use Rattle.display.proofs.Objects.{had}
-use Rattle.display.proofs.Given.{never}
-use Rattle.display.proofs.Whole.{same-some}
+use Rattle.node.proofs.Tests.{holds-is}
+use Rattle.steps.proofs.Given.{never, same-some}
 use Rattle.display.proofs.Pictures.{collected}
 use Rattle.linear.specs.Mapping.{entryAt, entryOf, mappingBy}
 use Rattle.linear.specs.Answer.{entriesIn}
@@ -108,8 +107,8 @@ module _ (ns : List Node) (f j most : ℕ) (m : Mappable ns f j most) where
   pub by-mappable : (l : List ℕ) × ((mappingBy ns f j ≡ some l) × (length l ≡ samplesOf (m .g)))
   unfolding hasLut
   by-mappable =
-      let d = had (findVr ns Tags.LUTDescriptor US (inside ns j)) _ (m .lut) in
-      let t = had (findVr ns Tags.LUTData OW (inside ns j)) _ (d .1 .1) in
+      let d = holds-is (findVr ns Tags.LUTDescriptor US (inside ns j)) _ (m .lut) in
+      let t = holds-is (findVr ns Tags.LUTData OW (inside ns j)) _ (d .1 .1) in
       let c = maps (m .g) (m .v) (d .0) (t .0) (m .geometry) (m .pixels) (d .1 .0) (t .1 .0) (zeros (samplesOf (m .g)))
       (zeros-room (samplesOf (m .g))) in
       (c .l, (c .is, c .size))

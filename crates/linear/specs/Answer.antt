@@ -54,8 +54,8 @@ valuesBy l values linear.NoFrame = values
 valuesBy l values linear.NoItem = values
 valuesBy l values linear.NoValuesRoom = values
 
-unfoldable pub valuesOf : List ℕ → ℕ → List ℕ → List ℕ → List ℕ
-valuesOf s f buffer values = valuesBy (entriesOf (nodesOf s) f) values (linearOf s f buffer values)
+unfoldable pub valuesLeft : List ℕ → ℕ → List ℕ → List ℕ → List ℕ
+valuesLeft s f buffer values = valuesBy (entriesOf (nodesOf s) f) values (linearOf s f buffer values)
 
 -- The papers' numbers for each case.
 abbrev pub fieldsOf : LinearAnswer → Fields

@@ -12,12 +12,13 @@ use mathlib.Core.List.{List, _++_}
 use mathlib.Core.Option.{some}
 use Prim.Native.Nat.{ℕ}
 use lib.ListN.{length, drop}
+use Rattle.basics.specs.Bytes.{IsBytes}
 use Rattle.dataset.specs.Tree.{rowsOf}
 use Rattle.node.specs.Nodes.{Node, nodesOf}
 use Rattle.display.specs.Show.{imageSize}
-use Rattle.display.specs.Drawing.{Bytes, IsAccepted, IsFrame, HasRoom, Drawing}
+use Rattle.display.specs.Drawing.{IsAccepted, IsFrame, HasRoom, Drawing}
 use Rattle.linear.specs.Mapping.{mappingOf, isMapped}
-use Rattle.linear.specs.Answer.{linearOf, valuesOf, fieldsOf}
+use Rattle.linear.specs.Answer.{linearOf, valuesLeft, fieldsOf}
 
 -- The mapping lacks nothing at frame f: it gives exactly Rows × Columns numbers.
 pub record Mapped (ns : List Node) (f : ℕ) : Type 0 where
@@ -30,7 +31,7 @@ pub record Measured (s : List ℕ) (f : ℕ) (buffer values : List ℕ) : Type 0
   pub l : List ℕ
   pub is : mappingOf (nodesOf s) f ≡ some l
   pub rows : fieldsOf (linearOf s f buffer values) .rows ≡ length (rowsOf s)
-  pub numbers : valuesOf s f buffer values ≡ l ++ drop (imageSize (nodesOf s)) values
+  pub numbers : valuesLeft s f buffer values ≡ l ++ drop (imageSize (nodesOf s)) values
 
 pub record Promise (s : List ℕ) (f : ℕ) : Type 0 where
   -- Drawing: every frame of an accepted object can be drawn and is, nothing else is, and as the steps say.
@@ -48,4 +49,4 @@ pub record Promise (s : List ℕ) (f : ℕ) : Type 0 where
 
 -- For every data set, given as bytes, and every frame number.
 abbrev pub Demand3 : Type 0
-Demand3 = (s : List ℕ) → Bytes s → (f : ℕ) → Promise s f
+Demand3 = (s : List ℕ) → IsBytes s → (f : ℕ) → Promise s f

@@ -13,7 +13,7 @@ use Rattle.value.specs.declared.Num.{Num}
 use Rattle.value.specs.declared.Num.the-variants.{Is, None}
 use Rattle.node.specs.Nodes.{Node, nodeAt, inside}
 use Rattle.node.specs.Find.{findVr}
-use Rattle.element.specs.Tags
+use Rattle.basics.specs.Tags
 use Rattle.element.specs.Elements.{valueAt, first}
 use Rattle.rules.specs.Intensity.{linearAmong, entryCount}
 use Rattle.pixel.specs.Pixel.{samplesOf, isFrame, sampleAt}

@@ -16,12 +16,12 @@ ghost use Rattle.pixel.specs.Contracts.{painted};
 ghost use Rattle.value.specs.declared.Num.the-variants as num;
 ghost use Rattle.steps.specs.Contracts.{foundOf, FoundBelow};
 ghost use Rattle.linear.specs.Mapping.{linearOn, linearFor, placeAmong, entryAt, mappingBy};
-ghost use Rattle.linear.specs.Answer.{entriesIn, entriesOf, acceptedAnswer, linearOf, valuesBy, valuesOf, fieldsOf};
+ghost use Rattle.linear.specs.Answer.{entriesIn, entriesOf, acceptedAnswer, linearOf, valuesBy, valuesLeft, fieldsOf};
 ghost use Rattle.linear.specs.Contracts.{MapReady, Mappable};
+use basics::tags;
 use basics::u16_at;
 use basics::vrs;
 use conformance::JudgeAnswer;
-use element::tags;
 use pixel::Geometry;
 use steps::Found;
 use steps::Sized;
@@ -194,7 +194,7 @@ fn linear_table(
 pub fn linear(bytes: &[u8], frame: u64, rows: &mut [u32], values: &mut [u16]) -> LinearAnswer
     ensures { λ r. ⌜ Answers fieldsOf r (linearOf (now (bytes .entry)) frame (now (rows .entry)) (now (values .entry))) ⌝ }
     ensures { λ _. ⌜ now (rows .exit) ≡ bufferOf (readingOf (now (bytes .entry))) (now (rows .entry)) ⌝ }
-    ensures { λ _. ⌜ now (values .exit) ≡ valuesOf (now (bytes .entry)) frame (now (rows .entry)) (now (values .entry)) ⌝ }
+    ensures { λ _. ⌜ now (values .exit) ≡ valuesLeft (now (bytes .entry)) frame (now (rows .entry)) (now (values .entry)) ⌝ }
 {
     match conformance::judge(bytes, rows) {
         JudgeAnswer::TooLarge => LinearAnswer::TooLarge,

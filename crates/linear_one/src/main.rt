@@ -4,6 +4,7 @@ use argument::Decimal;
 use linear::LinearAnswer;
 use linear_small::Mapped;
 use printing::print_broken;
+use printing::print_code;
 use printing::print_field;
 use printing::print_unread;
 use room::input;
@@ -22,7 +23,7 @@ fn values_buffer() -> [u16; 65_536]
 fn print_head(width: usize, height: usize) {
     io::write_all(1, b"P5\n");
     io::print_decimal(1, width as u64);
-    print_field(b"", height);
+    print_field(1, b"", height);
     io::write_all(1, b"\n65535\n");
 }
 
@@ -46,28 +47,19 @@ fn print_image(width: usize, height: usize, values: &[u16])
 }
 
 fn print_mapped(mapped: Mapped, values: &[u16])
-    requires { ⌜ mapped .height * mapped .width ≤ length (now values) ⌝ }
+    requires { ⌜ mapped .sides .height * mapped .sides .width ≤ length (now values) ⌝ }
 {
     let answer = mapped.answer;
+    let sides = mapped.sides;
     match answer {
-        LinearAnswer::Mapped(_) => print_image(mapped.width, mapped.height, values),
-        LinearAnswer::Broken(rows, rule, frame) => print_broken(rows, rule, frame),
-        LinearAnswer::Refused(code, offset) => print_unread(code, offset),
-        LinearAnswer::TooLarge => {
-            io::write_all(1, b"code 7\n");
-        }
-        LinearAnswer::NoRoom => {
-            io::write_all(1, b"code 8\n");
-        }
-        LinearAnswer::NoFrame => {
-            io::write_all(1, b"code 10\n");
-        }
-        LinearAnswer::NoItem => {
-            io::write_all(1, b"code 20\n");
-        }
-        LinearAnswer::NoValuesRoom => {
-            io::write_all(1, b"code 11\n");
-        }
+        LinearAnswer::Mapped(_) => print_image(sides.width, sides.height, values),
+        LinearAnswer::Broken(rows, rule, frame) => print_broken(1, rows, rule, frame),
+        LinearAnswer::Refused(code, offset) => print_unread(1, code, offset),
+        LinearAnswer::TooLarge => print_code(1, 7),
+        LinearAnswer::NoRoom => print_code(1, 8),
+        LinearAnswer::NoFrame => print_code(1, 10),
+        LinearAnswer::NoItem => print_code(1, 20),
+        LinearAnswer::NoValuesRoom => print_code(1, 11),
     }
 }
 

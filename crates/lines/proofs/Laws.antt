@@ -2,21 +2,23 @@
 use mathlib.Core.Path.{_≡_, sym, ap, _∙_}
 use mathlib.Core.Bool.{Bool, true}
 use mathlib.Core.List.{List}
-use Prim.Native.Nat.{ℕ, suc, _+_, _-_, _*_, _/_, _%_, _^_, _≤_, _<_}
-use native.Mathlib.Nat.{add-mul, div-add-mod', mul-assoc, mul-le-mul-right, pow-suc}
+use Prim.Native.Nat.{ℕ, _+_, _-_, _*_, _/_, _%_, _^_, _≤_, _<_}
+use native.Mathlib.Nat.{add-mul, div-add-mod', mul-assoc, mul-le-mul-right}
 use native.Mathlib.Omega.{arith}
 use lib.Pow.{pow-pos}
 use lib.ListN.{length, getD, take, drop}
 use denote.Ref.{RefT}
+use Rattle.value.specs.Number.{numberOr0}
 use Rattle.window.specs.declared.Window.{Window}
 use lib.IntN.{pos, _-ℤ_}
 use Rattle.window.specs.Window.{levelOf, shaded}
-use Rattle.window.specs.Contracts.{number, shadeAt, Filled}
-use Rattle.window.proofs.Laws.{power-small}
+use Rattle.window.specs.Contracts.{shadeAt, Filled, shadePlaces}
+use Rattle.window.proofs.Laws.{power-small, power-twice}
 use Rattle.pixel.specs.declared.Geometry.{Geometry}
 use Rattle.pixel.specs.Pixel.{samplesOf, isFrame, sampleAt, weightsOf}
-use Rattle.pixel.specs.Contracts.{painted, nativeShade, Shaped, Row, cellAt, plainPlace, maskPlace, paintedFrom, rowShade, blendsAt, Blends}
-use Rattle.pixel.specs.Contracts.{Subtracts, quarterShade, Spread, Averaged, shifted}
+use Rattle.pixel.specs.Contracts.{painted, nativeShade, Shaped, RowLies, cellAt, plainPlace, maskPlace, paintedFrom, rowShade, blendsAt}
+use Rattle.pixel.specs.Contracts.{Blends}
+use Rattle.pixel.specs.Contracts.{edges, farthest, farthestMove, Subtracts, quarterShade, Spread, Averaged, shifted}
 use Rattle.pixel.proofs.Laws.{width-some, frame-facts, sample-cell, sample-most, cell-most, power-most, half-low, painted-same, row-offset}
 use Rattle.pixel.proofs.Places.{fourths}
 use Rattle.pixel.proofs.Blend.{weights-total, averages, blends-row, blend-offset, whole-shade}
@@ -47,32 +49,27 @@ module _ (g : Geometry) (s : RefT (List ℕ)) (f row : ℕ) where
 -- ---- Levels from a table and from the window
 
 module _ (t : Shades) (stored : ℕ) where
-  pub ideal-at : (p : ℕ) → p < 131072 → getD (shadesOf t stored) p 0 ≡ shadeAt (t .window) stored (t .inverse) p
+  pub ideal-at : (p : ℕ) → p < shadePlaces → getD (shadesOf t stored) p 0 ≡ shadeAt (t .window) stored (t .inverse) p
   unfolding shadesOf
-  ideal-at p h = upTo-at (shadeAt (t .window) stored (t .inverse)) 131072 p h
+  ideal-at p h = upTo-at (shadeAt (t .window) stored (t .inverse)) shadePlaces p h
 
   pub ideal-filled : stored ≤ 16 → Filled (shadeAt (t .window) stored (t .inverse)) (2 ^ (stored + 1) - 1) (shadesOf t stored)
   unfolding shadesOf
   ideal-filled most =
       record {
-        size = upTo-length (shadeAt (t .window) stored (t .inverse)) 131072;
+        size = upTo-length (shadeAt (t .window) stored (t .inverse)) shadePlaces;
         value = λ i h. ideal-at i (omega (arith, power-small (stored + 1) 17 (omega arith)));
       }
-
-  twice : 2 ^ (stored + 1) ≡ 2 ^ stored + 2 ^ stored
-  twice =
-      let e : stored + 1 ≡ suc stored = omega arith in
-      rw (e, pow-suc 2 stored) (omega arith)
 
   pub table-at : (table : List ℕ) → Filled (shadeAt (t .window) stored (t .inverse)) (2 ^ (stored + 1) - 1) table → stored ≤ 16 → (p : ℕ)
       → p + 2 ≤ 2 ^ stored + 2 ^ stored
       → getD table p 0 ≡ getD (shadesOf t stored) p 0
-  table-at table h most p l = h .value p (omega (arith, twice)) ∙ sym (ideal-at p (omega (arith, power-most stored most)))
+  table-at table h most p l = h .value p (omega (arith, power-twice stored)) ∙ sym (ideal-at p (omega (arith, power-most stored most)))
 
 -- ---- Places, as the code works them out
 
 pub shade-at : (w : Window) (stored : ℕ) (inverse : Bool) (p h l place : ℕ) → h ≡ 2 ^ (stored - 1) → l ≡ 2 ^ stored → p ≡ place
-    → number (shaded inverse (levelOf w (pos (p + h) -ℤ pos (l - 1)))) ≡ shadeAt w stored inverse place
+    → numberOr0 (shaded inverse (levelOf w (pos (p + h) -ℤ pos (l - 1)))) ≡ shadeAt w stored inverse place
 unfolding shadeAt
 shade-at w stored inverse p h l place a b d = rw (a, b, d)
 
@@ -83,7 +80,7 @@ module _ (g : Geometry) (shape : Shaped g) (s : RefT (List ℕ)) (f row : ℕ) (
   line-long : length (r .now) ≡ g .columns * g .width
   line-long = part-size s _ _ r p
 
-  pub line-row : Row (r .now) g 0
+  pub line-row : RowLies (r .now) g 0
   line-row =
       let z : 0 + g .columns ≡ g .columns = omega arith in
       record { shape = shape; inside = rw (z, line-long) (omega arith) }
@@ -130,7 +127,7 @@ module _ (g : Geometry) (shape : Shaped g) (s : RefT (List ℕ)) (f row : ℕ) (
     by-window masks o c = sym
         (ideal-at t (g .stored) _ (omega (arith, cell-most g (r .now) c, power-most (g .stored) (shape .stored-most))))
 
-    module _ (ks : List ℕ) (down right : ℕ) (most : right ≤ 512) where
+    module _ (ks : List ℕ) (down right : ℕ) (most : right ≤ farthestMove) where
       -- From a filled table as from the window.
       quarter-at : Filled (shadeAt (t .window) (g .stored) (t .inverse)) (2 ^ (g .stored + 1) - 1) table → (i : ℕ)
           → quarterShade table g (s .now) f ks down right i ≡ quarterShade (shadesOf t (g .stored)) g (s .now) f ks down right i
@@ -139,7 +136,7 @@ module _ (g : Geometry) (shape : Shaped g) (s : RefT (List ℕ)) (f row : ℕ) (
           (omega (arith, sample-most g (s .now) f i, pow-pos (g .stored)))
 
       pub whole-by-table : Filled (shadeAt (t .window) (g .stored) (t .inverse)) (2 ^ (g .stored + 1) - 1) table → (sums : List ℕ) (n : ℕ)
-          → down % 4 ≡ 0 → right % 4 ≡ 0 → right / 4 ≤ 128 → n ≡ length ks
+          → down % 4 ≡ 0 → right % 4 ≡ 0 → right / 4 ≤ farthest → n ≡ length ks
           → Spread (s .now) g ks (shifted (down / 4) (g .rows) row) sums
           → painted (rowShade table g (r .now) sums n (right / 4)) (g .columns) line
           ≡ painted (λ c. quarterShade (shadesOf t (g .stored)) g (s .now) f ks down right (row * g .columns + c)) (g .columns) line
@@ -151,8 +148,8 @@ module _ (g : Geometry) (shape : Shaped g) (s : RefT (List ℕ)) (f row : ℕ) (
       -- The mask rows that a line takes, averaged, of 1 to 64 frames.
       module _ (upper lower : List ℕ) (a : Averaged (s .now) g ks (shifted (down / 4) (g .rows) row) upper)
           (b : Averaged (s .now) g ks (shifted (down / 4 + 1) (g .rows) row) lower)
-          (some : 1 ≤ length ks) (few : length ks ≤ 64) (above : g .columns + 129 ≤ length upper)
-          (below : g .columns + 129 ≤ length lower) where
+          (some : 1 ≤ length ks) (few : length ks ≤ 64) (above : g .columns + edges ≤ length upper)
+          (below : g .columns + edges ≤ length lower) where
         pub line-blends : Blends g (right / 4) (weightsOf (down % 4) (right % 4)) upper lower
         line-blends =
             record {

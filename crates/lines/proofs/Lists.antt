@@ -1,20 +1,15 @@
 -- Lists f 0, f 1, .. and what is painted.
 use mathlib.Core.Path.{_≡_, refl, sym, ap, _∙_, subst}
 use mathlib.Core.List.{List, [], _∷_, _++_, append-assoc, append-nil}
-use mathlib.Core.Logic.{_⊎_, inl, inr, ⊎-elim}
+use mathlib.Core.Logic.{dite}
 use Prim.Native.Nat.{ℕ, zero, suc, _+_, _≤_, _<_}
 use native.Mathlib.Nat.{add-zero, add-suc}
+use native.Mathlib.Decide.{ℕ-discrete}
 use native.Mathlib.Omega.{arith}
 use lib.ListN.{length, length-append, getD, set, drop, take, List·getD-append}
 use lib.Seq.{drop-cons, set-at, take-append-seam, getD-at}
 use Rattle.pixel.specs.Contracts.{painted}
 use Rattle.lines.specs.Contracts.{upTo}
-
-pub same-or-not : (a b : ℕ) → (a ≡ b) ⊎ (a ≡ b → ⊥)
-same-or-not zero zero = inl refl
-same-or-not zero (suc b) = inr (λ e. omega arith)
-same-or-not (suc a) zero = inr (λ e. omega arith)
-same-or-not (suc a) (suc b) = ⊎-elim (λ e. inl (ap suc e)) (λ n. inr (λ e. n (omega arith))) (same-or-not a b)
 
 pub upTo-length : (f : ℕ → ℕ) (n : ℕ) → length (upTo f n) ≡ n
 unfolding upTo
@@ -25,13 +20,11 @@ pub upTo-at : (f : ℕ → ℕ) (n k : ℕ) → k < n → getD (upTo f n) k 0 �
 unfolding upTo
 upTo-at f zero k h = absurd (omega arith)
 upTo-at f (suc n) k h =
-    ⊎-elim
+    dite (ℕ-discrete k n)
     (λ e. rw e (getD-at (upTo f n) (f n) [] 0 n (upTo-length f n)))
-    (λ d. List·getD-append (upTo f n) (f n ∷ []) 0 k (omega (arith, upTo-length f n, below k n h d)) ∙ upTo-at f n k (below k n h d))
-    (same-or-not k n)
-  where
-    below : (k n : ℕ) → k < suc n → (k ≡ n → ⊥) → k < n
-    below k n h d = omega arith
+    (λ d.
+    let l : k < n = omega arith in
+    List·getD-append (upTo f n) (f n ∷ []) 0 k (omega (arith, upTo-length f n, l)) ∙ upTo-at f n k l)
 
 pub upTo-plus : (f : ℕ → ℕ) (m n : ℕ) → upTo f (m + n) ≡ upTo f m ++ upTo (λ c. f (m + c)) n
 unfolding upTo

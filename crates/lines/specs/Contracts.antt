@@ -5,7 +5,7 @@ use mathlib.Core.Bool.{true}
 use mathlib.Core.List.{List, [], _∷_, _++_}
 use Prim.Native.Nat.{ℕ, zero, suc, _+_, _-_, _^_, _≤_, _<_}
 use lib.ListN.{length}
-use Rattle.window.specs.Contracts.{Drawable, shadeAt, Filled}
+use Rattle.window.specs.Contracts.{Drawable, shadeAt, Filled, shadePlaces}
 use Rattle.pixel.specs.declared.Geometry.{Geometry}
 use Rattle.pixel.specs.Pixel.{isFrame}
 use Rattle.pixel.specs.Contracts.{Shaped, Masks, farthestMove}
@@ -18,7 +18,7 @@ upTo f (suc n) = upTo f n ++ (f n ∷ [])
 
 -- The levels at all places, whether a table holds them or not.
 unfoldable pub shadesOf : Shades → ℕ → List ℕ
-shadesOf t stored = upTo (shadeAt (t .window) stored (t .inverse)) 131072
+shadesOf t stored = upTo (shadeAt (t .window) stored (t .inverse)) shadePlaces
 
 -- A table that is marked as filled is filled.
 pub record Shaded (t : Shades) (stored : ℕ) (table : List ℕ) : Type 0 where

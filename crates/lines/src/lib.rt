@@ -4,8 +4,8 @@ ghost use mathlib.Core.Bool.{true};
 ghost use Prim.Native.Nat.{_+_, _-_, _*_, _/_, _%_, _^_, _≤_};
 ghost use lib.ListN.{length};
 ghost use Rattle.value.specs.Number.{usValues};
-ghost use Rattle.window.specs.Contracts.{Drawable, shadeAt, Filled};
-ghost use Rattle.pixel.specs.Contracts.{painted, nativeShade, longestRow, Row, plainPlace, maskPlace, shifted, Averaged, quarterShade};
+ghost use Rattle.window.specs.Contracts.{Drawable, shadeAt, Filled, shadePlaces};
+ghost use Rattle.pixel.specs.Contracts.{painted, nativeShade, longestRow, RowLies, plainPlace, maskPlace, shifted, Averaged, quarterShade};
 ghost use Rattle.pixel.specs.Contracts.{Subtracts};
 ghost use Rattle.lines.specs.Contracts.{Shaded, shadesOf, LineReady, MaskedBy};
 use pixel::Geometry;
@@ -20,7 +20,7 @@ pub struct Shades {
 
 // Fills a table with the level of every place.
 pub fn fill(window: Window, stored: usize, inverse: bool, table: &mut [u8])
-    requires { ⌜ Drawable window × ((1 ≤ stored) × ((stored ≤ 16) × (length (now table) ≡ 131072))) ⌝ }
+    requires { ⌜ Drawable window × ((1 ≤ stored) × ((stored ≤ 16) × (length (now table) ≡ shadePlaces))) ⌝ }
     ensures { λ _. ⌜ Filled (shadeAt window stored inverse) (2 ^ (stored + 1) - 1) (now (table .exit)) ⌝ }
 {
     let half = window::power(stored - 1);
@@ -35,7 +35,7 @@ pub fn fill(window: Window, stored: usize, inverse: bool, table: &mut [u8])
 
 // The levels of a line, each worked out from the window.
 fn plain_by_window(line: &[u8], g: Geometry, window: Window, inverse: bool, levels: &mut [u8])
-    requires { ⌜ Row (now line) g 0 × (Drawable window × (g .columns ≤ length (now levels))) ⌝ }
+    requires { ⌜ RowLies (now line) g 0 × (Drawable window × (g .columns ≤ length (now levels))) ⌝ }
     ensures { λ _. ⌜ now (levels .exit) ≡ painted (λ c. shadeAt window (g .stored) inverse (plainPlace g (now (line .entry)) c)) (g .columns) (now (levels .entry)) ⌝ }
 {
     let columns = g.columns;

@@ -13,14 +13,15 @@ use Rattle.dataset.specs.declared.Head.{Head}
 use Rattle.dataset.specs.declared.Head.the-variants as heads
 use Rattle.dataset.specs.declared.Walk.the-variants as walk
 use Rattle.dataset.specs.Header.{cursor, moved, elementAt}
-use Rattle.dataset.specs.Reading.{Row, row, Run, elementsAt, valueRun}
+use Rattle.dataset.specs.Reading.{Row, row, Run, elementsAt, valueRun, depths}
 use Rattle.dataset.specs.Contracts.{Within, Walked}
 use Rattle.dataset.proofs.Level as level
 use Rattle.dataset.proofs.Depths.{Deep, RunDeep, value-deep}
 use Rattle.meta.specs.declared.Uid.{Uid}
 use Rattle.meta.specs.declared.Found.{Found}
 use Rattle.meta.specs.declared.Elements.the-variants as elements
-use Rattle.meta.specs.Meta.{MediaStorageSOPClassUID, TransferSyntaxUID, uidAt, nothing, noted, foundIn}
+use Rattle.meta.specs.Meta.{uidAt, noneFound, noted, foundIn}
+use Rattle.basics.specs.Tags.{MediaStorageSOPClassUID, TransferSyntaxUID}
 use Rattle.basics.specs.Vr.{UI}
 use Rattle.meta.specs.Contracts.{UidWithin, FoundWithin, walkOf}
 
@@ -48,7 +49,7 @@ found-next f rows below tag vr offset size descendants parent d =
     ∙ found-first (foundIn f rows) tag vr offset size descendants parent below
     ∙ found-deep (noted (foundIn f rows) tag vr offset size) below d
 
-found-none : foundIn nothing [] ≡ nothing
+found-none : foundIn noneFound [] ≡ noneFound
 unfolding foundIn
 found-none = refl
 
@@ -81,18 +82,18 @@ module _ (s : List ℕ) (end : ℕ) where
   stands a least = elementAt s (moved from a) least 8
 
   abbrev pub Here : List ℕ → List ℕ → ℕ → ℕ → ℕ → Type 0
-  Here none₀ none at n least = level.Here stands (valueRun 8 s) 0 (elementsAt 8 s 0 from) from 0 none₀ none at n least
+  Here none₀ none at n least = level.Here stands (valueRun depths s) 0 (elementsAt depths s 0 from) from 0 none₀ none at n least
 
   -- The rows so far come to what was found, which lies within the file.
   abbrev Keeps : List ℕ → List ℕ → ℕ → ℕ → ℕ → Found → Type 0
   Keeps none₀ none at n least found = (i : Here none₀ none at n least)
-      × ((foundIn nothing (i .rows) ≡ found) × FoundWithin (length s) found)
+      × ((foundIn noneFound (i .rows) ≡ found) × FoundWithin (length s) found)
 
   abbrev pub Kept : List ℕ → List ℕ → Cursor → ℕ → ℕ → Found → Type 0
   Kept none₀ none here n least found = (here ≡ moved from (here .at)) × Keeps none₀ none (here .at) n least found
 
   module _ (none₀ : List ℕ) where
-    pub begun : 132 ≤ end → end ≤ length s → Kept none₀ none₀ from 0 0 nothing
+    pub begun : 132 ≤ end → end ≤ length s → Kept none₀ none₀ from 0 0 noneFound
     begun p q = (
       refl,
       (
@@ -114,36 +115,37 @@ module _ (s : List ℕ) (end : ℕ) where
 
     module _ {none : List ℕ} {here : Cursor} {n least : ℕ} {found : Found} (k : Kept none₀ none here n least found) where
       pub ended : {tag vr : ℕ} {next : Cursor} → stands (here .at) least ≡ heads.End tag vr next
-          → elements.Good found ≡ walkOf (elementsAt 8 s 0 from)
+          → elements.Good found ≡ walkOf (elementsAt depths s 0 from)
       ended e =
           sym (ap elements.Good (k .1 .1 .0))
-          ∙ ap walkOf (level.ended-run stands (valueRun 8 s) 0 (elementsAt 8 s 0 from) from 0 none₀ (k .1 .0) e)
+          ∙ ap walkOf (level.ended-run stands (valueRun depths s) 0 (elementsAt depths s 0 from) from 0 none₀ (k .1 .0) e)
 
-      refused-by : {buffer after : List ℕ} {code offset : ℕ} → Walked (elementsAt 8 s 0 from) from 0 buffer after (walk.Refused code offset)
-          → elements.Refused ≡ walkOf (elementsAt 8 s 0 from)
-      refused-by w = sym (ap walkOf (level.stopped (elementsAt 8 s 0 from) w .0))
+      refused-by : {buffer after : List ℕ} {code offset : ℕ}
+          → Walked (elementsAt depths s 0 from) from 0 buffer after (walk.Refused code offset)
+          → elements.Refused ≡ walkOf (elementsAt depths s 0 from)
+      refused-by w = sym (ap walkOf (level.stopped (elementsAt depths s 0 from) w .0))
 
       pub refuses : {code : ℕ} → stands (here .at) least ≡ heads.Refused code → (1 ≤ code) × (code ≤ 6)
-          → elements.Refused ≡ walkOf (elementsAt 8 s 0 from)
-      refuses e p = refused-by (level.refuses stands (valueRun 8 s) 0 (elementsAt 8 s 0 from) from 0 none₀ (k .1 .0) e p)
+          → elements.Refused ≡ walkOf (elementsAt depths s 0 from)
+      refuses e p = refused-by (level.refuses stands (valueRun depths s) 0 (elementsAt depths s 0 from) from 0 none₀ (k .1 .0) e p)
 
       module _ {tag vr : ℕ} {v : Cursor} (e : stands (here .at) least ≡ heads.Header tag vr v)
           (w : Within (moved from (here .at)) (heads.Header tag vr v)) {none₁ : List ℕ} where
-        pub fails : {code offset : ℕ} → Walked (valueRun 8 s (n + 1) vr v) v (n + 1) none none₁ (walk.Refused code offset)
-            → elements.Refused ≡ walkOf (elementsAt 8 s 0 from)
-        fails u = refused-by (level.fails stands (valueRun 8 s) 0 (elementsAt 8 s 0 from) from 0 none₀ (k .1 .0) e w u)
+        pub fails : {code offset : ℕ} → Walked (valueRun depths s (n + 1) vr v) v (n + 1) none none₁ (walk.Refused code offset)
+            → elements.Refused ≡ walkOf (elementsAt depths s 0 from)
+        fails u = refused-by (level.fails stands (valueRun depths s) 0 (elementsAt depths s 0 from) from 0 none₀ (k .1 .0) e w u)
 
         pub goes-on : {stop next m : ℕ} {r : Cursor} {more : Found} → end ≤ length s → length none₀ ≡ 0 → length none₁ ≡ length none
-            → Walked (valueRun 8 s (n + 1) vr v) v (n + 1) none none₁ (walk.Done stop next m)
+            → Walked (valueRun depths s (n + 1) vr v) v (n + 1) none none₁ (walk.Done stop next m)
             → more ≡ noted found tag vr (v .at) (stop - v .at) → r ≡ moved here next → Kept none₀ none₁ r m (tag + 1) more
         goes-on {stop} {next} {m} {r} {more} q z l u f p =
-            let x = level.onward stands (valueRun 8 s) 0 (elementsAt 8 s 0 from) from 0 none₀ (k .1 .0) e w l refl u
+            let x = level.onward stands (valueRun depths s) 0 (elementsAt depths s 0 from) from 0 none₀ (k .1 .0) e w l refl u
             (λ h. absurd (omega (arith, h, l, z, k .1 .0 .kept))) in
             let d : Deep 1 (x .inner) = subst (λ (o : Run). RunDeep 1 o) (x .is) (value-deep 8 1 (omega arith) s (n + 1) vr v) in
-            let b = level.below (valueRun 8 s (n + 1) vr v) u in
-            let g : foundIn nothing (x .here .rows) ≡ more =
-            ap (foundIn nothing) (x .more)
-            ∙ found-next nothing (k .1 .0 .rows) (x .inner) tag vr (v .at) (stop - v .at) (length (x .inner)) 0 d
+            let b = level.below (valueRun depths s (n + 1) vr v) u in
+            let g : foundIn noneFound (x .here .rows) ≡ more =
+            ap (foundIn noneFound) (x .more)
+            ∙ found-next noneFound (k .1 .0 .rows) (x .inner) tag vr (v .at) (stop - v .at) (length (x .inner)) 0 d
             ∙ ap (λ (y : Found). noted y tag vr (v .at) (stop - v .at)) (k .1 .1 .0)
             ∙ sym f in
             let within : FoundWithin (length s) more =

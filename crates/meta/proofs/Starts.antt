@@ -15,7 +15,7 @@ use Rattle.meta.specs.declared.Uid.the-variants.{At, None}
 use Rattle.meta.specs.declared.Found.{Found}
 use Rattle.meta.specs.declared.Meta.{Meta}
 use Rattle.meta.specs.declared.Meta.the-variants.{Good, NoMark, BadHead, OtherSyntax}
-use Rattle.meta.specs.Meta.{explicitLittleEndian, isMarked, hasGroupLength, endOf, headOf, nothing, foundIn, part, named, ofRun}
+use Rattle.meta.specs.Meta.{explicitLittleEndian, isMarked, hasGroupLength, headEnd, headOf, noneFound, foundIn, part, named, ofRun}
 use Rattle.meta.specs.Meta.{headedOf, metaOf}
 
 -- Good only at the end named.
@@ -29,20 +29,20 @@ either : (end : ℕ) (t : Bool) (m n : Meta) → EndsAt end m → EndsAt end n �
 either end true m n p q = p
 either end false m n p q = q
 
-named-ends : (s : List ℕ) (class syntax : Uid) → EndsAt (endOf s) (named s class syntax)
+named-ends : (s : List ℕ) (class syntax : Uid) → EndsAt (headEnd s) (named s class syntax)
 named-ends s None syntax = tt
 named-ends s (At a b) None = tt
 named-ends s (At a b) (At c d) =
-    either (endOf s) (isSingle (part s a b)) _ BadHead
-    (either (endOf s) (isSingle (part s c d)) _ BadHead
-    (either (endOf s) (isUid (part s c d) explicitLittleEndian) (Good (endOf s) a b) OtherSyntax refl tt) tt)
+    either (headEnd s) (isSingle (part s a b)) _ BadHead
+    (either (headEnd s) (isSingle (part s c d)) _ BadHead
+    (either (headEnd s) (isUid (part s c d) explicitLittleEndian) (Good (headEnd s) a b) OtherSyntax refl tt) tt)
     tt
 
-run-ends : (s : List ℕ) (o : Run) → EndsAt (endOf s) (ofRun s o)
+run-ends : (s : List ℕ) (o : Run) → EndsAt (headEnd s) (ofRun s o)
 run-ends s (refused code offset) = tt
 run-ends s (done stop next rows) =
-    let f : Found = foundIn nothing rows in
-    either (endOf s) (f .only) (named s (f .class) (f .syntax)) BadHead (named-ends s (f .class) (f .syntax)) tt
+    let f : Found = foundIn noneFound rows in
+    either (headEnd s) (f .only) (named s (f .class) (f .syntax)) BadHead (named-ends s (f .class) (f .syntax)) tt
 
 -- Good only within the file.
 abbrev StartsWithin : ℕ → Meta → Type 0
@@ -59,10 +59,10 @@ ends-within end size h OtherSyntax e = tt
 
 headed-within : (s : List ℕ) → StartsWithin (length s) (headedOf s)
 unfolding headedOf
-headed-within s = go (leb (endOf s) (length s)) refl
+headed-within s = go (leb (headEnd s) (length s)) refl
   where
-    go : (t : Bool) → leb (endOf s) (length s) ≡ t → StartsWithin (length s) (cond t (ofRun s (headOf s)) BadHead)
-    go true e = ends-within (endOf s) (length s) (leb-true (endOf s) (length s) e) (ofRun s (headOf s)) (run-ends s (headOf s))
+    go : (t : Bool) → leb (headEnd s) (length s) ≡ t → StartsWithin (length s) (cond t (ofRun s (headOf s)) BadHead)
+    go true e = ends-within (headEnd s) (length s) (leb-true (headEnd s) (length s) e) (ofRun s (headOf s)) (run-ends s (headOf s))
     go false e = tt
 
 meta-within : (s : List ℕ) → StartsWithin (length s) (metaOf s)

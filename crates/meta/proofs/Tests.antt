@@ -9,22 +9,22 @@ use lib.ListN.{length, take, drop, length-take, length-drop}
 use lib.Dec.{eqb, leb}
 use Rattle.basics.specs.Bytes.{le16, le32, tagAt, vrAt}
 use Rattle.dataset.specs.Header.{cursor}
-use Rattle.dataset.specs.Reading.{Run, done, refused, elementsAt}
+use Rattle.dataset.specs.Reading.{Run, done, refused, elementsAt, depths}
 use Rattle.value.specs.Text.{ascii}
-use Rattle.value.proofs.Lists.{equal-lengths}
+use Rattle.basics.proofs.Lists.{other-lengths}
 use Rattle.meta.specs.declared.Found.{Found}
 use Rattle.meta.specs.declared.Elements.{Elements}
 use Rattle.meta.specs.declared.Elements.the-variants as elements
 use Rattle.meta.specs.declared.Meta.{Meta}
 use Rattle.meta.specs.declared.Meta.the-variants.{BadHead}
-use Rattle.meta.specs.Meta.{isMarked, hasGroupLength, endOf, headOf, named, ofFound, ofRun, headedOf}
+use Rattle.meta.specs.Meta.{isMarked, hasGroupLength, headEnd, headOf, named, ofFound, ofRun, headedOf}
 use Rattle.meta.specs.Contracts.{walkOf}
 
 -- ---- The mark
 
 pub unmarked : (s : List ℕ) → length s < 132 → isMarked s ≡ false
 unfolding isMarked
-unmarked s h = equal-lengths (take 4 (drop 128 s)) (ascii "DICM") (λ e. omega (arith, e, length-take 4 (drop 128 s), length-drop 128 s))
+unmarked s h = other-lengths (take 4 (drop 128 s)) (ascii "DICM") (λ e. omega (arith, e, length-take 4 (drop 128 s), length-drop 128 s))
 
 -- ---- The group length
 
@@ -55,13 +55,13 @@ module _ (s : List ℕ) where
 
   -- ---- The head
 
-  pub ends : (x : ℕ) → x ≡ le32 s 140 → 132 + 12 + x ≡ endOf s
-  unfolding endOf
+  pub ends : (x : ℕ) → x ≡ le32 s 140 → 132 + 12 + x ≡ headEnd s
+  unfolding headEnd
   ends x e = ap (λ (k : ℕ). 132 + 12 + k) e
 
-  pub past-the-file : length s < endOf s → BadHead ≡ headedOf s
+  pub past-the-file : length s < headEnd s → BadHead ≡ headedOf s
   unfolding headedOf
-  past-the-file h = rw (lt-leb (endOf s) (length s) h)
+  past-the-file h = rw (lt-leb (headEnd s) (length s) h)
 
   -- What the walk along the elements comes to.
   abbrev pub ofElements : Elements → Meta
@@ -72,15 +72,15 @@ module _ (s : List ℕ) where
   of-run (done stop next rows) = refl
   of-run (refused code offset) = refl
 
-  headed : endOf s ≤ length s → ofRun s (headOf s) ≡ headedOf s
+  headed : headEnd s ≤ length s → ofRun s (headOf s) ≡ headedOf s
   unfolding headedOf
-  headed h = rw (le-leb (endOf s) (length s) h)
+  headed h = rw (le-leb (headEnd s) (length s) h)
 
-  head-is : (end : ℕ) → end ≡ endOf s → elementsAt 8 s 0 (cursor 132 end false) ≡ headOf s
+  head-is : (end : ℕ) → end ≡ headEnd s → elementsAt depths s 0 (cursor 132 end false) ≡ headOf s
   unfolding headOf
-  head-is end e = ap (λ (k : ℕ). elementsAt 8 s 0 (cursor 132 k false)) e
+  head-is end e = ap (λ (k : ℕ). elementsAt depths s 0 (cursor 132 k false)) e
 
-  pub walked : (end : ℕ) → end ≡ endOf s → end ≤ length s → (w : Elements) → w ≡ walkOf (elementsAt 8 s 0 (cursor 132 end false))
+  pub walked : (end : ℕ) → end ≡ headEnd s → end ≤ length s → (w : Elements) → w ≡ walkOf (elementsAt depths s 0 (cursor 132 end false))
       → ofElements w ≡ headedOf s
   walked end e h w q = ap ofElements (q ∙ ap walkOf (head-is end e)) ∙ of-run (headOf s) ∙ headed (omega (arith, e))
 

@@ -8,7 +8,7 @@ use Rattle.meta.specs.declared.Elements.{Elements}
 use Rattle.meta.specs.declared.Elements.the-variants as elements
 use Rattle.meta.specs.declared.Meta.{Meta}
 use Rattle.meta.specs.declared.Meta.the-variants.{Good, NoMark, BadHead, OtherSyntax}
-use Rattle.meta.specs.Meta.{nothing, foundIn}
+use Rattle.meta.specs.Meta.{noneFound, foundIn}
 
 -- A UID's value lies within the first `size` bytes.
 abbrev pub UidWithin : ℕ → Uid → Type 0
@@ -21,7 +21,7 @@ pub record FoundWithin (size : ℕ) (f : Found) : Type 0 where
 
 -- The result of a walk along the head's elements.
 abbrev pub walkOf : Run → Elements
-walkOf (done stop next rows) = elements.Good (foundIn nothing rows)
+walkOf (done stop next rows) = elements.Good (foundIn noneFound rows)
 walkOf (refused code offset) = elements.Refused
 
 abbrev pub ElementsWithin : ℕ → Elements → Type 0

@@ -6,28 +6,18 @@ use mathlib.Core.Bool.{Bool, true, false, cond, _&&_}
 use mathlib.Core.List.{List, [], _∷_}
 use lib.ListN.{length, take, drop}
 use lib.Dec.{eqb, leb}
-use Rattle.basics.specs.Bytes.{le16, le32, tagAt, vrAt}
+use Rattle.basics.specs.Tags.{FileMetaInformationGroupLength, MediaStorageSOPClassUID, TransferSyntaxUID}
+use Rattle.basics.specs.Bytes.{sameBytes, le16, le32, tagAt, vrAt}
 use Rattle.basics.specs.Vr.{UI, UL}
 use Rattle.dataset.specs.Header.{cursor}
 use Rattle.dataset.specs.Reading.{Row, Run, done, refused, elementsAt, depths}
-use Rattle.value.specs.Text.{ascii, equal, isSingle}
+use Rattle.value.specs.Text.{ascii, isSingle}
 use Rattle.value.specs.Words.{isUid}
 use Rattle.meta.specs.declared.Uid.{Uid}
 use Rattle.meta.specs.declared.Uid.the-variants.{At, None}
 use Rattle.meta.specs.declared.Found.{Found}
 use Rattle.meta.specs.declared.Meta.{Meta}
 use Rattle.meta.specs.declared.Meta.the-variants.{Good, NoMark, BadHead, OtherSyntax}
-
--- ---- Tags, VRs and UIDs
-
-abbrev pub FileMetaInformationGroupLength : ℕ
-FileMetaInformationGroupLength = 0x0002_0000
-
-abbrev pub MediaStorageSOPClassUID : ℕ
-MediaStorageSOPClassUID = 0x0002_0002
-
-abbrev pub TransferSyntaxUID : ℕ
-TransferSyntaxUID = 0x0002_0010
 
 -- Explicit VR Little Endian.
 abbrev pub explicitLittleEndian : List ℕ
@@ -37,7 +27,7 @@ explicitLittleEndian = ascii "1.2.840.10008.1.2.1"
 
 -- "DICM" at byte 128.
 unfoldable pub isMarked : List ℕ → Bool
-isMarked s = equal (take 4 (drop 128 s)) (ascii "DICM")
+isMarked s = sameBytes (take 4 (drop 128 s)) (ascii "DICM")
 
 -- Where the head's elements start: after the mark.
 abbrev pub start : ℕ
@@ -52,22 +42,22 @@ hasGroupLength s =
     && eqb (le16 s (start + 6)) 4))
 
 -- Where the head ends: as many bytes after the group length element as its value says.
-unfoldable pub endOf : List ℕ → ℕ
-endOf s = start + 12 + le32 s (start + 8)
+unfoldable pub headEnd : List ℕ → ℕ
+headEnd s = start + 12 + le32 s (start + 8)
 
 -- ---- The elements
 
 -- The head, read by document 01's reading checks up to that end. It has no size limit.
 unfoldable pub headOf : List ℕ → Run
-headOf s = elementsAt depths s 0 (cursor start (endOf s) false)
+headOf s = elementsAt depths s 0 (cursor start (headEnd s) false)
 
 -- Where the value of a UID is: of an element with VR UI and a length that is not 0.
 unfoldable pub uidAt : ℕ → ℕ → ℕ → Uid
 uidAt vr offset size = cond (eqb vr UI) (cond (eqb size 0) None (At offset (offset + size))) None
 
 -- What is found at depth 0: whether all elements are of group 0002, and where the two UIDs are.
-abbrev pub nothing : Found
-nothing = record { only = true; class = None; syntax = None }
+abbrev pub noneFound : Found
+noneFound = record { only = true; class = None; syntax = None }
 
 unfoldable pub noted : Found → ℕ → ℕ → ℕ → ℕ → Found
 noted f tag vr offset size = record {
@@ -94,7 +84,7 @@ named s (At a b) None = BadHead
 named s (At a b) (At c d) =
     cond (isSingle (part s a b))
     (cond (isSingle (part s c d))
-    (cond (isUid (part s c d) explicitLittleEndian) (Good (endOf s) a b) OtherSyntax)
+    (cond (isUid (part s c d) explicitLittleEndian) (Good (headEnd s) a b) OtherSyntax)
     BadHead)
     BadHead
 
@@ -103,11 +93,11 @@ ofFound s f = cond (f .only) (named s (f .class) (f .syntax)) BadHead
 
 abbrev pub ofRun : List ℕ → Run → Meta
 ofRun s (refused code offset) = BadHead
-ofRun s (done stop next rows) = ofFound s (foundIn nothing rows)
+ofRun s (done stop next rows) = ofFound s (foundIn noneFound rows)
 
 -- If the head ends within the file: what its elements say.
 unfoldable pub headedOf : List ℕ → Meta
-headedOf s = cond (leb (endOf s) (length s)) (ofRun s (headOf s)) BadHead
+headedOf s = cond (leb (headEnd s) (length s)) (ofRun s (headOf s)) BadHead
 
 unfoldable pub metaOf : List ℕ → Meta
 metaOf s = cond (isMarked s) (cond (hasGroupLength s) (headedOf s) BadHead) NoMark

@@ -2,6 +2,7 @@
 // what a head is, in the order of the paper; `read_head`, at the end, is the public call. The head's rows are not stored: a walk along
 // its elements notes what is looked for.
 use dataset::Cursor;
+use dataset::DEPTHS;
 use dataset::Head;
 use dataset::Walk;
 ghost use mathlib.Core.Path.{_≡_};
@@ -9,22 +10,14 @@ ghost use Prim.Native.Nat.{_+_, _-_, _/_, _≤_};
 ghost use mathlib.Core.Bool.{cond, false};
 ghost use lib.ListN.{length};
 ghost use lib.Dec.{eqb};
-ghost use Rattle.dataset.specs.Reading.{elementsAt, itemsAt, valueRun};
+ghost use Rattle.dataset.specs.Reading.{depths, elementsAt, itemsAt, valueRun};
 ghost use Rattle.dataset.specs.Header.{cursor, elementAt};
 ghost use Rattle.dataset.specs.Contracts.{Within, Walked, Ready};
-ghost use Rattle.meta.specs.Meta.{isMarked, hasGroupLength, endOf, uidAt, noted, named, headedOf, metaOf};
+ghost use Rattle.meta.specs.Meta.{isMarked, hasGroupLength, headEnd, uidAt, noted, named, headedOf, metaOf};
 ghost use Rattle.meta.specs.declared.Uid.the-variants.{At};
 ghost use Rattle.meta.specs.Contracts.{UidWithin, walkOf, ElementsWithin, MetaWithin};
+use basics::tags;
 use basics::vrs;
-
-const GROUP_LENGTH: usize = 0x0002_0000;
-
-const MEDIA_STORAGE_SOP_CLASS_UID: usize = 0x0002_0002;
-
-const TRANSFER_SYNTAX_UID: usize = 0x0002_0010;
-
-// How deep sequences may nest.
-const DEPTHS: usize = 8;
 
 // Where the head's elements start: after 128 bytes of anything and "DICM".
 const START: usize = 132;
@@ -62,7 +55,7 @@ fn is_marked(file: &[u8]) -> bool
     if file.len() < START {
         return false;
     }
-    value::equal(&file[128..132], b"DICM")
+    basics::same_bytes(&file[128..132], b"DICM")
 }
 
 fn has_group_length(file: &[u8]) -> bool
@@ -71,7 +64,7 @@ fn has_group_length(file: &[u8]) -> bool
     if file.len() < START + 12 {
         return false;
     }
-    if basics::tag_at(file, START) != GROUP_LENGTH {
+    if basics::tag_at(file, START) != tags::FILE_META_INFORMATION_GROUP_LENGTH {
         return false;
     }
     if basics::vr_at(file, START + 4) != vrs::UL {
@@ -120,8 +113,8 @@ fn note(found: Found, tag: usize, vr: usize, start: usize, stop: usize) -> Found
     let syntax = found.syntax;
     Found {
         only: has_only_group_2(tag, found.only),
-        class: chosen(tag, MEDIA_STORAGE_SOP_CLASS_UID, here, class),
-        syntax: chosen(tag, TRANSFER_SYNTAX_UID, here, syntax),
+        class: chosen(tag, tags::MEDIA_STORAGE_SOP_CLASS_UID, here, class),
+        syntax: chosen(tag, tags::TRANSFER_SYNTAX_UID, here, syntax),
     }
 }
 
@@ -129,7 +122,7 @@ fn note(found: Found, tag: usize, vr: usize, start: usize, stop: usize) -> Found
 // loops because they are faster that way.
 fn header(file: &[u8], c: Cursor, least: usize) -> Head
     requires { ⌜ (c .at ≤ c .end) × ((c .end ≤ length (now file)) × (c .delimited ≡ false)) ⌝ }
-    ensures { λ r. ⌜ r ≡ elementAt (now (file .entry)) c least 8 ⌝ }
+    ensures { λ r. ⌜ r ≡ elementAt (now (file .entry)) c least depths ⌝ }
     ensures { λ r. ⌜ Within c r ⌝ }
 {
     if c.at == c.end {
@@ -190,7 +183,7 @@ fn items(file: &[u8], c: Cursor, none: &mut [u32], first: usize) -> Walk
 // The result of reading a value.
 fn past(file: &[u8], vr: usize, value: Cursor, none: &mut [u32], first: usize) -> Walk
     requires { ⌜ Ready (now file) value 7 first (length (now none)) × (length (now none) ≡ 0) ⌝ }
-    ensures { λ r. ⌜ Walked (valueRun 8 (now (file .entry)) first vr value) value first (now (none .entry)) (now (none .exit)) r ⌝ }
+    ensures { λ r. ⌜ Walked (valueRun depths (now (file .entry)) first vr value) value first (now (none .entry)) (now (none .exit)) r ⌝ }
 {
     if vr == vrs::SQ {
         items(file, value, none, first)
@@ -202,7 +195,7 @@ fn past(file: &[u8], vr: usize, value: Cursor, none: &mut [u32], first: usize) -
 // The head's elements up to `end`, one after another. There is no buffer for their rows.
 fn along(file: &[u8], end: usize, none: &mut [u32]) -> Elements
     requires { ⌜ (132 ≤ end) × ((end ≤ length (now file)) × (length (now none) ≡ 0)) ⌝ }
-    ensures { λ r. ⌜ r ≡ walkOf (elementsAt 8 (now (file .entry)) 0 (cursor 132 end false)) ⌝ }
+    ensures { λ r. ⌜ r ≡ walkOf (elementsAt depths (now (file .entry)) 0 (cursor 132 end false)) ⌝ }
     ensures { λ r. ⌜ ElementsWithin (length (now (file .entry))) r ⌝ }
 {
     let mut here = Cursor {
@@ -245,7 +238,7 @@ fn along(file: &[u8], end: usize, none: &mut [u32]) -> Elements
 
 // The two UIDs, from a to b and from c to d: both single, and the second Explicit VR Little Endian.
 fn checked(file: &[u8], end: usize, a: usize, b: usize, c: usize, d: usize) -> Meta
-    requires { ⌜ ((end ≡ endOf (now file)) × (end ≤ length (now file)))
+    requires { ⌜ ((end ≡ headEnd (now file)) × (end ≤ length (now file)))
         × (((a ≤ b) × (b ≤ length (now file))) × ((c ≤ d) × (d ≤ length (now file)))) ⌝ }
     ensures { λ r. ⌜ r ≡ named (now (file .entry)) (At a b) (At c d) ⌝ }
     ensures { λ r. ⌜ MetaWithin (length (now (file .entry))) r ⌝ }
@@ -267,7 +260,7 @@ fn checked(file: &[u8], end: usize, a: usize, b: usize, c: usize, d: usize) -> M
 }
 
 fn names(file: &[u8], end: usize, class: Uid, syntax: Uid) -> Meta
-    requires { ⌜ ((end ≡ endOf (now file)) × (end ≤ length (now file)))
+    requires { ⌜ ((end ≡ headEnd (now file)) × (end ≤ length (now file)))
         × (UidWithin (length (now file)) class × UidWithin (length (now file)) syntax) ⌝ }
     ensures { λ r. ⌜ r ≡ named (now (file .entry)) class syntax ⌝ }
     ensures { λ r. ⌜ MetaWithin (length (now (file .entry))) r ⌝ }

@@ -20,7 +20,7 @@ use Rattle.value.specs.declared.Num.the-variants.{Is, None}
 use Rattle.node.specs.Nodes.{Node, nodesOf, nodeAt, nextNode, members, root, inside}
 use Rattle.node.specs.Find.{find}
 use Rattle.node.specs.Contracts.{Table, Ascends, fromTag, firstIs, lower, Container, MemberAbove}
-use Rattle.node.proofs.Laws.{nodes-count, node-is}
+use Rattle.node.proofs.Laws.{nodes-count, row-known, node-is}
 use Rattle.node.proofs.Walks.{members-end, members-next, find-later}
 
 -- ---- Tags that never descend
@@ -272,11 +272,8 @@ module _ (s rows : List ℕ) (t : Table s rows) where
       record { kind = elements; depth = 0; held = rw (e, nodes-count s) (rows-members s); ends = omega (arith, e) }
 
   module _ (holder : ℕ) (h : holder < length (nodesOf s)) where
-    row-known : holder < length (rowsOf s)
-    row-known = omega (arith, nodes-count s)
-
     around : Found (rowsOf s) (length s) 0 holder (length (rowsOf s))
-    around = row-found (rows-members s) holder (omega arith) row-known
+    around = row-found (rows-members s) holder (omega arith) (row-known s holder h)
 
     pub node-container : (to : ℕ) → to ≡ nextNode (nodesOf s) holder → Container s (holder + 1) to
     node-container to e =
@@ -284,7 +281,7 @@ module _ (s rows : List ℕ) (t : Table s rows) where
           kind = kindInside (around .kind);
           depth = depthInside (around .kind) (around .depthHere);
           held = rw (e, next-row holder h) (around .first .below);
-          ends = omega (arith, e, next-row holder h, nodes-count s, row-next s holder row-known);
+          ends = omega (arith, e, next-row holder h, nodes-count s, row-next s holder (row-known s holder h));
         }
 
   module _ (up to : ℕ) (c : Container s up to) where

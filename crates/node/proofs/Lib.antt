@@ -4,3 +4,4 @@ pub mod Walks
 pub mod Halves
 pub mod After
 pub mod Length
+pub mod Tests

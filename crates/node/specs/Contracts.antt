@@ -57,7 +57,7 @@ pub record Container (s : List ℕ) (up to : ℕ) : Type 0 where
   pub ends : to ≤ length (nodesOf s)
 
 -- Node i is in the container `up`, or below a member of it.
-pub record Held (s : List ℕ) (up i : ℕ) : Type 0 where
+pub record StandsIn (s : List ℕ) (up i : ℕ) : Type 0 where
   pub to : ℕ
   pub within : Container s up to
   pub low : up ≤ i

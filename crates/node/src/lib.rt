@@ -4,7 +4,7 @@ ghost use Prim.Native.Nat.{_+_, _-_, _*_, _≤_, _<_};
 ghost use lib.ListN.{length};
 ghost use Rattle.node.specs.Nodes.{nodesOf, nodeAt, nextNode, members, root, inside};
 ghost use Rattle.node.specs.Find.{find, filled};
-ghost use Rattle.node.specs.Contracts.{Table, Ascends, fromTag, firstIs, Nearby, lower, Container, Held, MemberAbove};
+ghost use Rattle.node.specs.Contracts.{Table, Ascends, fromTag, firstIs, Nearby, lower, Container, StandsIn, MemberAbove};
 ghost use Rattle.basics.specs.Limits.{mostRows};
 ghost use Rattle.dataset.specs.Tree.{rowsOf, rowAt};
 ghost use Rattle.value.specs.Contracts.{Below};
@@ -108,7 +108,7 @@ fn parent(bytes: &[u8], rows: &[u32], i: usize) -> usize
 
 // The member of the container `up` that node i is, or is below. There are at most 16 steps.
 fn member_above(bytes: &[u8], rows: &[u32], up: usize, i: usize) -> usize
-    requires { ⌜ Table (now bytes) (now rows) × Held (now bytes) up i ⌝ }
+    requires { ⌜ Table (now bytes) (now rows) × StandsIn (now bytes) up i ⌝ }
     ensures { λ r. ⌜ MemberAbove (now (bytes .entry)) up i r ⌝ }
 {
     let mut m = i;

@@ -9,7 +9,7 @@ use Rattle.pixel.specs.Pixel.{samplesOf, isFrame}
 use Rattle.pixel.specs.Contracts.{Shaped}
 
 -- A frame of the pixel bytes, and room for its picture.
-pub record Ready (v : List ℕ) (g : Geometry) (f : ℕ) (image : List ℕ) : Type 0 where
+pub record CanPaint (v : List ℕ) (g : Geometry) (f : ℕ) (image : List ℕ) : Type 0 where
   pub shape : Shaped g
   pub inside : isFrame g v f ≡ true
   pub room : samplesOf g ≤ length image

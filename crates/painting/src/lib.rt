@@ -8,7 +8,7 @@ ghost use Rattle.shift.specs.Contracts.{ShortMoves};
 ghost use Rattle.pixel.specs.Pixel.{samplesOf};
 ghost use Rattle.pixel.specs.Contracts.{painted, nativeShade, maskedShade, longestRow, Masks, shifted, Averaged, quarterShade};
 ghost use Rattle.lines.specs.Contracts.{shadesOf, Shaded, MaskedBy};
-ghost use Rattle.painting.specs.Contracts.{Ready};
+ghost use Rattle.painting.specs.Contracts.{CanPaint};
 use lines::Shades;
 use pixel::Geometry;
 use shift::Moves;
@@ -22,7 +22,7 @@ pub fn paint_native(
     table: &[u8],
     image: &mut [u8],
 )
-    requires { ⌜ Ready (now pixels) g frame (now image) × Shaded shades (g .stored) (now table) ⌝ }
+    requires { ⌜ CanPaint (now pixels) g frame (now image) × Shaded shades (g .stored) (now table) ⌝ }
     ensures { λ _. ⌜ now (image .exit) ≡ painted (nativeShade (shadesOf shades (g .stored)) g (now (pixels .entry)) frame) (samplesOf g) (now (image .entry)) ⌝ }
 {
     let rows = g.rows;
@@ -46,7 +46,7 @@ fn paint_whole(
     sums: &mut [u32],
     image: &mut [u8],
 )
-    requires { ⌜ Ready (now pixels) g frame (now image)
+    requires { ⌜ CanPaint (now pixels) g frame (now image)
         × (MaskedBy (now pixels) g (now masks) down right
         × (Shaded shades (g .stored) (now table)
         × ((shades .filled ≡ true) × ((down % 4 ≡ 0) × ((right % 4 ≡ 0) × (longestRow ≤ length (now sums))))))) ⌝ }
@@ -86,7 +86,7 @@ fn paint_blended(
     lower: &mut [u32],
     image: &mut [u8],
 )
-    requires { ⌜ Ready (now pixels) g frame (now image)
+    requires { ⌜ CanPaint (now pixels) g frame (now image)
         × (MaskedBy (now pixels) g (now masks) down right
         × (Shaded shades (g .stored) (now table)
         × ((longestRow ≤ length (now upper))
@@ -129,7 +129,7 @@ fn paint_quarters(
     upper: &mut [u32],
     image: &mut [u8],
 )
-    requires { ⌜ Ready (now pixels) g frame (now image)
+    requires { ⌜ CanPaint (now pixels) g frame (now image)
         × (MaskedBy (now pixels) g (now masks) down right × (Shaded shades (g .stored) (now table) × (longestRow ≤ length (now upper)))) ⌝ }
     ensures { λ _. ⌜ now (image .exit) ≡ painted (quarterShade (shadesOf shades (g .stored)) g (now (pixels .entry)) frame (usValues (now (masks .entry))) down right) (samplesOf g) (now (image .entry)) ⌝ }
 {
@@ -170,7 +170,7 @@ fn paint_by(
     row: &mut [u32],
     image: &mut [u8],
 )
-    requires { ⌜ Ready (now pixels) g frame (now image)
+    requires { ⌜ CanPaint (now pixels) g frame (now image)
         × (MaskedBy (now pixels) g (now masks) down right
         × (Shaded shades (g .stored) (now table) × ((shades .filled ≡ true) × (longestRow ≤ length (now row))))) ⌝ }
     ensures { λ _. ⌜ now (image .exit) ≡ painted (quarterShade (shadesOf shades (g .stored)) g (now (pixels .entry)) frame (usValues (now (masks .entry))) down right) (samplesOf g) (now (image .entry)) ⌝ }
@@ -230,7 +230,7 @@ pub fn paint_masked(
     table: &[u8],
     image: &mut [u8],
 )
-    requires { ⌜ Ready (now pixels) g frame (now image)
+    requires { ⌜ CanPaint (now pixels) g frame (now image)
         × (Masks (now pixels) g (now masks) × (ShortMoves moves × (Shaded shades (g .stored) (now table) × (shades .filled ≡ true)))) ⌝ }
     ensures { λ _. ⌜ now (image .exit) ≡ painted (maskedShade (shadesOf shades (g .stored)) g (now (pixels .entry)) frame (usValues (now (masks .entry))) moves) (samplesOf g) (now (image .entry)) ⌝ }
 {

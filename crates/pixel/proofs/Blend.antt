@@ -10,11 +10,13 @@ use borrow.Author.Tests.{lt-ltb}
 use lib.ListN.{length, getD}
 use lib.Dec.{ltb}
 use Rattle.shift.specs.declared.Moves.{Moves}
+use Rattle.shift.specs.Shift.{largestShift}
 use Rattle.pixel.specs.declared.Geometry.{Geometry}
 use Rattle.pixel.specs.Pixel.{samplesOf, sampleAt, averageOf, maskAt, rowOf, columnOf, neighbourOf, areInside, weightsOf, blendOf}
 use Rattle.pixel.specs.Pixel.{blendedAt}
 use Rattle.pixel.specs.Whole.{sourceOf}
-use Rattle.pixel.specs.Contracts.{painted, maskedShade, shifted, OffsetOf, Cells, Weights, Spread, Averaged, Averages, cellAt}
+use Rattle.pixel.specs.Contracts.{edges, farthest, farthestMove, painted, maskedShade, shifted, OffsetOf, Cells, Weights, Spread}
+use Rattle.pixel.specs.Contracts.{Averaged, Averages, cellAt}
 use Rattle.pixel.specs.Contracts.{maskPlace, blockAt, blendsAt, Blends, quarterShade, offsetShade, paintedFrom}
 use Rattle.pixel.proofs.Laws.{row-below, column-below, cell-below, mask-most, sum-fits, spread-most, place-row, place-column}
 use Rattle.pixel.proofs.Laws.{painted-at, from-length, from-at, from-after}
@@ -162,29 +164,34 @@ module _ (table : List ℕ) (g : Geometry) (v : List ℕ) (f : ℕ) (ks : List �
 -- ---- Rows of averages
 
 pub spread-fits : (v : List ℕ) (g : Geometry) (ks : List ℕ) (row : ℕ) (sums : List ℕ) → length ks ≤ 64 → g .stored ≤ 16
-    → Spread v g ks row sums → (j : ℕ) → j < g .columns + 129 → getD sums j 0 ≤ 4194240
+    → Spread v g ks row sums → (j : ℕ) → j < g .columns + edges → getD sums j 0 ≤ 4194240
 spread-fits v g ks row sums few high s j l = omega
     (arith, spread-most v g ks row sums (length ks) refl s j l, sum-fits (length ks) (g .stored) few high)
 
 -- The averages of a row of sums.
-pub averaged : (v : List ℕ) (g : Geometry) (ks : List ℕ) (row : ℕ) (sums : List ℕ) (n : ℕ) → n ≡ length ks → g .columns + 129 ≤ length sums
-    → Spread v g ks row sums → Averaged v g ks row (painted (λ j. averageOf (getD sums j 0) n) (g .columns + 129) sums)
+pub averaged : (v : List ℕ) (g : Geometry) (ks : List ℕ) (row : ℕ) (sums : List ℕ) (n : ℕ) → n ≡ length ks
+    → g .columns + edges ≤ length sums
+    → Spread v g ks row sums → Averaged v g ks row (painted (λ j. averageOf (getD sums j 0) n) (g .columns + edges) sums)
 unfolding maskAt
-averaged v g ks row sums n e room
-    s = record { at = λ j l. painted-at (λ j. averageOf (getD sums j 0) n) (g .columns + 129) sums j room l ∙ rw (s .at j l, e) }
+averaged v g ks row sums n e room s =
+    record { at = λ j l. painted-at (λ j. averageOf (getD sums j 0) n) (g .columns + edges) sums j room l ∙ rw (s .at j l, e) }
 
 -- A copy of such a row.
-pub averaged-copy : (v : List ℕ) (g : Geometry) (ks : List ℕ) (row : ℕ) (cells room : List ℕ) → g .columns + 129 ≤ length room
-    → Averaged v g ks row cells → Averaged v g ks row (painted (λ j. getD cells j 0) (g .columns + 129) room)
-averaged-copy v g ks row cells room h s = record { at = λ j l. painted-at (λ j. getD cells j 0) (g .columns + 129) room j h l ∙ s .at j l }
+pub averaged-copy : (v : List ℕ) (g : Geometry) (ks : List ℕ) (row : ℕ) (cells room : List ℕ) → g .columns + edges ≤ length room
+    → Averaged v g ks row cells → Averaged v g ks row (painted (λ j. getD cells j 0) (g .columns + edges) room)
+averaged-copy v g ks row cells room h
+    s = record { at = λ j l. painted-at (λ j. getD cells j 0) (g .columns + edges) room j h l ∙ s .at j l }
 
 pub averages : (v : List ℕ) (g : Geometry) (ks : List ℕ) (row : ℕ) (cells : List ℕ) → 1 ≤ length ks → length ks ≤ 64
-    → g .columns + 129 ≤ length cells → Averaged v g ks row cells → Averages g cells
-averages v g ks row cells some few room
-    s = record { at = λ j l. (omega arith, rw (s .at j l) (mask-most g v ks (row * g .columns + min (j - 64) (g .columns - 1)) some few)) }
+    → g .columns + edges ≤ length cells → Averaged v g ks row cells → Averages g cells
+averages v g ks row cells some few room s =
+    record {
+      at = λ j l.
+          (omega arith, rw (s .at j l) (mask-most g v ks (row * g .columns + min (j - largestShift) (g .columns - 1)) some few));
+    }
 
 -- The cells of a block of two such rows.
-pub block-cells : (g : Geometry) (upper lower : List ℕ) → Averages g upper → Averages g lower → (j : ℕ) → j + 1 < g .columns + 129
+pub block-cells : (g : Geometry) (upper lower : List ℕ) → Averages g upper → Averages g lower → (j : ℕ) → j + 1 < g .columns + edges
     → Cells (2 ^ g .stored - 1) (blockAt upper lower j)
 block-cells g upper lower u l j h = record {
   first = u .at j (omega arith) .1;
@@ -231,14 +238,14 @@ blends-row g s w upper lower masks b e c h =
     )
 
 -- A line's places in the table are those of its samples.
-module _ (v line : List ℕ) (g : Geometry) (f : ℕ) (ks upper lower masks : List ℕ) (down right r : ℕ) (most : right ≤ 512)
+module _ (v line : List ℕ) (g : Geometry) (f : ℕ) (ks upper lower masks : List ℕ) (down right r : ℕ) (most : right ≤ farthestMove)
     (u : Averaged v g ks (shifted (down / 4) (g .rows) r) upper) (l : Averaged v g ks (shifted (down / 4 + 1) (g .rows) r) lower) where
   pub blend-offset : (table : List ℕ) (c : ℕ) → c < g .columns → cellAt g line c ≡ sampleAt g v f (r * g .columns + c)
       → getD masks (right / 4 + c) 0 ≡ blendsAt upper lower (weightsOf (down % 4) (right % 4)) (right / 4) c
       → getD table (maskPlace g line masks (right / 4) c) 0 ≡ quarterShade table g v f ks down right (r * g .columns + c)
   unfolding maskPlace quarterShade
   blend-offset table c hc cell is =
-      let s : right / 4 ≤ 128 = omega (arith, div-add-mod' right 4) in
+      let s : right / 4 ≤ farthest = omega (arith, div-add-mod' right 4) in
       let z : right / 4 + c ≡ c + right / 4 = omega arith in
       let d : down / 4 + 0 ≡ down / 4 = omega arith in
       let x : right / 4 + 0 ≡ right / 4 = omega arith in

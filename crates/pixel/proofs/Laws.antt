@@ -1,6 +1,6 @@
 -- Bounds of samples, sums and averages, where a sample takes its mask from, and a painted picture.
 use mathlib.Core.Path.{_≡_, refl, sym, _∙_, ap, subst}
-use mathlib.Core.Bool.{Bool, true, false, _&&_}
+use mathlib.Core.Bool.{true}
 use mathlib.Core.List.{List, [], _∷_, _++_}
 use mathlib.Core.Logic.{_⊎_, inl, inr, ⊎-elim}
 use Prim.Native.Nat.{ℕ, zero, suc, _+_, _-_, _*_, _/_, _%_, _^_, _≤_, _<_, min}
@@ -10,21 +10,20 @@ use native.Mathlib.Nat.{mul-add-mod-self-right, div-eq-of-lt, pow-le-pow-right, 
 use native.Mathlib.Omega.{arith}
 use borrow.Author.Tests.{leb-true}
 use lib.Bits.{bitAnd, and-mask}
-use lib.Dec.{T, leb}
+use lib.Dec.{leb}
 use lib.Pow.{pow-pos, pow-lt, le-ones}
 use lib.ListN.{length, getD, set, take, drop, length-set, length-drop, List·getD-append}
 use lib.Seq.{getD-set-same, getD-set-other, drop-cons, drop-length, getD-append-add, length-take-le}
-use Rattle.basics.specs.Bytes.{le16}
+use Rattle.basics.proofs.Tests.{and-both}
+use Rattle.basics.specs.Bytes.{le16, leNumber}
 use Rattle.value.specs.Number.{usValues}
+use Rattle.shift.specs.Shift.{largestShift}
 use Rattle.pixel.specs.declared.Geometry.{Geometry}
-use Rattle.pixel.specs.Pixel.{leBytes, samplesOf, isFrame, sampleAt, sumAt, averageOf, maskAt}
-use Rattle.pixel.specs.Contracts.{painted, Masks, cellAt, plainPlace, maskPlace, Row, paintedFrom, Summed, Spread, shifted, rowShade}
-use Rattle.pixel.specs.Contracts.{offsetShade}
+use Rattle.pixel.specs.Pixel.{samplesOf, isFrame, sampleAt, sumAt, averageOf, maskAt}
+use Rattle.pixel.specs.Contracts.{painted, Masks, cellAt, plainPlace, maskPlace, RowLies, paintedFrom, Summed, Spread, shifted}
+use Rattle.pixel.specs.Contracts.{rowShade}
+use Rattle.pixel.specs.Contracts.{edges, farthest, offsetShade}
 use Rattle.pixel.proofs.Division.{average-most}
-
-both : (p q : Bool) → p && q ≡ true → (p ≡ true) × (q ≡ true)
-both true q h = (refl, h)
-both false q h = absurd (subst T (sym h) tt)
 
 below-or-not : (a b : ℕ) → (a < b) ⊎ (b ≤ a)
 below-or-not a zero = inr (omega arith)
@@ -72,14 +71,14 @@ kept-bits x low s e = ap (bitAnd x) e ∙ and-mask x s
 
 module _ (g : Geometry) (v : List ℕ) where
   pub cell-narrow : (low j : ℕ) → g .width ≡ 1 → low ≡ 2 ^ g .stored - 1 → bitAnd (getD v j 0) low ≡ cellAt g v j
-  unfolding cellAt leBytes
+  unfolding cellAt leNumber
   cell-narrow low j e k =
       let a : j * 1 ≡ j = omega arith in
       let b : getD v j 0 + 256 * 0 ≡ getD v j 0 = omega arith in
       rw (e, a, b) (kept-bits (getD v j 0) low (g .stored) k)
 
   pub cell-wide : (low j : ℕ) → g .width ≡ 2 → low ≡ 2 ^ g .stored - 1 → bitAnd (le16 v (2 * j)) low ≡ cellAt g v j
-  unfolding cellAt leBytes le16
+  unfolding cellAt leNumber le16
   cell-wide low j e k =
       let a : j * 2 ≡ 2 * j = omega arith in
       let b : getD v (2 * j + 1) 0 + 256 * 0 ≡ getD v (2 * j + 1) 0 = omega arith in
@@ -88,7 +87,7 @@ module _ (g : Geometry) (v : List ℕ) where
   -- A sample is below 2^stored, that is at most 2^stored - 1.
   pub cell-most : (j : ℕ) → cellAt g v j ≤ 2 ^ g .stored - 1
   unfolding cellAt
-  cell-most j = le-ones (g .stored) (mod-lt (leBytes (g .width) v (j * g .width)) (pow-pos (g .stored)))
+  cell-most j = le-ones (g .stored) (mod-lt (leNumber (g .width) v (j * g .width)) (pow-pos (g .stored)))
 
   pub sample-cell : (k i : ℕ) → sampleAt g v k i ≡ cellAt g v ((k - 1) * samplesOf g + i)
   unfolding sampleAt cellAt
@@ -103,7 +102,7 @@ module _ (g : Geometry) (v : List ℕ) where
   unfolding isFrame
   frame-facts k h =
       let p : (leb 1 k ≡ true)
-      × (leb (k * samplesOf g * g .width) (length v) ≡ true) = both (leb 1 k) (leb (k * samplesOf g * g .width) (length v)) h in
+      × (leb (k * samplesOf g * g .width) (length v) ≡ true) = and-both (leb 1 k) (leb (k * samplesOf g * g .width) (length v)) h in
       (leb-true _ _ (p .0), leb-true _ _ (p .1))
 
 -- Samples from `from` on, n of them, within l bytes.
@@ -115,7 +114,7 @@ run-at from n w l c some h t =
     (omega arith, omega arith)
 
 -- The bytes of sample c of a row.
-pub row-at : (v : List ℕ) (g : Geometry) → Row v g 0 → (c : ℕ) → c < g .columns → c * g .width + g .width ≤ length v
+pub row-at : (v : List ℕ) (g : Geometry) → RowLies v g 0 → (c : ℕ) → c < g .columns → c * g .width + g .width ≤ length v
 row-at v g r c h =
     let z : 0 + c ≡ c = omega arith in
     subst (λ (j : ℕ). j * g .width + g .width ≤ length v) z
@@ -241,7 +240,7 @@ module _ (g : Geometry) (i : ℕ) (inside : i < samplesOf g) where
       omega arith
 
 -- A row's shades are those of its samples.
-pub row-offset : (table v line : List ℕ) (g : Geometry) (f : ℕ) (ks sums : List ℕ) (down right r n : ℕ) → right ≤ 128 → n ≡ length ks
+pub row-offset : (table v line : List ℕ) (g : Geometry) (f : ℕ) (ks sums : List ℕ) (down right r n : ℕ) → right ≤ farthest → n ≡ length ks
     → Spread v g ks (shifted down (g .rows) r) sums → (c : ℕ) → c < g .columns → cellAt g line c ≡ sampleAt g v f (r * g .columns + c)
     → rowShade table g line sums n right c ≡ offsetShade table g v f ks down right (r * g .columns + c)
 unfolding rowShade offsetShade maskAt
@@ -377,54 +376,64 @@ module _ (k r c w : ℕ) (hk : k ≤ 65535) (hr : r ≤ 65535) (hc : c ≤ 65535
 
 -- ---- The sums of a row
 
--- A row from place 64 on, its first value put before it, and its last behind it.
-module _ (columns : ℕ) (s : List ℕ) (some : 1 ≤ columns) (fits : columns + 129 ≤ length s) where
+-- A row behind the left edge, its first value put before it, and its last behind it.
+module _ (columns : ℕ) (s : List ℕ) (some : 1 ≤ columns) (fits : columns + edges ≤ length s) where
   abbrev left : List ℕ
-  left = paintedFrom (λ _. getD s 64 0) 0 64 s
+  left = paintedFrom (λ _. getD s largestShift 0) 0 largestShift s
 
   abbrev whole : List ℕ
-  whole = paintedFrom (λ _. getD s (64 + columns - 1) 0) (64 + columns) 65 left
+  whole = paintedFrom (λ _. getD s (largestShift + columns - 1) 0) (largestShift + columns) (largestShift + 1) left
 
-  at-left : (j : ℕ) → j < 64 → getD whole j 0 ≡ getD s (64 + min (j - 64) (columns - 1)) 0
+  at-left : (j : ℕ) → j < largestShift → getD whole j 0 ≡ getD s (largestShift + min (j - largestShift) (columns - 1)) 0
   at-left j l =
-      let a : 64 + min (j - 64) (columns - 1) ≡ 64 = omega arith in
-      let b : getD left (0 + j) 0 ≡ getD s 64 0 = from-at (λ _. getD s 64 0) 0 64 s j (omega arith) l in
-      from-before (λ _. getD s (64 + columns - 1) 0) (64 + columns) 65 left j (omega arith)
+      let a : largestShift + min (j - largestShift) (columns - 1) ≡ largestShift = omega arith in
+      let b : getD left (0 + j) 0 ≡ getD s largestShift 0 = from-at (λ _. getD s largestShift 0) 0 largestShift s j (omega arith) l in
+      from-before (λ _. getD s (largestShift + columns - 1) 0) (largestShift + columns) (largestShift + 1) left j (omega arith)
       ∙ ap (λ (i : ℕ). getD left i 0) (sym (zero-add j)) ∙ b ∙ ap (λ (i : ℕ). getD s i 0) (sym a)
 
-  at-middle : (j : ℕ) → 64 ≤ j → j < 64 + columns → getD whole j 0 ≡ getD s (64 + min (j - 64) (columns - 1)) 0
+  at-middle : (j : ℕ) → largestShift ≤ j → j < largestShift + columns
+      → getD whole j 0 ≡ getD s (largestShift + min (j - largestShift) (columns - 1)) 0
   at-middle j h l =
-      let a : 64 + min (j - 64) (columns - 1) ≡ j = omega arith in
-      from-before (λ _. getD s (64 + columns - 1) 0) (64 + columns) 65 left j l ∙ from-after (λ _. getD s 64 0) 0 64 s j (omega arith)
+      let a : largestShift + min (j - largestShift) (columns - 1) ≡ j = omega arith in
+      from-before (λ _. getD s (largestShift + columns - 1) 0) (largestShift + columns) (largestShift + 1) left j l
+      ∙ from-after (λ _. getD s largestShift 0) 0 largestShift s j (omega arith)
       ∙ ap (λ (i : ℕ). getD s i 0) (sym a)
 
-  at-right : (j : ℕ) → 64 + columns ≤ j → j < columns + 129 → getD whole j 0 ≡ getD s (64 + min (j - 64) (columns - 1)) 0
+  at-right : (j : ℕ) → largestShift + columns ≤ j → j < columns + edges
+      → getD whole j 0 ≡ getD s (largestShift + min (j - largestShift) (columns - 1)) 0
   at-right j h l =
-      let a : 64 + min (j - 64) (columns - 1) ≡ 64 + columns - 1 = omega arith in
-      let e : 64 + columns + (j - (64 + columns)) ≡ j = omega arith in
-      let f : length left ≡ length s = from-length (λ _. getD s 64 0) 0 64 s in
+      let a : largestShift + min (j - largestShift) (columns - 1) ≡ largestShift + columns - 1 = omega arith in
+      let e : largestShift + columns + (j - (largestShift + columns)) ≡ j = omega arith in
+      let f : length left ≡ length s = from-length (λ _. getD s largestShift 0) 0 largestShift s in
       ap (λ (i : ℕ). getD whole i 0) (sym e)
-      ∙ from-at (λ _. getD s (64 + columns - 1) 0) (64 + columns) 65 left (j - (64 + columns)) (omega arith) (omega arith)
+      ∙ from-at (λ _. getD s (largestShift + columns - 1) 0) (largestShift + columns) (largestShift + 1) left (j - (largestShift + columns))
+      (omega arith) (omega arith)
       ∙ ap (λ (i : ℕ). getD s i 0) (sym a)
 
-  pub spread-at : (j : ℕ) → j < columns + 129 → getD whole j 0 ≡ getD s (64 + min (j - 64) (columns - 1)) 0
-  spread-at j l = ⊎-elim (at-left j) (λ h. ⊎-elim (at-middle j h) (λ m. at-right j m l) (below-or-not j (64 + columns))) (below-or-not j 64)
+  pub spread-at : (j : ℕ) → j < columns + edges → getD whole j 0 ≡ getD s (largestShift + min (j - largestShift) (columns - 1)) 0
+  spread-at j l = ⊎-elim (at-left j) (λ h. ⊎-elim (at-middle j h) (λ m. at-right j m l) (below-or-not j (largestShift + columns)))
+      (below-or-not j largestShift)
 
--- The sums of a row, put so into a list from place 64 on.
+-- The sums of a row, put so into a list behind the left edge.
 pub spread-row : (v : List ℕ) (g : Geometry) (ks : List ℕ) (row : ℕ) (sums s rest after : List ℕ) → 1 ≤ g .columns
-    → g .columns ≤ length sums → 64 ≤ length s → Summed v g ks row sums
-    → ((j : ℕ) → j < g .columns + 129 → getD after j 0 ≡ getD (take 64 s ++ (sums ++ rest)) (64 + min (j - 64) (g .columns - 1)) 0)
+    → g .columns ≤ length sums → largestShift ≤ length s → Summed v g ks row sums
+    → ((j : ℕ) → j < g .columns + edges
+    → getD after j 0 ≡ getD (take largestShift s ++ (sums ++ rest)) (largestShift + min (j - largestShift) (g .columns - 1)) 0)
     → Spread v g ks row after
 spread-row v g ks row sums s rest after some fits room r
-    a = record { at = λ j l. a j l ∙ part (min (j - 64) (g .columns - 1)) (low j) ∙ r .at (min (j - 64) (g .columns - 1)) (low j) }
+    a = record {
+      at = λ j l.
+          a j l ∙ part (min (j - largestShift) (g .columns - 1)) (low j) ∙ r .at (min (j - largestShift) (g .columns - 1)) (low j);
+    }
   where
-    low : (j : ℕ) → min (j - 64) (g .columns - 1) < g .columns
-    low j = omega (arith, min-le-right (j - 64) (g .columns - 1))
+    low : (j : ℕ) → min (j - largestShift) (g .columns - 1) < g .columns
+    low j = omega (arith, min-le-right (j - largestShift) (g .columns - 1))
 
-    part : (c : ℕ) → c < g .columns → getD (take 64 s ++ (sums ++ rest)) (64 + c) 0 ≡ getD sums c 0
+    part : (c : ℕ) → c < g .columns → getD (take largestShift s ++ (sums ++ rest)) (largestShift + c) 0 ≡ getD sums c 0
     part c l =
-        let e : length (take 64 s) ≡ 64 = length-take-le 64 s room in
-        ap (λ (n : ℕ). getD (take 64 s ++ (sums ++ rest)) (n + c) 0) (sym e) ∙ getD-append-add (take 64 s) (sums ++ rest) c 0
+        let e : length (take largestShift s) ≡ largestShift = length-take-le largestShift s room in
+        ap (λ (n : ℕ). getD (take largestShift s ++ (sums ++ rest)) (n + c) 0) (sym e)
+        ∙ getD-append-add (take largestShift s) (sums ++ rest) c 0
         ∙ List·getD-append sums rest 0 c (omega arith)
 
 module _ (v : List ℕ) (g : Geometry) (ks : List ℕ) (row : ℕ) where
@@ -471,8 +480,8 @@ module _ (v : List ℕ) (g : Geometry) (ks : List ℕ) (row : ℕ) where
       omega arith
 
 pub spread-most : (v : List ℕ) (g : Geometry) (ks : List ℕ) (row : ℕ) (s : List ℕ) (n : ℕ) → n ≡ length ks → Spread v g ks row s → (j : ℕ)
-    → j < g .columns + 129 → getD s j 0 ≤ n * (2 ^ g .stored - 1)
-spread-most v g ks row s n e sums j l = rw (sums .at j l, e) (sum-most g v ks (row * g .columns + min (j - 64) (g .columns - 1)))
+    → j < g .columns + edges → getD s j 0 ≤ n * (2 ^ g .stored - 1)
+spread-most v g ks row s n e sums j l = rw (sums .at j l, e) (sum-most g v ks (row * g .columns + min (j - largestShift) (g .columns - 1)))
 
 -- Number k of the mask frames.
 pub mask-frame : (v : List ℕ) (g : Geometry) (ms : List ℕ) (k x : ℕ) → Masks v g ms → 0 < k → k ≤ length (usValues ms)

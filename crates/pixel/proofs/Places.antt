@@ -7,10 +7,12 @@ use lib.IntN.{ℤ, pos, negsuc, natAbs, _+ℤ_}
 use Rattle.value.specs.declared.Signed.{Signed}
 use Rattle.value.specs.declared.Signed.the-variants.{Plus, Minus, None}
 use Rattle.window.proofs.Gaps.{Gap, shift, whole, plus, less, gap, times, value}
+use Rattle.shift.specs.Shift.{largestShift, largestMove}
+use Rattle.shift.specs.Contracts.{tooFar}
 use Rattle.shift.specs.Whole.{inQuarters}
 use Rattle.pixel.specs.Pixel.{lessShift, wholeBelow, quartersAbove, limitedTo, placeOf, restOf}
 use Rattle.pixel.specs.Whole.{movedBy}
-use Rattle.pixel.specs.Contracts.{shifted, OffsetOf}
+use Rattle.pixel.specs.Contracts.{farthestMove, shifted, OffsetOf}
 
 -- ---- A number of quarters
 
@@ -51,33 +53,35 @@ minus-gap (suc n) r = shift (less {z = negsuc n} {c = 0} {d = suc n} (whole (4 *
 lacks-gap : (r : ℕ) → Gap (lessShift None r) (4 * r) 0
 lacks-gap r = shift (less (whole (4 * r)) (whole 0)) (4 * r) 0 (omega arith)
 
--- An offset d, that is 256 less the shift.
-module _ (m : Signed) (d : ℕ) (most : d ≤ 512) (is : (r : ℕ) → Gap (lessShift m r) (4 * r + d) 256) where
-  parts : (r : ℕ) → Gap (lessShift m r) (4 * (r + d / 4) + d % 4) (4 * 64)
-  parts r = shift (is r) (4 * (r + d / 4) + d % 4) 256 (omega (arith, div-add-mod' d 4))
+-- An offset d, that is the largest move less the shift.
+module _ (m : Signed) (d : ℕ) (most : d ≤ farthestMove) (is : (r : ℕ) → Gap (lessShift m r) (4 * r + d) largestMove) where
+  parts : (r : ℕ) → Gap (lessShift m r) (4 * (r + d / 4) + d % 4) (4 * largestShift)
+  parts r = shift (is r) (4 * (r + d / 4) + d % 4) largestMove (omega (arith, div-add-mod' d 4))
 
   offset-is : OffsetOf m d
   unfolding placeOf restOf
   offset-is =
       record {
         most = most;
-        places = λ size r k. below-limited (r + d / 4) 64 (d % 4) (fourths d) (parts r) size k ∙ same size r k;
-        above = λ r. above-is (r + d / 4) 64 (d % 4) (fourths d) (parts r);
+        places = λ size r k. below-limited (r + d / 4) largestShift (d % 4) (fourths d) (parts r) size k ∙ same size r k;
+        above = λ r. above-is (r + d / 4) largestShift (d % 4) (fourths d) (parts r);
       }
     where
-      same : (size r k : ℕ) → min (r + d / 4 + k - 64) (size - 1) ≡ shifted (d / 4 + k) size r
+      same : (size r k : ℕ) → min (r + d / 4 + k - largestShift) (size - 1) ≡ shifted (d / 4 + k) size r
       same size r k =
           let e : r + d / 4 + k ≡ r + (d / 4 + k) = omega arith in
           rw e
 
-pub offset-plus : (n : ℕ) → n < 257 → OffsetOf (Plus n) (256 - n)
-offset-plus n h = offset-is (Plus n) (256 - n) (omega arith) (λ r. shift (gap (4 * r) n) (4 * r + (256 - n)) 256 (omega arith))
+pub offset-plus : (n : ℕ) → n < tooFar → OffsetOf (Plus n) (largestMove - n)
+offset-plus n h = offset-is (Plus n) (largestMove - n) (omega arith)
+    (λ r. shift (gap (4 * r) n) (4 * r + (largestMove - n)) largestMove (omega arith))
 
-pub offset-minus : (n : ℕ) → n < 257 → OffsetOf (Minus n) (256 + n)
-offset-minus n h = offset-is (Minus n) (256 + n) (omega arith) (λ r. shift (minus-gap n r) (4 * r + (256 + n)) 256 (omega arith))
+pub offset-minus : (n : ℕ) → n < tooFar → OffsetOf (Minus n) (largestMove + n)
+offset-minus n h = offset-is (Minus n) (largestMove + n) (omega arith)
+    (λ r. shift (minus-gap n r) (4 * r + (largestMove + n)) largestMove (omega arith))
 
-pub offset-none : OffsetOf None 256
-offset-none = offset-is None 256 (omega arith) (λ r. shift (lacks-gap r) (4 * r + 256) 256 (omega arith))
+pub offset-none : OffsetOf None largestMove
+offset-none = offset-is None largestMove (omega arith) (λ r. shift (lacks-gap r) (4 * r + largestMove) largestMove (omega arith))
 
 -- ---- Whole moves, of any size
 

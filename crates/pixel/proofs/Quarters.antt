@@ -3,12 +3,12 @@ use Prim.Native.Nat.{ℕ, _/_, _%_, min, max}
 use native.Mathlib.Omega.{arith}
 use Rattle.pixel.specs.Pixel.{maskAt, neighbourOf, blendedAt}
 use Rattle.pixel.specs.Whole.{sourceOf}
-use Rattle.pixel.specs.Quarters.{Agree, Between}
+use Rattle.pixel.specs.Quarters.{AgreeCells, Between}
 use Rattle.pixel.proofs.Laws.{row-below, column-below}
 use Rattle.pixel.proofs.Places.{whole-place, rest-below}
 use Rattle.pixel.proofs.Blend.{weights-total, blend-first, blend-least, blend-most}
 
-pub agree : Agree
+pub agree : AgreeCells
 unfolding blendedAt neighbourOf sourceOf
 agree g v ks m i inside =
     let r = whole-place (m .vertical) (g .rows) (i / g .columns) (row-below g i inside) in

@@ -2,9 +2,11 @@
 use Prim.Native.Nat.{ℕ, zero, suc, _+_, _-_, _^_, _*_, _/_, _%_, _≤_, _<_, min}
 use mathlib.Core.List.{List, [], _∷_}
 use lib.ListN.{getD, set, length}
+use Rattle.window.specs.Contracts.{shadePlaces}
+use Rattle.basics.specs.Bytes.{leNumber}
 use Rattle.shift.specs.declared.Moves.{Moves}
 use Rattle.pixel.specs.declared.Geometry.{Geometry}
-use Rattle.pixel.specs.Pixel.{sampleAt, blendedAt, leBytes, isFrame, sumAt, averageOf, maskAt, placeOf, restOf, blockOf, weightsOf}
+use Rattle.pixel.specs.Pixel.{sampleAt, blendedAt, isFrame, sumAt, averageOf, maskAt, placeOf, restOf, blockOf, weightsOf}
 use Rattle.pixel.specs.Pixel.{blendOf}
 use mathlib.Core.Path.{_≡_}
 use mathlib.Core.Bool.{true}
@@ -66,7 +68,7 @@ pub record Masks (pixels : List ℕ) (g : Geometry) (masks : List ℕ) : Type 0 
 
 -- ---- Numbers below which no product passes 64 bits
 
-pub record Small (g : Geometry) (k : ℕ) : Type 0 where
+pub record SmallProducts (g : Geometry) (k : ℕ) : Type 0 where
   pub rows : g .rows ≤ 65535
   pub columns : g .columns ≤ 65535
   pub width : g .width ≤ 8191
@@ -76,7 +78,7 @@ pub record Small (g : Geometry) (k : ℕ) : Type 0 where
 
 -- Sample j of all frames, counted from 0.
 unfoldable pub cellAt : Geometry → List ℕ → ℕ → ℕ
-cellAt g v j = leBytes (g .width) v (j * g .width) % 2 ^ g .stored
+cellAt g v j = leNumber (g .width) v (j * g .width) % 2 ^ g .stored
 
 -- The place of sample j in a table of shades, where it takes no mask, and where it takes mask values that begin at an offset.
 unfoldable pub plainPlace : Geometry → List ℕ → ℕ → ℕ
@@ -92,7 +94,7 @@ pub record Lies (v : List ℕ) (g : Geometry) (low j : ℕ) : Type 0 where
   pub inside : j * g .width + g .width ≤ length v
 
 -- The samples of a row that begins with sample `from` lie in the pixel bytes.
-pub record Row (v : List ℕ) (g : Geometry) (from : ℕ) : Type 0 where
+pub record RowLies (v : List ℕ) (g : Geometry) (from : ℕ) : Type 0 where
   pub shape : Shaped g
   pub inside : (from + g .columns) * g .width ≤ length v
 
@@ -155,11 +157,11 @@ offsetShade table g v f ks down right i =
 
 -- What a row is drawn from.
 pub record Drawn (v : List ℕ) (g : Geometry) (n s : ℕ) (table sums line : List ℕ) : Type 0 where
-  pub row : Row v g 0
+  pub row : RowLies v g 0
   pub some : 1 ≤ n
   pub few : n ≤ 64
   pub most : s ≤ farthest
-  pub shades : 131072 ≤ length table
+  pub shades : shadePlaces ≤ length table
   pub summed : (j : ℕ) → j < g .columns + edges → (j < length sums) × (getD sums j 0 ≤ n * (2 ^ g .stored - 1))
   pub room : g .columns ≤ length line
 
@@ -199,7 +201,7 @@ pub record Blends (g : Geometry) (s : ℕ) (w upper lower : List ℕ) : Type 0 w
 
 -- What a row is drawn from once its mask values are known.
 pub record Subtracts (v : List ℕ) (g : Geometry) (s : ℕ) (masks line : List ℕ) : Type 0 where
-  pub row : Row v g 0
+  pub row : RowLies v g 0
   pub most : s ≤ farthest
   pub masked : (c : ℕ) → c < g .columns → (s + c < length masks) × (getD masks (s + c) 0 ≤ 2 ^ g .stored - 1)
   pub room : g .columns ≤ length line

@@ -1,21 +1,17 @@
 -- Drawing steps 1, 3 and 4 over the bytes of Pixel Data: samples (the paper's cells), the average of mask frames, and
 -- the mask value that a sample takes, blended from four. Samples of a frame are numbered row by row from 0, frames from 1.
-use Prim.Native.Nat.{ℕ, zero, suc, _+_, _-_, _*_, _/_, _%_, _^_, min}
+use Prim.Native.Nat.{ℕ, _+_, _-_, _*_, _/_, _%_, _^_, min}
 use mathlib.Core.Bool.{Bool, _&&_}
 use mathlib.Core.List.{List, [], _∷_}
 use lib.ListN.{length, getD}
 use lib.Dec.{leb, ltb}
 use lib.IntN.{ℤ, pos, negsuc, natAbs, _+ℤ_, _-ℤ_, _*ℤ_}
+use Rattle.basics.specs.Bytes.{leNumber}
 use Rattle.value.specs.declared.Signed.{Signed}
 use Rattle.shift.specs.declared.Moves.{Moves}
 use Rattle.shift.specs.Shift.{shiftUnit}
 use Rattle.window.specs.Window.{integer, floor}
 use Rattle.pixel.specs.declared.Geometry.{Geometry}
-
--- A little-endian number of n bytes.
-unfoldable pub leBytes : ℕ → List ℕ → ℕ → ℕ
-leBytes zero v p = 0
-leBytes (suc n) v p = getD v p 0 + 256 * leBytes n v (p + 1)
 
 -- How many samples a frame has.
 abbrev pub samplesOf : Geometry → ℕ
@@ -27,7 +23,7 @@ isFrame g v k = leb 1 k && leb (k * samplesOf g * g .width) (length v)
 
 -- Step 1. A cell is its little-endian number modulo 2^stored: sample i of frame k.
 unfoldable pub sampleAt : Geometry → List ℕ → ℕ → ℕ → ℕ
-sampleAt g v k i = leBytes (g .width) v (((k - 1) * samplesOf g + i) * g .width) % 2 ^ g .stored
+sampleAt g v k i = leNumber (g .width) v (((k - 1) * samplesOf g + i) * g .width) % 2 ^ g .stored
 
 -- Step 3. The mask is floor((2S + n) / 2n), S the sum of the n mask frames' cells.
 unfoldable pub sumAt : Geometry → List ℕ → List ℕ → ℕ → ℕ

@@ -1,7 +1,7 @@
 -- What Q-4 asks of the blend of step 4, as two statements. On whole shifts both rules agree: if the mask is moved by any number of whole
 -- rows and columns, in any direction, the blended value of every cell of the picture is the mask cell that the step of whole pixels took
--- (`Agree`; specs/Whole has that step). And a blended value is never smaller than the least of its four neighbours and never greater than
--- the greatest of them, for any mask frames, any moves and any cell (`Between`). Proved in proofs/Quarters.
+-- (`AgreeCells`; specs/Whole has that step). And a blended value is never smaller than the least of its four neighbours and never greater
+-- than the greatest of them, for any mask frames, any moves and any cell (`Between`). Proved in proofs/Quarters.
 use mathlib.Core.Path.{_≡_}
 use mathlib.Core.List.{List}
 use Prim.Native.Nat.{ℕ, _≤_, _<_, min, max}
@@ -11,8 +11,8 @@ use Rattle.pixel.specs.declared.Geometry.{Geometry}
 use Rattle.pixel.specs.Pixel.{samplesOf, maskAt, neighbourOf, blendedAt}
 use Rattle.pixel.specs.Whole.{sourceOf}
 
-abbrev pub Agree : Type 0
-Agree =
+abbrev pub AgreeCells : Type 0
+AgreeCells =
     (g : Geometry) (v ks : List ℕ) (m : Moves) (i : ℕ) → i < samplesOf g
     → blendedAt g v ks (movesInQuarters m) i ≡ maskAt g v ks (sourceOf g m i)
 

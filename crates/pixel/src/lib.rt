@@ -2,12 +2,14 @@
 ghost use mathlib.Core.Path.{_≡_};
 ghost use Prim.Native.Nat.{ℕ, _+_, _-_, _*_, _/_, _^_, _≤_, _<_, min};
 ghost use lib.ListN.{length, getD};
+ghost use Rattle.window.specs.Contracts.{shadePlaces};
 ghost use Rattle.value.specs.Contracts.{SizeBelow};
 ghost use Rattle.value.specs.Number.{usValues};
 ghost use Rattle.shift.specs.Shift.{largestShift};
 ghost use Rattle.shift.specs.Contracts.{tooFar};
 ghost use Rattle.pixel.specs.Pixel.{isFrame, averageOf, weightsOf, blendOf};
-ghost use Rattle.pixel.specs.Contracts.{painted, edges, Masks, Small, Shaped, cellAt, plainPlace, maskPlace, Lies, Row, OffsetOf};
+ghost use Rattle.pixel.specs.Contracts.{painted, edges, Masks, SmallProducts, Shaped, cellAt, plainPlace, maskPlace, Lies, RowLies};
+ghost use Rattle.pixel.specs.Contracts.{OffsetOf};
 ghost use Rattle.pixel.specs.Contracts.{shifted, Summed, Spread, Averaged, Cells, Weights, paintedFrom, rowShade, Drawn, Blends};
 ghost use Rattle.pixel.specs.Contracts.{blendsAt, Subtracts};
 use basics::u16_at;
@@ -46,7 +48,7 @@ pub const LONGEST: usize = 65535 + EDGES;
 
 // Whether the whole frame k lies inside the pixel bytes.
 pub fn is_frame(g: Geometry, pixels: &[u8], k: usize) -> bool
-    requires { ⌜ Small g k ⌝ }
+    requires { ⌜ SmallProducts g k ⌝ }
     ensures { λ r. ⌜ r ≡ isFrame g (now (pixels .entry)) k ⌝ }
 {
     if 1 <= k {
@@ -79,7 +81,7 @@ pub fn sample(pixels: &[u8], g: Geometry, low: usize, j: usize) -> usize
 
 // Draws a row of a frame that takes no mask.
 pub fn plain_row(line: &[u8], g: Geometry, table: &[u8], levels: &mut [u8])
-    requires { ⌜ Row (now line) g 0 × ((131072 ≤ length (now table)) × (g .columns ≤ length (now levels))) ⌝ }
+    requires { ⌜ RowLies (now line) g 0 × ((shadePlaces ≤ length (now table)) × (g .columns ≤ length (now levels))) ⌝ }
     ensures { λ _. ⌜ now (levels .exit) ≡ painted (λ c. getD (now (table .entry)) (plainPlace g (now (line .entry)) c) 0) (g .columns) (now (levels .entry)) ⌝ }
 {
     let columns = g.columns;
@@ -139,7 +141,7 @@ fn fill(at: usize, count: usize, value: u32, sums: &mut [u32])
 
 // Adds the samples of a row, the first of which is sample `from`, to its sums.
 fn add_row(pixels: &[u8], g: Geometry, from: usize, sums: &mut [u32])
-    requires { ⌜ Row (now pixels) g from × ((c : ℕ) → c < g .columns → (c < length (now sums)) × (getD (now sums) c 0 < 4294901760)) ⌝ }
+    requires { ⌜ RowLies (now pixels) g from × ((c : ℕ) → c < g .columns → (c < length (now sums)) × (getD (now sums) c 0 < 4294901760)) ⌝ }
     ensures { λ _. ⌜ now (sums .exit) ≡ painted (λ c. getD (now (sums .entry)) c 0 + cellAt g (now (pixels .entry)) (from + c)) (g .columns) (now (sums .entry)) ⌝ }
 {
     let columns = g.columns;
@@ -294,7 +296,7 @@ pub fn masked_row(
     table: &[u8],
     levels: &mut [u8],
 )
-    requires { ⌜ Subtracts (now line) g s (now masks) (now levels) × (131072 ≤ length (now table)) ⌝ }
+    requires { ⌜ Subtracts (now line) g s (now masks) (now levels) × (shadePlaces ≤ length (now table)) ⌝ }
     ensures { λ _. ⌜ now (levels .exit) ≡ painted (λ c. getD (now (table .entry)) (maskPlace g (now (line .entry)) (now (masks .entry)) s c) 0) (g .columns) (now (levels .entry)) ⌝ }
 {
     let columns = g.columns;

@@ -6,17 +6,17 @@ use mathlib.Core.List.{List, [], _∷_}
 use lib.Dec.{eqb}
 use Rattle.basics.specs.Vr.{SQ, DS, US, FL, OW}
 use Rattle.value.specs.Text.{ascii}
-use Rattle.value.specs.Number.{usOf}
+use Rattle.value.specs.Number.{usOf, numberOr0}
 use Rattle.value.specs.declared.Num.{Num}
 use Rattle.value.specs.declared.Num.the-variants.{Is, None}
 use Rattle.shift.specs.Shift.{isFrameShift}
 use Rattle.node.specs.Nodes.{Node, nodeAt, root, inside}
 use Rattle.node.specs.Find.{holds, ifPresent, absent, andThen, find, findVr, ofVr, filled}
-use Rattle.element.specs.Tags
+use Rattle.basics.specs.Tags
 use Rattle.element.specs.Elements.{valueAt, oneItem, theItem, every}
 use Rattle.element.specs.Frames.{framesOf, sharedItem, frameItems, frameItem, groupOf, maskItems, operationIs}
 use Rattle.rules.specs.Frame.{atFrame, isShared, repeatsShared, item27, rule27, item28, rule28, item29, rule29, hasWindow, isVoi, item30}
-use Rattle.rules.specs.Frame.{rule30, numberOr0, unique, uniqueIds, hasId, isShiftItem, isShiftGroup, item37, rule37}
+use Rattle.rules.specs.Frame.{rule30, unique, uniqueIds, hasId, isShiftItem, isShiftGroup, item37, rule37}
 use Rattle.rules.specs.Mask.{isOperation, isMask, rule31, isRange, rangeFits, rule32, areMaskFrames, isOne, averageFits, averagesFit}
 use Rattle.rules.specs.Mask.{rule33, isOffset, offsetFits, rule34, isShiftAt, shiftFits, rule35, hasShiftGroup, anyShift, masksHaveIds}
 use Rattle.rules.specs.Mask.{rule36}

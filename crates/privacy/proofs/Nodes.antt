@@ -7,7 +7,7 @@ use lib.ListN.{length, length-map, getD}
 use Rattle.dataset.specs.Reading.{Row}
 use Rattle.dataset.specs.Tree.{rowsOf, rowAt, noRow}
 use Rattle.node.specs.Nodes.{Node, nodeOf, nodesOf, nodeAt, noNode, valueIn}
-use Rattle.element.specs.Tags
+use Rattle.basics.specs.Tags
 use Rattle.privacy.specs.Read.{isRead}
 use Rattle.privacy.specs.Alike.{Alike, SamePixels}
 use Rattle.privacy.specs.Rows.{outline, SameRows}

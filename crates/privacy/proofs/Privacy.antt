@@ -10,14 +10,14 @@ use borrow.Author.Tests.{eqb-true}
 use Rattle.dataset.specs.Reading.{Row}
 use Rattle.dataset.specs.Tree.{rowAt}
 use Rattle.node.specs.Nodes.{nodesOf, valueIn}
-use Rattle.element.specs.Tags
+use Rattle.basics.specs.Tags
 use Rattle.element.specs.Elements.{every}
 use Rattle.rules.specs.Frame.{isIn}
 use Rattle.slip.specs.Slip.{slipOf}
 use Rattle.conformance.specs.Judging.{judgeOf, verdictOf}
 use Rattle.conformance.specs.declared.JudgeAnswer.{JudgeAnswer}
 use Rattle.display.specs.Show.{showOf, imageOf}
-use Rattle.linear.specs.Answer.{linearOf, valuesOf}
+use Rattle.linear.specs.Answer.{linearOf, valuesLeft}
 use Rattle.sheet.specs.Answer.{sheetOf}
 use Rattle.compare.specs.Answer.{compareOf}
 use Rattle.searches.specs.Reported.{reportedOf}
@@ -118,8 +118,8 @@ module _ (s t : List ℕ) (p : SameButPatient s t) where
   unfolding linearOf
   mapped-same frame buffer values = rw (judged-same buffer) (linear-same a frame values (judgeOf t buffer))
 
-  values-same : (frame : ℕ) (buffer values : List ℕ) → valuesOf s frame buffer values ≡ valuesOf t frame buffer values
-  unfolding valuesOf
+  values-same : (frame : ℕ) (buffer values : List ℕ) → valuesLeft s frame buffer values ≡ valuesLeft t frame buffer values
+  unfolding valuesLeft
   values-same frame buffer values = rw (entries-same a b frame, mapped-same frame buffer values)
 
   answers : SameAnswers s t

@@ -9,7 +9,7 @@ use Rattle.value.specs.Words.{wordAt}
 use Rattle.value.specs.declared.Num.the-variants.{Is}
 use Rattle.node.specs.Nodes.{Node, root}
 use Rattle.node.specs.Find.{absent, find, findVr}
-use Rattle.element.specs.Tags
+use Rattle.basics.specs.Tags
 use Rattle.element.specs.Elements.{usIn, oneItem}
 use Rattle.element.specs.Frames.{framesOf}
 use Rattle.rules.specs.Root.{isXa, isXrf, imageTypeIs, isImageType, planesAre, isOtherPlane, photometricIs, lossyIs, isOriginal}

@@ -11,10 +11,11 @@ use Rattle.node.specs.Find.{orElse, find}
 use Rattle.element.specs.Elements.{insideOf}
 use Rattle.element.specs.Frames.{sharedItem, frameItems, maskItems}
 use Rattle.searches.specs.Count.{lowerTags, remains, lookedAt}
-use Rattle.searches.specs.Searches.{Search, GroupSearch, rootSearches, maskSearches, frameSearches, searchedAmong, maskSum, readIn}
-use Rattle.searches.specs.Searches.{readInEach, inShared, groupSum, groupsSum, frameSum, framesSum, overFrames, searchesOf}
+use Rattle.searches.specs.Searches.{Search, GroupSearch, rootSearches, maskSearches, frameSearches, searchedAmong, maskSum, lookedIn}
+use Rattle.searches.specs.Searches.{lookedInEach, inShared, groupSum, groupsSum, frameSum, framesSum, overFrames, searchesOf}
 use Rattle.privacy.specs.Alike.{Alike}
-use Rattle.privacy.proofs.Words.{some-same, inside-same, root-same, find-same, shared-same, frame-items-same, mask-items-same}
+use Rattle.privacy.proofs.Words.{some-same, inside-same, inside-of-same, root-same, find-same, shared-same}
+use Rattle.privacy.proofs.Words.{frame-items-same, mask-items-same}
 
 module _ {ns ms : List Node} (a : Alike ns ms) where
   -- ---- One search
@@ -46,19 +47,15 @@ module _ {ns ms : List Node} (a : Alike ns ms) where
 
   -- ---- The frames
 
-  read-same : (tags : List ℕ) (j : ℕ) → readIn ns tags j ≡ readIn ms tags j
-  unfolding readIn
+  read-same : (tags : List ℕ) (j : ℕ) → lookedIn ns tags j ≡ lookedIn ms tags j
+  unfolding lookedIn
   read-same [] j = refl
   read-same (tag ∷ tags) j = rw (inside-same a j, looked-same tag (inside ms j), read-same tags j)
 
-  read-each-same : (tags js : List ℕ) → readInEach ns tags js ≡ readInEach ms tags js
-  unfolding readInEach
+  read-each-same : (tags js : List ℕ) → lookedInEach ns tags js ≡ lookedInEach ms tags js
+  unfolding lookedInEach
   read-each-same tags [] = refl
   read-each-same tags (j ∷ js) = rw (read-same tags j, read-each-same tags js)
-
-  items-same : (o : Num) → insideOf ns o ≡ insideOf ms o
-  items-same None = refl
-  items-same (Is g) = inside-same a g
 
   group-sum-same : (g : GroupSearch) (s i : ℕ) → groupSum ns g s i ≡ groupSum ms g s i
   unfolding groupSum inShared
@@ -71,7 +68,7 @@ module _ {ns ms : List Node} (a : Alike ns ms) where
         looked-same (g .group) (inside ms s),
         find-same a (g .group) (inside ms i),
         find-same a (g .group) (inside ms s),
-        items-same found,
+        inside-of-same a found,
         read-each-same (g .reads) (insideOf ms found),
       )
 

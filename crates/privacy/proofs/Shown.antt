@@ -3,7 +3,7 @@ use mathlib.Core.Path.{_≡_, refl}
 use Prim.Native.Nat.{ℕ}
 use mathlib.Core.List.{List}
 use Rattle.node.specs.Nodes.{Node}
-use Rattle.element.specs.Tags
+use Rattle.basics.specs.Tags
 use Rattle.conformance.specs.declared.JudgeAnswer.{JudgeAnswer}
 use Rattle.conformance.specs.declared.JudgeAnswer.the-variants as judged
 use Rattle.display.specs.Show.{isFrameOf, imageSize, pictureOf, acceptedAnswer, answerFor}

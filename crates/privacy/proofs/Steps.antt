@@ -12,7 +12,7 @@ use Rattle.value.specs.declared.Num.{Num}
 use Rattle.value.specs.declared.Num.the-variants.{Is, None}
 use Rattle.node.specs.Nodes.{Node, nodeAt, root, inside}
 use Rattle.node.specs.Find.{find, findVr}
-use Rattle.element.specs.Tags
+use Rattle.basics.specs.Tags
 use Rattle.element.specs.Elements.{theItem}
 use Rattle.element.specs.Frames.{sharedItem, frameItem, idIn, operationIs}
 use Rattle.pixel.specs.Pixel.{isFrame}

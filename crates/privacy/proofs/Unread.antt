@@ -7,7 +7,7 @@ use lib.ListN.{length}
 use borrow.Author.Tests.{eq-eqb}
 use Rattle.dataset.specs.Tree.{rowAt}
 use Rattle.node.specs.Nodes.{valueIn}
-use Rattle.element.specs.Tags
+use Rattle.basics.specs.Tags
 use Rattle.privacy.specs.Read.{isRead}
 use Rattle.privacy.specs.Unread.{readValue, pixelLength, SameWhereRead, Unread}
 use Rattle.privacy.proofs.Nodes.{both-at, tag-at, alike}

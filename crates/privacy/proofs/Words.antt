@@ -14,7 +14,7 @@ use Rattle.value.specs.Number.{usOf, isOf}
 use Rattle.basics.specs.Vr.{SQ, CS, UI, US, IS}
 use Rattle.node.specs.Nodes.{Node, nodeAt, nextNode, membersBy, members, root, inside}
 use Rattle.node.specs.Find.{holds, ifPresent, andThen, find, ofVr, findVr, filled, has}
-use Rattle.element.specs.Tags
+use Rattle.basics.specs.Tags
 use Rattle.element.specs.Elements.{valueAt, usIn, csIs, uiIs, oneItem, theItem, insideOf, itemsIn, every, some, functionOn, functionIn}
 use Rattle.element.specs.Frames.{asCount, framesOf, sharedItem, frameItems, frameItem, groupOf, maskItems, operationIs, idIn}
 use Rattle.privacy.specs.Read.{isRead}
@@ -174,13 +174,13 @@ module _ {ns ms : List Node} (a : Alike ns ms) where
   unfolding theItem
   the-same i = rw (one-same i, inside-same i)
 
+  pub inside-of-same : (o : Num) → insideOf ns o ≡ insideOf ms o
+  inside-of-same None = refl
+  inside-of-same (Is i) = inside-same i
+
   items-same : (tag : ℕ) (is : List ℕ) → itemsIn ns tag is ≡ itemsIn ms tag is
   unfolding itemsIn
-  items-same tag is = rw (vr-same SQ tag is) (go (findVr ms tag SQ is))
-    where
-      go : (o : Num) → insideOf ns o ≡ insideOf ms o
-      go None = refl
-      go (Is i) = inside-same i
+  items-same tag is = rw (vr-same SQ tag is) (inside-of-same (findVr ms tag SQ is))
 
   pub frames-same : framesOf ns ≡ framesOf ms
   unfolding framesOf isRead

@@ -5,7 +5,7 @@ use mathlib.Core.Bool.{true}
 use mathlib.Core.List.{List}
 use lib.ListN.{length}
 use Rattle.node.specs.Nodes.{Node, nodeAt}
-use Rattle.element.specs.Tags
+use Rattle.basics.specs.Tags
 use Rattle.privacy.specs.Read.{isRead}
 
 -- Equally many nodes, with the same tags, VRs and nodes below them; the same values at tags that are read, and Pixel Data of the same

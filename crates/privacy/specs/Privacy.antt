@@ -16,6 +16,7 @@ use Prim.Native.Nat.{ℕ}
 use mathlib.Core.Bool.{Bool, cond, _&&_}
 use mathlib.Core.List.{List, [], _∷_, map}
 use lib.Dec.{eqb}
+use Rattle.basics.specs.Tags
 use Rattle.dataset.specs.Reading.{Row}
 use Rattle.node.specs.Nodes.{valueIn}
 use Rattle.slip.specs.Slip.{slipOf}
@@ -23,14 +24,14 @@ use Rattle.rules.specs.Frame.{isIn}
 use Rattle.conformance.specs.Judging.{judgeOf, verdictOf}
 use Rattle.searches.specs.Reported.{reportedOf}
 use Rattle.display.specs.Show.{showOf, imageOf}
-use Rattle.linear.specs.Answer.{linearOf, valuesOf}
+use Rattle.linear.specs.Answer.{linearOf, valuesLeft}
 use Rattle.sheet.specs.Answer.{sheetOf}
 use Rattle.compare.specs.Answer.{compareOf}
 use Rattle.privacy.specs.Rows.{SameRows}
 
 -- Patient's Name, Patient ID, Patient's Birth Date, Image Comments.
 abbrev pub patientTags : List ℕ
-patientTags = 0x0010_0010 ∷ 0x0010_0020 ∷ 0x0010_0030 ∷ 0x0020_4000 ∷ []
+patientTags = Tags.PatientName ∷ Tags.PatientID ∷ Tags.PatientBirthDate ∷ Tags.ImageComments ∷ []
 
 -- A row of one of them at the root: the seventh number of a root element is 0.
 unfoldable pub isPatient : Row → Bool
@@ -61,7 +62,7 @@ pub record SameAnswers (s t : List ℕ) : Type 0 where
       → compareOf s frame cells tolerance buffer ≡ compareOf t frame cells tolerance buffer
   -- The answer, and the values buffer afterwards.
   pub mapped : (frame : ℕ) (buffer values : List ℕ) → linearOf s frame buffer values ≡ linearOf t frame buffer values
-  pub intensities : (frame : ℕ) (buffer values : List ℕ) → valuesOf s frame buffer values ≡ valuesOf t frame buffer values
+  pub intensities : (frame : ℕ) (buffer values : List ℕ) → valuesLeft s frame buffer values ≡ valuesLeft t frame buffer values
 
 abbrev pub Privacy : Type 0
 Privacy = (s t : List ℕ) → SameButPatient s t → SameAnswers s t

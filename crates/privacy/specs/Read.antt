@@ -2,7 +2,7 @@
 use Prim.Native.Nat.{ℕ}
 use mathlib.Core.Bool.{Bool}
 use mathlib.Core.List.{List, [], _∷_}
-use Rattle.element.specs.Tags
+use Rattle.basics.specs.Tags
 use Rattle.rules.specs.Frame.{isIn}
 
 -- They count at every depth. The rules read the length of Pixel Data, drawing and mapping its bytes. A new rule or step that reads

@@ -10,7 +10,7 @@ use lib.ListN.{length}
 use lib.Dec.{eqb}
 use Rattle.dataset.specs.Reading.{Row}
 use Rattle.node.specs.Nodes.{valueIn}
-use Rattle.element.specs.Tags
+use Rattle.basics.specs.Tags
 use Rattle.conformance.specs.Judging.{judgeOf}
 use Rattle.privacy.specs.Read.{isRead}
 use Rattle.privacy.specs.Rows.{SameRows}

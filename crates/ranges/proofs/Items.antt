@@ -2,10 +2,11 @@
 use mathlib.Core.Path.{_≡_, refl, sym, ap, _∙_, subst}
 use mathlib.Core.Bool.{Bool, true, false, cond}
 use mathlib.Core.List.{List, []}
-use mathlib.Core.Logic.{⊎-elim}
+use mathlib.Core.Logic.{dite}
 use mathlib.Core.Option.{Option, none, some}
 use Prim.Native.Nat.{ℕ, _+_, _-_, _≤_, _<_, max}
 use native.Mathlib.Nat.{zero-max}
+use native.Mathlib.Decide.{ℕ-discrete}
 use native.Mathlib.Omega.{arith}
 use lib.Dec.{leb}
 use lib.ListN.{length, getD}
@@ -14,16 +15,13 @@ use Rattle.node.specs.Nodes.{Node, nextNode, members}
 use Rattle.node.proofs.Walks.{members-end}
 use Rattle.steps.specs.declared.Applying.the-variants.{Item}
 use Rattle.steps.specs.Steps.{inPairs, rangeHolds, firstHolding}
+use Rattle.steps.proofs.Given.{never}
 use Rattle.steps.proofs.Laws.{holding-lacks, holding-here, holding-next}
-use Rattle.ranges.specs.Contracts.{markOf, farOf, takenBy, Cleared, Marked, Covered, CoveredBy, CoveredAll, Tried, itemOf, Held}
-use Rattle.ranges.specs.Contracts.{leftOf, Left}
+use Rattle.ranges.specs.Contracts.{markOf, farOf, takenBy, Cleared, Marked, Covered, CoveredBy, CoveredAll, Tried, itemOf, AllFound}
+use Rattle.ranges.specs.Contracts.{leftOf, LeftToFind}
 use Rattle.ranges.proofs.Reach.{in-reach, far-marks, far-first}
-use Rattle.ranges.proofs.Tables.{same-or-not}
 
 -- ---- Tests that answer or not
-
-never : {A : Type 0} {a : A} → none ≡ some a → ⊥
-never e = let z : _≡_ {A = ℕ} 0 1 = cc in omega arith
 
 same-test : {o : Option Bool} {a b : Bool} → o ≡ some a → o ≡ some b → a ≡ b
 same-test e f = cc
@@ -76,20 +74,21 @@ tried-same o q n item before after s h =
 
 -- ---- One item after the other
 
-pub left-start : (ns : List Node) (n : ℕ) (all which : List ℕ) → Cleared (n + 1) which → Left ns n all all which
+pub left-start : (ns : List Node) (n : ℕ) (all which : List ℕ) → Cleared (n + 1) which → LeftToFind ns n all all which
 left-start ns n all which z =
     record {
       each = λ f low high. ap (leftOf ns f all) (z .each f (omega arith));
       below = λ f low high. omega (arith, z .each f (omega arith));
     }
 
-pub left-end : (ns : List Node) (n : ℕ) (all which : List ℕ) (at to : ℕ) → to ≤ at → Left ns n all (members ns at to) which
-    → Left ns n all [] which
-left-end ns n all which at to h l = subst (λ (rest : List ℕ). Left ns n all rest which) (members-end ns at to h) l
+pub left-end : (ns : List Node) (n : ℕ) (all which : List ℕ) (at to : ℕ) → to ≤ at → LeftToFind ns n all (members ns at to) which
+    → LeftToFind ns n all [] which
+left-end ns n all which at to h l = subst (λ (rest : List ℕ). LeftToFind ns n all rest which) (members-end ns at to h) l
 
 module _ (ns : List Node) (n : ℕ) (all before after : List ℕ) (at to next : ℕ) (h : at < to) (k : to ≤ length ns)
     (e : next ≡ nextNode ns at)
-    (held : Held ns n all) (l : Left ns n all (members ns at to) before) (t : Tried (λ f. rangeHolds ns f at) n (at + 1) before after) where
+    (held : AllFound ns n all) (l : LeftToFind ns n all (members ns at to) before)
+    (t : Tried (λ f. rangeHolds ns f at) n (at + 1) before after) where
   module _ (f : ℕ) (low : 1 ≤ f) (high : f ≤ n) where
     kept : (getD before f 0 ≡ 0 → ⊥)
         → (leftOf ns f (members ns next to) (getD after f 0) ≡ firstHolding ns f all) × (getD after f 0 ≤ length ns)
@@ -121,16 +120,16 @@ module _ (ns : List Node) (n : ℕ) (all before after : List ℕ) (at to next : 
         )
 
     both : (leftOf ns f (members ns next to) (getD after f 0) ≡ firstHolding ns f all) × (getD after f 0 ≤ length ns)
-    both = ⊎-elim (λ z. free z (rangeHolds ns f at) refl) kept (same-or-not (getD before f 0) 0)
+    both = dite (ℕ-discrete (getD before f 0) 0) (λ z. free z (rangeHolds ns f at) refl) kept
 
-  pub left-next : Left ns n all (members ns next to) after
+  pub left-next : LeftToFind ns n all (members ns next to) after
   left-next = record { each = λ f low high. both f low high .0; below = λ f low high. both f low high .1 }
 
 -- Nothing is left.
 left-none : (ns : List Node) (f w : ℕ) → leftOf ns f [] w ≡ some (itemOf w)
 unfolding firstHolding
-left-none ns f w = ⊎-elim (λ z. rw (eq-eqb w 0 z)) (λ n. rw (ne-eqb w 0 n)) (same-or-not w 0)
+left-none ns f w = dite (ℕ-discrete w 0) (λ z. rw (eq-eqb w 0 z)) (λ n. rw (ne-eqb w 0 n))
 
-pub left-all : (ns : List Node) (n : ℕ) (all which : List ℕ) → Left ns n all [] which → (f : ℕ) → 1 ≤ f → f ≤ n
+pub left-all : (ns : List Node) (n : ℕ) (all which : List ℕ) → LeftToFind ns n all [] which → (f : ℕ) → 1 ≤ f → f ≤ n
     → firstHolding ns f all ≡ some (itemOf (getD which f 0))
 left-all ns n all which l f low high = sym (l .each f low high) ∙ left-none ns f (getD which f 0)

@@ -1,8 +1,9 @@
 -- What mask items say, written down for one after the other.
 use mathlib.Core.Path.{_≡_, sym, ap, _∙_, subst}
 use mathlib.Core.List.{List}
-use mathlib.Core.Logic.{⊎-elim}
+use mathlib.Core.Logic.{dite}
 use Prim.Native.Nat.{ℕ, _+_, _-_, _*_, _/_, _%_, _≤_, _<_}
+use native.Mathlib.Decide.{ℕ-discrete}
 use native.Mathlib.Omega.{arith}
 use borrow.Author.Tests.{ne-eqb}
 use lib.ListN.{length, getD, set}
@@ -13,27 +14,26 @@ use Rattle.steps.specs.declared.Found.the-variants as found
 use Rattle.steps.specs.declared.Operation.{Operation}
 use Rattle.steps.specs.declared.Told.{Told}
 use Rattle.steps.specs.Contracts.{FoundBelow, IsTold}
-use Rattle.ranges.specs.Contracts.{Cleared, foundIn, operationIn, toldIn, Known}
-use Rattle.ranges.proofs.Tables.{same-or-not}
+use Rattle.ranges.specs.Contracts.{Cleared, answerIn, operationIn, toldIn, Known}
 
 pub found-fewer : (n m : ℕ) (r : Found) → n ≤ m → FoundBelow n r → FoundBelow m r
 found-fewer n m (found.At k) h b = omega arith
 found-fewer n m found.Absent h b = tt
 found-fewer n m found.Lacks h b = tt
 
-pub found-at : (k : ℕ) → foundIn (k + 2) ≡ found.At k
+pub found-at : (k : ℕ) → answerIn (k + 2) ≡ found.At k
 found-at k =
     let e : k + 2 - 2 ≡ k = omega arith in
     rw (ne-eqb (k + 2) 0 (λ p. omega (arith, p)), ne-eqb (k + 2) 1 (λ p. omega (arith, p)), e)
 
 -- The two parts of an answer, put together and taken apart.
-pub told-both : (t : Told) (a b : ℕ) → foundIn a ≡ t .shared → operationIn b ≡ t .operation → b < 4 → toldIn (4 * a + b) ≡ t
+pub told-both : (t : Told) (a b : ℕ) → answerIn a ≡ t .shared → operationIn b ≡ t .operation → b < 4 → toldIn (4 * a + b) ≡ t
 told-both t a b e o h =
     let d : (4 * a + b) / 4 ≡ a = omega arith in
     let m : (4 * a + b) % 4 ≡ b = omega arith in
-    ap (λ (x : ℕ). record { operation = operationIn x; shared = foundIn ((4 * a + b) / 4) }) m
-    ∙ (ap (λ (x : ℕ). record { operation = operationIn b; shared = foundIn x }) d
-    ∙ (ap (λ (x : Operation). record { operation = x; shared = foundIn a }) o
+    ap (λ (x : ℕ). record { operation = operationIn x; shared = answerIn ((4 * a + b) / 4) }) m
+    ∙ (ap (λ (x : ℕ). record { operation = operationIn b; shared = answerIn x }) d
+    ∙ (ap (λ (x : Operation). record { operation = x; shared = answerIn a }) o
     ∙ ap (λ (x : Found). record { operation = t .operation; shared = x }) e))
 
 pub known-none : (ns : List Node) (keys answers : List ℕ) → Cleared 16 keys → Known ns keys answers
@@ -41,7 +41,7 @@ known-none ns keys answers z = record { each = λ i j h e. absurd (omega (arith,
 
 pub known-more : (ns : List Node) (keys answers : List ℕ) (i at x : ℕ) (r : Told) → i < length keys → i < length answers
     → Known ns keys answers → toldIn x ≡ r → IsTold ns at r → Known ns (set keys i (at + 1)) (set answers i x)
-known-more ns keys answers i at x r a b q e s = record { each = λ k j h t. ⊎-elim (here k j t) (there k j h t) (same-or-not k i) }
+known-more ns keys answers i at x r a b q e s = record { each = λ k j h t. dite (ℕ-discrete k i) (here k j t) (there k j h t) }
   where
     here : (k j : ℕ) → getD (set keys i (at + 1)) k 0 ≡ j + 1 → k ≡ i → IsTold ns j (toldIn (getD (set answers i x) k 0))
     here k j t p =

@@ -2,27 +2,22 @@
 use mathlib.Core.Path.{_≡_, refl, sym, ap, _∙_}
 use mathlib.Core.Bool.{Bool, cond}
 use mathlib.Core.List.{List, _∷_}
-use mathlib.Core.Logic.{_⊎_, inl, inr, ⊎-elim}
-use Prim.Native.Nat.{ℕ, zero, suc, _+_, _*_, _/_, _≤_, _<_, max}
+use mathlib.Core.Logic.{dite}
+use Prim.Native.Nat.{ℕ, _+_, _*_, _/_, _≤_, _<_, max}
 use native.Mathlib.Nat.{zero-max}
+use native.Mathlib.Decide.{ℕ-discrete}
 use native.Mathlib.Omega.{arith}
 use lib.Dec.{eqb}
 use lib.ListN.{length, getD, set, drop}
 use lib.Seq.{getD-set-same, getD-set-other}
 use borrow.Author.Tests.{eq-eqb, ne-eqb}
 use Rattle.value.specs.Number.{usValues}
-use Rattle.steps.proofs.Laws.{values-end, pair-at}
+use Rattle.value.proofs.Laws.{values-end, pair-at}
 use Rattle.ranges.specs.Contracts.{markOf, takenBy}
 use Rattle.ranges.proofs.Reach.{max-next}
 
-pub same-or-not : (a b : ℕ) → (a ≡ b) ⊎ (a ≡ b → ⊥)
-same-or-not zero zero = inl refl
-same-or-not zero (suc b) = inr (λ e. omega arith)
-same-or-not (suc a) zero = inr (λ e. omega arith)
-same-or-not (suc a) (suc b) = ⊎-elim (λ e. inl (ap suc e)) (λ n. inr (λ e. n (omega arith))) (same-or-not a b)
-
 pub zero-more : (l : List ℕ) (i : ℕ) → i < length l → ((j : ℕ) → j < i → getD l j 0 ≡ 0) → (j : ℕ) → j < i + 1 → getD (set l i 0) j 0 ≡ 0
-zero-more l i h q j t = ⊎-elim here there (same-or-not j i)
+zero-more l i h q j t = dite (ℕ-discrete j i) here there
   where
     here : j ≡ i → getD (set l i 0) j 0 ≡ 0
     here e = rw e (getD-set-same l i 0 0 h)
@@ -39,7 +34,7 @@ marks-end i v k e = rw (values-end v (2 * k) e)
 mark-one : (reach : List ℕ) (a b i : ℕ) (rest : List ℕ) → a < length reach
     → max (getD (set reach a (max (getD reach a 0) b)) i 0) (markOf i rest) ≡ max (getD reach i 0) (markOf i (a ∷ b ∷ rest))
 unfolding markOf
-mark-one reach a b i rest h = ⊎-elim here there (same-or-not i a)
+mark-one reach a b i rest h = dite (ℕ-discrete i a) here there
   where
     here : i ≡ a → max (getD (set reach a (max (getD reach a 0) b)) i 0) (markOf i rest)
         ≡ max (getD reach i 0) (max (cond (eqb a i) b 0) (markOf i rest))
@@ -54,7 +49,7 @@ pub mark-more : (v : List ℕ) (k a b : ℕ) → a ≡ getD (usValues v) (2 * k)
     → max (getD (set reach a x) i 0) (markOf i (drop (2 * (k + 1)) (usValues v)))
     ≡ max (getD reach i 0) (markOf i (drop (2 * k) (usValues v)))
 mark-more v k a b ea eb h reach x i l ex =
-    rw (ex, pair-at 0 v k a b ea eb h) (mark-one reach a b i (drop (2 * (k + 1)) (usValues v)) l)
+    rw (ex, pair-at v k a b ea eb h) (mark-one reach a b i (drop (2 * (k + 1)) (usValues v)) l)
 
 -- ---- Frames that are taken
 
@@ -62,7 +57,7 @@ module _ (holds : ℕ → Bool) (item f : ℕ) (old which : List ℕ) (x : ℕ) 
   pub done-more : f < length which → x ≡ takenBy (getD which f 0) (holds f) item → getD which f 0 ≡ getD old f 0
       → ((i : ℕ) → 1 ≤ i → i < f → getD which i 0 ≡ takenBy (getD old i 0) (holds i) item)
       → (i : ℕ) → 1 ≤ i → i < f + 1 → getD (set which f x) i 0 ≡ takenBy (getD old i 0) (holds i) item
-  done-more h ex same q i low t = ⊎-elim here there (same-or-not i f)
+  done-more h ex same q i low t = dite (ℕ-discrete i f) here there
     where
       here : i ≡ f → getD (set which f x) i 0 ≡ takenBy (getD old i 0) (holds i) item
       here e = rw e (getD-set-same which f x 0 h ∙ (ex ∙ ap (λ (w : ℕ). takenBy w (holds f) item) same))

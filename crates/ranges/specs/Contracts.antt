@@ -47,7 +47,7 @@ pub record Marked (l before after : List ℕ) : Type 0 where
   pub each : (i : ℕ) → getD after i 0 ≡ max (getD before i 0) (markOf i l)
 
 -- Room for the marks of every first frame, and for frames 1 to n.
-pub record Rooms (n : ℕ) (reach which : List ℕ) : Type 0 where
+pub record MarkRooms (n : ℕ) (reach which : List ℕ) : Type 0 where
   pub few : n < 65536
   pub marks : 65536 ≤ length reach
   pub frames : n < length which
@@ -76,14 +76,14 @@ abbrev pub itemOf : ℕ → Applying
 itemOf w = cond (eqb w 0) Nothing (Item (w - 1))
 
 -- At frames 1 to n, the first of a list of mask items that holds the frame is found.
-pub record Held (ns : List Node) (n : ℕ) (all : List ℕ) : Type 0 where
+pub record AllFound (ns : List Node) (n : ℕ) (all : List ℕ) : Type 0 where
   pub each : (f : ℕ) → 1 ≤ f → f ≤ n → firstHolding ns f all ≡ none → ⊥
 
 -- The entries of a table after some mask items were tried, and what the rest of them say where it is free.
 abbrev pub leftOf : List Node → ℕ → List ℕ → ℕ → Option Applying
 leftOf ns f rest w = cond (eqb w 0) (firstHolding ns f rest) (some (Item (w - 1)))
 
-pub record Left (ns : List Node) (n : ℕ) (all rest which : List ℕ) : Type 0 where
+pub record LeftToFind (ns : List Node) (n : ℕ) (all rest which : List ℕ) : Type 0 where
   pub each : (f : ℕ) → 1 ≤ f → f ≤ n → leftOf ns f rest (getD which f 0) ≡ firstHolding ns f all
   pub below : (f : ℕ) → 1 ≤ f → f ≤ n → getD which f 0 ≤ length ns
 
@@ -99,14 +99,14 @@ pub record Applied (ns : List Node) (n : ℕ) (which : List ℕ) : Type 0 where
 -- ---- What each mask item says
 
 -- An answer as a number: which item of the shared shift group names it in the upper part, its operation in the lower.
-abbrev pub foundIn : ℕ → Found
-foundIn x = cond (eqb x 0) found.Lacks (cond (eqb x 1) found.Absent (found.At (x - 2)))
+abbrev pub answerIn : ℕ → Found
+answerIn x = cond (eqb x 0) found.Lacks (cond (eqb x 1) found.Absent (found.At (x - 2)))
 
 abbrev pub operationIn : ℕ → Operation
 operationIn x = cond (eqb x 0) operation.Lacks (cond (eqb x 1) operation.Native (cond (eqb x 2) operation.Average operation.Tid))
 
 abbrev pub toldIn : ℕ → Told
-toldIn x = record { operation = operationIn (x % 4); shared = foundIn (x / 4) }
+toldIn x = record { operation = operationIn (x % 4); shared = answerIn (x / 4) }
 
 -- Where there is a mask item, its answer is beside it.
 pub record Known (ns : List Node) (keys answers : List ℕ) : Type 0 where

@@ -13,9 +13,9 @@ ghost use Rattle.node.specs.Nodes.{nodesOf, members};
 ghost use Rattle.node.specs.Contracts.{Table};
 ghost use Rattle.steps.specs.Contracts.{FoundBelow, IsTold};
 ghost use Rattle.steps.specs.Steps.{inPairs, rangeHolds, rangeHas};
-ghost use Rattle.ranges.specs.Contracts.{takenBy, itemOf, foundIn, operationIn, toldIn, Cleared, Marked, Covered, CoveredBy};
-ghost use Rattle.ranges.specs.Contracts.{CoveredAll, Tried, Held, Left, Answering, Applied, Rooms, Known};
-use element::tags;
+ghost use Rattle.ranges.specs.Contracts.{takenBy, itemOf, answerIn, operationIn, toldIn, Cleared, Marked, Covered, CoveredBy};
+ghost use Rattle.ranges.specs.Contracts.{CoveredAll, Tried, AllFound, LeftToFind, Answering, Applied, MarkRooms, Known};
+use basics::tags;
 use steps::Applying;
 use steps::Found;
 use steps::Operation;
@@ -71,7 +71,7 @@ fn taken(old: u32, frame: usize, far: u32, item: u32) -> u32
 
 // Goes along frames 1 to n with how far the pairs so far reach, and takes the frames that they hold.
 fn cover(n: usize, item: u32, reach: &[u32], which: &mut [u32])
-    requires { ⌜ Rooms n (now reach) (now which) ⌝ }
+    requires { ⌜ MarkRooms n (now reach) (now which) ⌝ }
     ensures { λ _. ⌜ Covered n item (now (reach .entry)) (now (which .entry)) (now (which .exit)) ⌝ }
 {
     let end = n + 1;
@@ -84,7 +84,7 @@ fn cover(n: usize, item: u32, reach: &[u32], which: &mut [u32])
 
 // Takes the frames that the pairs of a range hold.
 fn cover_pairs(v: &[u8], n: usize, item: u32, reach: &mut [u32], which: &mut [u32])
-    requires { ⌜ (length (now v) % 4 ≡ 0) × Rooms n (now reach) (now which) ⌝ }
+    requires { ⌜ (length (now v) % 4 ≡ 0) × MarkRooms n (now reach) (now which) ⌝ }
     ensures { λ _. ⌜ CoveredBy (λ f. inPairs f (usValues (now (v .entry)))) n item (now (which .entry)) (now (which .exit)) ⌝ }
 {
     clear(n + 1, reach);
@@ -94,7 +94,7 @@ fn cover_pairs(v: &[u8], n: usize, item: u32, reach: &mut [u32], which: &mut [u3
 
 // Takes every frame.
 fn cover_all(n: usize, item: u32, reach: &mut [u32], which: &mut [u32])
-    requires { ⌜ Rooms n (now reach) (now which) ⌝ }
+    requires { ⌜ MarkRooms n (now reach) (now which) ⌝ }
     ensures { λ _. ⌜ CoveredAll n item (now (which .entry)) (now (which .exit)) ⌝ }
 {
     reach[0] = ALL;
@@ -111,7 +111,7 @@ fn cover_range(
     reach: &mut [u32],
     which: &mut [u32],
 )
-    requires { ⌜ Table (now bytes) (now rows) × ((i < length (nodesOf (now bytes))) × Rooms n (now reach) (now which)) ⌝ }
+    requires { ⌜ Table (now bytes) (now rows) × ((i < length (nodesOf (now bytes))) × MarkRooms n (now reach) (now which)) ⌝ }
     ensures { λ _. ⌜ Tried (λ f. rangeHas (nodesOf (now (bytes .entry))) f (num.Is i)) n item (now (which .entry)) (now (which .exit)) ⌝ }
 {
     if steps::has_pairs(bytes, rows, i) {
@@ -121,7 +121,7 @@ fn cover_range(
 
 // Takes the frames that the range of mask item j holds.
 fn cover_item(bytes: &[u8], rows: &[u32], j: usize, n: usize, reach: &mut [u32], which: &mut [u32])
-    requires { ⌜ Table (now bytes) (now rows) × ((j < length (nodesOf (now bytes))) × Rooms n (now reach) (now which)) ⌝ }
+    requires { ⌜ Table (now bytes) (now rows) × ((j < length (nodesOf (now bytes))) × MarkRooms n (now reach) (now which)) ⌝ }
     ensures { λ _. ⌜ Tried (λ f. rangeHolds (nodesOf (now (bytes .entry))) f j) n (j + 1) (now (which .entry)) (now (which .exit)) ⌝ }
 {
     let item = (j + 1) as u32;
@@ -147,9 +147,9 @@ fn cover_items(
 )
     requires { ⌜ Table (now bytes) (now rows)
         × ((to ≤ length (nodesOf (now bytes)))
-        × (Rooms n (now reach) (now which)
-        × (Cleared (n + 1) (now which) × Held (nodesOf (now bytes)) n (members (nodesOf (now bytes)) from to)))) ⌝ }
-    ensures { λ _. ⌜ Left (nodesOf (now (bytes .entry))) n (members (nodesOf (now (bytes .entry))) from to) [] (now (which .exit)) ⌝ }
+        × (MarkRooms n (now reach) (now which)
+        × (Cleared (n + 1) (now which) × AllFound (nodesOf (now bytes)) n (members (nodesOf (now bytes)) from to)))) ⌝ }
+    ensures { λ _. ⌜ LeftToFind (nodesOf (now (bytes .entry))) n (members (nodesOf (now (bytes .entry))) from to) [] (now (which .exit)) ⌝ }
 {
     let mut at = from;
     while at < to {
@@ -160,7 +160,7 @@ fn cover_items(
 
 // Step 2 for frames 1 to n: at each frame one more than the node of the mask item that applies, or 0. `reach` is room for marks.
 pub fn apply_all(bytes: &[u8], rows: &[u32], n: usize, reach: &mut [u32], which: &mut [u32])
-    requires { ⌜ Table (now bytes) (now rows) × (Rooms n (now reach) (now which) × Answering (nodesOf (now bytes)) n) ⌝ }
+    requires { ⌜ Table (now bytes) (now rows) × (MarkRooms n (now reach) (now which) × Answering (nodesOf (now bytes)) n) ⌝ }
     ensures { λ _. ⌜ Applied (nodesOf (now (bytes .entry))) n (now (which .exit)) ⌝ }
 {
     let items = element::mask_items(bytes, rows);
@@ -186,7 +186,7 @@ pub fn applying_at(which: &[u32], frame: usize) -> Applying
 // An answer as a number, and back.
 fn number_of(r: Found) -> u32
     requires { ⌜ FoundBelow mostRows r ⌝ }
-    ensures { λ x. ⌜ (foundIn x ≡ r) × (x ≤ mostRows + 1) ⌝ }
+    ensures { λ x. ⌜ (answerIn x ≡ r) × (x ≤ mostRows + 1) ⌝ }
 {
     match r {
         Found::Lacks => 0,
@@ -196,7 +196,7 @@ fn number_of(r: Found) -> u32
 }
 
 fn found_in(x: u32) -> Found
-    ensures { λ r. ⌜ r ≡ foundIn x ⌝ }
+    ensures { λ r. ⌜ r ≡ answerIn x ⌝ }
 {
     if x == 0 {
         Found::Lacks

@@ -7,11 +7,11 @@ use Rattle.dataset.specs.declared.ReadAnswer.{ReadAnswer}
 use Rattle.dataset.specs.declared.ReadAnswer.the-variants.{Done, Refused, TooLarge, NoRoom}
 
 -- The rows that the answer counts are in the buffer.
-abbrev pub Held : ReadAnswer → List ℕ → Type 0
-Held (Done n) rows = width * n ≤ length rows
-Held (Refused code offset) rows = Unit {0}
-Held TooLarge rows = Unit {0}
-Held NoRoom rows = Unit {0}
+abbrev pub RowsHeld : ReadAnswer → List ℕ → Type 0
+RowsHeld (Done n) rows = width * n ≤ length rows
+RowsHeld (Refused code offset) rows = Unit {0}
+RowsHeld TooLarge rows = Unit {0}
+RowsHeld NoRoom rows = Unit {0}
 
 -- The answer is not code 8.
 abbrev pub Roomy : ReadAnswer → Type 0

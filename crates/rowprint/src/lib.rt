@@ -1,5 +1,7 @@
 // The reading of a data set, printed to standard output: `rows N` and a line for each row, or the refusal.
 use dataset::ReadAnswer;
+use printing::print_code;
+use printing::print_unread;
 use room::row_buffer;
 ghost use mathlib.Core.Path.{_≡_};
 ghost use Prim.Native.Nat.{_+_, _*_, _≤_};
@@ -7,7 +9,7 @@ ghost use lib.ListN.{length};
 ghost use Rattle.dataset.specs.Reading.{readingOf};
 ghost use Rattle.dataset.specs.Answer.{width, answerOf, bufferOf};
 ghost use Rattle.rowprint.specs.Text.{hexDigit, heading, letter as Text·letter};
-ghost use Rattle.rowprint.specs.Contracts.{Held, Roomy};
+ghost use Rattle.rowprint.specs.Contracts.{RowsHeld, Roomy};
 
 fn hex_digit(n: u32) -> u8
     ensures { λ r. ⌜ r ≡ hexDigit n ⌝ }
@@ -75,26 +77,14 @@ fn print_rows(rows: &[u32], n: usize)
     }
 }
 
-fn print_refusal(code: usize, offset: usize) {
-    io::write_all(1, b"code");
-    print_number(code as u64);
-    io::write_all(1, b" place");
-    print_number(offset as u64);
-    io::write_all(1, b"\n");
-}
-
 fn print_answer(answer: ReadAnswer, rows: &[u32])
-    requires { ⌜ Held answer (now rows) ⌝ }
+    requires { ⌜ RowsHeld answer (now rows) ⌝ }
 {
     match answer {
         ReadAnswer::Done(n) => print_rows(rows, n),
-        ReadAnswer::Refused(code, offset) => print_refusal(code, offset),
-        ReadAnswer::TooLarge => {
-            io::write_all(1, b"code 7\n");
-        }
-        ReadAnswer::NoRoom => {
-            io::write_all(1, b"code 8\n");
-        }
+        ReadAnswer::Refused(code, offset) => print_unread(1, code, offset),
+        ReadAnswer::TooLarge => print_code(1, 7),
+        ReadAnswer::NoRoom => print_code(1, 8),
     }
 }
 
@@ -103,7 +93,7 @@ fn read_roomy(bytes: &[u8], rows: &mut [u32]) -> ReadAnswer
     requires { ⌜ width * length (now bytes) ≤ 8 * length (now rows) ⌝ }
     ensures { λ r. ⌜ r ≡ answerOf (readingOf (now (bytes .entry))) (now (rows .entry)) ⌝ }
     ensures { λ _. ⌜ now (rows .exit) ≡ bufferOf (readingOf (now (bytes .entry))) (now (rows .entry)) ⌝ }
-    ensures { λ r. ⌜ Held r (now (rows .exit)) ⌝ }
+    ensures { λ r. ⌜ RowsHeld r (now (rows .exit)) ⌝ }
     ensures { λ r. ⌜ Roomy r ⌝ }
 {
     dataset::read(bytes, rows)

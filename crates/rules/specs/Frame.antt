@@ -6,16 +6,14 @@ use mathlib.Core.Bool.{Bool, true, false, not, _&&_, _||_}
 use lib.ListN.{length}
 use lib.Dec.{eqb, leb}
 use Rattle.basics.specs.Vr.{SQ, DS, FL}
-use Rattle.value.specs.declared.Num.{Num}
-use Rattle.value.specs.declared.Num.the-variants.{Is, None}
 use Rattle.value.specs.Text.{valuesOf}
 use Rattle.value.specs.declared.Function.{Function}
 use Rattle.value.specs.Words.{isFunction}
-use Rattle.value.specs.Number.{allDecimals, leastWidth, allWidths}
+use Rattle.value.specs.Number.{allDecimals, leastWidth, allWidths, numberOr0}
 use Rattle.shift.specs.Shift.{isFrameShift}
 use Rattle.node.specs.Nodes.{Node, nodeAt, inside}
 use Rattle.node.specs.Find.{holds, ifPresent, absent, find, findVr}
-use Rattle.element.specs.Tags
+use Rattle.basics.specs.Tags
 use Rattle.element.specs.Elements.{valueAt, oneItem, theItem, functionIn, every, some}
 use Rattle.element.specs.Frames.{frameItem, sharedItem, groupOf, idIn}
 
@@ -74,10 +72,6 @@ rule30 ns f = atFrame ns f (item30 ns)
 
 -- Rule 37. Frame Pixel Shift (0028,9415), if present, at least one item; each has an ID (US), none twice, and has a shift
 -- as in rule 35.
-abbrev pub numberOr0 : Num → ℕ
-numberOr0 (Is n) = n
-numberOr0 None = 0
-
 abbrev pub isIn : ℕ → List ℕ → Bool
 isIn x [] = false
 isIn x (y ∷ ys) = eqb x y || isIn x ys

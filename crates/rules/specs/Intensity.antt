@@ -11,7 +11,7 @@ use Rattle.basics.specs.Vr.{SQ, US, OW}
 use Rattle.value.specs.Text.{ascii}
 use Rattle.node.specs.Nodes.{Node, nodeAt, inside}
 use Rattle.node.specs.Find.{holds, ifPresent, findVr}
-use Rattle.element.specs.Tags
+use Rattle.basics.specs.Tags
 use Rattle.element.specs.Elements.{valueAt, csIs, oneItem, theItem, every}
 use Rattle.element.specs.Frames.{groupOf}
 use Rattle.rules.specs.Frame.{atFrame}

@@ -10,7 +10,7 @@ use Rattle.value.specs.Number.{usOf, usValues, ssOf, isNumber}
 use Rattle.shift.specs.Shift.{isShift}
 use Rattle.node.specs.Nodes.{Node, nodeAt, root, inside}
 use Rattle.node.specs.Find.{holds, ifPresent, andThen, find, findVr, ofVr, filled}
-use Rattle.element.specs.Tags
+use Rattle.basics.specs.Tags
 use Rattle.element.specs.Elements.{valueAt, every, some}
 use Rattle.element.specs.Frames.{framesOf, frameItems, sharedItem, groupOf, maskItems, operationIs}
 use Rattle.rules.specs.Frame.{hasId, uniqueIds}

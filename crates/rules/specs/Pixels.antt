@@ -6,7 +6,7 @@ use lib.ListN.{length}
 use lib.Dec.{eqb}
 use Rattle.node.specs.Nodes.{Node, nodeAt, root}
 use Rattle.node.specs.Find.{holds, find}
-use Rattle.element.specs.Tags
+use Rattle.basics.specs.Tags
 use Rattle.basics.specs.Vr.{OW, OB}
 use Rattle.element.specs.Elements.{valueAt, usIn}
 use Rattle.element.specs.Frames.{framesOf}

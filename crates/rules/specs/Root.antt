@@ -10,7 +10,7 @@ use Rattle.value.specs.Words.{wordAt, isWord}
 use Rattle.basics.specs.Vr.{SQ, CS, DS, DT, FD}
 use Rattle.node.specs.Nodes.{Node, root, inside}
 use Rattle.node.specs.Find.{holds, absent, find, findVr, has}
-use Rattle.element.specs.Tags
+use Rattle.basics.specs.Tags
 use Rattle.element.specs.Elements.{valueAt, usIn, csIs, uiIs, oneItem}
 use Rattle.element.specs.Frames.{framesOf, sharedItem}
 

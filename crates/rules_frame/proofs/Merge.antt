@@ -4,7 +4,7 @@ use mathlib.Core.Path.{_≡_, refl, sym, ap, _∙_}
 use Prim.Native.Nat.{ℕ, _+_, _≤_, _<_}
 use native.Mathlib.Omega.{arith}
 use mathlib.Core.List.{List, [], _∷_}
-use mathlib.Core.Bool.{Bool, true, false, cond, _&&_}
+use mathlib.Core.Bool.{Bool, true, false, cond, _&&_, and-false}
 use lib.Dec.{eqb, ltb}
 use borrow.Author.Tests.{lt-ltb, ltb-true}
 use Rattle.basics.specs.Vr.{SQ}
@@ -38,10 +38,6 @@ of-vr ns (Is k) = go (eqb (nodeAt ns k .vr) SQ)
     go : (b : Bool) → holds (cond b (Is k) None) (λ k. true) ≡ b
     go true = refl
     go false = refl
-
-and-false : (b : Bool) → (b && false) ≡ false
-and-false true = refl
-and-false false = refl
 
 -- No element repeats a sequence of the shared node, if no tag there is as high as its own.
 none-left : (ns : List Node) (shared : ℕ) → Ascends ns 0 (inside ns shared) → (least : ℕ) (ks : List ℕ) → Ascends ns least ks

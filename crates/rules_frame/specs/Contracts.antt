@@ -7,7 +7,7 @@ use Rattle.basics.specs.Vr.{SQ}
 use Rattle.node.specs.Nodes.{Node, nodeAt, inside}
 use Rattle.node.specs.Find.{holds, holdsOr, absent, find}
 use Rattle.node.specs.Contracts.{firstIs}
-use Rattle.element.specs.Tags
+use Rattle.basics.specs.Tags
 use Rattle.element.specs.Elements.{oneItem}
 use Rattle.intensity.specs.Contracts.{relationIn, tableIn, agree}
 use Rattle.rules_frame.specs.declared.SharedPart.{SharedPart}

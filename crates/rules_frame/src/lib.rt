@@ -9,11 +9,12 @@ ghost use lib.ListN.{length};
 ghost use Rattle.node.specs.Nodes.{nodesOf, members, inside};
 ghost use Rattle.node.specs.Find.{absent, find};
 ghost use Rattle.node.specs.Contracts.{Table};
-ghost use Rattle.element.specs.Tags.{FrameContentSequence};
+ghost use Rattle.basics.specs.Tags.{FrameContentSequence};
 ghost use Rattle.element.specs.Elements.{every};
 ghost use Rattle.rules.specs.Frame.{repeatsShared, item27, item28, isWindow, hasWindow, isVoi, isShiftItem, uniqueIds, isShiftGroup};
 ghost use Rattle.rules_frame.specs.Contracts.{isRepeated, groupTag, groupFits, groupIn, sharedOk, itemBy, sharedPart, itemGrades};
 ghost use Rattle.rules_frame.specs.Contracts.{itemRule};
+use basics::tags;
 use basics::vrs;
 use value::Function;
 use value::Num;
@@ -123,7 +124,7 @@ fn is_content_absent(bytes: &[u8], rows: &[u32], shared: usize) -> bool
     requires { ⌜ Table (now bytes) (now rows) × (shared < length (nodesOf (now bytes))) ⌝ }
     ensures { λ r. ⌜ r ≡ absent (find (nodesOf (now (bytes .entry))) FrameContentSequence (inside (nodesOf (now (bytes .entry))) shared)) ⌝ }
 {
-    match element::find_item(bytes, rows, shared, element::tags::FRAME_CONTENT_SEQUENCE) {
+    match element::find_item(bytes, rows, shared, tags::FRAME_CONTENT_SEQUENCE) {
         Num::None => true,
         Num::Is(_) => false,
     }
@@ -137,7 +138,7 @@ fn item_28(bytes: &[u8], rows: &[u32], shared: usize, ok: bool, item: usize) -> 
     ensures { λ r. ⌜ r ≡ item28 (nodesOf (now (bytes .entry))) shared item ⌝ }
 {
     if ok {
-        match element::find_item(bytes, rows, item, element::tags::FRAME_CONTENT_SEQUENCE) {
+        match element::find_item(bytes, rows, item, tags::FRAME_CONTENT_SEQUENCE) {
             Num::None => false,
             Num::Is(g) => element::is_one_item(bytes, rows, g),
         }
@@ -177,12 +178,10 @@ fn has_window(bytes: &[u8], rows: &[u32], item: usize) -> bool
     requires { ⌜ Table (now bytes) (now rows) × (item < length (nodesOf (now bytes))) ⌝ }
     ensures { λ r. ⌜ r ≡ hasWindow (nodesOf (now (bytes .entry))) (inside (nodesOf (now (bytes .entry))) item) ⌝ }
 {
-    let Num::Is(c) = element::find_vr_item(bytes, rows, item, element::tags::WINDOW_CENTER, vrs::DS)
-    else {
+    let Num::Is(c) = element::find_vr_item(bytes, rows, item, tags::WINDOW_CENTER, vrs::DS) else {
         return false;
     };
-    let Num::Is(w) = element::find_vr_item(bytes, rows, item, element::tags::WINDOW_WIDTH, vrs::DS)
-    else {
+    let Num::Is(w) = element::find_vr_item(bytes, rows, item, tags::WINDOW_WIDTH, vrs::DS) else {
         return false;
     };
     is_window(
@@ -209,13 +208,7 @@ fn is_shift_item(bytes: &[u8], rows: &[u32], item: usize) -> bool
     ensures { λ r. ⌜ r ≡ isShiftItem (nodesOf (now (bytes .entry))) item ⌝ }
 {
     if ids::has_id(bytes, rows, item) {
-        match element::find_vr_item(
-            bytes,
-            rows,
-            item,
-            element::tags::MASK_SUB_PIXEL_SHIFT,
-            vrs::FL,
-        ) {
+        match element::find_vr_item(bytes, rows, item, tags::MASK_SUB_PIXEL_SHIFT, vrs::FL) {
             Num::None => false,
             Num::Is(k) => shift::is_frame_shift(node::value(bytes, rows, k)),
         }
@@ -279,12 +272,12 @@ fn group_tag(rule: usize) -> usize
     ensures { λ r. ⌜ r ≡ groupTag rule ⌝ }
 {
     if rule == 29 {
-        element::tags::XA_XRF_FRAME_CHARACTERISTICS_SEQUENCE
+        tags::XA_XRF_FRAME_CHARACTERISTICS_SEQUENCE
     } else {
         if rule == 30 {
-            element::tags::FRAME_VOI_LUT_SEQUENCE
+            tags::FRAME_VOI_LUT_SEQUENCE
         } else {
-            element::tags::FRAME_PIXEL_SHIFT_SEQUENCE
+            tags::FRAME_PIXEL_SHIFT_SEQUENCE
         }
     }
 }

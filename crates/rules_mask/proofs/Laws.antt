@@ -1,46 +1,26 @@
--- Every member and some member along a walk, and values of a US one after the other.
+-- What a walk found is put together test by test: members and values of a US one after the other.
 use mathlib.Core.Path.{_≡_, refl, sym, ap, _∙_}
 use Prim.Native.Nat.{ℕ, _+_, _*_, _/_, _≤_, _<_}
 use native.Mathlib.Omega.{arith}
-use native.Mathlib.Numerals.{add-one}
-use mathlib.Core.List.{List, [], _∷_}
-use mathlib.Core.Bool.{Bool, true, false, cond, _&&_, _||_}
+use mathlib.Core.List.{List, []}
+use mathlib.Core.Bool.{Bool, true, false, _&&_}
 use lib.ListN.{length, getD, drop}
-use lib.Seq.{drop-cons, drop-length}
 use lib.Dec.{eqb, leb}
 use borrow.Author.Tests.{eq-eqb, ne-eqb, le-leb, lt-leb}
 use Rattle.basics.specs.Vr.{SQ}
 use Rattle.value.specs.declared.Num.{Num}
 use Rattle.value.specs.declared.Num.the-variants.{Is, None}
 use Rattle.value.specs.Number.{usValues}
-use Rattle.value.proofs.Laws.{usValues-length}
+use Rattle.value.proofs.Laws.{value-next, values-end, pair-at}
+pub use Rattle.basics.proofs.Tests.{both, not-first, one, other-one, then, otherwise}
 use Rattle.node.specs.Nodes.{Node, nextNode, members, inside}
 use Rattle.node.specs.Find.{holds, holdsOr, andThen, orElse, find, ofVr, filled}
-use Rattle.node.proofs.Walks.{members-end, members-next}
-use Rattle.element.specs.Elements.{every, some}
-use Rattle.element.specs.Tags.{FramePixelShiftSequence}
+use Rattle.element.specs.Elements.{every}
+use Rattle.basics.specs.Tags.{FramePixelShiftSequence}
 use Rattle.rules.specs.Mask.{pairsFit, allFrames, hasShiftGroup}
 use Rattle.rules_mask.specs.Contracts.{shiftIn}
 
 -- ---- Tests one after the other
-
-pub both : {a b r : Bool} → a ≡ true → b ≡ r → (a && b) ≡ r
-both e f = rw e f
-
-pub not-first : {a : Bool} (b : Bool) → a ≡ false → (a && b) ≡ false
-not-first b e = rw e
-
-pub one : {a : Bool} (b : Bool) → a ≡ true → (a || b) ≡ true
-one b e = rw e
-
-pub other-one : {a b r : Bool} → a ≡ false → b ≡ r → (a || b) ≡ r
-other-one e f = rw e f
-
-pub then : {t a r : Bool} (b : Bool) → t ≡ true → a ≡ r → cond t a b ≡ r
-then b e f = rw e f
-
-pub otherwise : {t b r : Bool} (a : Bool) → t ≡ false → b ≡ r → cond t a b ≡ r
-otherwise a e f = rw e f
 
 -- A number that was read (n) is the number that is meant (m), and was compared with k.
 module _ {n m : ℕ} (k : ℕ) (e : n ≡ m) where
@@ -68,38 +48,7 @@ pub every-inside : (ns : List Node) (p : ℕ → Bool) (i next : ℕ) (r : Bool)
     → every p (inside ns i) ≡ r
 every-inside ns p i next r e h = rw (← e) (sym h)
 
-module _ (ns : List Node) (p : ℕ → Bool) (at to : ℕ) where
-  pub every-end : to ≤ at → every p (members ns at to) ≡ true
-  unfolding every
-  every-end h = rw (members-end ns at to h)
-
-  pub every-not : at < to → p at ≡ false → every p (members ns at to) ≡ false
-  unfolding every
-  every-not h q = rw (members-next ns at to h, q)
-
-  pub every-next : (next : ℕ) → next ≡ nextNode ns at → at < to → p at ≡ true → every p (members ns at to) ≡ every p (members ns next to)
-  unfolding every
-  every-next next e h q = rw (members-next ns at to h, q, e)
-
-  pub some-end : to ≤ at → some p (members ns at to) ≡ false
-  unfolding some
-  some-end h = rw (members-end ns at to h)
-
-  pub some-here : at < to → p at ≡ true → some p (members ns at to) ≡ true
-  unfolding some
-  some-here h q = rw (members-next ns at to h, q)
-
-  pub some-next : (next : ℕ) → next ≡ nextNode ns at → at < to → p at ≡ false → some p (members ns at to) ≡ some p (members ns next to)
-  unfolding some
-  some-next next e h q = rw (members-next ns at to h, q, e)
-
 -- ---- Values of a US
-
-value-next : (v : List ℕ) (k : ℕ) → k < length v / 2 → drop k (usValues v) ≡ getD (usValues v) k 0 ∷ drop (k + 1) (usValues v)
-value-next v k h = rw (add-one k, drop-cons (usValues v) k 0 (omega (arith, usValues-length v)))
-
-values-end : (v : List ℕ) (k : ℕ) → k ≡ length v / 2 → drop k (usValues v) ≡ []
-values-end v k e = rw (e, ← usValues-length v) (drop-length (usValues v))
 
 module _ (n : ℕ) (v : List ℕ) (k : ℕ) where
   pub frames-end : k ≡ length v / 2 → allFrames n (drop k (usValues v)) ≡ true
@@ -120,19 +69,14 @@ module _ (n : ℕ) (v : List ℕ) (k : ℕ) where
   pairs-end e = rw (values-end v (2 * k) e)
 
   module _ (a b : ℕ) (ea : a ≡ getD (usValues v) (2 * k) 0) (eb : b ≡ getD (usValues v) (2 * k + 1) 0) (h : 2 * k + 1 < length v / 2) where
-    pair-at : drop (2 * k) (usValues v) ≡ a ∷ b ∷ drop (2 * (k + 1)) (usValues v)
-    pair-at =
-        let d : 2 * (k + 1) ≡ 2 * k + 1 + 1 = omega arith in
-        rw (value-next v (2 * k) (omega arith), value-next v (2 * k + 1) h, ← ea, ← eb, d)
-
     pub pairs-not : (leb 1 a && (leb a b && leb b n)) ≡ false → pairsFit n (drop (2 * k) (usValues v)) ≡ false
     unfolding pairsFit
-    pairs-not q = rw (pair-at, q)
+    pairs-not q = rw (pair-at v k a b ea eb h, q)
 
     pub pairs-next : (leb 1 a && (leb a b && leb b n)) ≡ true
         → pairsFit n (drop (2 * k) (usValues v)) ≡ pairsFit n (drop (2 * (k + 1)) (usValues v))
     unfolding pairsFit
-    pairs-next q = rw (pair-at, q)
+    pairs-next q = rw (pair-at v k a b ea eb h, q)
 
 -- ---- Rules by their number
 

@@ -6,7 +6,7 @@ use mathlib.Core.Bool.{Bool}
 use Rattle.basics.specs.Vr.{SQ}
 use Rattle.node.specs.Nodes.{Node, inside}
 use Rattle.node.specs.Find.{holds, holdsOr, find, ofVr, filled}
-use Rattle.element.specs.Tags
+use Rattle.basics.specs.Tags
 use Rattle.rules.specs.Frame.{hasId}
 use Rattle.rules.specs.Mask.{isOperation, rangeFits, averagesFit, offsetFits, shiftFits}
 use Rattle.rules_mask.specs.declared.Question.{Question}

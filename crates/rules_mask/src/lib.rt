@@ -8,15 +8,15 @@ ghost use Rattle.value.specs.Number.{usValues};
 ghost use Rattle.node.specs.Nodes.{nodesOf, members, inside};
 ghost use Rattle.node.specs.Find.{ifPresent, find};
 ghost use Rattle.node.specs.Contracts.{Table};
-ghost use Rattle.element.specs.Tags.{ContrastFrameAveraging};
+ghost use Rattle.basics.specs.Tags.{ContrastFrameAveraging};
 ghost use Rattle.element.specs.Elements.{every};
 ghost use Rattle.rules.specs.Mask.{isOperation, isMask, rule31, pairsFit, isRange, rangeFits, rule32, allFrames, areMaskFrames, isOne};
 ghost use Rattle.rules.specs.Mask.{averageFits, averagesFit, rule33, isOffset, offsetFits, rule34, isShiftAt, shiftFits, rule35, anyShift};
 ghost use Rattle.rules.specs.Mask.{masksHaveIds, rule36};
 ghost use Rattle.rules.specs.All.{ruleAt};
 ghost use Rattle.rules_mask.specs.Contracts.{itemFits, shiftIn};
+use basics::tags;
 use basics::vrs;
-use element::tags;
 use value::Num;
 use value::Signed;
 

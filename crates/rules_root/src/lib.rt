@@ -13,8 +13,8 @@ ghost use Rattle.rules.specs.Root.{rule10, rule11, rule12, rule13, rule14, rule
 ghost use Rattle.rules.specs.Root.{rule23, rule24, rule25, rule26};
 ghost use Rattle.rules.specs.Pixels.{padded, isPixelVr, isPixelData, rule38};
 ghost use Rattle.rules.specs.All.{ruleAt};
+use basics::tags;
 use basics::vrs;
-use element::tags;
 use value::Num;
 
 // ---- Words of several rules

@@ -1,4 +1,4 @@
+pub mod Worked
 pub mod Starred
 pub mod Later
 pub mod Mapped
-pub mod Lacking

@@ -71,18 +71,18 @@ exactVoi center width =
 -- ---- Data sets
 
 -- With one more byte if their number is odd.
-abbrev pub padded : List ℕ → List ℕ
-padded value = cond (eqb (length value % 2) 1) (value ++ (0 ∷ [])) value
+abbrev pub evenPadded : List ℕ → List ℕ
+evenPadded value = cond (eqb (length value % 2) 1) (value ++ (0 ∷ [])) value
 
 -- An item with an empty Frame Content.
-abbrev pub frameItem : List ℕ
-frameItem = item (sequence 0x0020 0x9111 (item []))
+abbrev pub itemOfFrame : List ℕ
+itemOfFrame = item (sequence 0x0020 0x9111 (item []))
 
 -- Frames of one row, of 8 bits.
 abbrev pub frames : String → String → ℕ → String → List ℕ → List ℕ → List ℕ → List ℕ → List ℕ
 frames photometric shape columns number mask window items pixels =
-    short 0x0008 0x0008 "CS" (padded (ascii "DERIVED\\PRIMARY\\X\\NONE"))
-    ++ (short 0x0008 0x0016 "UI" (padded (ascii "1.2.840.10008.5.1.4.1.1.12.1.1"))
+    short 0x0008 0x0008 "CS" (evenPadded (ascii "DERIVED\\PRIMARY\\X\\NONE"))
+    ++ (short 0x0008 0x0016 "UI" (evenPadded (ascii "1.2.840.10008.5.1.4.1.1.12.1.1"))
     ++ (short 0x0008 0x002A "DT" (ascii "20240101")
     ++ (short 0x0008 0x0060 "CS" (ascii "XA")
     ++ (short 0x0018 0x9004 "CS" (ascii "PRODUCT ")
@@ -102,13 +102,13 @@ frames photometric shape columns number mask window items pixels =
     ++ (short 0x2050 0x0020 "CS" (ascii shape)
     ++ (sequence 0x5200 0x9229 (item window)
     ++ (sequence 0x5200 0x9230 items
-    ++ long 0x7FE0 0x0010 "OB" (padded pixels)))))))))))))))))))))
+    ++ long 0x7FE0 0x0010 "OB" (evenPadded pixels)))))))))))))))))))))
 
 -- Three frames of one cell, with a mask.
 abbrev pub threeFrames : List ℕ → ℕ → ℕ → ℕ → List ℕ
 threeFrames mask a b c =
-    frames "MONOCHROME2 " "IDENTITY" 1 "3 " mask noWindow (frameItem ++ (frameItem ++ frameItem)) (a ∷ b ∷ c ∷ [])
+    frames "MONOCHROME2 " "IDENTITY" 1 "3 " mask noWindow (itemOfFrame ++ (itemOfFrame ++ itemOfFrame)) (a ∷ b ∷ c ∷ [])
 
 -- One frame of some cells, with a window.
 abbrev pub oneFrame : String → String → List ℕ → List ℕ → List ℕ
-oneFrame photometric shape window cells = frames photometric shape (length cells) "1 " unmasked window frameItem cells
+oneFrame photometric shape window cells = frames photometric shape (length cells) "1 " unmasked window itemOfFrame cells

@@ -13,7 +13,7 @@ use Rattle.value.specs.declared.Num.the-variants.{Is, None}
 use Rattle.node.specs.Nodes.{Node, nodesOf, root, inside}
 use Rattle.node.specs.Find.{holds, findVr}
 use Rattle.basics.specs.Vr.{SQ}
-use Rattle.element.specs.Tags
+use Rattle.basics.specs.Tags
 use Rattle.element.specs.Elements.{itemsIn, insideOf}
 use Rattle.element.specs.Frames.{framesOf, sharedItem, frameItems, maskItems}
 use Rattle.rules.specs.Root.{rule26}

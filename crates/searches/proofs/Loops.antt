@@ -5,11 +5,12 @@ use native.Mathlib.Omega.{arith}
 use native.Mathlib.Nat.{mul-le-mul-left, mul-le-mul-right}
 use native.Mathlib.Numerals.{add-one}
 use mathlib.Core.List.{List, [], _∷_}
-use mathlib.Core.Bool.{Bool, true, false, cond, _||_, false≢true}
+use mathlib.Core.Bool.{Bool, true, false, cond, false≢true, or-true}
 use lib.ListN.{length, drop, getD}
 use lib.Seq.{drop-cons, drop-length}
 use lib.Dec.{leb}
 use borrow.Author.Tests.{leb-true, leb-false, le-leb, lt-leb}
+use Rattle.basics.specs.Limits.{mostRows}
 use Rattle.value.specs.declared.Num.{Num}
 use Rattle.value.specs.declared.Num.the-variants.{Is, None}
 use Rattle.basics.specs.Vr.{SQ}
@@ -17,12 +18,12 @@ use Rattle.node.specs.Nodes.{Node, nodesOf, nodeAt, nextNode, members, root, in
 use Rattle.node.specs.Find.{find, findVr}
 use Rattle.node.specs.Contracts.{Ascends}
 use Rattle.node.proofs.Walks.{members-end, members-next}
-use Rattle.element.specs.Tags
+use Rattle.basics.specs.Tags
 use Rattle.element.specs.Elements.{insideOf, itemsIn}
 use Rattle.element.specs.Frames.{frameItems, maskItems}
 use Rattle.searches.specs.Count.{lookedAt}
-use Rattle.searches.specs.Searches.{rootSearches, maskSearches, searchedAmong, maskSum, readInEach, inShared, groupSum, bothItems}
-use Rattle.searches.specs.Contracts.{allLooked, rises, above, rootTags, rootOrder, maskTags, groupAt, overGroup, overBoth}
+use Rattle.searches.specs.Searches.{rootSearches, maskSearches, searchedAmong, maskSum, lookedInEach, inShared, groupSum, bothItems}
+use Rattle.searches.specs.Contracts.{allLooked, rises, tagsAbove, rootTags, rootOrder, maskTags, groupAt, overGroup, overBoth}
 use Rattle.searches.proofs.Counting.{looked-end, looked-later, looked-here, members-few, Within, nodes-within, inside-few}
 use Rattle.searches.proofs.Sums.{searched-is, mask-is, read-is, all-few, each-few, group-few, over-few, both-few}
 
@@ -73,8 +74,9 @@ module _ (ns : List Node) (i to : ℕ) where
 
     -- Each search looks at the member, and those of tags above it go on.
     pub all-step : (tags : List ℕ) (x : ℕ) → rises x tags ≡ true
-        → allLooked ns tags (members ns i to) ≡ length tags + allLooked ns (above (nodeAt ns i .tag) tags) (members ns (nextNode ns i) to)
-    unfolding allLooked above
+        → allLooked ns tags (members ns i to)
+        ≡ length tags + allLooked ns (tagsAbove (nodeAt ns i .tag) tags) (members ns (nextNode ns i) to)
+    unfolding allLooked tagsAbove
     all-step [] x r = refl
     all-step (tag ∷ tags) x r =
         let q = rises-parts x tag tags r .1 in
@@ -82,40 +84,40 @@ module _ (ns : List Node) (i to : ℕ) where
       where
         go : rises tag tags ≡ true
             → allLooked ns tags (members ns i to)
-            ≡ length tags + allLooked ns (above (nodeAt ns i .tag) tags) (members ns (nextNode ns i) to)
+            ≡ length tags + allLooked ns (tagsAbove (nodeAt ns i .tag) tags) (members ns (nextNode ns i) to)
             → (b : Bool) → leb tag (nodeAt ns i .tag) ≡ b
             → allLooked ns (tag ∷ tags) (members ns i to)
-            ≡ length (tag ∷ tags) + allLooked ns (cond b (above (nodeAt ns i .tag) tags) (tag ∷ tags)) (members ns (nextNode ns i) to)
+            ≡ length (tag ∷ tags) + allLooked ns (cond b (tagsAbove (nodeAt ns i .tag) tags) (tag ∷ tags)) (members ns (nextNode ns i) to)
         go q z true e = omega (arith, looked-here ns tag i to least a h (leb-true tag (nodeAt ns i .tag) e), z)
         go q z false e =
             let m = leb-false tag (nodeAt ns i .tag) e in
             omega (arith, looked-later ns tag i to h m, all-above tags tag q m)
 
 module _ (tags : List ℕ) (here k : ℕ) where
-  pub above-end : length tags ≤ k → k ≤ length tags → drop k tags ≡ above here (drop k tags)
-  unfolding above
+  pub above-end : length tags ≤ k → k ≤ length tags → drop k tags ≡ tagsAbove here (drop k tags)
+  unfolding tagsAbove
   above-end l m =
       let e : k ≡ length tags = omega arith in
       rw (e, drop-length tags)
 
-  pub above-stop : k < length tags → here < getD tags k 0 → drop k tags ≡ above here (drop k tags)
-  unfolding above
+  pub above-stop : k < length tags → here < getD tags k 0 → drop k tags ≡ tagsAbove here (drop k tags)
+  unfolding tagsAbove
   above-stop h l = rw (drop-cons tags k 0 h, lt-leb (getD tags k 0) here l)
 
-  pub above-on : k < length tags → getD tags k 0 ≤ here → above here (drop (k + 1) tags) ≡ above here (drop k tags)
-  unfolding above
+  pub above-on : k < length tags → getD tags k 0 ≤ here → tagsAbove here (drop (k + 1) tags) ≡ tagsAbove here (drop k tags)
+  unfolding tagsAbove
   above-on h l = rw (add-one k, drop-cons tags k 0 h, le-leb (getD tags k 0) here l)
 
 -- ---- Item by item
 
 module _ (ns : List Node) (i to : ℕ) where
-  pub each-end : (tags : List ℕ) → to ≤ i → readInEach ns tags (members ns i to) ≡ 0
-  unfolding readInEach
+  pub each-end : (tags : List ℕ) → to ≤ i → lookedInEach ns tags (members ns i to) ≡ 0
+  unfolding lookedInEach
   each-end tags h = rw (members-end ns i to h)
 
   pub each-next : (tags : List ℕ) → i < to
-      → readInEach ns tags (members ns i to) ≡ allLooked ns tags (inside ns i) + readInEach ns tags (members ns (nextNode ns i) to)
-  unfolding readInEach
+      → lookedInEach ns tags (members ns i to) ≡ allLooked ns tags (inside ns i) + lookedInEach ns tags (members ns (nextNode ns i) to)
+  unfolding lookedInEach
   each-next tags h = rw (members-next ns i to h, read-is ns tags i)
 
   pub over-end : (tag : ℕ) (always : Bool) (reads : List ℕ) (s : ℕ) → to ≤ i → overGroup ns tag always reads s (members ns i to) ≡ 0
@@ -148,12 +150,12 @@ module _ (ns : List Node) (w : Within ns) where
       go (Is p) = inside-few ns w p
 
 -- 134,217,728 × 134,217,728.
-square : (l m : ℕ) → l ≤ 134217728 → m ≤ l → l * m ≤ 18014398509481984
+square : (l m : ℕ) → l ≤ mostRows → m ≤ l → l * m ≤ 18014398509481984
 square l m a b =
-    let h : m ≤ 134217728 = omega arith in
+    let h : m ≤ mostRows = omega arith in
     omega (arith, mul-le-mul-left l h)
 
-module _ (s : List ℕ) (few : length (nodesOf s) ≤ 134217728) where
+module _ (s : List ℕ) (few : length (nodesOf s) ≤ mostRows) where
   pub frames-square : length (nodesOf s) * length (frameItems (nodesOf s)) ≤ 18014398509481984
   frames-square = square (length (nodesOf s)) (length (frameItems (nodesOf s))) few (items-few (nodesOf s) (nodes-within s))
 
@@ -181,48 +183,44 @@ module _ (s : List ℕ) (few : length (nodesOf s) ≤ 134217728) where
       → allLooked (nodesOf s) tags (members (nodesOf s) from to) ≤ 8589934592
   all-fits tags from to h k =
       let is = members (nodesOf s) from to in
-      let f : length is ≤ 134217728 = omega (arith, members-few (nodesOf s) from to) in
+      let f : length is ≤ mostRows = omega (arith, members-few (nodesOf s) from to) in
       omega (arith, all-few (nodesOf s) tags is, mul-le-mul-left (length tags) f)
 
   pub each-fits : (tags : List ℕ) (from to : ℕ) → length tags ≤ 64 → to ≤ length (nodesOf s)
-      → readInEach (nodesOf s) tags (members (nodesOf s) from to) ≤ 8589934592
+      → lookedInEach (nodesOf s) tags (members (nodesOf s) from to) ≤ 8589934592
   each-fits tags from to h k =
       omega (arith, each-few (nodesOf s) tags (nodes-within s) to k from, mul-le-mul-left (length tags) few)
 
 -- ---- A group at a frame, by where it stands
 
-or-true : (b : Bool) → (b || true) ≡ true
-or-true true = refl
-or-true false = refl
-
 module _ (ns : List Node) (tag : ℕ) (reads : List ℕ) (s i : ℕ) where
   -- Not in the item: in the shared item.
   pub group-lacks : (always : Bool) → find ns tag (inside ns i) ≡ None
       → groupAt ns tag always reads s i
-      ≡ lookedAt ns tag (inside ns i) + (lookedAt ns tag (inside ns s) + readInEach ns reads (insideOf ns (find ns tag (inside ns s))))
+      ≡ lookedAt ns tag (inside ns i) + (lookedAt ns tag (inside ns s) + lookedInEach ns reads (insideOf ns (find ns tag (inside ns s))))
   unfolding groupAt groupSum inShared
   group-lacks always e = rw (e, or-true always)
 
   -- In the item, and looked for in the shared item all the same, or not.
   pub group-both : (always : Bool) → always ≡ true → (g : ℕ) → find ns tag (inside ns i) ≡ Is g
       → groupAt ns tag always reads s i
-      ≡ lookedAt ns tag (inside ns i) + (lookedAt ns tag (inside ns s) + readInEach ns reads (inside ns g))
+      ≡ lookedAt ns tag (inside ns i) + (lookedAt ns tag (inside ns s) + lookedInEach ns reads (inside ns g))
   unfolding groupAt groupSum inShared
   group-both always p g e = rw (p, e)
 
   pub group-own : (always : Bool) → always ≡ false → (g : ℕ) → find ns tag (inside ns i) ≡ Is g
-      → groupAt ns tag always reads s i ≡ lookedAt ns tag (inside ns i) + (0 + readInEach ns reads (inside ns g))
+      → groupAt ns tag always reads s i ≡ lookedAt ns tag (inside ns i) + (0 + lookedInEach ns reads (inside ns g))
   unfolding groupAt groupSum inShared
   group-own always p g e = rw (p, e)
 
 -- ---- The tables' sums
 
-module _ (s : List ℕ) (few : length (nodesOf s) ≤ 134217728) where
+module _ (s : List ℕ) (few : length (nodesOf s) ≤ mostRows) where
   pub root-fits : (r to : ℕ) → to ≤ length (nodesOf s) → r ≡ allLooked (nodesOf s) rootOrder (members (nodesOf s) 0 to) → r ≤ 8589934592
   unfolding rootOrder
   root-fits r to h e = omega (arith, e, all-fits s few rootOrder 0 to (omega arith) h)
 
-  pub masks-fit : (r from to : ℕ) → to ≤ length (nodesOf s) → r ≡ readInEach (nodesOf s) maskTags (members (nodesOf s) from to)
+  pub masks-fit : (r from to : ℕ) → to ≤ length (nodesOf s) → r ≡ lookedInEach (nodesOf s) maskTags (members (nodesOf s) from to)
       → r ≤ 8589934592
   unfolding maskTags maskSearches
   masks-fit r from to h e = omega (arith, e, each-fits s few maskTags from to (omega arith) h)
@@ -267,5 +265,5 @@ pub root-sum : (ns : List Node) (to : ℕ) → to ≡ length ns
 unfolding rootTags
 root-sum ns to e = rw e (root-order ns (root ns) ∙ sym (searched-is ns rootSearches (root ns)))
 
-pub masks-sum : (ns : List Node) (js : List ℕ) → js ≡ maskItems ns → readInEach ns maskTags js ≡ maskSum ns (maskItems ns)
+pub masks-sum : (ns : List Node) (js : List ℕ) → js ≡ maskItems ns → lookedInEach ns maskTags js ≡ maskSum ns (maskItems ns)
 masks-sum ns js e = rw e (sym (mask-is ns (maskItems ns)))

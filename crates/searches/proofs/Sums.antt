@@ -15,7 +15,7 @@ use Rattle.node.specs.Find.{absent, orElse, find}
 use Rattle.element.specs.Elements.{insideOf}
 use Rattle.node.proofs.Walks.{members-end}
 use Rattle.searches.specs.Count.{lookedAt}
-use Rattle.searches.specs.Searches.{Search, GroupSearch, maskSearches, frameSearches, searchedAmong, maskSum, readIn, readInEach}
+use Rattle.searches.specs.Searches.{Search, GroupSearch, maskSearches, frameSearches, searchedAmong, maskSum, lookedIn, lookedInEach}
 use Rattle.searches.specs.Searches.{inShared, groupSum, groupsSum, frameSum, framesSum}
 use Rattle.searches.specs.Contracts.{allLooked, tagsOf, maskTags, groupAt, overGroup, overGroups, overBoth}
 use Rattle.searches.proofs.Counting.{looked-few, Within, inside-below, inside-few}
@@ -27,13 +27,13 @@ unfolding searchedAmong allLooked
 searched-is ns [] is = refl
 searched-is ns (s ∷ ss) is = ap (λ (n : ℕ). lookedAt ns (s .tag) is + n) (searched-is ns ss is)
 
-pub read-is : (ns : List Node) (tags : List ℕ) (j : ℕ) → readIn ns tags j ≡ allLooked ns tags (inside ns j)
-unfolding readIn allLooked
+pub read-is : (ns : List Node) (tags : List ℕ) (j : ℕ) → lookedIn ns tags j ≡ allLooked ns tags (inside ns j)
+unfolding lookedIn allLooked
 read-is ns [] j = refl
 read-is ns (tag ∷ tags) j = ap (λ (n : ℕ). lookedAt ns tag (inside ns j) + n) (read-is ns tags j)
 
-pub mask-is : (ns : List Node) (js : List ℕ) → maskSum ns js ≡ readInEach ns maskTags js
-unfolding maskSum readInEach maskTags
+pub mask-is : (ns : List Node) (js : List ℕ) → maskSum ns js ≡ lookedInEach ns maskTags js
+unfolding maskSum lookedInEach maskTags
 mask-is ns [] = refl
 mask-is ns (j ∷ js) = rw (mask-is ns js, searched-is ns maskSearches (inside ns j), read-is ns (tagsOf maskSearches) j)
 
@@ -45,19 +45,20 @@ all-few ns (tag ∷ tags) is = omega (arith, looked-few ns tag is, all-few ns ta
 -- ---- Over the items of a sequence, which do not overlap
 
 module _ (ns : List Node) (tags : List ℕ) where
-  read-few : (j : ℕ) → readIn ns tags j ≤ length tags * nodeAt ns j .descendants
+  read-few : (j : ℕ) → lookedIn ns tags j ≤ length tags * nodeAt ns j .descendants
   read-few j =
       rw (read-is ns tags j)
       (omega (arith, all-few ns tags (inside ns j), mul-le-mul-left (length tags) (inside-below ns j)))
 
   module _ (w : Within ns) (to : ℕ) (h : to ≤ length ns) where
-    each-by : (t i : ℕ) → readInEach ns tags (membersBy t ns i to) ≤ length tags * (length ns - i)
-    unfolding readInEach membersBy
+    each-by : (t i : ℕ) → lookedInEach ns tags (membersBy t ns i to) ≤ length tags * (length ns - i)
+    unfolding lookedInEach membersBy
     each-by zero i = omega arith
     each-by (suc t) i = go (ltb i to) refl (each-by t (nextNode ns i))
       where
-        go : (b : Bool) → ltb i to ≡ b → readInEach ns tags (membersBy t ns (nextNode ns i) to) ≤ length tags * (length ns - nextNode ns i)
-            → readInEach ns tags (cond b (i ∷ membersBy t ns (nextNode ns i) to) []) ≤ length tags * (length ns - i)
+        go : (b : Bool) → ltb i to ≡ b
+            → lookedInEach ns tags (membersBy t ns (nextNode ns i) to) ≤ length tags * (length ns - nextNode ns i)
+            → lookedInEach ns tags (cond b (i ∷ membersBy t ns (nextNode ns i) to) []) ≤ length tags * (length ns - i)
         go false e r = omega arith
         go true e r =
             let l = ltb-true i to e in
@@ -65,7 +66,7 @@ module _ (ns : List Node) (tags : List ℕ) where
             let z : length ns - i ≡ length ns - nextNode ns i + 1 + nodeAt ns i .descendants = omega arith in
             rw z (omega (arith, r, read-few i))
 
-    pub each-few : (i : ℕ) → readInEach ns tags (members ns i to) ≤ length tags * length ns
+    pub each-few : (i : ℕ) → lookedInEach ns tags (members ns i to) ≤ length tags * length ns
     unfolding members
     each-few i = omega (arith, each-by (to - i) i, mul-le-mul-left (length tags) (less (length ns) i))
       where
@@ -74,19 +75,19 @@ module _ (ns : List Node) (tags : List ℕ) where
 
 module _ (ns : List Node) (w : Within ns) (tags : List ℕ) where
   -- What is beyond the nodes holds nothing.
-  pub inside-read : (g : ℕ) → readInEach ns tags (inside ns g) ≤ length tags * length ns
-  unfolding readInEach
+  pub inside-read : (g : ℕ) → lookedInEach ns tags (inside ns g) ≤ length tags * length ns
+  unfolding lookedInEach
   inside-read g = go (ltb g (length ns)) refl
     where
-      go : (b : Bool) → ltb g (length ns) ≡ b → readInEach ns tags (inside ns g) ≤ length tags * length ns
+      go : (b : Bool) → ltb g (length ns) ≡ b → lookedInEach ns tags (inside ns g) ≤ length tags * length ns
       go true e = each-few ns tags w (nextNode ns g) (w g (ltb-true g (length ns) e)) (g + 1)
       go false e =
           let d : nodeAt ns g .descendants
           ≡ 0 = ap (λ (n : Node). n .descendants) (List·getD-eq-default ns noNode (ltb-false g (length ns) e)) in
           rw (members-end ns (g + 1) (nextNode ns g) (omega arith)) (omega arith)
 
-  pub group-read : (found : Num) → readInEach ns tags (insideOf ns found) ≤ length tags * length ns
-  unfolding readInEach
+  pub group-read : (found : Num) → lookedInEach ns tags (insideOf ns found) ≤ length tags * length ns
+  unfolding lookedInEach
   group-read None = omega arith
   group-read (Is g) = inside-read g
 

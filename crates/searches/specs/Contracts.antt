@@ -6,16 +6,17 @@ use mathlib.Core.List.{List, [], _∷_}
 use mathlib.Core.Bool.{Bool, true, false, cond}
 use lib.Dec.{leb}
 use lib.ListN.{length, take}
+use Rattle.dataset.specs.Answer.{width}
 use Rattle.node.specs.Nodes.{Node, inside}
 use Rattle.node.specs.Find.{find}
 use Rattle.node.specs.Contracts.{Table}
-use Rattle.element.specs.Tags
+use Rattle.basics.specs.Tags
 use Rattle.element.specs.Elements.{insideOf}
 use Rattle.conformance.specs.declared.JudgeAnswer.{JudgeAnswer}
 use Rattle.conformance.specs.declared.JudgeAnswer.the-variants as judged
 use Rattle.searches.specs.declared.SharedGroup.{SharedGroup}
 use Rattle.searches.specs.Count.{lookedAt}
-use Rattle.searches.specs.Searches.{Search, GroupSearch, looksFor, rootSearches, maskSearches, readInEach, groupSum, bothItems}
+use Rattle.searches.specs.Searches.{Search, GroupSearch, looksFor, rootSearches, maskSearches, lookedInEach, groupSum, bothItems}
 
 -- All the tags, each sought among the members.
 unfoldable pub allLooked : List Node → List ℕ → List ℕ → ℕ
@@ -28,9 +29,9 @@ rises least [] = true
 rises least (tag ∷ tags) = cond (leb least tag) (rises tag tags) false
 
 -- The tags from the first one above `here` on.
-unfoldable pub above : ℕ → List ℕ → List ℕ
-above here [] = []
-above here (tag ∷ tags) = cond (leb tag here) (above here tags) (tag ∷ tags)
+unfoldable pub tagsAbove : ℕ → List ℕ → List ℕ
+tagsAbove here [] = []
+tagsAbove here (tag ∷ tags) = cond (leb tag here) (tagsAbove here tags) (tag ∷ tags)
 
 -- The tags of the tables.
 abbrev pub tagsOf : List Search → List ℕ
@@ -101,12 +102,12 @@ overBoth ns s (i ∷ is) = bothItems ns s i + overBoth ns s is
 -- A group in the shared item s: the rows looked at to find it, and those looked at in its items.
 pub record InShared (ns : List Node) (tag : ℕ) (reads : List ℕ) (s : ℕ) (part : SharedGroup) : Type 0 where
   pub looked : part .looked ≡ lookedAt ns tag (inside ns s)
-  pub read : part .read ≡ readInEach ns reads (insideOf ns (find ns tag (inside ns s)))
+  pub read : part .read ≡ lookedInEach ns reads (insideOf ns (find ns tag (inside ns s)))
 
 -- If judging accepted, the row buffer begins with its rows.
-abbrev pub Left : List ℕ → List ℕ → JudgeAnswer → Type 0
-Left s rows (judged.Accepted n) = (7 * n ≤ length rows) × Table s (take (7 * n) rows)
-Left s rows (judged.Broken n rule frame) = Unit {0}
-Left s rows (judged.Refused code offset) = Unit {0}
-Left s rows judged.TooLarge = Unit {0}
-Left s rows judged.NoRoom = Unit {0}
+abbrev pub RowsLeft : List ℕ → List ℕ → JudgeAnswer → Type 0
+RowsLeft s rows (judged.Accepted n) = (width * n ≤ length rows) × Table s (take (width * n) rows)
+RowsLeft s rows (judged.Broken n rule frame) = Unit {0}
+RowsLeft s rows (judged.Refused code offset) = Unit {0}
+RowsLeft s rows judged.TooLarge = Unit {0}
+RowsLeft s rows judged.NoRoom = Unit {0}

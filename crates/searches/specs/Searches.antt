@@ -8,7 +8,7 @@ use Rattle.value.specs.declared.Num.{Num}
 use Rattle.value.specs.declared.Num.the-variants.{Is, None}
 use Rattle.node.specs.Nodes.{Node, root, inside}
 use Rattle.node.specs.Find.{absent, find}
-use Rattle.element.specs.Tags
+use Rattle.basics.specs.Tags
 use Rattle.element.specs.Elements.{insideOf}
 use Rattle.element.specs.Frames.{sharedItem, frameItems, groupOf, maskItems}
 use Rattle.searches.specs.Count.{lookedAt}
@@ -107,13 +107,13 @@ maskSum ns [] = 0
 maskSum ns (j ∷ js) = searchedAmong ns maskSearches (inside ns j) + maskSum ns js
 
 -- What a rule reads in one item of a functional group, and in each of its items.
-unfoldable pub readIn : List Node → List ℕ → ℕ → ℕ
-readIn ns [] j = 0
-readIn ns (tag ∷ tags) j = lookedAt ns tag (inside ns j) + readIn ns tags j
+unfoldable pub lookedIn : List Node → List ℕ → ℕ → ℕ
+lookedIn ns [] j = 0
+lookedIn ns (tag ∷ tags) j = lookedAt ns tag (inside ns j) + lookedIn ns tags j
 
-unfoldable pub readInEach : List Node → List ℕ → List ℕ → ℕ
-readInEach ns tags [] = 0
-readInEach ns tags (j ∷ js) = readIn ns tags j + readInEach ns tags js
+unfoldable pub lookedInEach : List Node → List ℕ → List ℕ → ℕ
+lookedInEach ns tags [] = 0
+lookedInEach ns tags (j ∷ js) = lookedIn ns tags j + lookedInEach ns tags js
 
 -- A group's searches at one frame, whose item is i; s is the shared item.
 unfoldable pub inShared : List Node → GroupSearch → ℕ → ℕ → ℕ
@@ -123,7 +123,7 @@ inShared ns g s i =
 unfoldable pub groupSum : List Node → GroupSearch → ℕ → ℕ → ℕ
 groupSum ns g s i =
     lookedAt ns (g .group) (inside ns i)
-    + (inShared ns g s i + readInEach ns (g .reads) (insideOf ns (groupOf ns (g .group) s i)))
+    + (inShared ns g s i + lookedInEach ns (g .reads) (insideOf ns (groupOf ns (g .group) s i)))
 
 unfoldable pub groupsSum : List Node → List GroupSearch → ℕ → ℕ → ℕ
 groupsSum ns [] s i = 0

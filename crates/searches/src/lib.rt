@@ -8,15 +8,15 @@ ghost use Rattle.node.specs.Contracts.{Table, Ascends};
 ghost use Rattle.value.specs.Contracts.{Below};
 ghost use Rattle.element.specs.Elements.{insideOf};
 ghost use Rattle.element.specs.Frames.{sharedItem, frameItems};
-ghost use Rattle.searches.specs.Searches.{readInEach, frameSearches, overFrames, searchesOf};
-ghost use Rattle.searches.specs.Contracts.{allLooked, rises, above, groupAt, overGroup, overGroups, overBoth, InShared, Left};
+ghost use Rattle.searches.specs.Searches.{lookedInEach, frameSearches, overFrames, searchesOf};
+ghost use Rattle.searches.specs.Contracts.{allLooked, rises, tagsAbove, groupAt, overGroup, overGroups, overBoth, InShared, RowsLeft};
 ghost use Rattle.dataset.specs.Reading.{readingOf};
 ghost use Rattle.basics.specs.Fields.{Answers};
 ghost use Rattle.dataset.specs.Answer.{bufferOf};
 ghost use Rattle.searches.specs.Reported.{ifAccepted, countedOf, fieldsOf};
 ghost use Rattle.searches.specs.Plain.{Looks, LooksIn};
+use basics::tags;
 use conformance::JudgeAnswer;
-use element::tags;
 use value::Num;
 
 // The tables of specs/Searches. In the root, in ascending order of tags:
@@ -94,13 +94,13 @@ const RELATION: [usize; 1] = [tags::PIXEL_INTENSITY_RELATIONSHIP];
 const TABLE: [usize; 3] = [tags::LUT_FUNCTION, tags::LUT_DESCRIPTOR, tags::LUT_DATA];
 
 // What the plain search finds, and how many rows it looks at.
-pub struct Looked {
+struct Looked {
     pub found: Num,
     pub count: usize,
 }
 
 // A group in the shared item: the rows looked at to find it, and those looked at in its items.
-pub struct SharedGroup {
+struct SharedGroup {
     pub looked: usize,
     pub read: usize,
 }
@@ -165,7 +165,8 @@ fn look_all(bytes: &[u8], rows: &[u32], from: usize, to: usize, wanted: &[usize]
 // Where the tags above `here` begin.
 fn first_above(wanted: &[usize], from: usize, here: usize) -> usize
     requires { ⌜ from ≤ length (now wanted) ⌝ }
-    ensures { λ r. ⌜ (r ≤ length (now (wanted .entry))) × (drop r (now (wanted .entry)) ≡ above here (drop from (now (wanted .entry)))) ⌝ }
+    ensures { λ r. ⌜ (r ≤ length (now (wanted .entry)))
+        × (drop r (now (wanted .entry)) ≡ tagsAbove here (drop from (now (wanted .entry)))) ⌝ }
 {
     let mut k = from;
     while k < wanted.len() {
@@ -202,7 +203,7 @@ fn look_along(bytes: &[u8], rows: &[u32], from: usize, to: usize, wanted: &[usiz
 // All the tags, in each item from `from` up to `to`.
 fn look_each(bytes: &[u8], rows: &[u32], from: usize, to: usize, wanted: &[usize]) -> usize
     requires { ⌜ Table (now bytes) (now rows) × ((to ≤ length (nodesOf (now bytes))) × (length (now wanted) ≤ 64)) ⌝ }
-    ensures { λ r. ⌜ r ≡ readInEach (nodesOf (now (bytes .entry))) (now (wanted .entry)) (members (nodesOf (now (bytes .entry))) from to) ⌝ }
+    ensures { λ r. ⌜ r ≡ lookedInEach (nodesOf (now (bytes .entry))) (now (wanted .entry)) (members (nodesOf (now (bytes .entry))) from to) ⌝ }
 {
     let mut sum: usize = 0;
     let mut j = from;
@@ -219,7 +220,7 @@ fn look_each(bytes: &[u8], rows: &[u32], from: usize, to: usize, wanted: &[usize
 // All the tags, in each item of the group that was found.
 fn look_group(bytes: &[u8], rows: &[u32], found: Num, wanted: &[usize]) -> usize
     requires { ⌜ Table (now bytes) (now rows) × (Below (length (nodesOf (now bytes))) found × (length (now wanted) ≤ 64)) ⌝ }
-    ensures { λ r. ⌜ r ≡ readInEach (nodesOf (now (bytes .entry))) (now (wanted .entry)) (insideOf (nodesOf (now (bytes .entry))) found) ⌝ }
+    ensures { λ r. ⌜ r ≡ lookedInEach (nodesOf (now (bytes .entry))) (now (wanted .entry)) (insideOf (nodesOf (now (bytes .entry))) found) ⌝ }
 {
     match found {
         Num::None => 0,
@@ -380,7 +381,7 @@ fn sum(bytes: &[u8], rows: &[u32]) -> usize
 
 // The sum, with code 0; the row buffer is as judging left it.
 pub fn reported(bytes: &[u8], rows: &[u32], answer: JudgeAnswer) -> usize
-    requires { ⌜ Left (now bytes) (now rows) answer ⌝ }
+    requires { ⌜ RowsLeft (now bytes) (now rows) answer ⌝ }
     ensures { λ r. ⌜ r ≡ ifAccepted (searchesOf (nodesOf (now (bytes .entry)))) answer ⌝ }
 {
     match answer {

@@ -2,8 +2,9 @@
 use mathlib.Core.Path.{_≡_, refl, sym, ap, _∙_}
 use mathlib.Core.Bool.{cond}
 use mathlib.Core.List.{List, [], _∷_, _++_}
-use mathlib.Core.Logic.{⊎-elim}
+use mathlib.Core.Logic.{dite}
 use Prim.Native.Nat.{ℕ, zero, suc, _+_, _-_, _*_, _≤_, _<_, _^_}
+use native.Mathlib.Decide.{ℕ-discrete}
 use native.Mathlib.Omega.{arith}
 use native.Mathlib.Nat.{mul-add}
 use native.Mathlib.Numerals.{add-one}
@@ -13,7 +14,7 @@ use lib.Seq.{getD-set-same, getD-set-other, drop-cons, ext-getD}
 use borrow.Author.Tests.{eq-eqb, ne-eqb}
 use Rattle.display.specs.Drawing.{AllLevels}
 use Rattle.lines.specs.Contracts.{upTo}
-use Rattle.lines.proofs.Lists.{same-or-not, upTo-length, upTo-at}
+use Rattle.lines.proofs.Lists.{upTo-length, upTo-at}
 use Rattle.sheet.specs.Sheet.{times, sumOf, countsOf}
 use Rattle.sheet.specs.Sampling.{total}
 use Rattle.sheet.specs.Contracts.{tallied, Room}
@@ -61,10 +62,9 @@ total-one : (x n : ℕ) → x < n → total (λ y. cond (eqb x y) 1 0) n ≡ 1
 unfolding total
 total-one x zero h = absurd (omega arith)
 total-one x (suc n) h =
-    ⊎-elim
+    dite (ℕ-discrete x n)
     (λ e. rw (eq-eqb x n e) (omega (arith, total-above x n (omega arith))))
     (λ d. rw (ne-eqb x n d) (omega (arith, total-one x n (below x n h d))))
-    (same-or-not x n)
   where
     below : (x n : ℕ) → x < suc n → (x ≡ n → ⊥) → x < n
     below x n h d = omega arith
@@ -130,10 +130,9 @@ tallied-length (x ∷ l) c = tallied-length l (set c x (getD c x 0 + 1)) ∙ len
 
 bump-at : (c : List ℕ) (x y : ℕ) → y < length c → getD (set c x (getD c x 0 + 1)) y 0 ≡ getD c y 0 + cond (eqb x y) 1 0
 bump-at c x y h =
-    ⊎-elim
+    dite (ℕ-discrete x y)
     (λ e. rw (eq-eqb x y e, e) (getD-set-same c y (getD c y 0 + 1) 0 h))
     (λ d. rw (ne-eqb x y d) (getD-set-other c x y (getD c x 0 + 1) 0 (λ e. d (sym e)) ∙ omega arith))
-    (same-or-not x y)
 
 pub tallied-at : (l c : List ℕ) (y : ℕ) → y < length c → getD (tallied l c) y 0 ≡ getD c y 0 + times y l
 unfolding tallied times
@@ -172,10 +171,9 @@ pub times-most : (y : ℕ) (l : List ℕ) → times y l ≤ length l
 unfolding times
 times-most y [] = omega arith
 times-most y (x ∷ l) =
-    ⊎-elim
+    dite (ℕ-discrete x y)
     (λ e. rw (eq-eqb x y e) (omega (arith, times-most y l)))
     (λ d. rw (ne-eqb x y d) (omega (arith, times-most y l)))
-    (same-or-not x y)
 
 -- ---- The sum of all levels, from the counts
 
@@ -193,10 +191,9 @@ weight-one : (x n : ℕ) → x < n → total (λ y. y * cond (eqb x y) 1 0) n �
 unfolding total
 weight-one x zero h = absurd (omega arith)
 weight-one x (suc n) h =
-    ⊎-elim
+    dite (ℕ-discrete x n)
     (λ e. rw (eq-eqb x n e) (omega (arith, weight-above x n (omega arith))))
     (λ d. rw (ne-eqb x n d) (omega (arith, weight-one x n (below x n h d))))
-    (same-or-not x n)
   where
     below : (x n : ℕ) → x < suc n → (x ≡ n → ⊥) → x < n
     below x n h d = omega arith

@@ -7,6 +7,7 @@ use Prim.Native.Nat.{ℕ, zero, suc, _+_, _-_, _*_, _≤_, _<_}
 use native.Mathlib.Omega.{arith}
 use lib.ListN.{length, drop}
 use borrow.Author.Tests.{le-leb, ne-eqb}
+use Rattle.value.specs.Number.{numberOr0}
 use Rattle.value.specs.declared.Num.{Num}
 use Rattle.value.specs.declared.Num.the-variants.{Is, None}
 use Rattle.node.specs.Nodes.{Node, nodesOf}
@@ -15,7 +16,6 @@ use Rattle.element.specs.declared.Items.{Items}
 use Rattle.element.specs.Contracts.{Along}
 use Rattle.element.specs.Elements.{first}
 use Rattle.element.specs.Frames.{frameItems}
-use Rattle.conformance.specs.Judging.{numberOf}
 use Rattle.steps.specs.Steps.{Picture}
 use Rattle.display.specs.Show.{imageSize, pictureIn, pictureOf}
 use Rattle.display.specs.Drawing.{Whole}
@@ -47,7 +47,7 @@ pub picture-cells : (s : List ℕ) (n f : ℕ) → IsObject s n → 1 ≤ f → 
 unfolding pictureOf
 picture-cells s n f h low high =
     let w : Whole (nodesOf s) f = nothing-lacks s (h .bytes) (h .sound) f low
-    (subst (λ (x : Num). f ≤ numberOf x) (sym (h .frames)) high) in
+    (subst (λ (x : Num). f ≤ numberOr0 x) (sym (h .frames)) high) in
     ap (λ (p : Option Picture). length (pictureIn p .samples)) (w .is) ∙ w .size
 
 -- What is left to count, with one frame counted.

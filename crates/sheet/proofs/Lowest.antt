@@ -1,14 +1,14 @@
 -- The lowest and the highest level of a list are the first and the last place with a count above 0.
 use mathlib.Core.Path.{_≡_, refl, sym, ap, _∙_}
 use mathlib.Core.List.{List, [], _∷_}
-use mathlib.Core.Logic.{_⊎_, inl, inr, ⊎-elim}
+use mathlib.Core.Logic.{_⊎_, inl, inr, ⊎-elim, dite}
 use Prim.Native.Nat.{ℕ, zero, suc, _+_, _-_, _≤_, _<_, min, max}
 use native.Mathlib.Nat.{min-le-left, min-le-right, le-max-left, le-max-right, min-eq-left, min-eq-right, max-eq-left, max-eq-right, max-le}
+use native.Mathlib.Decide.{ℕ-discrete}
 use native.Mathlib.Omega.{arith}
 use lib.ListN.{getD}
 use borrow.Author.Tests.{eq-eqb, ne-eqb}
 use Rattle.display.specs.Drawing.{AllLevels}
-use Rattle.lines.proofs.Lists.{same-or-not}
 use Rattle.sheet.specs.Sheet.{times, countsOf, lowestOf, highestOf}
 use Rattle.sheet.specs.Contracts.{First, Last}
 use Rattle.sheet.proofs.Counts.{count-is}
@@ -86,13 +86,13 @@ high-found (x ∷ l) = ⊎-elim left (right (high-found l)) (either (highestOf l
 
 -- One place more of which there is none.
 pub none-more : (f : ℕ → ℕ) (y : ℕ) → ((z : ℕ) → z < y → f z ≡ 0) → f y ≡ 0 → (z : ℕ) → z < y + 1 → f z ≡ 0
-none-more f y h e z l = ⊎-elim (λ q. ap f q ∙ e) (λ d. h z (below d l)) (same-or-not z y)
+none-more f y h e z l = dite (ℕ-discrete z y) (λ q. ap f q ∙ e) (λ d. h z (below d l))
   where
     below : (z ≡ y → ⊥) → z < y + 1 → z < y
     below d l = omega arith
 
 pub none-less : (f : ℕ → ℕ) (y : ℕ) → 0 < y → ((z : ℕ) → y < z → z < 256 → f z ≡ 0) → f y ≡ 0 → (z : ℕ) → y - 1 < z → z < 256 → f z ≡ 0
-none-less f y some h e z l k = ⊎-elim (λ q. ap f q ∙ e) (λ d. h z (above d l) k) (same-or-not z y)
+none-less f y some h e z l k = dite (ℕ-discrete z y) (λ q. ap f q ∙ e) (λ d. h z (above d l) k)
   where
     above : (z ≡ y → ⊥) → y - 1 < z → y < z
     above d l = omega arith

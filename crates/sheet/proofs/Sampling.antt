@@ -10,16 +10,18 @@ use native.Mathlib.Omega.{arith}
 use lib.Dec.{leb}
 use lib.ListN.{length, getD, length-append}
 use borrow.Author.Tests.{leb-true}
+use Rattle.value.specs.Number.{numberOr0}
+use Rattle.basics.proofs.Tests.{and-both}
+use Rattle.basics.specs.Bytes.{IsBytes}
 use Rattle.dataset.specs.Answer.{width}
 use Rattle.dataset.specs.Tree.{rowsOf}
 use Rattle.value.specs.declared.Num.{Num}
 use Rattle.value.specs.declared.Num.the-variants.{Is, None}
 use Rattle.node.specs.Nodes.{Node, nodesOf, root}
 use Rattle.element.specs.Frames.{framesOf}
-use Rattle.conformance.specs.Judging.{numberOf}
 use Rattle.steps.specs.Steps.{Picture, stepsOf}
 use Rattle.display.specs.Show.{isFrameOf, imageSize, pictureIn, pictureOf}
-use Rattle.display.specs.Drawing.{Bytes, IsAccepted, Whole, AllLevels}
+use Rattle.display.specs.Drawing.{IsAccepted, Whole, AllLevels}
 use Rattle.display.proofs.Small.{us-in-small}
 use Rattle.display.proofs.Objects.{object}
 use Rattle.display.proofs.Lacking.{geometry-size, nothing-lacks}
@@ -34,7 +36,7 @@ use Rattle.sheet.specs.Sheet.{times, levelsOf, nativesOf, countsOf, lowe
 use Rattle.sheet.specs.Answer.{acceptedAnswer, answerFor, sheetFor, sheetOf, fieldsOf}
 use Rattle.sheet.specs.Contracts.{Few, First, Last}
 use Rattle.display.specs.Contracts.{IsObject, IsScene}
-use Rattle.sheet.specs.Sampling.{Range, total, Consistent, HandsBack, Sampling}
+use Rattle.sheet.specs.Sampling.{Range, total, Consistent, SheetBack, Sampling}
 use Rattle.sheet.proofs.Counts.{counts-add, levels-append, count-is, times-most, upTo-most, sum-weighted}
 use Rattle.display.proofs.Scenes.{cells-few}
 use Rattle.sheet.proofs.Lowest.{first-is, last-is, either, times-same, times-more, low-most, low-none, low-found, high-most}
@@ -129,7 +131,7 @@ module _ (s : List ℕ) (n a b : ℕ) (h : IsObject s n) (low : 1 ≤ a) (order 
   object-run : Run (nodesOf s) a (b + 1 - a)
   object-run =
       run (nodesOf s) a (b + 1 - a) (λ f l k. nothing-lacks s (h .bytes) (h .sound) f (omega (arith, low, l))
-      (subst (λ (x : Num). f ≤ numberOf x) (sym (h .frames)) (omega (arith, order, high, k))))
+      (subst (λ (x : Num). f ≤ numberOr0 x) (sym (h .frames)) (omega (arith, order, high, k))))
 
   pub few-counts : (c : Scene) → IsScene (nodesOf s) c → (counts : List ℕ) → counts ≡ countsOf (levelsOf (nodesOf s) a (b + 1 - a))
       → Few counts
@@ -175,18 +177,14 @@ module _ (s : List ℕ) (n a b : ℕ) (h : IsObject s n) (low : 1 ≤ a) (order 
 -- ---- From the answer back to what was asked
 
 module _ (s : List ℕ) (a b : ℕ) where
-  frames-is : (n : Num) → 1 ≤ numberOf n → n ≡ Is (numberOf n)
+  frames-is : (n : Num) → 1 ≤ numberOr0 n → n ≡ Is (numberOr0 n)
   frames-is (Is k) h = refl
   frames-is None h = absurd (omega arith)
 
   answer-done : (n : ℕ) → Range s a b → acceptedAnswer (nodesOf s) a b n ≡ answer.Done n
   answer-done n r =
-      frames-done (nodesOf s) a b n (r .order) (numberOf (framesOf (nodesOf s)))
+      frames-done (nodesOf s) a b n (r .order) (numberOr0 (framesOf (nodesOf s)))
       (frames-is (framesOf (nodesOf s)) (omega (arith, r .first .low, r .first .high))) (r .first .low) (r .last .high)
-
-  both : (p q : Bool) → p && q ≡ true → (p ≡ true) × (q ≡ true)
-  both true q h = (refl, h)
-  both false q h = let z : _≡_ {A = ℕ} 0 1 = cc in absurd (omega arith)
 
   was-range : (n : ℕ) → fieldsOf (acceptedAnswer (nodesOf s) a b n) .code ≡ 0 → Range s a b
   unfolding acceptedAnswer
@@ -195,7 +193,7 @@ module _ (s : List ℕ) (a b : ℕ) where
       go : (t u : Bool) → leb a b ≡ t → (isFrameOf (nodesOf s) a && isFrameOf (nodesOf s) b) ≡ u
           → fieldsOf (cond t (cond u (answer.Done n) answer.NoFrame) answer.WrongOrder) .code ≡ 0 → Range s a b
       go true true p q e =
-          let w = both (isFrameOf (nodesOf s) a) (isFrameOf (nodesOf s) b) q in
+          let w = and-both (isFrameOf (nodesOf s) a) (isFrameOf (nodesOf s) b) q in
           record { order = leb-true a b p; first = was-frame s a (w .0); last = was-frame s b (w .1) }
       go true false p q e = absurd (omega (arith, e))
       go false u p q e = absurd (omega (arith, e))
@@ -229,14 +227,14 @@ module _ (s : List ℕ) (a b : ℕ) where
 
 -- ---- The claim
 
-some-cell : (s : List ℕ) → Bytes s → IsAccepted s → 1 ≤ imageSize (nodesOf s)
+some-cell : (s : List ℕ) → IsBytes s → IsAccepted s → 1 ≤ imageSize (nodesOf s)
 some-cell s b acc =
     let o = object (nodesOf s) (λ tag k e. us-in-small s b tag k (root (nodesOf s)) e) (acc .sound) in
     let m : 1 * 1
     ≤ o .g .rows * o .g .columns = mul-le-mul {n₁ = 1} {m₁ = 1} {n₂ = o .g .rows} {m₂ = o .g .columns} (o .rows-low) (o .columns-low) in
     omega (arith, m, geometry-size (nodesOf s) (o .g) (o .geometry))
 
-module _ (s : List ℕ) (bytes : Bytes s) (a b : ℕ) (acc : IsAccepted s) (r : Range s a b) where
+module _ (s : List ℕ) (bytes : IsBytes s) (a b : ℕ) (acc : IsAccepted s) (r : Range s a b) where
   whole : (f : ℕ) → a ≤ f → f ≤ b → Whole (nodesOf s) f
   whole f l h = drawing s bytes f .drawable acc (record { low = omega (arith, r .first .low, l); high = omega (arith, r .last .high, h) })
 
@@ -256,7 +254,7 @@ module _ (s : List ℕ) (bytes : Bytes s) (a b : ℕ) (acc : IsAccepted s) (r : 
       (all-cells .levels) (all-cells .size)
       (omega (arith, all-cells .size, some)) (natives-few (nodesOf s) a (b - a + 1))
 
-  handed : (buffer : List ℕ) → width * length (rowsOf s) ≤ length buffer → HandsBack s a b buffer
+  handed : (buffer : List ℕ) → width * length (rowsOf s) ≤ length buffer → SheetBack s a b buffer
   handed buffer room =
       let is : sheetOf s a b buffer .answer ≡ answer.Done (length (rowsOf s)) = answered s a b buffer acc r room in
       let sheet : sheetOf s a b buffer .sheet ≡ framesSheet (nodesOf s) a b = sheet-is s a b buffer ∙ ap (sheetFor (nodesOf s) a b) is in

@@ -60,7 +60,7 @@ pub record FrameReady (v : List ℕ) (g : Geometry) (f : ℕ) (line : List ℕ) 
   pub wide : 65535 ≤ length line
 
 -- The lengths of all buffers.
-pub record Rooms (table upper lower line : List ℕ) : Type 0 where
+pub record LineRooms (table upper lower line : List ℕ) : Type 0 where
   pub shades : length table ≡ 131072
   pub above : longestRow ≤ length upper
   pub below : longestRow ≤ length lower

@@ -7,11 +7,12 @@ use mathlib.Core.Path.{_≡_}
 use mathlib.Core.List.{List}
 use Prim.Native.Nat.{ℕ, zero, suc, _+_, _-_, _*_, _≤_, _<_}
 use lib.ListN.{length, getD}
+use Rattle.basics.specs.Bytes.{IsBytes}
 use Rattle.dataset.specs.Answer.{width}
 use Rattle.dataset.specs.Tree.{rowsOf}
 use Rattle.node.specs.Nodes.{nodesOf}
 use Rattle.display.specs.Show.{imageSize}
-use Rattle.display.specs.Drawing.{Bytes, IsAccepted, IsFrame, Whole}
+use Rattle.display.specs.Drawing.{IsAccepted, IsFrame, Whole}
 use Rattle.sheet.specs.declared.Numbers.{Numbers}
 use Rattle.sheet.specs.Sheet.{sumOf, framesSheet, noSheet}
 use Rattle.sheet.specs.Answer.{sheetOf, fieldsOf}
@@ -46,23 +47,23 @@ pub record Consistent (t : Numbers) (n cells : ℕ) : Type 0 where
   pub natives-few : t .natives ≤ n
 
 -- What `sheet` hands back with code 0.
-pub record HandsBack (s : List ℕ) (a b : ℕ) (buffer : List ℕ) : Type 0 where
+pub record SheetBack (s : List ℕ) (a b : ℕ) (buffer : List ℕ) : Type 0 where
   pub rows : fieldsOf (sheetOf s a b buffer .answer) .rows ≡ length (rowsOf s)
   -- The sheet of the pictures that the steps give.
   pub of-pictures : sheetOf s a b buffer .sheet ≡ framesSheet (nodesOf s) a b
   pub pictures : (f : ℕ) → a ≤ f → f ≤ b → Whole (nodesOf s) f
   pub consistent : Consistent (sheetOf s a b buffer .sheet) (b - a + 1) (imageSize (nodesOf s))
 
-pub record Promise (s : List ℕ) (a b : ℕ) (buffer : List ℕ) : Type 0 where
+pub record SheetPromise (s : List ℕ) (a b : ℕ) (buffer : List ℕ) : Type 0 where
   -- The sheet of frames of an accepted object is done if there is room for the rows,
   pub done : IsAccepted s → Range s a b → width * length (rowsOf s) ≤ length buffer → fieldsOf (sheetOf s a b buffer .answer) .code ≡ 0
   -- and nothing else is.
   pub nothing-else : fieldsOf (sheetOf s a b buffer .answer) .code ≡ 0
       → IsAccepted s × (Range s a b × (width * length (rowsOf s) ≤ length buffer))
-  pub as-drawn : fieldsOf (sheetOf s a b buffer .answer) .code ≡ 0 → HandsBack s a b buffer
+  pub as-drawn : fieldsOf (sheetOf s a b buffer .answer) .code ≡ 0 → SheetBack s a b buffer
   -- A refusal comes with a sheet of zeros.
   pub refused : 1 ≤ fieldsOf (sheetOf s a b buffer .answer) .code → sheetOf s a b buffer .sheet ≡ noSheet
 
 -- For every data set, given as bytes, any two numbers and any row buffer.
 abbrev pub Sampling : Type 0
-Sampling = (s : List ℕ) → Bytes s → (a b : ℕ) (buffer : List ℕ) → Promise s a b buffer
+Sampling = (s : List ℕ) → IsBytes s → (a b : ℕ) (buffer : List ℕ) → SheetPromise s a b buffer

@@ -6,7 +6,7 @@ ghost use lib.ListN.{length, getD, drop};
 ghost use Rattle.dataset.specs.Reading.{readingOf};
 ghost use Rattle.basics.specs.Fields.{Answers};
 ghost use Rattle.dataset.specs.Answer.{bufferOf};
-ghost use Rattle.value.specs.Number.{usValues};
+ghost use Rattle.value.specs.Number.{usValues, numberOr0};
 ghost use Rattle.shift.specs.Contracts.{ShortMoves};
 ghost use Rattle.node.specs.Nodes.{nodesOf};
 ghost use Rattle.node.specs.Contracts.{Table};
@@ -14,7 +14,7 @@ ghost use Rattle.element.specs.Contracts.{Along};
 ghost use Rattle.element.specs.Elements.{valueAt};
 ghost use Rattle.element.specs.Frames.{framesOf, frameItems};
 ghost use Rattle.conformance.specs.declared.Finding.the-variants as finding;
-ghost use Rattle.conformance.specs.Judging.{numberOf, findingOf};
+ghost use Rattle.conformance.specs.Judging.{findingOf};
 ghost use Rattle.window.specs.Contracts.{Drawable};
 ghost use Rattle.pixel.specs.Pixel.{samplesOf};
 ghost use Rattle.pixel.specs.Contracts.{nativeShade, maskedShade, longestRow, Masks, shifted, Averaged, quarterShade};
@@ -26,7 +26,7 @@ ghost use Rattle.display.specs.Show.{imageSize, pictureOf};
 ghost use Rattle.sheet.specs.Sheet.{levelsOf, nativesOf, countsOf, framesSheet, noSheet, numbersIn};
 ghost use Rattle.sheet.specs.Answer.{acceptedAnswer, withSheet, sheetOf, sampledFields};
 ghost use Rattle.sheet.specs.Sampling.{total};
-ghost use Rattle.sheet.specs.Contracts.{tallied, Room, Few, First, Last, IsAhead, FrameReady, Rooms, IsHeld, IsNothing};
+ghost use Rattle.sheet.specs.Contracts.{tallied, Room, Few, First, Last, IsAhead, FrameReady, LineRooms, IsHeld, IsNothing};
 use basics::wide;
 use conformance::JudgeAnswer;
 use display::Masking;
@@ -450,7 +450,7 @@ fn same_window(a: Window, b: Window) -> bool
 }
 
 // The shades of the previous frame, and how many cells were computed from its window so far.
-pub struct Held {
+struct Held {
     pub shades: Shades,
     pub spent: usize,
 }
@@ -587,7 +587,7 @@ fn native_number(masking: Masking) -> usize
 }
 
 // What was counted so far, and the shades of the last frame.
-pub struct Counted {
+struct Counted {
     pub counts: [u64; 256],
     pub natives: usize,
     pub held: Held,
@@ -612,7 +612,7 @@ fn count_picture(
         × (IsScene (nodesOf (now bytes)) c
         × (IsPlan (nodesOf (now bytes)) frame (c .g .stored) own
         × ((1 ≤ frame) × ((frame ≤ n)
-        × (Rooms (now table) (now upper) (now lower) (now line)
+        × (LineRooms (now table) (now upper) (now lower) (now line)
         × (IsHeld (c .g .stored) (c .inverse) (sofar .held) (now table)
         × ((sofar .natives < 65536) × Room (sofar .counts) (imageSize (nodesOf (now bytes))))))))))) ⌝ }
     ensures { λ r. ⌜ (r .counts ≡ tallied (pictureOf (nodesOf (now (bytes .entry))) frame .samples) (sofar .counts))
@@ -692,7 +692,7 @@ fn count_frames(
         × (IsScene (nodesOf (now bytes)) c
         × (Along (nodesOf (now bytes)) (drop (a - 1) (frameItems (nodesOf (now bytes)))) start
         × ((1 ≤ a) × ((a ≤ b)
-        × ((b ≤ n) × (Rooms (now table) (now upper) (now lower) (now line)
+        × ((b ≤ n) × (LineRooms (now table) (now upper) (now lower) (now line)
         × IsAhead (nodesOf (now bytes)) n (now which) (now keys) (now answers)))))))) ⌝ }
     ensures { λ r. ⌜ (r .counts ≡ countsOf (levelsOf (nodesOf (now (bytes .entry))) a (b + 1 - a)))
         × (r .natives ≡ nativesOf (nodesOf (now (bytes .entry))) a (b + 1 - a)) ⌝ }
@@ -741,7 +741,7 @@ fn count_all(
         × (IsObject (now bytes) n
         × (IsScene (nodesOf (now bytes)) c
         × (Along (nodesOf (now bytes)) (drop (a - 1) (frameItems (nodesOf (now bytes)))) start
-        × ((1 ≤ a) × ((a ≤ b) × ((b ≤ n) × Rooms (now table) (now upper) (now lower) (now line))))))) ⌝ }
+        × ((1 ≤ a) × ((a ≤ b) × ((b ≤ n) × LineRooms (now table) (now upper) (now lower) (now line))))))) ⌝ }
     ensures { λ r. ⌜ (r .counts ≡ countsOf (levelsOf (nodesOf (now (bytes .entry))) a (b + 1 - a)))
         × (r .natives ≡ nativesOf (nodesOf (now (bytes .entry))) a (b + 1 - a)) ⌝ }
 {
@@ -923,7 +923,7 @@ pub fn sheet(bytes: &[u8], first: u64, last: u64, rows: &mut [u32]) -> Sampled
 // The number of frames, which an accepted object has.
 fn last_frame(bytes: &[u8], rows: &[u32]) -> usize
     requires { ⌜ Table (now bytes) (now rows) ⌝ }
-    ensures { λ r. ⌜ r ≡ numberOf (framesOf (nodesOf (now (bytes .entry)))) ⌝ }
+    ensures { λ r. ⌜ r ≡ numberOr0 (framesOf (nodesOf (now (bytes .entry)))) ⌝ }
 {
     match element::frame_count(bytes, rows) {
         Num::Is(n) => n,
@@ -933,7 +933,7 @@ fn last_frame(bytes: &[u8], rows: &[u32]) -> usize
 
 // The sheet of all frames, from 1 to the number of frames.
 pub fn whole(bytes: &[u8], rows: &mut [u32]) -> Sampled
-    ensures { λ r. ⌜ Answers sampledFields r (sheetOf (now (bytes .entry)) 1 (numberOf (framesOf (nodesOf (now (bytes .entry))))) (now (rows .entry))) ⌝ }
+    ensures { λ r. ⌜ Answers sampledFields r (sheetOf (now (bytes .entry)) 1 (numberOr0 (framesOf (nodesOf (now (bytes .entry))))) (now (rows .entry))) ⌝ }
     ensures { λ _. ⌜ now (rows .exit) ≡ bufferOf (readingOf (now (bytes .entry))) (now (rows .entry)) ⌝ }
 {
     match conformance::judge(bytes, rows) {

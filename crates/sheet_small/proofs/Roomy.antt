@@ -25,7 +25,7 @@ use Rattle.display.specs.Show.{isFrameOf}
 use Rattle.sheet.specs.declared.SheetAnswer.the-variants as answer
 use Rattle.sheet.specs.Answer.{acceptedAnswer, answerFor as sheetFor, withSheet, sheetOf, fieldsOf}
 
-pub roomy-sheet : (s : List ℕ) (a b : ℕ) (buffer : List ℕ) → 7 * length s ≤ 8 * length buffer
+pub roomy-sheet : (s : List ℕ) (a b : ℕ) (buffer : List ℕ) → width * length s ≤ 8 * length buffer
     → sheetOf s a b buffer ≡ sheetOf s a b (flat (rowsOf s))
 unfolding sheetOf
 roomy-sheet s a b buffer h = ap (λ (x : JudgeAnswer). withSheet (nodesOf s) a b (sheetFor (nodesOf s) a b x)) (roomy s buffer h)

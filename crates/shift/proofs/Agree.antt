@@ -1,32 +1,27 @@
 -- Whole shifts and quarters agree: what was a shift of whole pixels is a shift still, by the same distance in quarters.
-use mathlib.Core.Path.{_≡_, refl, sym, ap, _∙_, subst}
-use mathlib.Core.Bool.{Bool, true, false, _&&_, cond}
+use mathlib.Core.Path.{_≡_, refl, sym, ap, _∙_}
+use mathlib.Core.Bool.{Bool, true, false, _&&_, cond, true≢false}
 use mathlib.Core.List.{List}
 use Prim.Native.Nat.{ℕ, zero, suc, _*_, _/_, _%_, _<_}
 use native.Mathlib.Nat.{div-add-mod', mul-mod-left, mul-div-cancel-left, mul-comm}
 use native.Mathlib.Omega.{arith}
-use lib.Dec.{T, eqb, leb}
+use lib.Dec.{eqb, leb}
 use lib.ListN.{length}
 use lib.Ieee.{Float, nan, inf, fin, up, down}
 use lib.Ieee.Fits.{down-pos}
 use borrow.Author.Tests.{eqb-true, leb-true, le-leb}
+use Rattle.basics.proofs.Tests.{and-both, false-is-true}
 use Rattle.value.specs.declared.Signed.{Signed}
 use Rattle.value.specs.declared.Signed.the-variants.{Plus, Minus, None}
 use Rattle.value.specs.Number.{isNumber}
 use Rattle.shift.specs.declared.Shift.{Shift}
 use Rattle.shift.specs.declared.Shift.the-variants as shift
 use Rattle.shift.specs.declared.Moves.{Moves}
-use Rattle.shift.specs.Shift.{signedSize, quartersOf, isShort, movesOf, isShiftOf, itemShift, frameShift, isShift}
+use Rattle.shift.specs.Shift.{shiftUnit, largestShift, largestMove, signedSize, quartersOf, isShort, movesOf, isShiftOf, itemShift}
+use Rattle.shift.specs.Shift.{frameShift, isShift}
 use Rattle.shift.proofs.Laws.{same-of}
-use Rattle.shift.specs.Agree.{SameMoves, Agree, AgreeRule, AgreeBeyond}
+use Rattle.shift.specs.Agree.{SameMoves, AgreeShifts, AgreeRule, AgreeBeyond}
 use Rattle.shift.specs.Whole.{wholeFloat, wholeMovesOf, isShortWhole, isWholeShiftOf, isWholeShift, inQuarters}
-
-never : true ≡ false → ⊥
-never p = subst T p tt
-
-both : (p q : Bool) → p && q ≡ true → (p ≡ true) × (q ≡ true)
-both true q h = (refl, h)
-both false q h = absurd (never (sym h))
 
 -- ---- One number
 
@@ -66,7 +61,7 @@ whole-quarters (fin s m e) h = go (eqb (m * up e % down e) 0) refl h
     go true p h =
         let z : m * up e % down e ≡ 0 = eqb-true _ _ p in
         rw (left-none (m * up e) (down e) (down-pos e) z, quotient (m * up e) (down e) (down-pos e) z) (signed s (m * up e / down e))
-    go false p h = absurd (never (sym h))
+    go false p h = absurd (false-is-true h)
 
 short-number : (w : Signed) → isShortWhole w ≡ true → isNumber w ≡ true
 short-number (Plus n) h = refl
@@ -74,14 +69,14 @@ short-number (Minus n) h = refl
 short-number None h = h
 
 -- In quarters the limit is the same.
-same-limit : (n : ℕ) → leb (4 * n) 256 ≡ leb n 64
-same-limit n = go (leb n 64) (leb (4 * n) 256) refl refl
+same-limit : (n : ℕ) → leb (shiftUnit * n) largestMove ≡ leb n largestShift
+same-limit n = go (leb n largestShift) (leb (shiftUnit * n) largestMove) refl refl
   where
-    go : (t u : Bool) → leb n 64 ≡ t → leb (4 * n) 256 ≡ u → u ≡ t
+    go : (t u : Bool) → leb n largestShift ≡ t → leb (shiftUnit * n) largestMove ≡ u → u ≡ t
     go true true p q = refl
     go false false p q = refl
-    go true false p q = absurd (never (sym (le-leb (4 * n) 256 (omega (arith, leb-true n 64 p))) ∙ q))
-    go false true p q = absurd (never (sym (le-leb n 64 (omega (arith, leb-true (4 * n) 256 q))) ∙ p))
+    go true false p q = absurd (true≢false (sym (le-leb (shiftUnit * n) largestMove (omega (arith, leb-true n largestShift p))) ∙ q))
+    go false true p q = absurd (true≢false (sym (le-leb n largestShift (omega (arith, leb-true (shiftUnit * n) largestMove q))) ∙ p))
 
 short-same : (w : Signed) → isShort (inQuarters w) ≡ isShortWhole w
 short-same (Plus n) = same-limit n
@@ -103,7 +98,7 @@ whole-moves (shift.Frame a b) v h = rw (whole-quarters a v, whole-quarters b h)
 pub whole-shift-of : (s : Shift) → isWholeShiftOf s ≡ true → (isShiftOf s ≡ true) × SameMoves s
 unfolding isShiftOf isWholeShiftOf
 whole-shift-of s h =
-    let p = both (isShortWhole (wholeMovesOf s .vertical)) (isShortWhole (wholeMovesOf s .horizontal)) h in
+    let p = and-both (isShortWhole (wholeMovesOf s .vertical)) (isShortWhole (wholeMovesOf s .horizontal)) h in
     let e = whole-moves s (short-number (wholeMovesOf s .vertical) (p .0)) (short-number (wholeMovesOf s .horizontal) (p .1)) in
     (rw (e, short-quarters (wholeMovesOf s .vertical) (p .0), short-quarters (wholeMovesOf s .horizontal) (p .1)), e)
 
@@ -113,13 +108,13 @@ whole-shift-of s h =
 pub whole-shift : (v : List ℕ) → isWholeShift v ≡ true → isShift v ≡ true
 unfolding isShift isWholeShift
 whole-shift v h =
-    let p = both (eqb (length v) 8) (isWholeShiftOf (itemShift v)) h in
+    let p = and-both (eqb (length v) 8) (isWholeShiftOf (itemShift v)) h in
     rw (p .0, whole-shift-of (itemShift v) (p .1) .0)
 
 -- What is said of a value is said of its shift, the item's or the frame's own.
 pub whole-item : (v : List ℕ) → isWholeShift v ≡ true → isWholeShiftOf (itemShift v) ≡ true
 unfolding isWholeShift
-whole-item v h = both (eqb (length v) 8) (isWholeShiftOf (itemShift v)) h .1
+whole-item v h = and-both (eqb (length v) 8) (isWholeShiftOf (itemShift v)) h .1
 
 pub whole-frame : (v : List ℕ) → isWholeShift v ≡ true → isWholeShiftOf (frameShift v) ≡ true
 unfolding isWholeShiftOf wholeMovesOf
@@ -131,7 +126,7 @@ agree-rule v p q =
     let s : Shift = itemShift v in
     rw (whole-moves s p q, short-same (wholeMovesOf s .vertical), short-same (wholeMovesOf s .horizontal))
 
-pub agree : Agree
+pub agree : AgreeShifts
 agree v h =
     record {
       is = whole-shift v h;
@@ -143,7 +138,7 @@ agree v h =
 pub whole-both : (s : Shift) → isWholeShiftOf s ≡ true → isNumber (wholeMovesOf s .vertical) && isNumber (wholeMovesOf s .horizontal) ≡ true
 unfolding isWholeShiftOf
 whole-both s h =
-    let p = both (isShortWhole (wholeMovesOf s .vertical)) (isShortWhole (wholeMovesOf s .horizontal)) h in
+    let p = and-both (isShortWhole (wholeMovesOf s .vertical)) (isShortWhole (wholeMovesOf s .horizontal)) h in
     rw (short-number (wholeMovesOf s .vertical) (p .0), short-number (wholeMovesOf s .horizontal) (p .1))
 
 -- Numbers in quarters are numbers.

@@ -1,12 +1,13 @@
--- For callers: what a value in rule 35's form has, so that its shift moves the mask by quarters from -64 to 64.
-use mathlib.Core.Path.{_≡_, refl, sym, ap, _∙_, subst}
+-- For callers: what a value in rule 35's form has, so that its shift moves the mask by short quarters.
+use mathlib.Core.Path.{_≡_, refl, sym, ap, _∙_}
 use mathlib.Core.Bool.{Bool, true, false, _&&_, cond}
 use mathlib.Core.List.{List}
 use Prim.Native.Nat.{ℕ}
-use lib.Dec.{T, eqb}
+use lib.Dec.{eqb}
 use lib.ListN.{length}
 use lib.Ieee.{Float}
 use borrow.Author.Tests.{eqb-true}
+use Rattle.basics.proofs.Tests.{and-both}
 use Rattle.value.specs.declared.Signed.{Signed}
 use Rattle.value.specs.declared.Signed.the-variants.{Plus, Minus, None}
 use Rattle.value.specs.Number.{isNumber}
@@ -14,10 +15,6 @@ use Rattle.shift.specs.declared.Shift.{Shift}
 use Rattle.shift.specs.declared.Shift.the-variants as shift
 use Rattle.shift.specs.Shift.{floatAt, quartersOf, isShort, shortOf, movesOf, shortMovesOf, isShiftOf, itemShift, frameShift, isShift}
 use Rattle.shift.specs.Shift.{isFrameShift}
-
-both : (p q : Bool) → p && q ≡ true → (p ≡ true) × (q ≡ true)
-both true q h = (refl, h)
-both false q h = absurd (subst T (sym h) tt)
 
 -- ---- One number
 
@@ -51,7 +48,7 @@ shift-numbers (shift.Frame v h) = rw (number-short v, number-short h)
 -- Both numbers of a shift are short.
 pub moves-both : (s : Shift) → isShiftOf s ≡ true → (isShort (movesOf s .vertical) ≡ true) × (isShort (movesOf s .horizontal) ≡ true)
 unfolding isShiftOf
-moves-both s h = both (isShort (movesOf s .vertical)) (isShort (movesOf s .horizontal)) h
+moves-both s h = and-both (isShort (movesOf s .vertical)) (isShort (movesOf s .horizontal)) h
 
 -- So the moves of a shift are its short moves.
 pub moves-short : (s : Shift) → isShiftOf s ≡ true → movesOf s ≡ shortMovesOf s
@@ -85,11 +82,11 @@ as-item v = ap (λ (t : Bool). eqb (length v) 8 && t) (sym (same-test v))
 module _ (v : List ℕ) (is : isShift v ≡ true) where
   pub shift-length : length v ≡ 8
   unfolding isShift
-  shift-length = eqb-true _ _ (both (eqb (length v) 8) _ is .0)
+  shift-length = eqb-true _ _ (and-both (eqb (length v) 8) _ is .0)
 
   pub item-is : isShiftOf (itemShift v) ≡ true
   unfolding isShift
-  item-is = both (eqb (length v) 8) _ is .1
+  item-is = and-both (eqb (length v) 8) _ is .1
 
   pub frame-is : isShiftOf (frameShift v) ≡ true
   frame-is = sym (same-test v) ∙ item-is

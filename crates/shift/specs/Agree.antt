@@ -1,6 +1,6 @@
 -- Whole shifts and quarters agree. Take any value that was a shift before quarters came: two FL numbers, each whole, from -64 to 64. It
 -- is still a shift, and moves the mask by the same distance: each of its two numbers, whether the mask item's or the frame's own, counts
--- four times as many quarters, with the same sign (`Agree`). For two whole numbers of any size the form of rule 35 says what it said
+-- four times as many quarters, with the same sign (`AgreeShifts`). For two whole numbers of any size the form of rule 35 says what it said
 -- before: both take 64 and refuse 65 (`AgreeRule`). The drawing steps have no limit, so the distance is also the same for two whole
 -- numbers of any size (`AgreeBeyond`). Proved in proofs/Agree; specs/Whole has what a shift was before.
 use mathlib.Core.Path.{_≡_}
@@ -21,8 +21,8 @@ pub record StillShift (v : List ℕ) : Type 0 where
   pub item : SameMoves (itemShift v)
   pub frame : SameMoves (frameShift v)
 
-abbrev pub Agree : Type 0
-Agree = (v : List ℕ) → isWholeShift v ≡ true → StillShift v
+abbrev pub AgreeShifts : Type 0
+AgreeShifts = (v : List ℕ) → isWholeShift v ≡ true → StillShift v
 
 abbrev pub AgreeRule : Type 0
 AgreeRule =

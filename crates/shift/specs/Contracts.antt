@@ -10,20 +10,20 @@ use Rattle.shift.specs.declared.Moves.{Moves}
 use Rattle.shift.specs.Shift.{shiftUnit, largestMove}
 
 -- The fraction n / d as a whole number up to l.
-abbrev pub upTo : ℕ → ℕ → ℕ → Num
-upTo l n d = cond (leb (n / d) l && eqb (n % d) 0) (Is (n / d)) None
+abbrev pub wholeUpTo : ℕ → ℕ → ℕ → Num
+wholeUpTo l n d = cond (leb (n / d) l && eqb (n % d) 0) (Is (n / d)) None
 
--- The quarters of a float without its sign, if they are whole and it is at most 64.
+-- The quarters of a float without its sign, if they are whole and short.
 unfoldable pub shortSize : Float → Num
 shortSize nan = None
 shortSize (inf s) = None
-shortSize (fin s m e) = upTo largestMove (m * up e * shiftUnit) (down e)
+shortSize (fin s m e) = wholeUpTo largestMove (m * up e * shiftUnit) (down e)
 
 -- The least size that no move has, in quarters.
 abbrev pub tooFar : ℕ
 tooFar = largestMove + 1
 
--- Moves of at most 64, in quarters.
+-- Short moves, in quarters.
 pub record ShortMoves (m : Moves) : Type 0 where
   pub vertical : SizeBelow tooFar (m .vertical)
   pub horizontal : SizeBelow tooFar (m .horizontal)

@@ -41,12 +41,13 @@ largestShift = 64
 abbrev pub largestMove : ℕ
 largestMove = shiftUnit * largestShift
 
+-- Up to that size, to either side.
 abbrev pub isShort : Signed → Bool
 isShort (Plus n) = leb n largestMove
 isShort (Minus n) = leb n largestMove
 isShort None = false
 
--- Whole quarters from -64 to 64.
+-- Whole quarters, where they are short.
 unfoldable pub shortOf : Float → Signed
 shortOf x = cond (isShort (quartersOf x)) (quartersOf x) None
 
@@ -58,13 +59,13 @@ movesOf shift.None = record { vertical = Plus 0; horizontal = Plus 0 }
 movesOf (shift.Item v h) = record { vertical = quartersOf v; horizontal = quartersOf h }
 movesOf (shift.Frame v h) = record { vertical = quartersOf v; horizontal = quartersOf h }
 
--- The same, only for quarters from -64 to 64.
+-- The same, only for short quarters.
 unfoldable pub shortMovesOf : Shift → Moves
 shortMovesOf shift.None = record { vertical = Plus 0; horizontal = Plus 0 }
 shortMovesOf (shift.Item v h) = record { vertical = shortOf v; horizontal = shortOf h }
 shortMovesOf (shift.Frame v h) = record { vertical = shortOf v; horizontal = shortOf h }
 
--- Both numbers of a shift are whole quarters from -64 to 64.
+-- Both numbers of a shift are whole quarters and short.
 unfoldable pub isShiftOf : Shift → Bool
 isShiftOf s = isShort (movesOf s .vertical) && isShort (movesOf s .horizontal)
 

@@ -24,7 +24,7 @@ wholeMovesOf shift.None = record { vertical = Plus 0; horizontal = Plus 0 }
 wholeMovesOf (shift.Item v h) = record { vertical = wholeFloat v; horizontal = wholeFloat h }
 wholeMovesOf (shift.Frame v h) = record { vertical = wholeFloat v; horizontal = wholeFloat h }
 
--- A whole number from -64 to 64.
+-- A short whole number.
 abbrev pub isShortWhole : Signed → Bool
 isShortWhole (Plus n) = leb n largestShift
 isShortWhole (Minus n) = leb n largestShift
@@ -33,7 +33,7 @@ isShortWhole None = false
 unfoldable pub isWholeShiftOf : Shift → Bool
 isWholeShiftOf s = isShortWhole (wholeMovesOf s .vertical) && isShortWhole (wholeMovesOf s .horizontal)
 
--- Rule 35's form of a value, before quarters: two whole numbers from -64 to 64.
+-- Rule 35's form of a value, before quarters: two short whole numbers.
 unfoldable pub isWholeShift : List ℕ → Bool
 isWholeShift v = eqb (length v) 8 && isWholeShiftOf (itemShift v)
 

@@ -1,5 +1,5 @@
 // Shifts of the mask: two FL numbers, vertical then horizontal, counted in quarters of a pixel. A shift keeps its two floats, so it can
-// also hold a number that is not a whole quarter; the rules accept only quarters from -64 to 64.
+// also hold a number that is not a whole quarter; the rules accept only short ones.
 ghost use mathlib.Core.Path.{_≡_};
 ghost use mathlib.Core.Bool.{false};
 ghost use Prim.Native.Nat.{_+_, _≤_};
@@ -52,7 +52,7 @@ fn float_at(v: &[u8], p: usize) -> f32
     float_of(u32_at(v, p) as u32)
 }
 
-// ---- Quarters from -64 to 64
+// ---- Short quarters: up to the largest shift, to either side
 
 // The quarters of a float that is not negative: they are whole if nothing was cut off.
 fn short_size(y: f32) -> Num
@@ -123,7 +123,7 @@ fn is_number(n: Signed) -> bool
     }
 }
 
-// Both numbers of a shift are whole quarters from -64 to 64.
+// Both numbers of a shift are short.
 fn is_shift_of(s: Shift) -> bool
     ensures { λ r. ⌜ r ≡ isShiftOf s ⌝ }
 {

@@ -3,6 +3,7 @@
 use argument::Decimal;
 use display::ShowAnswer;
 use printing::print_broken;
+use printing::print_code;
 use printing::print_field;
 use printing::print_unread;
 use room::input;
@@ -18,7 +19,7 @@ fn print_head(masked: bool, width: usize, height: usize) {
         io::write_all(1, b"P5\n# native\n");
     }
     io::print_decimal(1, width as u64);
-    print_field(b"", height);
+    print_field(1, b"", height);
     io::write_all(1, b"\n255\n");
 }
 
@@ -31,25 +32,18 @@ fn print_image(masked: bool, width: usize, height: usize, image: &[u8])
 }
 
 fn print_shown(shown: Shown, image: &[u8])
-    requires { ⌜ shown .height * shown .width ≤ length (now image) ⌝ }
+    requires { ⌜ shown .sides .height * shown .sides .width ≤ length (now image) ⌝ }
 {
     let answer = shown.answer;
+    let sides = shown.sides;
     match answer {
-        ShowAnswer::Drawn(_, masked) => print_image(masked, shown.width, shown.height, image),
-        ShowAnswer::Broken(rows, rule, frame) => print_broken(rows, rule, frame),
-        ShowAnswer::Refused(code, offset) => print_unread(code, offset),
-        ShowAnswer::TooLarge => {
-            io::write_all(1, b"code 7\n");
-        }
-        ShowAnswer::NoRoom => {
-            io::write_all(1, b"code 8\n");
-        }
-        ShowAnswer::NoFrame => {
-            io::write_all(1, b"code 10\n");
-        }
-        ShowAnswer::NoImageRoom => {
-            io::write_all(1, b"code 11\n");
-        }
+        ShowAnswer::Drawn(_, masked) => print_image(masked, sides.width, sides.height, image),
+        ShowAnswer::Broken(rows, rule, frame) => print_broken(1, rows, rule, frame),
+        ShowAnswer::Refused(code, offset) => print_unread(1, code, offset),
+        ShowAnswer::TooLarge => print_code(1, 7),
+        ShowAnswer::NoRoom => print_code(1, 8),
+        ShowAnswer::NoFrame => print_code(1, 10),
+        ShowAnswer::NoImageRoom => print_code(1, 11),
     }
 }
 

@@ -11,7 +11,7 @@ use borrow.Author.Tests.{leb-true}
 use types.Run.{OneOf, miss}
 use denote.Enum.Declared.{tagOf}
 use Rattle.dataset.specs.Reading.{readingOf}
-use Rattle.dataset.specs.Answer.{flat, bufferOf}
+use Rattle.dataset.specs.Answer.{flat, bufferOf, width}
 use Rattle.dataset.specs.Tree.{rowsOf}
 use Rattle.node.specs.Nodes.{Node, nodesOf}
 use Rattle.node.specs.Contracts.{Table}
@@ -24,12 +24,13 @@ use Rattle.display.specs.declared.ShowAnswer.the-variants as shown
 use Rattle.display.specs.Show.{isFrameOf, imageSize, pictureOf, acceptedAnswer, answerFor, showOf, imageBy, imageOf, fieldsOf}
 use Rattle.display.proofs.ShowAnswer.{the-type}
 use Rattle.display.proofs.Judged.{after-judging}
+use Rattle.show_small.specs.declared.Sides.{Sides}
 use Rattle.show_small.specs.declared.Shown.{Shown}
-use Rattle.show_small.specs.Shown.{refused, sized, shownOf, imageAfter}
+use Rattle.show_small.specs.Shown.{sidesOf, noSides, sized, shownOf, imageAfter}
 
 -- ---- The row buffer
 
-module _ (s : List ℕ) (f : ℕ) (buffer image : List ℕ) (h : 7 * length s ≤ 8 * length buffer) where
+module _ (s : List ℕ) (f : ℕ) (buffer image : List ℕ) (h : width * length s ≤ 8 * length buffer) where
   same-answer : showOf s f buffer image ≡ showOf s f (flat (rowsOf s)) image
   unfolding showOf
   same-answer = ap (answerFor (nodesOf s) f image) (roomy s buffer h)
@@ -61,14 +62,19 @@ drawn-accepted ns f image judged.NoRoom n m e = absurd (omega (arith, ap (λ (x 
 
 -- The rows stand in the buffer.
 pub after-showing : (s : List ℕ) (f : ℕ) (before image buffer : List ℕ) (n : ℕ) (m : Bool) → shown.Drawn n m ≡ showOf s f before image
-    → buffer ≡ bufferOf (readingOf s) before → (7 * n ≤ length buffer) × Table s (take (7 * n) buffer)
+    → buffer ≡ bufferOf (readingOf s) before → (width * n ≤ length buffer) × Table s (take (width * n) buffer)
 unfolding showOf
 after-showing s f before image buffer n m e b =
     after-judging s before buffer n (drawn-accepted (nodesOf s) f image (judgeOf s before) n m e) b .0
 
+pub drawn-sides : (ns : List Node) (n : ℕ) (m : Bool) (x : Sides) → x ≡ sidesOf ns
+    → _≡_ {A = Shown} (record { answer = shown.Drawn n m; sides = x }) (sized ns (shown.Drawn n m))
+drawn-sides ns n m x e = rw e
+
 -- ---- Every other answer
 
-pub not-drawn : (ns : List Node) (a : ShowAnswer) → OneOf (1 ∷ 2 ∷ 3 ∷ 4 ∷ 5 ∷ 6 ∷ []) (tagOf the-type a) → refused a ≡ sized ns a
+pub not-drawn : (ns : List Node) (a : ShowAnswer) → OneOf (1 ∷ 2 ∷ 3 ∷ 4 ∷ 5 ∷ 6 ∷ []) (tagOf the-type a)
+    → _≡_ {A = Shown} (record { answer = a; sides = noSides }) (sized ns a)
 not-drawn ns (shown.Drawn n masked) h = absurd (miss (1 ∷ 2 ∷ 3 ∷ 4 ∷ 5 ∷ 6 ∷ []) 0 tt h)
 not-drawn ns (shown.Broken n rule frame) h = refl
 not-drawn ns (shown.Refused code offset) h = refl
@@ -80,13 +86,13 @@ not-drawn ns shown.NoImageRoom h = refl
 -- ---- The image has room for what was drawn
 
 drawn-fits : (ns : List Node) (p t u : Bool) (k n : ℕ) → (u ≡ true → imageSize ns ≤ n)
-    → let r = sized ns (cond t (cond u (shown.Drawn k p) shown.NoImageRoom) shown.NoFrame) in r .height * r .width ≤ n
+    → let r = sized ns (cond t (cond u (shown.Drawn k p) shown.NoImageRoom) shown.NoFrame) in r .sides .height * r .sides .width ≤ n
 drawn-fits ns p true true k n h = h refl
 drawn-fits ns p true false k n h = omega arith
 drawn-fits ns p false u k n h = omega arith
 
 shown-fits : (ns : List Node) (f : ℕ) (image : List ℕ) (a : JudgeAnswer)
-    → let r = sized ns (answerFor ns f image a) in r .height * r .width ≤ length image
+    → let r = sized ns (answerFor ns f image a) in r .sides .height * r .sides .width ≤ length image
 unfolding acceptedAnswer
 shown-fits ns f image (judged.Accepted k) =
     drawn-fits ns (pictureOf ns f .masked) (isFrameOf ns f) (leb (imageSize ns) (length image)) k (length image) (leb-true _ _)
@@ -95,8 +101,8 @@ shown-fits ns f image (judged.Refused code offset) = omega arith
 shown-fits ns f image judged.TooLarge = omega arith
 shown-fits ns f image judged.NoRoom = omega arith
 
-pub fits : (s : List ℕ) (f : ℕ) (image : List ℕ) (r : Shown) → r ≡ shownOf s f image → r .height * r .width ≤ length image
+pub fits : (s : List ℕ) (f : ℕ) (image : List ℕ) (r : Shown) → r ≡ shownOf s f image → r .sides .height * r .sides .width ≤ length image
 unfolding showOf
 fits s f image r e =
-    subst⁻¹ (λ (x : Shown). x .height * x .width ≤ length image) e
+    subst⁻¹ (λ (x : Shown). x .sides .height * x .sides .width ≤ length image) e
     (shown-fits (nodesOf s) f image (judgeOf s (flat (rowsOf s))))

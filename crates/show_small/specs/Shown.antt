@@ -1,38 +1,37 @@
 -- What is shown of a data set if the row buffer is large enough: the answer, the image's size and the image.
 use Prim.Native.Nat.{ℕ}
 use mathlib.Core.List.{List}
+use Rattle.value.specs.Number.{numberOr0}
 use Rattle.dataset.specs.Answer.{flat}
 use Rattle.dataset.specs.Tree.{rowsOf}
 use Rattle.node.specs.Nodes.{Node, nodesOf, root}
-use Rattle.element.specs.Tags
+use Rattle.basics.specs.Tags
 use Rattle.element.specs.Elements.{usIn}
-use Rattle.conformance.specs.Judging.{numberOf}
 use Rattle.display.specs.declared.ShowAnswer.{ShowAnswer}
 use Rattle.display.specs.declared.ShowAnswer.the-variants as shown
 use Rattle.display.specs.Show.{showOf, imageOf}
+use Rattle.show_small.specs.declared.Sides.{Sides}
 use Rattle.show_small.specs.declared.Shown.{Shown}
 
--- A frame that was drawn: the width is Columns, the height is Rows.
-abbrev pub drawn : List Node → ShowAnswer → Shown
-drawn ns a =
-    record {
-      answer = a;
-      width = numberOf (usIn ns Tags.Columns (root ns));
-      height = numberOf (usIn ns Tags.Rows (root ns));
-    }
+-- The sides of a frame: the width is Columns, the height is Rows.
+abbrev pub sidesOf : List Node → Sides
+sidesOf ns = record { width = numberOr0 (usIn ns Tags.Columns (root ns)); height = numberOr0 (usIn ns Tags.Rows (root ns)) }
 
 -- A refusal has no image.
-abbrev pub refused : ShowAnswer → Shown
-refused a = record { answer = a; width = 0; height = 0 }
+abbrev pub noSides : Sides
+noSides = record { width = 0; height = 0 }
+
+abbrev pub sidesFor : List Node → ShowAnswer → Sides
+sidesFor ns (shown.Drawn n masked) = sidesOf ns
+sidesFor ns (shown.Broken n rule frame) = noSides
+sidesFor ns (shown.Refused code offset) = noSides
+sidesFor ns shown.TooLarge = noSides
+sidesFor ns shown.NoRoom = noSides
+sidesFor ns shown.NoFrame = noSides
+sidesFor ns shown.NoImageRoom = noSides
 
 abbrev pub sized : List Node → ShowAnswer → Shown
-sized ns (shown.Drawn n masked) = drawn ns (shown.Drawn n masked)
-sized ns (shown.Broken n rule frame) = refused (shown.Broken n rule frame)
-sized ns (shown.Refused code offset) = refused (shown.Refused code offset)
-sized ns shown.TooLarge = refused shown.TooLarge
-sized ns shown.NoRoom = refused shown.NoRoom
-sized ns shown.NoFrame = refused shown.NoFrame
-sized ns shown.NoImageRoom = refused shown.NoImageRoom
+sized ns a = record { answer = a; sides = sidesFor ns a }
 
 -- With a row buffer that the rows exactly fill; a larger one gives the same.
 abbrev pub shownOf : List ℕ → ℕ → List ℕ → Shown

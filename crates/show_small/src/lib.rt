@@ -1,26 +1,31 @@
 // Drawing a frame of a data set of at most 65,536 bytes with its own row buffer, for the programs that draw.
+use basics::tags;
 use display::ShowAnswer;
-use element::tags;
 use room::row_buffer;
 use value::Num;
 ghost use mathlib.Core.Path.{_≡_};
 ghost use Prim.Native.Nat.{_*_, _≤_};
 ghost use lib.ListN.{length};
+ghost use Rattle.value.specs.Number.{numberOr0};
 ghost use Rattle.node.specs.Nodes.{nodesOf};
 ghost use Rattle.node.specs.Contracts.{Table};
-ghost use Rattle.conformance.specs.Judging.{numberOf};
-ghost use Rattle.show_small.specs.Shown.{drawn, shownOf, imageAfter};
+ghost use Rattle.show_small.specs.Shown.{sidesOf, shownOf, imageAfter};
 
-// The answer of `show`, and for a frame that was drawn the image's Columns and Rows, otherwise 0.
-pub struct Shown {
-    pub answer: ShowAnswer,
+// The sides of a frame: its Columns and Rows.
+pub struct Sides {
     pub width: usize,
     pub height: usize,
 }
 
-// A number, or 0 if it is lacking.
-pub fn number_of(n: Num) -> usize
-    ensures { λ r. ⌜ r ≡ numberOf n ⌝ }
+// The answer of `show`, and the sides of the image; 0 and 0 if no frame was drawn.
+pub struct Shown {
+    pub answer: ShowAnswer,
+    pub sides: Sides,
+}
+
+// A number, or 0 if there is none.
+fn number_of(n: Num) -> usize
+    ensures { λ r. ⌜ r ≡ numberOr0 n ⌝ }
 {
     match n {
         Num::Is(k) => k,
@@ -28,18 +33,14 @@ pub fn number_of(n: Num) -> usize
     }
 }
 
-// The answer for a frame that was drawn, with the image's size from the rows.
-fn with_size(bytes: &[u8], rows: &[u32], answer: ShowAnswer) -> Shown
+// The sides of a frame, from the rows.
+pub fn sides_of(bytes: &[u8], rows: &[u32]) -> Sides
     requires { ⌜ Table (now bytes) (now rows) ⌝ }
-    ensures { λ r. ⌜ r ≡ drawn (nodesOf (now (bytes .entry))) answer ⌝ }
+    ensures { λ r. ⌜ r ≡ sidesOf (nodesOf (now (bytes .entry))) ⌝ }
 {
     let width = number_of(element::us_root(bytes, rows, tags::COLUMNS));
     let height = number_of(element::us_root(bytes, rows, tags::ROWS));
-    Shown {
-        answer,
-        width,
-        height,
-    }
+    Sides { width, height }
 }
 
 // What `show` answers and draws; never code 8. That the image has room for what was drawn follows from the first clause, and
@@ -48,17 +49,21 @@ pub fn show_small(bytes: &[u8], frame: u64, image: &mut [u8]) -> Shown
     requires { ⌜ length (now bytes) ≤ 65536 ⌝ }
     ensures { λ r. ⌜ r ≡ shownOf (now (bytes .entry)) frame (now (image .entry)) ⌝ }
     ensures { λ _. ⌜ now (image .exit) ≡ imageAfter (now (bytes .entry)) frame (now (image .entry)) ⌝ }
-    ensures { λ r. ⌜ r .height * r .width ≤ length (now (image .entry)) ⌝ }
+    ensures { λ r. ⌜ r .sides .height * r .sides .width ≤ length (now (image .entry)) ⌝ }
 {
     let mut rows = row_buffer();
     let answer = display::show(bytes, frame, &mut rows, image);
     let ShowAnswer::Drawn(count, masked) = answer else {
-        return Shown {
-            answer,
+        let sides = Sides {
             width: 0,
             height: 0,
         };
+        return Shown { answer, sides };
     };
     let end = dataset::WIDTH * count;
-    with_size(bytes, &rows[..end], ShowAnswer::Drawn(count, masked))
+    let sides = sides_of(bytes, &rows[..end]);
+    Shown {
+        answer: ShowAnswer::Drawn(count, masked),
+        sides,
+    }
 }

@@ -21,31 +21,32 @@ use Rattle.verdict.proofs.Bounds.{Small, possible-small, possible-rows}
 use Rattle.slip.specs.declared.SlipAnswer.{SlipAnswer}
 use Rattle.slip.specs.declared.SlipAnswer.the-variants as read
 use Rattle.slip.specs.Slip.{mark, version, oldVersion, versionPlace, codePlace, rulePlace, framePlace, offsetPlace, rowsPlace}
-use Rattle.slip.specs.Slip.{headSize, oldSize, slipSize, number, fieldBytes, slipWith, slipBy, slipOf, sameBytes, recorded}
+use Rattle.slip.specs.Slip.{openingSize, oldSize, slipSize, fieldBytes, slipWith, slipBy, slipOf, recorded}
 use Rattle.slip.specs.Slip.{ifPossible, readSized, readVersion, readOf, slipBuffer}
-use Rattle.basics.specs.Bytes.{le}
+use Rattle.basics.specs.Bytes.{IsBytes, sameBytes, leNumber, le}
+use Rattle.basics.proofs.Lists.{same-is}
 use Rattle.slip.specs.Version1.{oldSlipOf}
-use Rattle.slip.specs.Slips.{Bytes, Slips}
+use Rattle.slip.specs.Slips.{Slips}
 use Rattle.slip.proofs.Laws.{length-slip}
 
 -- ---- Written and read back
 
 -- A field that a number fits holds that number, in the bytes that both versions have and whatever follows them.
 module _ (k : ℕ) (v : Verdict) (small : Small v) (rest : List ℕ) where
-  code-back : number 1 (fieldBytes k v ++ rest) codePlace ≡ v .code
-  unfolding fieldBytes le number
+  code-back : leNumber 1 (fieldBytes k v ++ rest) codePlace ≡ v .code
+  unfolding fieldBytes le leNumber
   code-back = omega (arith, small .code)
 
-  rule-back : number 1 (fieldBytes k v ++ rest) rulePlace ≡ v .rule
-  unfolding fieldBytes le number
+  rule-back : leNumber 1 (fieldBytes k v ++ rest) rulePlace ≡ v .rule
+  unfolding fieldBytes le leNumber
   rule-back = omega (arith, small .rule)
 
-  frame-back : number 2 (fieldBytes k v ++ rest) framePlace ≡ v .frame
-  unfolding fieldBytes le number
+  frame-back : leNumber 2 (fieldBytes k v ++ rest) framePlace ≡ v .frame
+  unfolding fieldBytes le leNumber
   frame-back = omega (arith, small .frame)
 
-  offset-back : number 4 (fieldBytes k v ++ rest) offsetPlace ≡ v .offset
-  unfolding fieldBytes le number
+  offset-back : leNumber 4 (fieldBytes k v ++ rest) offsetPlace ≡ v .offset
+  unfolding fieldBytes le leNumber
   offset-back = omega (arith, small .offset)
 
   fields-back : (rows : RowCount) → v .rows ≡ rows → recorded (fieldBytes k v ++ rest) rows ≡ v
@@ -55,16 +56,16 @@ mark-back : (k : ℕ) (v : Verdict) (rest : List ℕ) → sameBytes (take 3 (fie
 unfolding fieldBytes sameBytes
 mark-back k v rest = refl
 
-version-back : (v : Verdict) (rest : List ℕ) → number 2 (fieldBytes version v ++ rest) versionPlace ≡ version
-unfolding fieldBytes le number
+version-back : (v : Verdict) (rest : List ℕ) → leNumber 2 (fieldBytes version v ++ rest) versionPlace ≡ version
+unfolding fieldBytes le leNumber
 version-back v rest = refl
 
-old-version-back : (v : Verdict) (rest : List ℕ) → number 2 (fieldBytes oldVersion v ++ rest) versionPlace ≡ oldVersion
-unfolding fieldBytes le number
+old-version-back : (v : Verdict) (rest : List ℕ) → leNumber 2 (fieldBytes oldVersion v ++ rest) versionPlace ≡ oldVersion
+unfolding fieldBytes le leNumber
 old-version-back v rest = refl
 
-rows-back : (v : Verdict) (n : ℕ) → n < 4294967296 → number 4 (slipWith v n) rowsPlace ≡ n
-unfolding slipWith fieldBytes le number
+rows-back : (v : Verdict) (n : ℕ) → n < 4294967296 → leNumber 4 (slipWith v n) rowsPlace ≡ n
+unfolding slipWith fieldBytes le leNumber
 rows-back v n h = omega arith
 
 old-length : (v : Verdict) → length (fieldBytes oldVersion v) ≡ oldSize
@@ -72,9 +73,9 @@ unfolding fieldBytes le
 old-length v = refl
 
 -- The mark, and at least five bytes.
-begins : (s : List ℕ) → headSize ≤ length s → sameBytes (take 3 s) mark ≡ true → readOf s ≡ readVersion (number 2 s versionPlace) s
+begins : (s : List ℕ) → openingSize ≤ length s → sameBytes (take 3 s) mark ≡ true → readOf s ≡ readVersion (leNumber 2 s versionPlace) s
 unfolding readOf
-begins s h m = rw (le-leb headSize (length s) h, m)
+begins s h m = rw (le-leb openingSize (length s) h, m)
 
 -- The right length, and a possible verdict in the fields.
 sized : (size : ℕ) (rows : RowCount) (s : List ℕ) (v : Verdict) → length s ≡ size → recorded s rows ≡ v → possible v ≡ true
@@ -82,12 +83,12 @@ sized : (size : ℕ) (rows : RowCount) (s : List ℕ) (v : Verdict) → length s
 unfolding readSized ifPossible
 sized size rows s v l f h = rw (eq-eqb (length s) size l, f, h)
 
-as-new : (s : List ℕ) → number 2 s versionPlace ≡ version
-    → readVersion (number 2 s versionPlace) s ≡ readSized slipSize (Known (number 4 s rowsPlace)) s
+as-new : (s : List ℕ) → leNumber 2 s versionPlace ≡ version
+    → readVersion (leNumber 2 s versionPlace) s ≡ readSized slipSize (Known (leNumber 4 s rowsPlace)) s
 unfolding readVersion
 as-new s e = rw e
 
-as-old : (s : List ℕ) → number 2 s versionPlace ≡ oldVersion → readVersion (number 2 s versionPlace) s ≡ readSized oldSize NotKnown s
+as-old : (s : List ℕ) → leNumber 2 s versionPlace ≡ oldVersion → readVersion (leNumber 2 s versionPlace) s ≡ readSized oldSize NotKnown s
 unfolding readVersion
 as-old s e = rw e
 
@@ -97,11 +98,11 @@ unfolding slipWith
 with-back v n h e =
     let s : List ℕ = slipWith v n in
     let l = length-slip v n in
-    let r : number 4 s rowsPlace ≡ n = rows-back v n (omega (arith, possible-rows v n h e)) in
+    let r : leNumber 4 s rowsPlace ≡ n = rows-back v n (omega (arith, possible-rows v n h e)) in
     begins s (omega arith) (mark-back version v (le 4 n))
     ∙ as-new s (version-back v (le 4 n))
-    ∙ sized slipSize (Known (number 4 s rowsPlace)) s v l
-    (fields-back version v (possible-small v h) (le 4 n) (Known (number 4 s rowsPlace)) (e ∙ ap Known (sym r))) h
+    ∙ sized slipSize (Known (leNumber 4 s rowsPlace)) s v l
+    (fields-back version v (possible-small v h) (le 4 n) (Known (leNumber 4 s rowsPlace)) (e ∙ ap Known (sym r))) h
 
 -- A verdict that can be written is possible, and its row count is some number.
 read-back : (v : Verdict) → writable v ≡ true → readOf (slipOf v) ≡ read.Read v
@@ -177,24 +178,24 @@ marked-first false r v e = absurd (let z : _≡_ {A = ℕ} 0 1 = cc in omega ari
 
 record Begun (s : List ℕ) (v : Verdict) : Type 0 where
   marked : sameBytes (take 3 s) mark ≡ true
-  on : readVersion (number 2 s versionPlace) s ≡ read.Read v
+  on : readVersion (leNumber 2 s versionPlace) s ≡ read.Read v
 
 begun : (s : List ℕ) (v : Verdict) → readOf s ≡ read.Read v → Begun s v
 unfolding readOf
 begun s v e =
-    let t = marked-first (leb headSize (length s) && sameBytes (take 3 s) mark) (readVersion (number 2 s versionPlace) s) v e in
-    record { marked = and-both (leb headSize (length s)) (sameBytes (take 3 s) mark) (t .0) .1; on = t .1 }
+    let t = marked-first (leb openingSize (length s) && sameBytes (take 3 s) mark) (readVersion (leNumber 2 s versionPlace) s) v e in
+    record { marked = and-both (leb openingSize (length s)) (sameBytes (take 3 s) mark) (t .0) .1; on = t .1 }
 
 read-possible : (s : List ℕ) (v : Verdict) → readOf s ≡ read.Read v → possible v ≡ true
 unfolding readVersion
-read-possible s v e = go (eqb (number 2 s versionPlace) oldVersion) (eqb (number 2 s versionPlace) version) (begun s v e .on)
+read-possible s v e = go (eqb (leNumber 2 s versionPlace) oldVersion) (eqb (leNumber 2 s versionPlace) version) (begun s v e .on)
   where
     go : (a b : Bool)
-        → cond a (readSized oldSize NotKnown s) (cond b (readSized slipSize (Known (number 4 s rowsPlace)) s) (read.Refused 13))
+        → cond a (readSized oldSize NotKnown s) (cond b (readSized slipSize (Known (leNumber 4 s rowsPlace)) s) (read.Refused 13))
         ≡ read.Read v
         → possible v ≡ true
     go true b f = well oldSize NotKnown s v f .can
-    go false true f = well slipSize (Known (number 4 s rowsPlace)) s v f .can
+    go false true f = well slipSize (Known (leNumber 4 s rowsPlace)) s v f .can
     go false false f = absurd (let z : _≡_ {A = ℕ} 0 1 = cc in omega arith)
 
 -- The n elements from p on.
@@ -211,29 +212,20 @@ listed [] = refl
 listed (x ∷ s) = ap (λ (l : List ℕ). x ∷ l) (listed s ∙ sym (listing-next (length s) x s 0))
 
 -- The bytes of the number in n bytes are those bytes.
-le-number : (s : List ℕ) → Bytes s → (n p : ℕ) → le n (number n s p) ≡ listing n s p
-unfolding le number
+le-number : (s : List ℕ) → IsBytes s → (n p : ℕ) → le n (leNumber n s p) ≡ listing n s p
+unfolding le leNumber
 le-number s b zero p = refl
 le-number s b (suc n) p =
-    let low : (getD s p 0 + 256 * number n s (p + 1)) % 256 ≡ getD s p 0 = omega (arith, b p) in
-    let high : (getD s p 0 + 256 * number n s (p + 1)) / 256 ≡ number n s (p + 1) = omega (arith, b p) in
+    let low : (getD s p 0 + 256 * leNumber n s (p + 1)) % 256 ≡ getD s p 0 = omega (arith, b p) in
+    let high : (getD s p 0 + 256 * leNumber n s (p + 1)) / 256 ≡ leNumber n s (p + 1) = omega (arith, b p) in
     rw (low, high, le-number s b n (p + 1))
 
-equal-true : (a b : List ℕ) → sameBytes a b ≡ true → a ≡ b
-unfolding sameBytes
-equal-true [] [] e = refl
-equal-true [] (y ∷ ys) e = absurd (false-is-true e)
-equal-true (x ∷ xs) [] e = absurd (false-is-true e)
-equal-true (x ∷ xs) (y ∷ ys) e =
-    let m = and-both (eqb x y) (sameBytes xs ys) e in
-    rw (eqb-true x y (m .0), equal-true xs ys (m .1))
-
 -- The bytes that both versions have are those of the version and the fields that they hold.
-field-bytes : (s : List ℕ) (rows : RowCount) → Bytes s → take 3 s ≡ listing 3 s 0 → sameBytes (take 3 s) mark ≡ true
-    → listing 13 s 0 ≡ fieldBytes (number 2 s versionPlace) (recorded s rows)
+field-bytes : (s : List ℕ) (rows : RowCount) → IsBytes s → take 3 s ≡ listing 3 s 0 → sameBytes (take 3 s) mark ≡ true
+    → listing oldSize s 0 ≡ fieldBytes (leNumber 2 s versionPlace) (recorded s rows)
 unfolding fieldBytes
 field-bytes s rows b t m =
-    let first : listing 3 s 0 ≡ mark = sym t ∙ equal-true (take 3 s) mark m in
+    let first : listing 3 s 0 ≡ mark = sym t ∙ same-is (take 3 s) mark m in
     rw (
       le-number s b 2 versionPlace,
       le-number s b 1 codePlace,
@@ -243,15 +235,15 @@ field-bytes s rows b t m =
     )
     (ap (λ (l : List ℕ). l ++ listing 10 s 3) first)
 
-write-back : (s : List ℕ) (v : Verdict) → Bytes s → readOf s ≡ read.Read v → number 2 s versionPlace ≡ version
+write-back : (s : List ℕ) (v : Verdict) → IsBytes s → readOf s ≡ read.Read v → leNumber 2 s versionPlace ≡ version
     → (writable v ≡ true) × (s ≡ slipOf v)
 unfolding writable slipWith
 write-back s v b e k =
     let g = begun s v e in
-    let n : ℕ = number 4 s rowsPlace in
+    let n : ℕ = leNumber 4 s rowsPlace in
     let w = well slipSize (Known n) s v (sym (as-new s k) ∙ g .on) in
-    let all : s ≡ listing 17 s 0 = listed s ∙ ap (λ (n : ℕ). listing n s 0) (w .long) in
-    let same : listing 13 s 0 ≡ fieldBytes version (recorded s (Known n)) =
+    let all : s ≡ listing slipSize s 0 = listed s ∙ ap (λ (n : ℕ). listing n s 0) (w .long) in
+    let same : listing oldSize s 0 ≡ fieldBytes version (recorded s (Known n)) =
     field-bytes s (Known n) b (ap (λ (l : List ℕ). take 3 l) all) (g .marked) ∙ ap (λ (k : ℕ). fieldBytes k (recorded s (Known n))) k
     in
     let known : isKnown (v .rows) ≡ true = ap (λ (v : Verdict). isKnown (v .rows)) (sym (w .gives)) in (
@@ -262,12 +254,12 @@ write-back s v b e k =
           ∙ ap slipOf (w .gives),
     )
 
-old-back : (s : List ℕ) (v : Verdict) → Bytes s → readOf s ≡ read.Read v → number 2 s versionPlace ≡ oldVersion
+old-back : (s : List ℕ) (v : Verdict) → IsBytes s → readOf s ≡ read.Read v → leNumber 2 s versionPlace ≡ oldVersion
     → (v .rows ≡ NotKnown) × (s ≡ oldSlipOf v)
 old-back s v b e k =
     let g = begun s v e in
     let w = well oldSize NotKnown s v (sym (as-old s k) ∙ g .on) in
-    let all : s ≡ listing 13 s 0 = listed s ∙ ap (λ (n : ℕ). listing n s 0) (w .long) in (
+    let all : s ≡ listing oldSize s 0 = listed s ∙ ap (λ (n : ℕ). listing n s 0) (w .long) in (
       ap (λ (v : Verdict). v .rows) (sym (w .gives)),
       all
           ∙ field-bytes s NotKnown b (ap (λ (l : List ℕ). take 3 l) all) (g .marked)

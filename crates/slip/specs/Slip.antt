@@ -1,12 +1,12 @@
 -- Verdict slips (document 01, "A slip records a verdict"; document 02, Q-13): the bytes of a slip, and what reading and
 -- writing one answer. Slips of version 2 are written; those of versions 1 and 2 are read.
-use Prim.Native.Nat.{ℕ, zero, suc, _+_, _*_}
-use mathlib.Core.Bool.{Bool, true, false, cond, not, _&&_}
+use Prim.Native.Nat.{ℕ}
+use mathlib.Core.Bool.{cond, not, _&&_}
 use mathlib.Core.List.{List, [], _∷_, _++_}
 use mathlib.Core.Option.{Option, none, some}
-use lib.ListN.{length, take, drop, getD}
+use lib.ListN.{length, take, drop}
 use lib.Dec.{eqb, leb}
-use Rattle.basics.specs.Bytes.{le}
+use Rattle.basics.specs.Bytes.{sameBytes, leNumber, le}
 use Rattle.basics.specs.Fields.{Fields, codeAlone}
 use Rattle.verdict.specs.Verdict.{possible, writable}
 use Rattle.verdict.specs.declared.RowCount.{RowCount}
@@ -55,11 +55,6 @@ oldSize = 13
 abbrev pub slipSize : ℕ
 slipSize = 17
 
--- The number in the n bytes of s from p on, little-endian.
-unfoldable pub number : ℕ → List ℕ → ℕ → ℕ
-number zero s p = 0
-number (suc n) s p = getD s p 0 + 256 * number n s (p + 1)
-
 -- The bytes that slips of both versions have, each with its own version number.
 unfoldable pub fieldBytes : ℕ → Verdict → List ℕ
 fieldBytes k v = mark ++ (le 2 k ++ (le 1 (v .code) ++ (le 1 (v .rule) ++ (le 2 (v .frame) ++ le 4 (v .offset)))))
@@ -78,23 +73,17 @@ slipOf v = slipBy v (v .rows)
 
 -- ---- Reading: 12 for fewer than 5 bytes or a wrong mark; 13; 12 where the length is not the version's; 14
 
-unfoldable pub sameBytes : List ℕ → List ℕ → Bool
-sameBytes [] [] = true
-sameBytes [] (y ∷ ys) = false
-sameBytes (x ∷ xs) [] = false
-sameBytes (x ∷ xs) (y ∷ ys) = eqb x y && sameBytes xs ys
-
 -- Mark and version.
-abbrev pub headSize : ℕ
-headSize = 5
+abbrev pub openingSize : ℕ
+openingSize = 5
 
 -- The verdict that a slip's fields record, unchecked, with a row count.
 abbrev pub recorded : List ℕ → RowCount → Verdict
 recorded s rows = record {
-  code = number 1 s codePlace;
-  rule = number 1 s rulePlace;
-  frame = number 2 s framePlace;
-  offset = number 4 s offsetPlace;
+  code = leNumber 1 s codePlace;
+  rule = leNumber 1 s rulePlace;
+  frame = leNumber 2 s framePlace;
+  offset = leNumber 4 s offsetPlace;
   rows = rows;
 }
 
@@ -109,22 +98,22 @@ readSized size rows s = cond (not (eqb (length s) size)) (read.Refused 12) (ifPo
 unfoldable pub readVersion : ℕ → List ℕ → SlipAnswer
 readVersion k s =
     cond (eqb k oldVersion) (readSized oldSize NotKnown s)
-    (cond (eqb k version) (readSized slipSize (Known (number 4 s rowsPlace)) s)
+    (cond (eqb k version) (readSized slipSize (Known (leNumber 4 s rowsPlace)) s)
     (read.Refused 13))
 
 unfoldable pub readOf : List ℕ → SlipAnswer
 readOf s =
-    cond (not (leb headSize (length s) && sameBytes (take 3 s) mark)) (read.Refused 12)
-    (readVersion (number 2 s versionPlace) s)
+    cond (not (leb openingSize (length s) && sameBytes (take 3 s) mark)) (read.Refused 12)
+    (readVersion (leNumber 2 s versionPlace) s)
 
 -- The paper's numbers for each case: the code, and with code 0 the verdict read.
 pub record SlipFields : Type 0 where
   pub code : ℕ
   pub verdict : Option Verdict
 
-abbrev pub readFields : SlipAnswer → SlipFields
-readFields (read.Read v) = record { code = 0; verdict = some v }
-readFields (read.Refused code) = record { code = code; verdict = none }
+abbrev pub readSlipFields : SlipAnswer → SlipFields
+readSlipFields (read.Read v) = record { code = 0; verdict = some v }
+readSlipFields (read.Refused code) = record { code = code; verdict = none }
 
 -- ---- Writing: 14, for a count that is not known too; then 11
 
@@ -139,6 +128,6 @@ unfoldable pub slipBuffer : Verdict → List ℕ → List ℕ
 slipBuffer v buffer = cond (writable v && leb slipSize (length buffer)) (slipOf v ++ drop slipSize buffer) buffer
 
 -- The paper's numbers for each case: the code alone.
-abbrev pub writeFields : WriteAnswer → Fields
-writeFields write.Written = codeAlone 0
-writeFields (write.Refused code) = codeAlone code
+abbrev pub writeSlipFields : WriteAnswer → Fields
+writeSlipFields write.Written = codeAlone 0
+writeSlipFields (write.Refused code) = codeAlone code

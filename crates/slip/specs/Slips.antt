@@ -6,18 +6,15 @@
 use mathlib.Core.Path.{_≡_}
 use mathlib.Core.Bool.{true}
 use mathlib.Core.List.{List}
-use Prim.Native.Nat.{ℕ, _≤_, _<_}
-use lib.ListN.{length, take, getD}
+use Prim.Native.Nat.{ℕ, _≤_}
+use lib.ListN.{length, take}
+use Rattle.basics.specs.Bytes.{IsBytes, leNumber}
 use Rattle.verdict.specs.Verdict.{fieldsFit, possible, writable, withoutCount}
 use Rattle.verdict.specs.declared.RowCount.the-variants.{NotKnown}
 use Rattle.verdict.specs.declared.Verdict.{Verdict}
 use Rattle.slip.specs.declared.SlipAnswer.the-variants as read
-use Rattle.slip.specs.Slip.{version, oldVersion, versionPlace, slipSize, number, slipOf, readOf, slipBuffer}
+use Rattle.slip.specs.Slip.{version, oldVersion, versionPlace, slipSize, slipOf, readOf, slipBuffer}
 use Rattle.slip.specs.Version1.{oldSlipOf}
-
--- Every element is a byte.
-abbrev pub Bytes : List ℕ → Type 0
-Bytes s = (i : ℕ) → getD s i 0 < 256
 
 pub record Slips : Type 0 where
   pub read-back : (v : Verdict) → writable v ≡ true → readOf (slipOf v) ≡ read.Read v
@@ -25,8 +22,8 @@ pub record Slips : Type 0 where
       → readOf (take slipSize (slipBuffer v buffer)) ≡ read.Read v
   pub slips-differ : (v w : Verdict) → writable v ≡ true → writable w ≡ true → slipOf v ≡ slipOf w → v ≡ w
   pub read-possible : (s : List ℕ) (v : Verdict) → readOf s ≡ read.Read v → possible v ≡ true
-  pub write-back : (s : List ℕ) (v : Verdict) → Bytes s → readOf s ≡ read.Read v → number 2 s versionPlace ≡ version
+  pub write-back : (s : List ℕ) (v : Verdict) → IsBytes s → readOf s ≡ read.Read v → leNumber 2 s versionPlace ≡ version
       → (writable v ≡ true) × (s ≡ slipOf v)
   pub old-read : (v : Verdict) → fieldsFit v ≡ true → readOf (oldSlipOf v) ≡ read.Read (withoutCount v)
-  pub old-back : (s : List ℕ) (v : Verdict) → Bytes s → readOf s ≡ read.Read v → number 2 s versionPlace ≡ oldVersion
+  pub old-back : (s : List ℕ) (v : Verdict) → IsBytes s → readOf s ≡ read.Read v → leNumber 2 s versionPlace ≡ oldVersion
       → (v .rows ≡ NotKnown) × (s ≡ oldSlipOf v)

@@ -4,10 +4,13 @@ ghost use mathlib.Core.Path.{_≡_};
 ghost use mathlib.Core.List.{_++_};
 ghost use Prim.Native.Nat.{_≤_};
 ghost use lib.ListN.{length, take, drop};
+ghost use Rattle.basics.specs.Bytes.{sameBytes, leNumber};
 ghost use Rattle.basics.specs.Fields.{Answers};
 ghost use Rattle.verdict.specs.declared.RowCount.the-variants.{Known, NotKnown};
-ghost use Rattle.slip.specs.Slip.{headSize, oldSize, slipSize, rowsPlace, versionPlace, mark, number, sameBytes, recorded};
-ghost use Rattle.slip.specs.Slip.{ifPossible, readSized, readVersion, slipWith, readOf, readFields, writeOf, writeFields, slipBuffer};
+ghost use Rattle.slip.specs.Slip.{openingSize, oldSize, slipSize, rowsPlace, versionPlace, mark, recorded};
+ghost use Rattle.slip.specs.Slip.{ifPossible, readSized, readVersion, slipWith, readOf, readSlipFields, writeOf, writeSlipFields};
+ghost use Rattle.slip.specs.Slip.{slipBuffer};
+use basics::same_bytes;
 use basics::u16_at;
 use basics::u32_at;
 use basics::wide;
@@ -19,7 +22,7 @@ const HEAD: usize = 5;
 
 const OLD_SIZE: usize = 13;
 
-pub const SIZE: usize = 17;
+const SIZE: usize = 17;
 
 // The offset of each field; the mark comes first.
 const VERSION_AT: usize = 3;
@@ -57,11 +60,7 @@ fn is_marked(s: &[u8]) -> bool
     requires { ⌜ 3 ≤ length (now s) ⌝ }
     ensures { λ r. ⌜ r ≡ sameBytes (take 3 (now (s .entry))) mark ⌝ }
 {
-    if s[0] == b'X' {
-        if s[1] == b'A' { s[2] == b'V' } else { false }
-    } else {
-        false
-    }
+    same_bytes(&s[..3], b"XAV")
 }
 
 // The fields of a slip, unchecked, with a row count.
@@ -105,7 +104,7 @@ fn read_old(slip: &[u8]) -> SlipAnswer
 
 // A slip of version 2.
 fn read_new(slip: &[u8]) -> SlipAnswer
-    ensures { λ r. ⌜ r ≡ readSized slipSize (Known (number 4 (now (slip .entry)) rowsPlace)) (now (slip .entry)) ⌝ }
+    ensures { λ r. ⌜ r ≡ readSized slipSize (Known (leNumber 4 (now (slip .entry)) rowsPlace)) (now (slip .entry)) ⌝ }
 {
     if slip.len() == SIZE {
         let n = u32_at(slip, ROWS_AT);
@@ -117,8 +116,8 @@ fn read_new(slip: &[u8]) -> SlipAnswer
 
 // A slip whose mark is right, by its version.
 fn read_version(slip: &[u8]) -> SlipAnswer
-    requires { ⌜ headSize ≤ length (now slip) ⌝ }
-    ensures { λ r. ⌜ r ≡ readVersion (number 2 (now (slip .entry)) versionPlace) (now (slip .entry)) ⌝ }
+    requires { ⌜ openingSize ≤ length (now slip) ⌝ }
+    ensures { λ r. ⌜ r ≡ readVersion (leNumber 2 (now (slip .entry)) versionPlace) (now (slip .entry)) ⌝ }
 {
     let version = u16_at(slip, VERSION_AT);
     if version == OLD_VERSION {
@@ -134,7 +133,7 @@ fn read_version(slip: &[u8]) -> SlipAnswer
 // The verdict that a slip records; code 12 if it has fewer than 5 bytes or a wrong mark, 13 if its version is neither 1 nor 2, 12 if its
 // length is not its version's, 14 if its fields are not possible.
 pub fn read_slip(slip: &[u8]) -> SlipAnswer
-    ensures { λ r. ⌜ Answers readFields r (readOf (now (slip .entry))) ⌝ }
+    ensures { λ r. ⌜ Answers readSlipFields r (readOf (now (slip .entry))) ⌝ }
 {
     if HEAD <= slip.len() {
         if is_marked(slip) {
@@ -181,7 +180,7 @@ fn put_slip(v: Verdict, n: usize, slip: &mut [u8])
 // Writes a verdict's slip over the first 17 bytes of the buffer; code 14 if the verdict is not possible or its row count not known, then
 // 11 if the buffer has fewer than 17 bytes. A refusal leaves the buffer as it was.
 pub fn write_slip(verdict: Verdict, slip: &mut [u8]) -> WriteAnswer
-    ensures { λ r. ⌜ Answers writeFields r (writeOf verdict (now (slip .entry))) ⌝ }
+    ensures { λ r. ⌜ Answers writeSlipFields r (writeOf verdict (now (slip .entry))) ⌝ }
     ensures { λ _. ⌜ now (slip .exit) ≡ slipBuffer verdict (now (slip .entry)) ⌝ }
 {
     if verdict::is_possible(verdict) {

@@ -5,7 +5,7 @@ use Prim.Native.Nat.{ℕ, zero, suc, _+_, _*_, _≤_, _<_}
 use native.Mathlib.Nat.{mod-eq-of-lt}
 use native.Mathlib.Omega.{arith}
 use Rattle.squareroot.specs.SquareRoot.{rootOf, cell, rootLevel, rootEntry}
-use Rattle.squareroot.specs.Derivation.{Largest, Near, Derivation}
+use Rattle.squareroot.specs.Derivation.{Largest, NearEntry, Derivation}
 use Rattle.squareroot.proofs.Roots.{square, under, root-low, root-high, root-is}
 
 largest : (t : ℕ) → Largest t (rootOf t)
@@ -51,7 +51,7 @@ never-one v e =
     let b : 4 * cell v < 2 * 2 = rw e at (root-high (4 * cell v)) in
     omega arith
 
-near : (v : ℕ) → Near v
+near : (v : ℕ) → NearEntry v
 near v =
     let a : rootLevel v * rootLevel v ≤ 4 * cell v = level-low v in
     let b : 4 * cell v < (rootLevel v + 1) * (rootLevel v + 1) = level-high v in

@@ -12,7 +12,7 @@ pub record Largest (t p : ℕ) : Type 0 where
   pub most : (q : ℕ) → q * q ≤ t → q ≤ p
 
 -- The cell minus the entry of what it becomes is 0 to 127: it is not below that entry, and not more than 127 above it.
-pub record Near (v : ℕ) : Type 0 where
+pub record NearEntry (v : ℕ) : Type 0 where
   pub under : rootEntry (rootLevel v) ≤ cell v
   pub near : cell v - rootEntry (rootLevel v) ≤ 127
 
@@ -26,4 +26,4 @@ pub record Derivation : Type 0 where
   -- No cell becomes 1.
   pub never-one : (v : ℕ) → rootLevel v ≡ 1 → ⊥
   -- Every cell is at most 127 above its entry.
-  pub near : (v : ℕ) → Near v
+  pub near : (v : ℕ) → NearEntry v

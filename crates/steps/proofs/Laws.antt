@@ -2,12 +2,10 @@
 use mathlib.Core.Path.{_≡_, refl, sym, ap, _∙_, subst}
 use Prim.Native.Nat.{ℕ, zero, suc, _+_, _-_, _*_, _/_, _%_, _≤_, _<_}
 use native.Mathlib.Omega.{arith}
-use native.Mathlib.Numerals.{add-one}
-use mathlib.Core.List.{List, [], _∷_}
+use mathlib.Core.List.{List, []}
 use mathlib.Core.Bool.{Bool, true, false, cond, _&&_}
 use mathlib.Core.Option.{Option, none, some}
 use lib.ListN.{length, getD, drop}
-use lib.Seq.{drop-cons, drop-length}
 use lib.Dec.{eqb, leb}
 use borrow.Author.Tests.{eq-eqb, ne-eqb, eqb-true, le-leb, lt-leb}
 use Rattle.value.specs.declared.Num.{Num}
@@ -16,13 +14,18 @@ use Rattle.value.specs.declared.Signed.{Signed}
 use Rattle.value.specs.declared.Signed.the-variants as signed
 use Rattle.value.specs.Number.{usValues, isNumber}
 use Rattle.value.specs.Contracts.{SizeBelow}
-use Rattle.value.proofs.Laws.{usValues-length}
+use Rattle.value.proofs.Laws.{usValues-length, values-end, pair-at}
+use Rattle.basics.proofs.Tests.{and-both}
 use Rattle.basics.specs.Vr.{SQ, US}
+use Rattle.basics.proofs.Tests.{and-both}
 use Rattle.node.specs.Nodes.{Node, nodeAt, nextNode, members, root, inside}
 use Rattle.node.specs.Find.{find, ofVr, andThen}
 use Rattle.node.proofs.Walks.{members-end, members-next}
 use Rattle.shift.specs.declared.Shift.{Shift}
-use Rattle.element.specs.Tags
+use Rattle.window.specs.declared.Window.{Window}
+use Rattle.pixel.specs.declared.Geometry.{Geometry}
+use Rattle.pixel.specs.Pixel.{isFrame}
+use Rattle.basics.specs.Tags
 use Rattle.element.specs.Elements.{first, valueAt, insideOf, itemsIn}
 use Rattle.element.specs.Frames.{idIn, maskItems}
 use Rattle.steps.specs.declared.Applying.{Applying}
@@ -31,6 +34,7 @@ use Rattle.steps.specs.declared.Found.{Found}
 use Rattle.steps.specs.declared.Found.the-variants as found
 use Rattle.steps.specs.Given.{check, then}
 use Rattle.steps.specs.Steps.{groupFor, inPairs, rangeHolds, firstHolding, onMask, applyingTo, naming, ownIn, shiftFrom, shiftFor}
+use Rattle.steps.specs.Steps.{Mask, geometryOf, pixelsOf, windowFor, inverseOf, maskFor, pictureBy, stepsOf}
 use Rattle.steps.specs.Contracts.{FoundBelow, hasPairs, ifRead, GivesItem, signedOf}
 
 -- ---- Answers
@@ -73,44 +77,25 @@ module _ (ns : List Node) (at end : ℕ) where
 
 -- ---- Values of a US, in pairs
 
-value-next : (v : List ℕ) (k : ℕ) → k < length v / 2 → drop k (usValues v) ≡ getD (usValues v) k 0 ∷ drop (k + 1) (usValues v)
-value-next v k h = rw (add-one k, drop-cons (usValues v) k 0 (omega (arith, usValues-length v)))
-
-pub values-end : (v : List ℕ) (k : ℕ) → k ≡ length v / 2 → drop k (usValues v) ≡ []
-values-end v k e = rw (e, ← usValues-length v) (drop-length (usValues v))
-
 module _ (f : ℕ) (v : List ℕ) (k : ℕ) where
   pub pairs-end : 2 * k ≡ length v / 2 → inPairs f (drop (2 * k) (usValues v)) ≡ false
   unfolding inPairs
   pairs-end e = rw (values-end v (2 * k) e)
 
   module _ (a b : ℕ) (ea : a ≡ getD (usValues v) (2 * k) 0) (eb : b ≡ getD (usValues v) (2 * k + 1) 0) (h : 2 * k + 1 < length v / 2) where
-    pub pair-at : drop (2 * k) (usValues v) ≡ a ∷ b ∷ drop (2 * (k + 1)) (usValues v)
-    pair-at =
-        let d : 2 * (k + 1) ≡ 2 * k + 1 + 1 = omega arith in
-        rw (value-next v (2 * k) (omega arith), value-next v (2 * k + 1) h, ← ea, ← eb, d)
-
     pub pairs-here : (leb a f && leb f b) ≡ true → inPairs f (drop (2 * k) (usValues v)) ≡ true
     unfolding inPairs
-    pairs-here q = rw (pair-at, q)
+    pairs-here q = rw (pair-at v k a b ea eb h, q)
 
     pub pairs-next : (leb a f && leb f b) ≡ false → inPairs f (drop (2 * k) (usValues v)) ≡ inPairs f (drop (2 * (k + 1)) (usValues v))
     unfolding inPairs
-    pairs-next q = rw (pair-at, q)
+    pairs-next q = rw (pair-at v k a b ea eb h, q)
 
 pub values-some : (v : List ℕ) → 2 ≤ length v → leb 1 (length (usValues v)) ≡ true
 values-some v h = le-leb 1 (length (usValues v)) (omega (arith, usValues-length v))
 
 pub values-none : (v : List ℕ) → length v < 2 → leb 1 (length (usValues v)) ≡ false
 values-none v h = lt-leb 1 (length (usValues v)) (omega (arith, usValues-length v))
-
--- ---- Tests one after the other
-
-pub both : {a b r : Bool} → a ≡ true → b ≡ r → (a && b) ≡ r
-both e f = rw e f
-
-pub not-first : {a : Bool} (b : Bool) → a ≡ false → (a && b) ≡ false
-not-first b e = rw e
 
 -- ---- Walks
 
@@ -165,15 +150,11 @@ module _ (ns : List Node) (f : ℕ) where
   pub found-given : GivesItem ns f → (r : Applying) → ifRead ns f r ≡ firstHolding ns f (maskItems ns) → applyingTo ns f ≡ some r
   found-given g r h = by-found (applyingTo ns f) r g (among-items g ∙ sym h)
 
-second : (a b : Bool) → (a && b) ≡ true → b ≡ true
-second true b e = e
-second false b e = let x : _≡_ {A = ℕ} 0 1 = cc in absurd (omega arith)
-
 -- A node that holds pairs holds whole ones.
 pub pairs-whole : (ns : List Node) (i : ℕ) → hasPairs ns i ≡ true → length (valueAt ns i) % 4 ≡ 0
 pairs-whole ns i e =
-    eqb-true (length (valueAt ns i) % 4) 0 (second (leb 4 (length (valueAt ns i))) (eqb (length (valueAt ns i) % 4) 0)
-    (second (eqb (nodeAt ns i .vr) US) (leb 4 (length (valueAt ns i)) && eqb (length (valueAt ns i) % 4) 0) e))
+    let pairs = and-both (eqb (nodeAt ns i .vr) US) (leb 4 (length (valueAt ns i)) && eqb (length (valueAt ns i) % 4) 0) e .1 in
+    eqb-true (length (valueAt ns i) % 4) 0 (and-both (leb 4 (length (valueAt ns i))) (eqb (length (valueAt ns i) % 4) 0) pairs .1)
 
 module _ (ns : List Node) (id at to : ℕ) where
   pub naming-end : to ≤ at → naming ns id (members ns at to) ≡ some None
@@ -206,3 +187,10 @@ pub shift-said : (ns : List Node) (f j : ℕ) {group named : Option Num} {o : Op
     → o ≡ shiftFor ns f j
 unfolding shiftFor
 shift-said ns f j a b d = d ∙ rw (b, a) (then-then (groupFor ns f Tags.FramePixelShiftSequence) (ownIn ns j) (shiftFrom ns j))
+
+-- The picture, once each step gave its part.
+pub to-picture : (ns : List Node) (f : ℕ) (g : Geometry) (v : List ℕ) (w : Window) (inverse : Bool) → geometryOf ns ≡ some g
+    → pixelsOf ns ≡ some v → isFrame g v f ≡ true → windowFor ns f (g .stored) ≡ some w → inverseOf ns ≡ some inverse
+    → (m : Mask) → maskFor ns f ≡ some m → stepsOf ns f ≡ pictureBy g v f w inverse m
+unfolding stepsOf
+to-picture ns f g v w inverse is-g is-v frame is-w is-i m e = rw (is-g, is-v, frame, e, is-w, is-i)

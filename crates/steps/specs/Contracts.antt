@@ -15,7 +15,7 @@ use Rattle.value.specs.Number.{usValues}
 use Rattle.shift.specs.declared.Shift.{Shift}
 use Rattle.node.specs.Nodes.{Node, nodeAt}
 use Rattle.basics.specs.Vr.{US}
-use Rattle.element.specs.Tags
+use Rattle.basics.specs.Tags
 use Rattle.element.specs.Elements.{valueAt}
 use Rattle.element.specs.Frames.{operationIs}
 use Rattle.pixel.specs.declared.Geometry.{Geometry}
@@ -98,9 +98,9 @@ ApplyingBelow n (applying.Item j) = j < n
 ApplyingBelow n applying.Nothing = Unit {0}
 
 -- The value of the node that was found, and the frame numbers in it.
-abbrev pub valueIn : List Node → Num → Option (List ℕ)
-valueIn ns (num.Is k) = some (valueAt ns k)
-valueIn ns num.None = none
+abbrev pub valueFound : List Node → Num → Option (List ℕ)
+valueFound ns (num.Is k) = some (valueAt ns k)
+valueFound ns num.None = none
 
 abbrev pub framesIn : List Node → Num → Option (List ℕ)
 framesIn ns (num.Is k) = some (usValues (valueAt ns k))
@@ -121,7 +121,7 @@ sizedOf (sized.Is g) = some g
 sizedOf sized.Lacks = none
 
 -- Each number of a geometry fits a US, and the width is in bytes.
-pub record Small (g : Geometry) : Type 0 where
+pub record SmallGeometry (g : Geometry) : Type 0 where
   pub rows : g .rows < 65536
   pub columns : g .columns < 65536
   pub some-bytes : 1 ≤ g .width
@@ -129,7 +129,7 @@ pub record Small (g : Geometry) : Type 0 where
   pub stored : g .stored < 65536
 
 abbrev pub SizedSmall : Sized → Type 0
-SizedSmall (sized.Is g) = Small g
+SizedSmall (sized.Is g) = SmallGeometry g
 SizedSmall sized.Lacks = Unit {0}
 
 abbrev pub windowedOf : Windowed → Option Window

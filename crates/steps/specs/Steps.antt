@@ -41,7 +41,7 @@ use Rattle.shift.specs.declared.Moves.{Moves}
 use Rattle.shift.specs.Shift.{itemShift, frameShift, movesOf}
 use Rattle.node.specs.Nodes.{Node, nodeAt, root, inside}
 use Rattle.node.specs.Find.{find, findVr}
-use Rattle.element.specs.Tags
+use Rattle.basics.specs.Tags
 use Rattle.element.specs.Elements.{valueAt, usIn, theItem, functionIn}
 use Rattle.element.specs.Frames.{framesOf, sharedItem, frameItem, idIn, operationIs}
 use Rattle.pixel.specs.declared.Geometry.{Geometry}

@@ -13,17 +13,18 @@ ghost use Rattle.value.specs.Number.{usValues, isNumber, decimalOf};
 ghost use Rattle.value.specs.Contracts.{Below, SizeBelow};
 ghost use Rattle.node.specs.Nodes.{nodesOf, members, inside};
 ghost use Rattle.node.specs.Contracts.{Table};
-ghost use Rattle.element.specs.Tags.{FramePixelShiftSequence};
+ghost use Rattle.basics.specs.Tags.{FramePixelShiftSequence};
 ghost use Rattle.element.specs.Frames.{framesOf, frameItem};
 ghost use Rattle.steps.specs.Given.{need, check, then};
 ghost use Rattle.steps.specs.Steps.{orShared, groupFor, inPairs, rangeHas, rangeHolds, firstHolding, applyingTo, averageFrames};
 ghost use Rattle.steps.specs.Steps.{offsetAt, offsetOf, tidFrame, naming, ownIn, itemShiftAt, shiftFrom, shiftFor, geometryOf};
 ghost use Rattle.steps.specs.Steps.{pixelsOf, windowIn, windowOn, windowFor, inverseOf};
-ghost use Rattle.steps.specs.Contracts.{foundOf, FoundBelow, holdsOf, hasPairs, ifRead, GivesItem, ApplyingBelow, valueIn, framesIn};
+ghost use Rattle.steps.specs.Contracts.{foundOf, FoundBelow, holdsOf, hasPairs, ifRead, GivesItem, ApplyingBelow, valueFound};
+ghost use Rattle.steps.specs.Contracts.{framesIn};
 ghost use Rattle.steps.specs.Contracts.{signedOf, shiftsOf, sizedOf, SizedSmall, windowedOf, inverseSaid, sharedNaming, sharedWindow};
 ghost use Rattle.steps.specs.Contracts.{IsShared, operationOf, IsTold};
+use basics::tags;
 use basics::vrs;
-use element::tags;
 use pixel::Geometry;
 use shift::Shift;
 use value::Function;
@@ -474,7 +475,7 @@ fn shift_from(bytes: &[u8], rows: &[u32], j: usize, named: Found) -> Shifts
 }
 
 // The item of the shared shift group that names the ID of mask item j: the same for every frame that has no group of its own.
-pub fn shared_naming(bytes: &[u8], rows: &[u32], j: usize) -> Found
+fn shared_naming(bytes: &[u8], rows: &[u32], j: usize) -> Found
     requires { ⌜ Table (now bytes) (now rows) × (j < length (nodesOf (now bytes))) ⌝ }
     ensures { λ r. ⌜ foundOf r ≡ sharedNaming (nodesOf (now (bytes .entry))) j ⌝ }
     ensures { λ r. ⌜ FoundBelow (length (nodesOf (now (bytes .entry)))) r ⌝ }
@@ -742,7 +743,7 @@ pub fn geometry_of(bytes: &[u8], rows: &[u32]) -> Sized
 // The element of the pixel bytes.
 pub fn pixel_element(bytes: &[u8], rows: &[u32]) -> Num
     requires { ⌜ Table (now bytes) (now rows) ⌝ }
-    ensures { λ r. ⌜ valueIn (nodesOf (now (bytes .entry))) r ≡ pixelsOf (nodesOf (now (bytes .entry))) ⌝ }
+    ensures { λ r. ⌜ valueFound (nodesOf (now (bytes .entry))) r ≡ pixelsOf (nodesOf (now (bytes .entry))) ⌝ }
     ensures { λ r. ⌜ Below (length (nodesOf (now (bytes .entry)))) r ⌝ }
 {
     match element::find_root(bytes, rows, tags::PIXEL_DATA) {

@@ -1,6 +1,6 @@
 // The steps of one frame, each asked separately, whatever the mask operation is. A step that is not asked is `-`.
 use crate::answers;
-use element::tags;
+use basics::tags;
 use steps::Applying;
 use steps::Holds;
 use steps::Operation;

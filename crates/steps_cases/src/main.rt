@@ -1,13 +1,13 @@
-// Prints what the drawing steps answer for each small case on standard input. A case is its size, in two bytes with the lower one first,
-// and then its bytes; tests/make_steps_cases writes the cases, most of which are not accepted, and, by another program, the output that
-// is expected.
+// Prints what the drawing steps answer for each small case on standard input (crates/cases says what a case is). tests/make_steps_cases
+// writes the cases, most of which are not accepted, and, by another program, the output that is expected.
 mod answers;
 mod frames;
 
+use cases::case_at;
+use cases::print_rest;
 use dataset::ReadAnswer;
 use room::row_buffer;
 ghost use mathlib.Core.Path.{_≡_};
-ghost use Prim.Native.Nat.{_+_, _≤_, _<_};
 ghost use lib.ListN.{length};
 ghost use Rattle.node.specs.Contracts.{Table};
 
@@ -16,19 +16,6 @@ fn input() -> [u8; 262_144]
     ensures { λ r. ⌜ 262144 ≡ length r ⌝ }
 {
     [0; 262_144]
-}
-
-fn wide(x: u8) -> usize
-    ensures { λ r. ⌜ r < 256 ⌝ }
-{
-    x as usize
-}
-
-fn size_at(cases: &[u8], at: usize) -> usize
-    requires { ⌜ at + 2 ≤ length (now cases) ⌝ }
-    ensures { λ r. ⌜ r < 65536 ⌝ }
-{
-    wide(cases[at]) + 256 * wide(cases[at + 1])
 }
 
 // A line for the data set, and one for each of the frames 0 to 4, some of which are in no data set.
@@ -66,19 +53,17 @@ fn print_case(bytes: &[u8]) {
 
 fn print_cases(cases: &[u8]) {
     let mut at: usize = 0;
-    while 2 <= cases.len() - at {
-        let start = at + 2;
-        let size = size_at(cases, at);
-        if cases.len() - start < size {
+    loop {
+        let case = case_at(cases, at);
+        let start = case.start;
+        let end = case.end;
+        if end == at {
             break;
         }
-        let end = start + size;
         print_case(&cases[start..end]);
         at = end;
     }
-    if at < cases.len() {
-        io::write_all(1, b"the last case is cut short\n");
-    }
+    print_rest(cases, at);
 }
 
 fn main() {

@@ -5,10 +5,11 @@ use mathlib.Core.Bool.{true}
 use mathlib.Core.List.{List}
 use Prim.Native.Nat.{ℕ}
 use native.Mathlib.Omega.{arith}
+use Rattle.basics.specs.Bytes.{IsBytes}
 use Rattle.verdict.specs.Verdict.{perFrame}
 use Rattle.node.specs.Nodes.{nodesOf}
 use Rattle.conformance.specs.Judging.{firstFrame, frameCount}
-use Rattle.display.specs.Drawing.{Bytes, IsAccepted, IsFrame}
+use Rattle.display.specs.Drawing.{IsAccepted, IsFrame}
 use Rattle.display.proofs.Drawing.{drawing}
 use Rattle.thousandths.specs.Rule30.{rule30}
 use Rattle.thousandths.specs.Kept.{WasAccepted, KeepsPicture, Kept}
@@ -24,7 +25,7 @@ at-frame : (s : List ℕ) (f : ℕ) → WasAccepted s → IsFrame s f → rule30
 unfolding firstFrame frameCount perFrame
 at-frame s f a i = rules.held (nodesOf s) f (a .sound 30 (omega arith) (omega arith) f (i .low) (omega (arith, i .high)))
 
-kept : (s : List ℕ) → Bytes s → WasAccepted s → (f : ℕ) → IsFrame s f → KeepsPicture (nodesOf s) f
+kept : (s : List ℕ) → IsBytes s → WasAccepted s → (f : ℕ) → IsFrame s f → KeepsPicture (nodesOf s) f
 kept s b a f i =
     let w = drawing s b f .drawable (accepted s a) i in
     record { p = w .p; was = sym (pictures.pictures (nodesOf s) f (at-frame s f a i)) ∙ w .is; is = w .is }

@@ -1,7 +1,7 @@
--- A window that is scaled by 1000, with everything in it, gives the same level.
+-- A window that is scaled, with everything in it, gives the same level.
 use mathlib.Core.Path.{_≡_, sym, ap, _∙_}
 use mathlib.Core.Bool.{not}
-use Prim.Native.Nat.{ℕ, zero, suc, _+_, _*_, _/_, _^_}
+use Prim.Native.Nat.{ℕ, zero, suc, _+_, _-_, _*_, _/_, _^_}
 use native.Mathlib.Nat.{div-div-eq-div-mul}
 use native.Mathlib.Omega.{arith}
 use lib.IntN.{ℤ, pos, negsuc, natAbs, _+ℤ_, _-ℤ_, _*ℤ_}
@@ -10,20 +10,21 @@ use Rattle.value.specs.declared.Signed.{Signed}
 use Rattle.value.specs.declared.Signed.the-variants as signed
 use Rattle.value.specs.declared.Function.{Function}
 use Rattle.value.specs.declared.Function.the-variants as function
+use Rattle.value.specs.Number as current
 use Rattle.window.specs.declared.Window as present
 use Rattle.window.specs.Window as window
 use Rattle.window.specs.Window.{integer, floor}
 use Rattle.window.proofs.Gaps.{Gap, shift, whole, plus, less, times, same-leb, le-test, ltZ-leZ}
 use Rattle.window.proofs.Laws.{signed-gap, over, under, integer-gap}
-use Rattle.thousandths.specs.Number.{scaled}
+use Rattle.thousandths.specs.Number.{unit, factor, scaled}
 use Rattle.thousandths.specs.Step6.{Window, fullWindow, takenOff, levelBy, levelAt, levelOf, levelHalf}
 
--- The second integer is 1000 times the first.
+-- The second integer is `factor` times the first.
 record Scaled (y z : ℤ) : Type 0 where
   pub a : ℕ
   pub b : ℕ
   pub one : Gap y a b
-  pub thousand : Gap z (1000 * a) (1000 * b)
+  pub thousand : Gap z (factor * a) (factor * b)
 
 of-plus : {x y u v : ℤ} → Scaled x y → Scaled u v → Scaled (x +ℤ u) (y +ℤ v)
 of-plus s t = record {
@@ -47,15 +48,16 @@ of-two s = record { a = 2 * s .a; b = 2 * s .b; one = times 2 (s .one); thousand
 of-255 : {x y : ℤ} → Scaled x y → Scaled (pos 255 *ℤ x) (pos 255 *ℤ y)
 of-255 s = record { a = 255 * s .a; b = 255 * s .b; one = times 255 (s .one); thousand = shift (times 255 (s .thousand)) _ _ (omega arith) }
 
-of-whole : (n : ℕ) → Scaled (pos n) (pos (1000 * n))
-of-whole n = record { a = n; b = 0; one = whole n; thousand = whole (1000 * n) }
+of-whole : (n : ℕ) → Scaled (pos n) (pos (factor * n))
+of-whole n = record { a = n; b = 0; one = whole n; thousand = whole (factor * n) }
 
 -- ---- The tests
 
 same-le : {x y u v : ℤ} → Scaled x y → Scaled u v → leZ x u ≡ leZ y v
 same-le s t =
     le-test (s .one) (t .one)
-    ∙ same-leb (s .a + t .b) (t .a + s .b) (1000 * s .a + 1000 * t .b) (1000 * t .a + 1000 * s .b) (λ h. omega arith) (λ h. omega arith)
+    ∙ same-leb (s .a + t .b) (t .a + s .b) (factor * s .a + factor * t .b) (factor * t .a + factor * s .b) (λ h. omega arith)
+    (λ h. omega arith)
     ∙ sym (le-test (s .thousand) (t .thousand))
 
 same-lt : {x y u v : ℤ} → Scaled x y → Scaled u v → ltZ x u ≡ ltZ y v
@@ -63,26 +65,26 @@ same-lt {x = x} {y = y} {u = u} {v = v} s t = ltZ-leZ x u ∙ ap not (same-le t 
 
 -- ---- The quotient
 
-scaled-pos : (n : ℕ) (z : ℤ) → Scaled (pos n) z → z ≡ pos (1000 * n)
+scaled-pos : (n : ℕ) (z : ℤ) → Scaled (pos n) z → z ≡ pos (factor * n)
 scaled-pos n (pos m) s = ap pos (omega (arith, s .one .is, s .thousand .is))
 scaled-pos n (negsuc m) s = absurd (omega (arith, s .one .is, s .thousand .is))
 
-scaled-neg : (n : ℕ) (z : ℤ) → Scaled (negsuc n) z → z ≡ negsuc (1000 * n + 999)
+scaled-neg : (n : ℕ) (z : ℤ) → Scaled (negsuc n) z → z ≡ negsuc (factor * n + (factor - 1))
 scaled-neg n (pos m) s = absurd (omega (arith, s .one .is, s .thousand .is))
 scaled-neg n (negsuc m) s = ap negsuc (omega (arith, s .one .is, s .thousand .is))
 
-scaled-size : (y z : ℤ) → Scaled y z → natAbs z ≡ 1000 * natAbs y
+scaled-size : (y z : ℤ) → Scaled y z → natAbs z ≡ factor * natAbs y
 scaled-size (pos n) z s = ap natAbs (scaled-pos n z s)
 scaled-size (negsuc n) z s = ap natAbs (scaled-neg n z s) ∙ omega arith
 
-quotient : (n m d : ℕ) → m / 1000 ≡ n → m / (1000 * d) ≡ n / d
-quotient n m d e = sym (div-div-eq-div-mul m 1000 d) ∙ ap (λ (x : ℕ). x / d) e
+quotient : (n m d : ℕ) → m / factor ≡ n → m / (factor * d) ≡ n / d
+quotient n m d e = sym (div-div-eq-div-mul m factor d) ∙ ap (λ (x : ℕ). x / d) e
 
 same-floor : {x y u v : ℤ} → Scaled x y → Scaled u v → floor y v ≡ floor x u
 same-floor {x = pos n} {y = y} {u = u} {v = v} s t = rw (scaled-pos n y s, scaled-size u v t)
-    (ap pos (quotient n (1000 * n) (natAbs u) (omega arith)))
+    (ap pos (quotient n (factor * n) (natAbs u) (omega arith)))
 same-floor {x = negsuc n} {y = y} {u = u} {v = v} s t = rw (scaled-neg n y s, scaled-size u v t)
-    (ap negsuc (quotient n (1000 * n + 999) (natAbs u) (omega arith)))
+    (ap negsuc (quotient n (factor * n + (factor - 1)) (natAbs u) (omega arith)))
 
 -- ---- The level
 
@@ -96,9 +98,9 @@ level-scaled se sc sw st =
     )
 
 scaled-off : (f : Function) → Scaled (pos (takenOff f)) (pos (window.takenOff f))
-scaled-off function.Linear = of-whole 1000
+scaled-off function.Linear = of-whole unit
 scaled-off function.Exact = of-whole 0
-scaled-off function.Other = of-whole 1000
+scaled-off function.Other = of-whole unit
 
 scaled-signed : (s : Signed) → Scaled (integer s) (integer (scaled s))
 scaled-signed (signed.Plus n) = of-whole n
@@ -107,16 +109,16 @@ scaled-signed (signed.Minus (suc n)) = record {
   a = 0;
   b = suc n;
   one = record { is = omega arith };
-  thousand = shift (signed-gap (signed.Minus (1000 * suc n))) 0 (1000 * suc n) (omega arith);
+  thousand = shift (signed-gap (signed.Minus (factor * suc n))) 0 (factor * suc n) (omega arith);
 }
 scaled-signed signed.None = of-whole 0
 
-scaled-place : (x : ℤ) → Scaled (pos 2000 *ℤ x) (pos 2000000 *ℤ x)
+scaled-place : (x : ℤ) → Scaled (pos (2 * unit) *ℤ x) (pos (2 * current.unit) *ℤ x)
 scaled-place x = record {
-  a = 2000 * over x;
-  b = 2000 * under x;
-  one = times 2000 (integer-gap x);
-  thousand = shift (times 2000000 (integer-gap x)) _ _ (omega arith);
+  a = 2 * unit * over x;
+  b = 2 * unit * under x;
+  one = times (2 * unit) (integer-gap x);
+  thousand = shift (times (2 * current.unit) (integer-gap x)) _ _ (omega arith);
 }
 
 -- The same window, in millionths.
@@ -132,11 +134,12 @@ same-level w x = same-at w (scaled-place x)
 
 pub same-half : (w : Window) (x : ℤ) → window.levelHalf (scaledWindow w) x ≡ levelHalf w x
 unfolding window.levelHalf levelHalf
-same-half w x = same-at w (of-plus (scaled-place x) (of-whole 1000))
+same-half w x = same-at w (of-plus (scaled-place x) (of-whole unit))
 
 pub same-full : (stored : ℕ) → window.fullWindow stored ≡ scaledWindow (fullWindow stored)
 unfolding window.fullWindow fullWindow
 same-full stored =
-    ap (λ (n : ℕ). record { center = signed.Plus n; width = signed.Plus (1000000 * 2 ^ stored); function = function.Linear }) (omega arith)
-    ∙ ap (λ (n : ℕ). record { center = signed.Plus (1000 * (1000 * 2 ^ stored / 2)); width = signed.Plus n; function = function.Linear })
+    ap (λ (n : ℕ). record { center = signed.Plus n; width = signed.Plus (current.unit * 2 ^ stored); function = function.Linear })
+    (omega arith)
+    ∙ ap (λ (n : ℕ). record { center = signed.Plus (factor * (unit * 2 ^ stored / 2)); width = signed.Plus n; function = function.Linear })
     (omega arith)

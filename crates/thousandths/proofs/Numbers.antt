@@ -1,6 +1,6 @@
 -- A number that was read as n thousandths is read as 1000 n millionths.
 use mathlib.Core.Path.{_≡_, refl, ap, _∙_}
-use mathlib.Core.Bool.{Bool, true, false, cond, not}
+use mathlib.Core.Bool.{Bool, true, false, cond, not, _||_, false≢true}
 use mathlib.Core.List.{List, [], _∷_}
 use Prim.Native.Nat.{ℕ, zero, suc, _+_, _-_, _*_, _^_, _≤_, _<_}
 use native.Mathlib.Nat.{mul-left-comm, one-le-pow}
@@ -14,10 +14,10 @@ use Rattle.value.specs.declared.Num.the-variants as num
 use Rattle.value.specs.declared.Signed.{Signed}
 use Rattle.value.specs.Text.{trimmed}
 use Rattle.value.specs.Number as current
-use Rattle.value.specs.Number.{Digits, isDigit, digitsOf, plus, minus, signedBy, runOf, ifSmall, exactOf, endOf, isNumber}
+use Rattle.value.specs.Number.{Digits, isDigit, digitsOf, afterSign, isMinus, withSign, signedBy, runOf, ifSmall, exactOf, endOf, isNumber}
 use Rattle.value.proofs.Runs.{digits-size, digits-below}
 use Rattle.value.proofs.Powers.{within-is, exact-up}
-use Rattle.thousandths.specs.Number.{decimals, pointOn, fractionOn, sizeOf, decimalOf, scaled}
+use Rattle.thousandths.specs.Number.{decimals, unit, pointOn, fractionOn, sizeOf, decimalOf, factor, scaled}
 
 -- ---- Digits
 
@@ -25,9 +25,6 @@ use Rattle.thousandths.specs.Number.{decimals, pointOn, fractionOn, size
 abbrev stops : List ℕ → Bool
 stops [] = true
 stops (c ∷ s) = not (isDigit c)
-
-differ : false ≡ true → ⊥
-differ e = let z : _≡_ {A = ℕ} 0 1 = cc in omega arith
 
 -- Where the digits ended before the limit, a larger limit reads the same.
 same-digits : (limit more n k : ℕ) (s : List ℕ) → stops (digitsOf limit n k s .rest) ≡ true → length s ≤ more
@@ -39,7 +36,7 @@ same-digits zero (suc more) n k (c ∷ s) e h = go (isDigit c) e
   where
     go : (t : Bool) → not t ≡ true → cond t (digitsOf more (10 * n + (c - 0x30)) (k + 1) s) (record { number = n; count = k; rest = c ∷ s })
         ≡ record { number = n; count = k; rest = c ∷ s }
-    go true e = absurd (differ e)
+    go true e = absurd (false≢true e)
     go false e = refl
 same-digits (suc limit) zero n k [] e h = refl
 same-digits (suc limit) (suc more) n k [] e h = refl
@@ -75,7 +72,7 @@ counted (suc limit) n k (c ∷ s) = go (isDigit c) (counted limit (10 * n + (c -
 -- ---- Sizes
 
 pub record Reads (s : List ℕ) (n : ℕ) : Type 0 where
-  pub is : current.sizeOf s ≡ num.Is (1000 * n)
+  pub is : current.sizeOf s ≡ num.Is (factor * n)
   pub short : length s ≤ 10
 
 lacks : (n : ℕ) → num.None ≡ num.Is n → ⊥
@@ -89,19 +86,21 @@ chosen k m n e = go (eqb k 0) refl e
     go false p e = (eqb-false k 0 p, let q : m ≡ n = cc in q)
 
 -- With `after` decimals, at most 3.
-powers : (m after : ℕ) → after ≤ 3 → m * 10 ^ (6 - after) ≡ 1000 * (m * 10 ^ (3 - after))
+powers : (m after : ℕ) → after ≤ 3 → m * 10 ^ (current.decimals - after) ≡ factor * (m * 10 ^ (3 - after))
 powers m after h =
-    let d : 6 - after ≡ 3 + (3 - after) = omega arith in
-    ap (λ (x : ℕ). m * 10 ^ x) d ∙ ap (λ (x : ℕ). m * x) (pow-add 10 3 (3 - after)) ∙ mul-left-comm m 1000 (10 ^ (3 - after))
+    let d : current.decimals - after ≡ current.decimals - decimals + (decimals - after) = omega arith in
+    ap (λ (x : ℕ). m * 10 ^ x) d ∙ ap (λ (x : ℕ). m * x) (pow-add 10 (current.decimals - decimals) (decimals - after))
+    ∙ mul-left-comm m factor (10 ^ (decimals - after))
 
-exact-is : (m after : ℕ) → after ≤ 3 → m * 10 ^ (3 - after) < 1000000000 → exactOf m 6 after ≡ num.Is (1000 * (m * 10 ^ (3 - after)))
+exact-is : (m after : ℕ) → after ≤ 3 → m * 10 ^ (3 - after) < 1000000000
+    → exactOf m current.decimals after ≡ num.Is (factor * (m * 10 ^ (3 - after)))
 exact-is m after h b =
-    exact-up m 6 after (omega arith)
+    exact-up m current.decimals after (omega arith)
     ∙ ap ifSmall (powers m after h)
-    ∙ within-is (1000 * (m * 10 ^ (3 - after))) (omega arith)
+    ∙ within-is (factor * (m * 10 ^ (3 - after))) (omega arith)
 
 end-is : (count m after : ℕ) → (count ≡ 0 → ⊥) → after ≤ 3 → m * 10 ^ (3 - after) < 1000000000
-    → endOf count m after [] ≡ num.Is (1000 * (m * 10 ^ (3 - after)))
+    → endOf count m after [] ≡ num.Is (factor * (m * 10 ^ (3 - after)))
 unfolding endOf
 end-is count m after z h b = rw (ne-eqb count 0 z) (exact-is m after h b)
 
@@ -116,11 +115,11 @@ point-size whole s h =
 -- Behind a point.
 point-reads : (before whole : ℕ) (s : List ℕ) (n : ℕ) → whole < 1000000
     → pointOn before (digitsOf decimals whole 0 s) (digitsOf decimals whole 0 s .rest) ≡ num.Is n
-    → (current.pointBy before (runOf whole s) ≡ num.Is (1000 * n)) × (length s ≤ 3)
+    → (current.pointBy before (runOf whole s) ≡ num.Is (factor * n)) × (length s ≤ 3)
 point-reads before whole s n h e = go (digitsOf 3 whole 0 s .rest) refl e
   where
     go : (rest : List ℕ) → digitsOf 3 whole 0 s .rest ≡ rest → pointOn before (digitsOf decimals whole 0 s) rest ≡ num.Is n
-        → (current.pointBy before (runOf whole s) ≡ num.Is (1000 * n)) × (length s ≤ 3)
+        → (current.pointBy before (runOf whole s) ≡ num.Is (factor * n)) × (length s ≤ 3)
     go (c ∷ t) r e = absurd (lacks n e)
     go [] r e =
         let x = digitsOf 3 whole 0 s in
@@ -131,7 +130,7 @@ point-reads before whole s n h e = go (digitsOf 3 whole 0 s .rest) refl e
           ap (current.pointBy before) same
               ∙ ap (endOf (before + x .count) (x .number) (x .count)) r
               ∙ end-is (before + x .count) (x .number) (x .count) (p .0) (omega (arith, k .few)) (point-size whole s h)
-              ∙ ap (λ (y : ℕ). num.Is (1000 * y)) (p .1),
+              ∙ ap (λ (y : ℕ). num.Is (factor * y)) (p .1),
           omega (arith, k .all, k .few, l),
         )
 
@@ -143,7 +142,7 @@ reads s n e = go (digitsOf 6 0 0 s .rest) refl e
     go [] r e =
         let d = digitsOf 6 0 0 s in
         let k = counted 6 0 0 s in
-        let p = chosen (d .count) (d .number * 1000) n e in
+        let p = chosen (d .count) (d .number * unit) n e in
         let same : runOf 0 s ≡ d = same-digits 6 (length s) 0 0 s (ap stops r) (omega arith) in
         let l = ap (λ (y : List ℕ). length y) r in
         let b : d .number < 1000000 = digits-below 6 0 s in
@@ -152,7 +151,7 @@ reads s n e = go (digitsOf 6 0 0 s .rest) refl e
               ap current.fractionBy same
               ∙ ap (current.fractionOn d) r
               ∙ end-is (d .count) (d .number) 0 (p .0) (omega arith) (omega arith)
-              ∙ ap (λ (y : ℕ). num.Is (1000 * y)) (p .1);
+              ∙ ap (λ (y : ℕ). num.Is (factor * y)) (p .1);
           short = omega (arith, k .all, k .few, l);
         }
     go (c ∷ t) r e = by-point (eqb c 0x2E) refl e
@@ -183,28 +182,25 @@ record SignedReads (s : List ℕ) (old : Signed) : Type 0 where
   pub is : signedBy current.sizeOf s ≡ scaled old
   pub short : length s ≤ 11
 
-plus-reads : (s : List ℕ) (o : Num) → sizeOf s ≡ o → isNumber (plus o) ≡ true
-    → (plus (current.sizeOf s) ≡ scaled (plus o)) × (length s ≤ 10)
-plus-reads s (num.Is n) q e = let r = reads s n q in (ap plus (r .is), r .short)
-plus-reads s num.None q e = absurd (differ e)
+sign-reads : (minus : Bool) (t : List ℕ) (o : Num) → sizeOf t ≡ o → isNumber (withSign minus o) ≡ true
+    → (withSign minus (current.sizeOf t) ≡ scaled (withSign minus o)) × (length t ≤ 10)
+sign-reads true t (num.Is n) q e = let r = reads t n q in (ap (withSign true) (r .is), r .short)
+sign-reads false t (num.Is n) q e = let r = reads t n q in (ap (withSign false) (r .is), r .short)
+sign-reads minus t num.None q e = absurd (false≢true e)
 
-minus-reads : (s : List ℕ) (o : Num) → sizeOf s ≡ o → isNumber (minus o) ≡ true
-    → (minus (current.sizeOf s) ≡ scaled (minus o)) × (length s ≤ 10)
-minus-reads s (num.Is n) q e = let r = reads s n q in (ap minus (r .is), r .short)
-minus-reads s num.None q e = absurd (differ e)
+after-long : (s : List ℕ) → length s ≤ length (afterSign s) + 1
+after-long [] = omega arith
+after-long (c ∷ s) = go (eqb c 0x2B || eqb c 0x2D)
+  where
+    go : (t : Bool) → suc (length s) ≤ length (cond t s (c ∷ s)) + 1
+    go true = omega arith
+    go false = omega arith
 
 signed-reads : (s : List ℕ) → isNumber (signedBy sizeOf s) ≡ true → SignedReads s (signedBy sizeOf s)
 unfolding signedBy
-signed-reads [] e = let p = plus-reads [] (sizeOf []) refl e in record { is = p .0; short = omega arith }
-signed-reads (c ∷ s) e = go (eqb c 0x2B) (eqb c 0x2D) refl refl e
-  where
-    go : (p m : Bool) → eqb c 0x2B ≡ p → eqb c 0x2D ≡ m
-        → isNumber (cond p (plus (sizeOf s)) (cond m (minus (sizeOf s)) (plus (sizeOf (c ∷ s))))) ≡ true
-        → SignedReads (c ∷ s) (cond p (plus (sizeOf s)) (cond m (minus (sizeOf s)) (plus (sizeOf (c ∷ s)))))
-    go true m p q e = let r = plus-reads s (sizeOf s) refl e in record { is = rw p (r .0); short = omega (arith, r .1) }
-    go false true p q e = let r = minus-reads s (sizeOf s) refl e in record { is = rw (p, q) (r .0); short = omega (arith, r .1) }
-    go false false p q e = let r = plus-reads (c ∷ s) (sizeOf (c ∷ s)) refl e in
-        record { is = rw (p, q) (r .0); short = omega (arith, r .1) }
+signed-reads s e =
+    let r = sign-reads (isMinus s) (afterSign s) (sizeOf (afterSign s)) refl e in
+    record { is = r .0; short = omega (arith, r .1, after-long s) }
 
 pub numbers : (v : List ℕ) → isNumber (decimalOf v) ≡ true → current.decimalOf v ≡ scaled (decimalOf v)
 unfolding decimalOf current.decimalOf

@@ -3,14 +3,12 @@ use mathlib.Core.Path.{_≡_, refl, ap, _∙_}
 use mathlib.Core.Bool.{Bool, true, _&&_}
 use mathlib.Core.List.{List}
 use mathlib.Core.Option.{Option, none, some}
-use Prim.Native.Nat.{ℕ, zero, suc}
+use Prim.Native.Nat.{ℕ}
 use lib.Dec.{eqb}
 use lib.ListN.{length}
 use lib.IntN.{pos}
 use Rattle.value.specs.declared.Num.{Num}
 use Rattle.value.specs.declared.Num.the-variants.{Is, None}
-use Rattle.value.specs.declared.Signed.{Signed}
-use Rattle.value.specs.declared.Signed.the-variants as signed
 use Rattle.value.specs.declared.Function.{Function}
 use Rattle.value.specs.Text.{valuesOf, valueOf}
 use Rattle.value.specs.Words.{isFunction}
@@ -19,24 +17,26 @@ use Rattle.basics.proofs.Tests.{and-both}
 use Rattle.shift.specs.declared.Moves.{Moves}
 use Rattle.node.specs.Nodes.{Node, inside}
 use Rattle.node.specs.Find.{holds, ifPresent, findVr}
-use Rattle.element.specs.Tags
+use Rattle.basics.specs.Tags
 use Rattle.basics.specs.Vr.{DS}
 use Rattle.element.specs.Elements.{valueAt, theItem, functionIn}
 use Rattle.element.specs.Frames.{groupOf}
 use Rattle.pixel.specs.declared.Geometry.{Geometry}
 use Rattle.pixel.specs.Pixel.{samplesOf, isFrame, sampleAt}
 use Rattle.window.specs.Window.{shaded}
-use Rattle.steps.specs.Given.{check, then, collect}
+use Rattle.steps.specs.Given.{check, then}
 use Rattle.steps.specs.Steps as steps
 use Rattle.steps.specs.Steps.{Picture, Mask, native as noMask, masked as maskOf, geometryOf, pixelsOf, maskFor, inverseOf, groupFor}
-use Rattle.display.proofs.Given.{check-some, need-some, then-some}
-use Rattle.display.proofs.Objects.{had, all-first, at-items, group-is}
-use Rattle.thousandths.specs.Number.{decimalOf, leastWidth, isWidth, allDecimals, allWidths, scaled}
+use Rattle.steps.proofs.Given.{check-some, need-some, then-some, collect-same}
+use Rattle.node.proofs.Tests.{holds-is}
+use Rattle.display.proofs.Objects.{all-first}
+use Rattle.display.proofs.Rules.{at-items, group-is}
+use Rattle.thousandths.specs.Number.{decimalOf, leastWidth, isWidth, allDecimals, allWidths}
 use Rattle.thousandths.specs.Rule30.{isWindow, hasWindow, isVoi, item30, rule30}
 use Rattle.thousandths.specs.Step6.{Window, fullWindow, windowIn, windowOn, windowFor, nativeCell, maskedCell, pictureBy, stepsOf}
 use Rattle.thousandths.proofs.Numbers.{numbers}
 use Rattle.thousandths.proofs.Levels.{scaledWindow, same-level, same-half, same-full}
-use Rattle.thousandths.proofs.Rules.{width-number}
+use Rattle.thousandths.proofs.Rules.{width-number, number-scaled}
 
 -- ---- Steps that go on alike
 
@@ -48,17 +48,7 @@ module _ {A B : Type 0} where
 check-same : {A : Type 0} (t : Bool) (a b : Option A) → a ≡ b → check t a ≡ check t b
 check-same t a b e = ap (check t) e
 
-collect-same : (f g : ℕ → Num) → ((i : ℕ) → f i ≡ g i) → (n : ℕ) → collect f n ≡ collect g n
-unfolding collect
-collect-same f g h zero = refl
-collect-same f g h (suc n) = rw (collect-same f g h n, h n)
-
 -- ---- The window
-
-number-scaled : (s : Signed) → isNumber s ≡ true → isNumber (scaled s) ≡ true
-number-scaled (signed.Plus n) e = refl
-number-scaled (signed.Minus n) e = refl
-number-scaled signed.None e = e
 
 module _ (ns : List Node) where
   -- The window of the centre at c and the width at d, with a function.
@@ -128,8 +118,8 @@ module _ (g : Geometry) (v : List ℕ) (f : ℕ) (w : Window) (inverse : Bool) w
 
   same-picture : (m : Mask) → steps.pictureBy g v f (scaledWindow w) inverse m ≡ pictureBy g v f w inverse m
   unfolding steps.pictureBy pictureBy
-  same-picture noMask = rw (collect-same _ _ same-native (samplesOf g))
-  same-picture (maskOf ks m) = rw (collect-same _ _ (same-masked ks m) (samplesOf g))
+  same-picture noMask = rw (collect-same _ _ (samplesOf g) (λ i h. same-native i))
+  same-picture (maskOf ks m) = rw (collect-same _ _ (samplesOf g) (λ i h. same-masked ks m i))
 
 -- ---- The steps
 
@@ -174,8 +164,8 @@ module _ (ns : List Node) (f : ℕ) where
   has-in : (is : List ℕ) → hasWindow ns is ≡ true → (w : Window) × (windowIn ns is ≡ some w)
   unfolding hasWindow isWindow allDecimals allWidths
   has-in is e =
-      let c = had (findVr ns Tags.WindowCenter DS is) _ e in
-      let d = had (findVr ns Tags.WindowWidth DS is) _ (c .1 .1) in
+      let c = holds-is (findVr ns Tags.WindowCenter DS is) _ e in
+      let d = holds-is (findVr ns Tags.WindowWidth DS is) _ (c .1 .1) in
       let x = valueAt ns (c .0) in
       let y = valueAt ns (d .0) in
       let least = leastWidth (functionIn ns is) in
@@ -196,7 +186,7 @@ module _ (ns : List Node) (f : ℕ) where
   unfolding isVoi
   has-on stored None e = (fullWindow stored, refl)
   has-on stored (Is g) e =
-      let j = had (theItem ns g) (λ i. hasWindow ns (inside ns i)) e in
+      let j = holds-is (theItem ns g) (λ i. hasWindow ns (inside ns i)) e in
       let w = has-in (inside ns (j .0)) (j .1 .1) in
       (w .0, item-window stored g (j .0) (w .0) (j .1 .0) (w .1))
 

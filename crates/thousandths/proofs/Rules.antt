@@ -7,8 +7,7 @@ use native.Mathlib.Omega.{arith}
 use lib.Dec.{eqb}
 use lib.ListN.{length}
 use borrow.Author.Tests.{le-leb, leb-true, eqb-true}
-use Rattle.value.specs.declared.Num.{Num}
-use Rattle.value.specs.declared.Num.the-variants.{Is, None}
+use Rattle.value.specs.declared.Num.the-variants.{None}
 use Rattle.value.specs.declared.Signed.{Signed}
 use Rattle.value.specs.declared.Signed.the-variants as signed
 use Rattle.value.specs.declared.Function.{Function}
@@ -19,8 +18,9 @@ use Rattle.value.specs.Number as current
 use Rattle.value.specs.Number.{isNumber, all}
 use Rattle.basics.proofs.Tests.{false-is-true, and-both}
 use Rattle.node.specs.Nodes.{Node, inside}
-use Rattle.node.specs.Find.{holds, ifPresent, findVr}
-use Rattle.element.specs.Tags
+use Rattle.node.specs.Find.{holds, findVr}
+use Rattle.node.proofs.Tests.{holds-more, present-more}
+use Rattle.basics.specs.Tags
 use Rattle.basics.specs.Vr.{DS}
 use Rattle.element.specs.Elements.{valueAt, theItem, functionIn}
 use Rattle.element.specs.Frames.{sharedItem, frameItem, groupOf}
@@ -29,7 +29,7 @@ use Rattle.rules.specs.All as list
 use Rattle.conformance.specs.declared.Finding.the-variants.{Accepted}
 use Rattle.conformance.specs.Judging.{findingOf}
 use Rattle.conformance.proofs.First.{holds-accepted}
-use Rattle.thousandths.specs.Number.{decimalOf, leastWidth, isWidth, allDecimals, allWidths, scaled}
+use Rattle.thousandths.specs.Number.{decimalOf, leastWidth, isWidth, allDecimals, allWidths, factor, scaled}
 use Rattle.thousandths.specs.Rule30.{isWindow, hasWindow, isVoi, item30, rule30, ruleAt}
 use Rattle.thousandths.specs.Kept.{RulesHeld}
 use Rattle.thousandths.proofs.Numbers.{numbers}
@@ -43,17 +43,9 @@ all-more p q h (v ∷ vs) e =
     let b = and-both (p v) (all p vs) e in
     rw (h v (b .0), all-more p q h vs (b .1))
 
-holds-more : (o : Num) (p q : ℕ → Bool) → ((n : ℕ) → p n ≡ true → q n ≡ true) → holds o p ≡ true → holds o q ≡ true
-holds-more (Is n) p q h e = h n e
-holds-more None p q h e = e
-
-present-more : (o : Num) (p q : ℕ → Bool) → ((n : ℕ) → p n ≡ true → q n ≡ true) → ifPresent o p ≡ true → ifPresent o q ≡ true
-present-more (Is n) p q h e = h n e
-present-more None p q h e = e
-
 -- ---- Numbers and widths
 
-number-scaled : (s : Signed) → isNumber s ≡ true → isNumber (scaled s) ≡ true
+pub number-scaled : (s : Signed) → isNumber s ≡ true → isNumber (scaled s) ≡ true
 number-scaled (signed.Plus n) e = refl
 number-scaled (signed.Minus n) e = refl
 number-scaled signed.None e = e
@@ -63,13 +55,13 @@ width-number least (signed.Plus n) e = refl
 width-number least (signed.Minus n) e = absurd (false-is-true e)
 width-number least signed.None e = absurd (false-is-true e)
 
-least-scaled : (f : Function) → current.leastWidth f ≤ 1000 * leastWidth f
+least-scaled : (f : Function) → current.leastWidth f ≤ factor * leastWidth f
 least-scaled function.Linear = omega arith
 least-scaled function.Exact = omega arith
 least-scaled function.Other = omega arith
 
 width-scaled : (f : Function) (s : Signed) → isWidth (leastWidth f) s ≡ true → current.isWidth (current.leastWidth f) (scaled s) ≡ true
-width-scaled f (signed.Plus n) e = le-leb (current.leastWidth f) (1000 * n) (omega (arith, least-scaled f, leb-true (leastWidth f) n e))
+width-scaled f (signed.Plus n) e = le-leb (current.leastWidth f) (factor * n) (omega (arith, least-scaled f, leb-true (leastWidth f) n e))
 width-scaled f (signed.Minus n) e = e
 width-scaled f signed.None e = e
 

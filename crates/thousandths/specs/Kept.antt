@@ -13,6 +13,7 @@ use mathlib.Core.Bool.{true}
 use mathlib.Core.List.{List}
 use mathlib.Core.Option.{some}
 use Prim.Native.Nat.{ℕ, _+_, _≤_, _<_}
+use Rattle.basics.specs.Bytes.{IsBytes}
 use Rattle.dataset.specs.Reading.{Row, readingOf, read}
 use Rattle.value.specs.Number as current
 use Rattle.value.specs.Number.{isNumber}
@@ -21,7 +22,7 @@ use Rattle.node.specs.Nodes.{Node, nodesOf}
 use Rattle.conformance.specs.Judging.{firstFrame, frameCount}
 use Rattle.steps.specs.Steps as steps
 use Rattle.steps.specs.Steps.{Picture}
-use Rattle.display.specs.Drawing.{Bytes, IsAccepted, IsFrame}
+use Rattle.display.specs.Drawing.{IsAccepted, IsFrame}
 use Rattle.thousandths.specs.Number.{decimalOf, scaled}
 use Rattle.thousandths.specs.Rule30.{ruleAt}
 use Rattle.thousandths.specs.Step6.{stepsOf}
@@ -47,5 +48,5 @@ pub record KeepsPicture (ns : List Node) (f : ℕ) : Type 0 where
 pub record Kept : Type 0 where
   pub numbers : (v : List ℕ) → isNumber (decimalOf v) ≡ true → current.decimalOf v ≡ scaled (decimalOf v)
   pub accepted : (s : List ℕ) → WasAccepted s → IsAccepted s
-  pub pictures : (s : List ℕ) → Bytes s → WasAccepted s → (f : ℕ) → IsFrame s f → KeepsPicture (nodesOf s) f
+  pub pictures : (s : List ℕ) → IsBytes s → WasAccepted s → (f : ℕ) → IsFrame s f → KeepsPicture (nodesOf s) f
   pub drawn : (ns : List Node) (f : ℕ) (p : Picture) → stepsOf ns f ≡ some p → steps.stepsOf ns f ≡ some p

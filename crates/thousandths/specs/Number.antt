@@ -10,6 +10,7 @@ use Rattle.value.specs.declared.Signed.the-variants as signed
 use Rattle.value.specs.declared.Function.{Function}
 use Rattle.value.specs.declared.Function.the-variants as function
 use Rattle.value.specs.Text.{valuesOf, trimmed}
+use Rattle.value.specs.Number as current
 use Rattle.value.specs.Number.{Digits, digitsOf, signedBy, isNumber, all}
 
 -- Read in thousandths, that is with 3 decimals.
@@ -61,8 +62,12 @@ allDecimals v = all (λ d. isNumber (decimalOf d)) (valuesOf v)
 unfoldable pub allWidths : ℕ → List ℕ → Bool
 allWidths least v = all (λ d. isWidth least (decimalOf d)) (valuesOf v)
 
--- A number of thousandths, in millionths.
+-- The units in a thousandth, as DS numbers are read now.
+abbrev pub factor : ℕ
+factor = 10 ^ (current.decimals - decimals)
+
+-- So many thousandths, in those units.
 abbrev pub scaled : Signed → Signed
-scaled (signed.Plus n) = signed.Plus (1000 * n)
-scaled (signed.Minus n) = signed.Minus (1000 * n)
+scaled (signed.Plus n) = signed.Plus (factor * n)
+scaled (signed.Minus n) = signed.Minus (factor * n)
 scaled signed.None = signed.None

@@ -9,7 +9,7 @@ use Rattle.value.specs.Text.{valuesOf}
 use Rattle.value.specs.Words.{isFunction}
 use Rattle.node.specs.Nodes.{Node, inside}
 use Rattle.node.specs.Find.{holds, ifPresent, findVr}
-use Rattle.element.specs.Tags
+use Rattle.basics.specs.Tags
 use Rattle.basics.specs.Vr.{DS}
 use Rattle.element.specs.Elements.{valueAt, theItem, functionIn}
 use Rattle.element.specs.Frames.{groupOf}

@@ -19,7 +19,7 @@ use Rattle.value.specs.Number.{isNumber}
 use Rattle.shift.specs.declared.Moves.{Moves}
 use Rattle.node.specs.Nodes.{Node, inside}
 use Rattle.node.specs.Find.{findVr}
-use Rattle.element.specs.Tags
+use Rattle.basics.specs.Tags
 use Rattle.basics.specs.Vr.{DS}
 use Rattle.element.specs.Elements.{valueAt, theItem, functionIn}
 use Rattle.pixel.specs.declared.Geometry.{Geometry}
@@ -37,8 +37,8 @@ pub record Window : Type 0 where
 
 -- The window of a frame without a VOI group: centre 2^(stored - 1) and width 2^stored.
 unfoldable pub fullWindow : ℕ → Window
-fullWindow
-    stored = record { center = signed.Plus (unit * 2 ^ stored / 2); width = signed.Plus (unit * 2 ^ stored); function = function.Linear }
+fullWindow stored =
+    record { center = signed.Plus (unit * 2 ^ stored / 2); width = signed.Plus (unit * 2 ^ stored); function = function.Linear }
 
 -- What a function takes off, e: LINEAR one, in thousandths, and LINEAR_EXACT nothing.
 abbrev pub takenOff : Function → ℕ

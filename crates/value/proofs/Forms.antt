@@ -1,19 +1,19 @@
 -- What the digits that the code read come to, for each form of a number: a case for each answer of the code.
 use mathlib.Core.Path.{_≡_, refl, _∙_}
-use Prim.Native.Nat.{ℕ, _+_, _-_, _*_, _^_, _≤_}
+use Prim.Native.Nat.{ℕ, suc, _+_, _-_, _*_, _^_, _≤_}
 use native.Mathlib.Nat.{pow-le-pow-right, mul-le-mul-left, le-trans}
 use native.Mathlib.Omega.{arith}
 use mathlib.Core.List.{List, [], _∷_}
-use mathlib.Core.Bool.{true, false}
+use mathlib.Core.Bool.{Bool, true, false, cond, _||_}
 use lib.ListN.{length, getD, drop}
+use lib.Dec.{eqb}
 use borrow.Author.Tests.{eq-eqb, ne-eqb}
-use Rattle.value.specs.declared.Num.{Num}
 use Rattle.value.specs.declared.Num.the-variants as num
 use Rattle.value.specs.declared.Run.{Run}
-use Rattle.value.specs.Number.{digitsOf, plus, minus, signedBy, wholeOf, decimals, runOf, exactOf, scaledBy, isMark, exponentOf}
+use Rattle.value.specs.Number.{digitsOf, afterSign, isMinus, wholeOf, decimals, runOf, exactOf, scaledBy, isMark, exponentOf}
 use Rattle.value.specs.Number.{endOf, pointBy, sizeOf}
 use Rattle.value.specs.Contracts.{DigitsRead}
-use Rattle.value.proofs.Lists.{from-next, from-end}
+use Rattle.basics.proofs.Lists.{from-next, from-end}
 use Rattle.value.proofs.Runs.{digits-size, digits-below}
 
 -- What follows the digits: nothing, or a byte.
@@ -102,27 +102,37 @@ module _ (count m after : ℕ) (s : List ℕ) where
 
 -- ---- A sign in front
 
-module _ (size : List ℕ → Num) where
-  pub sign-empty : (s : List ℕ) → length s ≡ 0 → signedBy size s ≡ plus (size s)
-  unfolding signedBy
-  sign-empty [] e = refl
-  sign-empty (c ∷ s) e = absurd (omega arith)
+pub after-empty : (s : List ℕ) → length s ≡ 0 → afterSign s ≡ []
+after-empty [] e = refl
+after-empty (c ∷ s) e = absurd (omega arith)
 
-  pub sign-plus : (s : List ℕ) → (length s ≡ 0 → ⊥) → getD s 0 0 ≡ 0x2B → signedBy size s ≡ plus (size (drop 1 s))
-  unfolding signedBy
-  sign-plus [] e p = absurd (e refl)
-  sign-plus (c ∷ s) e p = rw (eq-eqb c 0x2B p)
+pub after-plus : (s : List ℕ) → (length s ≡ 0 → ⊥) → getD s 0 0 ≡ 0x2B → afterSign s ≡ drop 1 s
+after-plus [] e p = absurd (e refl)
+after-plus (c ∷ s) e p = rw (eq-eqb c 0x2B p)
 
-  pub sign-minus : (s : List ℕ) → (length s ≡ 0 → ⊥) → (getD s 0 0 ≡ 0x2B → ⊥) → getD s 0 0 ≡ 0x2D
-      → signedBy size s ≡ minus (size (drop 1 s))
-  unfolding signedBy
-  sign-minus [] e p q = absurd (e refl)
-  sign-minus (c ∷ s) e p q = rw (ne-eqb c 0x2B p, eq-eqb c 0x2D q)
+pub after-minus : (s : List ℕ) → (length s ≡ 0 → ⊥) → (getD s 0 0 ≡ 0x2B → ⊥) → getD s 0 0 ≡ 0x2D → afterSign s ≡ drop 1 s
+after-minus [] e p q = absurd (e refl)
+after-minus (c ∷ s) e p q = rw (ne-eqb c 0x2B p, eq-eqb c 0x2D q)
 
-  pub sign-bare : (s : List ℕ) → (length s ≡ 0 → ⊥) → (getD s 0 0 ≡ 0x2B → ⊥) → (getD s 0 0 ≡ 0x2D → ⊥) → signedBy size s ≡ plus (size s)
-  unfolding signedBy
-  sign-bare [] e p q = absurd (e refl)
-  sign-bare (c ∷ s) e p q = rw (ne-eqb c 0x2B p, ne-eqb c 0x2D q)
+pub after-none : (s : List ℕ) → (length s ≡ 0 → ⊥) → (getD s 0 0 ≡ 0x2B → ⊥) → (getD s 0 0 ≡ 0x2D → ⊥) → afterSign s ≡ s
+after-none [] e p q = absurd (e refl)
+after-none (c ∷ s) e p q = rw (ne-eqb c 0x2B p, ne-eqb c 0x2D q)
+
+pub after-short : (s : List ℕ) → length (afterSign s) ≤ length s
+after-short [] = omega arith
+after-short (c ∷ s) = go (eqb c 0x2B || eqb c 0x2D)
+  where
+    go : (t : Bool) → length (cond t s (c ∷ s)) ≤ suc (length s)
+    go true = omega arith
+    go false = omega arith
+
+pub minus-empty : (s : List ℕ) → length s ≡ 0 → isMinus s ≡ false
+minus-empty [] e = refl
+minus-empty (c ∷ s) e = absurd (omega arith)
+
+pub minus-first : (s : List ℕ) → (length s ≡ 0 → ⊥) → isMinus s ≡ eqb (getD s 0 0) 0x2D
+minus-first [] e = absurd (e refl)
+minus-first (c ∷ s) e = refl
 
 -- ---- Sixteen characters make a number of 64 bits
 

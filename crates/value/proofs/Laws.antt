@@ -5,16 +5,18 @@ use native.Mathlib.Omega.{arith}
 use native.Mathlib.Numerals.{add-one}
 use mathlib.Core.List.{List, [], _∷_}
 use mathlib.Core.Bool.{Bool, true, false, cond}
-use lib.ListN.{length, getD}
+use lib.ListN.{length, getD, drop}
 use lib.Dec.{eqb, leb, ltb}
 use borrow.Author.Tests.{ltb-true}
 use Rattle.basics.specs.Bytes.{le16}
+use Rattle.basics.proofs.Lists.{from-next, from-end}
 use Rattle.value.specs.declared.Num.{Num}
 use Rattle.value.specs.declared.Num.the-variants as num
 use Rattle.value.specs.declared.Signed.{Signed}
 use Rattle.value.specs.declared.Signed.the-variants as signed
 use Rattle.value.specs.Text.{isSingle, valueOf, trimmed}
-use Rattle.value.specs.Number.{Digits, usValues, digitsOf, plus, minus, signedBy, wholeOn, wholeOf, isOf, decimals, sizeLimit}
+use Rattle.value.specs.Number.{Digits, usValues, digitsOf, afterSign, isMinus, withSign, signedBy, wholeOn, wholeOf, isOf, decimals}
+use Rattle.value.specs.Number.{sizeLimit}
 use Rattle.value.specs.Number.{characters, runOf, ifSmall, exactOf, scaledBy, isMark, exponentOf, endOf, pointBy, fractionOn, sizeOf}
 use Rattle.value.specs.Number.{decimalOf}
 use Rattle.value.specs.Contracts.{Below, SizeBelow}
@@ -48,6 +50,20 @@ usValues-at (a ∷ b ∷ s) (suc k) h =
     let d : 2 * suc k ≡ suc (suc (2 * k)) = omega arith in
     rw (d, add-one (suc (suc (2 * k))))
     (usValues-at s k (omega arith) ∙ ap (λ (j : ℕ). getD s (2 * k) 0 + 256 * getD s j 0) (add-one (2 * k)))
+
+-- One value on.
+pub value-next : (v : List ℕ) (k : ℕ) → k < length v / 2 → drop k (usValues v) ≡ getD (usValues v) k 0 ∷ drop (k + 1) (usValues v)
+value-next v k h = from-next (usValues v) k (omega (arith, usValues-length v))
+
+pub values-end : (v : List ℕ) (k : ℕ) → k ≡ length v / 2 → drop k (usValues v) ≡ []
+values-end v k e = from-end (usValues v) k (omega (arith, usValues-length v))
+
+-- Two at a time.
+pub pair-at : (v : List ℕ) (k a b : ℕ) → a ≡ getD (usValues v) (2 * k) 0 → b ≡ getD (usValues v) (2 * k + 1) 0 → 2 * k + 1 < length v / 2
+    → drop (2 * k) (usValues v) ≡ a ∷ b ∷ drop (2 * (k + 1)) (usValues v)
+pair-at v k a b ea eb h =
+    let d : 2 * (k + 1) ≡ 2 * k + 1 + 1 = omega arith in
+    rw (value-next v (2 * k) (omega arith), value-next v (2 * k + 1) h, ← ea, ← eb, d)
 
 -- ---- Bounds of the text forms
 
@@ -104,30 +120,27 @@ pub size-below : (s : List ℕ) → Below sizeLimit (sizeOf s)
 unfolding sizeOf
 size-below s = fraction-on (runOf 0 s) (runOf 0 s .rest)
 
-plus-below : (n : ℕ) (r : Num) → Below n r → SizeBelow n (plus r)
-plus-below n (num.Is k) h = h
-plus-below n num.None h = tt
+by-minus : (n k : ℕ) (minus : Bool) → k < n → SizeBelow n (cond minus (signed.Minus k) (signed.Plus k))
+by-minus n k true h = h
+by-minus n k false h = h
 
-minus-below : (n : ℕ) (r : Num) → Below n r → SizeBelow n (minus r)
-minus-below n (num.Is k) h = h
-minus-below n num.None h = tt
-
-by-sign : (n : ℕ) (t : Bool) (a b : Signed) → SizeBelow n a → SizeBelow n b → SizeBelow n (cond t a b)
-by-sign n true a b p q = p
-by-sign n false a b p q = q
+sign-below : (n : ℕ) (minus : Bool) (r : Num) → Below n r → SizeBelow n (withSign minus r)
+sign-below n minus (num.Is k) h = by-minus n k minus h
+sign-below n minus num.None h = tt
 
 signed-below : (n : ℕ) (size : List ℕ → Num) → ((s : List ℕ) → Below n (size s)) → (s : List ℕ) → SizeBelow n (signedBy size s)
 unfolding signedBy
-signed-below n size h [] = plus-below n (size []) (h [])
-signed-below n size h (c ∷ s) =
-    by-sign n (eqb c 0x2B) (plus (size s)) (cond (eqb c 0x2D) (minus (size s)) (plus (size (c ∷ s)))) (plus-below n (size s) (h s))
-    (by-sign n (eqb c 0x2D) (minus (size s)) (plus (size (c ∷ s))) (minus-below n (size s) (h s)) (plus-below n (size (c ∷ s)) (h (c ∷ s))))
+signed-below n size h s = sign-below n (isMinus s) (size (afterSign s)) (h (afterSign s))
+
+if-read : (n : ℕ) (t : Bool) (a : Signed) → SizeBelow n a → SizeBelow n (cond t a signed.None)
+if-read n true a h = h
+if-read n false a h = tt
 
 pub isOf-below : (v : List ℕ) → SizeBelow 100000000000 (isOf v)
 unfolding isOf
 isOf-below v =
-    by-sign 100000000000 (isSingle v) (signedBy (wholeOf 11) (trimmed (valueOf v 0))) signed.None
-    (signed-below 100000000000 (wholeOf 11) (whole-below 11) (trimmed (valueOf v 0))) tt
+    if-read 100000000000 (isSingle v) (signedBy (wholeOf 11) (trimmed (valueOf v 0)))
+    (signed-below 100000000000 (wholeOf 11) (whole-below 11) (trimmed (valueOf v 0)))
 
 pub exponent-below : (s : List ℕ) → SizeBelow 10000000000000000 (exponentOf s)
 unfolding exponentOf
@@ -136,5 +149,5 @@ exponent-below s = signed-below 10000000000000000 (wholeOf characters) (whole-be
 pub decimalOf-below : (v : List ℕ) → SizeBelow sizeLimit (decimalOf v)
 unfolding decimalOf
 decimalOf-below v =
-    by-sign sizeLimit (leb (length (trimmed v)) characters) (signedBy sizeOf (trimmed v)) signed.None
-    (signed-below sizeLimit sizeOf size-below (trimmed v)) tt
+    if-read sizeLimit (leb (length (trimmed v)) characters) (signedBy sizeOf (trimmed v))
+    (signed-below sizeLimit sizeOf size-below (trimmed v))

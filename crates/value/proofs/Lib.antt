@@ -1,5 +1,5 @@
 -- What the proofs of several functions use; `Laws` is for callers of the crate.
-pub mod Lists
+pub mod Trimming
 pub mod Parts
 pub mod Runs
 pub mod Forms

@@ -4,7 +4,7 @@ use Prim.Native.Nat.{ℕ, zero, suc, _+_, _-_, _≤_, _<_}
 use native.Mathlib.Omega.{arith}
 use native.Mathlib.Nat.{eq-or-lt-of-le}
 use mathlib.Core.List.{List, [], _∷_}
-use mathlib.Core.Bool.{Bool, true, false, cond, _&&_}
+use mathlib.Core.Bool.{Bool, true, false, cond, _&&_, and-true}
 use lib.ListN.{length, getD, take, drop, length-drop}
 use lib.Seq.{drop-drop}
 use lib.Dec.{eqb}
@@ -13,7 +13,7 @@ use mathlib.Core.Logic.{_⊎_, inl, inr, ⊎-elim}
 use Rattle.value.specs.Text.{valuesOf, valueOf, onFirst}
 use Rattle.value.specs.Number.{all}
 use Rattle.value.specs.Contracts.{partsAt}
-use Rattle.value.proofs.Lists.{from-next, from-end}
+use Rattle.basics.proofs.Lists.{from-next, from-end}
 
 -- ---- The count
 
@@ -130,10 +130,6 @@ place-stop v i h e = rw (from-next v i h, first-stop (getD v i 0) (drop (i + 1) 
 pub place-end : (v : List ℕ) (i : ℕ) → length v ≤ i → length (valueOf (drop i v) 0) ≡ 0
 unfolding valuesOf
 place-end v i h = rw (from-end v i h)
-
-and-true : (x : Bool) → (x && true) ≡ x
-and-true true = refl
-and-true false = refl
 
 -- The part from a place on, whose end is known.
 module _ (v : List ℕ) (from end : ℕ) (e : end ≡ from + length (valueOf (drop from v) 0)) where

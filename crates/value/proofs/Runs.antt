@@ -4,13 +4,14 @@ use Prim.Native.Nat.{ℕ, zero, suc, _+_, _-_, _*_, _^_, _≤_, _<_}
 use native.Mathlib.Omega.{arith}
 use native.Mathlib.Nat.{mul-assoc, mul-comm, mul-le-mul-right, le-trans, one-le-pow, le-mul-of-pos-right, pow-succ'}
 use mathlib.Core.List.{List, [], _∷_}
-use mathlib.Core.Bool.{Bool, true, false, _&&_}
+use mathlib.Core.Bool.{Bool, true, false}
 use lib.ListN.{length, getD, drop}
 use lib.Dec.{leb}
 use borrow.Author.Tests.{le-leb, lt-leb, leb-true}
 use Rattle.value.specs.Number.{Digits, isDigit, digitsOf}
 use Rattle.value.specs.Contracts.{DigitsRead}
-use Rattle.value.proofs.Lists.{from-next, from-end}
+use Rattle.basics.proofs.Lists.{from-next, from-end}
+use Rattle.basics.proofs.Tests.{and-both}
 
 -- What is read where no digit follows.
 abbrev pub stopped : ℕ → ℕ → List ℕ → Digits
@@ -84,10 +85,6 @@ read-at limit start s left n i e t w f =
 
 -- ---- How large
 
-and-right : (a b : Bool) → (a && b) ≡ true → b ≡ true
-and-right true b e = e
-and-right false b e = absurd (let z : _≡_ {A = ℕ} 0 1 = cc in omega arith)
-
 regroup : (a p : ℕ) → 10 * a * p ≡ a * (10 * p)
 regroup a p = ap (λ (x : ℕ). x * p) (mul-comm 10 a) ∙ mul-assoc a 10 p
 
@@ -116,7 +113,7 @@ Sized limit n k s = (digitsOf limit n k s .number + 1) * 10 ^ (limit + k - digit
 by-digit : (limit n k c : ℕ) (s : List ℕ) (t : Bool) → isDigit c ≡ t → Sized limit (10 * n + (c - 0x30)) (k + 1) s
     → Sized (suc limit) n k (c ∷ s)
 by-digit limit n k c s true e h =
-    let x : c ≤ 0x39 = leb-true c 0x39 (and-right (leb 0x30 c) (leb c 0x39) e) in
+    let x : c ≤ 0x39 = leb-true c 0x39 (and-both (leb 0x30 c) (leb c 0x39) e .1) in
     let d : suc limit + k ≡ limit + (k + 1) = omega arith in
     rw (digits-go limit n k c s e, d) (le-trans h (larger n (c - 0x30) limit (omega arith)))
 by-digit limit n k c s false e h = rw (digits-stop limit n k c s e) (same n k (suc limit))

@@ -9,9 +9,16 @@ use Rattle.value.specs.declared.Num.{Num}
 use Rattle.value.specs.declared.Num.the-variants as num
 use Rattle.value.specs.declared.Signed.{Signed}
 use Rattle.value.specs.declared.Signed.the-variants as signed
+use Rattle.value.specs.declared.Asked.{Asked}
+use Rattle.value.specs.declared.Asked.the-variants as asked
 use Rattle.value.specs.declared.Function.{Function}
 use Rattle.value.specs.declared.Function.the-variants as function
 use Rattle.value.specs.Text.{valuesOf, valueOf, isSingle, trimmed}
+
+-- A number, or 0 where there is none.
+abbrev pub numberOr0 : Num → ℕ
+numberOr0 (num.Is n) = n
+numberOr0 num.None = 0
 
 -- ---- US and SS
 
@@ -52,18 +59,22 @@ digitsOf (suc limit) n k (c ∷ s) =
 
 -- ---- A sign in front
 
-abbrev pub plus : Num → Signed
-plus (num.Is n) = signed.Plus n
-plus num.None = signed.None
+-- What follows the sign, and whether it is a minus.
+abbrev pub afterSign : List ℕ → List ℕ
+afterSign [] = []
+afterSign (c ∷ s) = cond (eqb c 0x2B || eqb c 0x2D) s (c ∷ s)
 
-abbrev pub minus : Num → Signed
-minus (num.Is n) = signed.Minus n
-minus num.None = signed.None
+abbrev pub isMinus : List ℕ → Bool
+isMinus [] = false
+isMinus (c ∷ s) = eqb c 0x2D
+
+abbrev pub withSign : Bool → Num → Signed
+withSign minus (num.Is n) = cond minus (signed.Minus n) (signed.Plus n)
+withSign minus num.None = signed.None
 
 -- An optional sign, then what `size` reads.
 unfoldable pub signedBy : (List ℕ → Num) → List ℕ → Signed
-signedBy size [] = plus (size [])
-signedBy size (c ∷ s) = cond (eqb c 0x2B) (plus (size s)) (cond (eqb c 0x2D) (minus (size s)) (plus (size (c ∷ s))))
+signedBy size s = withSign (isMinus s) (size (afterSign s))
 
 -- ---- IS
 
@@ -175,9 +186,18 @@ unfoldable pub all : (List ℕ → Bool) → List (List ℕ) → Bool
 all p [] = true
 all p (v ∷ vs) = p v && all p vs
 
+-- What is asked of a number: that it is one, or a width.
+abbrev pub isAsked : Asked → Signed → Bool
+isAsked asked.Number n = isNumber n
+isAsked (asked.AtLeast least) n = isWidth least n
+
+-- Every value of a DS is as asked.
+abbrev pub allAsked : Asked → List ℕ → Bool
+allAsked a v = all (λ d. isAsked a (decimalOf d)) (valuesOf v)
+
 -- Every value of a DS has the form; every one is a width.
 unfoldable pub allDecimals : List ℕ → Bool
-allDecimals v = all (λ d. isNumber (decimalOf d)) (valuesOf v)
+allDecimals v = allAsked asked.Number v
 
 unfoldable pub allWidths : ℕ → List ℕ → Bool
-allWidths least v = all (λ d. isWidth least (decimalOf d)) (valuesOf v)
+allWidths least v = allAsked (asked.AtLeast least) v

@@ -2,12 +2,14 @@
 ghost use mathlib.Core.Path.{_≡_};
 ghost use Prim.Native.Nat.{_+_, _-_, _*_, _^_, _≤_, _<_};
 ghost use lib.ListN.{length, drop, getD};
-ghost use Rattle.value.specs.Text.{equal, valuesOf, valueOf, isSingle, trimStart, trimEnd, trimmed};
+ghost use Rattle.value.specs.Text.{valuesOf, valueOf, isSingle, trimStart, trimEnd, trimmed};
 ghost use Rattle.value.specs.Words.{wordAt, isWord, isUid, functionOf, isFunction};
-ghost use Rattle.value.specs.Number.{usOf, usValues, ssOf, plus, minus, signedBy, wholeOf, isOf, sizeLimit, characters, runOf};
+ghost use Rattle.value.specs.Number.{usOf, usValues, ssOf, afterSign, isMinus, withSign, signedBy, wholeOf, isOf, sizeLimit};
+ghost use Rattle.value.specs.Number.{characters, runOf};
 ghost use Rattle.value.specs.Number.{ifSmall, wholly, exactOf, scaledBy, isMark, exponentOf, endOf, pointBy, sizeOf, decimalOf};
-ghost use Rattle.value.specs.Number.{isNumber, leastWidth, isWidth, allDecimals, allWidths};
+ghost use Rattle.value.specs.Number.{isNumber, leastWidth, isWidth, isAsked, allAsked, allDecimals, allWidths};
 ghost use Rattle.value.specs.Contracts.{Below, SizeBelow, DigitsRead, partsAt};
+use basics::same_bytes;
 use basics::u16_at;
 use basics::wide;
 
@@ -29,6 +31,12 @@ pub enum Function {
     Linear,
     Exact,
     Other,
+}
+
+// What is asked of a value of a DS: that it is a number, or one of at least the given number of units.
+enum Asked {
+    Number,
+    AtLeast(usize),
 }
 
 // Digits that were read: their number, and how many there are.
@@ -60,23 +68,6 @@ const SIZE_LIMIT: usize = 1000000 * UNIT;
 const CHARACTERS: usize = 16;
 
 // ---- Text
-
-pub fn equal(a: &[u8], b: &[u8]) -> bool
-    ensures { λ r. ⌜ r ≡ equal (now (a .entry)) (now (b .entry)) ⌝ }
-{
-    let n = a.len();
-    if n != b.len() {
-        return false;
-    }
-    let mut i = 0;
-    while i < n {
-        if a[i] != b[i] {
-            return false;
-        }
-        i += 1;
-    }
-    true
-}
 
 // How many values a byte ends: one if it is a backslash.
 fn parts_at(b: u8) -> usize
@@ -182,7 +173,7 @@ pub fn is_word_at(v: &[u8], k: usize, word: &[u8]) -> bool
 {
     let p = value_of(v, k);
     let t = trimmed(p);
-    equal(t, word)
+    same_bytes(t, word)
 }
 
 // A CS is the word.
@@ -203,7 +194,7 @@ pub fn is_uid(v: &[u8], uid: &[u8]) -> bool
     if is_single(v) {
         let p = value_of(v, 0);
         let t = trim_end(p, 0);
-        equal(t, uid)
+        same_bytes(t, uid)
     } else {
         false
     }
@@ -327,20 +318,38 @@ fn digits(s: &[u8], limit: usize, start: usize) -> Run
     }
 }
 
-fn plus(n: Num) -> Signed
-    ensures { λ r. ⌜ r ≡ plus n ⌝ }
+// What follows a sign in front.
+fn after_sign<'a>(s: &'a [u8]) -> &'a [u8]
+    ensures { λ r. ⌜ now r ≡ afterSign (now (s .entry)) ⌝ }
 {
-    match n {
-        Num::Is(k) => Signed::Plus(k),
-        Num::None => Signed::None,
+    if s.len() == 0 {
+        return &s[..0];
     }
+    if s[0] == PLUS {
+        return &s[1..];
+    }
+    if s[0] == MINUS {
+        return &s[1..];
+    }
+    &s[0..]
 }
 
-fn minus(n: Num) -> Signed
-    ensures { λ r. ⌜ r ≡ minus n ⌝ }
+// Whether the sign in front is a minus.
+fn is_minus(s: &[u8]) -> bool
+    ensures { λ r. ⌜ r ≡ isMinus (now (s .entry)) ⌝ }
+{
+    if s.len() == 0 { false } else { s[0] == MINUS }
+}
+
+fn with_sign(minus: bool, n: Num) -> Signed
+    ensures { λ r. ⌜ r ≡ withSign minus n ⌝ }
 {
     match n {
-        Num::Is(k) => Signed::Minus(k),
+        Num::Is(k) => if minus {
+            Signed::Minus(k)
+        } else {
+            Signed::Plus(k)
+        },
         Num::None => Signed::None,
     }
 }
@@ -366,16 +375,8 @@ fn signed_whole(s: &[u8], limit: usize) -> Signed
     requires { ⌜ limit ≤ characters ⌝ }
     ensures { λ r. ⌜ r ≡ signedBy (wholeOf limit) (now (s .entry)) ⌝ }
 {
-    if s.len() == 0 {
-        return plus(whole_of(s, limit));
-    }
-    if s[0] == PLUS {
-        return plus(whole_of(&s[1..], limit));
-    }
-    if s[0] == MINUS {
-        return minus(whole_of(&s[1..], limit));
-    }
-    plus(whole_of(s, limit))
+    let size = after_sign(s);
+    with_sign(is_minus(s), whole_of(size, limit))
 }
 
 // A single IS.
@@ -529,16 +530,8 @@ fn signed_size(s: &[u8]) -> Signed
     requires { ⌜ length (now s) ≤ characters ⌝ }
     ensures { λ r. ⌜ r ≡ signedBy sizeOf (now (s .entry)) ⌝ }
 {
-    if s.len() == 0 {
-        return plus(size_of(s));
-    }
-    if s[0] == PLUS {
-        return plus(size_of(&s[1..]));
-    }
-    if s[0] == MINUS {
-        return minus(size_of(&s[1..]));
-    }
-    plus(size_of(s))
+    let size = after_sign(s);
+    with_sign(is_minus(s), size_of(size))
 }
 
 // One value of a DS, in units.
@@ -554,10 +547,10 @@ pub fn decimal_of(v: &[u8]) -> Signed
     }
 }
 
-fn is_decimal(v: &[u8]) -> bool
-    ensures { λ r. ⌜ r ≡ isNumber (decimalOf (now (v .entry))) ⌝ }
+fn is_number(n: Signed) -> bool
+    ensures { λ r. ⌜ r ≡ isNumber n ⌝ }
 {
-    match decimal_of(v) {
+    match n {
         Signed::Plus(_) => true,
         Signed::Minus(_) => true,
         Signed::None => false,
@@ -565,13 +558,43 @@ fn is_decimal(v: &[u8]) -> bool
 }
 
 // A width: at least the given number of units.
-fn is_width(v: &[u8], least: usize) -> bool
-    ensures { λ r. ⌜ r ≡ isWidth least (decimalOf (now (v .entry))) ⌝ }
+fn is_width(n: Signed, least: usize) -> bool
+    ensures { λ r. ⌜ r ≡ isWidth least n ⌝ }
 {
-    match decimal_of(v) {
-        Signed::Plus(n) => least <= n,
+    match n {
+        Signed::Plus(k) => least <= k,
         Signed::Minus(_) => false,
         Signed::None => false,
+    }
+}
+
+// A value of a DS is as asked.
+fn is_asked(v: &[u8], asked: Asked) -> bool
+    ensures { λ r. ⌜ r ≡ isAsked asked (decimalOf (now (v .entry))) ⌝ }
+{
+    let n = decimal_of(v);
+    match asked {
+        Asked::Number => is_number(n),
+        Asked::AtLeast(least) => is_width(n, least),
+    }
+}
+
+// Every value of a DS is as asked.
+fn all_asked(v: &[u8], asked: Asked) -> bool
+    ensures { λ r. ⌜ r ≡ allAsked asked (now (v .entry)) ⌝ }
+{
+    let mut from = 0;
+    loop {
+        let end = value_end(v, from);
+        if is_asked(&v[from..end], asked) {
+            if end < v.len() {
+                from = end + 1;
+            } else {
+                return true;
+            }
+        } else {
+            return false;
+        }
     }
 }
 
@@ -579,36 +602,12 @@ fn is_width(v: &[u8], least: usize) -> bool
 pub fn all_decimals(v: &[u8]) -> bool
     ensures { λ r. ⌜ r ≡ allDecimals (now (v .entry)) ⌝ }
 {
-    let mut from = 0;
-    loop {
-        let end = value_end(v, from);
-        if is_decimal(&v[from..end]) {
-            if end < v.len() {
-                from = end + 1;
-            } else {
-                return true;
-            }
-        } else {
-            return false;
-        }
-    }
+    all_asked(v, Asked::Number)
 }
 
 // Every value of a DS is a width.
 pub fn all_widths(v: &[u8], least: usize) -> bool
     ensures { λ r. ⌜ r ≡ allWidths least (now (v .entry)) ⌝ }
 {
-    let mut from = 0;
-    loop {
-        let end = value_end(v, from);
-        if is_width(&v[from..end], least) {
-            if end < v.len() {
-                from = end + 1;
-            } else {
-                return true;
-            }
-        } else {
-            return false;
-        }
-    }
+    all_asked(v, Asked::AtLeast(least))
 }

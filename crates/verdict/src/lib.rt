@@ -7,7 +7,7 @@ ghost use Rattle.verdict.specs.Verdict.{countFits, rowsFit, possible};
 pub const LAST_RULE: usize = 39;
 
 // The largest frame number.
-pub const LAST_FRAME: usize = 65_535;
+const LAST_FRAME: usize = 65_535;
 
 // The largest offset of a refusal: the size limit.
 const LAST_OFFSET: usize = basics::LARGEST;

@@ -6,10 +6,10 @@ use borrow.Author.Tests.{le-leb}
 use Rattle.value.specs.Number.{unit}
 use Rattle.window.specs.declared.Window.{Window}
 use Rattle.window.specs.Window.{levelAt, levelOf, levelHalf}
-use Rattle.window.specs.Bounded.{Within, Bounded}
+use Rattle.window.specs.Bounded.{WithinLevels, Bounded}
 use Rattle.window.proofs.Laws.{over, under, integer-gap, levelled, level-is, level-small}
 
-within : (w : Window) (t : ℤ) → Within (levelAt w t)
+within : (w : Window) (t : ℤ) → WithinLevels (levelAt w t)
 within w t = record {
   y = pos (levelled w (over t) (under t));
   is = level-is w (integer-gap t);

@@ -1,10 +1,10 @@
 -- The levels of a window: which case of step 6 applies, in naturals; no level lacks, and each is at most 255.
 use mathlib.Core.Path.{_≡_, refl, sym, ap, _∙_}
 use mathlib.Core.Option.{Option, some}
-use mathlib.Core.Bool.{Bool, true, false, cond}
+use mathlib.Core.Bool.{Bool, true, false, cond, false≢true}
 use mathlib.Core.List.{List}
 use Prim.Native.Nat.{ℕ, zero, suc, _+_, _*_, _-_, _/_, _^_, _≤_, _<_}
-use native.Mathlib.Nat.{div-lt-iff-lt-mul, pow-le-pow-right}
+use native.Mathlib.Nat.{div-lt-iff-lt-mul, pow-le-pow-right, pow-suc}
 use native.Mathlib.Omega.{arith}
 use lib.Dec.{ltb, leb}
 use lib.IntN.{ℤ, pos, negsuc, _+ℤ_, _-ℤ_, _*ℤ_}
@@ -17,11 +17,11 @@ use Rattle.value.specs.declared.Signed.{Signed}
 use Rattle.value.specs.declared.Signed.the-variants as signed
 use Rattle.value.specs.declared.Function.{Function}
 use Rattle.value.specs.declared.Function.the-variants as function
-use Rattle.value.specs.Number.{unit, sizeLimit, leastWidth, isWidth}
+use Rattle.value.specs.Number.{unit, sizeLimit, leastWidth, isWidth, numberOr0}
 use Rattle.value.specs.Contracts.{SizeBelow}
 use Rattle.window.specs.declared.Window.{Window}
 use Rattle.window.specs.Window.{integer, floor, takenOff, levelBy, levelAt, levelOf, shadeOf, cellOf, shaded}
-use Rattle.window.specs.Contracts.{Ruled, Drawable, Filled, above, below, rampOf, number, shadeAt}
+use Rattle.window.specs.Contracts.{Ruled, Drawable, Filled, above, below, rampOf, shadeAt, shadePlaces}
 use Rattle.window.proofs.Gaps.{Gap, whole, gap, plus, less, times, value, le-yes, le-no, lt-yes, lt-no}
 
 -- ---- A window's sizes
@@ -37,15 +37,10 @@ pub record Sizes (w : Window) : Type 0 where
   pub high : above (w .center) < sizeLimit
   pub low : below (w .center) < sizeLimit
 
-differ : false ≡ true → ⊥
-differ e =
-    let z : _≡_ {A = ℕ} 0 1 = cc in
-    omega arith
-
 is-wide : (least : ℕ) (s : Signed) → isWidth least s ≡ true → least ≤ above s
 is-wide least (signed.Plus n) e = leb-true least n e
-is-wide least (signed.Minus n) e = absurd (differ e)
-is-wide least signed.None e = absurd (differ e)
+is-wide least (signed.Minus n) e = absurd (false≢true e)
+is-wide least signed.None e = absurd (false≢true e)
 
 off-least : (f : Function) → (takenOff f ≤ leastWidth f) × (0 < leastWidth f)
 off-least function.Linear = (omega arith, omega arith)
@@ -277,7 +272,7 @@ leveled window x = record {
 
 -- ---- Tables
 
-pub filled-more : (f : ℕ → ℕ) (n : ℕ) (s : List ℕ) → Filled f n s → n < 131072 → Filled f (n + 1) (set s n (f n))
+pub filled-more : (f : ℕ → ℕ) (n : ℕ) (s : List ℕ) → Filled f n s → n < shadePlaces → Filled f (n + 1) (set s n (f n))
 filled-more f n s t l = record { size = length-set s n (f n) ∙ t .size; value = each }
   where
     inside : n < length s
@@ -299,6 +294,11 @@ filled-more f n s t l = record { size = length-set s n (f n) ∙ t .size; value 
 pub power-small : (n k : ℕ) → n ≤ k → 2 ^ n ≤ 2 ^ k
 power-small n k h = pow-le-pow-right {n = 2} (omega arith) {i = n} {j = k} h
 
+pub power-twice : (n : ℕ) → 2 ^ (n + 1) ≡ 2 ^ n + 2 ^ n
+power-twice n =
+    let e : n + 1 ≡ suc n = omega arith in
+    rw (e, pow-suc 2 n) (omega arith)
+
 -- The shade of a level.
 abbrev pub shadeNumber : Bool → ℕ → ℕ
 shadeNumber inverse y = cond inverse (255 - y) y
@@ -313,4 +313,4 @@ pub shade-is : (window : Window) (stored : ℕ) (inverse : Bool) (i y : ℕ) →
     → levelOf window (pos (i + 2 ^ (stored - 1)) -ℤ pos (2 ^ stored - 1)) ≡ some (pos y)
     → shadeAt window stored inverse i ≡ shadeNumber inverse y
 unfolding shadeAt
-shade-is window stored inverse i y h e = ap (λ (o : Option ℤ). number (shaded inverse o)) e ∙ ap number (shaded-is inverse y h)
+shade-is window stored inverse i y h e = ap (λ (o : Option ℤ). numberOr0 (shaded inverse o)) e ∙ ap numberOr0 (shaded-is inverse y h)

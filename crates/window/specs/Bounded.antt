@@ -11,12 +11,12 @@ use Rattle.window.specs.declared.Window.{Window}
 use Rattle.window.specs.Window.{levelOf, levelHalf}
 
 -- A level, not lacking, from 0 to 255.
-pub record Within (o : Option ℤ) : Type 0 where
+pub record WithinLevels (o : Option ℤ) : Type 0 where
   pub y : ℤ
   pub is : o ≡ some y
   pub low : leZ (pos 0) y ≡ true
   pub high : leZ y (pos 255) ≡ true
 
 pub record Bounded : Type 0 where
-  pub wholes : (w : Window) (x : ℤ) → Within (levelOf w x)
-  pub halves : (w : Window) (x : ℤ) → Within (levelHalf w x)
+  pub wholes : (w : Window) (x : ℤ) → WithinLevels (levelOf w x)
+  pub halves : (w : Window) (x : ℤ) → WithinLevels (levelHalf w x)

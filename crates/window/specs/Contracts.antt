@@ -6,12 +6,11 @@ use mathlib.Core.List.{List}
 use lib.Dec.{ltb}
 use lib.ListN.{length, getD}
 use lib.IntN.{pos, _-ℤ_}
-use Rattle.value.specs.declared.Num.{Num}
-use Rattle.value.specs.declared.Num.the-variants.{Is, None}
+use Rattle.value.specs.declared.Num.the-variants.{None}
 use Rattle.value.specs.declared.Signed.{Signed}
 use Rattle.value.specs.declared.Signed.the-variants as signed
 use Rattle.value.specs.Words.{isFunction}
-use Rattle.value.specs.Number.{sizeLimit, isNumber, leastWidth, isWidth}
+use Rattle.value.specs.Number.{sizeLimit, isNumber, leastWidth, isWidth, numberOr0}
 use Rattle.value.specs.Contracts.{SizeBelow}
 use Rattle.window.specs.declared.Window.{Window}
 use Rattle.window.specs.Window.{levelOf, shaded}
@@ -43,16 +42,15 @@ below signed.None = 0
 unfoldable pub rampOf : ℕ → ℕ → ℕ → ℕ
 rampOf e d w = cond (ltb (2 * w) (d + 2 * e)) 255 ((255 * d + w - e) / (2 * (w - e)))
 
--- The number of a cell that is not lacking.
-abbrev pub number : Num → ℕ
-number (Is n) = n
-number None = 0
-
 -- Place i of a table for a given number of stored bits: the shade of x = i + 2^(stored - 1) - (2^stored - 1).
 unfoldable pub shadeAt : Window → ℕ → Bool → ℕ → ℕ
-shadeAt window stored inverse i = number (shaded inverse (levelOf window (pos (i + 2 ^ (stored - 1)) -ℤ pos (2 ^ stored - 1))))
+shadeAt window stored inverse i = numberOr0 (shaded inverse (levelOf window (pos (i + 2 ^ (stored - 1)) -ℤ pos (2 ^ stored - 1))))
+
+-- How many places a table of levels has: 2^17, more than two samples of 16 bits have differences.
+abbrev pub shadePlaces : ℕ
+shadePlaces = 131072
 
 -- A table whose first n places are those of f.
 pub record Filled (f : ℕ → ℕ) (n : ℕ) (s : List ℕ) : Type 0 where
-  pub size : length s ≡ 131072
+  pub size : length s ≡ shadePlaces
   pub value : (i : ℕ) → i < n → getD s i 0 ≡ f i

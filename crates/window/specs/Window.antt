@@ -22,8 +22,8 @@ integer signed.None = pos 0
 
 -- The window of a frame without a VOI group: centre 2^(stored - 1), which is 1/2 for 0 bits stored, and width 2^stored, in units; LINEAR.
 unfoldable pub fullWindow : ℕ → Window
-fullWindow
-    stored = record { center = signed.Plus (unit * 2 ^ stored / 2); width = signed.Plus (unit * 2 ^ stored); function = function.Linear }
+fullWindow stored =
+    record { center = signed.Plus (unit * 2 ^ stored / 2); width = signed.Plus (unit * 2 ^ stored); function = function.Linear }
 
 -- a / b rounded down, for b above 0.
 abbrev pub floor : ℤ → ℤ → ℤ

@@ -3,9 +3,9 @@ ghost use mathlib.Core.Path.{_≡_};
 ghost use Prim.Native.Nat.{_-_, _*_, _^_, _≤_, _<_};
 ghost use lib.IntN.{pos, _-ℤ_};
 ghost use mathlib.Core.Option.{some};
-ghost use Rattle.value.specs.Number.{unit, sizeLimit};
+ghost use Rattle.value.specs.Number.{unit, sizeLimit, numberOr0};
 ghost use Rattle.window.specs.Window.{fullWindow, takenOff, levelOf, shaded};
-ghost use Rattle.window.specs.Contracts.{Drawable, above, below, rampOf, number};
+ghost use Rattle.window.specs.Contracts.{Drawable, above, below, rampOf};
 use value::Function;
 use value::Signed;
 
@@ -104,7 +104,7 @@ pub fn full_window(stored: usize) -> Window
 // The shade of x = plus - minus: its level, or 255 minus the level.
 pub fn shade(window: Window, plus: usize, minus: usize, inverse: bool) -> u8
     requires { ⌜ Drawable window × ((plus < 200000) × (minus < 200000)) ⌝ }
-    ensures { λ r. ⌜ r ≡ number (shaded inverse (levelOf window (pos plus -ℤ pos minus))) ⌝ }
+    ensures { λ r. ⌜ r ≡ numberOr0 (shaded inverse (levelOf window (pos plus -ℤ pos minus))) ⌝ }
 {
     let y = level(window, plus, minus);
     if inverse { (255 - y) as u8 } else { y as u8 }

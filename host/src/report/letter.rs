@@ -1,12 +1,10 @@
-//! The text for a sender, to be pasted into a letter: each refused run with rule, frame, and what was found.
+//! The text for a sender, to paste into a letter: each refused run with its rule, its frame and what was found.
 
 use super::{by_text, End, Entry, Sender, Sent};
 use crate::codes::{Code, Coded};
-use crate::identity::{INSTITUTION, STATION};
-use crate::names;
-use crate::values::counted;
+use crate::names::{self, tags};
 
-/// What was refused, at which frame and item or byte.
+/// The rule or code, with the frame and its item, or the byte.
 fn place(entry: &Entry) -> String {
     let (Some(judged), Some(by)) = (entry.judged(), entry.by()) else {
         return String::new();
@@ -26,9 +24,12 @@ fn place(entry: &Entry) -> String {
 fn refused(number: usize, entry: &Entry, patient: bool) -> String {
     let mut lines = vec![format!("{number}. File: {}", entry.path)];
     if let Some(judged) = entry.judged() {
-        // The sender stands at the top.
-        let told = judged.identity.told(patient).filter(|(field, _)| !matches!(field.tag, INSTITUTION | STATION));
-        lines.extend(told.map(|(field, text)| format!("{}: {text}", names::name(field.tag))));
+        // The sender is named at the top.
+        let shown = judged
+            .identity
+            .shown(patient)
+            .filter(|(field, _)| !matches!(field.tag, tags::INSTITUTION_NAME | tags::STATION_NAME));
+        lines.extend(shown.map(|(field, text)| format!("{}: {text}", names::name(field.tag))));
         lines.push(format!("{}: {}", place(entry), entry.sentence()));
         if !judged.found.is_empty() {
             lines.push(format!("Found: {}", entry.found()));
@@ -40,26 +41,27 @@ fn refused(number: usize, entry: &Entry, patient: bool) -> String {
     lines.join("\n   ")
 }
 
-/// The whole text; nothing where no run was refused.
+/// The whole text; nothing if no run was refused.
 pub fn text(sent: &Sent, entries: &[Entry], patient: bool) -> Option<String> {
     let all = sent.entries.iter().map(|&place| &entries[place]).filter(|entry| entry.end() == End::Refused);
     let listed: Vec<String> = all.enumerate().map(|(place, entry)| refused(place + 1, entry, patient)).collect();
     if listed.is_empty() {
         return None;
     }
-    let was = if listed.len() == 1 { "was" } else { "were" };
+    let refused = match sent.entries.len() {
+        1 => String::from("the run"),
+        sent => format!("{} of the {sent} runs", listed.len()),
+    };
     let them = if listed.len() == 1 { "it" } else { "them" };
     let Sender { institution, station } = &sent.sender;
-    let to: String = [(INSTITUTION, institution), (STATION, station)]
+    let to: String = [(tags::INSTITUTION_NAME, institution), (tags::STATION_NAME, station)]
         .into_iter()
         .filter(|(_, name)| !name.is_empty())
         .map(|(tag, name)| format!("{}: {name}\n", names::name(tag)))
         .collect();
     let gap = if to.is_empty() { "" } else { "\n" };
     Some(format!(
-        "{to}{gap}Of {} that came from you, {} {was} refused by our import desk. Please correct and send {them} again.\n\n{}\n",
-        counted(sent.entries.len(), "run"),
-        listed.len(),
+        "{to}{gap}Our import desk refused {refused} that you sent. Please correct {them} and send {them} again.\n\n{}\n",
         listed.join("\n\n")
     ))
 }

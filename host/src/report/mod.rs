@@ -1,4 +1,4 @@
-//! `luux report`: what is said of each run, with pictures, on a page and in a table.
+//! `luux report`: verdicts, findings and pictures of runs, on a page and in a table.
 
 mod letter;
 mod page;
@@ -9,21 +9,21 @@ use std::path::{Path, PathBuf};
 use std::sync::atomic::{AtomicUsize, Ordering};
 use std::sync::Mutex;
 use std::thread;
-use std::time::Duration;
 
 use serde::{Deserialize, Serialize};
 
 use crate::buffer::NoRoom;
 use crate::codes::Coded;
 use crate::files;
-use crate::finding::{Choice, Finding, Found};
+use crate::finding::{Found, Inputs};
 use crate::found;
 use crate::head::{Form, Judged};
-use crate::identity::{self, Identity};
+use crate::identity::Identity;
 use crate::judging;
 use crate::library::STACK;
 use crate::looking::{self, What};
-use crate::output::{line, note, note_of, Status};
+use crate::names::tags;
+use crate::output::{line, note, note_of, note_unwritten, Status};
 use crate::picture::{self, Failure, Image, Run};
 use crate::sampling;
 use crate::sentences;
@@ -32,11 +32,7 @@ use crate::values::counted;
 
 /// What `luux report` was asked.
 pub struct Wanted {
-    pub named: Vec<PathBuf>,
-    pub form: Form,
-    pub choice: Choice,
-    pub settle: Option<Duration>,
-    pub timeout: Option<Duration>,
+    pub inputs: Inputs,
     pub output: PathBuf,
     pub csv: bool,
     pub patient: bool,
@@ -58,7 +54,7 @@ struct Picture {
 
 impl Picture {
     fn of(image: &Image<u8>, about: String) -> Result<Picture, Failure> {
-        Ok(Picture { width: image.width(), height: image.height(), png: image.encoded(picture::Form::Png)?, about })
+        Ok(Picture { width: image.width(), height: image.height(), png: image.encoded(picture::Format::Png)?, about })
     }
 }
 
@@ -71,20 +67,20 @@ struct Pictures {
     plot: Option<Picture>,
 }
 
-/// What is said of one file.
+/// What is reported about one file.
 struct Entry {
     path: String,
     looked: Looked,
-    /// Why it was not looked at yet, if it still arrives.
+    /// Why it counts as arriving, if it does.
     arriving: Option<String>,
 }
 
-/// What was seen in a file; said by one process to another too.
+/// What was found in a file; one process may tell it to another.
 #[derive(Serialize, Deserialize)]
 pub struct Looked {
     /// The verdict and the pictures of the run, or why there is no verdict.
     seen: Result<(Judged, Pictures), String>,
-    /// What the file is, where it is certainly no run.
+    /// What the file is, if it is certainly no run.
     other: Option<String>,
 }
 
@@ -135,13 +131,13 @@ impl Entry {
         self.judged().map(|judged| &judged.identity)
     }
 
-    /// What refused it: `rule 26` or `code 1`; nothing where it was not refused.
+    /// The code and the rule that refused it; nothing if it was not refused.
     fn by(&self) -> Option<(u32, u32)> {
         let answer = self.judged()?.answer;
         (self.end() == End::Refused).then_some((answer.number(), answer.rule))
     }
 
-    /// What the rule asks, or the code means; or why there is no verdict.
+    /// What the rule asks or the code means, or why there is no verdict.
     fn sentence(&self) -> &str {
         match (&self.looked.seen, &self.looked.other) {
             _ if self.arriving.is_some() => self.arriving.as_deref().unwrap_or_default(),
@@ -156,10 +152,10 @@ impl Entry {
         judged.map_or_else(String::new, |judged| found::line(&judged.found))
     }
 
-    /// Institution and station; empty where they are not named.
+    /// Institution and station; empty if they are not named.
     fn sender(&self) -> Sender {
         let value = |tag| self.identity().and_then(|identity| identity.value(tag)).unwrap_or_default().to_string();
-        Sender { institution: value(identity::INSTITUTION), station: value(identity::STATION) }
+        Sender { institution: value(tags::INSTITUTION_NAME), station: value(tags::STATION_NAME) }
     }
 }
 
@@ -199,7 +195,7 @@ impl Sent {
     }
 }
 
-/// The senders, those with the most refused runs first. A file that was not read, or is no run, has none.
+/// The senders, those with the most refused runs first. Files that were not read, or are no runs, have none.
 fn senders(entries: &[Entry]) -> Vec<Sent> {
     let mut all = std::collections::BTreeMap::<Sender, Vec<usize>>::new();
     for (place, entry) in
@@ -237,23 +233,23 @@ fn looked(judged: picture::Looked) -> Looked {
     Looked { seen, other }
 }
 
-/// Looks at a file within the memory that its bytes take and so much more; or says how much more it takes.
+/// Looks at a file within the memory for its bytes and `more`; or says how much more it needs.
 pub fn attempt(path: &Path, form: Form, more: u64) -> Result<Looked, NoRoom> {
     Run::attempt(path, form, more).map(looked)
 }
 
 fn entry(wanted: &Wanted, settling: &Settling, place: usize, found: &Found) -> Entry {
-    let path = String::from_utf8_lossy(&files::printed(&found.path)).into_owned();
+    let path = files::printed(&found.path);
     let mut arriving = settling.arriving(place).filter(|_| found.unreadable.is_none());
-    let looked = match (&found.unreadable, wanted.timeout) {
+    let looked = match (&found.unreadable, wanted.inputs.timeout) {
         (Some(trouble), _) => Looked::nothing(trouble.clone()),
         _ if arriving.is_some() => Looked::nothing(String::new()),
         (None, Some(limit)) => {
-            looking::within(limit, What::Entry, &found.path, wanted.form).unwrap_or_else(Looked::nothing)
+            looking::within(limit, What::Entry, &found.path, wanted.inputs.form).unwrap_or_else(Looked::nothing)
         }
-        (None, None) => looked(Run::judged(&found.path, wanted.form)),
+        (None, None) => looked(Run::judged(&found.path, wanted.inputs.form)),
     };
-    // With --settle, one that changed meanwhile is arriving too.
+    // With --settle, a file that changed meanwhile is arriving too.
     if looked.seen.is_err() && found.unreadable.is_none() {
         arriving = arriving.or_else(|| settling.arriving(place));
     }
@@ -264,7 +260,7 @@ fn entry(wanted: &Wanted, settling: &Settling, place: usize, found: &Found) -> E
 fn entries(wanted: &Wanted, found: &[Found]) -> Vec<Entry> {
     let (next, done) = (AtomicUsize::new(0), Mutex::new(Vec::new()));
     let bar = judging::progress(found.len());
-    let settling = Settling::of(found, wanted.settle);
+    let settling = Settling::of(found, wanted.inputs.settle);
     let work = || {
         while let Some((place, one)) =
             Some(next.fetch_add(1, Ordering::Relaxed)).and_then(|place| Some((place, found.get(place)?)))
@@ -276,7 +272,7 @@ fn entries(wanted: &Wanted, found: &[Found]) -> Vec<Entry> {
     };
     thread::scope(|scope| {
         for _ in 1..wanted.jobs.min(found.len()) {
-            // Fewer threads than asked for do the same work.
+            // If a thread cannot be started, the others do its work.
             let _ = thread::Builder::new().stack_size(STACK).spawn_scoped(scope, work);
         }
         work();
@@ -287,36 +283,38 @@ fn entries(wanted: &Wanted, found: &[Found]) -> Vec<Entry> {
     made.into_iter().map(|(_, entry)| entry).collect()
 }
 
-/// The files that were named, but for those that are written.
+/// The files, without those that are written.
 fn find(wanted: &Wanted, written: &[&Path]) -> Vec<Found> {
-    let finding = Finding::of(&wanted.named, None, &wanted.choice);
-    for (path, reason) in &finding.skipped {
-        note_of(path, &format!("skipped: {reason}"));
-    }
-    finding.found.into_iter().filter(|one| !written.iter().any(|path| files::is_same(&one.path, path))).collect()
+    wanted
+        .inputs
+        .find(None)
+        .found
+        .into_iter()
+        .filter(|one| !written.iter().any(|path| files::is_same(&one.path, path)))
+        .collect()
 }
 
 fn write(path: &Path, content: &[u8]) -> bool {
     match files::write_whole(path, content, false) {
         Ok(()) => true,
         Err(error) => {
-            note_of(path, &format!("cannot be written: {}", files::trouble(&error)));
+            note_unwritten(path, &error);
             false
         }
     }
 }
 
-/// Makes the page, and the table where it is wanted.
+/// Writes the page, and the table if it is wanted.
 pub fn run(wanted: &Wanted, out: &mut dyn Write) -> io::Result<Status> {
     let table = wanted.output.with_extension("csv");
     let found = find(wanted, &[&wanted.output, &table]);
     if found.is_empty() {
-        note("nothing is reported on: there is no file in what was named");
+        note("nothing was reported: no files were found");
         return Ok(Status::Failed);
     }
-    // A page is written at the end of a long night; better to know now that it cannot be.
-    if let Some(run) = wanted.named.iter().find(|path| path.is_file() && files::is_same(path, &wanted.output)) {
-        note_of(run, "it is a run itself; name another page");
+    // The page is written at the end, perhaps after hours; it is better to refuse now.
+    if let Some(run) = wanted.inputs.named.iter().find(|path| path.is_file() && files::is_same(path, &wanted.output)) {
+        note_of(run, "cannot be written: it is one of the runs; name another page");
         return Ok(Status::Failed);
     }
     let entries = entries(wanted, &found);

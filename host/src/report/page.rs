@@ -1,5 +1,5 @@
-//! The page. Everything that comes from files or names goes through `text`, so that it is never markup; and the page allows no script and no
-//! style but its own, by their hashes, and nothing from the network.
+//! The page. Everything that comes from files or names goes through `text`, so that it never becomes markup; and the page allows only its own
+//! script and style, by their hashes, and nothing from the network.
 
 use std::collections::BTreeSet;
 use std::time::SystemTime;
@@ -8,19 +8,19 @@ use sha2::{Digest, Sha256};
 
 use super::{by_text, letter, End, Entry, Picture, Pictures, Sender, Sent, Wanted};
 use crate::files;
-use crate::identity::{Identity, ACQUIRED};
-use crate::names;
+use crate::identity::Identity;
+use crate::names::{self, tags};
 use crate::values::counted;
 
 const STYLE: &str = include_str!("page.css");
 const SCRIPT: &str = include_str!("page.js");
 
-/// A text in which nothing is markup, within an element or in the quotes of an attribute.
+/// Text that is no markup, within an element or a quoted attribute.
 fn text(plain: &str) -> String {
     html_escape::encode_safe(plain).into_owned()
 }
 
-/// What came from a file, whose letters may run from right to left.
+/// Text from a file, which may run from right to left.
 fn given(plain: &str) -> String {
     format!("<bdi>{}</bdi>", text(plain))
 }
@@ -40,7 +40,7 @@ fn image(picture: &Picture, class: &str) -> String {
     )
 }
 
-/// A date and time of DICOM as people write them; any other text as it is.
+/// A DICOM date and time in common notation; any other text unchanged.
 fn when(stamp: &str) -> String {
     let digits = stamp.len() >= 14 && stamp.as_bytes()[..14].iter().all(u8::is_ascii_digit);
     match digits {
@@ -82,7 +82,7 @@ fn tiles(entries: &[Entry], senders: &[Sent]) -> String {
         tile("refused", count(End::Refused), "refused"),
         tile("unread", count(End::Unread), "not read"),
         tile("all", count(End::Other), "not ours"),
-        // Files arrive only with --settle.
+        // Only with --settle are files arriving.
         match count(End::Arriving) {
             0 => String::new(),
             number => tile("all", number, "arriving"),
@@ -103,7 +103,7 @@ fn sender_row(number: usize, sent: &Sent, entries: &[Entry]) -> String {
         })
         .collect();
     let refused = sent.count(entries, End::Refused);
-    let link = if refused > 0 { format!("<a href=\"#letter-{number}\">text</a>") } else { String::new() };
+    let link = if refused > 0 { format!("<a href=\"#letter-{number}\">letter</a>") } else { String::new() };
     format!(
         "<tr><td><button type=\"button\" class=\"name\" data-sender=\"{number}\">{}</button></td><td>{}</td><td class=\"number\">{}</td>\
          <td class=\"number\">{}</td><td class=\"number\">{refused}</td><td>{chips}</td><td>{link}</td></tr>\n",
@@ -114,14 +114,14 @@ fn sender_row(number: usize, sent: &Sent, entries: &[Entry]) -> String {
     )
 }
 
-/// What a run is called by.
-fn identity(told: &Identity, patient: bool) -> String {
-    let lines: String = told
-        .told(patient)
+/// What identifies a run.
+fn identity(identity: &Identity, patient: bool) -> String {
+    let lines: String = identity
+        .shown(patient)
         .map(|(field, value)| format!("<dt>{}</dt><dd>{}</dd>", text(names::name(field.tag)), given(value)))
         .collect();
     if lines.is_empty() {
-        return String::from("<p>It does not say what it is called by.</p>");
+        return String::from("<p>Nothing identifies it.</p>");
     }
     format!("<dl>{lines}</dl>")
 }
@@ -153,13 +153,13 @@ fn details(entry: &Entry, patient: bool) -> String {
     format!("<div class=\"inner\"><div class=\"said\">{said}</div><div class=\"shown\">{shown}</div></div>")
 }
 
-/// A run: a line of the table, and its details below it. What it is sorted and filtered by stands in the attributes.
+/// A run: a line of the table, and its details below it. The attributes hold what it is sorted and filtered by.
 fn run(place: usize, entry: &Entry, sender: Option<usize>, patient: bool) -> String {
     let empty = Pictures::default();
     let pictures = entry.looked.seen.as_ref().map_or(&empty, |(_, pictures)| pictures);
     let answer = entry.judged().map(|judged| judged.answer).unwrap_or_default();
     let by = entry.by();
-    let acquired = entry.identity().and_then(|identity| identity.value(ACQUIRED)).unwrap_or_default();
+    let acquired = entry.identity().and_then(|identity| identity.value(tags::ACQUISITION_DATETIME)).unwrap_or_default();
     let from = entry.sender();
     let frame = if answer.frame > 0 { answer.frame.to_string() } else { String::new() };
     let size = match pictures.frames {
@@ -223,7 +223,7 @@ fn letters(entries: &[Entry], senders: &[Sent], patient: bool) -> String {
         if let Some(letter) = letter::text(sent, entries, patient) {
             all.push_str(&format!(
                 "<section id=\"letter-{number}\"><h3>{}</h3><button type=\"button\" class=\"copy\">Copy</button>\
-                 <textarea readonly rows=\"{}\" aria-label=\"text for the sender\">{}</textarea></section>\n",
+                 <textarea readonly rows=\"{}\" aria-label=\"letter to the sender\">{}</textarea></section>\n",
                 both(&sent.sender),
                 letter.lines().count().clamp(4, 24),
                 text(&letter)
@@ -238,8 +238,7 @@ fn letters(entries: &[Entry], senders: &[Sent], patient: bool) -> String {
 
 /// The whole page.
 pub fn made(wanted: &Wanted, entries: &[Entry], senders: &[Sent]) -> String {
-    let folders: Vec<String> =
-        wanted.named.iter().map(|path| text(&String::from_utf8_lossy(&files::printed(path)))).collect();
+    let folders: Vec<String> = wanted.inputs.named.iter().map(|path| text(&files::printed(path))).collect();
     let mut of = vec![None; entries.len()];
     for (number, sent) in senders.iter().enumerate() {
         sent.entries.iter().for_each(|&place| of[place] = Some(number));
@@ -256,12 +255,12 @@ pub fn made(wanted: &Wanted, entries: &[Entry], senders: &[Sent]) -> String {
          <meta http-equiv=\"Content-Security-Policy\" content=\"default-src 'none'; img-src data:; style-src {style_hash}; script-src {script_hash}; \
          base-uri 'none'; form-action 'none'\">\n\
          <meta name=\"viewport\" content=\"width=device-width, initial-scale=1\"><title>luux: {count}</title>\n<style>{STYLE}</style></head>\n<body>\n\
-         <header><h1>Report on {count}</h1><p>{folders} &middot; looked at {now} &middot; luux {version}</p>\
+         <header><h1>Report on {count}</h1><p>{folders} &middot; made {now} &middot; luux {version}</p>\
          <ul class=\"tiles\">{tiles}</ul></header>\n\
          <section id=\"senders\"><h2>Senders</h2><div class=\"wide\"><table><thead><tr><th>Institution</th><th>Station</th><th class=\"number\">Runs</th>\
          <th class=\"number\">Accepted</th><th class=\"number\">Refused</th><th>Refused by</th><th>Letter</th></tr></thead><tbody>\n{lines}</tbody></table></div></section>\n\
          <section id=\"runs\"><h2>Runs</h2>{filters}<div class=\"wide\"><table id=\"table\"><thead><tr>{heads}</tr></thead>\n{rows}</table></div>\
-         <p id=\"none\" hidden>No run is as wanted.</p></section>\n\
+         <p id=\"none\" hidden>No run matches.</p></section>\n\
          <section id=\"letters\"><h2>Letters</h2>{letters}</section>\n<script>{SCRIPT}</script></body></html>\n",
         style_hash = hash(STYLE),
         script_hash = hash(SCRIPT),

@@ -4,7 +4,7 @@ use super::{by_text, Entry};
 use crate::codes::Coded;
 use crate::identity::FIELDS;
 
-/// A cell that a spreadsheet does not take for a formula: one that starts as a formula does gets an apostrophe before it.
+/// A cell that no spreadsheet takes for a formula: text that starts like one gets an apostrophe in front.
 fn cell(text: &str) -> String {
     match text.starts_with(['=', '+', '-', '@', '\t', '\r']) {
         true => format!("'{text}"),
@@ -33,13 +33,13 @@ fn row(entry: &Entry, patient: bool) -> Vec<String> {
     row.push(entry.found());
     row.push(judged.and_then(|judged| judged.hint.clone()).unwrap_or_default());
     for field in FIELDS.iter().filter(|field| patient || !field.patient) {
-        let value = entry.identity().and_then(|identity| identity.told(patient).find(|(one, _)| one.tag == field.tag));
+        let value = entry.identity().and_then(|identity| identity.shown(patient).find(|(one, _)| one.tag == field.tag));
         row.push(value.map_or_else(String::new, |(_, text)| String::from(text)));
     }
     row.iter().map(|text| cell(text)).collect()
 }
 
-/// A row for each file, in their order, below a row of names.
+/// A row for each file, in order, below a row of column names.
 pub fn made(entries: &[Entry], patient: bool) -> Result<Vec<u8>, Box<dyn std::error::Error>> {
     let mut table = csv::Writer::from_writer(Vec::new());
     let names =

@@ -1,7 +1,8 @@
 -- An item has its length alone; a VR has its letters, then 16 bits, or two zero bytes and 32 bits.
 use mathlib.Core.Path.{sym, _∙_}
 use native.Mathlib.Omega.{arith}
-use Rattle.canonical.proofs.Puts.{head-is, head-least, form-long, item-puts, short-puts, long-puts}
+use Rattle.canonical.proofs.Shape.{head-long, head-least}
+use Rattle.canonical.proofs.Puts.{form-long, item-puts, short-puts, long-puts}
 use borrow.Author.Needs.{needs}
 use Rattle.canonical.proofs.put_length.Statement.{statement}
 use Rattle.canonical.proofs.put_length.Tie as tie
@@ -74,7 +75,7 @@ returns-3 c =
     let at-if1 = at-put-letters .before .before in
     let entry = at-if1 .before .before in
     short-puts (entry .args .vr) (entry .args .size) (at-if1 .if1 .left) (at-put-letters .put-letters .ensures)
-    (λ e. at-if2 .if2 .left (entry .pre .0 ∙ head-is (entry .args .vr) e)) (c .before .before .put-u162 .ensures)
+    (λ e. at-if2 .if2 .left (entry .pre .0 ∙ head-long (entry .args .vr) e)) (c .before .before .put-u162 .ensures)
 
 pub put-length-spec : {M : Type 1} → statement M
 put-length-spec = tie.close (tie.spec put-u32-requires put-letters-requires add-put-u16 put-u16-requires add-put-u32 put-u32-requires-2

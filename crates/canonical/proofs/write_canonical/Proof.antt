@@ -4,6 +4,7 @@ use mathlib.Core.Path.{sym, _∙_}
 use native.Mathlib.Omega.{arith}
 use Prim.Native.Nat.{_*_}
 use lib.Seq.{length-take-le}
+use Rattle.dataset.specs.Answer.{width}
 use Rattle.basics.proofs.Promised.{promised}
 use borrow.Author.Needs.{needs}
 use Rattle.canonical.specs.Answer.{canonicalOf, targetOf}
@@ -55,7 +56,7 @@ slice-aggregate-table c =
     let at-read = c .before .before .before .before .before .before in
     let at-byte-bounds = at-read .before .before in
     let entry = at-byte-bounds .before .before .before .before in
-    sym (length-take-le (7 * c .before .before .n .given .0 .0) (at-read .read .last .1 .0) (ready (entry .args .bytes .now)
+    sym (length-take-le (width * c .before .before .n .given .0 .0) (at-read .read .last .1 .0) (ready (entry .args .bytes .now)
     (entry .args .rows .now) (at-read .read .last .1 .0) (c .before .before .n .given .0 .0) (at-byte-bounds .byte-bounds .ensures)
     (sym (c .before .before .n .given .1) ∙ at-read .read .ensures .0 .same) (at-read .read .ensures .1) .room))
 

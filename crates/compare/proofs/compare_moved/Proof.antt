@@ -3,7 +3,7 @@ use Rattle.value.specs.Number.{usValues}
 use Rattle.pixel.specs.Pixel.{samplesOf}
 use Rattle.pixel.proofs.Blend.{offset-shade}
 use Rattle.lines.specs.Contracts.{shadesOf}
-use Rattle.compare.proofs.Places.{met-same}
+use Rattle.differences.proofs.Places.{met-same}
 use mathlib.Core.Path.{_∙_}
 use borrow.Author.Needs.{needs}
 use Rattle.compare.proofs.compare_moved.Statement.{statement}

@@ -11,9 +11,9 @@ use Rattle.display.specs.Contracts.{shadeBy}
 use Rattle.display.specs.Show.{pictureOf}
 use Rattle.display.proofs.Scenes as scenes
 use Rattle.sheet.proofs.Scenes as counted
-use Rattle.compare.specs.Differences.{isOff}
-use Rattle.compare.specs.Contracts.{along, nothing, Against}
-use Rattle.compare.proofs.Places.{met-list}
+use Rattle.differences.specs.Differences.{isOff}
+use Rattle.differences.specs.Contracts.{along, noneOff, Against}
+use Rattle.differences.proofs.Places.{met-list}
 use mathlib.Core.Path.{refl, sym, ap, _∙_, subst}
 use native.Mathlib.Omega.{arith}
 use borrow.Author.Needs.{needs}
@@ -93,7 +93,7 @@ returns c =
     (entry .args .c .g) (valueAt (nodesOf (entry .args .bytes .now)) (entry .args .c .p)) (entry .args .frame)
     (entry .args .own .masking)) (entry .args .cells .now) (pictureOf (nodesOf (entry .args .bytes .now)) (entry .args .frame) .samples)
     (samplesOf (entry .args .c .g)) (d .cells) ∙ ap (λ (k : ℕ). along (isOff (entry .args .tolerance)
-    (pictureOf (nodesOf (entry .args .bytes .now)) (entry .args .frame) .samples) (entry .args .cells .now)) 0 k nothing) (b .size))
+    (pictureOf (nodesOf (entry .args .bytes .now)) (entry .args .frame) .samples) (entry .args .cells .now)) 0 k noneOff) (b .size))
 
 pub compare-planned-spec : {M : Type 1} → statement M
 compare-planned-spec =

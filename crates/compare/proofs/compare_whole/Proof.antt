@@ -7,8 +7,8 @@ use Rattle.pixel.proofs.Laws.{full}
 use Rattle.lines.specs.Contracts.{shadesOf}
 use Rattle.lines.proofs.Lists.{upTo-length}
 use Rattle.sheet.proofs.Runs as runs
-use Rattle.compare.specs.Contracts.{met}
-use Rattle.compare.proofs.Places as places
+use Rattle.differences.specs.Contracts.{met}
+use Rattle.differences.proofs.Places as places
 use mathlib.Core.Path.{_≡_, refl, sym, ap, _∙_}
 use native.Mathlib.Omega.{arith}
 use Rattle.compare.proofs.compare_whole.Statement.{statement}

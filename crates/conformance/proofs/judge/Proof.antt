@@ -1,6 +1,7 @@
 -- Each refusal of reading is handed on; what reads well leaves its rows in the buffer, and the rules are asked of them.
 use mathlib.Core.Path.{sym, _∙_}
 use native.Mathlib.Omega.{arith}
+use Rattle.dataset.specs.Answer.{width}
 use Rattle.node.proofs.After.{after-reading}
 use Prim.Native.Nat.{_*_}
 use lib.Seq.{length-take-le}
@@ -31,7 +32,7 @@ mul-end c =
     let entry = at-read .before .before .before .before in
     let t = after-reading (entry .args .bytes .now) (entry .args .rows .now) (at-read .read .last .1 .0) (c .before .n .given .0 .0)
     (sym (c .before .n .given .1) ∙ at-read .read .ensures .0 .same) (at-read .read .ensures .1) in
-    omega (arith, t .1 .size, t .1 .few, length-take-le (7 * c .before .n .given .0 .0) (at-read .read .last .1 .0) (t .0))
+    omega (arith, t .1 .size, t .1 .few, length-take-le (width * c .before .n .given .0 .0) (at-read .read .last .1 .0) (t .0))
 
 slice-reshare-prefix-first-broken : tie.Need-slice-reshare-prefix-first-broken
 slice-reshare-prefix-first-broken c =

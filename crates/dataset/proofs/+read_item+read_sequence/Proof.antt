@@ -9,7 +9,7 @@ use borrow.Fn.Kinds.{In, Out}
 use borrow.Fn.PlainCycle.{Measures, is, falls, and}
 use Rattle.dataset.specs.declared.Cursor.{Cursor}
 use Rattle.dataset.specs.Header.{moved, elementAt, itemAt}
-use Rattle.dataset.specs.Reading.{elementsAt, itemsAt, valueRun}
+use Rattle.dataset.specs.Reading.{elementsAt, itemsAt, valueRun, depths}
 use Rattle.dataset.proofs.Level as level
 use Rattle.dataset.proofs.Levels.{sequence-level}
 use Rattle.dataset.proofs.read_item.Reads as read-item
@@ -51,7 +51,8 @@ sequence-below t = and 2 read-sequence-kinds.ps (falls 2 read-sequence-kinds.ps 
 
 abbrev item-inv : item-lts.InvT-loop
 item-inv s levels rows₀ first here₀ n₀ least₀ rows here n least =
-    level.Along (λ a l. elementAt s (moved here₀ a) l levels) (valueRun levels s) (8 - levels) (elementsAt levels s first here₀) here₀ first
+    level.Along (λ a l. elementAt s (moved here₀ a) l levels) (valueRun levels s) (depths - levels) (elementsAt levels s first here₀) here₀
+    first
     rows₀ rows here n least
 
 abbrev item-μ : item-lts.MeasureT-loop
@@ -59,7 +60,7 @@ item-μ s levels rows₀ first here₀ n₀ least₀ rows here n least = bytes-l
 
 abbrev sequence-inv : sequence-lts.InvT-loop
 sequence-inv s levels rows₀ first here₀ n₀ rows here n =
-    (least : ℕ) × level.Along (λ a l. itemAt s (moved here₀ a)) (λ n _ v. elementsAt levels s n v) (8 - levels)
+    (least : ℕ) × level.Along (λ a l. itemAt s (moved here₀ a)) (λ n _ v. elementsAt levels s n v) (depths - levels)
     (itemsAt levels s first here₀) here₀ first rows₀ rows here n least
 
 abbrev sequence-μ : sequence-lts.MeasureT-loop

@@ -5,14 +5,15 @@ use borrow.Author.Needs.{needs}
 use mathlib.Core.Path.{refl, ap}
 use Rattle.dataset.specs.declared.Cursor.{Cursor}
 use Rattle.dataset.specs.Header.{moved, elementAt}
-use Rattle.dataset.specs.Reading.{elementsAt, valueRun}
+use Rattle.dataset.specs.Reading.{elementsAt, valueRun, depths}
 use Rattle.dataset.proofs.Level as level
 use Rattle.dataset.proofs.read_leaf.Statement.{statement}
 use Rattle.dataset.proofs.read_leaf.Tie as tie
 
 abbrev Inv-loop : tie.InvT-loop
 Inv-loop s levels rows₀ first here₀ n₀ least₀ rows here n least =
-    level.Along (λ a l. elementAt s (moved here₀ a) l levels) (valueRun levels s) (8 - levels) (elementsAt levels s first here₀) here₀ first
+    level.Along (λ a l. elementAt s (moved here₀ a) l levels) (valueRun levels s) (depths - levels) (elementsAt levels s first here₀) here₀
+    first
     rows₀ rows here n least
 
 abbrev μ-loop : tie.MeasureT-loop

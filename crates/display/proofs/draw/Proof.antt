@@ -9,7 +9,6 @@ use Rattle.element.specs.Elements.{valueAt}
 use Rattle.lines.specs.declared.Shades.{Shades}
 use Rattle.lines.specs.Contracts.{shadesOf}
 use Rattle.lines.proofs.Laws.{ideal-filled}
-use Rattle.display.specs.Contracts.{IsObject}
 use Rattle.display.proofs.Draws.{painted-shows}
 use Rattle.display.proofs.Scenes as scenes
 use borrow.Author.Needs.{needs}
@@ -19,24 +18,14 @@ use Rattle.display.proofs.draw.Tie as tie
 scene-of-requires : tie.Need-scene-of-requires
 scene-of-requires c κs =
     let entry = c .before .before .before in
-    let object : IsObject (entry .args .bytes .now) (entry .args .n) = record {
-      bytes = entry .pre .1 .0;
-      sound = entry .pre .1 .1 .0;
-      frames = entry .pre .1 .1 .1 .0;
-      some-frame = omega (arith, entry .pre .1 .1 .1 .1 .0, entry .pre .1 .1 .1 .1 .1 .0);
-    } in
-    (entry .pre .0, object)
+    let ready = entry .pre in
+    (ready .table, ready .object)
 
 plan-for-requires : tie.Need-plan-for-requires
 plan-for-requires c κs =
     let entry = c .before .before .before .before in
-    let object : IsObject (entry .args .bytes .now) (entry .args .n) = record {
-      bytes = entry .pre .1 .0;
-      sound = entry .pre .1 .1 .0;
-      frames = entry .pre .1 .1 .1 .0;
-      some-frame = omega (arith, entry .pre .1 .1 .1 .1 .0, entry .pre .1 .1 .1 .1 .1 .0);
-    } in
-    (entry .pre .0, (object, (c .scene-of .ensures, (entry .pre .1 .1 .1 .1 .0, entry .pre .1 .1 .1 .1 .1 .0))))
+    let ready = entry .pre in
+    (ready .table, (ready .object, (c .scene-of .ensures, (ready .low, ready .high))))
 
 slice-aggregate-fill : tie.Need-slice-aggregate-fill
 slice-aggregate-fill c =
@@ -47,14 +36,9 @@ fill-requires c κs =
     let at-plan-for = c .before .before .before in
     let at-scene-of = at-plan-for .before in
     let entry = at-scene-of .before .before .before .before in
-    let object : IsObject (entry .args .bytes .now) (entry .args .n) = record {
-      bytes = entry .pre .1 .0;
-      sound = entry .pre .1 .1 .0;
-      frames = entry .pre .1 .1 .1 .0;
-      some-frame = omega (arith, entry .pre .1 .1 .1 .1 .0, entry .pre .1 .1 .1 .1 .1 .0);
-    } in
-    let b = scenes.based (entry .args .bytes .now) (entry .args .n) (entry .args .frame) object (entry .pre .1 .1 .1 .1 .0)
-    (entry .pre .1 .1 .1 .1 .1 .0) (at-scene-of .scene-of .result) (at-scene-of .scene-of .ensures) in
+    let ready = entry .pre in
+    let b = scenes.based (entry .args .bytes .now) (entry .args .n) (entry .args .frame) (ready .object) (ready .low)
+    (ready .high) (at-scene-of .scene-of .result) (at-scene-of .scene-of .ensures) in
     (at-plan-for .plan-for .ensures .drawable, (b .shape .stored-some, (b .shape .stored-most, length-replicate {A = ℕ} 131072 0)))
 
 slice-aggregate-paint : tie.Need-slice-aggregate-paint
@@ -67,22 +51,17 @@ paint-requires c κs =
     let at-plan-for = at-fill .before .before .before .before in
     let at-scene-of = at-plan-for .before in
     let entry = at-scene-of .before .before .before .before in
-    let object : IsObject (entry .args .bytes .now) (entry .args .n) = record {
-      bytes = entry .pre .1 .0;
-      sound = entry .pre .1 .1 .0;
-      frames = entry .pre .1 .1 .1 .0;
-      some-frame = omega (arith, entry .pre .1 .1 .1 .1 .0, entry .pre .1 .1 .1 .1 .1 .0);
-    } in
-    let b = scenes.based (entry .args .bytes .now) (entry .args .n) (entry .args .frame) object (entry .pre .1 .1 .1 .1 .0)
-    (entry .pre .1 .1 .1 .1 .1 .0) (at-scene-of .scene-of .result) (at-scene-of .scene-of .ensures) in (
-      entry .pre .0,
+    let ready = entry .pre in
+    let b = scenes.based (entry .args .bytes .now) (entry .args .n) (entry .args .frame) (ready .object) (ready .low)
+    (ready .high) (at-scene-of .scene-of .result) (at-scene-of .scene-of .ensures) in (
+      ready .table,
       (
         at-scene-of .scene-of .ensures .below,
         (
-          record { shape = b .shape; inside = b .inside; room = omega (arith, b .size, entry .pre .1 .1 .1 .1 .1 .1) },
+          record { shape = b .shape; inside = b .inside; room = omega (arith, b .size, ready .room) },
           (
-            scenes.ready (entry .args .bytes .now) (entry .args .n) (entry .args .frame) object (entry .pre .1 .1 .1 .1 .0)
-                (entry .pre .1 .1 .1 .1 .1 .0) (at-scene-of .scene-of .result) (at-scene-of .scene-of .ensures)
+            scenes.ready (entry .args .bytes .now) (entry .args .n) (entry .args .frame) (ready .object) (ready .low)
+                (ready .high) (at-scene-of .scene-of .result) (at-scene-of .scene-of .ensures)
                 (at-plan-for .plan-for .result)
                 (at-plan-for .plan-for .ensures),
             (record { drawable = at-plan-for .plan-for .ensures .drawable; shades = λ e. at-fill .fill .ensures }, refl),
@@ -100,14 +79,9 @@ returns c =
     let at-plan-for = c .before .before .before .before .before .before .before .before .before .before in
     let at-scene-of = at-plan-for .before in
     let entry = at-scene-of .before .before .before .before in
-    let object : IsObject (entry .args .bytes .now) (entry .args .n) = record {
-      bytes = entry .pre .1 .0;
-      sound = entry .pre .1 .1 .0;
-      frames = entry .pre .1 .1 .1 .0;
-      some-frame = omega (arith, entry .pre .1 .1 .1 .1 .0, entry .pre .1 .1 .1 .1 .1 .0);
-    } in
-    let b = scenes.based (entry .args .bytes .now) (entry .args .n) (entry .args .frame) object (entry .pre .1 .1 .1 .1 .0)
-    (entry .pre .1 .1 .1 .1 .1 .0) (at-scene-of .scene-of .result) (at-scene-of .scene-of .ensures) in
+    let ready = entry .pre in
+    let b = scenes.based (entry .args .bytes .now) (entry .args .n) (entry .args .frame) (ready .object) (ready .low)
+    (ready .high) (at-scene-of .scene-of .result) (at-scene-of .scene-of .ensures) in
     let t : Shades = record {
       window = at-plan-for .plan-for .result .window;
       inverse = at-scene-of .scene-of .result .inverse;
@@ -116,14 +90,14 @@ returns c =
     let s = painted-shows (nodesOf (entry .args .bytes .now)) (entry .args .frame) (entry .args .n) (at-scene-of .scene-of .result .g)
     (valueAt (nodesOf (entry .args .bytes .now)) (at-scene-of .scene-of .result .p)) (at-plan-for .plan-for .result .window)
     (at-scene-of .scene-of .result .inverse) (at-scene-of .scene-of .ensures .geometry) (scenes.pixels-are (entry .args .bytes .now)
-    (entry .args .n) (entry .args .frame) object (entry .pre .1 .1 .1 .1 .0) (entry .pre .1 .1 .1 .1 .1 .0)
+    (entry .args .n) (entry .args .frame) (ready .object) (ready .low) (ready .high)
     (at-scene-of .scene-of .result) (at-scene-of .scene-of .ensures) .is) (b .inside) (at-plan-for .plan-for .ensures .window-is)
     (at-plan-for .plan-for .ensures .drawable) (at-scene-of .scene-of .ensures .inverse-is) (b .each) (b .shape .stored-some)
     (shadesOf t (at-scene-of .scene-of .result .g .stored))
     (ideal-filled t (at-scene-of .scene-of .result .g .stored) (b .shape .stored-most)) (entry .args .image .now)
-    (omega (arith, b .size, entry .pre .1 .1 .1 .1 .1 .1)) (at-plan-for .plan-for .result .masking)
-    (at-plan-for .plan-for .ensures .masking-is) (scenes.all (entry .args .bytes .now) (entry .args .n) (entry .args .frame) object
-    (entry .pre .1 .1 .1 .1 .0) (entry .pre .1 .1 .1 .1 .1 .0) (at-scene-of .scene-of .result)
+    (omega (arith, b .size, ready .room)) (at-plan-for .plan-for .result .masking)
+    (at-plan-for .plan-for .ensures .masking-is) (scenes.all (entry .args .bytes .now) (entry .args .n) (entry .args .frame) (ready .object)
+    (ready .low) (ready .high) (at-scene-of .scene-of .result)
     (at-scene-of .scene-of .ensures) .mask) in
     (c .before .before .paint .ensures .0 ∙ s .masked-is, c .before .before .paint .ensures .1 ∙ s .image-is)
 

@@ -1,7 +1,7 @@
 -- The step has an answer, as is asked, so the last arm is never reached.
 use mathlib.Core.Path.{sym, _∙_}
 use Rattle.steps.proofs.Laws as steps-laws
-use Rattle.display.proofs.Given.{never}
+use Rattle.steps.proofs.Given.{never}
 use Rattle.steps.specs.Contracts.{inverseSaid}
 use borrow.Author.Needs.{needs}
 use Rattle.display.proofs.is_inverse.Statement.{statement}

@@ -1,7 +1,7 @@
 -- A number is handed on with its bound; one that lacks counts as 0.
 use mathlib.Core.Path.{sym, ap}
+use Rattle.value.specs.Number.{numberOr0}
 use Rattle.node.proofs.Laws as node-laws
-use Rattle.conformance.specs.Judging.{numberOf}
 use borrow.Author.Needs.{needs}
 use Rattle.display.proofs.number_of.Statement.{statement}
 use Rattle.display.proofs.number_of.Tie as tie
@@ -15,7 +15,7 @@ enum-told c = search needs
 returns : tie.Need-returns
 returns c =
     let entry = c .before .before .before in
-    (ap numberOf (sym (c .before .n .given .1)), node-laws.within _ (c .before .n .given .1) (entry .pre))
+    (ap numberOr0 (sym (c .before .n .given .1)), node-laws.within _ (c .before .n .given .1) (entry .pre))
 
 returns-2 : tie.Need-returns-2
 returns-2 c = search needs

@@ -2,8 +2,7 @@
 use Rattle.window.specs.Contracts.{Drawable}
 use Rattle.steps.specs.Contracts.{windowedOf}
 use Rattle.steps.proofs.Laws as steps-laws
-use Rattle.display.proofs.Given.{never}
-use Rattle.display.proofs.Whole.{same-some}
+use Rattle.steps.proofs.Given.{never, same-some}
 use Rattle.display.proofs.Scenes as scenes
 use mathlib.Core.Path.{sym, _∙_, subst}
 use borrow.Author.Needs.{needs}

@@ -3,7 +3,7 @@ use Rattle.node.specs.Nodes.{nodesOf}
 use Rattle.node.proofs.Laws as node-laws
 use Rattle.steps.specs.Contracts.{sizedOf}
 use Rattle.steps.proofs.Laws as steps-laws
-use Rattle.display.proofs.Given.{never}
+use Rattle.steps.proofs.Given.{never}
 use Rattle.display.proofs.Scenes as scenes
 use mathlib.Core.Path.{sym, _∙_}
 use native.Mathlib.Omega.{arith}

@@ -1,13 +1,11 @@
 -- Each answer of judging leads to its own; an accepted object leaves its rows in the buffer, and the frame is drawn from them.
-use mathlib.Core.Path.{sym, ap, _∙_}
+use mathlib.Core.Path.{refl, sym, _∙_}
 use native.Mathlib.Omega.{arith}
 use Prim.Native.Nat.{_*_}
 use lib.Seq.{length-take-le}
-use Rattle.node.specs.Nodes.{nodesOf}
+use Rattle.dataset.specs.Answer.{width}
 use Rattle.conformance.specs.declared.JudgeAnswer.the-variants as judged
-use Rattle.display.specs.Show.{pictureOf, imageBy}
 use Rattle.display.proofs.Judged as laws
-use Rattle.basics.proofs.Promised.{promised}
 use borrow.Author.Needs.{needs}
 use Rattle.display.proofs.show.Statement.{statement}
 use Rattle.display.proofs.show.Tie as tie
@@ -37,7 +35,7 @@ mul-end c =
     let t = laws.after-judging (entry .args .bytes .now) (entry .args .rows .now) (at-judge .judge .last .1 .0)
     (c .before .count2 .given .0 .0) (sym (c .before .count2 .given .1) ∙ at-judge .judge .ensures .0 .same)
     (at-judge .judge .ensures .1) .0 in
-    omega (arith, t .1 .size, t .1 .few, length-take-le (7 * c .before .count2 .given .0 .0) (at-judge .judge .last .1 .0) (t .0))
+    omega (arith, t .1 .size, t .1 .few, length-take-le (width * c .before .count2 .given .0 .0) (at-judge .judge .last .1 .0) (t .0))
 
 slice-reshare-prefix-show-table : tie.Need-slice-reshare-prefix-show-table
 slice-reshare-prefix-show-table c =
@@ -71,15 +69,9 @@ same-length c = search needs
 returns : tie.Need-returns
 returns c =
     let at-judge = c .before .before .before .before in
-    let entry = at-judge .before .before .before .before .before in (
-      promised (laws.shown-by (entry .args .bytes .now) (entry .args .frame) (entry .args .rows .now) (entry .args .image .now)
-          judged.TooLarge (sym (c .enum-told .given .1) ∙ at-judge .judge .ensures .0 .same)),
-      (
-        at-judge .judge .ensures .1,
-        laws.image-by (entry .args .bytes .now) (entry .args .frame) (entry .args .rows .now) (entry .args .image .now) judged.TooLarge
-            (sym (c .enum-told .given .1) ∙ at-judge .judge .ensures .0 .same),
-      ),
-    )
+    let entry = at-judge .before .before .before .before .before in
+    laws.show-answers (entry .args .bytes .now) (entry .args .frame) (entry .args .rows .now) (entry .args .image .now)
+    judged.TooLarge refl refl (c .enum-told .given .1) (at-judge .judge .ensures .0 .same) (at-judge .judge .ensures .1)
 
 same-length-2 : tie.Need-same-length-2
 same-length-2 c = search needs
@@ -87,18 +79,10 @@ same-length-2 c = search needs
 returns-2 : tie.Need-returns-2
 returns-2 c =
     let at-judge = c .before .before .before .before .before in
-    let entry = at-judge .before .before .before .before .before in (
-      promised (laws.shown-by (entry .args .bytes .now) (entry .args .frame) (entry .args .rows .now) (entry .args .image .now)
-          (judged.Refused (c .before .code .given .0 .0) (c .before .code .given .0 .1 .0))
-          (sym (c .before .code .given .1) ∙ at-judge .judge .ensures .0 .same)),
-      (
-        at-judge .judge .ensures .1,
-        laws.image-by
-            (entry .args .bytes .now) (entry .args .frame) (entry .args .rows .now) (entry .args .image .now)
-            (judged.Refused (c .before .code .given .0 .0) (c .before .code .given .0 .1 .0))
-            (sym (c .before .code .given .1) ∙ at-judge .judge .ensures .0 .same),
-      ),
-    )
+    let entry = at-judge .before .before .before .before .before in
+    laws.show-answers (entry .args .bytes .now) (entry .args .frame) (entry .args .rows .now) (entry .args .image .now)
+    (judged.Refused (c .before .code .given .0 .0) (c .before .code .given .0 .1 .0)) refl refl
+    (c .before .code .given .1) (at-judge .judge .ensures .0 .same) (at-judge .judge .ensures .1)
 
 same-length-3 : tie.Need-same-length-3
 same-length-3 c = search needs
@@ -106,15 +90,9 @@ same-length-3 c = search needs
 returns-3 : tie.Need-returns-3
 returns-3 c =
     let at-judge = c .before .before .before .before in
-    let entry = at-judge .before .before .before .before .before in (
-      promised (laws.shown-by (entry .args .bytes .now) (entry .args .frame) (entry .args .rows .now) (entry .args .image .now)
-          judged.NoRoom (sym (c .enum-told2 .given .1) ∙ at-judge .judge .ensures .0 .same)),
-      (
-        at-judge .judge .ensures .1,
-        laws.image-by (entry .args .bytes .now) (entry .args .frame) (entry .args .rows .now) (entry .args .image .now) judged.NoRoom
-            (sym (c .enum-told2 .given .1) ∙ at-judge .judge .ensures .0 .same),
-      ),
-    )
+    let entry = at-judge .before .before .before .before .before in
+    laws.show-answers (entry .args .bytes .now) (entry .args .frame) (entry .args .rows .now) (entry .args .image .now)
+    judged.NoRoom refl refl (c .enum-told2 .given .1) (at-judge .judge .ensures .0 .same) (at-judge .judge .ensures .1)
 
 same-length-4 : tie.Need-same-length-4
 same-length-4 c = search needs
@@ -122,17 +100,10 @@ same-length-4 c = search needs
 returns-4 : tie.Need-returns-4
 returns-4 c =
     let at-judge = c .before .before .before .before .before in
-    let entry = at-judge .before .before .before .before .before in (
-      promised (laws.shown-by (entry .args .bytes .now) (entry .args .frame) (entry .args .rows .now) (entry .args .image .now)
-          (judged.Broken (c .before .count .given .0 .0) (c .before .count .given .0 .1 .0) (c .before .count .given .0 .1 .1 .0))
-          (sym (c .before .count .given .1) ∙ at-judge .judge .ensures .0 .same)),
-      (
-        at-judge .judge .ensures .1,
-        laws.image-by (entry .args .bytes .now) (entry .args .frame) (entry .args .rows .now) (entry .args .image .now)
-            (judged.Broken (c .before .count .given .0 .0) (c .before .count .given .0 .1 .0) (c .before .count .given .0 .1 .1 .0))
-            (sym (c .before .count .given .1) ∙ at-judge .judge .ensures .0 .same),
-      ),
-    )
+    let entry = at-judge .before .before .before .before .before in
+    laws.show-answers (entry .args .bytes .now) (entry .args .frame) (entry .args .rows .now) (entry .args .image .now)
+    (judged.Broken (c .before .count .given .0 .0) (c .before .count .given .0 .1 .0) (c .before .count .given .0 .1 .1 .0)) refl refl
+    (c .before .count .given .1) (at-judge .judge .ensures .0 .same) (at-judge .judge .ensures .1)
 
 same-length-5 : tie.Need-same-length-5
 same-length-5 c = search needs
@@ -142,21 +113,13 @@ same-length-6 c = search needs
 
 returns-5 : tie.Need-returns-5
 returns-5 c =
-    let at-count2 = c .before .before .before .before .before .before in
+    let at-table = c .before .before in
+    let at-count2 = at-table .before .before .before .before in
     let at-judge = at-count2 .before .before .before .before in
     let entry = at-judge .before .before .before .before .before in
-    let e = sym (at-count2 .count2 .given .1) ∙ at-judge .judge .ensures .0 .same in (
-      promised (c .before .before .show-table .ensures .0 ∙ laws.shown-by (entry .args .bytes .now) (entry .args .frame)
-          (entry .args .rows .now) (entry .args .image .now) (judged.Accepted (at-count2 .count2 .given .0 .0)) e),
-      (
-        at-judge .judge .ensures .1,
-        c .before .before .show-table .ensures .1
-            ∙ (ap (imageBy (pictureOf (nodesOf (entry .args .bytes .now)) (entry .args .frame)) (entry .args .image .now))
-            (c .before .before .show-table .ensures .0)
-            ∙ laws.image-by (entry .args .bytes .now) (entry .args .frame) (entry .args .rows .now)
-            (entry .args .image .now) (judged.Accepted (at-count2 .count2 .given .0 .0)) e),
-      ),
-    )
+    laws.show-answers (entry .args .bytes .now) (entry .args .frame) (entry .args .rows .now) (entry .args .image .now)
+    (judged.Accepted (at-count2 .count2 .given .0 .0)) (at-table .show-table .ensures .0) (at-table .show-table .ensures .1)
+    (at-count2 .count2 .given .1) (at-judge .judge .ensures .0 .same) (at-judge .judge .ensures .1)
 
 pub show-spec : {M : Type 1} → statement M
 show-spec =

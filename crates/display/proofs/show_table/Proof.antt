@@ -65,22 +65,19 @@ draw-requires c κs =
     let at-if1 = at-if2 .before in
     let at-n = at-if1 .before .before in
     let at-frame-count = at-n .before .before in
-    let entry = at-frame-count .before .before .before .before in (
-      entry .pre .0,
-      (
-        entry .pre .1 .0,
-        (
-          entry .pre .1 .1,
-          (
-            node-laws.had (at-n .n .given .1) (at-frame-count .frame-count .ensures .0),
-            (
-              omega (arith, at-if1 .if1 .left),
-              (omega (arith, at-if2 .if2 .left), omega (arith, c .before .if3 .left, c .before .before .image-size .ensures)),
-            ),
-          ),
-        ),
-      ),
-    )
+    let entry = at-frame-count .before .before .before .before in
+    record {
+      table = entry .pre .0;
+      object = record {
+        bytes = entry .pre .1 .0;
+        sound = entry .pre .1 .1;
+        frames = node-laws.had (at-n .n .given .1) (at-frame-count .frame-count .ensures .0);
+        some-frame = omega (arith, at-if1 .if1 .left, at-if2 .if2 .left);
+      };
+      low = omega (arith, at-if1 .if1 .left);
+      high = omega (arith, at-if2 .if2 .left);
+      room = omega (arith, c .before .if3 .left, c .before .before .image-size .ensures);
+    }
 
 same-length : tie.Need-same-length
 same-length c = search needs

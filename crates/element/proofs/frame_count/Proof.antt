@@ -23,8 +23,8 @@ value-requires c κs =
 is-of-requires : tie.Need-is-of-requires
 is-of-requires c κs = search needs
 
-counted-requires : tie.Need-counted-requires
-counted-requires c κs =
+as-count-requires : tie.Need-as-count-requires
+as-count-requires c κs =
     c .is-of .ensures .1
 
 returns : tie.Need-returns
@@ -41,8 +41,8 @@ returns-2 c =
         node-laws.had (at-i .i .given .1) (at-find-vr-root .find-vr-root .ensures .0),
         ← c .before .before .value .ensures,
         ← c .before .is-of .ensures .0,
-      ) (c .counted .ensures .0),
-      c .counted .ensures .1,
+      ) (c .as-count .ensures .0),
+      c .as-count .ensures .1,
     )
 
 pub frame-count-spec : {M : Type 1} → statement M
@@ -54,6 +54,6 @@ frame-count-spec =
     enum-known-i
     value-requires
     is-of-requires
-    counted-requires
+    as-count-requires
     returns
     returns-2)

@@ -2,6 +2,7 @@
 use mathlib.Core.Path.{ap, _∙_}
 use mathlib.Core.List.{List}
 use Prim.Native.Nat.{ℕ}
+use Rattle.basics.specs.Tags
 use Rattle.node.specs.Nodes.{nodesOf, root}
 use Rattle.element.specs.Elements.{uiIs}
 use Rattle.file.specs.File.{sameClass}
@@ -24,7 +25,7 @@ returns c =
     let at-has-root = c .before .before .before in
     let entry = at-has-root .before .before .before .before in
     rw (← at-has-root .has-root .ensures, c .before .before .if1 .taken) (c .is-ui-root .ensures ∙ ap
-    (λ (x : List ℕ). uiIs (nodesOf (entry .args .bytes .now)) 0x0008_0016 x (root (nodesOf (entry .args .bytes .now))))
+    (λ (x : List ℕ). uiIs (nodesOf (entry .args .bytes .now)) Tags.SOPClassUID x (root (nodesOf (entry .args .bytes .now))))
     (c .before .trim-end .ensures))
 
 returns-2 : tie.Need-returns-2

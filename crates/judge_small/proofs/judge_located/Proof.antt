@@ -4,6 +4,7 @@ use mathlib.Core.Path.{sym, _∙_}
 use Prim.Native.Nat.{_*_}
 use native.Mathlib.Omega.{arith}
 use lib.Seq.{length-take-le}
+use Rattle.dataset.specs.Answer.{width}
 use Rattle.node.specs.Nodes.{nodesOf}
 use Rattle.judge_small.proofs.Places as laws
 use borrow.Author.Needs.{needs}
@@ -34,7 +35,7 @@ mul-end c =
     let at-judge = c .before .before .before .before in
     let t = laws.after-broken _ _ _ _ _ _ (sym (c .before .answer .given .1) ∙ at-judge .judge .ensures .0 .same)
     (at-judge .judge .ensures .1) in
-    omega (arith, t .1 .size, t .1 .few, length-take-le (7 * c .before .answer .given .0 .0) (at-judge .judge .last .1 .0) (t .0))
+    omega (arith, t .1 .size, t .1 .few, length-take-le (width * c .before .answer .given .0 .0) (at-judge .judge .last .1 .0) (t .0))
 
 array-share-prefix-rows : tie.Need-array-share-prefix-rows
 array-share-prefix-rows c =

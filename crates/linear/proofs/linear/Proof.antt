@@ -1,14 +1,12 @@
 -- Each answer of judging leads to its own; an accepted object leaves its rows in the buffer, and the frame is mapped from them.
-use mathlib.Core.Path.{sym, ap, _∙_}
+use mathlib.Core.Path.{refl, sym, _∙_}
 use native.Mathlib.Omega.{arith}
 use Prim.Native.Nat.{_*_}
 use lib.Seq.{length-take-le}
-use Rattle.node.specs.Nodes.{nodesOf}
+use Rattle.dataset.specs.Answer.{width}
 use Rattle.conformance.specs.declared.JudgeAnswer.the-variants as judged
-use Rattle.linear.specs.Answer.{entriesOf, valuesBy}
 use Rattle.display.proofs.Judged as laws
 use Rattle.linear.proofs.Answers as answers
-use Rattle.basics.proofs.Promised.{promised}
 use borrow.Author.Needs.{needs}
 use Rattle.linear.proofs.linear.Statement.{statement}
 use Rattle.linear.proofs.linear.Tie as tie
@@ -38,7 +36,7 @@ mul-end c =
     let t = laws.after-judging (entry .args .bytes .now) (entry .args .rows .now) (at-judge .judge .last .1 .0)
     (c .before .count2 .given .0 .0) (sym (c .before .count2 .given .1) ∙ at-judge .judge .ensures .0 .same)
     (at-judge .judge .ensures .1) .0 in
-    omega (arith, t .1 .size, t .1 .few, length-take-le (7 * c .before .count2 .given .0 .0) (at-judge .judge .last .1 .0) (t .0))
+    omega (arith, t .1 .size, t .1 .few, length-take-le (width * c .before .count2 .given .0 .0) (at-judge .judge .last .1 .0) (t .0))
 
 slice-reshare-prefix-linear-table : tie.Need-slice-reshare-prefix-linear-table
 slice-reshare-prefix-linear-table c =
@@ -72,15 +70,9 @@ same-length c = search needs
 returns : tie.Need-returns
 returns c =
     let at-judge = c .before .before .before .before in
-    let entry = at-judge .before .before .before .before .before in (
-      promised (answers.linear-by (entry .args .bytes .now) (entry .args .frame) (entry .args .rows .now) (entry .args .values .now)
-          judged.TooLarge (sym (c .enum-told .given .1) ∙ at-judge .judge .ensures .0 .same)),
-      (
-        at-judge .judge .ensures .1,
-        answers.values-by (entry .args .bytes .now) (entry .args .frame) (entry .args .rows .now) (entry .args .values .now) judged.TooLarge
-            (sym (c .enum-told .given .1) ∙ at-judge .judge .ensures .0 .same),
-      ),
-    )
+    let entry = at-judge .before .before .before .before .before in
+    answers.linear-answers (entry .args .bytes .now) (entry .args .frame) (entry .args .rows .now) (entry .args .values .now)
+    judged.TooLarge refl refl (c .enum-told .given .1) (at-judge .judge .ensures .0 .same) (at-judge .judge .ensures .1)
 
 same-length-2 : tie.Need-same-length-2
 same-length-2 c = search needs
@@ -88,18 +80,10 @@ same-length-2 c = search needs
 returns-2 : tie.Need-returns-2
 returns-2 c =
     let at-judge = c .before .before .before .before .before in
-    let entry = at-judge .before .before .before .before .before in (
-      promised (answers.linear-by (entry .args .bytes .now) (entry .args .frame) (entry .args .rows .now) (entry .args .values .now)
-          (judged.Refused (c .before .code .given .0 .0) (c .before .code .given .0 .1 .0))
-          (sym (c .before .code .given .1) ∙ at-judge .judge .ensures .0 .same)),
-      (
-        at-judge .judge .ensures .1,
-        answers.values-by
-            (entry .args .bytes .now) (entry .args .frame) (entry .args .rows .now) (entry .args .values .now)
-            (judged.Refused (c .before .code .given .0 .0) (c .before .code .given .0 .1 .0))
-            (sym (c .before .code .given .1) ∙ at-judge .judge .ensures .0 .same),
-      ),
-    )
+    let entry = at-judge .before .before .before .before .before in
+    answers.linear-answers (entry .args .bytes .now) (entry .args .frame) (entry .args .rows .now) (entry .args .values .now)
+    (judged.Refused (c .before .code .given .0 .0) (c .before .code .given .0 .1 .0)) refl refl
+    (c .before .code .given .1) (at-judge .judge .ensures .0 .same) (at-judge .judge .ensures .1)
 
 same-length-3 : tie.Need-same-length-3
 same-length-3 c = search needs
@@ -107,15 +91,9 @@ same-length-3 c = search needs
 returns-3 : tie.Need-returns-3
 returns-3 c =
     let at-judge = c .before .before .before .before in
-    let entry = at-judge .before .before .before .before .before in (
-      promised (answers.linear-by (entry .args .bytes .now) (entry .args .frame) (entry .args .rows .now) (entry .args .values .now)
-          judged.NoRoom (sym (c .enum-told2 .given .1) ∙ at-judge .judge .ensures .0 .same)),
-      (
-        at-judge .judge .ensures .1,
-        answers.values-by (entry .args .bytes .now) (entry .args .frame) (entry .args .rows .now) (entry .args .values .now) judged.NoRoom
-            (sym (c .enum-told2 .given .1) ∙ at-judge .judge .ensures .0 .same),
-      ),
-    )
+    let entry = at-judge .before .before .before .before .before in
+    answers.linear-answers (entry .args .bytes .now) (entry .args .frame) (entry .args .rows .now) (entry .args .values .now)
+    judged.NoRoom refl refl (c .enum-told2 .given .1) (at-judge .judge .ensures .0 .same) (at-judge .judge .ensures .1)
 
 same-length-4 : tie.Need-same-length-4
 same-length-4 c = search needs
@@ -123,17 +101,10 @@ same-length-4 c = search needs
 returns-4 : tie.Need-returns-4
 returns-4 c =
     let at-judge = c .before .before .before .before .before in
-    let entry = at-judge .before .before .before .before .before in (
-      promised (answers.linear-by (entry .args .bytes .now) (entry .args .frame) (entry .args .rows .now) (entry .args .values .now)
-          (judged.Broken (c .before .count .given .0 .0) (c .before .count .given .0 .1 .0) (c .before .count .given .0 .1 .1 .0))
-          (sym (c .before .count .given .1) ∙ at-judge .judge .ensures .0 .same)),
-      (
-        at-judge .judge .ensures .1,
-        answers.values-by (entry .args .bytes .now) (entry .args .frame) (entry .args .rows .now) (entry .args .values .now)
-            (judged.Broken (c .before .count .given .0 .0) (c .before .count .given .0 .1 .0) (c .before .count .given .0 .1 .1 .0))
-            (sym (c .before .count .given .1) ∙ at-judge .judge .ensures .0 .same),
-      ),
-    )
+    let entry = at-judge .before .before .before .before .before in
+    answers.linear-answers (entry .args .bytes .now) (entry .args .frame) (entry .args .rows .now) (entry .args .values .now)
+    (judged.Broken (c .before .count .given .0 .0) (c .before .count .given .0 .1 .0) (c .before .count .given .0 .1 .1 .0)) refl refl
+    (c .before .count .given .1) (at-judge .judge .ensures .0 .same) (at-judge .judge .ensures .1)
 
 same-length-5 : tie.Need-same-length-5
 same-length-5 c = search needs
@@ -143,20 +114,13 @@ same-length-6 c = search needs
 
 returns-5 : tie.Need-returns-5
 returns-5 c =
-    let at-count2 = c .before .before .before .before .before .before in
+    let at-table = c .before .before in
+    let at-count2 = at-table .before .before .before .before in
     let at-judge = at-count2 .before .before .before .before in
     let entry = at-judge .before .before .before .before .before in
-    let e = sym (at-count2 .count2 .given .1) ∙ at-judge .judge .ensures .0 .same in (
-      promised (c .before .before .linear-table .ensures .0 ∙ answers.linear-by (entry .args .bytes .now) (entry .args .frame)
-          (entry .args .rows .now) (entry .args .values .now) (judged.Accepted (at-count2 .count2 .given .0 .0)) e),
-      (
-        at-judge .judge .ensures .1,
-        c .before .before .linear-table .ensures .1
-            ∙ (ap (valuesBy (entriesOf (nodesOf (entry .args .bytes .now)) (entry .args .frame)) (entry .args .values .now))
-            (c .before .before .linear-table .ensures .0) ∙ answers.values-by (entry .args .bytes .now) (entry .args .frame)
-            (entry .args .rows .now) (entry .args .values .now) (judged.Accepted (at-count2 .count2 .given .0 .0)) e),
-      ),
-    )
+    answers.linear-answers (entry .args .bytes .now) (entry .args .frame) (entry .args .rows .now) (entry .args .values .now)
+    (judged.Accepted (at-count2 .count2 .given .0 .0)) (at-table .linear-table .ensures .0) (at-table .linear-table .ensures .1)
+    (at-count2 .count2 .given .1) (at-judge .judge .ensures .0 .same) (at-judge .judge .ensures .1)
 
 pub linear-spec : {M : Type 1} → statement M
 linear-spec =

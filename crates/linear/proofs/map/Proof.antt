@@ -2,7 +2,7 @@
 use mathlib.Core.Path.{refl, _∙_}
 use Rattle.node.specs.Nodes.{nodesOf}
 use Rattle.node.proofs.Laws as node-laws
-use Rattle.steps.specs.Contracts.{sizedOf, valueIn}
+use Rattle.steps.specs.Contracts.{sizedOf, valueFound}
 use Rattle.steps.proofs.Laws as steps-laws
 use Rattle.linear.proofs.Maps as maps
 use borrow.Author.Needs.{needs}
@@ -36,7 +36,7 @@ enum-told-2 c = search needs
 returns-2 : tie.Need-returns-2
 returns-2 c =
     let entry = c .before .before .before .before .before .before .before .before .before .before in
-    absurd (maps.no-pixels _ _ _ _ (entry .pre .1 .1) (steps-laws.said (valueIn (nodesOf (entry .args .bytes .now)))
+    absurd (maps.no-pixels _ _ _ _ (entry .pre .1 .1) (steps-laws.said (valueFound (nodesOf (entry .args .bytes .now)))
     (c .enum-told2 .given .1) (c .before .before .pixel-element .ensures .0)))
 
 find-vr-item-requires : tie.Need-find-vr-item-requires
@@ -106,7 +106,7 @@ map-cells-requires c κs =
     let entry = at-geometry-of .before .before .before .before in
     rw (at-value .value .ensures, c .before .before .value2 .ensures, c .before .value3 .ensures) (maps.ready _ _ _ _ (entry .pre .1 .1) _ _
     _ _ (steps-laws.said sizedOf (at-g .g .given .1) (at-geometry-of .geometry-of .ensures .0))
-    (steps-laws.said (valueIn (nodesOf (entry .args .bytes .now))) (at-p .p .given .1) (at-pixel-element .pixel-element .ensures .0))
+    (steps-laws.said (valueFound (nodesOf (entry .args .bytes .now))) (at-p .p .given .1) (at-pixel-element .pixel-element .ensures .0))
     (node-laws.had (at-d .d .given .1) (at-find-vr-item .find-vr-item .ensures .0))
     (node-laws.had (at-t .t .given .1) (at-find-vr-item2 .find-vr-item2 .ensures .0)) (entry .args .values .now) refl)
 
@@ -130,7 +130,7 @@ returns-5 c =
     c .before .before .map-cells .ensures ∙ rw (at-value .value .ensures, at-value2 .value2 .ensures, at-value3 .value3 .ensures)
     (maps.leaves _ _ _ _ (entry .pre .1 .1) _ _ _ _
     (steps-laws.said sizedOf (at-g .g .given .1) (at-geometry-of .geometry-of .ensures .0))
-    (steps-laws.said (valueIn (nodesOf (entry .args .bytes .now))) (at-p .p .given .1) (at-pixel-element .pixel-element .ensures .0))
+    (steps-laws.said (valueFound (nodesOf (entry .args .bytes .now))) (at-p .p .given .1) (at-pixel-element .pixel-element .ensures .0))
     (node-laws.had (at-d .d .given .1) (at-find-vr-item .find-vr-item .ensures .0))
     (node-laws.had (at-t .t .given .1) (at-find-vr-item2 .find-vr-item2 .ensures .0)) (entry .args .values .now) refl)
 

@@ -4,6 +4,7 @@ use mathlib.Core.Path.{sym, _∙_}
 use Prim.Native.Nat.{_*_}
 use native.Mathlib.Omega.{arith}
 use lib.Seq.{length-take-le}
+use Rattle.dataset.specs.Answer.{width}
 use Rattle.node.specs.Nodes.{nodesOf}
 use Rattle.linear_small.proofs.Roomy as laws
 use borrow.Author.Needs.{needs}
@@ -40,7 +41,7 @@ mul-end c =
     let at-linear = c .before .before .before .before .before .before in
     let t = laws.after-mapping _ _ _ _ _ _ (sym (c .before .answer .given .1) ∙ at-linear .linear .ensures .0 .same)
     (at-linear .linear .ensures .1 .0) in
-    omega (arith, t .1 .size, t .1 .few, length-take-le (7 * c .before .answer .given .0 .0) (at-linear .linear .last .1 .1 .0) (t .0))
+    omega (arith, t .1 .size, t .1 .few, length-take-le (width * c .before .answer .given .0 .0) (at-linear .linear .last .1 .1 .0) (t .0))
 
 array-share-prefix-rows : tie.Need-array-share-prefix-rows
 array-share-prefix-rows c =
@@ -48,14 +49,14 @@ array-share-prefix-rows c =
     laws.after-mapping _ _ _ _ _ _ (sym (c .before .answer .given .1) ∙ at-linear .linear .ensures .0 .same)
     (at-linear .linear .ensures .1 .0) .0
 
-slice-aggregate-with-size : tie.Need-slice-aggregate-with-size
-slice-aggregate-with-size c =
+slice-aggregate-sides-of : tie.Need-slice-aggregate-sides-of
+slice-aggregate-sides-of c =
     let at-linear = c .before .before .before .before .before .before .before in
     sym (length-take-le _ _ (laws.after-mapping _ _ _ _ _ _
     (sym (c .before .before .answer .given .1) ∙ at-linear .linear .ensures .0 .same) (at-linear .linear .ensures .1 .0) .0))
 
-with-size-requires : tie.Need-with-size-requires
-with-size-requires c κs =
+sides-of-requires : tie.Need-sides-of-requires
+sides-of-requires c κs =
     let at-linear = c .before .before .before .before .before .before .before in
     laws.after-mapping _ _ _ _ _ _ (sym (c .before .before .answer .given .1) ∙ at-linear .linear .ensures .0 .same)
     (at-linear .linear .ensures .1 .0) .1
@@ -71,7 +72,7 @@ returns-2 c =
     let entry = at-row-buffer .before .before .before in
     let t = laws.roomy-mapped _ _ _ _ (omega (arith, at-row-buffer .row-buffer .ensures, entry .pre)) _ _
     (sym (at-answer .answer .given .1) ∙ at-linear .linear .ensures .0 .same) (at-linear .linear .ensures .1 .1) in
-    let e = c .with-size .ensures ∙ t .0 in
+    let e = laws.mapped-sides (nodesOf (entry .args .bytes .now)) _ (c .sides-of .result) (c .sides-of .ensures) ∙ t .0 in
     (e, (t .1, laws.fits _ _ _ _ e))
 
 pub linear-small-spec : {M : Type 1} → statement M
@@ -86,7 +87,7 @@ linear-small-spec =
     returns
     mul-end
     array-share-prefix-rows
-    slice-aggregate-with-size
-    with-size-requires
+    slice-aggregate-sides-of
+    sides-of-requires
     same-length-2
     returns-2)

@@ -4,8 +4,9 @@ use mathlib.Core.Path.{_≡_, sym, ap, _∙_, subst}
 use native.Mathlib.Omega.{arith}
 use borrow.Author.Needs.{needs}
 use lib.IntN.{pos, _-ℤ_}
+use Rattle.value.specs.Number.{numberOr0}
 use Rattle.window.specs.Window.{levelOf, shaded}
-use Rattle.window.specs.Contracts.{Filled, number, shadeAt}
+use Rattle.window.specs.Contracts.{Filled, shadeAt}
 use Rattle.window.proofs.Laws.{filled-more, power-small}
 use Rattle.lines.proofs.fill.Statement.{statement}
 use Rattle.lines.proofs.fill.Tie as tie
@@ -98,9 +99,9 @@ loop-again c =
     let i = c .before .before .loop .i in
     let e : c .shade .result ≡ shadeAt (a .window) (a .stored) (a .inverse) i =
     c .shade .ensures
-    ∙ ap (λ (h : ℕ). number (shaded (a .inverse) (levelOf (a .window) (pos (i + h) -ℤ pos (at-power2 .power2 .result - 1)))))
+    ∙ ap (λ (h : ℕ). numberOr0 (shaded (a .inverse) (levelOf (a .window) (pos (i + h) -ℤ pos (at-power2 .power2 .result - 1)))))
     (at-power .power .ensures .0)
-    ∙ ap (λ (l : ℕ). number (shaded (a .inverse) (levelOf (a .window) (pos (i + 2 ^ (a .stored - 1)) -ℤ pos (l - 1)))))
+    ∙ ap (λ (l : ℕ). numberOr0 (shaded (a .inverse) (levelOf (a .window) (pos (i + 2 ^ (a .stored - 1)) -ℤ pos (l - 1)))))
     (at-power2 .power2 .ensures .0) in (
       omega (arith, c .before .loop-test .taken),
       rw e (filled-more (shadeAt (a .window) (a .stored) (a .inverse)) i

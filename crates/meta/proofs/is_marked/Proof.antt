@@ -10,24 +10,25 @@ use Rattle.meta.proofs.is_marked.Tie as tie
 returns : tie.Need-returns
 returns c = sym (tests.unmarked (c .before .before .args .file .now) (omega (arith, c .if1 .taken)))
 
-sub-equal : tie.Need-sub-equal
-sub-equal c = search needs
+sub-same-bytes : tie.Need-sub-same-bytes
+sub-same-bytes c = search needs
 
-part-equal-start : tie.Need-part-equal-start
-part-equal-start c = search needs
+part-same-bytes-start : tie.Need-part-same-bytes-start
+part-same-bytes-start c = search needs
 
-part-equal-end : tie.Need-part-equal-end
-part-equal-end c = search needs
+part-same-bytes-end : tie.Need-part-same-bytes-end
+part-same-bytes-end c = search needs
 
-slice-aggregate-equal : tie.Need-slice-aggregate-equal
-slice-aggregate-equal c = search needs
+slice-aggregate-same-bytes : tie.Need-slice-aggregate-same-bytes
+slice-aggregate-same-bytes c = search needs
 
-equal-requires : tie.Need-equal-requires
-equal-requires c κs = search needs
+same-bytes-requires : tie.Need-same-bytes-requires
+same-bytes-requires c κs = search needs
 
 returns-2 : tie.Need-returns-2
 unfolding isMarked
-returns-2 c = c .equal .ensures
+returns-2 c = c .same-bytes .ensures
 
 pub is-marked-spec : {M : Type 1} → statement M
-is-marked-spec = tie.close (tie.spec returns sub-equal part-equal-start part-equal-end slice-aggregate-equal equal-requires returns-2)
+is-marked-spec = tie.close
+    (tie.spec returns sub-same-bytes part-same-bytes-start part-same-bytes-end slice-aggregate-same-bytes same-bytes-requires returns-2)

@@ -1,4 +1,5 @@
 -- A sequence and an item have no value of their own; any other row says where its value starts and how long it is.
+use Rattle.dataset.specs.Answer.{width}
 use Rattle.node.proofs.Laws as laws
 use mathlib.Core.Path.{_≡_, sym, _∙_}
 use native.Mathlib.Omega.{arith}
@@ -111,8 +112,8 @@ returns-3 c =
     let s = entry .args .bytes .now in
     let rows = entry .args .rows .now in
     let v = laws.vr-is s rows (entry .pre .0) (entry .args .i) (entry .pre .1) in
-    let e : getD rows (7 * entry .args .i + 3) 0 + getD rows (7 * entry .args .i + 4) 0 - getD rows (7 * entry .args .i + 3) 0
-    ≡ getD rows (7 * entry .args .i + 4) 0 = omega arith in
+    let e : getD rows (width * entry .args .i + 3) 0 + getD rows (width * entry .args .i + 4) 0 - getD rows (width * entry .args .i + 3) 0
+    ≡ getD rows (width * entry .args .i + 4) 0 = omega arith in
     rw (at-wide2 .wider2 .ensures, c .before .wider3 .ensures, e)
     (laws.value-part s rows (entry .pre .0) (entry .args .i) (entry .pre .1) (λ q. at-if1 .if1 .left (at-wider .wider .ensures ∙ v ∙ q))
     (λ q. at-if2 .if2 .left (at-wider .wider .ensures ∙ v ∙ q)))

@@ -3,6 +3,7 @@ use native.Mathlib.Nat.{div-add-mod'}
 use native.Mathlib.Omega.{arith}
 use Prim.Native.Nat.{ℕ}
 use lib.ListN.{length-replicate}
+use Rattle.pixel.specs.Contracts.{longestRow}
 use borrow.Author.Needs.{needs}
 use Rattle.painting.proofs.paint_quarters.Statement.{statement}
 use Rattle.painting.proofs.paint_quarters.Tie as tie
@@ -24,7 +25,7 @@ average-row-requires c κs =
       entry .pre .0 .shape,
       (
         entry .pre .1 .0 .taken,
-        (c .before .moved .ensures .1, omega (arith, entry .pre .0 .shape .columns-most, length-replicate {A = ℕ} 65664 0)),
+        (c .before .moved .ensures .1, omega (arith, entry .pre .0 .shape .columns-most, length-replicate {A = ℕ} longestRow 0)),
       ),
     )
 

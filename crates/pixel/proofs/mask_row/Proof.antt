@@ -1,4 +1,4 @@
--- The row's sums lie from place 64 on, and the edges are put beside them (`Laws`).
+-- The row's sums lie behind the left edge, and the edges are put beside them (`Laws`).
 use native.Mathlib.Omega.{arith}
 use lib.ListN.{length-drop, length-take}
 use Rattle.value.specs.Number.{usValues}

@@ -1,6 +1,7 @@
--- 256 less a number from -256 to 256 is from 0 to 512 (`Places`).
+-- The largest move less a move of at most that size is from 0 to twice the largest (`Places`).
 use native.Mathlib.Omega.{arith}
 use Rattle.value.proofs.Laws.{below-plus, below-minus}
+use Rattle.shift.specs.Contracts.{tooFar}
 use Rattle.pixel.proofs.Places.{offset-plus, offset-minus, offset-none}
 use borrow.Author.Needs.{needs}
 use Rattle.pixel.proofs.offset_of.Statement.{statement}
@@ -12,7 +13,7 @@ enum-known-m c = search needs
 sub-result : tie.Need-sub-result
 sub-result c =
     let entry = c .before .before .before in
-    omega (arith, below-plus 257 _ _ (c .before .m .given .1) (entry .pre))
+    omega (arith, below-plus tooFar _ _ (c .before .m .given .1) (entry .pre))
 
 enum-known-m-2 : tie.Need-enum-known-m-2
 enum-known-m-2 c = search needs
@@ -20,7 +21,7 @@ enum-known-m-2 c = search needs
 add-result : tie.Need-add-result
 add-result c =
     let entry = c .before .before .before in
-    omega (arith, below-minus 257 _ _ (c .before .m2 .given .1) (entry .pre))
+    omega (arith, below-minus tooFar _ _ (c .before .m2 .given .1) (entry .pre))
 
 enum-told : tie.Need-enum-told
 enum-told c = search needs
@@ -28,12 +29,12 @@ enum-told c = search needs
 returns : tie.Need-returns
 returns c =
     let entry = c .before .before .before in
-    rw (c .before .m .given .1) (offset-plus _ (below-plus 257 _ _ (c .before .m .given .1) (entry .pre)))
+    rw (c .before .m .given .1) (offset-plus _ (below-plus tooFar _ _ (c .before .m .given .1) (entry .pre)))
 
 returns-2 : tie.Need-returns-2
 returns-2 c =
     let entry = c .before .before .before in
-    rw (c .before .m2 .given .1) (offset-minus _ (below-minus 257 _ _ (c .before .m2 .given .1) (entry .pre)))
+    rw (c .before .m2 .given .1) (offset-minus _ (below-minus tooFar _ _ (c .before .m2 .given .1) (entry .pre)))
 
 returns-3 : tie.Need-returns-3
 returns-3 c =

@@ -5,7 +5,7 @@ use Prim.Native.Nat.{_-_}
 use native.Mathlib.Omega.{arith}
 use lib.ListN.{length}
 use Rattle.node.specs.Nodes.{nodesOf, members}
-use Rattle.ranges.specs.Contracts.{Left}
+use Rattle.ranges.specs.Contracts.{LeftToFind}
 use Rattle.ranges.proofs.Items as items
 use Rattle.ranges.proofs.cover_items.Statement.{statement}
 use Rattle.ranges.proofs.cover_items.Tie as tie
@@ -13,7 +13,8 @@ use Rattle.ranges.proofs.cover_items.Tie as tie
 abbrev Inv-loop : tie.InvT-loop
 Inv-loop bytes rows from to n reach₀ which₀ at₀ reach which at =
     (length reach ≡ length reach₀)
-    × ((length which ≡ length which₀) × Left (nodesOf bytes) n (members (nodesOf bytes) from to) (members (nodesOf bytes) at to) which)
+    × ((length which ≡ length which₀)
+    × LeftToFind (nodesOf bytes) n (members (nodesOf bytes) from to) (members (nodesOf bytes) at to) which)
 
 abbrev μ-loop : tie.MeasureT-loop
 μ-loop bytes rows from to n reach₀ which₀ at₀ reach which at =

@@ -1,5 +1,6 @@
 -- Two numbers stand for the answers without a node, and a node is small enough to add 2.
 use mathlib.Core.Path.{_∙_, sym}
+use Rattle.basics.specs.Limits.{mostRows}
 use Rattle.ranges.proofs.Names as names
 use native.Mathlib.Omega.{arith}
 use Rattle.steps.proofs.Laws as steps-laws
@@ -19,12 +20,12 @@ enum-known-r c = search needs
 add-result : tie.Need-add-result
 add-result c =
     let entry = c .before .before .before in
-    omega (arith, steps-laws.found-within 134217728 (c .before .r .given .1) (entry .pre))
+    omega (arith, steps-laws.found-within mostRows (c .before .r .given .1) (entry .pre))
 
 cast-result : tie.Need-cast-result
 cast-result c =
     let entry = c .before .before .before in
-    omega (arith, steps-laws.found-within 134217728 (c .before .r .given .1) (entry .pre))
+    omega (arith, steps-laws.found-within mostRows (c .before .r .given .1) (entry .pre))
 
 returns : tie.Need-returns
 returns c = (sym (c .enum-told .given .1), omega arith)
@@ -36,7 +37,7 @@ returns-3 : tie.Need-returns-3
 returns-3 c =
     let entry = c .before .before .before in (
       names.found-at (c .before .r .given .0 .0) ∙ sym (c .before .r .given .1),
-      omega (arith, steps-laws.found-within 134217728 (c .before .r .given .1) (entry .pre)),
+      omega (arith, steps-laws.found-within mostRows (c .before .r .given .1) (entry .pre)),
     )
 
 pub number-of-spec : {M : Type 1} → statement M

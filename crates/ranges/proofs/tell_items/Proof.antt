@@ -4,6 +4,7 @@ use mathlib.Core.Path.{_≡_, refl, _∙_}
 use Prim.Native.Nat.{_+_, _-_, _≤_}
 use native.Mathlib.Omega.{arith}
 use lib.ListN.{length, length-set}
+use Rattle.basics.specs.Limits.{mostRows}
 use Rattle.node.specs.Nodes.{nodesOf}
 use Rattle.ranges.specs.Contracts.{Known}
 use Rattle.ranges.proofs.Names as names
@@ -31,7 +32,7 @@ told-by-requires c κs =
 packed-requires : tie.Need-packed-requires Inv-loop μ-loop
 packed-requires c κs =
     let entry = c .before .before .before .before .before .before .before .before in
-    names.found-fewer (length (nodesOf (entry .args .bytes .now))) 134217728 (c .told-by .result .shared) (entry .pre .0 .few)
+    names.found-fewer (length (nodesOf (entry .args .bytes .now))) mostRows (c .told-by .result .shared) (entry .pre .0 .few)
     (c .told-by .ensures .names .below)
 
 mul-answers : tie.Need-mul-answers Inv-loop μ-loop

@@ -1,8 +1,8 @@
 -- The rows that the answer counts are in the buffer, by what is required.
 use mathlib.Core.Path.{subst}
-use borrow.Author.Needs.{needs}
 use Rattle.dataset.specs.declared.ReadAnswer.{ReadAnswer}
-use Rattle.rowprint.specs.Contracts.{Held}
+use Rattle.rowprint.specs.Contracts.{RowsHeld}
+use borrow.Author.Needs.{needs}
 use Rattle.rowprint.proofs.print_answer.Statement.{statement}
 use Rattle.rowprint.proofs.print_answer.Tie as tie
 
@@ -12,31 +12,25 @@ enum-known-answer c = search needs
 print-rows-requires : tie.Need-print-rows-requires
 print-rows-requires c κs =
     let entry = c .before .before .before .before in
-    subst (λ (a : ReadAnswer). Held a (entry .args .rows .now)) (c .before .answer .given .1) (entry .pre)
+    subst (λ (a : ReadAnswer). RowsHeld a (entry .args .rows .now)) (c .before .answer .given .1) (entry .pre)
 
 enum-known-answer-2 : tie.Need-enum-known-answer-2
 enum-known-answer-2 c = search needs
 
-print-refusal-requires : tie.Need-print-refusal-requires
-print-refusal-requires c κs = search needs
+print-unread-requires : tie.Need-print-unread-requires
+print-unread-requires c κs = search needs
 
 enum-told : tie.Need-enum-told
 enum-told c = search needs
 
-slice-aggregate-write-all : tie.Need-slice-aggregate-write-all
-slice-aggregate-write-all c = search needs
-
-write-all-requires : tie.Need-write-all-requires
-write-all-requires c κs = search needs
+print-code-requires : tie.Need-print-code-requires
+print-code-requires c κs = search needs
 
 enum-told-2 : tie.Need-enum-told-2
 enum-told-2 c = search needs
 
-slice-aggregate-write-all-2 : tie.Need-slice-aggregate-write-all-2
-slice-aggregate-write-all-2 c = search needs
-
-write-all-requires-2 : tie.Need-write-all-requires-2
-write-all-requires-2 c κs = search needs
+print-code-requires-2 : tie.Need-print-code-requires-2
+print-code-requires-2 c κs = search needs
 
 returns : tie.Need-returns
 returns c = search needs
@@ -57,13 +51,11 @@ print-answer-spec =
     enum-known-answer
     print-rows-requires
     enum-known-answer-2
-    print-refusal-requires
+    print-unread-requires
     enum-told
-    slice-aggregate-write-all
-    write-all-requires
+    print-code-requires
     enum-told-2
-    slice-aggregate-write-all-2
-    write-all-requires-2
+    print-code-requires-2
     returns
     returns-2
     returns-3

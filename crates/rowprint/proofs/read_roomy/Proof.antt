@@ -3,7 +3,7 @@ use mathlib.Core.Path.{sym, subst}
 use borrow.Author.Needs.{needs}
 use Rattle.dataset.specs.declared.ReadAnswer.{ReadAnswer}
 use Rattle.dataset.specs.Reading.{readingOf}
-use Rattle.rowprint.specs.Contracts.{Held, Roomy}
+use Rattle.rowprint.specs.Contracts.{RowsHeld, Roomy}
 use Rattle.rowprint.proofs.Room.{held, roomy}
 use Rattle.rowprint.proofs.read_roomy.Statement.{statement}
 use Rattle.rowprint.proofs.read_roomy.Tie as tie
@@ -23,7 +23,7 @@ returns c =
       (
         e .1,
         (
-          subst (λ (r : ReadAnswer). Held r (c .before .before .read .last .1 .0)) (sym (e .0 .same))
+          subst (λ (r : ReadAnswer). RowsHeld r (c .before .before .read .last .1 .0)) (sym (e .0 .same))
               (held (readingOf (a .bytes .now)) (a .rows .now) (c .before .before .read .last .1 .0) (search needs)),
           subst Roomy (sym (e .0 .same)) (roomy (a .bytes .now) (a .rows .now) (entry .pre)),
         ),

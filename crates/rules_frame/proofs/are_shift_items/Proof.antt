@@ -6,7 +6,7 @@ use Rattle.rules.specs.Frame.{isShiftItem}
 use Prim.Native.Nat.{_-_}
 use Rattle.node.specs.Nodes.{nodesOf, members}
 use Rattle.element.specs.Elements.{every}
-use Rattle.element.proofs.Every.{every-end, every-no, every-later}
+use Rattle.element.proofs.Every.{every-end, every-not, every-next}
 use Rattle.rules_frame.proofs.are_shift_items.Statement.{statement}
 use Rattle.rules_frame.proofs.are_shift_items.Tie as tie
 
@@ -40,14 +40,14 @@ loop-again : tie.Need-loop-again Inv-loop μ-loop
 loop-again c =
     let at-loop-test = c .before .before .before in
     let at-loop = at-loop-test .before in
-    rw (c .next .ensures .0) (sym
-    (every-later _ _ _ _ (at-loop-test .loop-test .taken) (sym (c .before .before .is-shift-item .ensures) ∙ c .before .if1 .taken))
-    ∙ at-loop .loop .inv)
+    sym (every-next _ _ _ _ _ (c .next .ensures .0) (at-loop-test .loop-test .taken)
+    (sym (c .before .before .is-shift-item .ensures) ∙ c .before .if1 .taken))
+    ∙ at-loop .loop .inv
 
 returns : tie.Need-returns Inv-loop μ-loop
 returns c =
     let at-loop = c .before .before .before in
-    sym (every-no _ _ _ _ (c .before .before .loop-test .taken) (sym (c .before .is-shift-item .ensures) ∙ c .if1 .left))
+    sym (every-not _ _ _ _ (c .before .before .loop-test .taken) (sym (c .before .is-shift-item .ensures) ∙ c .if1 .left))
     ∙ at-loop .loop .inv
 
 returns-2 : tie.Need-returns-2 Inv-loop μ-loop

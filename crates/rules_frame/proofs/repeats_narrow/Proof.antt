@@ -1,12 +1,12 @@
 -- What is left of the frame's item comes to what all of it comes to; what the walk has passed in the shared item is asked for no more.
-use mathlib.Core.Path.{_≡_, sym, _∙_}
+use mathlib.Core.Path.{_≡_, refl, sym, _∙_}
 use Prim.Native.Nat.{_+_, _-_}
 use native.Mathlib.Omega.{arith}
 use borrow.Author.Needs.{needs}
 use Rattle.node.specs.Nodes.{nodesOf, members}
 use Rattle.node.proofs.Halves.{inside-ascends}
 use Rattle.element.specs.Elements.{some}
-use Rattle.element.proofs.Every.{some-end, some-here, some-later}
+use Rattle.element.proofs.Every.{some-end, some-here, some-next}
 use Rattle.rules.specs.Frame.{isShared, repeatsShared}
 use Rattle.rules_frame.proofs.Merge.{Ahead, ahead-start, ahead-over, ahead-pass, ahead-at, ahead-here, ahead-next}
 use Rattle.rules_frame.proofs.repeats_narrow.Statement.{statement}
@@ -152,7 +152,7 @@ loop-again-2 c =
     (omega (arith, at-tag .tag .ensures, at-tag2 .tag2 .ensures, at-if2 .if2 .left)) in
     let here = ahead-here _ _ _ _ _ _ inside-j (inv .1) _ from (inside-ascends _ _ (p .0) (start .args .shared) (p .1 .0)) in
     rw (c .next4 .ensures .0) (
-      sym (some-later _ _ _ _ inside-j (here ∙ sym (c .before .before .is-repeated .ensures) ∙ c .before .if3 .left)) ∙ inv .0,
+      sym (some-next _ _ _ _ _ refl inside-j (here ∙ sym (c .before .before .is-repeated .ensures) ∙ c .before .if3 .left)) ∙ inv .0,
       ahead-next _ _ _ _ _ _ inside-j (inv .1) _ from,
     )
 

@@ -1,5 +1,5 @@
 -- What is left of the frame's item comes to what all of it comes to; what the walk has passed in the shared item is asked for no more.
-use mathlib.Core.Path.{_≡_, sym, ap, _∙_}
+use mathlib.Core.Path.{_≡_, refl, sym, ap, _∙_}
 use Prim.Native.Nat.{ℕ, _+_, _-_}
 use native.Mathlib.Omega.{arith}
 use borrow.Author.Needs.{needs}
@@ -7,7 +7,7 @@ use Rattle.node.specs.Nodes.{nodesOf, nodeAt, members, inside}
 use Rattle.node.specs.Contracts.{fromTag}
 use Rattle.node.proofs.Halves.{inside-ascends, node-container}
 use Rattle.element.specs.Elements.{some}
-use Rattle.element.proofs.Every.{some-end, some-here, some-later}
+use Rattle.element.proofs.Every.{some-end, some-here, some-next}
 use Rattle.rules.specs.Frame.{isShared, repeatsShared}
 use Rattle.rules_frame.proofs.Merge.{Ahead, ahead-start, ahead-asks, ahead-here, ahead-none, ahead-next}
 use Rattle.rules_frame.proofs.repeats_wide.Statement.{statement}
@@ -154,7 +154,7 @@ loop-again c =
     ∙ ap (λ (t : ℕ). fromTag (nodesOf (a .bytes .now)) t (inside (nodesOf (a .bytes .now)) (a .shared))) (at-tag .tag .ensures) in
     let here = ahead-here _ _ _ _ _ _ inside-j (inv .1) (at-reach .reach .result) from (inside-ascends _ _ (p .0) (a .shared) (p .1 .0)) in
     rw (c .next3 .ensures .0) (
-      sym (some-later _ _ _ _ inside-j (here ∙ sym (c .before .before .is-repeated .ensures) ∙ c .before .if2 .left)) ∙ inv .0,
+      sym (some-next _ _ _ _ _ refl inside-j (here ∙ sym (c .before .before .is-repeated .ensures) ∙ c .before .if2 .left)) ∙ inv .0,
       ahead-next _ _ _ _ _ _ inside-j (inv .1) (at-reach .reach .result) from,
     )
 

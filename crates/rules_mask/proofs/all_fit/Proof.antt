@@ -5,7 +5,7 @@ use Prim.Native.Nat.{_-_}
 use Rattle.node.specs.Nodes.{nodesOf, members}
 use Rattle.element.specs.Elements.{every}
 use Rattle.rules_mask.specs.Contracts.{itemFits}
-use Rattle.rules_mask.proofs.Laws as laws
+use Rattle.element.proofs.Every.{every-end, every-not, every-next}
 use Rattle.rules_mask.proofs.all_fit.Statement.{statement}
 use Rattle.rules_mask.proofs.all_fit.Tie as tie
 
@@ -33,18 +33,18 @@ loop-again : tie.Need-loop-again Inv-loop μ-loop
 loop-again c =
     let at-loop-test = c .before .before .before in
     let at-loop = at-loop-test .before in
-    sym (laws.every-next _ _ _ _ _ (c .next .ensures .0) (at-loop-test .loop-test .taken)
+    sym (every-next _ _ _ _ _ (c .next .ensures .0) (at-loop-test .loop-test .taken)
     (sym (c .before .before .item-fits .ensures) ∙ c .before .if1 .taken)) ∙ at-loop .loop .inv
 
 returns : tie.Need-returns Inv-loop μ-loop
 returns c =
     let at-loop = c .before .before .before in
-    sym (laws.every-not _ _ _ _ (c .before .before .loop-test .taken) (sym (c .before .item-fits .ensures) ∙ c .if1 .left))
+    sym (every-not _ _ _ _ (c .before .before .loop-test .taken) (sym (c .before .item-fits .ensures) ∙ c .if1 .left))
     ∙ at-loop .loop .inv
 
 returns-2 : tie.Need-returns-2 Inv-loop μ-loop
 returns-2 c =
-    sym (laws.every-end _ _ _ _ (c .loop-test .left)) ∙ c .before .loop .inv
+    sym (every-end _ _ _ _ (c .loop-test .left)) ∙ c .before .loop .inv
 
 pub all-fit-spec : {M : Type 1} → statement M
 all-fit-spec =

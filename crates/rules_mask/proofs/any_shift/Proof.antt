@@ -7,6 +7,7 @@ use lib.ListN.{length}
 use Rattle.node.specs.Nodes.{nodesOf, members}
 use Rattle.element.specs.Elements.{some}
 use Rattle.rules.specs.Mask.{hasShiftGroup, anyShift}
+use Rattle.element.proofs.Every.{some-end, some-here, some-next}
 use Rattle.rules_mask.proofs.Laws as laws
 use Rattle.rules_mask.proofs.any_shift.Statement.{statement}
 use Rattle.rules_mask.proofs.any_shift.Tie as tie
@@ -37,7 +38,7 @@ returns : tie.Need-returns Inv-loop μ-loop
 returns c =
     let at-loop = c .before .before .before in
     let at-shift-in = at-loop .before .before in
-    sym (laws.some-here _ _ _ _ (c .before .before .loop-test .taken)
+    sym (some-here _ _ _ _ (c .before .before .loop-test .taken)
     (laws.shift-found _ _ _ _ _ _ (at-shift-in .shift-in .ensures) (c .before .shift-in2 .ensures) (c .if1 .taken)))
     ∙ at-loop .loop .inv .0
 
@@ -55,7 +56,7 @@ loop-again c =
     let at-loop-test = c .before .before .before in
     let at-loop = at-loop-test .before in
     let at-shift-in = at-loop .before .before in (
-      sym (laws.some-next _ _ _ _ _ (c .next .ensures .0) (at-loop-test .loop-test .taken)
+      sym (some-next _ _ _ _ _ (c .next .ensures .0) (at-loop-test .loop-test .taken)
           (laws.shift-found _ _ _ _ _ _ (at-shift-in .shift-in .ensures) (c .before .before .shift-in2 .ensures) (c .before .if1 .left)))
           ∙ at-loop .loop .inv .0,
       at-loop .loop .inv .1,
@@ -63,7 +64,7 @@ loop-again c =
 
 returns-2 : tie.Need-returns-2 Inv-loop μ-loop
 returns-2 c =
-    sym (laws.some-end _ _ _ _ (c .loop-test .left)) ∙ c .before .loop .inv .0
+    sym (some-end _ _ _ _ (c .loop-test .left)) ∙ c .before .loop .inv .0
 
 pub any-shift-spec : {M : Type 1} → statement M
 any-shift-spec =

@@ -1,6 +1,6 @@
 -- The mask frames come first, and the averaging is asked only where they fit.
 use mathlib.Core.Path.{sym, _∙_}
-use Rattle.rules_mask.proofs.Laws as laws
+use Rattle.basics.proofs.Tests.{both, not-first}
 use Rattle.node.proofs.Laws as node-laws
 use Rattle.rules.specs.Mask.{averageFits}
 use borrow.Author.Needs.{needs}
@@ -40,7 +40,7 @@ returns-2 c =
     let at-k = at-value .before .before in
     let at-find-vr-item = at-k .before .before in
     rw (node-laws.had (at-k .k .given .1) (at-find-vr-item .find-vr-item .ensures .0), ← at-value .value .ensures)
-    (sym (laws.both (sym (c .before .before .are-mask-frames .ensures) ∙ c .before .if1 .taken) (sym (c .contrast-fits .ensures))))
+    (sym (both (sym (c .before .before .are-mask-frames .ensures) ∙ c .before .if1 .taken) (sym (c .contrast-fits .ensures))))
 
 returns-3 : tie.Need-returns-3
 unfolding averageFits
@@ -48,7 +48,7 @@ returns-3 c =
     let at-k = c .before .before .before .before in
     let at-find-vr-item = at-k .before .before in
     rw (node-laws.had (at-k .k .given .1) (at-find-vr-item .find-vr-item .ensures .0), ← c .before .before .value .ensures)
-    (sym (laws.not-first _ (sym (c .before .are-mask-frames .ensures) ∙ c .if1 .left)))
+    (sym (not-first _ (sym (c .before .are-mask-frames .ensures) ∙ c .if1 .left)))
 
 pub average-fits-spec : {M : Type 1} → statement M
 average-fits-spec =

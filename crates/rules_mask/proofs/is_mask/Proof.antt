@@ -1,5 +1,6 @@
 -- The tests are those of the definition in its order, and the items are those between the node and the next.
 use mathlib.Core.Path.{sym}
+use Rattle.basics.proofs.Tests.{both, not-first}
 use Rattle.rules_mask.proofs.Laws as laws
 use Rattle.rules.specs.Mask.{isMask}
 use borrow.Author.Needs.{needs}
@@ -28,7 +29,7 @@ returns c =
     let at-count-items = at-if2 .before in
     let at-if1 = at-count-items .before in
     let at-vr = at-if1 .before in
-    sym (laws.both (laws.same _ (at-vr .vr .ensures) (at-if1 .if1 .taken)) (laws.both (laws.both
+    sym (both (laws.same _ (at-vr .vr .ensures) (at-if1 .if1 .taken)) (both (both
     (laws.at-least _ (at-count-items .count-items .ensures) (at-if2 .if2 .taken))
     (laws.at-most _ (at-count-items .count-items .ensures) (c .before .before .if3 .taken)))
     (laws.every-inside _ _ _ _ _ (c .before .next .ensures .0) (c .all-fit .ensures))))
@@ -38,7 +39,7 @@ unfolding isMask
 returns-2 c =
     let at-if1 = c .before .before .before in
     let at-vr = at-if1 .before in
-    sym (laws.both (laws.same _ (at-vr .vr .ensures) (at-if1 .if1 .taken)) (laws.not-first _ (laws.both
+    sym (both (laws.same _ (at-vr .vr .ensures) (at-if1 .if1 .taken)) (not-first _ (both
     (laws.at-least _ (c .before .before .count-items .ensures) (c .before .if2 .taken))
     (laws.over _ (c .before .before .count-items .ensures) (c .if3 .left)))))
 
@@ -46,13 +47,13 @@ returns-3 : tie.Need-returns-3
 unfolding isMask
 returns-3 c =
     let at-vr = c .before .before .before in
-    sym (laws.both (laws.same _ (at-vr .vr .ensures) (c .before .before .if1 .taken))
-    (laws.not-first _ (laws.not-first _ (laws.under _ (c .before .count-items .ensures) (c .if2 .left)))))
+    sym (both (laws.same _ (at-vr .vr .ensures) (c .before .before .if1 .taken))
+    (not-first _ (not-first _ (laws.under _ (c .before .count-items .ensures) (c .if2 .left)))))
 
 returns-4 : tie.Need-returns-4
 unfolding isMask
 returns-4 c =
-    sym (laws.not-first _ (laws.different _ (c .before .vr .ensures) (c .if1 .left)))
+    sym (not-first _ (laws.different _ (c .before .vr .ensures) (c .if1 .left)))
 
 pub is-mask-spec : {M : Type 1} → statement M
 is-mask-spec =

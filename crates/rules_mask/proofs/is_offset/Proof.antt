@@ -1,5 +1,6 @@
 -- The VR is tested on both sides, and a number of either sign is an offset.
 use mathlib.Core.Path.{sym, _∙_}
+use Rattle.basics.proofs.Tests.{not-first}
 use Rattle.rules_mask.proofs.Laws as laws
 use Rattle.rules.specs.Mask.{isOffset}
 use borrow.Author.Needs.{needs}
@@ -63,7 +64,7 @@ returns-3 c =
 returns-4 : tie.Need-returns-4
 unfolding isOffset
 returns-4 c =
-    sym (laws.not-first _ (laws.different _ (c .before .vr .ensures) (c .if1 .left)))
+    sym (not-first _ (laws.different _ (c .before .vr .ensures) (c .if1 .left)))
 
 pub is-offset-spec : {M : Type 1} → statement M
 is-offset-spec =

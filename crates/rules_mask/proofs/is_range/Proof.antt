@@ -4,6 +4,7 @@ use Prim.Native.Nat.{ℕ, _%_}
 use mathlib.Core.List.{List}
 use lib.ListN.{length}
 use Rattle.value.specs.Number.{usValues}
+use Rattle.basics.proofs.Tests.{both, not-first}
 use Rattle.rules_mask.proofs.Laws as laws
 use Rattle.rules.specs.Mask.{isRange, pairsFit}
 use borrow.Author.Needs.{needs}
@@ -26,7 +27,7 @@ returns c =
     let at-if1 = at-value .before in
     let at-vr = at-if1 .before in
     let entry = at-vr .before .before .before in
-    sym (laws.both (laws.same _ (at-vr .vr .ensures) (at-if1 .if1 .taken)) (laws.both (laws.both
+    sym (both (laws.same _ (at-vr .vr .ensures) (at-if1 .if1 .taken)) (both (both
     (laws.at-least _ (ap (λ (l : List ℕ). length l) (at-value .value .ensures)) (c .before .before .if2 .taken))
     (laws.same _ (ap (λ (l : List ℕ). length l % 4) (at-value .value .ensures)) (c .before .if3 .taken)))
     (sym (c .pairs-fit .ensures ∙ ap (λ (l : List ℕ). pairsFit (entry .args .n) (usValues l)) (at-value .value .ensures)))))
@@ -36,7 +37,7 @@ unfolding isRange
 returns-2 c =
     let at-if1 = c .before .before .before in
     let at-vr = at-if1 .before in
-    sym (laws.both (laws.same _ (at-vr .vr .ensures) (at-if1 .if1 .taken)) (laws.not-first _ (laws.both
+    sym (both (laws.same _ (at-vr .vr .ensures) (at-if1 .if1 .taken)) (not-first _ (both
     (laws.at-least _ (ap (λ (l : List ℕ). length l) (c .before .before .value .ensures)) (c .before .if2 .taken))
     (laws.different _ (ap (λ (l : List ℕ). length l % 4) (c .before .before .value .ensures)) (c .if3 .left)))))
 
@@ -44,13 +45,13 @@ returns-3 : tie.Need-returns-3
 unfolding isRange
 returns-3 c =
     let at-vr = c .before .before .before in
-    sym (laws.both (laws.same _ (at-vr .vr .ensures) (c .before .before .if1 .taken))
-    (laws.not-first _ (laws.not-first _ (laws.under _ (ap (λ (l : List ℕ). length l) (c .before .value .ensures)) (c .if2 .left)))))
+    sym (both (laws.same _ (at-vr .vr .ensures) (c .before .before .if1 .taken))
+    (not-first _ (not-first _ (laws.under _ (ap (λ (l : List ℕ). length l) (c .before .value .ensures)) (c .if2 .left)))))
 
 returns-4 : tie.Need-returns-4
 unfolding isRange
 returns-4 c =
-    sym (laws.not-first _ (laws.different _ (c .before .vr .ensures) (c .if1 .left)))
+    sym (not-first _ (laws.different _ (c .before .vr .ensures) (c .if1 .left)))
 
 pub is-range-spec : {M : Type 1} → statement M
 is-range-spec =

@@ -1,5 +1,6 @@
 -- The VR is tested on both sides, and the same bytes are asked whether they are a shift.
 use mathlib.Core.Path.{sym}
+use Rattle.basics.proofs.Tests.{both, not-first}
 use Rattle.rules_mask.proofs.Laws as laws
 use Rattle.rules.specs.Mask.{isShiftAt}
 use borrow.Author.Needs.{needs}
@@ -20,12 +21,12 @@ unfolding isShiftAt
 returns c =
     let at-vr = c .before .before .before in
     rw (← c .before .value .ensures)
-    (sym (laws.both (laws.same _ (at-vr .vr .ensures) (c .before .before .if1 .taken)) (sym (c .is-shift .ensures))))
+    (sym (both (laws.same _ (at-vr .vr .ensures) (c .before .before .if1 .taken)) (sym (c .is-shift .ensures))))
 
 returns-2 : tie.Need-returns-2
 unfolding isShiftAt
 returns-2 c =
-    sym (laws.not-first _ (laws.different _ (c .before .vr .ensures) (c .if1 .left)))
+    sym (not-first _ (laws.different _ (c .before .vr .ensures) (c .if1 .left)))
 
 pub is-shift-at-spec : {M : Type 1} → statement M
 is-shift-at-spec =

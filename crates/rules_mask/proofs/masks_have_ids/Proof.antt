@@ -1,6 +1,6 @@
 -- The items are walked twice: for an ID each, then for two that are the same.
 use mathlib.Core.Path.{sym, _∙_}
-use Rattle.rules_mask.proofs.Laws as laws
+use Rattle.basics.proofs.Tests.{both, not-first}
 use Rattle.rules.specs.Mask.{masksHaveIds}
 use borrow.Author.Needs.{needs}
 use Rattle.rules_mask.proofs.masks_have_ids.Statement.{statement}
@@ -20,12 +20,12 @@ unfolding masksHaveIds
 returns c =
     let at-mask-items = c .before .before .before in
     rw (← at-mask-items .mask-items .ensures .ahead)
-    (sym (laws.both (sym (c .before .before .all-fit .ensures) ∙ c .before .if1 .taken) (sym (c .are-unique-ids .ensures))))
+    (sym (both (sym (c .before .before .all-fit .ensures) ∙ c .before .if1 .taken) (sym (c .are-unique-ids .ensures))))
 
 returns-2 : tie.Need-returns-2
 unfolding masksHaveIds
 returns-2 c =
-    rw (← c .before .before .mask-items .ensures .ahead) (sym (laws.not-first _ (sym (c .before .all-fit .ensures) ∙ c .if1 .left)))
+    rw (← c .before .before .mask-items .ensures .ahead) (sym (not-first _ (sym (c .before .all-fit .ensures) ∙ c .if1 .left)))
 
 pub masks-have-ids-spec : {M : Type 1} → statement M
 masks-have-ids-spec =

@@ -4,13 +4,13 @@ use Prim.Native.Nat.{_-_, _≤_}
 use native.Mathlib.Omega.{arith}
 use borrow.Author.Needs.{needs}
 use lib.ListN.{length, drop}
-use Rattle.searches.specs.Contracts.{above}
+use Rattle.searches.specs.Contracts.{tagsAbove}
 use Rattle.searches.proofs.Loops.{above-end, above-stop, above-on}
 use Rattle.searches.proofs.first_above.Statement.{statement}
 use Rattle.searches.proofs.first_above.Tie as tie
 
 abbrev Inv-loop : tie.InvT-loop
-Inv-loop wanted from here k₀ k = (k ≤ length wanted) × (above here (drop k wanted) ≡ above here (drop from wanted))
+Inv-loop wanted from here k₀ k = (k ≤ length wanted) × (tagsAbove here (drop k wanted) ≡ tagsAbove here (drop from wanted))
 
 abbrev μ-loop : tie.MeasureT-loop
 μ-loop wanted from here k₀ k = length wanted - k

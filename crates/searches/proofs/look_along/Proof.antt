@@ -7,7 +7,7 @@ use lib.ListN.{length, drop, length-drop}
 use Rattle.node.specs.Nodes.{nodesOf, nodeAt, nextNode, members}
 use Rattle.node.specs.Contracts.{Ascends}
 use Rattle.node.proofs.Halves.{ascends-next}
-use Rattle.searches.specs.Contracts.{allLooked, above}
+use Rattle.searches.specs.Contracts.{allLooked, tagsAbove}
 use Rattle.searches.proofs.Loops.{all-end, all-none, all-step, all-fits, rises-drop}
 use Rattle.searches.proofs.look_along.Statement.{statement}
 use Rattle.searches.proofs.look_along.Tie as tie
@@ -94,7 +94,7 @@ loop-again c =
     let ahead = members ns (nextNode ns (l .i)) (a .to) in
     let step = all-step ns (l .i) (a .to) (l .inv .1 .1 .0) (l .inv .1 .1 .1) inside (drop (l .k) (a .wanted .now)) 0
     (rises-drop (l .k) (a .wanted .now) 0 (p .1 .1 .1 .1)) in
-    let rest = on .ensures .1 ∙ ap (λ (t : ℕ). above t (drop (l .k) (a .wanted .now))) (c .before .before .tag .ensures) in
+    let rest = on .ensures .1 ∙ ap (λ (t : ℕ). tagsAbove t (drop (l .k) (a .wanted .now))) (c .before .before .tag .ensures) in
     let e = ap (λ (tags : List ℕ). allLooked ns tags ahead) rest in
     rw (c .next .ensures .0) (
       on .ensures .0,

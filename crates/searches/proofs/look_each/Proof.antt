@@ -4,7 +4,7 @@ use Prim.Native.Nat.{ℕ, _+_, _-_}
 use native.Mathlib.Omega.{arith}
 use Rattle.node.specs.Nodes.{nodesOf, members}
 use Rattle.node.proofs.Halves.{inside-ascends}
-use Rattle.searches.specs.Searches.{readInEach}
+use Rattle.searches.specs.Searches.{lookedInEach}
 use Rattle.searches.specs.Contracts.{allLooked}
 use Rattle.searches.proofs.Loops.{each-end, each-next, each-fits}
 use Rattle.searches.proofs.look_each.Statement.{statement}
@@ -12,8 +12,8 @@ use Rattle.searches.proofs.look_each.Tie as tie
 
 abbrev Inv-loop : tie.InvT-loop
 Inv-loop bytes rows from to wanted sum₀ j₀ sum j =
-    sum + readInEach (nodesOf bytes) wanted (members (nodesOf bytes) j to)
-    ≡ readInEach (nodesOf bytes) wanted (members (nodesOf bytes) from to)
+    sum + lookedInEach (nodesOf bytes) wanted (members (nodesOf bytes) j to)
+    ≡ lookedInEach (nodesOf bytes) wanted (members (nodesOf bytes) from to)
 
 abbrev μ-loop : tie.MeasureT-loop
 μ-loop bytes rows from to wanted sum₀ j₀ sum j =
@@ -76,7 +76,7 @@ loop-again c =
     let a = entry .args in
     let ns = nodesOf (a .bytes .now) in
     let e = ap (λ (k : ℕ). allLooked ns (a .wanted .now) (members ns (at-loop .loop .j + 1) k)) (c .before .next .ensures .0) in
-    let f = ap (λ (k : ℕ). readInEach ns (a .wanted .now) (members ns k (a .to))) (c .before .next .ensures .0) in
+    let f = ap (λ (k : ℕ). lookedInEach ns (a .wanted .now) (members ns k (a .to))) (c .before .next .ensures .0) in
     omega (
       arith,
       at-loop .loop .inv,

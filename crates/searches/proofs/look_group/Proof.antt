@@ -1,6 +1,6 @@
 -- A group that was not found has no items; one that was found has those inside it.
 use Rattle.node.proofs.Laws as node-laws
-use Rattle.searches.specs.Searches.{readInEach}
+use Rattle.searches.specs.Searches.{lookedInEach}
 use borrow.Author.Needs.{needs}
 use Rattle.searches.proofs.look_group.Statement.{statement}
 use Rattle.searches.proofs.look_group.Tie as tie
@@ -23,7 +23,7 @@ look-each-requires : tie.Need-look-each-requires
 look-each-requires c κs = search needs
 
 returns : tie.Need-returns
-unfolding readInEach
+unfolding lookedInEach
 returns c =
     rw (c .enum-told .given .1)
 

@@ -3,6 +3,7 @@ use mathlib.Core.Path.{sym}
 use Prim.Native.Nat.{_*_}
 use native.Mathlib.Omega.{arith}
 use lib.Seq.{length-take-le}
+use Rattle.dataset.specs.Answer.{width}
 use Rattle.searches.proofs.After.{left-accepted}
 use borrow.Author.Needs.{needs}
 use Rattle.searches.proofs.reported.Statement.{statement}
@@ -15,7 +16,7 @@ mul-end : tie.Need-mul-end
 mul-end c =
     let entry = c .before .before .before .before .before in
     let t = left-accepted (entry .args .bytes .now) (entry .args .rows .now) (c .before .answer .given .1) (entry .pre) in
-    omega (arith, t .0, t .1 .size, t .1 .few, length-take-le (7 * c .before .answer .given .0 .0) (entry .args .rows .now) (t .0))
+    omega (arith, t .0, t .1 .size, t .1 .few, length-take-le (width * c .before .answer .given .0 .0) (entry .args .rows .now) (t .0))
 
 slice-aggregate-sum : tie.Need-slice-aggregate-sum
 slice-aggregate-sum c =

@@ -1,7 +1,7 @@
 -- The number of frames is handed on; where there is none, both sides say 0.
-use Rattle.conformance.specs.Judging.{numberOf}
 use mathlib.Core.Path.{sym, ap, _∙_}
 use borrow.Author.Needs.{needs}
+use Rattle.value.specs.Number.{numberOr0}
 use Rattle.sheet.proofs.last_frame.Statement.{statement}
 use Rattle.sheet.proofs.last_frame.Tie as tie
 
@@ -20,11 +20,11 @@ enum-told c =
 returns : tie.Need-returns
 returns c =
     let at-frame-count = c .before .before .before in
-    ap numberOf (sym (c .before .n .given .1) ∙ at-frame-count .frame-count .ensures .0)
+    ap numberOr0 (sym (c .before .n .given .1) ∙ at-frame-count .frame-count .ensures .0)
 
 returns-2 : tie.Need-returns-2
 returns-2 c =
-    ap numberOf (sym (c .enum-told .given .1) ∙ c .before .before .frame-count .ensures .0)
+    ap numberOr0 (sym (c .enum-told .given .1) ∙ c .before .before .frame-count .ensures .0)
 
 pub last-frame-spec : {M : Type 1} → statement M
 last-frame-spec =

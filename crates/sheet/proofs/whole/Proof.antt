@@ -1,9 +1,9 @@
 -- As in `sheet`, with the last frame read from the rows that judging left.
 use Prim.Native.Nat.{ℕ, _*_}
 use lib.Seq.{length-take-le}
+use Rattle.value.specs.Number.{numberOr0}
 use Rattle.node.specs.Nodes.{nodesOf}
 use Rattle.element.specs.Frames.{framesOf}
-use Rattle.conformance.specs.Judging.{numberOf}
 use Rattle.conformance.specs.declared.JudgeAnswer.the-variants as judged
 use Rattle.display.proofs.Judged as laws
 use Rattle.sheet.specs.Answer.{acceptedAnswer, withSheet}
@@ -107,7 +107,7 @@ returns c =
     let at-judge = c .before .before .before .before .before in
     let entry = at-judge .before .before .before .before in (
       promised (c .refused .ensures ∙ answers.sheet-by (entry .args .bytes .now) 1
-          (numberOf (framesOf (nodesOf (entry .args .bytes .now)))) (entry .args .rows .now) (judged.TooLarge)
+          (numberOr0 (framesOf (nodesOf (entry .args .bytes .now)))) (entry .args .rows .now) (judged.TooLarge)
           (sym (c .before .enum-told .given .1) ∙ at-judge .judge .ensures .0 .same)),
       at-judge .judge .ensures .1,
     )
@@ -121,7 +121,7 @@ returns-2 c =
     let at-judge = c .before .before .before .before .before .before in
     let entry = at-judge .before .before .before .before in (
       promised (c .refused2 .ensures ∙ answers.sheet-by (entry .args .bytes .now) 1
-          (numberOf (framesOf (nodesOf (entry .args .bytes .now)))) (entry .args .rows .now)
+          (numberOr0 (framesOf (nodesOf (entry .args .bytes .now)))) (entry .args .rows .now)
           (judged.Refused (c .before .before .code .given .0 .0) (c .before .before .code .given .0 .1 .0))
           (sym (c .before .before .code .given .1) ∙ at-judge .judge .ensures .0 .same)),
       at-judge .judge .ensures .1,
@@ -136,7 +136,7 @@ returns-3 c =
     let at-judge = c .before .before .before .before .before in
     let entry = at-judge .before .before .before .before in (
       promised (c .refused3 .ensures ∙ answers.sheet-by (entry .args .bytes .now) 1
-          (numberOf (framesOf (nodesOf (entry .args .bytes .now)))) (entry .args .rows .now) (judged.NoRoom)
+          (numberOr0 (framesOf (nodesOf (entry .args .bytes .now)))) (entry .args .rows .now) (judged.NoRoom)
           (sym (c .before .enum-told2 .given .1) ∙ at-judge .judge .ensures .0 .same)),
       at-judge .judge .ensures .1,
     )
@@ -150,7 +150,7 @@ returns-4 c =
     let at-judge = c .before .before .before .before .before .before in
     let entry = at-judge .before .before .before .before in (
       promised (c .refused4 .ensures ∙ answers.sheet-by (entry .args .bytes .now) 1
-          (numberOf (framesOf (nodesOf (entry .args .bytes .now)))) (entry .args .rows .now) (judged.Broken
+          (numberOr0 (framesOf (nodesOf (entry .args .bytes .now)))) (entry .args .rows .now) (judged.Broken
           (c .before .before .count .given .0 .0) (c .before .before .count .given .0 .1 .0) (c .before .before .count .given .0 .1 .1 .0))
           (sym (c .before .before .count .given .1) ∙ at-judge .judge .ensures .0 .same)),
       at-judge .judge .ensures .1,
@@ -167,7 +167,7 @@ returns-5 c =
     let entry = at-judge .before .before .before .before in (
       promised (c .sheet-table .ensures ∙ (ap (λ (b : ℕ). withSheet (nodesOf (entry .args .bytes .now)) 1 b
           (acceptedAnswer (nodesOf (entry .args .bytes .now)) 1 b (at-count2 .count2 .given .0 .0))) (c .before .last-frame .ensures)
-          ∙ answers.sheet-by (entry .args .bytes .now) 1 (numberOf (framesOf (nodesOf (entry .args .bytes .now)))) (entry .args .rows .now)
+          ∙ answers.sheet-by (entry .args .bytes .now) 1 (numberOr0 (framesOf (nodesOf (entry .args .bytes .now)))) (entry .args .rows .now)
           (judged.Accepted (at-count2 .count2 .given .0 .0)) (sym (at-count2 .count2 .given .1) ∙ at-judge .judge .ensures .0 .same))),
       at-judge .judge .ensures .1,
     )

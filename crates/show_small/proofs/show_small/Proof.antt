@@ -4,6 +4,7 @@ use mathlib.Core.Path.{sym, _∙_}
 use Prim.Native.Nat.{_*_}
 use native.Mathlib.Omega.{arith}
 use lib.Seq.{length-take-le}
+use Rattle.dataset.specs.Answer.{width}
 use Rattle.node.specs.Nodes.{nodesOf}
 use Rattle.show_small.proofs.Roomy as laws
 use borrow.Author.Needs.{needs}
@@ -40,21 +41,21 @@ mul-end c =
     let at-show = c .before .before .before .before .before .before in
     let t = laws.after-showing _ _ _ _ _ _ _ (sym (c .before .answer .given .1) ∙ at-show .show .ensures .0 .same)
     (at-show .show .ensures .1 .0) in
-    omega (arith, t .1 .size, t .1 .few, length-take-le (7 * c .before .answer .given .0 .0) (at-show .show .last .1 .1 .0) (t .0))
+    omega (arith, t .1 .size, t .1 .few, length-take-le (width * c .before .answer .given .0 .0) (at-show .show .last .1 .1 .0) (t .0))
 
 array-share-prefix-rows : tie.Need-array-share-prefix-rows
 array-share-prefix-rows c =
     let at-show = c .before .before .before .before .before .before in
     laws.after-showing _ _ _ _ _ _ _ (sym (c .before .answer .given .1) ∙ at-show .show .ensures .0 .same) (at-show .show .ensures .1 .0) .0
 
-slice-aggregate-with-size : tie.Need-slice-aggregate-with-size
-slice-aggregate-with-size c =
+slice-aggregate-sides-of : tie.Need-slice-aggregate-sides-of
+slice-aggregate-sides-of c =
     let at-show = c .before .before .before .before .before .before .before in
     sym (length-take-le _ _ (laws.after-showing _ _ _ _ _ _ _ (sym (c .before .before .answer .given .1) ∙ at-show .show .ensures .0 .same)
     (at-show .show .ensures .1 .0) .0))
 
-with-size-requires : tie.Need-with-size-requires
-with-size-requires c κs =
+sides-of-requires : tie.Need-sides-of-requires
+sides-of-requires c κs =
     let at-show = c .before .before .before .before .before .before .before in
     laws.after-showing _ _ _ _ _ _ _ (sym (c .before .before .answer .given .1) ∙ at-show .show .ensures .0 .same)
     (at-show .show .ensures .1 .0) .1
@@ -70,7 +71,7 @@ returns-2 c =
     let entry = at-row-buffer .before .before .before in
     let t = laws.roomy-shown _ _ _ _ (omega (arith, at-row-buffer .row-buffer .ensures, entry .pre)) _ _
     (sym (at-answer .answer .given .1) ∙ at-show .show .ensures .0 .same) (at-show .show .ensures .1 .1) in
-    let e = c .with-size .ensures ∙ t .0 in
+    let e = laws.drawn-sides (nodesOf (entry .args .bytes .now)) _ _ (c .sides-of .result) (c .sides-of .ensures) ∙ t .0 in
     (e, (t .1, laws.fits _ _ _ _ e))
 
 pub show-small-spec : {M : Type 1} → statement M
@@ -85,7 +86,7 @@ show-small-spec =
     returns
     mul-end
     array-share-prefix-rows
-    slice-aggregate-with-size
-    with-size-requires
+    slice-aggregate-sides-of
+    sides-of-requires
     same-length-2
     returns-2)

@@ -3,7 +3,7 @@
 use mathlib.Core.Path.{sym, ap, _∙_}
 use borrow.Author.Tests.{eq-eqb, ne-eqb}
 use Rattle.slip.specs.Slip.{rowsPlace, ifPossible, readSized}
-use Rattle.slip.proofs.Laws.{number-four}
+use Rattle.basics.proofs.Bytes.{le32-is}
 use borrow.Author.Needs.{needs}
 use Rattle.slip.proofs.read_new.Statement.{statement}
 use Rattle.slip.proofs.read_new.Tie as tie
@@ -22,7 +22,7 @@ unfolding readSized
 returns c =
     let at-if1 = c .before .before .before in
     let entry = at-if1 .before .before in
-    let rows = c .before .before .u32-at .ensures .0 ∙ number-four (entry .args .slip .now) rowsPlace in
+    let rows = c .before .before .u32-at .ensures .0 ∙ le32-is (entry .args .slip .now) rowsPlace in
     simp (eq-eqb _ _ (at-if1 .if1 .taken), sym rows) (c .if-possible .ensures ∙ ap ifPossible (c .before .fields .ensures))
 
 returns-2 : tie.Need-returns-2

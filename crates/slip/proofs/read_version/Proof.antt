@@ -2,7 +2,7 @@
 use mathlib.Core.Path.{sym, _∙_}
 use borrow.Author.Tests.{eq-eqb, ne-eqb}
 use Rattle.slip.specs.Slip.{versionPlace, readVersion}
-use Rattle.slip.proofs.Laws.{number-two}
+use Rattle.basics.proofs.Bytes.{le16-is}
 use borrow.Author.Needs.{needs}
 use Rattle.slip.proofs.read_version.Statement.{statement}
 use Rattle.slip.proofs.read_version.Tie as tie
@@ -17,7 +17,7 @@ returns : tie.Need-returns
 unfolding readVersion
 returns c =
     let entry = c .before .before .before .before in
-    let v = sym (number-two (entry .args .slip .now) versionPlace) ∙ sym (c .before .before .u16-at .ensures .0) in
+    let v = sym (le16-is (entry .args .slip .now) versionPlace) ∙ sym (c .before .before .u16-at .ensures .0) in
     simp (eq-eqb _ _ (v ∙ c .before .if1 .taken)) (c .read-old .ensures)
 
 read-new-requires : tie.Need-read-new-requires
@@ -28,14 +28,14 @@ unfolding readVersion
 returns-2 c =
     let at-u16-at = c .before .before .before in
     let entry = at-u16-at .before .before in
-    let v = at-u16-at .u16-at .ensures .0 ∙ number-two (entry .args .slip .now) versionPlace in
+    let v = at-u16-at .u16-at .ensures .0 ∙ le16-is (entry .args .slip .now) versionPlace in
     simp (ne-eqb _ _ (λ e. c .before .before .if1 .left (v ∙ e)), eq-eqb _ _ (sym v ∙ c .before .if2 .taken)) (c .read-new .ensures)
 
 returns-3 : tie.Need-returns-3
 unfolding readVersion
 returns-3 c =
     let entry = c .before .before .before .before in
-    let v = c .before .before .u16-at .ensures .0 ∙ number-two (entry .args .slip .now) versionPlace in
+    let v = c .before .before .u16-at .ensures .0 ∙ le16-is (entry .args .slip .now) versionPlace in
     simp (ne-eqb _ _ (λ e. c .before .if1 .left (v ∙ e)), ne-eqb _ _ (λ e. c .if2 .left (v ∙ e)))
 
 pub read-version-spec : {M : Type 1} → statement M

@@ -3,6 +3,7 @@ use mathlib.Core.Path.{sym, _∙_}
 use Prim.Native.Nat.{_*_}
 use native.Mathlib.Omega.{arith}
 use lib.Seq.{length-take-le}
+use Rattle.dataset.specs.Answer.{width}
 use Rattle.node.proofs.After.{after-reading}
 use borrow.Author.Needs.{needs}
 use Rattle.steps_cases.proofs.print_case.Statement.{statement}
@@ -24,7 +25,7 @@ mul-end : tie.Need-mul-end
 mul-end c =
     let at-read = c .before .before .before .before in
     let t = after-reading _ _ _ _ (sym (c .before .n .given .1) ∙ at-read .read .ensures .0 .same) (at-read .read .ensures .1) in
-    omega (arith, t .1 .size, t .1 .few, length-take-le (7 * c .before .n .given .0 .0) (at-read .read .last .1 .0) (t .0))
+    omega (arith, t .1 .size, t .1 .few, length-take-le (width * c .before .n .given .0 .0) (at-read .read .last .1 .0) (t .0))
 
 array-share-prefix-rows : tie.Need-array-share-prefix-rows
 array-share-prefix-rows c =

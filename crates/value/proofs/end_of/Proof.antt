@@ -2,7 +2,7 @@
 use mathlib.Core.Path.{sym, ap, _∙_}
 use Rattle.value.specs.Number.{scaledBy, exponentOf}
 use Rattle.value.proofs.Forms as forms
-use Rattle.value.proofs.Lists as lists
+use Rattle.basics.proofs.Lists as lists
 use borrow.Author.Needs.{needs}
 use Rattle.value.proofs.end_of.Statement.{statement}
 use Rattle.value.proofs.end_of.Tie as tie

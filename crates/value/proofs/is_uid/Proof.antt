@@ -13,8 +13,8 @@ value-of-requires c κs = search needs
 trim-end-requires : tie.Need-trim-end-requires
 trim-end-requires c κs = search needs
 
-equal-requires : tie.Need-equal-requires
-equal-requires c κs = search needs
+same-bytes-requires : tie.Need-same-bytes-requires
+same-bytes-requires c κs = search needs
 
 returns : tie.Need-returns
 unfolding isUid
@@ -22,7 +22,7 @@ returns c =
     let at-if1 = c .before .before .before in
     let at-is-single = at-if1 .before in
     rw (
-      c .equal .ensures,
+      c .same-bytes .ensures,
       c .before .trim-end .ensures,
       c .before .before .value-of .ensures,
       ← at-is-single .is-single .ensures,
@@ -41,6 +41,6 @@ is-uid-spec =
     is-single-requires
     value-of-requires
     trim-end-requires
-    equal-requires
+    same-bytes-requires
     returns
     returns-2)

@@ -10,13 +10,13 @@ value-of-requires c κs = search needs
 trimmed-requires : tie.Need-trimmed-requires
 trimmed-requires c κs = search needs
 
-equal-requires : tie.Need-equal-requires
-equal-requires c κs = search needs
+same-bytes-requires : tie.Need-same-bytes-requires
+same-bytes-requires c κs = search needs
 
 returns : tie.Need-returns
 unfolding wordAt
 returns c =
-    rw (c .equal .ensures, c .before .trimmed .ensures, c .before .before .value-of .ensures)
+    rw (c .same-bytes .ensures, c .before .trimmed .ensures, c .before .before .value-of .ensures)
 
 pub is-word-at-spec : {M : Type 1} → statement M
-is-word-at-spec = tie.close (tie.spec value-of-requires trimmed-requires equal-requires returns)
+is-word-at-spec = tie.close (tie.spec value-of-requires trimmed-requires same-bytes-requires returns)

@@ -5,7 +5,7 @@ use mathlib.Core.List.{List}
 use native.Mathlib.Omega.{arith}
 use Rattle.value.specs.Number.{endOf}
 use Rattle.value.proofs.Forms as forms
-use Rattle.value.proofs.Lists as lists
+use Rattle.basics.proofs.Lists as lists
 use borrow.Author.Needs.{needs}
 use Rattle.value.proofs.point_of.Statement.{statement}
 use Rattle.value.proofs.point_of.Tie as tie

@@ -6,7 +6,7 @@ use lib.ListN.{length, length-drop}
 use native.Mathlib.Omega.{arith}
 use Rattle.value.specs.Number.{endOf, pointBy, runOf}
 use Rattle.value.proofs.Forms as forms
-use Rattle.value.proofs.Lists as lists
+use Rattle.basics.proofs.Lists as lists
 use borrow.Author.Needs.{needs}
 use Rattle.value.proofs.size_of.Statement.{statement}
 use Rattle.value.proofs.size_of.Tie as tie

@@ -6,7 +6,7 @@ use native.Mathlib.Omega.{arith}
 use borrow.Author.Needs.{needs}
 use lib.ListN.{length, take}
 use Rattle.value.specs.Text.{trimEnd}
-use Rattle.value.proofs.Lists as lists
+use Rattle.value.proofs.Trimming as trimming
 use Rattle.value.proofs.trim_end.Statement.{statement}
 use Rattle.value.proofs.trim_end.Tie as tie
 
@@ -40,7 +40,7 @@ returns : tie.Need-returns Inv-loop μ-loop
 returns c =
     let at-loop-test = c .before .before .before in
     let at-loop = at-loop-test .before in
-    sym (lists.end-no _ _ _ (at-loop-test .loop-test .taken) (at-loop .loop .inv .1) (c .before .if1 .taken)) ∙ at-loop .loop .inv .0
+    sym (trimming.end-no _ _ _ (at-loop-test .loop-test .taken) (at-loop .loop .inv .1) (c .before .if1 .taken)) ∙ at-loop .loop .inv .0
 
 sub-n : tie.Need-sub-n Inv-loop μ-loop
 sub-n c =
@@ -53,7 +53,7 @@ loop-less c =
 loop-again : tie.Need-loop-again Inv-loop μ-loop
 loop-again c =
     let at-loop = c .before .before .before in (
-      sym (lists.end-next _ _ _ (c .before .before .loop-test .taken) (at-loop .loop .inv .1) (c .if1 .left)) ∙ at-loop .loop .inv .0,
+      sym (trimming.end-next _ _ _ (c .before .before .loop-test .taken) (at-loop .loop .inv .1) (c .if1 .left)) ∙ at-loop .loop .inv .0,
       omega arith,
     )
 
@@ -63,7 +63,7 @@ slice-aggregate-result-2 c =
 
 returns-2 : tie.Need-returns-2 Inv-loop μ-loop
 returns-2 c =
-    sym (lists.end-none _ _ _ (c .before .loop-test .left)) ∙ c .before .before .loop .inv .0
+    sym (trimming.end-none _ _ _ (c .before .loop-test .left)) ∙ c .before .before .loop .inv .0
 
 pub trim-end-spec : {M : Type 1} → statement M
 trim-end-spec =

@@ -4,7 +4,8 @@ use Prim.Native.Nat.{_-_}
 use borrow.Author.Needs.{needs}
 use lib.ListN.{length, drop}
 use Rattle.value.specs.Text.{trimStart}
-use Rattle.value.proofs.Lists as lists
+use Rattle.basics.proofs.Lists.{to-end}
+use Rattle.value.proofs.Trimming as trimming
 use Rattle.value.proofs.trim_start.Statement.{statement}
 use Rattle.value.proofs.trim_start.Tie as tie
 
@@ -42,8 +43,8 @@ returns c =
     let at-loop-test = c .before .before .before in
     let at-loop = at-loop-test .before in
     let entry = at-loop .before in
-    lists.to-end (entry .args .v .now) (at-loop .loop .i)
-    ∙ sym (lists.start-no _ _ _ (at-loop-test .loop-test .taken) (c .before .if1 .taken)) ∙ at-loop .loop .inv
+    to-end (entry .args .v .now) (at-loop .loop .i)
+    ∙ sym (trimming.start-no _ _ _ (at-loop-test .loop-test .taken) (c .before .if1 .taken)) ∙ at-loop .loop .inv
 
 add-i : tie.Need-add-i Inv-loop μ-loop
 add-i c =
@@ -56,7 +57,7 @@ loop-less c =
 loop-again : tie.Need-loop-again Inv-loop μ-loop
 loop-again c =
     let at-loop = c .before .before .before in
-    sym (lists.start-next _ _ _ (c .before .before .loop-test .taken) (c .if1 .left)) ∙ at-loop .loop .inv
+    sym (trimming.start-next _ _ _ (c .before .before .loop-test .taken) (c .if1 .left)) ∙ at-loop .loop .inv
 
 slice-aggregate-result : tie.Need-slice-aggregate-result Inv-loop μ-loop
 slice-aggregate-result c =
@@ -64,7 +65,7 @@ slice-aggregate-result c =
 
 returns-2 : tie.Need-returns-2 Inv-loop μ-loop
 returns-2 c =
-    sym (lists.start-end _ _ _ (c .before .loop-test .left)) ∙ c .before .before .loop .inv
+    sym (trimming.start-end _ _ _ (c .before .loop-test .left)) ∙ c .before .before .loop .inv
 
 pub trim-start-spec : {M : Type 1} → statement M
 trim-start-spec =

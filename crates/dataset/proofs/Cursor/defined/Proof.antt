@@ -19,12 +19,12 @@ returns-2 c = (search checks depth 40 fits 4000, search needs)
 add-t8 : tie.Need-add-t8
 add-t8 c = search needs
 
-level-requires : tie.Need-level-requires
-level-requires c κs = search needs
+nested-requires : tie.Need-nested-requires
+nested-requires c κs = search needs
 
 returns-3 : tie.Need-returns-3
 unfolding definedBy
 returns-3 c = (search checks depth 40 fits 4000, search needs)
 
 pub defined-spec : {M : Type 1} → statement M
-defined-spec = tie.close (tie.spec returns sub-if2 returns-2 add-t8 level-requires returns-3)
+defined-spec = tie.close (tie.spec returns sub-if2 returns-2 add-t8 nested-requires returns-3)

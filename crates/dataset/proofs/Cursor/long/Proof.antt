@@ -5,8 +5,8 @@ use borrow.Author.Needs.{needs}
 use Rattle.dataset.proofs.Cursor.long.Statement.{statement}
 use Rattle.dataset.proofs.Cursor.long.Tie as tie
 
-level-requires : tie.Need-level-requires
-level-requires c κs = search needs
+nested-requires : tie.Need-nested-requires
+nested-requires c κs = search needs
 
 returns : tie.Need-returns
 unfolding longBy
@@ -24,4 +24,4 @@ unfolding longBy
 returns-3 c = (search checks depth 40 fits 4000, search needs)
 
 pub long-spec : {M : Type 1} → statement M
-long-spec = tie.close (tie.spec level-requires returns returns-2 defined-requires returns-3)
+long-spec = tie.close (tie.spec nested-requires returns returns-2 defined-requires returns-3)

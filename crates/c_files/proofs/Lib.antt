@@ -1,0 +1,2 @@
+-- What the proofs of `cabi` use.
+pub mod Fits

@@ -1,0 +1,3 @@
+-- What the proofs of several functions, and of `cabi`, use.
+pub mod Fits
+mod Put

@@ -1,0 +1,13 @@
+-- `count_in` answers `countIn`: one test decides.
+use borrow.Author.Tests.{eq-eqb, ne-eqb}
+use Rattle.c_slips.proofs.count_in.Statement.{statement}
+use Rattle.c_slips.proofs.count_in.Tie as tie
+
+returns : tie.Need-returns
+returns c = simp (eq-eqb _ _ (c .if1 .taken))
+
+returns-2 : tie.Need-returns-2
+returns-2 c = simp (ne-eqb _ _ (c .if1 .left))
+
+pub count-in-spec : {M : Type 1} → statement M
+count-in-spec = tie.close (tie.spec returns returns-2)
