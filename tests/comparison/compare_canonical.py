@@ -231,4 +231,4 @@ def run(comparison, arguments):
 
 
 if __name__ == "__main__":
-    run_as_program("canonical", ["xa_canonical"], 2500, run)
+    run_as_program("canonical", run)
