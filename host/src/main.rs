@@ -125,7 +125,7 @@ struct ManyRuns {
     /// Leave out files and folders that match GLOB; may be repeated
     #[arg(long, value_name = "GLOB", value_parser = finding::pattern)]
     exclude: Vec<Glob>,
-    /// Do not read files that were written to less than SECONDS ago or are still growing; list them as arriving
+    /// List files that were written to less than SECONDS ago, or are still growing, as arriving, and do not read them
     ///
     /// Each file is checked twice for that, a second apart. A file that another program has open for writing is arriving too.
     #[arg(long, value_name = "SECONDS", value_parser = seconds)]
