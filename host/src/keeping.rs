@@ -59,7 +59,7 @@ impl Keeping {
             verdict.and_then(
                 |answer| if answer.is_done() { self.move_accepted.as_ref() } else { self.move_refused.as_ref() },
             );
-        // A file whose slip is missing stays for the next time.
+        // A file without its slip stays where it is, for the next run of luux.
         if let (Some(folder), false) = (folder, kept.failed()) {
             let to = under(folder, path);
             let moved = rename(path, before, &to);

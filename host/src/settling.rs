@@ -19,7 +19,7 @@ pub struct Settling<'a> {
 }
 
 impl<'a> Settling<'a> {
-    /// Looks at the files for the first time, and waits until one that grows would have changed.
+    /// Looks at the files for the first time, and waits long enough for a growing file to change.
     pub fn of(found: &'a [Found], settle: Option<Duration>) -> Settling<'a> {
         let mut seen = Vec::new();
         if let Some(settle) = settle {

@@ -462,7 +462,7 @@ pub fn count(bytes: &[u8]) -> ReadAnswer
     }
 }
 
-// Reads a data set into rows of seven numbers. A refusal leaves the buffer as it was: the first walk gets no buffer and only counts, and
+// Reads a data set into rows. A refusal leaves the buffer as it was: the first walk gets no buffer and only counts, and
 // the second writes the rows once they are known to fit.
 pub fn read(bytes: &[u8], rows: &mut [u32]) -> ReadAnswer
     ensures { λ r. ⌜ Answers fieldsOf r (answerOf (readingOf (now (bytes .entry))) (now (rows .entry))) ⌝ }

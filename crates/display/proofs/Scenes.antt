@@ -1,4 +1,5 @@
--- What an accepted object gives to its scene and to the plan of each frame.
+-- In an accepted object no step lacks anything, and the rules bound its sizes; so its scene and the plan of each frame are what drawing
+-- requires.
 use mathlib.Core.Path.{_≡_, sym, ap, _∙_, subst}
 use mathlib.Core.Bool.{true, _||_}
 use mathlib.Core.List.{List}

@@ -57,7 +57,7 @@ valuesBy l values linear.NoValuesRoom = values
 unfoldable pub valuesLeft : List ℕ → ℕ → List ℕ → List ℕ → List ℕ
 valuesLeft s f buffer values = valuesBy (entriesOf (nodesOf s) f) values (linearOf s f buffer values)
 
--- The papers' numbers for each case.
+-- The paper's numbers for each case.
 abbrev pub fieldsOf : LinearAnswer → Fields
 fieldsOf (linear.Mapped n) = counted n
 fieldsOf (linear.Broken n rule frame) = broken n rule frame

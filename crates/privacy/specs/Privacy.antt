@@ -1,4 +1,4 @@
--- The list on the wall (document 02, Q-7).
+-- What the values of four patient items cannot reach (document 02, Q-7, "The list on the wall").
 --
 -- Once a data set reads, nothing of four patient items reaches a verdict, a picture or a sheet. Take two data sets within the size limit
 -- that both read, with the same rows but for offsets and lengths, whose values differ only in the root elements Patient's Name

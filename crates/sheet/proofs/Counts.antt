@@ -1,4 +1,5 @@
--- Counts and lists of levels.
+-- A level is one of 256 places, so each cell adds 1 to exactly one count: the counts add up to the number of cells, and each level times
+-- its count adds up to the sum of all levels.
 use mathlib.Core.Path.{_≡_, refl, sym, ap, _∙_}
 use mathlib.Core.Bool.{cond}
 use mathlib.Core.List.{List, [], _∷_, _++_}

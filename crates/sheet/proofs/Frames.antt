@@ -1,4 +1,5 @@
--- One frame after the other: its item, its levels, and the room that is left in the counts.
+-- The frames that are left are the next one and those after it; so what is still to be counted, the native frames and the room in the
+-- counts split in the same way.
 use mathlib.Core.Path.{_≡_, sym, ap, _∙_, subst}
 use mathlib.Core.Bool.{Bool, true, false, cond}
 use mathlib.Core.List.{List}

@@ -1,4 +1,5 @@
--- Counting a frame line by line.
+-- A frame's levels are those of its lines, one after the other, and counting two lists one after the other counts both; so counting line by
+-- line counts the frame.
 use mathlib.Core.Path.{_≡_, sym, ap, _∙_}
 use mathlib.Core.List.{List, [], _∷_}
 use Prim.Native.Nat.{ℕ, _+_, _*_, _≤_, _<_}

@@ -1,4 +1,5 @@
--- What an accepted object gives to the counts of a frame.
+-- In an accepted object nothing lacks, so the levels that a scene and a plan give are those of the steps' picture, step 2 answers for each
+-- frame, and what has room for a picture has room for its samples.
 use mathlib.Core.Path.{_≡_, sym, ap, _∙_, subst}
 use mathlib.Core.List.{List}
 use mathlib.Core.Option.{some}
