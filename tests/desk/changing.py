@@ -12,8 +12,8 @@ import threading
 import time
 import unittest
 
+from desk.common import FAILED, FINE, LARGE, NOBODY, REFUSED, TOOL, Desk, alone, good_run, read_pgm, with_head
 from generators import enhanced_xa as xa
-from desk.common import FAILED, FINE, LARGE, NOBODY, REFUSED, TOOL, Desk, good_run, read_pgm, with_head
 from generators.objects import encode
 from reference import attributes as tags
 from reference import files
@@ -95,6 +95,8 @@ class TestChanging(Desk):
         ends = self.race(contents, ((self.overwrite, RUNS - 300), (self.cut_and_write, 300)))
         self.assertGreater(min(ends.values()), 20, ends)
 
+    # Alone: its busy loops would slow down whatever else is on that processor.
+    @alone
     def test_no_picture_of_changed_bytes_when_starved(self):
         """The same with the writer, the tool and busy loops on one processor, so that a writer stops anywhere for long; even within a write."""
         contents = two_runs()
@@ -206,6 +208,8 @@ class TestChanging(Desk):
             met += CHANGED in out or WRITTEN in out
         self.assertGreater(met, 0)
 
+    # Alone: it measures time, and counts only pictures during which no write was held up.
+    @alone
     @unittest.skipUnless(os.getuid() == 0, "users get leases on their own files; only root can act as another user")
     def test_no_lease(self):
         """Without a lease on another user's file, luux waits until it has been left alone, and refuses it if it reads differently the second time."""
@@ -285,6 +289,8 @@ class TestChanging(Desk):
                 self.assertIn(done.returncode, (FINE, REFUSED, FAILED), (words, done))
         stop.set()
 
+    # Alone: whoever touches the run must get its turn every few milliseconds.
+    @alone
     def test_changed_meanwhile(self):
         """A run that is touched again and again gets no verdict, no picture and no sheet, whatever the command."""
         frames = 60
@@ -381,6 +387,3 @@ class TestArriving(Desk):
         done = self.luux("duplicates", "in", "--timeout", "0", status=FAILED)
         self.assertEqual(done.stderr.count(b"took longer than the --timeout of 0 s"), 4)
         self.assertIn(b"4 could not be read", self.luux("report", "in", "--timeout", "0").stdout)
-
-
-__all__ = [name for name, one in list(globals().items()) if isinstance(one, type) and issubclass(one, unittest.TestCase) and one is not Desk]

@@ -4,7 +4,6 @@ import os
 import shutil
 import subprocess
 import tempfile
-import unittest
 
 from desk.common import FAILED, FINE, REFUSED, Desk, good_run, with_head
 
@@ -138,6 +137,3 @@ class TestTime(Desk):
         for wrong in ("-1", "never"):
             self.luux("judge", "runs", f"--timeout={wrong}", status=FAILED)
         self.assertNotIn(b"look", self.luux("--help").stdout.split(b"Commands:")[1].split(b"Options:")[0].replace(b"looked", b""))
-
-
-__all__ = [name for name, one in list(globals().items()) if isinstance(one, type) and issubclass(one, unittest.TestCase) and one is not Desk]
