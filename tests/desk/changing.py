@@ -22,6 +22,8 @@ RUNS = 1000
 STARVED = int(os.environ.get("LUUX_STARVED", 150))  # runs beside busy loops, with all of it on one processor
 BUSY = 6
 PAUSE = 0.1  # seconds between the two readings of a file without a lease
+CHECKS = 10  # pictures, and refusals, of a file without a lease that must have been met
+TRIES = 400  # in at most so many runs
 CHANGED = b"changed while luux was reading it"
 WRITTEN = b"another program has it open for writing"
 
@@ -229,7 +231,7 @@ class TestChanging(Desk):
             map[:] = contents[1]
             time.sleep(2.2)
             stop = threading.Event()
-            begun, slowest = time.monotonic(), 0
+            begun, slowest, rest = time.monotonic(), 0, 0
 
             def flip():
                 nonlocal begun, slowest
@@ -239,20 +241,31 @@ class TestChanging(Desk):
                     begun = time.monotonic()
                     map[:] = contents[number % 2]
                     slowest = max(slowest, time.monotonic() - begun)
+                    time.sleep(rest)
             thread = threading.Thread(target=flip)
             thread.start()
+            ends = {FINE: 0, FAILED: 0}
             try:
-                for _ in range(30):
+                # Without a rest, writes nearly always meet a reading. With rests so long that an even number of writes falls between the readings,
+                # both often find the same run.
+                for rest in (0, PAUSE / 4) * (TRIES // 2):
                     slowest = 0
                     done = self.show(**other)
-                    self.assertIn(done.returncode, (FINE, FAILED), done)
+                    self.assertIn(done.returncode, ends, done)
                     # A write that a busy machine stops for longer than the pause between the two readings goes unnoticed.
-                    noticed = max(slowest, time.monotonic() - begun) < PAUSE
-                    if done.returncode == FINE and noticed:
+                    if max(slowest, time.monotonic() - begun) >= PAUSE:
+                        continue
+                    ends[done.returncode] += 1
+                    if done.returncode == FINE:
                         self.assertTrue(read_pgm(self.path("x.pgm"))[2] in wanted, "a picture of mixed bytes")
+                    else:
+                        self.assertIn(CHANGED, done.stderr)
+                    if min(ends.values()) >= CHECKS:
+                        break
             finally:
                 stop.set()
                 thread.join()
+            self.assertGreaterEqual(min(ends.values()), CHECKS, ends)
 
     def test_the_race_is_one(self):
         """What these tests look for does happen where the tool lends a mapping: a picture of no run, or a crash."""
