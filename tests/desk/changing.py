@@ -22,8 +22,9 @@ RUNS = 1000
 STARVED = int(os.environ.get("LUUX_STARVED", 150))  # runs beside busy loops, with all of it on one processor
 BUSY = 6
 PAUSE = 0.1  # seconds between the two readings of a file without a lease
+GAP = 0.01  # seconds; a file that is touched as often is never read
 CHECKS = 10  # pictures, and refusals, of a file without a lease that must have been met
-TRIES = 400  # in at most so many runs
+TRIES = 400  # the most runs in which a busy machine must let us see what we look for
 CHANGED = b"changed while luux was reading it"
 WRITTEN = b"another program has it open for writing"
 
@@ -302,8 +303,6 @@ class TestChanging(Desk):
                 self.assertIn(done.returncode, (FINE, REFUSED, FAILED), (words, done))
         stop.set()
 
-    # Alone: whoever touches the run must get its turn every few milliseconds.
-    @alone
     def test_changed_meanwhile(self):
         """A run that is touched again and again gets no verdict, no picture and no sheet, whatever the command."""
         frames = 60
@@ -313,13 +312,21 @@ class TestChanging(Desk):
         self.put("run.dcm", with_head(encode(model)))
         for words in (("judge", "run.dcm"), ("contact", "run.dcm", "-o", "x.pgm"), ("sheet", "run.dcm"), ("show", "run.dcm", "1", "-o", "x.pgm"),
                       ("canonical", "run.dcm", "-o", "x")):
-            process = subprocess.Popen([TOOL, *words], cwd=self.folder, stdout=subprocess.PIPE, stderr=subprocess.PIPE)
-            times = 0
-            while process.poll() is None:
-                times += 1
-                os.utime(self.path("run.dcm"), (times, times))
-            out, told = process.communicate()
-            self.assertEqual(process.returncode, FAILED, words)
+            for _ in range(TRIES):
+                process = subprocess.Popen([TOOL, *words], cwd=self.folder, stdout=subprocess.PIPE, stderr=subprocess.PIPE)
+                times = gap = 0
+                last = time.monotonic()
+                while process.poll() is None:
+                    times += 1
+                    os.utime(self.path("run.dcm"), (times, times))
+                    gap, last = max(gap, time.monotonic() - last), time.monotonic()
+                out, told = process.communicate()
+                if process.returncode != FINE or gap < GAP:
+                    break
+                # The machine was too busy to let us touch the run in time.
+                for name in {"x", "x.pgm"} & set(os.listdir(self.folder)):
+                    os.remove(self.path(name))
+            self.assertEqual(process.returncode, FAILED, (words, gap))
             self.assertIn(CHANGED, out + told, words)
         self.assertEqual(os.listdir(self.folder), ["run.dcm"])
 
@@ -374,7 +381,7 @@ class TestArriving(Desk):
             self.assertIn(b"seconds", self.luux("judge", "in", f"--settle={wrong}", status=FAILED).stderr)
 
     def test_other_commands(self):
-        """Every command that searches folders leaves out files that are arriving, and gives up on those that take too long."""
+        """Every command that searches folders leaves out files that are arriving, and says the same with --timeout."""
         for name, content in (("a", good_run()), ("b", good_run()), ("c", good_run()[:-2]), ("young", good_run())):
             self.put(f"in/{name}.dcm", with_head(content))
             os.utime(self.path("in", f"{name}.dcm"), (time.time() - (0 if name == "young" else 500),) * 2)
@@ -397,6 +404,3 @@ class TestArriving(Desk):
                     tables.append(file.read().count(b"data:image/png"))
             self.assertEqual(said[0], said[1])
             self.assertEqual(tables[:2], tables[2:])
-        done = self.luux("duplicates", "in", "--timeout", "0", status=FAILED)
-        self.assertEqual(done.stderr.count(b"took longer than the --timeout of 0 s"), 4)
-        self.assertIn(b"4 could not be read", self.luux("report", "in", "--timeout", "0").stdout)

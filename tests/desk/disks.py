@@ -86,6 +86,11 @@ class TestDisks(Desk):
         self.assertEqual(said, ["runs/a.dcm: accepted", "runs/c.dcm: accepted",
                                 "runs/slow-disk.dcm: took longer than the --timeout of 1 s; there is no verdict",
                                 "3 files: 2 accepted, 0 refused, 1 could not be read"])
+        done = self.with_bad_disk("duplicates", "runs", "--timeout", "1", status=FAILED)
+        self.assertTrue(done.stdout.endswith(b"3 files: 2 equal in 1 group, 0 refused, 1 could not be read\n"), done.stdout)
+        self.assertEqual(done.stderr, b"luux: runs/slow-disk.dcm: took longer than the --timeout of 1 s; there is no verdict\n")
+        done = self.with_bad_disk("report", "runs", "--timeout", "1", status=FINE)
+        self.assertIn(b"2 accepted, 0 refused, 1 could not be read", done.stdout)
 
     def test_a_full_disk(self):
         """Slips, pictures and canonical forms that cannot be written leave nothing behind, and older files stay."""
