@@ -21,7 +21,7 @@ use crate::library::Answer;
 use crate::looking::{self, What};
 use crate::memory::Granted;
 use crate::other;
-use crate::output::{note, note_of, Object, Status};
+use crate::output::{may_write, note, note_of, Object, Status};
 use crate::picture;
 use crate::settling::Settling;
 use crate::values::counted;
@@ -117,6 +117,9 @@ pub fn are_equal(one: &Path, other: &Path, kind: Form) -> Result<bool, Failure> 
 
 /// Writes a file in canonical form to another: its head unchanged, then the canonical form of its data set.
 pub fn write(path: &Path, kind: Form, output: &Path, out: &mut dyn Write) -> io::Result<Status> {
+    if !may_write(output, path) {
+        return Ok(Status::Failed);
+    }
     let Canonical { head: mut content, form, same, _granted } = match form_of(path, kind, &mut RowBuffer::default()) {
         Ok(found) => found,
         Err(Failure::Refused(text) | Failure::Other(text)) => {
@@ -126,7 +129,7 @@ pub fn write(path: &Path, kind: Form, output: &Path, out: &mut dyn Write) -> io:
     };
     content.extend(form);
     let about = format!("{} bytes, {}", content.len(), if same { "unchanged" } else { "in canonical form" });
-    picture::write_file(Ok(content), path, output, &about, out)
+    picture::write_file(Ok(content), output, &about, out)
 }
 
 /// A file, and whether it is in canonical form itself.

@@ -10,7 +10,7 @@ use crate::codes::Code;
 use crate::files;
 use crate::head;
 use crate::names::tags;
-use crate::output::{note_of, note_unwritten, Status};
+use crate::output::{may_write, note_of, note_unwritten, Status};
 use crate::picture::{self, explain, explain_aside, Failure, Format, Image, Run};
 
 /// Which frames of a run.
@@ -80,6 +80,14 @@ fn name(path: &Path, frame: u64, digits: usize, format: Option<Format>) -> PathB
     files::beside(path, &format!(".frame-{frame:0digits$}.{ending}"))
 }
 
+/// Where the picture of a frame is written.
+fn target(path: &Path, frames: Frames, frame: u64, digits: usize, wanted: &Wanted) -> PathBuf {
+    match wanted.output {
+        Some(output) if !is_folder(output, frames) => PathBuf::from(output),
+        folder => folder.unwrap_or_else(|| Path::new("")).join(name(path, frame, digits, wanted.format)),
+    }
+}
+
 /// Whether this is the name of a folder for pictures: there are several, it ends in a slash, or it is a folder without a picture's ending.
 fn is_folder(path: &Path, frames: Frames) -> bool {
     let several = !matches!(frames, Frames::One(_));
@@ -129,6 +137,9 @@ fn to_files(path: &Path, run: &mut Run, frames: Frames, wanted: &Wanted, out: &m
     if let Err(failure) = run.draw(first).and_then(|_| run.draw(last)) {
         return explain(path, failure, out);
     }
+    if !(first..=last).all(|frame| may_write(&target(path, frames, frame, digits, wanted), path)) {
+        return Ok(Status::Failed);
+    }
     if let Some(Err(error)) = folder.map(fs::create_dir_all) {
         note_unwritten(folder.unwrap_or(path), &error);
         return Ok(Status::Failed);
@@ -138,11 +149,7 @@ fn to_files(path: &Path, run: &mut Run, frames: Frames, wanted: &Wanted, out: &m
             Ok(drawn) => drawn,
             Err(failure) => return explain(path, failure, out),
         };
-        let to = match (folder, wanted.output) {
-            (None, Some(output)) => PathBuf::from(output),
-            _ => folder.unwrap_or_else(|| Path::new("")).join(name(path, frame, digits, wanted.format)),
-        };
-        let status = picture::write(&image, path, &to, &about, out)?;
+        let status = picture::write(&image, &target(path, frames, frame, digits, wanted), &about, out)?;
         if status != Status::Fine {
             return Ok(status);
         }
@@ -153,6 +160,12 @@ fn to_files(path: &Path, run: &mut Run, frames: Frames, wanted: &Wanted, out: &m
 /// Draws frames.
 pub fn show(path: &Path, frames: Frames, wanted: &Wanted, out: &mut dyn Write) -> io::Result<Status> {
     let to_stdout = wanted.output == Some(Path::new("-"));
+    // The names of several pictures depend on how many frames the run has.
+    if let (Frames::One(frame), false) = (frames, to_stdout) {
+        if !may_write(&target(path, frames, frame, 1, wanted), path) {
+            return Ok(Status::Failed);
+        }
+    }
     match Run::open(path, wanted.form) {
         Ok(mut run) if to_stdout => to_standard_output(path, &mut run, frames, wanted, out),
         Ok(mut run) => to_files(path, &mut run, frames, wanted, out),
@@ -206,8 +219,11 @@ pub fn movie(
     out: &mut dyn Write,
 ) -> io::Result<Status> {
     let to = wanted.output.map_or_else(|| files::beside(path, ".movie.png"), PathBuf::from);
+    if !may_write(&to, path) {
+        return Ok(Status::Failed);
+    }
     match Run::open(path, wanted.form).and_then(|mut run| animated(&mut run, frames, wanted.both, rate)) {
-        Ok((content, about)) => picture::write_file(Ok(content), path, &to, &about, out),
+        Ok((content, about)) => picture::write_file(Ok(content), &to, &about, out),
         Err(failure) => explain(path, failure, out),
     }
 }

@@ -13,7 +13,7 @@ use crate::head::{self, Judged};
 use crate::library::{Answer, Compared, SHEET_NUMBERS};
 use crate::names::tags;
 use crate::other;
-use crate::output::{line, note_of, Status};
+use crate::output::{line, may_write, note_of, Status};
 use crate::sentences;
 use crate::table::Table;
 use crate::values::Source;
@@ -424,34 +424,18 @@ pub fn explain_aside(path: &Path, failure: Failure) -> Status {
 }
 
 /// Writes an image and says so.
-pub fn write<C: Cell>(
-    image: &Image<C>,
-    from: &Path,
-    to: &Path,
-    about: &str,
-    out: &mut dyn Write,
-) -> io::Result<Status> {
+pub fn write<C: Cell>(image: &Image<C>, to: &Path, about: &str, out: &mut dyn Write) -> io::Result<Status> {
     let content = match format_of(to) {
         None => Err(String::from("its name must end in .png or .pgm")),
         Some(format) => image.encoded(format),
     };
-    write_file(content, from, to, &format!("{} x {}, {about}", image.width, image.height), out)
+    write_file(content, to, &format!("{} x {}, {about}", image.width, image.height), out)
 }
 
-/// Writes a file that was made from a run, never over the run itself, and says so.
-pub fn write_file(
-    content: Result<Vec<u8>, String>,
-    from: &Path,
-    to: &Path,
-    about: &str,
-    out: &mut dyn Write,
-) -> io::Result<Status> {
-    let written = match content {
-        Ok(_) if files::is_same(from, to) => Err(String::from("it is the input itself; name another file")),
-        Ok(content) => files::write_whole(to, &content, false).map_err(|error| files::trouble(&error)),
-        Err(trouble) => Err(trouble),
-    };
-    match written {
+/// Writes a file that was made from a run, and says so. Its caller has asked whether it may.
+pub fn write_file(content: Result<Vec<u8>, String>, to: &Path, about: &str, out: &mut dyn Write) -> io::Result<Status> {
+    let write = |content: Vec<u8>| files::write_whole(to, &content, false).map_err(|error| files::trouble(&error));
+    match content.and_then(write) {
         Ok(()) => {
             line(out, to, about)?;
             Ok(Status::Fine)
@@ -466,11 +450,14 @@ pub fn write_file(
 /// Draws a contact sheet.
 pub fn contact(path: &Path, form: head::Form, to: Option<&Path>, out: &mut dyn Write) -> io::Result<Status> {
     let to = to.map_or_else(|| files::beside(path, ".contact.png"), PathBuf::from);
+    if !may_write(&to, path) {
+        return Ok(Status::Failed);
+    }
     match Run::open(path, form).and_then(|mut run| sheet_of(&mut run).map(|sheet| (sheet, run.frames))) {
         Ok(((sheet, frames), all)) => {
             let named: Vec<String> = frames.iter().map(u64::to_string).collect();
             let about = format!("{} of {all} frames: {}", frames.len(), named.join(" "));
-            write(&sheet, path, &to, &about, out)
+            write(&sheet, &to, &about, out)
         }
         Err(failure) => explain(path, failure, out),
     }
@@ -479,8 +466,11 @@ pub fn contact(path: &Path, form: head::Form, to: Option<&Path>, out: &mut dyn W
 /// Maps one frame back to beam intensity.
 pub fn linear(path: &Path, form: head::Form, frame: u64, to: Option<&Path>, out: &mut dyn Write) -> io::Result<Status> {
     let to = to.map_or_else(|| files::beside(path, &format!(".linear-{frame}.png")), PathBuf::from);
+    if !may_write(&to, path) {
+        return Ok(Status::Failed);
+    }
     match Run::open(path, form).and_then(|mut run| run.map(frame)) {
-        Ok(image) => write(&image, path, &to, &format!("frame {frame}, linear"), out),
+        Ok(image) => write(&image, &to, &format!("frame {frame}, linear"), out),
         Err(failure) => explain(path, failure, out),
     }
 }

@@ -7,7 +7,7 @@ use std::path::Path;
 
 use crate::head::Form;
 use crate::library::SHEET_NUMBERS;
-use crate::output::{line, note_of, Object, Status};
+use crate::output::{line, may_write, note_of, Object, Status};
 use crate::picture::{self, Failure, Image, Run};
 
 const LEVELS: usize = 256;
@@ -182,6 +182,9 @@ pub fn plot(run: &mut Run) -> Result<(Image<u8>, String), Failure> {
 
 /// Samples a run.
 pub fn run(path: &Path, wanted: &Wanted, out: &mut dyn Write) -> io::Result<Status> {
+    if wanted.output.map_or(false, |to| !may_write(to, path)) {
+        return Ok(Status::Failed);
+    }
     let sheet = match sample(path, wanted.form, wanted.frames) {
         Ok(sheet) => sheet,
         Err(failure) if !matches!(wanted.print, Print::Plot) => return Ok(picture::explain_aside(path, failure)),
@@ -203,7 +206,7 @@ pub fn run(path: &Path, wanted: &Wanted, out: &mut dyn Write) -> io::Result<Stat
         return Ok(Status::Fine);
     };
     match plotted(&sheet) {
-        Ok(image) => picture::write(&image, path, to, "histogram", out),
+        Ok(image) => picture::write(&image, to, "histogram", out),
         Err(trouble) => {
             note_of(path, &trouble);
             Ok(Status::Failed)

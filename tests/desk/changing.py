@@ -12,8 +12,8 @@ import threading
 import time
 import unittest
 
+from desk.common import FAILED, FINE, LARGE, NOBODY, REFUSED, TOOL, Desk, alone, good_run, read_pgm, with_head
 from generators import enhanced_xa as xa
-from desk.common import FAILED, FINE, LARGE, NOBODY, REFUSED, TOOL, Desk, good_run, read_pgm, with_head
 from generators.objects import encode
 from reference import attributes as tags
 from reference import files
@@ -22,6 +22,9 @@ RUNS = 1000
 STARVED = int(os.environ.get("LUUX_STARVED", 150))  # runs beside busy loops, with all of it on one processor
 BUSY = 6
 PAUSE = 0.1  # seconds between the two readings of a file without a lease
+GAP = 0.01  # seconds; a file that is touched as often is never read
+CHECKS = 10  # pictures, and refusals, of a file without a lease that must have been met
+TRIES = 400  # the most runs in which a busy machine must let us see what we look for
 CHANGED = b"changed while luux was reading it"
 WRITTEN = b"another program has it open for writing"
 
@@ -95,6 +98,8 @@ class TestChanging(Desk):
         ends = self.race(contents, ((self.overwrite, RUNS - 300), (self.cut_and_write, 300)))
         self.assertGreater(min(ends.values()), 20, ends)
 
+    # Alone: its busy loops would slow down whatever else is on that processor.
+    @alone
     def test_no_picture_of_changed_bytes_when_starved(self):
         """The same with the writer, the tool and busy loops on one processor, so that a writer stops anywhere for long; even within a write."""
         contents = two_runs()
@@ -206,6 +211,8 @@ class TestChanging(Desk):
             met += CHANGED in out or WRITTEN in out
         self.assertGreater(met, 0)
 
+    # Alone: it measures time, and counts only pictures during which no write was held up.
+    @alone
     @unittest.skipUnless(os.getuid() == 0, "users get leases on their own files; only root can act as another user")
     def test_no_lease(self):
         """Without a lease on another user's file, luux waits until it has been left alone, and refuses it if it reads differently the second time."""
@@ -225,7 +232,7 @@ class TestChanging(Desk):
             map[:] = contents[1]
             time.sleep(2.2)
             stop = threading.Event()
-            begun, slowest = time.monotonic(), 0
+            begun, slowest, rest = time.monotonic(), 0, 0
 
             def flip():
                 nonlocal begun, slowest
@@ -235,20 +242,31 @@ class TestChanging(Desk):
                     begun = time.monotonic()
                     map[:] = contents[number % 2]
                     slowest = max(slowest, time.monotonic() - begun)
+                    time.sleep(rest)
             thread = threading.Thread(target=flip)
             thread.start()
+            ends = {FINE: 0, FAILED: 0}
             try:
-                for _ in range(30):
+                # Without a rest, writes nearly always meet a reading. With rests so long that an even number of writes falls between the readings,
+                # both often find the same run.
+                for rest in (0, PAUSE / 4) * (TRIES // 2):
                     slowest = 0
                     done = self.show(**other)
-                    self.assertIn(done.returncode, (FINE, FAILED), done)
+                    self.assertIn(done.returncode, ends, done)
                     # A write that a busy machine stops for longer than the pause between the two readings goes unnoticed.
-                    noticed = max(slowest, time.monotonic() - begun) < PAUSE
-                    if done.returncode == FINE and noticed:
+                    if max(slowest, time.monotonic() - begun) >= PAUSE:
+                        continue
+                    ends[done.returncode] += 1
+                    if done.returncode == FINE:
                         self.assertTrue(read_pgm(self.path("x.pgm"))[2] in wanted, "a picture of mixed bytes")
+                    else:
+                        self.assertIn(CHANGED, done.stderr)
+                    if min(ends.values()) >= CHECKS:
+                        break
             finally:
                 stop.set()
                 thread.join()
+            self.assertGreaterEqual(min(ends.values()), CHECKS, ends)
 
     def test_the_race_is_one(self):
         """What these tests look for does happen where the tool lends a mapping: a picture of no run, or a crash."""
@@ -294,13 +312,21 @@ class TestChanging(Desk):
         self.put("run.dcm", with_head(encode(model)))
         for words in (("judge", "run.dcm"), ("contact", "run.dcm", "-o", "x.pgm"), ("sheet", "run.dcm"), ("show", "run.dcm", "1", "-o", "x.pgm"),
                       ("canonical", "run.dcm", "-o", "x")):
-            process = subprocess.Popen([TOOL, *words], cwd=self.folder, stdout=subprocess.PIPE, stderr=subprocess.PIPE)
-            times = 0
-            while process.poll() is None:
-                times += 1
-                os.utime(self.path("run.dcm"), (times, times))
-            out, told = process.communicate()
-            self.assertEqual(process.returncode, FAILED, words)
+            for _ in range(TRIES):
+                process = subprocess.Popen([TOOL, *words], cwd=self.folder, stdout=subprocess.PIPE, stderr=subprocess.PIPE)
+                times = gap = 0
+                last = time.monotonic()
+                while process.poll() is None:
+                    times += 1
+                    os.utime(self.path("run.dcm"), (times, times))
+                    gap, last = max(gap, time.monotonic() - last), time.monotonic()
+                out, told = process.communicate()
+                if process.returncode != FINE or gap < GAP:
+                    break
+                # The machine was too busy to let us touch the run in time.
+                for name in {"x", "x.pgm"} & set(os.listdir(self.folder)):
+                    os.remove(self.path(name))
+            self.assertEqual(process.returncode, FAILED, (words, gap))
             self.assertIn(CHANGED, out + told, words)
         self.assertEqual(os.listdir(self.folder), ["run.dcm"])
 
@@ -355,7 +381,7 @@ class TestArriving(Desk):
             self.assertIn(b"seconds", self.luux("judge", "in", f"--settle={wrong}", status=FAILED).stderr)
 
     def test_other_commands(self):
-        """Every command that searches folders leaves out files that are arriving, and gives up on those that take too long."""
+        """Every command that searches folders leaves out files that are arriving, and says the same with --timeout."""
         for name, content in (("a", good_run()), ("b", good_run()), ("c", good_run()[:-2]), ("young", good_run())):
             self.put(f"in/{name}.dcm", with_head(content))
             os.utime(self.path("in", f"{name}.dcm"), (time.time() - (0 if name == "young" else 500),) * 2)
@@ -378,9 +404,3 @@ class TestArriving(Desk):
                     tables.append(file.read().count(b"data:image/png"))
             self.assertEqual(said[0], said[1])
             self.assertEqual(tables[:2], tables[2:])
-        done = self.luux("duplicates", "in", "--timeout", "0", status=FAILED)
-        self.assertEqual(done.stderr.count(b"took longer than the --timeout of 0 s"), 4)
-        self.assertIn(b"4 could not be read", self.luux("report", "in", "--timeout", "0").stdout)
-
-
-__all__ = [name for name, one in list(globals().items()) if isinstance(one, type) and issubclass(one, unittest.TestCase) and one is not Desk]

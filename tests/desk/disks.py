@@ -4,7 +4,6 @@ import os
 import shutil
 import subprocess
 import tempfile
-import unittest
 
 from desk.common import FAILED, FINE, REFUSED, Desk, good_run, with_head
 
@@ -87,6 +86,11 @@ class TestDisks(Desk):
         self.assertEqual(said, ["runs/a.dcm: accepted", "runs/c.dcm: accepted",
                                 "runs/slow-disk.dcm: took longer than the --timeout of 1 s; there is no verdict",
                                 "3 files: 2 accepted, 0 refused, 1 could not be read"])
+        done = self.with_bad_disk("duplicates", "runs", "--timeout", "1", status=FAILED)
+        self.assertTrue(done.stdout.endswith(b"3 files: 2 equal in 1 group, 0 refused, 1 could not be read\n"), done.stdout)
+        self.assertEqual(done.stderr, b"luux: runs/slow-disk.dcm: took longer than the --timeout of 1 s; there is no verdict\n")
+        done = self.with_bad_disk("report", "runs", "--timeout", "1", status=FINE)
+        self.assertIn(b"2 accepted, 0 refused, 1 could not be read", done.stdout)
 
     def test_a_full_disk(self):
         """Slips, pictures and canonical forms that cannot be written leave nothing behind, and older files stay."""
@@ -138,6 +142,3 @@ class TestTime(Desk):
         for wrong in ("-1", "never"):
             self.luux("judge", "runs", f"--timeout={wrong}", status=FAILED)
         self.assertNotIn(b"look", self.luux("--help").stdout.split(b"Commands:")[1].split(b"Options:")[0].replace(b"looked", b""))
-
-
-__all__ = [name for name, one in list(globals().items()) if isinstance(one, type) and issubclass(one, unittest.TestCase) and one is not Desk]

@@ -5,13 +5,12 @@ import random
 import re
 import struct
 
+from desk.common import LARGE, REFUSED, SENTENCES, Desk, good_run, item_left_out, rows_of, with_head
 from generators import enhanced_xa as xa
 from generators.mutations import CHANGES
 from generators.objects import element, element_header, encode, item_header
 from reference import attributes as tags
 from reference import rules
-
-from .common import LARGE, REFUSED, SENTENCES, Desk, good_run, item_left_out, rows_of, with_head
 
 TEXTS = ("AE", "AS", "CS", "DA", "DS", "DT", "IS", "LO", "LT", "PN", "SH", "ST", "TM", "UC", "UI", "UR", "UT")
 NUMBERS = {"US": "H", "SS": "h", "UL": "I", "SL": "i", "FL": "f", "FD": "d"}

@@ -5,12 +5,11 @@ import random
 import struct
 import zlib
 
+from desk.common import FAILED, IS_INPUT, LARGE, REFUSED, Desk, content_left_out, good_run, read_pgm, read_png, unfilter
 from generators import enhanced_xa as xa
 from generators.objects import encode
 from reference import attributes as tags
 from reference import drawing
-
-from .common import FAILED, LARGE, REFUSED, Desk, content_left_out, good_run, read_pgm, read_png, unfilter
 
 
 def split_pngs(content):
@@ -167,7 +166,17 @@ class TestFrames(Desk):
     def test_no_movie(self):
         self.assertIn(b"must end in .png", self.luux("movie", "run.xa", "-o", "x.gif", status=FAILED).stderr)
         self.assertIn("code 10", self.lines("movie", "run.xa", "10-13", "-o", "x.png", status=REFUSED)[0])
-        self.put("run.png", good_run())
-        self.assertIn(b"it is the input itself", self.luux("movie", "run.png", "-o", "run.png", status=FAILED).stderr)
         self.luux("movie", "gone.xa", "-o", "x.png", status=FAILED)
         self.assertFalse(os.path.exists(self.path("x.png")))
+
+    def test_the_run_is_not_overwritten(self):
+        """By no movie, and by no picture in a folder; then none is written."""
+        self.put("run.png", good_run())
+        self.check_kept("run.png", "movie", "run.png")
+        os.mkdir(self.path("out"))
+        os.symlink("../run.xa", self.path("out", "run.xa.frame-03.png"))
+        done = self.luux("show", "run.xa", "1-5", "-o", "out", status=FAILED)
+        self.assertEqual((done.stdout, done.stderr.decode()), (b"", f"luux: out/run.xa.frame-03.png: {IS_INPUT}\n"))
+        self.assertEqual(os.listdir(self.path("out")), ["run.xa.frame-03.png"])
+        with open(self.path("run.xa"), "rb") as file:
+            self.assertEqual(file.read(), self.data)

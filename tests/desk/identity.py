@@ -3,10 +3,9 @@
 import json
 import random
 
+from desk.common import FINE, REFUSED, Desk, with_head
 from generators import enhanced_xa as xa
 from generators.objects import element, encode
-
-from .common import FINE, REFUSED, Desk, with_head
 from reference import attributes as tags
 
 TAGS = {"sop_instance_uid": (0x00080018, "UI", "1.2.3.4.5"), "study_instance_uid": (0x0020000D, "UI", "1.2.3.4"),

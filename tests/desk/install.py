@@ -5,10 +5,9 @@ import random
 import re
 import shutil
 import subprocess
-import unittest
 
-from generators import enhanced_xa as xa
 from desk.common import CLASSES, LARGE, ROOT, Desk, good_run, with_head
+from generators import enhanced_xa as xa
 from reference import attributes as tags
 from reference import drawing
 
@@ -141,6 +140,3 @@ class TestInstall(Desk):
             self.assertLessEqual(size, limit, name)
             if name in stated:
                 self.assertGreater(size, 0.8 * limit, name)
-
-
-__all__ = [name for name, one in list(globals().items()) if isinstance(one, type) and issubclass(one, unittest.TestCase) and one is not Desk]

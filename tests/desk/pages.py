@@ -6,7 +6,7 @@ import shutil
 import subprocess
 import unittest
 
-from .common import FAILED, ROOT, TOOL, Desk
+from desk.common import FAILED, ROOT, TOOL, Desk
 
 COMMANDS = {"rows", "judge", "show", "movie", "contact", "sheet", "compare", "canonical", "duplicates", "linear", "report", "completions", "slip", "demo"}
 

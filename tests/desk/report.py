@@ -8,13 +8,12 @@ import random
 import re
 import unittest
 
+from desk import browser
+from desk.common import FAILED, FINE, IS_INPUT, LARGE, SENTENCES, Desk, alone, read_png, with_head
 from generators import enhanced_xa as xa
 from generators.objects import encode
 from reference import attributes as tags
 from reference import drawing, sheet
-
-from . import browser
-from .common import FAILED, FINE, LARGE, SENTENCES, Desk, read_png, with_head
 
 HOSTILE = "<script>window.hurt=1</script>\"'><img src=x onerror=window.hurt=1>"
 HOSTILE_FILE = "runs/<img src=x onerror='window.hurt=1'>&amp;\".dcm"
@@ -130,12 +129,28 @@ class TestReport(Reported):
         os.mkdir(self.path("none"))
         self.assertIn(b"nothing was reported", self.luux("report", "none", status=FAILED).stderr)
         self.assertIn(b"cannot be written", self.luux("report", "runs", "-o", "no/such/page.html", status=FAILED).stderr)
-        # The page and the table are no runs, and a run is never written over.
-        self.assertIn("10 files", self.lines("report", "runs", "-o", "runs/page.html", "--csv")[0])
-        self.assertIn("10 files", self.lines("report", "runs", "-o", "runs/page.html", "--csv")[0])
-        self.luux("report", "runs/c.dcm", "-o", "runs/c.dcm", status=FAILED)
-        with open(self.path("runs", "c.dcm"), "rb") as file:
-            self.assertEqual(file.read(), self.runs["runs/c.dcm"])
+
+    def test_written_again(self):
+        """The page and the table of yesterday are no runs."""
+        for words in (("--csv",), ("--csv",), ()):
+            self.assertIn("10 files", self.lines("report", "runs", "-o", "runs/page.html", *words)[0])
+
+    def test_never_over_a_run(self):
+        """Neither by the page nor by the table, though only the run's folder is named."""
+        self.put("run.html", self.runs["runs/c.dcm"])
+        self.check_kept("run.html", "report", "run.html")
+        os.link(self.path("runs", "c.dcm"), self.path("hard.html"))
+        os.symlink("runs/c.dcm", self.path("soft.html"))
+        os.symlink("runs/c.dcm", self.path("table.csv"))
+        for page, written, words in (("runs/c.dcm", "runs/c.dcm", ()), ("hard.html", "hard.html", ()), ("soft.html", "soft.html", ()),
+                                     ("table.html", "table.csv", ("--csv",))):
+            done = self.luux("report", "runs", "-o", page, *words, status=FAILED)
+            self.assertEqual((done.stdout, done.stderr.decode()), (b"", f"luux: {written}: {IS_INPUT}\n"))
+            with open(self.path("runs", "c.dcm"), "rb") as file:
+                self.assertEqual(file.read(), self.runs["runs/c.dcm"])
+        # Without --csv there is no table, and a run may have its name.
+        self.put("runs/run.csv", self.runs["runs/c.dcm"])
+        self.assertIn("11 files", self.lines("report", "runs", "-o", "runs/run.html")[0])
 
     def test_what_is_not_ours(self):
         """Files that are certainly no runs are listed as such, and count for no sender and no letter."""
@@ -155,6 +170,8 @@ class TestReport(Reported):
         self.assertEqual(stripped("--jobs", "1"), stripped("--jobs", "5"))
 
 
+# Alone: some tests give the page a fraction of a second, and what it does later on a busy machine they would not see.
+@alone
 @unittest.skipUnless(browser.program(), "chromium is not installed")
 class TestReportInABrowser(Reported):
     def setUp(self):

@@ -5,7 +5,7 @@ import resource
 import subprocess
 import unittest
 
-from desk.common import FAILED, FINE, REFUSED, ROOT, SENTENCES, TOOL, Desk, good_run, with_head
+from desk.common import FAILED, FINE, REFUSED, ROOT, SENTENCES, TOOL, Desk, alone, good_run, with_head
 from generators.objects import element_header, item_header
 
 ROW = 28  # bytes
@@ -46,6 +46,8 @@ def limited(size):
     return lambda: resource.setrlimit(resource.RLIMIT_DATA, (size, size))
 
 
+# Alone: it compares processor times, and one test needs several files in memory at the same moment.
+@alone
 class TestMemory(Desk):
     bare = False
 
@@ -160,6 +162,3 @@ class TestMemory(Desk):
         taken, host, call = min(self.judge_worst(LARGEST) for _ in range(2))
         print(f"\n1 GiB of headers: luux judge {taken:.2f} s of the processor, a host that reads it and makes one call {host:.2f} s, the call {call:.2f} s")
         self.assertLess(taken, 1.2 * host)
-
-
-__all__ = [name for name, one in list(globals().items()) if isinstance(one, type) and issubclass(one, unittest.TestCase) and one is not Desk]

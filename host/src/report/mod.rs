@@ -4,7 +4,8 @@ mod letter;
 mod page;
 mod sheet;
 
-use std::io::{self, Write};
+use std::fs::File;
+use std::io::{self, Read, Write};
 use std::path::{Path, PathBuf};
 use std::sync::atomic::{AtomicUsize, Ordering};
 use std::sync::Mutex;
@@ -23,7 +24,7 @@ use crate::judging;
 use crate::library::STACK;
 use crate::looking::{self, What};
 use crate::names::tags;
-use crate::output::{line, note, note_of, note_unwritten, Status};
+use crate::output::{line, may_write, note, note_of, note_unwritten, Status};
 use crate::picture::{self, Failure, Image, Run};
 use crate::sampling;
 use crate::sentences;
@@ -283,15 +284,19 @@ fn entries(wanted: &Wanted, found: &[Found]) -> Vec<Entry> {
     made.into_iter().map(|(_, entry)| entry).collect()
 }
 
-/// The files, without those that are written.
-fn find(wanted: &Wanted, written: &[&Path]) -> Vec<Found> {
-    wanted
-        .inputs
-        .find(None)
-        .found
-        .into_iter()
-        .filter(|one| !written.iter().any(|path| files::is_same(&one.path, path)))
-        .collect()
+/// Whether a file is the page or the table of an earlier report, by how it starts.
+fn is_report(path: &Path) -> bool {
+    let mut start = [0; 16];
+    let read = File::open(path).and_then(|mut file| file.read_exact(&mut start));
+    read.is_ok() && [page::START, sheet::START].iter().any(|one| start.starts_with(one.as_bytes()))
+}
+
+/// The files. A page or a table that is written again is no run, unless it was named itself.
+fn find(wanted: &Wanted, page: &Path, table: &Path) -> Vec<Found> {
+    let is_old = |one: &Found| {
+        !one.named && [page, table].iter().any(|path| files::is_same(&one.path, path)) && is_report(&one.path)
+    };
+    wanted.inputs.find(None).found.into_iter().filter(|one| !is_old(one)).collect()
 }
 
 fn write(path: &Path, content: &[u8]) -> bool {
@@ -307,14 +312,14 @@ fn write(path: &Path, content: &[u8]) -> bool {
 /// Writes the page, and the table if it is wanted.
 pub fn run(wanted: &Wanted, out: &mut dyn Write) -> io::Result<Status> {
     let table = wanted.output.with_extension("csv");
-    let found = find(wanted, &[&wanted.output, &table]);
+    let found = find(wanted, &wanted.output, &table);
     if found.is_empty() {
         note("nothing was reported: no files were found");
         return Ok(Status::Failed);
     }
     // The page is written at the end, perhaps after hours; it is better to refuse now.
-    if let Some(run) = wanted.inputs.named.iter().find(|path| path.is_file() && files::is_same(path, &wanted.output)) {
-        note_of(run, "cannot be written: it is one of the runs; name another page");
+    let free = |to: &Path| found.iter().all(|one| may_write(to, &one.path));
+    if !free(&wanted.output) || wanted.csv && !free(&table) {
         return Ok(Status::Failed);
     }
     let entries = entries(wanted, &found);

@@ -15,6 +15,9 @@ use crate::values::counted;
 const STYLE: &str = include_str!("page.css");
 const SCRIPT: &str = include_str!("page.js");
 
+/// How a page starts.
+pub const START: &str = "<!DOCTYPE html>";
+
 /// Text that is no markup, within an element or a quoted attribute.
 fn text(plain: &str) -> String {
     html_escape::encode_safe(plain).into_owned()
@@ -251,7 +254,7 @@ pub fn made(wanted: &Wanted, entries: &[Entry], senders: &[Sent]) -> String {
         .collect();
     let lines: String = senders.iter().enumerate().map(|(number, sent)| sender_row(number, sent, entries)).collect();
     format!(
-        "<!DOCTYPE html>\n<html lang=\"en\"><head><meta charset=\"utf-8\">\n\
+        "{START}\n<html lang=\"en\"><head><meta charset=\"utf-8\">\n\
          <meta http-equiv=\"Content-Security-Policy\" content=\"default-src 'none'; img-src data:; style-src {style_hash}; script-src {script_hash}; \
          base-uri 'none'; form-action 'none'\">\n\
          <meta name=\"viewport\" content=\"width=device-width, initial-scale=1\"><title>luux: {count}</title>\n<style>{STYLE}</style></head>\n<body>\n\

@@ -4,6 +4,9 @@ use super::{by_text, Entry};
 use crate::codes::Coded;
 use crate::identity::FIELDS;
 
+/// How a table starts.
+pub const START: &str = "file,verdict,by,";
+
 /// A cell that no spreadsheet takes for a formula: text that starts like one gets an apostrophe in front.
 fn cell(text: &str) -> String {
     match text.starts_with(['=', '+', '-', '@', '\t', '\r']) {
@@ -50,4 +53,14 @@ pub fn made(entries: &[Entry], patient: bool) -> Result<Vec<u8>, Box<dyn std::er
         table.write_record(row(entry, patient))?;
     }
     Ok(table.into_inner()?)
+}
+
+#[cfg(test)]
+mod tests {
+    use super::*;
+
+    #[test]
+    fn tables_start_alike() {
+        assert!(made(&[], false).unwrap().starts_with(START.as_bytes()));
+    }
 }
