@@ -319,8 +319,19 @@ pub fn is_draft(name: &OsStr) -> bool {
     name.starts_with(DRAFT.0.as_bytes()) && name.ends_with(DRAFT.1.as_bytes())
 }
 
-/// Writes a file whole or not at all: to a draft in the same folder, which is synced and renamed. Missing folders are made if `folders`.
+/// Whether a path leads to a regular file that starts with these bytes.
+pub fn starts_with(path: &Path, start: &[u8]) -> bool {
+    let regular = fs::metadata(path).is_ok_and(|about| about.is_file());
+    let mut bytes = vec![0; start.len()];
+    regular && File::open(path).is_ok_and(|file| file.read_exact_at(&mut bytes, 0).is_ok()) && bytes == start
+}
+
+/// Writes a file whole or not at all: to a draft in the same folder, which is synced and renamed. Missing folders are made if `folders`. A
+/// device, a pipe or a folder is never replaced.
 pub fn write_whole(path: &Path, content: &[u8], folders: bool) -> io::Result<()> {
+    if fs::metadata(path).is_ok_and(|about| !about.is_file()) {
+        return Err(io::Error::new(io::ErrorKind::AlreadyExists, "it exists, and is not a regular file"));
+    }
     let folder = folder_of(path);
     if folders {
         fs::create_dir_all(folder)?;

@@ -77,13 +77,9 @@ impl Inputs {
         Inputs { named, form, choice: Choice::default(), settle: None, timeout: None }
     }
 
-    /// The files, but not those in the folders `leave`, which luux fills. What is skipped is listed on standard error.
+    /// The files, but not those in the folders `leave`, which luux fills.
     pub fn find<'a>(&self, leave: impl IntoIterator<Item = &'a Path>) -> Finding {
-        let finding = Finding::of(&self.named, leave, &self.choice);
-        for (path, reason) in &finding.skipped {
-            note_of(path, &format!("skipped: {reason}"));
-        }
-        finding
+        Finding::of(&self.named, leave, &self.choice)
     }
 }
 
@@ -99,10 +95,10 @@ pub struct Found {
 #[derive(Default)]
 pub struct Finding {
     pub found: Vec<Found>,
-    /// What a folder holds and is not looked at, with the reason.
-    pub skipped: Vec<(PathBuf, &'static str)>,
+    /// How many were not looked at; each was listed on standard error.
+    skipped: usize,
     /// How many were not chosen.
-    pub left_out: usize,
+    left_out: usize,
 }
 
 impl Finding {
@@ -115,13 +111,24 @@ impl Finding {
                 let before = finding.found.len() + finding.left_out;
                 finding.folder(path, &leave, choice);
                 if finding.found.len() + finding.left_out == before {
-                    finding.skipped.push((path.clone(), "it contains no files"));
+                    finding.skip(path, "it contains no files");
                 }
             } else {
                 finding.file(path, true, choice);
             }
         }
         finding
+    }
+
+    /// Counts a file that is not looked at, and says why.
+    pub fn skip(&mut self, path: &Path, reason: &str) {
+        note_of(path, &format!("skipped: {reason}"));
+        self.skipped += 1;
+    }
+
+    /// How many files were passed over, for a summary.
+    pub fn passed_over(&self) -> [(usize, &'static str); 2] {
+        [(self.skipped, "skipped"), (self.left_out, "left out by --include or --exclude")]
     }
 
     fn file(&mut self, path: &Path, named: bool, choice: &Choice) {
@@ -157,7 +164,7 @@ impl Finding {
 
     fn enters(&mut self, path: &Path, leave: &[PathBuf], choice: &Choice) -> bool {
         if !leave.is_empty() && fs::canonicalize(path).map_or(false, |path| leave.contains(&path)) {
-            self.skipped.push((path.to_path_buf(), "luux writes to this folder"));
+            self.skip(path, "luux writes to this folder");
             return false;
         }
         let excluded = choice.exclude.match_path(path);
@@ -176,7 +183,7 @@ impl Finding {
             // A file whose metadata cannot be read gets its line when it is opened.
             _ => return self.file(path, false, choice),
         };
-        self.skipped.push((path.to_path_buf(), reason));
+        self.skip(path, reason);
     }
 }
 

@@ -22,7 +22,7 @@ use crate::library::STACK;
 use crate::looking::{self, Looked, What};
 use crate::output::{line, note, note_of, Object, Status};
 use crate::settling::Settling;
-use crate::values::counted;
+use crate::values::{counted, listed};
 
 /// What `luux judge` was asked.
 pub struct Wanted {
@@ -254,29 +254,22 @@ impl Counts {
     }
 
     fn text(&self, finding: &Finding) -> String {
-        let mut text = format!(
-            "{}: {} accepted, {} refused, {} could not be read",
+        let slips = if self.slips_lost == 1 { "slip could not be written" } else { "slips could not be written" };
+        let more = [
+            (self.others, "not ours"),
+            (self.arriving, "arriving"),
+            (self.slips_lost, slips),
+            (self.not_moved, "could not be moved"),
+        ];
+        format!(
+            "{}: {} accepted, {} refused, {} could not be read{}{}",
             counted(self.files(), "file"),
             self.accepted,
             self.refused,
-            self.unread
-        );
-        for (count, what) in [
-            (self.others, "not ours"),
-            (self.arriving, "arriving"),
-            (
-                self.slips_lost,
-                if self.slips_lost == 1 { "slip could not be written" } else { "slips could not be written" },
-            ),
-            (self.not_moved, "could not be moved"),
-            (finding.skipped.len(), "skipped"),
-            (finding.left_out, "left out by --include or --exclude"),
-        ] {
-            if count > 0 {
-                text.push_str(&format!(", {count} {what}"));
-            }
-        }
-        text
+            self.unread,
+            listed(&more),
+            listed(&finding.passed_over())
+        )
     }
 }
 

@@ -69,6 +69,12 @@ pub fn counted(count: usize, what: &str) -> String {
     format!("{count} {what}{}", if count == 1 { "" } else { "s" })
 }
 
+/// Counts behind a summary; those that are 0 are left out.
+pub fn listed(counts: &[(usize, &str)]) -> String {
+    let some = counts.iter().filter(|(count, _)| *count > 0);
+    some.map(|(count, what)| format!(", {count} {what}")).collect()
+}
+
 /// The start of a text, with dots if there is more of it.
 pub fn shortened(text: &str, most: usize) -> String {
     match text.char_indices().nth(most) {

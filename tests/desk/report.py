@@ -130,12 +130,46 @@ class TestReport(Reported):
         os.mkdir(self.path("none"))
         self.assertIn(b"nothing was reported", self.luux("report", "none", status=FAILED).stderr)
         self.assertIn(b"cannot be written", self.luux("report", "runs", "-o", "no/such/page.html", status=FAILED).stderr)
-        # The page and the table are no runs, and a run is never written over.
-        self.assertIn("10 files", self.lines("report", "runs", "-o", "runs/page.html", "--csv")[0])
-        self.assertIn("10 files", self.lines("report", "runs", "-o", "runs/page.html", "--csv")[0])
-        self.luux("report", "runs/c.dcm", "-o", "runs/c.dcm", status=FAILED)
-        with open(self.path("runs", "c.dcm"), "rb") as file:
-            self.assertEqual(file.read(), self.runs["runs/c.dcm"])
+
+    def test_an_older_report_is_replaced(self):
+        """The page and the table are no runs; that they are skipped is said and counted."""
+        for passed_over, told in (("", b""), (", 2 skipped", b"luux: runs/page.csv: skipped: luux writes this file\nluux: runs/page.html: skipped: luux writes this file\n")):
+            done = self.luux("report", "runs", "-o", "runs/page.html", "--csv")
+            self.assertTrue(done.stdout.decode().startswith(f"runs/page.html: 10 files of 5 senders: 3 accepted, 6 refused, 1 could not be read{passed_over}\n"), done.stdout)
+            self.assertEqual(done.stderr, told)
+        # Without --csv the table of another time is a file like any other.
+        self.assertIn("1 could not be read, 1 not ours, 1 skipped", self.lines("report", "runs", "-o", "runs/page.html")[0])
+
+    def test_nothing_else_is_replaced(self):
+        """Neither a run nor any other file, whether it was named, found in a folder or neither; and nothing is looked at first."""
+        self.put("other/notes.html", b"<!DOCTYPE html>\n<p>notes</p>")
+        self.put("other/night.csv", b"file,verdict\n")
+        self.put("runs/x.csv", self.runs["runs/c.dcm"])
+        # A DICOM file may start with any 128 bytes.
+        self.put("runs/odd.dcm", self.page.encode()[:128] + self.runs["runs/c.dcm"][128:])
+        self.assertIn("runs/odd.dcm: accepted", self.lines("judge", "runs/odd.dcm"))
+        before = self.content()
+        page, table = "it exists, and is no page that luux wrote", "it exists, and is no table that luux wrote"
+        for words, name, reason in (
+                (("runs", "-o", "runs/c.dcm"), "runs/c.dcm", page), (("runs/c.dcm", "-o", "runs/c.dcm"), "runs/c.dcm", page),
+                (("runs/d.dcm", "-o", "runs/c.dcm"), "runs/c.dcm", page), (("runs", "-o", "runs/odd.dcm"), "runs/odd.dcm", page),
+                (("runs", "-o", "runs/x.html", "--csv"), "runs/x.csv", table), (("runs/x.csv", "-o", "runs/x.html", "--csv"), "runs/x.csv", table),
+                (("runs", "-o", "other/night.html", "--csv"), "other/night.csv", table), (("runs", "-o", "other/notes.html"), "other/notes.html", page),
+                (("runs", "-o", "runs/lost.dcm"), "runs/lost.dcm", page), (("runs", "-o", "runs"), "runs", page),
+                (("runs", "-o", "page.csv"), "page.csv", page), (("runs", "-o", "new.csv", "--csv"), "new.csv", "the table of --csv has the same name")):
+            done = self.luux("report", *words, status=FAILED)
+            self.assertEqual((done.stdout, done.stderr.decode()), (b"", f"luux: {name}: cannot be written: {reason}; name another page\n"))
+        self.assertEqual(self.content(), before)
+
+    def content(self):
+        """All files, by name."""
+        found = {}
+        for folder, _, names in os.walk(self.folder):
+            for name in names:
+                path = os.path.join(folder, name)
+                with open(path, "rb") if os.path.exists(path) else open(os.devnull, "rb") as file:
+                    found[os.path.relpath(path, self.folder)] = file.read()
+        return found
 
     def test_what_is_not_ours(self):
         """Files that are certainly no runs are listed as such, and count for no sender and no letter."""

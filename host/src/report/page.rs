@@ -236,6 +236,10 @@ fn letters(entries: &[Entry], senders: &[Sent], patient: bool) -> String {
     }
 }
 
+/// How every page starts.
+pub const START: &str = "<!DOCTYPE html>\n<html lang=\"en\"><head><meta charset=\"utf-8\">\n\
+    <meta http-equiv=\"Content-Security-Policy\" content=\"default-src 'none'; img-src data:; style-src ";
+
 /// The whole page.
 pub fn made(wanted: &Wanted, entries: &[Entry], senders: &[Sent]) -> String {
     let folders: Vec<String> = wanted.inputs.named.iter().map(|path| text(&files::printed(path))).collect();
@@ -251,8 +255,7 @@ pub fn made(wanted: &Wanted, entries: &[Entry], senders: &[Sent]) -> String {
         .collect();
     let lines: String = senders.iter().enumerate().map(|(number, sent)| sender_row(number, sent, entries)).collect();
     format!(
-        "<!DOCTYPE html>\n<html lang=\"en\"><head><meta charset=\"utf-8\">\n\
-         <meta http-equiv=\"Content-Security-Policy\" content=\"default-src 'none'; img-src data:; style-src {style_hash}; script-src {script_hash}; \
+        "{START}{style_hash}; script-src {script_hash}; \
          base-uri 'none'; form-action 'none'\">\n\
          <meta name=\"viewport\" content=\"width=device-width, initial-scale=1\"><title>luux: {count}</title>\n<style>{STYLE}</style></head>\n<body>\n\
          <header><h1>Report on {count}</h1><p>{folders} &middot; made {now} &middot; luux {version}</p>\

@@ -39,15 +39,17 @@ fn row(entry: &Entry, patient: bool) -> Vec<String> {
     row.iter().map(|text| cell(text)).collect()
 }
 
+/// How every table starts: the names of the columns, but for those about the patient.
+pub const START: &str = "file,verdict,by,code,rule,frame,item_row,offset,frames,sentence,found,hint,\
+    sop_instance_uid,study_instance_uid,institution_name,station_name,acquisition_datetime";
+
 /// A row for each file, in order, below a row of column names.
-pub fn made(entries: &[Entry], patient: bool) -> Result<Vec<u8>, Box<dyn std::error::Error>> {
+pub fn made(entries: &[Entry], patient: bool) -> Result<Vec<u8>, String> {
     let mut table = csv::Writer::from_writer(Vec::new());
-    let names =
-        ["file", "verdict", "by", "code", "rule", "frame", "item_row", "offset", "frames", "sentence", "found", "hint"];
-    let keys = FIELDS.iter().filter(|field| patient || !field.patient).map(|field| field.key);
-    table.write_record(names.into_iter().chain(keys))?;
-    for entry in entries {
-        table.write_record(row(entry, patient))?;
+    let keys = FIELDS.iter().filter(|field| patient && field.patient).map(|field| field.key);
+    let names = START.split(',').chain(keys).map(String::from).collect();
+    for row in std::iter::once(names).chain(entries.iter().map(|entry| row(entry, patient))) {
+        table.write_record(row).map_err(|error| error.to_string())?;
     }
-    Ok(table.into_inner()?)
+    table.into_inner().map_err(|error| error.to_string())
 }
