@@ -9,9 +9,11 @@ use std::path::{Path, PathBuf};
 
 use crate::files::{self, Opened};
 use crate::head::Form;
+use crate::image::{format_of, Format, Image};
 use crate::library::Compared;
-use crate::output::{line, note_of, Status};
-use crate::picture::{self, Failure, Format, Image, Run};
+use crate::output::{line, note_of, Lines, Status};
+use crate::results::{self, explain, Failure};
+use crate::run::Run;
 use crate::values::counted;
 
 /// A cell in the picture of differences: white where the pictures differ, else our level, dimmed.
@@ -60,7 +62,7 @@ fn read_png(content: &[u8]) -> Option<Cells> {
 fn read_cells(path: &Path) -> Result<Cells, String> {
     let opened = Opened::open(path)?;
     let content = opened.bytes();
-    match picture::format_of(path) {
+    match format_of(path) {
         Some(Format::Png) => read_png(content).ok_or_else(|| String::from("not an 8-bit grey PNG")),
         Some(Format::Pgm) => read_pgm(content).ok_or_else(|| String::from("not a PGM (P5) with levels 0 to 255")),
         None => Ok(Cells { levels: content.to_vec(), size: None }),
@@ -115,13 +117,13 @@ fn one(
     let (width, height) = run.size();
     if let Some((theirs_wide, theirs_high)) = cells.size.filter(|&size| size != (width, height)) {
         let text = format!("it is {theirs_wide} x {theirs_high}, but a frame of the run is {width} x {height}");
-        return picture::explain(path, Failure::Refused(text), out);
+        return explain(path, Failure::Refused(text), &mut Lines::Out(out));
     }
     let compared =
         run.compare(frame, &cells.levels, wanted.tolerance).and_then(|found| Ok((found, run.draw(frame)?.0)));
     let (found, ours) = match compared {
         Ok(compared) => compared,
-        Err(failure) => return picture::explain(path, failure, out),
+        Err(failure) => return explain(path, failure, &mut Lines::Out(out)),
     };
     line(out, path, &about(&found, frame, wanted.tolerance, &ours, &cells.levels))?;
     let passed = if found.same == 1 { Status::Fine } else { Status::Refused };
@@ -129,7 +131,10 @@ fn one(
         return Ok(passed);
     };
     let drawn = match differences(&ours, &cells.levels, wanted.tolerance) {
-        Ok(image) => picture::write(&image, from, to, &format!("frame {frame}, white where it differs"), out)?,
+        Ok(image) => {
+            let about = format!("frame {frame}, white where it differs");
+            results::write_image(&image, &[from, path], to, &about, &mut Lines::Out(out))?
+        }
         Err(trouble) => {
             note_of(to, &trouble);
             Status::Failed
@@ -174,7 +179,7 @@ pub struct Wanted<'a> {
 pub fn picture(path: &Path, frame: u64, other: &Path, wanted: &Wanted, out: &mut dyn Write) -> io::Result<Status> {
     match Run::open(path, wanted.form) {
         Ok(mut run) => one(&mut run, path, frame, other, wanted, out),
-        Err(failure) => picture::explain(path, failure, out),
+        Err(failure) => explain(path, failure, &mut Lines::Out(out)),
     }
 }
 
@@ -188,12 +193,12 @@ pub fn folder(path: &Path, folder: &Path, wanted: &Wanted, out: &mut dyn Write) 
         }
     };
     if pictures.is_empty() {
-        note_of(folder, "no picture in it has a frame number in its name");
+        note_of(folder, "no file in it has a frame number in its name");
         return Ok(Status::Failed);
     }
     let mut run = match Run::open(path, wanted.form) {
         Ok(run) => run,
-        Err(failure) => return picture::explain(path, failure, out),
+        Err(failure) => return explain(path, failure, &mut Lines::Out(out)),
     };
     let mut worst = Status::Fine;
     let mut passed = 0;

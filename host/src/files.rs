@@ -368,8 +368,17 @@ pub fn is_plain(letter: char) -> bool {
     }
 }
 
-/// A path on one line of print. Other characters are escaped: `\\` is a backslash, `\x0A` a byte, `\u{202E}` a character. So a line stays a
-/// line, and no two names look the same.
+/// A character in print: itself, or `\\` for a backslash, `\x0A` for a control character of ASCII, `\u{202E}` for any other that is not plain.
+pub fn escaped(letter: char) -> String {
+    match letter {
+        '\\' => String::from("\\\\"),
+        _ if letter.is_ascii_control() => format!("\\x{:02X}", letter as u32),
+        _ if is_plain(letter) => String::from(letter),
+        _ => format!("\\u{{{:X}}}", letter as u32),
+    }
+}
+
+/// A path on one line of print. So a line stays a line, and no two names look the same.
 pub fn printed(path: &Path) -> String {
     let mut line = String::new();
     let mut rest = path.as_os_str().as_bytes();
@@ -379,14 +388,7 @@ pub fn printed(path: &Path) -> String {
             Err(error) => error.valid_up_to(),
         };
         let (text, others) = rest.split_at(whole);
-        for letter in String::from_utf8_lossy(text).chars() {
-            match letter {
-                '\\' => line.push_str("\\\\"),
-                _ if letter.is_ascii_control() => line.push_str(&format!("\\x{:02X}", letter as u32)),
-                _ if is_plain(letter) => line.push(letter),
-                _ => line.push_str(&format!("\\u{{{:X}}}", letter as u32)),
-            }
-        }
+        line.extend(String::from_utf8_lossy(text).chars().map(escaped));
         rest = match others.split_first() {
             Some((byte, others)) => {
                 line.push_str(&format!("\\x{byte:02X}"));

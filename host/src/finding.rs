@@ -9,10 +9,9 @@ use std::time::Duration;
 use globset::{Glob, GlobBuilder, GlobSet, GlobSetBuilder};
 use walkdir::{DirEntry, WalkDir};
 
-use crate::codes::Coded;
-use crate::files::{self, trouble, Opened};
+use crate::files::{self, trouble};
 use crate::head::Form;
-use crate::library;
+use crate::keeping;
 use crate::output::note_of;
 
 /// A pattern such as `*.dcm` or `runs/**/late-?.xa`, as given on the command line.
@@ -187,13 +186,12 @@ impl Finding {
     }
 }
 
-/// Larger files are not tested for being a slip.
-const SLIP_MOST: u64 = 64;
-
 /// Whether a file has the name of a slip, even of one moved aside, and is one.
 fn is_slip(path: &Path) -> bool {
-    let name = path.file_name().unwrap_or(OsStr::new("")).as_bytes();
-    (name.ends_with(b".slip") || name.windows(9).any(|part| part == b".slip.old"))
-        && fs::metadata(path).map_or(false, |about| about.len() <= SLIP_MOST)
-        && Opened::open(path).map_or(false, |opened| library::read_slip(opened.bytes()).is_done())
+    has_name_of_slip(path.file_name().unwrap_or_default()) && keeping::is_slip(path)
+}
+
+fn has_name_of_slip(name: &OsStr) -> bool {
+    let name = name.as_bytes();
+    name.ends_with(b".slip") || name.windows(9).any(|part| part == b".slip.old")
 }

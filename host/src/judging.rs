@@ -68,7 +68,7 @@ impl Report {
     fn text(&self, searches: bool) -> String {
         let mut text = match &self.looked {
             Looked::Judged(judged) if searches && judged.answer.is_done() => {
-                format!("{}; {} rows looked at", judged.line(), judged.answer.searches)
+                format!("{}; searches: {}", judged.line(), counted(judged.answer.searches as usize, "row"))
             }
             Looked::Judged(judged) => judged.line(),
             Looked::Other(_, what) => format!("not ours: {what}"),
@@ -249,8 +249,13 @@ impl Counts {
         self.not_moved += usize::from(report.kept.move_failed());
     }
 
+    /// How many were judged, or should have been.
+    fn judged(&self) -> usize {
+        self.accepted + self.refused + self.unread
+    }
+
     fn files(&self) -> usize {
-        self.accepted + self.refused + self.unread + self.others + self.arriving
+        self.judged() + self.others + self.arriving
     }
 
     fn text(&self, finding: &Finding) -> String {
@@ -386,8 +391,8 @@ pub fn run(wanted: &Wanted, out: &mut dyn Write) -> io::Result<Status> {
     } else {
         writeln!(printing.out, "{summary}")?;
     }
-    if printing.counts.others == printing.counts.files() {
-        note("nothing was judged: no runs were found");
+    if printing.counts.judged() == 0 {
+        note("nothing was judged: no runs were found, or all are still arriving");
         return Ok(Status::Failed);
     }
     Ok(printing.status)

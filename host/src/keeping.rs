@@ -149,7 +149,20 @@ fn with_ending(path: &Path, ending: &str) -> PathBuf {
     path.with_file_name(name)
 }
 
+/// Larger files are not read to see whether they are slips.
+const SLIP_MOST: u64 = 64;
+
+/// Whether a path leads to a slip.
+pub fn is_slip(path: &Path) -> bool {
+    let small = fs::metadata(path).is_ok_and(|about| about.is_file() && about.len() <= SLIP_MOST);
+    small && fs::read(path).is_ok_and(|content| library::read_slip(&content).is_done())
+}
+
+/// Writes a slip, never over anything but a slip.
 fn write_slip(path: &Path, answer: Answer) -> Result<(), String> {
+    if fs::symlink_metadata(path).is_ok() && !is_slip(path) {
+        return Err(String::from("that file exists already, and is no slip"));
+    }
     let mut slip = [0; SLIP_SIZE];
     match library::write_slip(answer, &mut slip) {
         Code::Done => files::write_whole(path, &slip, true).map_err(|error| files::trouble(&error)),
@@ -159,7 +172,7 @@ fn write_slip(path: &Path, answer: Answer) -> Result<(), String> {
 
 /// Moves a slip, if there is one, to a name that no file has yet.
 fn set_aside(slip: &Path) -> Option<Result<PathBuf, String>> {
-    if fs::symlink_metadata(slip).is_err() {
+    if !is_slip(slip) {
         return None;
     }
     for number in 1..u32::MAX {

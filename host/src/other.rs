@@ -68,6 +68,11 @@ const STARTS: [(&[u8], &str); 11] = [
     (b"\0\0\0\x01Bud1", "a .DS_Store"),
 ];
 
+/// How an Office document of the newer kind starts: a ZIP archive whose first file lists the types of the others. Any other archive may hold runs.
+const ZIP: &[u8] = b"PK\x03\x04";
+const TYPES: &[u8] = b"[Content_Types].xml";
+const FIRST_NAME: usize = 30;
+
 /// How much of a file is read to see whether it is text.
 const TEXT: usize = 1 << 16;
 
@@ -83,6 +88,9 @@ fn plain(content: &[u8]) -> Option<&'static str> {
     }
     if content.starts_with(b"RIFF") && content.get(8..12) == Some(&b"WEBP"[..]) {
         return Some("a picture (WebP)");
+    }
+    if content.starts_with(ZIP) && content.get(FIRST_NAME..).is_some_and(|rest| rest.starts_with(TYPES)) {
+        return Some("an Office document");
     }
     is_text(&content[..content.len().min(TEXT)]).then_some("text")
 }

@@ -2,6 +2,7 @@
 
 use encoding_rs::Encoding;
 
+use crate::files;
 use crate::names::tags;
 use crate::table::{Row, Table};
 
@@ -25,18 +26,11 @@ impl<'a> Source<'a> {
         self.data.get(start..start.saturating_add(row.length as usize)).unwrap_or_default()
     }
 
-    /// The text of a value, without the padding at its end and with control characters as `\x0A`.
+    /// The text of a value, without the padding at its end. A backslash separates values; other characters that are not plain are escaped.
     pub fn text(&self, row: &Row) -> String {
         let bytes = self.bytes(row);
         let end = bytes.iter().rposition(|&byte| byte != 0 && byte != b' ').map_or(0, |last| last + 1);
-        let mut text = String::new();
-        for letter in self.letters.decode_without_bom_handling(&bytes[..end]).0.chars() {
-            match letter.is_control() || is_steering(letter) {
-                true => text.push_str(&format!("\\x{:02X}", letter as u32)),
-                false => text.push(letter),
-            }
-        }
-        text
+        self.letters.decode_without_bom_handling(&bytes[..end]).0.chars().map(shown).collect()
     }
 
     /// A value in at most so many characters: text in quotes, numbers separated by backslashes, otherwise the number of items or bytes.
@@ -59,9 +53,14 @@ impl<'a> Source<'a> {
     }
 }
 
-/// Characters that change the direction of a line or break it.
-fn is_steering(letter: char) -> bool {
-    matches!(letter, '\u{200E}' | '\u{200F}' | '\u{2028}'..='\u{202E}' | '\u{2066}'..='\u{2069}')
+/// A character of a value: as in the name of a file, but for backslashes, which separate values, and blanks of any width, which names of
+/// people and places have.
+fn shown(letter: char) -> String {
+    let blank = letter.is_whitespace() && !letter.is_control() && !matches!(letter, '\u{2028}' | '\u{2029}');
+    match blank || letter == '\\' {
+        true => String::from(letter),
+        false => files::escaped(letter),
+    }
 }
 
 /// A number of things.

@@ -20,12 +20,15 @@ use crate::finding::{Finding, Found, Inputs};
 use crate::found;
 use crate::head::{Form, Judged};
 use crate::identity::Identity;
+use crate::image::{Format, Image};
 use crate::judging;
 use crate::library::STACK;
 use crate::looking::{self, What};
 use crate::names::tags;
 use crate::output::{line, note, note_of, Status};
-use crate::picture::{self, Failure, Image, Run};
+use crate::picture;
+use crate::results::Failure;
+use crate::run::{self, Run};
 use crate::sampling;
 use crate::sentences;
 use crate::settling::Settling;
@@ -56,7 +59,7 @@ struct Picture {
 
 impl Picture {
     fn of(image: &Image<u8>, about: String) -> Result<Picture, Failure> {
-        Ok(Picture { width: image.width(), height: image.height(), png: image.encoded(picture::Format::Png)?, about })
+        Ok(Picture { width: image.width(), height: image.height(), png: image.encoded(Format::Png)?, about })
     }
 }
 
@@ -222,10 +225,10 @@ fn pictures(run: &mut Run) -> Result<Pictures, Failure> {
     Ok(Pictures { frames: run.frames(), size: run.size(), thumbnails, plot: Some(Picture::of(&image, about)?) })
 }
 
-fn looked(judged: picture::Looked) -> Looked {
+fn looked(judged: run::Looked) -> Looked {
     let mut other = None;
     let seen = judged.and_then(|(judged, run)| match run.map(|mut run| pictures(&mut run)) {
-        Ok(Err(Failure::Refused(text) | Failure::Trouble(text))) => Err(text),
+        Ok(Err(Failure::Refused(text) | Failure::Other(text) | Failure::Trouble(text))) => Err(text),
         Ok(Ok(pictures)) => Ok((judged, pictures)),
         Err(what) => {
             other = what;
