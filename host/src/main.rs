@@ -181,7 +181,7 @@ enum Command {
         #[arg(long, requires = "names")]
         patient: bool,
     },
-    /// Judge files by the 39 rules, one line for each
+    /// Judge files by all rules, one line for each
     ///
     /// A line says that the run is accepted; or it gives the first broken rule, the lowest frame that breaks it (0 if the rule is not about
     /// single frames), the item and row of that frame, what the rule asks, and what was found; or the code and the byte at which reading

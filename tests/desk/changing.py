@@ -107,8 +107,14 @@ class TestChanging(Desk):
             self.addCleanup(loop.wait)
             self.addCleanup(loop.kill)
         third = STARVED // 3
-        ends = self.race(contents, ((self.overwrite, third), (self.cut_and_write, third), (self.through_a_mapping, third)), own_process=True)
-        self.assertGreater(sum(ends.values()), 0, ends)
+        rounds = ((self.overwrite, third), (self.cut_and_write, third), (self.through_a_mapping, third))
+        ends = self.race(contents, rounds, own_process=True)
+        # About one in 25 meets the writer, so that none does is rare, and ten times in a row does not happen.
+        for _ in range(9):
+            if min(ends.values()) > 0:
+                break
+            ends = self.race(contents, rounds, own_process=True)
+        self.assertGreater(min(ends.values()), 0, ends)
 
     def race(self, contents, rounds, own_process=False):
         """Pictures beside a writer; how many there were, and how often there was none."""

@@ -3,6 +3,7 @@
 use super::{by_text, End, Entry, Sender, Sent};
 use crate::codes::{Code, Coded};
 use crate::names::{self, tags};
+use crate::sentences;
 
 /// The rule or code, with the frame and its item, or the byte.
 fn place(entry: &Entry) -> String {
@@ -13,7 +14,8 @@ fn place(entry: &Entry) -> String {
     let mut text = by_text(by);
     text[..1].make_ascii_uppercase();
     if answer.frame > 0 {
-        text.push_str(&format!(", frame {0} (item {0} of (5200,9230), row {1})", answer.frame, judged.item_row));
+        let item = sentences::frame_item(answer.frame);
+        text.push_str(&format!(", frame {} ({item}, row {})", answer.frame, judged.item_row));
     }
     if answer.code().is_of_a_header() {
         text.push_str(&format!(" at byte {} of the data set", answer.offset));
