@@ -215,3 +215,56 @@ pub fn folder(path: &Path, folder: &Path, wanted: &Wanted, out: &mut dyn Write) 
     )?;
     Ok(worst)
 }
+
+#[cfg(test)]
+mod tests {
+    use super::*;
+
+    #[test]
+    fn pgm_files() {
+        let read = |content: &[u8]| read_pgm(content).map(|cells| (cells.levels, cells.size.unwrap_or_default()));
+        assert_eq!(read(b"P5\n2 1\n255\n\x07\x08"), Some((vec![7, 8], (2, 1))));
+        assert_eq!(read(b"P5 \t1\r\n2 255 \n\n"), Some((vec![b'\n', b'\n'], (1, 2))));
+        assert_eq!(read(b"P5 0 7 255 "), Some((Vec::new(), (0, 7))));
+        let wrong: [&[u8]; 11] = [
+            b"",
+            b"P5",
+            b"P6 2 1 255 ab",
+            b"P52 1 255 ab",
+            b"P5 2 1 255 a",
+            b"P5 2 1 255 abc",
+            b"P5 2 1 65535 abcd",
+            b"P5 2 1 255",
+            b"P5 2 1 255xab",
+            b"P5 -2 1 255 ab",
+            b"P5 18446744073709551615 18446744073709551615 255 ab",
+        ];
+        assert!(wrong.iter().all(|content| read_pgm(content).is_none()));
+    }
+
+    #[test]
+    fn png_files() {
+        let image = Image::new(3, 2, 9u8).unwrap();
+        let read = read_png(&image.encoded(Format::Png).unwrap()).unwrap();
+        assert_eq!((read.levels, read.size), (vec![9; 6], Some((3, 2))));
+        let deep = Image::new(3, 2, 9u16).unwrap().encoded(Format::Png).unwrap();
+        assert!(read_png(&deep).is_none() && read_png(&deep[..40]).is_none() && read_png(b"").is_none());
+    }
+
+    #[test]
+    fn frames_by_name() {
+        let number = |name: &str| number_in(Path::new(name));
+        assert_eq!(["frame-007.png", "7", "a/2024/run3.frame-12.raw", "x1y"].map(number), [7, 7, 12, 1].map(Some));
+        // The ending does not count, nor does a number that no frame has.
+        assert_eq!(["frame.p5", "readme", "", "99999999999999999999"].map(number), [None; 4]);
+    }
+
+    #[test]
+    fn white_where_they_differ() {
+        let mut ours = Image::new(2, 2, 90u8).unwrap();
+        ours.put(1, 1, 3);
+        let drawn = |tolerance| differences(&ours, &[90, 93, 87, 0], tolerance).unwrap().cells().to_vec();
+        assert_eq!(drawn(3), [30, 30, 30, 1]);
+        assert_eq!(drawn(2), [30, OFF, OFF, OFF]);
+    }
+}

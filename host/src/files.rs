@@ -439,6 +439,33 @@ mod tests {
     }
 
     #[test]
+    fn starts_of_files() {
+        let path = tempfile::NamedTempFile::new().unwrap().into_temp_path();
+        assert!(starts_with(&path, b"") && !starts_with(&path, b"a"));
+        fs::write(&path, b"abc").unwrap();
+        assert!(
+            starts_with(&path, b"ab")
+                && starts_with(&path, b"abc")
+                && !starts_with(&path, b"abcd")
+                && !starts_with(&path, b"b")
+        );
+        assert!(!starts_with(Path::new("/dev/null"), b"") && !starts_with(Path::new("/"), b""));
+    }
+
+    #[test]
+    fn only_regular_files_are_replaced() {
+        let folder = tempfile::tempdir().unwrap();
+        let path = folder.path().join("a/b");
+        assert!(write_whole(&path, b"x", false).is_err() && write_whole(&path, b"x", true).is_ok());
+        assert!(write_whole(&path, b"y", false).is_ok() && fs::read(&path).unwrap() == b"y");
+        assert!(
+            write_whole(&folder.path().join("a"), b"x", false).is_err()
+                && write_whole(Path::new("/dev/null"), b"x", false).is_err()
+        );
+        assert!(fs::metadata("/dev/null").is_ok_and(|about| !about.is_file()));
+    }
+
+    #[test]
     fn drafts_have_their_own_names() {
         assert!(is_draft(OsStr::new(".luux-a1.tmp")));
         assert!(!is_draft(OsStr::new("luux-a1.tmp")) && !is_draft(OsStr::new(".luux-a1")));
@@ -451,14 +478,12 @@ mod tests {
         assert!(since((-5, 0)).is_some() && since((i64::MAX, 0)).is_none() && since((1, -1)).is_none());
     }
 
-    /// If the file system has leases: we get one if nobody writes, none if somebody does, and lose it to one who wants to.
+    /// On a local file system we get a lease if nobody writes, none if somebody does, and lose it to one who wants to.
     #[test]
     fn leases() {
         let path = tempfile::NamedTempFile::new().unwrap().into_temp_path();
         let file = File::open(&path).unwrap();
-        if matches!(writers(&file), Writers::Unknown) {
-            return;
-        }
+        assert!(is_local(&file), "TMPDIR must be on a local file system");
         let writer = fs::OpenOptions::new().write(true).open(&path).unwrap();
         assert!(matches!(writers(&file), Writers::Some) && is_written_to(&path));
         drop(writer);

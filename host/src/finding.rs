@@ -195,3 +195,53 @@ fn has_name_of_slip(name: &OsStr) -> bool {
     let name = name.as_bytes();
     name.ends_with(b".slip") || name.windows(9).any(|part| part == b".slip.old")
 }
+
+#[cfg(test)]
+mod tests {
+    use super::*;
+
+    fn globs(texts: &[&str]) -> Vec<Glob> {
+        texts.iter().map(|text| pattern(text).unwrap()).collect()
+    }
+
+    fn taken<'a>(include: &[&str], exclude: &[&str], paths: &[&'a str]) -> Vec<&'a str> {
+        let choice = Choice::of(&globs(include), &globs(exclude)).unwrap();
+        paths.iter().copied().filter(|path| choice.takes(Path::new(path))).collect()
+    }
+
+    #[test]
+    fn globs_of_names_and_paths() {
+        let paths = ["a.dcm", "./a.dcm", "runs/a.dcm", "runs/sub/a.dcm", "b.txt", "/x/a.dcm"];
+        assert_eq!(taken(&[], &[], &paths), paths);
+        assert_eq!(taken(&["*.dcm"], &[], &paths), ["a.dcm", "./a.dcm", "runs/a.dcm", "runs/sub/a.dcm", "/x/a.dcm"]);
+        assert_eq!(taken(&["runs/*.dcm"], &[], &paths), ["runs/a.dcm"]);
+        assert_eq!(taken(&["runs/**"], &["**/sub/*"], &paths), ["runs/a.dcm"]);
+        assert_eq!(taken(&["?.{txt,dcm}"], &["a.*"], &paths), ["b.txt"]);
+        assert_eq!(taken(&["A.DCM"], &[], &paths), [""; 0]);
+        assert!(pattern("[").is_err());
+    }
+
+    #[test]
+    fn names_of_slips() {
+        let is = |name: &str| has_name_of_slip(OsStr::new(name));
+        assert!(is("run.xa.slip") && is("run.xa.slip.old") && is("run.xa.slip.old-12"));
+        assert!(!is("run.xa") && !is("slip") && !is("run.slip.xa") && !is(""));
+    }
+
+    #[test]
+    fn what_is_passed_over_is_counted() {
+        let folder = tempfile::tempdir().unwrap();
+        for name in ["a", "b.txt", ".luux-x.tmp", "skip/c", "out/d"] {
+            let path = folder.path().join(name);
+            fs::create_dir_all(path.parent().unwrap()).unwrap();
+            fs::write(path, b"").unwrap();
+        }
+        std::os::unix::fs::symlink("skip", folder.path().join("link")).unwrap();
+        let out = folder.path().join("out");
+        let choice = Choice::of(&[], &globs(&["*.txt", "skip"])).unwrap();
+        let finding = Finding::of(&[folder.path().to_path_buf(), folder.path().join("gone")], [out.as_path()], &choice);
+        let names: Vec<_> = finding.found.iter().map(|one| (one.path.file_name().unwrap(), one.named)).collect();
+        assert_eq!(names, [(OsStr::new("a"), false), (OsStr::new("gone"), true)]);
+        assert_eq!(finding.passed_over().map(|(count, _)| count), [3, 2]);
+    }
+}

@@ -226,6 +226,19 @@ mod tests {
     }
 
     #[test]
+    fn only_slips_are_replaced() {
+        let folder = tempfile::tempdir().unwrap();
+        let slip = folder.path().join("x.slip");
+        assert!(!is_slip(&slip) && set_aside(&slip).is_none());
+        assert!(write_slip(&slip, Answer::default()).is_ok() && is_slip(&slip));
+        assert!(write_slip(&slip, Answer::default()).is_ok());
+        assert_eq!(set_aside(&slip), Some(Ok(folder.path().join("x.slip.old"))));
+        fs::write(&slip, b"a run").unwrap();
+        assert!(write_slip(&slip, Answer::default()).is_err() && set_aside(&slip).is_none());
+        assert!(fs::read(&slip).unwrap() == b"a run" && !is_slip(folder.path()));
+    }
+
+    #[test]
     fn slips_stay_under_their_folder() {
         assert_eq!(slip_path(Path::new("slips"), Path::new("/a/../b/run.xa")), Path::new("slips/a/b/run.xa.slip"));
         assert_eq!(under(Path::new("done"), Path::new("../../run")), Path::new("done/run"));

@@ -554,3 +554,37 @@ fn main() -> ExitCode {
     };
     ExitCode::from(status as u8)
 }
+
+#[cfg(test)]
+mod tests {
+    use super::*;
+
+    #[test]
+    fn numbers_of_seconds() {
+        assert_eq!((seconds("30"), seconds("0.5")), (Ok(Duration::from_secs(30)), Ok(Duration::from_millis(500))));
+        assert_eq!(seconds("0"), Ok(Duration::ZERO));
+        for wrong in ["", "-1", "soon", "nan", "inf", "1e400", "1 s"] {
+            assert!(seconds(wrong).is_err(), "{wrong}");
+        }
+    }
+
+    /// clap finds faults of the description, such as two options of one name.
+    #[test]
+    fn the_commands_are_well_described() {
+        Arguments::command().debug_assert();
+    }
+
+    #[test]
+    fn options_that_need_others() {
+        let takes = |words: &str| Arguments::try_parse_from(words.split(' ')).is_ok();
+        assert!(takes("luux judge a --long --patient") && takes("luux judge a --json --patient"));
+        assert!(!takes("luux judge a --patient") && !takes("luux judge a --long --json"));
+        assert!(
+            takes("luux sheet a")
+                && takes("luux sheet a all")
+                && takes("luux sheet a 2-3")
+                && !takes("luux sheet a 3-2")
+        );
+        assert!(!takes("luux rows a --patient") && !takes("luux linear a 1 --csv -o x.png") && !takes("luux judge"));
+    }
+}

@@ -3,6 +3,7 @@
 import base64
 import csv
 import html
+import json
 import os
 import random
 import re
@@ -87,7 +88,11 @@ class TestReport(Reported):
         self.assertEqual((row["sop_instance_uid"], row["institution_name"], row["station_name"]), ("1.2.3.2", "Klinikum Nord", "ANGIO-1"))
         self.assertEqual((rows["runs/b.dcm"]["by"], rows["runs/b.dcm"]["frame"]), ("rule 30", "7"))
         self.assertEqual((rows["runs/g.dcm"]["by"], rows["runs/g.dcm"]["institution_name"]), ("code 1", "Klinikum Nord"))
-        self.assertEqual((rows["runs/a-10.dcm"]["verdict"], rows["runs/a-10.dcm"]["frames"], rows["runs/lost.dcm"]["verdict"]), ("accepted", "9", "not read"))
+        self.assertEqual((rows["runs/a-10.dcm"]["verdict"], rows["runs/a-10.dcm"]["frames"], rows["runs/lost.dcm"]["verdict"]), ("accepted", "9", "none"))
+        # As luux judge --json says it; the page says what the summary says.
+        said = map(json.loads, self.lines("judge", "runs", "--json", status=FAILED))
+        self.assertEqual({one["path"]: one["verdict"] for one in said}, {name: row["verdict"] for name, row in rows.items()})
+        self.assertIn('data-verdict="could not be read"', self.page)
         # A cell that would be a formula is none; what is only text stays as it is.
         self.assertEqual((rows[HOSTILE_FILE]["station_name"], rows[HOSTILE_FILE]["institution_name"]), ("'=1+1", HOSTILE))
 
@@ -226,7 +231,7 @@ class TestReportInABrowser(Reported):
 
     def test_it_filters(self):
         page = self.browser
-        for selector, value, wanted in (("#verdict", "accepted", ["runs/a-10.dcm", "runs/c.dcm", "runs/f.dcm"]), ("#verdict", "not read", ["runs/lost.dcm"]),
+        for selector, value, wanted in (("#verdict", "accepted", ["runs/a-10.dcm", "runs/c.dcm", "runs/f.dcm"]), ("#verdict", "could not be read", ["runs/lost.dcm"]),
                                         ("#by", "rule 2", [HOSTILE_FILE, "runs/d.dcm", "runs/e.dcm"]), ("#by", "code 1", ["runs/g.dcm"])):
             page.choose(selector, value)
             self.assertEqual(self.shown(), wanted)

@@ -106,12 +106,23 @@ enum End {
 }
 
 impl End {
+    const ALL: [End; 5] = [End::Accepted, End::Refused, End::Unread, End::Other, End::Arriving];
+
+    /// What it is called on the page, as in the summary.
     fn word(self) -> &'static str {
+        match self {
+            End::Unread => "could not be read",
+            other => other.verdict(),
+        }
+    }
+
+    /// What it is called in the table, as in the JSON of `luux judge`.
+    fn verdict(self) -> &'static str {
         match self {
             End::Accepted => "accepted",
             End::Refused => "refused",
             End::Other => "not ours",
-            End::Unread => "not read",
+            End::Unread => "none",
             End::Arriving => "arriving",
         }
     }
@@ -317,12 +328,13 @@ pub fn run(wanted: &Wanted, out: &mut dyn Write) -> io::Result<Status> {
     let senders = senders(&entries);
     let count = |end| entries.iter().filter(|entry| entry.end() == end).count();
     let mut about = format!(
-        "{} of {}: {} accepted, {} refused, {} could not be read",
+        "{} of {}: {} accepted, {} refused, {} {}",
         counted(entries.len(), "file"),
         counted(senders.len(), "sender"),
         count(End::Accepted),
         count(End::Refused),
         count(End::Unread),
+        End::Unread.word(),
     );
     let more = [End::Other, End::Arriving].map(|end| (count(end), end.word()));
     about.push_str(&listed(&more));

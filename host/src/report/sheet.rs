@@ -13,7 +13,7 @@ fn cell(text: &str) -> String {
 }
 
 fn row(entry: &Entry, patient: bool) -> Vec<String> {
-    let mut row = vec![entry.path.clone(), String::from(entry.end().word())];
+    let mut row = vec![entry.path.clone(), String::from(entry.end().verdict())];
     let judged = entry.judged();
     let answer = judged.map(|judged| judged.answer).unwrap_or_default();
     row.push(entry.by().map_or_else(String::new, by_text));
@@ -52,4 +52,33 @@ pub fn made(entries: &[Entry], patient: bool) -> Result<Vec<u8>, String> {
         table.write_record(row).map_err(|error| error.to_string())?;
     }
     table.into_inner().map_err(|error| error.to_string())
+}
+
+#[cfg(test)]
+mod tests {
+    use super::*;
+
+    #[test]
+    fn no_cell_is_a_formula() {
+        assert_eq!(["=1+1", "+1", "-1", "@a", "\t=1", "\r=1"].map(|text| cell(text).remove(0)), ['\''; 6]);
+        assert_eq!(["", "1-1", "a=1", "'=1", " =1"].map(cell), ["", "1-1", "a=1", "'=1", " =1"]);
+    }
+
+    #[test]
+    fn columns_are_those_of_the_identity() {
+        let keys: Vec<&str> = FIELDS.iter().map(|field| field.key).collect();
+        let first = |patient| {
+            let made = String::from_utf8(made(&[], patient).unwrap()).unwrap();
+            made.trim_end().split(',').map(String::from).collect::<Vec<_>>()
+        };
+        assert!(
+            first(false).starts_with(&["file", "verdict"].map(String::from))
+                && first(true).ends_with(&keys.iter().map(|key| String::from(*key)).collect::<Vec<_>>())
+        );
+        let known = FIELDS.iter().filter(|field| !field.patient).count();
+        assert_eq!(
+            (first(false).len() + keys.len() - known, first(false)[12..].join(",")),
+            (first(true).len(), keys[..known].join(","))
+        );
+    }
 }
