@@ -91,7 +91,7 @@ impl State {
         since(self.changed)
     }
 
-    /// How long ago it was written to. A time in the future is not believed; then it counts when it was changed.
+    /// How long ago it was written to. If that time is in the future, the time of the last change of its metadata counts.
     pub fn age(&self) -> Duration {
         since(self.written).or_else(|| since(self.changed)).unwrap_or_default()
     }

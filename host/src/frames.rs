@@ -151,8 +151,9 @@ fn to_files(path: &Path, run: &mut Run, frames: Frames, wanted: &Wanted, out: &m
             Err(failure) => return explain(path, failure, &mut lines),
         };
         // The folder is made once there is a picture for it.
-        if let (true, Some(Err(error))) = (frame == first, folder.map(fs::create_dir_all)) {
-            note_unwritten(folder.unwrap_or(path), &error);
+        let made = folder.filter(|_| frame == first).map(|folder| (folder, fs::create_dir_all(folder)));
+        if let Some((folder, Err(error))) = made {
+            note_unwritten(folder, &error);
             return Ok(Status::Failed);
         }
         let to = match (folder, wanted.output) {

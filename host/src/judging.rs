@@ -177,7 +177,7 @@ impl<'a> Batch<'a> {
     fn judge(&self, stop: &AtomicBool, reports: &Sender<(usize, Report)>) {
         let one = |buffer: &mut RowBuffer, number: usize| {
             if !stop.load(Ordering::Relaxed) {
-                // Nobody receives only when no more lines are wanted.
+                // The receiver is gone only once no more lines are wanted.
                 let _ = reports.send((number, self.report(number, buffer)));
             }
         };

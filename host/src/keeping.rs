@@ -59,7 +59,7 @@ impl Keeping {
             verdict.and_then(
                 |answer| if answer.is_done() { self.move_accepted.as_ref() } else { self.move_refused.as_ref() },
             );
-        // A file whose slip is missing stays for the next time.
+        // A file without its slip stays where it is, for the next run of luux.
         if let (Some(folder), false) = (folder, kept.failed()) {
             let to = under(folder, path);
             let moved = rename(path, before, &to);
@@ -152,10 +152,15 @@ fn with_ending(path: &Path, ending: &str) -> PathBuf {
 /// Larger files are not read to see whether they are slips.
 const SLIP_MOST: u64 = 64;
 
+/// Whether a path leads to a slip; an error if what is there cannot be read.
+fn slip_at(path: &Path) -> io::Result<bool> {
+    let small = fs::metadata(path).is_ok_and(|about| about.is_file() && about.len() <= SLIP_MOST);
+    Ok(small && library::read_slip(&fs::read(path)?).is_done())
+}
+
 /// Whether a path leads to a slip.
 pub fn is_slip(path: &Path) -> bool {
-    let small = fs::metadata(path).is_ok_and(|about| about.is_file() && about.len() <= SLIP_MOST);
-    small && fs::read(path).is_ok_and(|content| library::read_slip(&content).is_done())
+    slip_at(path).unwrap_or(false)
 }
 
 /// Writes a slip, never over anything but a slip.
@@ -172,8 +177,10 @@ fn write_slip(path: &Path, answer: Answer) -> Result<(), String> {
 
 /// Moves a slip, if there is one, to a name that no file has yet.
 fn set_aside(slip: &Path) -> Option<Result<PathBuf, String>> {
-    if !is_slip(slip) {
-        return None;
+    match slip_at(slip) {
+        Ok(true) => {}
+        Ok(false) => return None,
+        Err(error) => return Some(Err(files::trouble(&error))),
     }
     for number in 1..u32::MAX {
         let ending = if number == 1 { String::from(".old") } else { format!(".old-{number}") };

@@ -119,9 +119,10 @@ class TestChanging(Desk):
     def race(self, contents, rounds, own_process=False):
         """Pictures beside a writer; how many there were, and how often there was none."""
         wanted = self.pictures(contents, 2)
-        self.put("run.dcm", contents[0])
         ends = {FINE: 0, FAILED: 0}
         for how, count in rounds:
+            # The last writer may have been stopped halfway.
+            self.put("run.dcm", contents[0])
             stop = (self.writing_apart if own_process else self.writing)(self.path("run.dcm"), contents, how)
             for _ in range(count):
                 done = self.show()
