@@ -21,7 +21,7 @@ use crate::library::Answer;
 use crate::looking::{self, What};
 use crate::memory::Granted;
 use crate::other;
-use crate::output::{note, note_of, Lines, Object, Status};
+use crate::output::{may_write, note, note_of, Lines, Object, Status};
 use crate::results::{self, Failure};
 use crate::settling::Settling;
 use crate::values::{counted, listed};
@@ -109,13 +109,16 @@ pub fn are_equal(added: &Path, earlier: &Path, kind: Form) -> Result<bool, Lost>
 
 /// Writes a file in canonical form to another: its head unchanged, then the canonical form of its data set.
 pub fn write(path: &Path, kind: Form, output: &Path, out: &mut dyn Write) -> io::Result<Status> {
+    if !may_write(output, path) {
+        return Ok(Status::Failed);
+    }
     let Canonical { head: mut content, form, same, _granted } = match form_of(path, kind, &mut RowBuffer::default()) {
         Ok(found) => found,
         Err(failure) => return results::explain(path, failure, &mut Lines::Out(out)),
     };
     content.extend(form);
     let about = format!("{} bytes, {}", content.len(), if same { "unchanged" } else { "in canonical form" });
-    results::write(Ok(content), &[path], output, &about, &mut Lines::Out(out))
+    results::write(Ok(content), output, &about, &mut Lines::Out(out))
 }
 
 /// A file, and whether it is in canonical form itself.

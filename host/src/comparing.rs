@@ -11,7 +11,7 @@ use crate::files::{self, Opened};
 use crate::head::Form;
 use crate::image::{format_of, Format, Image};
 use crate::library::Compared;
-use crate::output::{line, note_of, Lines, Status};
+use crate::output::{line, may_write, note_of, Lines, Status};
 use crate::results::{self, explain, Failure};
 use crate::run::Run;
 use crate::values::counted;
@@ -99,14 +99,7 @@ fn differences(ours: &Image<u8>, theirs: &[u8], tolerance: u64) -> Result<Image<
 }
 
 /// Compares one picture, and says whether it passed.
-fn one(
-    run: &mut Run,
-    from: &Path,
-    frame: u64,
-    path: &Path,
-    wanted: &Wanted,
-    out: &mut dyn Write,
-) -> io::Result<Status> {
+fn one(run: &mut Run, frame: u64, path: &Path, wanted: &Wanted, out: &mut dyn Write) -> io::Result<Status> {
     let cells = match read_cells(path) {
         Ok(cells) => cells,
         Err(trouble) => {
@@ -133,7 +126,7 @@ fn one(
     let drawn = match differences(&ours, &cells.levels, wanted.tolerance) {
         Ok(image) => {
             let about = format!("frame {frame}, white where it differs");
-            results::write_image(&image, &[from, path], to, &about, &mut Lines::Out(out))?
+            results::write_image(&image, to, &about, &mut Lines::Out(out))?
         }
         Err(trouble) => {
             note_of(to, &trouble);
@@ -177,8 +170,11 @@ pub struct Wanted<'a> {
 
 /// Compares a picture with a frame of a run.
 pub fn picture(path: &Path, frame: u64, other: &Path, wanted: &Wanted, out: &mut dyn Write) -> io::Result<Status> {
+    if wanted.output.map_or(false, |to| !may_write(to, path) || !may_write(to, other)) {
+        return Ok(Status::Failed);
+    }
     match Run::open(path, wanted.form) {
-        Ok(mut run) => one(&mut run, path, frame, other, wanted, out),
+        Ok(mut run) => one(&mut run, frame, other, wanted, out),
         Err(failure) => explain(path, failure, &mut Lines::Out(out)),
     }
 }
@@ -203,7 +199,7 @@ pub fn folder(path: &Path, folder: &Path, wanted: &Wanted, out: &mut dyn Write) 
     let mut worst = Status::Fine;
     let mut passed = 0;
     for (frame, other) in &pictures {
-        let status = one(&mut run, path, *frame, other, wanted, out)?;
+        let status = one(&mut run, *frame, other, wanted, out)?;
         passed += usize::from(status == Status::Fine);
         worst = worst.max(status);
     }

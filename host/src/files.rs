@@ -400,9 +400,9 @@ pub fn printed(path: &Path) -> String {
     line
 }
 
-/// Whether two paths lead to one file that is there.
+/// Whether two paths lead to one file that is there, also through links of both kinds.
 pub fn is_same(one: &Path, other: &Path) -> bool {
-    matches!((fs::canonicalize(one), fs::canonicalize(other)), (Ok(one), Ok(other)) if one == other)
+    matches!((State::at(one), State::at(other)), (Ok(one), Ok(other)) if one.file == other.file)
 }
 
 /// The last part of a path with an ending added, for a file in the current folder.
@@ -470,6 +470,21 @@ mod tests {
         assert!(is_draft(OsStr::new(".luux-a1.tmp")));
         assert!(!is_draft(OsStr::new("luux-a1.tmp")) && !is_draft(OsStr::new(".luux-a1")));
         assert_eq!(beside(Path::new("a/b/run.xa"), ".movie.png"), Path::new("run.xa.movie.png"));
+    }
+
+    #[test]
+    fn one_file_under_many_names() {
+        let folder = tempfile::tempdir().unwrap();
+        let path = |name: &str| folder.path().join(name);
+        fs::write(path("a"), "").unwrap();
+        fs::write(path("b"), "").unwrap();
+        fs::hard_link(path("a"), path("hard")).unwrap();
+        std::os::unix::fs::symlink("a", path("soft")).unwrap();
+        for name in ["a", "./a", "hard", "soft"] {
+            assert!(is_same(&path("a"), &path(name)) && is_same(&path(name), &path("a")), "{name}");
+        }
+        assert!(!is_same(&path("a"), &path("b")));
+        assert!(!is_same(&path("a"), &path("missing")) && !is_same(&path("missing"), &path("missing")));
     }
 
     #[test]

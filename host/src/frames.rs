@@ -11,7 +11,7 @@ use crate::files;
 use crate::head;
 use crate::image::{is_picture_name, wrong_name, Format, Image};
 use crate::names::tags;
-use crate::output::{note_of, note_unwritten, Lines, Status};
+use crate::output::{may_write, note_of, note_unwritten, Lines, Status};
 use crate::results::{self, explain, Failure};
 use crate::run::Run;
 
@@ -92,6 +92,14 @@ fn name(path: &Path, frame: u64, digits: usize, format: Option<Format>) -> PathB
     files::beside(path, &format!(".frame-{frame:0digits$}.{ending}"))
 }
 
+/// Where the picture of a frame is written.
+fn target(path: &Path, frames: Frames, frame: u64, digits: usize, wanted: &Wanted) -> PathBuf {
+    match wanted.output {
+        Some(output) if !is_folder(output, frames) => PathBuf::from(output),
+        folder => folder.unwrap_or_else(|| Path::new("")).join(name(path, frame, digits, wanted.format)),
+    }
+}
+
 /// Whether this is the name of a folder for pictures: there are several, it ends in a slash, or it is a folder without a picture's ending.
 fn is_folder(path: &Path, frames: Frames) -> bool {
     let several = !matches!(frames, Frames::One(_));
@@ -145,6 +153,9 @@ fn to_files(path: &Path, run: &mut Run, frames: Frames, wanted: &Wanted, out: &m
     };
     let folder = wanted.output.filter(|output| is_folder(output, frames));
     let digits = if matches!(frames, Frames::One(_)) { 1 } else { run.frames().to_string().len() };
+    if !(first..=last).all(|frame| may_write(&target(path, frames, frame, digits, wanted), path)) {
+        return Ok(Status::Failed);
+    }
     for frame in first..=last {
         let (image, about) = match drawn(run, frame, wanted.both) {
             Ok(drawn) => drawn,
@@ -156,11 +167,8 @@ fn to_files(path: &Path, run: &mut Run, frames: Frames, wanted: &Wanted, out: &m
             note_unwritten(folder, &error);
             return Ok(Status::Failed);
         }
-        let to = match (folder, wanted.output) {
-            (None, Some(output)) => PathBuf::from(output),
-            _ => folder.unwrap_or_else(|| Path::new("")).join(name(path, frame, digits, wanted.format)),
-        };
-        let status = results::write_image(&image, &[path], &to, &about, &mut lines)?;
+        let to = target(path, frames, frame, digits, wanted);
+        let status = results::write_image(&image, &to, &about, &mut lines)?;
         if status != Status::Fine {
             return Ok(status);
         }
@@ -171,6 +179,10 @@ fn to_files(path: &Path, run: &mut Run, frames: Frames, wanted: &Wanted, out: &m
 /// Draws frames.
 pub fn show(path: &Path, frames: Frames, wanted: &Wanted, out: &mut dyn Write) -> io::Result<Status> {
     if wanted.output != Some(Path::new("-")) {
+        // The names of several pictures depend on how many frames the run has.
+        if matches!(frames, Frames::One(frame) if !may_write(&target(path, frames, frame, 1, wanted), path)) {
+            return Ok(Status::Failed);
+        }
         return match Run::open(path, wanted.form) {
             Ok(mut run) => to_files(path, &mut run, frames, wanted, out),
             Err(failure) => explain(path, failure, &mut Lines::Out(out)),
@@ -225,8 +237,11 @@ pub fn movie(
     out: &mut dyn Write,
 ) -> io::Result<Status> {
     let to = wanted.output.map_or_else(|| files::beside(path, ".movie.png"), PathBuf::from);
+    if !may_write(&to, path) {
+        return Ok(Status::Failed);
+    }
     match Run::open(path, wanted.form).and_then(|mut run| animated(&mut run, frames, wanted.both, rate)) {
-        Ok((content, about)) => results::write(Ok(content), &[path], &to, &about, &mut Lines::Out(out)),
+        Ok((content, about)) => results::write(Ok(content), &to, &about, &mut Lines::Out(out)),
         Err(failure) => explain(path, failure, &mut Lines::Out(out)),
     }
 }

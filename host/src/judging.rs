@@ -20,7 +20,7 @@ use crate::head::Judged;
 use crate::keeping::{self, Keeping, Kept};
 use crate::library::STACK;
 use crate::looking::{self, Looked, What};
-use crate::output::{line, note, note_of, Object, Status};
+use crate::output::{line, may_write, note, note_of, Object, Status};
 use crate::settling::Settling;
 use crate::values::{counted, listed};
 
@@ -212,6 +212,17 @@ fn same_slip<'a>(found: &'a [Found], folder: &Path) -> Option<(&'a Path, &'a Pat
     None
 }
 
+/// Whether every slip may be written: none is one of the files themselves.
+fn may_write_slips(found: &[Found], folder: &Path) -> bool {
+    // All slips have this ending, and few other files do.
+    let is_named_so = |path: &&Path| path.extension().map_or(false, |ending| ending == "slip");
+    let inputs: Vec<&Path> = found.iter().map(|one| one.path.as_path()).filter(is_named_so).collect();
+    found.iter().all(|one| {
+        let slip = keeping::slip_path(folder, &one.path);
+        inputs.iter().all(|input| input.file_name() != slip.file_name() || may_write(&slip, input))
+    })
+}
+
 /// A progress bar on standard error, if that is a terminal and there is more than one file.
 pub fn progress(files: usize) -> ProgressBar {
     if files < 2 {
@@ -341,7 +352,7 @@ fn judge_all(batch: &Batch, printing: &mut Printing) -> io::Result<()> {
     })
 }
 
-/// The files, unless there are none or two would share a slip.
+/// The files, unless there are none, two would share a slip, or the slip of one would be written over another.
 fn find(wanted: &Wanted) -> Option<Finding> {
     let finding = wanted.inputs.find(wanted.keeping.folders());
     if finding.found.is_empty() {
@@ -356,6 +367,10 @@ fn find(wanted: &Wanted) -> Option<Finding> {
                 files::printed(other)
             ),
         );
+        note("nothing was judged");
+        return None;
+    }
+    if wanted.keeping.slips.as_deref().map_or(false, |folder| !may_write_slips(&finding.found, folder)) {
         note("nothing was judged");
         return None;
     }

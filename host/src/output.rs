@@ -62,6 +62,16 @@ pub fn note_unwritten(path: &Path, error: &io::Error) {
     note_of(path, &format!("cannot be written: {}", files::trouble(error)));
 }
 
+/// Whether a file may be written: not if it is an input, under whatever name, and then this says so. Asked before the input is read, which may
+/// take long and end in a refusal.
+pub fn may_write(to: &Path, input: &Path) -> bool {
+    let same = files::is_same(to, input);
+    if same {
+        note_of(to, "cannot be written: it is the input itself; name another file");
+    }
+    !same
+}
+
 /// A JSON object; its fields keep the order in which they are put.
 #[derive(Default)]
 pub struct Object(Map<String, Value>);

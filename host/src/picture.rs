@@ -8,7 +8,7 @@ use std::path::{Path, PathBuf};
 use crate::files;
 use crate::head::Form;
 use crate::image::{sampled_size, Image};
-use crate::output::{Lines, Status};
+use crate::output::{may_write, Lines, Status};
 use crate::results::{self, Failure};
 use crate::run::Run;
 
@@ -81,11 +81,14 @@ fn sheet_of(run: &mut Run) -> Result<(Image<u8>, Vec<u64>), Failure> {
 /// Draws a contact sheet.
 pub fn contact(path: &Path, form: Form, to: Option<&Path>, out: &mut dyn Write) -> io::Result<Status> {
     let to = to.map_or_else(|| files::beside(path, ".contact.png"), PathBuf::from);
+    if !may_write(&to, path) {
+        return Ok(Status::Failed);
+    }
     match Run::open(path, form).and_then(|mut run| sheet_of(&mut run).map(|sheet| (sheet, run.frames()))) {
         Ok(((sheet, frames), all)) => {
             let named: Vec<String> = frames.iter().map(u64::to_string).collect();
             let about = format!("{} of {all} frames: {}", frames.len(), named.join(" "));
-            results::write_image(&sheet, &[path], &to, &about, &mut Lines::Out(out))
+            results::write_image(&sheet, &to, &about, &mut Lines::Out(out))
         }
         Err(failure) => results::explain(path, failure, &mut Lines::Out(out)),
     }
@@ -94,10 +97,11 @@ pub fn contact(path: &Path, form: Form, to: Option<&Path>, out: &mut dyn Write) 
 /// Maps one frame back to beam intensity.
 pub fn linear(path: &Path, form: Form, frame: u64, to: Option<&Path>, out: &mut dyn Write) -> io::Result<Status> {
     let to = to.map_or_else(|| files::beside(path, &format!(".linear-{frame}.png")), PathBuf::from);
+    if !may_write(&to, path) {
+        return Ok(Status::Failed);
+    }
     match Run::open(path, form).and_then(|mut run| run.map(frame)) {
-        Ok(image) => {
-            results::write_image(&image, &[path], &to, &format!("frame {frame}, linear"), &mut Lines::Out(out))
-        }
+        Ok(image) => results::write_image(&image, &to, &format!("frame {frame}, linear"), &mut Lines::Out(out)),
         Err(failure) => results::explain(path, failure, &mut Lines::Out(out)),
     }
 }

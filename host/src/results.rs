@@ -37,21 +37,10 @@ pub fn explain(path: &Path, failure: Failure, lines: &mut Lines) -> io::Result<S
     }
 }
 
-/// Writes a file that was made from others, never over one of those, and says so.
-pub fn write(
-    content: Result<Vec<u8>, String>,
-    from: &[&Path],
-    to: &Path,
-    about: &str,
-    lines: &mut Lines,
-) -> io::Result<Status> {
-    let written = match content {
-        Ok(_) if from.iter().any(|from| files::is_same(from, to)) => {
-            Err(String::from("it is the input itself; name another file"))
-        }
-        Ok(content) => files::write_whole(to, &content, false).map_err(|error| files::trouble(&error)),
-        Err(trouble) => Err(trouble),
-    };
+/// Writes a file that was made from others, and says so. Whether it may be written was asked before those were read.
+pub fn write(content: Result<Vec<u8>, String>, to: &Path, about: &str, lines: &mut Lines) -> io::Result<Status> {
+    let written =
+        content.and_then(|content| files::write_whole(to, &content, false).map_err(|error| files::trouble(&error)));
     match written {
         Ok(()) => lines.put(to, about).map(|()| Status::Fine),
         Err(trouble) => {
@@ -62,16 +51,10 @@ pub fn write(
 }
 
 /// The same for a picture, in the format that its name gives.
-pub fn write_image<C: Cell>(
-    image: &Image<C>,
-    from: &[&Path],
-    to: &Path,
-    about: &str,
-    lines: &mut Lines,
-) -> io::Result<Status> {
+pub fn write_image<C: Cell>(image: &Image<C>, to: &Path, about: &str, lines: &mut Lines) -> io::Result<Status> {
     let content = match format_of(to) {
         None => Err(String::from("its name must end in .png or .pgm")),
         Some(format) => image.encoded(format),
     };
-    write(content, from, to, &format!("{} x {}, {about}", image.width(), image.height()), lines)
+    write(content, to, &format!("{} x {}, {about}", image.width(), image.height()), lines)
 }

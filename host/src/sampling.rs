@@ -9,7 +9,7 @@ use crate::frames::Frames;
 use crate::head::Form;
 use crate::image::Image;
 use crate::library::SHEET_NUMBERS;
-use crate::output::{line, note_of, Lines, Object, Status};
+use crate::output::{line, may_write, note_of, Lines, Object, Status};
 use crate::results::{self, Failure};
 use crate::run::Run;
 
@@ -182,6 +182,9 @@ pub fn plot(run: &mut Run) -> Result<(Image<u8>, String), Failure> {
 
 /// Samples a run. Numbers and JSON are for another program, so whatever else there is to say goes to standard error.
 pub fn run(path: &Path, wanted: &Wanted, out: &mut dyn Write) -> io::Result<Status> {
+    if wanted.output.map_or(false, |to| !may_write(to, path)) {
+        return Ok(Status::Failed);
+    }
     let sampled = Run::open(path, wanted.form).and_then(|mut run| sample(&mut run, wanted.frames));
     let plain = matches!(wanted.print, Print::Plot);
     let sheet = match sampled {
@@ -206,7 +209,7 @@ pub fn run(path: &Path, wanted: &Wanted, out: &mut dyn Write) -> io::Result<Stat
     };
     let mut lines = if plain { Lines::Out(out) } else { Lines::Aside };
     match plotted(&sheet) {
-        Ok(image) => results::write_image(&image, &[path], to, "plot", &mut lines),
+        Ok(image) => results::write_image(&image, to, "plot", &mut lines),
         Err(trouble) => {
             note_of(path, &trouble);
             Ok(Status::Failed)

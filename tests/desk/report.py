@@ -154,16 +154,18 @@ class TestReport(Reported):
         self.put("runs/odd.dcm", self.page.encode()[:128] + self.runs["runs/c.dcm"][128:])
         self.assertIn("runs/odd.dcm: accepted", self.lines("judge", "runs/odd.dcm"))
         before = self.content()
-        page, table = "it exists, and is no page that luux wrote", "it exists, and is no table that luux wrote"
+        page, table, run = ("it exists, and is no page that luux wrote; name another page", "it exists, and is no table that luux wrote; name another page",
+                            "it is the input itself; name another file")
         for words, name, reason in (
-                (("runs", "-o", "runs/c.dcm"), "runs/c.dcm", page), (("runs/c.dcm", "-o", "runs/c.dcm"), "runs/c.dcm", page),
-                (("runs/d.dcm", "-o", "runs/c.dcm"), "runs/c.dcm", page), (("runs", "-o", "runs/odd.dcm"), "runs/odd.dcm", page),
-                (("runs", "-o", "runs/x.html", "--csv"), "runs/x.csv", table), (("runs/x.csv", "-o", "runs/x.html", "--csv"), "runs/x.csv", table),
-                (("runs", "-o", "other/night.html", "--csv"), "other/night.csv", table), (("runs", "-o", "other/notes.html"), "other/notes.html", page),
-                (("runs", "-o", "runs/lost.dcm"), "runs/lost.dcm", page), (("runs", "-o", "runs"), "runs", page),
-                (("runs", "-o", "page.csv"), "page.csv", page), (("runs", "-o", "new.csv", "--csv"), "new.csv", "the table of --csv has the same name")):
+                (("runs", "-o", "runs/c.dcm"), "runs/c.dcm", run), (("runs/c.dcm", "-o", "runs/c.dcm"), "runs/c.dcm", run),
+                (("runs/d.dcm", "-o", "runs/c.dcm"), "runs/c.dcm", page), (("runs", "-o", "runs/odd.dcm"), "runs/odd.dcm", run),
+                (("runs", "-o", "runs/x.html", "--csv"), "runs/x.csv", run), (("runs/x.csv", "-o", "runs/x.html", "--csv"), "runs/x.csv", run),
+                (("page.html", "-o", "page.html"), "page.html", run), (("runs", "-o", "other/night.html", "--csv"), "other/night.csv", table),
+                (("runs", "-o", "other/notes.html"), "other/notes.html", page), (("runs", "-o", "runs/lost.dcm"), "runs/lost.dcm", page),
+                (("runs", "-o", "runs"), "runs", page), (("runs", "-o", "page.csv"), "page.csv", page),
+                (("runs", "-o", "new.csv", "--csv"), "new.csv", "the table of --csv has the same name; name another page")):
             done = self.luux("report", *words, status=FAILED)
-            self.assertEqual((done.stdout, done.stderr.decode()), (b"", f"luux: {name}: cannot be written: {reason}; name another page\n"))
+            self.assertEqual((done.stdout, done.stderr.decode()), (b"", f"luux: {name}: cannot be written: {reason}\n"))
         self.assertEqual(self.content(), before)
 
     def content(self):

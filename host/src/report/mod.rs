@@ -25,7 +25,7 @@ use crate::judging;
 use crate::library::STACK;
 use crate::looking::{self, What};
 use crate::names::tags;
-use crate::output::{line, note, note_of, Status};
+use crate::output::{line, may_write, note, note_of, Status};
 use crate::picture;
 use crate::results::Failure;
 use crate::run::{self, Run};
@@ -299,11 +299,11 @@ fn entries(wanted: &Wanted, found: &[Found]) -> Vec<Entry> {
     made.into_iter().map(|(_, entry)| entry).collect()
 }
 
-/// The files but those that luux is about to write.
+/// The files. A page or a table that is written again is no run, unless it was named itself.
 fn find(wanted: &Wanted, targets: &[Target]) -> Finding {
     let mut finding = wanted.inputs.find(None);
     for one in std::mem::take(&mut finding.found) {
-        match targets.iter().any(|target| files::is_same(&one.path, &target.path)) {
+        match !one.named && targets.iter().any(|target| target.is_older(&one.path)) {
             true => finding.skip(&one.path, "luux writes this file"),
             false => finding.found.push(one),
         }
@@ -314,12 +314,15 @@ fn find(wanted: &Wanted, targets: &[Target]) -> Finding {
 /// Writes the page, and the table if it is wanted.
 pub fn run(wanted: &Wanted, out: &mut dyn Write) -> io::Result<Status> {
     let targets = Target::all(wanted);
+    let finding = find(wanted, &targets);
     // They are written at the end, perhaps after hours; it is better to refuse now.
+    if !targets.iter().all(|target| finding.found.iter().all(|one| may_write(&target.path, &one.path))) {
+        return Ok(Status::Failed);
+    }
     if let Some((target, text)) = target::objection(&targets) {
         note_of(&target.path, &format!("cannot be written: {text}"));
         return Ok(Status::Failed);
     }
-    let finding = find(wanted, &targets);
     if finding.found.is_empty() {
         note("nothing was reported: no files were found");
         return Ok(Status::Failed);

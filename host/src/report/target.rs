@@ -1,7 +1,7 @@
 //! The files that a report is written to. An existing file is replaced only if luux wrote it as such a file.
 
 use std::fs;
-use std::path::PathBuf;
+use std::path::{Path, PathBuf};
 
 use super::{page, sheet, Wanted};
 use crate::files;
@@ -44,11 +44,16 @@ impl Target {
         all
     }
 
+    /// Whether a file is the one that it replaces.
+    pub fn is_older(&self, path: &Path) -> bool {
+        files::is_same(path, &self.path) && files::starts_with(path, self.kind.start().as_bytes())
+    }
+
     /// What speaks against writing it: there is something of its name that luux did not write.
     fn objection(&self) -> Option<String> {
         let exists = fs::symlink_metadata(&self.path).is_ok();
         let text = || format!("it exists, and is no {} that luux wrote; name another page", self.kind.word());
-        (exists && !files::starts_with(&self.path, self.kind.start().as_bytes())).then(text)
+        (exists && !self.is_older(&self.path)).then(text)
     }
 
     /// Writes it, never over anything but an older one.
