@@ -115,19 +115,19 @@ class TestOthers(Desk):
         for more in ((), ("--timeout", "60")):
             for name in ("0-gone", "2-b", "3-c"):
                 self.put(f"night/{name}", with_head(good_run()))
-            # Each of these holds luux up for a while, since somebody has it open for writing.
-            for number in range(10):
-                self.put(f"night/1-slow-{number}", with_head(good_run()))
-            slow = [open(self.path("night", f"1-slow-{number}"), "ab") for number in range(10)]
+            # Each of these holds luux up for a while, since somebody has it open for writing; all together for three seconds.
+            for number in range(20):
+                self.put(f"night/1-slow-{number:02d}", with_head(good_run()))
+            slow = [open(self.path("night", f"1-slow-{number:02d}"), "ab") for number in range(20)]
             process = subprocess.Popen([TOOL, "duplicates", "night", *more], cwd=self.folder, stdout=subprocess.PIPE, stderr=subprocess.PIPE)
-            time.sleep(0.8)
+            time.sleep(1)
             os.remove(self.path("night", "0-gone"))
             out, told = process.communicate(timeout=60)
             for file in slow:
                 file.close()
             self.assertEqual(process.returncode, FAILED)
             self.assertEqual(out.decode().splitlines()[1:], [
-                "  night/2-b", "  night/3-c", "13 files: 2 equal in 1 group, 0 refused, 11 could not be read"])
+                "  night/2-b", "  night/3-c", "23 files: 2 equal in 1 group, 0 refused, 21 could not be read"])
             self.assertEqual(told.count(b"night/0-gone: cannot be read: no such file"), 1)
             self.assertNotIn(b"night/2-b: ", told)
 
