@@ -22,7 +22,7 @@ use crate::library::STACK;
 use crate::looking::{self, Looked, What};
 use crate::output::{line, may_write, note, note_of, Object, Status};
 use crate::settling::Settling;
-use crate::values::counted;
+use crate::values::{counted, listed};
 
 /// What `luux judge` was asked.
 pub struct Wanted {
@@ -68,7 +68,7 @@ impl Report {
     fn text(&self, searches: bool) -> String {
         let mut text = match &self.looked {
             Looked::Judged(judged) if searches && judged.answer.is_done() => {
-                format!("{}; {} rows looked at", judged.line(), judged.answer.searches)
+                format!("{}; searches: {}", judged.line(), counted(judged.answer.searches as usize, "row"))
             }
             Looked::Judged(judged) => judged.line(),
             Looked::Other(_, what) => format!("not ours: {what}"),
@@ -260,34 +260,32 @@ impl Counts {
         self.not_moved += usize::from(report.kept.move_failed());
     }
 
+    /// How many were judged, or should have been.
+    fn judged(&self) -> usize {
+        self.accepted + self.refused + self.unread
+    }
+
     fn files(&self) -> usize {
-        self.accepted + self.refused + self.unread + self.others + self.arriving
+        self.judged() + self.others + self.arriving
     }
 
     fn text(&self, finding: &Finding) -> String {
-        let mut text = format!(
-            "{}: {} accepted, {} refused, {} could not be read",
+        let slips = if self.slips_lost == 1 { "slip could not be written" } else { "slips could not be written" };
+        let more = [
+            (self.others, "not ours"),
+            (self.arriving, "arriving"),
+            (self.slips_lost, slips),
+            (self.not_moved, "could not be moved"),
+        ];
+        format!(
+            "{}: {} accepted, {} refused, {} could not be read{}{}",
             counted(self.files(), "file"),
             self.accepted,
             self.refused,
-            self.unread
-        );
-        for (count, what) in [
-            (self.others, "not ours"),
-            (self.arriving, "arriving"),
-            (
-                self.slips_lost,
-                if self.slips_lost == 1 { "slip could not be written" } else { "slips could not be written" },
-            ),
-            (self.not_moved, "could not be moved"),
-            (finding.skipped.len(), "skipped"),
-            (finding.left_out, "left out by --include or --exclude"),
-        ] {
-            if count > 0 {
-                text.push_str(&format!(", {count} {what}"));
-            }
-        }
-        text
+            self.unread,
+            listed(&more),
+            listed(&finding.passed_over())
+        )
     }
 }
 
@@ -408,8 +406,8 @@ pub fn run(wanted: &Wanted, out: &mut dyn Write) -> io::Result<Status> {
     } else {
         writeln!(printing.out, "{summary}")?;
     }
-    if printing.counts.others == printing.counts.files() {
-        note("nothing was judged: no runs were found");
+    if printing.counts.judged() == 0 {
+        note("nothing was judged: no runs were found, or all are still arriving");
         return Ok(Status::Failed);
     }
     Ok(printing.status)

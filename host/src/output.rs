@@ -39,6 +39,24 @@ pub fn note_of(path: &Path, text: &str) {
     note(&format!("{}: {text}", files::printed(path)));
 }
 
+/// Where lines about files go: to standard output, or to standard error if standard output is for the result alone.
+pub enum Lines<'a> {
+    Out(&'a mut dyn Write),
+    Aside,
+}
+
+impl Lines<'_> {
+    pub fn put(&mut self, path: &Path, text: &str) -> io::Result<()> {
+        match self {
+            Lines::Out(out) => line(*out, path, text),
+            Lines::Aside => {
+                note_of(path, text);
+                Ok(())
+            }
+        }
+    }
+}
+
 /// The line about a file that cannot be written.
 pub fn note_unwritten(path: &Path, error: &io::Error) {
     note_of(path, &format!("cannot be written: {}", files::trouble(error)));

@@ -7,7 +7,7 @@ use std::time::Duration;
 use crate::files::{self, State};
 use crate::finding::Found;
 
-/// The least time between two looks at a file, to see whether it grows.
+/// The time between two looks at a file, to see whether it grows; less if `--settle` asks for less.
 const LOOK: Duration = Duration::from_secs(1);
 
 /// The files that were found, and their states at the first look.

@@ -16,7 +16,7 @@ from desk.common import FAILED, FINE, LARGE, NOBODY, REFUSED, TOOL, Desk, alone,
 from generators import enhanced_xa as xa
 from generators.objects import encode
 from reference import attributes as tags
-from reference import files
+from reference import files, slips
 
 RUNS = 1000
 STARVED = int(os.environ.get("LUUX_STARVED", 150))  # runs beside busy loops, with all of it on one processor
@@ -112,15 +112,22 @@ class TestChanging(Desk):
             self.addCleanup(loop.wait)
             self.addCleanup(loop.kill)
         third = STARVED // 3
-        ends = self.race(contents, ((self.overwrite, third), (self.cut_and_write, third), (self.through_a_mapping, third)), own_process=True)
-        self.assertGreater(sum(ends.values()), 0, ends)
+        rounds = ((self.overwrite, third), (self.cut_and_write, third), (self.through_a_mapping, third))
+        ends = self.race(contents, rounds, own_process=True)
+        # About one in 25 meets the writer, so that none does is rare, and ten times in a row does not happen.
+        for _ in range(9):
+            if min(ends.values()) > 0:
+                break
+            ends = self.race(contents, rounds, own_process=True)
+        self.assertGreater(min(ends.values()), 0, ends)
 
     def race(self, contents, rounds, own_process=False):
         """Pictures beside a writer; how many there were, and how often there was none."""
         wanted = self.pictures(contents, 2)
-        self.put("run.dcm", contents[0])
         ends = {FINE: 0, FAILED: 0}
         for how, count in rounds:
+            # The last writer may have been stopped halfway.
+            self.put("run.dcm", contents[0])
             stop = (self.writing_apart if own_process else self.writing)(self.path("run.dcm"), contents, how)
             for _ in range(count):
                 done = self.show()
@@ -186,7 +193,8 @@ class TestChanging(Desk):
                     else:
                         self.assertIn(WRITTEN, done.stdout + done.stderr)
                 self.assertEqual(os.listdir(self.folder), ["run.dcm"])
-                self.assertIn(b"run.dcm: arriving: another program has it open for writing\n", self.luux("judge", "run.dcm", "--settle", "0.05").stdout)
+                done = self.luux("judge", "run.dcm", "--settle", "0.05", status=FAILED)
+                self.assertIn(b"run.dcm: arriving: another program has it open for writing\n", done.stdout)
                 if mapped:
                     map.close()
             self.put("run.dcm", contents[1])
@@ -364,7 +372,7 @@ class TestArriving(Desk):
         self.put("in/old.dcm", with_head(good_run()))
         self.put("in/young.dcm", with_head(good_run())[:-2])
         self.put("in/future.dcm", with_head(good_run())[:-2])
-        self.put("slips/in/young.dcm.slip", b"any")
+        self.put("slips/in/young.dcm.slip", slips.slip_bytes(0, 0, 0, 0, 57))
         os.utime(self.path("in", "old.dcm"), (time.time() - 500,) * 2)
         os.utime(self.path("in", "young.dcm"), (time.time() - 100,) * 2)
         os.utime(self.path("in", "future.dcm"), (time.time() + 500,) * 2)
@@ -379,6 +387,21 @@ class TestArriving(Desk):
         self.luux("judge", "in", "--settle", "0", status=REFUSED)
         for wrong in ("-1", "soon", "nan", "inf"):
             self.assertIn(b"seconds", self.luux("judge", "in", f"--settle={wrong}", status=FAILED).stderr)
+
+    def test_nothing_has_arrived(self):
+        """Nobody looked at a run, so the status is not that of a good night: all are arriving, or the others are not ours."""
+        for more in ((), ("notes.txt",)):
+            for name in ("a.dcm", "b.dcm", *more):
+                self.put(f"in/{name}", with_head(good_run()) if name.endswith(".dcm") else b"notes")
+            if more:
+                os.utime(self.path("in", "notes.txt"), (1, 1))
+            for command, nothing in (("judge", b"nothing was judged: "), ("duplicates", b"nothing was compared: ")):
+                done = self.luux(command, "in", "--settle", "300", status=FAILED)
+                self.assertIn(b"2 arriving", done.stdout)
+                self.assertIn(nothing + b"no runs were found, or all are still arriving\n", done.stderr)
+        os.utime(self.path("in", "a.dcm"), (1, 1))
+        for command in ("judge", "duplicates"):
+            self.assertIn(b"1 not ours, 1 arriving", self.luux(command, "in", "--settle", "300").stdout)
 
     def test_other_commands(self):
         """Every command that searches folders leaves out files that are arriving, and says the same with --timeout."""

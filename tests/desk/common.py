@@ -191,7 +191,7 @@ class Desk(unittest.TestCase):
         """Runs a command, checks its exit status, and returns its output as bytes."""
         if self.bare and words and words[0] in ("judge", "rows", "show", "contact", "canonical", "duplicates", "linear", "sheet", "compare", "movie", "report"):
             words = (words[0], "--bare", *words[1:])
-        done = subprocess.run([tool, *words], cwd=self.folder, capture_output=True, timeout=100, **options)
+        done = subprocess.run([tool, *words], **{"cwd": self.folder, "capture_output": True, "timeout": 100, **options})
         self.assertEqual(done.returncode, status, done.stdout[-2000:] + done.stderr[-2000:])
         self.assertNotIn(b"panicked", done.stderr)
         return done

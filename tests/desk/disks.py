@@ -6,6 +6,7 @@ import subprocess
 import tempfile
 
 from desk.common import FAILED, FINE, REFUSED, Desk, good_run, with_head
+from reference import slips
 
 HERE = os.path.dirname(os.path.abspath(__file__))
 
@@ -32,7 +33,7 @@ class TestDisks(Desk):
         run = with_head(good_run(frames=3, rows=64, columns=64))
         for name in ("runs/a.dcm", "runs/bad-sector.dcm", "runs/c.dcm"):
             self.put(name, run)
-        self.put("slips/runs/bad-sector.dcm.slip", b"of yesterday")
+        self.put("slips/runs/bad-sector.dcm.slip", slips.slip_bytes(0, 0, 0, 0, 57))
         for more in ((), ("--timeout", "20")):
             said = self.with_bad_disk("judge", "runs", "--slips", "slips", *more, status=FAILED).stdout.decode().splitlines()
             self.assertEqual((said[0], said[2]), ("runs/a.dcm: accepted", "runs/c.dcm: accepted"))
@@ -97,7 +98,7 @@ class TestDisks(Desk):
         for name in ("runs/a.dcm", "runs/b.dcm"):
             self.put(name, with_head(good_run()))
         for place, trouble in (("full-disk", "No space left on device"), ("lost-disk", "Input/output error")):
-            self.put(f"{place}/runs/a.dcm.slip", b"of yesterday")
+            self.put(f"{place}/runs/a.dcm.slip", slips.slip_bytes(0, 0, 0, 0, 57))
             said = self.with_bad_disk("judge", "runs", "--slips", place, "--move-accepted", "done", status=FAILED).stdout.decode().splitlines()
             for name, line in zip("ab", said):
                 start = f"runs/{name}.dcm: accepted; its slip {place}/runs/{name}.dcm.slip cannot be written: {trouble}"

@@ -4,8 +4,10 @@ import json
 import os
 import random
 import struct
+import subprocess
+import time
 
-from desk.common import CLASSES, FAILED, LARGE, REFUSED, Desk, good_run, item_left_out, with_head
+from desk.common import CLASSES, FAILED, LARGE, REFUSED, TOOL, Desk, good_run, item_left_out, with_head
 from generators.objects import element, item, sequence
 from reference import drawing, files, slips
 
@@ -29,6 +31,8 @@ OTHERS = {
     "picture.jpg": (b"\xff\xd8\xff\xe0" + bytes(300), "a picture (JPEG)"),
     "picture.bmp": (b"BM" + struct.pack("<I", 300) + bytes(294), "a picture (BMP)"),
     "report.pdf": (b"%PDF-1.7\n" + bytes(300), "a PDF document"),
+    "letter.doc": (b"\xd0\xcf\x11\xe0\xa1\xb1\x1a\xe1" + bytes(300), "an Office document or Thumbs.db"),
+    "letter.docx": (b"PK\3\4" + bytes(26) + b"[Content_Types].xml" + bytes(300), "an Office document"),
     "ct.dcm": (with_head(of_class(CT), CT), "another SOP class, CT Image (1.2.840.10008.5.1.4.1.1.2)"),
     "ct-jpeg.dcm": (with_head(of_class(CT), CT, JPEG), "another SOP class, CT Image (1.2.840.10008.5.1.4.1.1.2)"),
     "ct-cut.dcm": (with_head(of_class(CT)[:-1], CT), "another SOP class, CT Image (1.2.840.10008.5.1.4.1.1.2)"),
@@ -44,6 +48,7 @@ DOUBTFUL = {
     "compressed": (with_head(good_run(), syntax=JPEG), 17),
     "cut-and-damaged": (with_head(good_run()[:-2], CLASSES["XA"][:-3] + b"3.1"), 1),
     "no-class": (with_head(b""), 18),
+    "archive.zip": (b"PK\3\4" + bytes(26) + b"runs/run.dcm" + bytes(300), 15),
 }
 
 
@@ -97,7 +102,33 @@ class TestOthers(Desk):
         done = self.luux("duplicates", "night")
         self.assertTrue(done.stdout.endswith(b"3 files: 2 equal in 1 group, 0 refused, 0 could not be read, 1 not ours\n"))
         self.assertIn(b"night/notes.txt: not ours: text", done.stderr)
-        self.luux("duplicates", "night/notes.txt", "night", status=REFUSED)
+        done = self.luux("duplicates", "night/notes.txt", "night", status=REFUSED)
+        # A file that is found twice counts once.
+        self.assertTrue(done.stdout.endswith(b"3 files: 2 equal in 1 group, 0 refused, 0 could not be read, 1 not ours, 1 skipped\n"))
+        self.assertIn(b"night/notes.txt: skipped: the same file was found already", done.stderr)
+        self.put("texts/notes.txt", b"notes")
+        self.assertIn(b"nothing was compared: no runs were found", self.luux("duplicates", "texts", status=FAILED).stderr)
+
+    def test_an_earlier_file_is_gone(self):
+        """It is the one that could not be read; those that are equal to it are still found equal to each other."""
+        for more in ((), ("--timeout", "60")):
+            for name in ("0-gone", "2-b", "3-c"):
+                self.put(f"night/{name}", with_head(good_run()))
+            # Each of these holds luux up for a while, since somebody has it open for writing; all together for three seconds.
+            for number in range(20):
+                self.put(f"night/1-slow-{number:02d}", with_head(good_run()))
+            slow = [open(self.path("night", f"1-slow-{number:02d}"), "ab") for number in range(20)]
+            process = subprocess.Popen([TOOL, "duplicates", "night", *more], cwd=self.folder, stdout=subprocess.PIPE, stderr=subprocess.PIPE)
+            time.sleep(1)
+            os.remove(self.path("night", "0-gone"))
+            out, told = process.communicate(timeout=60)
+            for file in slow:
+                file.close()
+            self.assertEqual(process.returncode, FAILED)
+            self.assertEqual(out.decode().splitlines()[1:], [
+                "  night/2-b", "  night/3-c", "23 files: 2 equal in 1 group, 0 refused, 21 could not be read"])
+            self.assertEqual(told.count(b"night/0-gone: cannot be read: no such file"), 1)
+            self.assertNotIn(b"night/2-b: ", told)
 
     def test_code_18_from_every_command(self):
         """A good data set with a head of another class is refused by every command."""
@@ -141,7 +172,12 @@ class TestChoosing(Desk):
         self.assertEqual(said[-1], "4 files: 4 accepted, 0 refused, 0 could not be read, 2 left out by --include or --exclude")
         self.assertIn(b"nothing was judged", self.luux("judge", "runs", "--include", "none", status=FAILED).stderr)
         self.luux("judge", "runs", "--include", "[", status=FAILED)
-        self.assertEqual(self.lines("duplicates", "runs", "--include", "[ac].dcm")[1:3], ["  runs/a.dcm", "  runs/sub/c.dcm"])
+        self.assertEqual(self.lines("duplicates", "runs", "--include", "[ac].dcm")[1:], [
+            "  runs/a.dcm", "  runs/sub/c.dcm", "2 files: 2 equal in 1 group, 0 refused, 0 could not be read, 4 left out by --include or --exclude"])
+        os.symlink("sub", self.path("runs", "again"))
+        self.assertTrue(self.lines("duplicates", "runs")[-1].endswith(" 0 could not be read, 1 skipped"))
+        self.assertEqual(self.lines("report", "runs", "--include", "[ac].dcm"), [
+            "report.html: 2 files of 1 sender: 2 accepted, 0 refused, 0 could not be read, 1 skipped, 4 left out by --include or --exclude"])
 
     def test_names_that_are_no_text(self):
         self.put(b"more/\xff.dcm", good_run())

@@ -190,5 +190,5 @@ class TestSearches(Desk):
         sum = rules.judge(good_run(), LARGE).answer.searches
         good, bad = self.lines("judge", "good.xa", "bad.xa", "--searches", status=REFUSED)[:2]
         self.assertGreater(sum, 0)
-        self.assertEqual(good, f"good.xa: accepted; {sum} rows looked at")
-        self.assertNotIn("looked at", bad)
+        self.assertEqual(good, f"good.xa: accepted; searches: {sum} rows")
+        self.assertNotIn("searches", bad)

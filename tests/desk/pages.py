@@ -52,5 +52,5 @@ class TestPages(Desk):
                 subprocess.run(["mandoc", "-Tutf8", self.path("man", "man1", name)], check=True, stdout=subprocess.DEVNULL)
         with open(self.path("man", "man1", "luux-judge.1"), encoding="utf-8") as file:
             page = file.read().replace("\\-", "-")
-        for word in ("--slips", "--long", "--patient", "39 rules"):
+        for word in ("--slips", "--long", "--patient", "all rules"):
             self.assertIn(word, page)

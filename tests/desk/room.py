@@ -82,6 +82,16 @@ class TestMemory(Desk):
         for wrong in ("-1", "many", "4T", "99999999999999999999", "9999999999999G"):
             self.assertIn(b"such as 800M", self.luux("judge", "runs", f"--memory={wrong}", status=FAILED).stderr)
 
+    def test_the_copy_without_masks_counts(self):
+        """With --both a run takes its bytes twice."""
+        self.put("run.dcm", with_head(good_run(frames=4, rows=64, columns=64)))
+        size = os.path.getsize(self.path("run.dcm"))
+        for words in (("show", "run.dcm", "2", "-o", "x.png"), ("movie", "run.dcm", "-o", "x.png")):
+            self.luux(*words, "--memory", str(size))
+            self.luux(*words, "--both", "--memory", str(2 * size))
+            done = self.luux(*words, "--both", "--memory", str(2 * size - 1), status=FAILED)
+            self.assertEqual(done.stderr.decode().split(" bytes")[0], f"luux: run.dcm: for its copy without masks it needs {size}")
+
     def test_rows_count(self):
         """Rows count as memory of a file: it waits while they do not fit beside others, and is refused if they never do."""
         items = 100_000

@@ -20,7 +20,7 @@ class TestSheet(Desk):
                 numbers = sheet.sheet(data, first, last, LARGE).sheet
                 self.assertEqual(self.lines("sheet", "run.xa", *words, "--numbers"), [str(number) for number in numbers])
                 said = json.loads(self.lines("sheet", "run.xa", *words, "--json")[0])
-                self.assertEqual(said, {"file": "run.xa", "first": first, "last": last, "native": numbers[256], "lowest": numbers[257],
+                self.assertEqual(said, {"path": "run.xa", "first": first, "last": last, "native": numbers[256], "lowest": numbers[257],
                                         "highest": numbers[258], "sum": numbers[259], "counts": list(numbers[:256])})
                 frames = f"frame {first}" if first == last else f"frames {first} to {last}"
                 cells = 28 * (last - first + 1)
@@ -36,7 +36,7 @@ class TestSheet(Desk):
         data = good_run(frames=2, rows=6, columns=9)
         self.put("run.xa", data)
         numbers = sheet.sheet(data, 1, 2, LARGE).sheet
-        self.assertEqual(self.lines("sheet", "run.xa", "-o", "x.png")[-1], "x.png: 792 x 360, histogram")
+        self.assertEqual(self.lines("sheet", "run.xa", "-o", "x.png")[-1], "x.png: 792 x 360, plot")
         width, height, cells = read_png(self.path("x.png"))
         for level in range(256):
             column = [cells[(12 + y) * width + 12 + 3 * level] for y in range(320)]
@@ -52,7 +52,7 @@ class TestSheet(Desk):
 
     def test_refused(self):
         self.put("plain.xa", good_run(frames=3))
-        for frames, line in (("2-1", "code 19: the first frame comes after the last"), ("0-2", "code 10: no such frame; the run has frames 1 to 3"),
+        for frames, line in (("0-2", "code 10: no such frame; the run has frames 1 to 3"),
                              ("2-4", "code 10: no such frame; the run has frames 1 to 3")):
             self.assertEqual(self.lines("sheet", "plain.xa", frames, status=REFUSED), [f"plain.xa: {line}"])
             for form in ("--json", "--numbers"):

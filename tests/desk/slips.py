@@ -167,6 +167,28 @@ class TestKeepingSlips(Desk):
         self.luux("slip", "read", "s/run.dcm.slip.old-2")
         self.assertIn(b"s/run.dcm.slip.old: skipped: a verdict slip", self.luux("judge", ".").stderr)
 
+    def test_only_slips_are_replaced(self):
+        """What has the name of a slip and is none stays, whether the run is judged or not; with it stays the run."""
+        run = with_head(good_run())
+        self.put("in/x", run)
+        self.put("in/x.slip", with_head(good_run(seed=2)))
+        self.put("in/notes", b"notes")
+        self.put("in/notes.slip", run)
+        self.put("s/in/x.slip.slip", slips.slip_bytes(9, 1, 0, 0, 57))
+        before = {name: self.slip("in", name) for name in os.listdir(self.path("in"))}
+        done = self.luux("judge", "x", "notes", "--slips", ".", "--move-accepted", "done", status=FAILED, cwd=self.path("in"))
+        self.assertEqual(done.stdout.decode().splitlines(), [
+            "x: accepted; its slip ./x.slip cannot be written: that file exists already, and is no slip", "notes: not ours: text",
+            "2 files: 1 accepted, 0 refused, 0 could not be read, 1 not ours, 1 slip could not be written"])
+        self.assertEqual({name: self.slip("in", name) for name in os.listdir(self.path("in"))}, before)
+        # An older slip is replaced, and a link to nowhere is not.
+        os.symlink("nowhere", self.path("s", "in", "x.slip"))
+        self.put("in/x.slip", run)
+        said = self.lines("judge", "in/x", "in/x.slip", "--slips", "s", status=FAILED)
+        self.assertTrue(said[0].endswith("s/in/x.slip cannot be written: that file exists already, and is no slip"), said[0])
+        self.assertEqual(said[1], "in/x.slip: accepted")
+        self.luux("slip", "read", "s/in/x.slip.slip")
+
     def test_all_slips_though_nobody_listens(self):
         for number in range(300):
             self.put(f"in/{number:03d}.dcm", with_head(good_run() if number % 2 else item_left_out()))
