@@ -10,11 +10,11 @@ MediaStorageSOPClassUID = 0x0002_0002
 abbrev pub TransferSyntaxUID : ℕ
 TransferSyntaxUID = 0x0002_0010
 
-abbrev pub SOPClassUID : ℕ
-SOPClassUID = 0x0008_0016
-
 abbrev pub ImageType : ℕ
 ImageType = 0x0008_0008
+
+abbrev pub SOPClassUID : ℕ
+SOPClassUID = 0x0008_0016
 
 abbrev pub AcquisitionDateTime : ℕ
 AcquisitionDateTime = 0x0008_002A

@@ -1,5 +1,5 @@
-// The base of every other crate: numbers in bytes, tags, VRs, and how large a data set may be. specs/ defines each, and the fields of an
-// answer. No function of this crate is a public call: each requires that the bytes it reads exist.
+// What most crates build on: numbers in bytes, tags, VRs, and how large a data set may be. specs/ defines each, and the fields of an
+// answer. No function of this crate is a public call: one that reads at an offset requires that the bytes there exist.
 ghost use mathlib.Core.Path.{_≡_};
 ghost use Prim.Native.Nat.{_+_, _≤_, _<_};
 ghost use lib.ListN.{length};

@@ -5,9 +5,9 @@ pub const MEDIA_STORAGE_SOP_CLASS_UID: usize = 0x0002_0002;
 
 pub const TRANSFER_SYNTAX_UID: usize = 0x0002_0010;
 
-pub const SOP_CLASS_UID: usize = 0x0008_0016;
-
 pub const IMAGE_TYPE: usize = 0x0008_0008;
+
+pub const SOP_CLASS_UID: usize = 0x0008_0016;
 
 pub const ACQUISITION_DATETIME: usize = 0x0008_002A;
 

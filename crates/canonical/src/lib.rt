@@ -16,7 +16,7 @@ ghost use Rattle.canonical.specs.Written.{letters, lengthOf, header, hea
 ghost use Rattle.basics.specs.Bytes.{IsBytes, le};
 use dataset::ReadAnswer;
 
-// ---- IsBytes into the target
+// ---- Bytes into the target
 
 // A number as two bytes, and as four.
 fn put_u16(target: &mut [u8], at: usize, x: usize)

@@ -1,4 +1,4 @@
--- How the judge's loops ask the rules. None of this is in document 01.
+-- How the judge's loops ask the rules. None of this is in the papers.
 use mathlib.Core.Path.{_≡_}
 use Prim.Native.Nat.{ℕ, _+_, _-_, _≤_}
 use mathlib.Core.List.{List}

@@ -1,5 +1,5 @@
 -- What the functions inside `read` promise in terms of the definition of reading: bounds of a header, and what a walk along one level
--- answers and writes. None of this is in document 01.
+-- answers and writes. None of this is in the papers.
 use mathlib.Core.Path.{_≡_}
 use Prim.Native.Nat.{ℕ, _+_, _*_, _≤_, _<_}
 use mathlib.Core.List.{List}

@@ -14,7 +14,8 @@ use Rattle.dataset.specs.declared.Head.the-variants.{Header, End, Refuse
 use Rattle.basics.specs.Bytes.{le16, le32, tagAt, vrAt}
 use Rattle.basics.specs.Vr.{formOf, SQ}
 
--- The first if the test holds, otherwise the second.
+-- The first if the test holds, otherwise the second. It is `cond` for heads, but stays folded until a proof unfolds it, so that a search
+-- can match on each check.
 unfoldable pub when : Bool → Head → Head → Head
 when true a b = a
 when false a b = b

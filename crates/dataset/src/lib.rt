@@ -1,5 +1,5 @@
 // The reader of a data set in Explicit VR Little Endian: a row for each element and item, or the first refusal.
-// specs/ says what a reading is, in the order of the paper; `read`, at the end, is the public call.
+// specs/ says what a reading is, in the order of the paper; `count` and `read`, at the end, are the public calls.
 ghost use mathlib.Core.Path.{_≡_};
 ghost use Prim.Native.Nat.{_+_, _-_, _*_, _≤_, _<_};
 ghost use mathlib.Core.List.{[], _∷_};

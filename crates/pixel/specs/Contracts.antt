@@ -1,22 +1,22 @@
 -- What the functions of this crate require of and promise each other. None of this is in the papers.
-use Prim.Native.Nat.{ℕ, zero, suc, _+_, _-_, _^_, _*_, _/_, _%_, _≤_, _<_, min}
-use mathlib.Core.List.{List, [], _∷_}
-use lib.ListN.{getD, set, length}
-use Rattle.window.specs.Contracts.{shadePlaces}
-use Rattle.basics.specs.Bytes.{leNumber}
-use Rattle.shift.specs.declared.Moves.{Moves}
-use Rattle.pixel.specs.declared.Geometry.{Geometry}
-use Rattle.pixel.specs.Pixel.{sampleAt, blendedAt, isFrame, sumAt, averageOf, maskAt, placeOf, restOf, blockOf, weightsOf}
-use Rattle.pixel.specs.Pixel.{blendOf}
 use mathlib.Core.Path.{_≡_}
 use mathlib.Core.Bool.{true}
+use mathlib.Core.List.{List, [], _∷_}
 use mathlib.Core.Logic.{_⊎_}
+use Prim.Native.Nat.{ℕ, zero, suc, _+_, _-_, _^_, _*_, _/_, _%_, _≤_, _<_, min}
+use lib.ListN.{getD, set, length}
+use Rattle.basics.specs.Bytes.{leNumber}
 use Rattle.value.specs.Number.{usValues}
 use Rattle.value.specs.declared.Signed.{Signed}
 use Rattle.shift.specs.Shift.{shiftUnit, largestShift, largestMove}
+use Rattle.shift.specs.declared.Moves.{Moves}
+use Rattle.window.specs.Contracts.{shadePlaces}
+use Rattle.pixel.specs.declared.Geometry.{Geometry}
+use Rattle.pixel.specs.Pixel.{sampleAt, blendedAt, isFrame, sumAt, averageOf, maskAt, placeOf, restOf, blockOf, weightsOf}
+use Rattle.pixel.specs.Pixel.{blendOf}
 
--- What the painting functions write: one byte for each sample of the frame, from a table of shades. The place in the table is sample -
--- mask + 2^stored - 1; a native sample takes the place that a mask of 2^(stored - 1) would give it.
+-- ---- What the painting functions write: one byte for each sample of the frame, from a table of shades. The place in the table is
+-- sample - mask + 2^stored - 1; a native sample takes the place that a mask of 2^(stored - 1) would give it.
 
 -- The first n bytes of an image are f 0, f 1, ..; it is untouched beyond them.
 unfoldable pub painted : (ℕ → ℕ) → ℕ → List ℕ → List ℕ
@@ -28,8 +28,6 @@ nativeShade table g v f i = getD table (sampleAt g v f i + (2 ^ g .stored - 1 - 
 
 unfoldable pub maskedShade : List ℕ → Geometry → List ℕ → ℕ → List ℕ → Moves → ℕ → ℕ
 maskedShade table g v f ks m i = getD table (sampleAt g v f i + (2 ^ g .stored - 1) - blendedAt g v ks m i) 0
-
--- What contracts need beside the definitions of a picture: what drawing requires, and what each part of the code computes.
 
 -- ---- Room for moves
 

@@ -1,4 +1,5 @@
--- One mask item after the other.
+-- An item takes only frames that are free, so after each the free frames are left to the items that follow, and after the last nothing is
+-- left.
 use mathlib.Core.Path.{_≡_, refl, sym, ap, _∙_, subst}
 use mathlib.Core.Bool.{Bool, true, false, cond}
 use mathlib.Core.List.{List, []}

@@ -1,4 +1,5 @@
--- How far pairs reach, and what a table of marks says of it.
+-- A frame is in some pair exactly if the pairs that start at it or before reach it, and the largest mark up to the frame is how far those
+-- reach.
 use mathlib.Core.Path.{_≡_, refl, sym, ap, _∙_}
 use mathlib.Core.Bool.{Bool, true, false, cond, _&&_, _||_}
 use mathlib.Core.List.{List, [], _∷_}

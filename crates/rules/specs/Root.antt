@@ -61,7 +61,7 @@ rule4 ns = planesAre ns (ascii "SINGLE PLANE") || (planesAre ns (ascii "BIPLANE"
 unfoldable pub rule5 : List Node → Bool
 rule5 ns = cond (planesAre ns (ascii "UNDEFINED")) (imageTypeIs ns (ascii "DERIVED")) true
 
--- Rule 6. Plane Identification (0018,9457) CS: absent if UNDEFINED, else had.
+-- Rule 6. Plane Identification (0018,9457) CS: absent if UNDEFINED, otherwise present and not empty.
 unfoldable pub rule6 : List Node → Bool
 rule6 ns =
     cond (planesAre ns (ascii "UNDEFINED"))
@@ -133,7 +133,7 @@ lossyIs ns word = rootIs ns Tags.LossyImageCompression word
 unfoldable pub rule18 : List Node → Bool
 rule18 ns = lossyIs ns (ascii "00") || lossyIs ns (ascii "01")
 
--- Rule 19. Ratio (0028,2112) DS and Method (0028,2114) CS: both had at 01, both absent at 00.
+-- Rule 19. Ratio (0028,2112) DS and Method (0028,2114) CS: both present and not empty at 01, both absent at 00.
 unfoldable pub rule19 : List Node → Bool
 rule19 ns =
     cond (lossyIs ns (ascii "01"))

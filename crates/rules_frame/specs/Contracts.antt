@@ -1,7 +1,8 @@
--- What the functions of this crate require of and promise each other. None of this is in the papers.
-use Prim.Native.Nat.{ℕ}
-use mathlib.Core.List.{List}
+-- How the code splits the rules that are asked at each frame: what a rule asks of the shared item is worked out once, and the rest is
+-- asked of each frame's item. None of this is in the papers; `Rattle.rules` has the rules.
 use mathlib.Core.Bool.{Bool, _&&_, true, cond}
+use mathlib.Core.List.{List}
+use Prim.Native.Nat.{ℕ}
 use lib.Dec.{eqb}
 use Rattle.basics.specs.Vr.{SQ}
 use Rattle.node.specs.Nodes.{Node, nodeAt, inside}
@@ -13,14 +14,13 @@ use Rattle.intensity.specs.Contracts.{relationIn, tableIn, agree}
 use Rattle.rules_frame.specs.declared.SharedPart.{SharedPart}
 use Rattle.rules.specs.Frame.{item27, item28, isVoi, isShiftGroup}
 
--- How the code of rule 27 takes the elements of two items together, by their tags.
+-- ---- Rule 27: the elements of two items together, by their tags
 
 -- Node j is a sequence, and the first of the members is a sequence of the same tag.
 unfoldable pub isRepeated : List Node → ℕ → List ℕ → Bool
 isRepeated ns j ks = eqb (nodeAt ns j .vr) SQ && holds (firstIs ns (nodeAt ns j .tag) ks) (λ k. eqb (nodeAt ns k .vr) SQ)
 
--- How the code splits the rules that are asked at each frame: what a rule asks of the shared item is worked out once, and the rest is
--- asked of each frame's item. None of this is in document 01; `Rattle.rules` has the rules.
+-- ---- The shared item and a frame's item
 
 -- The functional group of rule 29, 30 or 37, and what the rule asks of it.
 unfoldable pub groupTag : ℕ → ℕ

@@ -43,8 +43,8 @@ fn is_repeated(bytes: &[u8], rows: &[u32], j: usize, k: usize, to: usize) -> boo
     }
 }
 
-// Tags ascend in an item, so one walk goes along both items; neither j nor k goes back, and the end of the shared one ends it. Step by
-// step:
+// Whether a sequence of the frame's item is in the shared item too. Tags ascend in an item, so one walk goes along both items, step by
+// step; neither j nor k goes back, and the end of the shared one ends it.
 fn repeats_narrow(bytes: &[u8], rows: &[u32], shared: usize, item: usize) -> bool
     requires { ⌜ Table (now bytes) (now rows) × ((shared < length (nodesOf (now bytes))) × (item < length (nodesOf (now bytes)))) ⌝ }
     ensures { λ r. ⌜ r ≡ repeatsShared (nodesOf (now (bytes .entry))) shared item ⌝ }

@@ -1,5 +1,5 @@
 -- How the code checks the rules: one loop asks each mask item what the rule asks. And how it splits rule 36: the part of the shared item
--- is worked out once, and the rest is asked of each frame's item. None of this is in document 01; `Rattle.rules` has the rules.
+-- is worked out once, and the rest is asked of each frame's item. None of this is in the papers; `Rattle.rules` has the rules.
 use Prim.Native.Nat.{ℕ}
 use mathlib.Core.List.{List}
 use mathlib.Core.Bool.{Bool}

@@ -2,7 +2,7 @@
 use mathlib.Core.Path.{_≡_, refl, sym, ap, _∙_, subst}
 use Prim.Native.Nat.{ℕ, zero, suc, _+_, _-_, _*_, _/_, _%_, _≤_, _<_}
 use native.Mathlib.Omega.{arith}
-use mathlib.Core.List.{List, []}
+use mathlib.Core.List.{List}
 use mathlib.Core.Bool.{Bool, true, false, cond, _&&_}
 use mathlib.Core.Option.{Option, none, some}
 use lib.ListN.{length, getD, drop}
@@ -17,7 +17,6 @@ use Rattle.value.specs.Contracts.{SizeBelow}
 use Rattle.value.proofs.Laws.{usValues-length, values-end, pair-at}
 use Rattle.basics.proofs.Tests.{and-both}
 use Rattle.basics.specs.Vr.{SQ, US}
-use Rattle.basics.proofs.Tests.{and-both}
 use Rattle.node.specs.Nodes.{Node, nodeAt, nextNode, members, root, inside}
 use Rattle.node.specs.Find.{find, ofVr, andThen}
 use Rattle.node.proofs.Walks.{members-end, members-next}

@@ -1,4 +1,5 @@
--- For callers: what a bound says of a number that was matched, bounds of the text forms, and the values of a US.
+-- What callers use: the bound of a number holds of what was matched; a text form has few digits, so its number is small; and each value of
+-- a US takes two bytes, so value k stands 2k bytes on.
 use mathlib.Core.Path.{_≡_, refl, ap, _∙_, subst}
 use Prim.Native.Nat.{ℕ, zero, suc, _+_, _*_, _^_, _/_, _%_, _≤_, _<_}
 use native.Mathlib.Omega.{arith}

@@ -291,20 +291,20 @@ fn digits(s: &[u8], limit: usize, start: usize) -> Run
     while i < s.len() {
         if left == 0 {
             return Run {
-                number: number,
+                number,
                 count: i,
             };
         }
         let x = wide(s[i]);
         if x < 0x30 {
             return Run {
-                number: number,
+                number,
                 count: i,
             };
         }
         if 0x39 < x {
             return Run {
-                number: number,
+                number,
                 count: i,
             };
         }
@@ -313,7 +313,7 @@ fn digits(s: &[u8], limit: usize, start: usize) -> Run
         i += 1;
     }
     Run {
-        number: number,
+        number,
         count: i,
     }
 }
