@@ -180,3 +180,16 @@ PerFrameFunctionalGroupsSequence = 0x5200_9230
 
 abbrev pub PixelData : ℕ
 PixelData = 0x7FE0_0010
+
+-- Item, Item Delimitation Item and Sequence Delimitation Item, and their group.
+abbrev pub itemTag : ℕ
+itemTag = 0xFFFE_E000
+
+abbrev pub itemDelimiter : ℕ
+itemDelimiter = 0xFFFE_E00D
+
+abbrev pub sequenceDelimiter : ℕ
+sequenceDelimiter = 0xFFFE_E0DD
+
+abbrev pub itemGroup : ℕ
+itemGroup = 0xFFFE

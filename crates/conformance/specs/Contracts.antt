@@ -19,9 +19,9 @@ abbrev pub noPart : SharedPart
 noPart = record { ok = true; relation = 1; table = 1 }
 
 -- The part of a per-frame rule in the shared item; any other rule asks nothing there.
-abbrev pub okFor : List Node → ℕ → Num → SharedPart
-okFor ns rule None = noPart
-okFor ns rule (Is s) = cond (perFrame rule) (sharedPart ns rule s) noPart
+abbrev pub partFor : List Node → ℕ → Num → SharedPart
+partFor ns rule None = noPart
+partFor ns rule (Is s) = cond (perFrame rule) (sharedPart ns rule s) noPart
 
 -- The number after that of the last rule.
 abbrev pub endRule : ℕ

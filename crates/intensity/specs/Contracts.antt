@@ -41,8 +41,8 @@ unfoldable pub tableIn : List Node → ℕ → ℕ → ℕ
 tableIn ns i otherwise = gradeOn (find ns Tags.PixelIntensityRelationshipLUTSequence (inside ns i)) (tableOf ns) otherwise
 
 -- Rule 39 by the grades of the frame's two groups.
-abbrev pub agree : ℕ → ℕ → Bool
-agree relation table = leb 1 relation && leb relation table
+abbrev pub gradesAgree : ℕ → ℕ → Bool
+gradesAgree relation table = leb 1 relation && leb relation table
 
 -- ---- Where a search for a TO_LINEAR item stops
 

@@ -1,6 +1,6 @@
 -- What the functions of this crate require of and promise each other. None of this is in the papers.
 use mathlib.Core.Path.{_≡_}
-use mathlib.Core.Bool.{cond}
+use mathlib.Core.Bool.{Bool, cond}
 use mathlib.Core.List.{List, [], _∷_}
 use Prim.Native.Nat.{ℕ, _*_, _≤_, _<_}
 use lib.ListN.{length}
@@ -17,6 +17,11 @@ pub record Table (s rows : List ℕ) : Type 0 where
   pub is : rows ≡ flat (rowsOf s)
   pub size : length rows ≡ width * length (nodesOf s)
   pub few : length (nodesOf s) ≤ mostRows
+
+-- What p says about what was found; `otherwise` if nothing was.
+abbrev pub holdsOr : Num → (ℕ → Bool) → Bool → Bool
+holdsOr None p otherwise = otherwise
+holdsOr (Is n) p otherwise = p n
 
 -- ---- How the code finds an element among members: tags never descend among them, so a search can stop at the first tag not below the
 -- one sought, and can go by halves if that is far.

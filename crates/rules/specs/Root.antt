@@ -7,6 +7,7 @@ use lib.ListN.{length}
 use lib.Dec.{eqb, leb}
 use Rattle.value.specs.Text.{ascii, valuesOf, isSingle}
 use Rattle.value.specs.Words.{wordAt, isWord}
+use Rattle.basics.specs.Limits.{lastFrame}
 use Rattle.basics.specs.Vr.{SQ, CS, DS, DT, FD}
 use Rattle.node.specs.Nodes.{Node, root, inside}
 use Rattle.node.specs.Find.{holds, absent, find, findVr, has}
@@ -114,7 +115,7 @@ rule14 ns = holds (usIn ns Tags.PixelRepresentation (root ns)) (λ n. eqb n 0)
 
 -- Rule 15. Number of Frames (0028,0008) IS, 1 to 65,535 (local rule).
 unfoldable pub rule15 : List Node → Bool
-rule15 ns = holds (framesOf ns) (λ n. leb 1 n && leb n 65535)
+rule15 ns = holds (framesOf ns) (λ n. leb 1 n && leb n lastFrame)
 
 -- Rule 16. Content Qualification (0018,9004) CS: PRODUCT, RESEARCH, SERVICE.
 unfoldable pub rule16 : List Node → Bool

@@ -40,7 +40,8 @@ use denote.Triple.Walked.{says, needs, Stays, stay-none, stay-none-slice, walkOf
 use denote.Triple.Walked.{walk-meets}
 use denote.Exit.{yes}
 use denote.Triple.Clauses.{ensured, lasts}
-use Rattle.frame.specs.View.{Part, IsView, Fits, frameSize}
+use Rattle.frame.specs.View.{Part, IsView, frameSize}
+use Rattle.frame.specs.Contracts.{Fits}
 use Rattle.frame.specs.declared.FrameView.{FrameView}
 use Rattle.frame.proofs.Laws.{line-fits, line-part}
 use Rattle.frame.proofs.FrameView as T
