@@ -50,11 +50,12 @@ abbrev pub AllWithin : ℕ → List ℕ → Type 0
 AllWithin n [] = Unit {0}
 AllWithin n (k ∷ ks) = ((1 ≤ k) × (k ≤ n)) × AllWithin n ks
 
--- Nothing, or 1 to 64 of the n frames, moved by whole quarters of at most 64 pixels.
+-- Whole quarters of at most 64 pixels, both numbers.
 abbrev pub Short : Moves → Type 0
 Short m = (isNumber (m .vertical) ≡ true)
     × ((isNumber (m .horizontal) ≡ true) × (SizeBelow tooFar (m .vertical) × SizeBelow tooFar (m .horizontal)))
 
+-- Nothing, or 1 to 64 of the n frames, moved by short moves.
 abbrev pub SoundMask : ℕ → Mask → Type 0
 SoundMask n noMask = Unit {0}
 SoundMask n (maskOf ks m) = (1 ≤ length ks) × ((length ks ≤ 64) × (AllWithin n ks × Short m))

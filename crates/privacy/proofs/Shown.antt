@@ -1,4 +1,4 @@
--- Nodes that are alike and have the same Pixel Data are drawn the same, and so are the sheets of their frames.
+-- Nodes that are alike and have the same Pixel Data are drawn the same.
 use mathlib.Core.Path.{_≡_, refl}
 use Prim.Native.Nat.{ℕ}
 use mathlib.Core.List.{List}

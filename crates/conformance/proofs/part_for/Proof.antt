@@ -2,8 +2,8 @@
 use mathlib.Core.Path.{sym, _∙_}
 use Rattle.node.proofs.Laws as node-laws
 use borrow.Author.Needs.{needs}
-use Rattle.conformance.proofs.shared_ok.Statement.{statement}
-use Rattle.conformance.proofs.shared_ok.Tie as tie
+use Rattle.conformance.proofs.part_for.Statement.{statement}
+use Rattle.conformance.proofs.part_for.Tie as tie
 
 enum-told : tie.Need-enum-told
 enum-told c = search needs
@@ -40,8 +40,8 @@ returns-3 c =
     let at-shared = c .before .before .before .before in
     rw (at-shared .shared .given .1, sym (c .before .before .is-per-frame .ensures) ∙ c .before .if1 .left) (c .no-part2 .ensures)
 
-pub shared-ok-spec : {M : Type 1} → statement M
-shared-ok-spec =
+pub part-for-spec : {M : Type 1} → statement M
+part-for-spec =
     tie.close
     (tie.spec
     enum-told

@@ -1,8 +1,8 @@
--- A range is of VR US and of whole pairs, at least one: the tests are those of `rangeHas`.
+-- The three tests are those of the definition, in its order.
 use borrow.Author.Tests.{eq-eqb, ne-eqb, le-leb, lt-leb}
 use borrow.Author.Needs.{needs}
-use Rattle.steps.proofs.has_pairs.Statement.{statement}
-use Rattle.steps.proofs.has_pairs.Tie as tie
+use Rattle.element.proofs.has_pairs.Statement.{statement}
+use Rattle.element.proofs.has_pairs.Tie as tie
 
 vr-requires : tie.Need-vr-requires
 vr-requires c κs = search needs

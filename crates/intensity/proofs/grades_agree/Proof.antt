@@ -1,7 +1,7 @@
 -- The two tests are those of the definition; the second is made only where the first holds.
 use borrow.Author.Tests.{le-leb, lt-leb}
-use Rattle.intensity.proofs.do_agree.Statement.{statement}
-use Rattle.intensity.proofs.do_agree.Tie as tie
+use Rattle.intensity.proofs.grades_agree.Statement.{statement}
+use Rattle.intensity.proofs.grades_agree.Tie as tie
 
 returns : tie.Need-returns
 returns c =
@@ -11,5 +11,5 @@ returns-2 : tie.Need-returns-2
 returns-2 c =
     rw (lt-leb _ _ (c .if1 .left))
 
-pub do-agree-spec : {M : Type 1} → statement M
-do-agree-spec = tie.close (tie.spec returns returns-2)
+pub grades-agree-spec : {M : Type 1} → statement M
+grades-agree-spec = tie.close (tie.spec returns returns-2)

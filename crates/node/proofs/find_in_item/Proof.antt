@@ -4,8 +4,8 @@ use lib.ListN.{length}
 use Rattle.node.specs.Nodes.{nodesOf}
 use Rattle.node.proofs.Halves as halves
 use Rattle.node.proofs.Laws.{below-more}
-use Rattle.node.proofs.find_inside.Statement.{statement}
-use Rattle.node.proofs.find_inside.Tie as tie
+use Rattle.node.proofs.find_in_item.Statement.{statement}
+use Rattle.node.proofs.find_in_item.Tie as tie
 
 next-requires : tie.Need-next-requires
 next-requires c κs = search needs
@@ -50,7 +50,7 @@ returns-2 c =
       below-more (n .result) (length (nodesOf (start .args .bytes .now))) (c .find-wide .result) (n .ensures .1) (c .find-wide .ensures .1),
     )
 
-pub find-inside-spec : {M : Type 1} → statement M
-find-inside-spec =
+pub find-in-item-spec : {M : Type 1} → statement M
+find-in-item-spec =
     tie.close
     (tie.spec next-requires sub-if1 add-find-tag find-tag-requires returns add-find-wide find-wide-requires returns-2)

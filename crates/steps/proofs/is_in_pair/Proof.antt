@@ -2,8 +2,8 @@
 use borrow.Author.Tests.{le-leb, lt-leb}
 use mathlib.Core.Path.{refl, sym}
 use Rattle.basics.proofs.Tests.{both, not-first}
-use Rattle.steps.proofs.in_pair.Statement.{statement}
-use Rattle.steps.proofs.in_pair.Tie as tie
+use Rattle.steps.proofs.is_in_pair.Statement.{statement}
+use Rattle.steps.proofs.is_in_pair.Tie as tie
 
 returns : tie.Need-returns
 returns c =
@@ -13,5 +13,5 @@ returns-2 : tie.Need-returns-2
 returns-2 c =
     sym (not-first _ (lt-leb _ _ (c .if1 .left)))
 
-pub in-pair-spec : {M : Type 1} → statement M
-in-pair-spec = tie.close (tie.spec returns returns-2)
+pub is-in-pair-spec : {M : Type 1} → statement M
+is-in-pair-spec = tie.close (tie.spec returns returns-2)

@@ -1,8 +1,8 @@
 -- A byte is below 256, whether it is read or not.
 use native.Mathlib.Omega.{arith}
 use borrow.Author.Needs.{needs}
-use Rattle.canonical.proofs.byte_bounds.Statement.{statement}
-use Rattle.canonical.proofs.byte_bounds.Tie as tie
+use Rattle.canonical.proofs.knows_bytes.Statement.{statement}
+use Rattle.canonical.proofs.knows_bytes.Tie as tie
 
 shared-slice-read-wide : tie.Need-shared-slice-read-wide
 shared-slice-read-wide c = search needs
@@ -19,5 +19,5 @@ returns-2 : tie.Need-returns-2
 returns-2 c =
     λ k. omega (arith, c .before .shared-slice-known .given k)
 
-pub byte-bounds-spec : {M : Type 1} → statement M
-byte-bounds-spec = tie.close (tie.spec shared-slice-read-wide wide-requires returns returns-2)
+pub knows-bytes-spec : {M : Type 1} → statement M
+knows-bytes-spec = tie.close (tie.spec shared-slice-read-wide wide-requires returns returns-2)

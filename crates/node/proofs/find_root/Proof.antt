@@ -1,8 +1,8 @@
 -- The root is a container too.
 use borrow.Author.Needs.{needs}
 use Rattle.node.proofs.Halves as halves
-use Rattle.node.proofs.find_top.Statement.{statement}
-use Rattle.node.proofs.find_top.Tie as tie
+use Rattle.node.proofs.find_root.Statement.{statement}
+use Rattle.node.proofs.find_root.Tie as tie
 
 count-requires : tie.Need-count-requires
 count-requires c κs = search needs
@@ -16,5 +16,5 @@ find-wide-requires c κs =
 returns : tie.Need-returns
 returns c = rw (← c .before .count .ensures .0) (c .find-wide .ensures)
 
-pub find-top-spec : {M : Type 1} → statement M
-find-top-spec = tie.close (tie.spec count-requires find-wide-requires returns)
+pub find-root-spec : {M : Type 1} → statement M
+find-root-spec = tie.close (tie.spec count-requires find-wide-requires returns)
