@@ -422,7 +422,7 @@ fn compare_planned(
         × ((1 ≤ frame) × ((frame ≤ n) × Against (now cells) tolerance (imageSize (nodesOf (now bytes)))))))) ⌝ }
     ensures { λ r. ⌜ r ≡ along (isOff tolerance (pictureOf (nodesOf (now (bytes .entry))) frame .samples) (now (cells .entry))) 0 (imageSize (nodesOf (now (bytes .entry)))) noneOff ⌝ }
 {
-    let mut table: [u8; 131072] = [0; 131072];
+    let mut table: [u8; lines::PLACES] = [0; lines::PLACES];
     let mut upper: [u32; pixel::LONGEST] = [0; pixel::LONGEST];
     let mut lower: [u32; pixel::LONGEST] = [0; pixel::LONGEST];
     let mut line: [u8; 65535] = [0; 65535];

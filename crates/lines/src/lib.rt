@@ -11,6 +11,9 @@ ghost use Rattle.lines.specs.Contracts.{Shaded, shadesOf, LineReady, Mas
 use pixel::Geometry;
 use window::Window;
 
+// How many places a table of levels has.
+pub const PLACES: usize = 131072;
+
 // How cells become levels: by a window, inverted or not, and whether a table is filled with its levels.
 pub struct Shades {
     pub window: Window,

@@ -74,7 +74,7 @@ module _ (ns : List Node) (a b count : ℕ) where
       is-done low high t q = ap (λ (x : Numbers). record { answer = answer.Done count; sheet = x }) q
           ∙ answered (answer.Done count) (frames-done order n e low high)
 
--- ---- The 260 numbers
+-- ---- The numbers of a sheet
 
 append-at : (l r : List ℕ) (k : ℕ) → getD (l ++ r) (length l + k) 0 ≡ getD r k 0
 append-at [] r k =

@@ -128,50 +128,49 @@ consistent l natives n size a e some few =
 -- ---- What the code works out
 
 module _ (s : List ℕ) (n a b : ℕ) (h : IsObject s n) (low : 1 ≤ a) (order : a ≤ b) (high : b ≤ n) where
-  object-run : Run (nodesOf s) a (b + 1 - a)
+  object-run : Run (nodesOf s) a (b - a + 1)
   object-run =
-      run (nodesOf s) a (b + 1 - a) (λ f l k. nothing-lacks s (h .bytes) (h .sound) f (omega (arith, low, l))
+      run (nodesOf s) a (b - a + 1) (λ f l k. nothing-lacks s (h .bytes) (h .sound) f (omega (arith, low, l))
       (subst (λ (x : Num). f ≤ numberOr0 x) (sym (h .frames)) (omega (arith, order, high, k))))
 
-  pub few-counts : (c : Scene) → IsScene (nodesOf s) c → (counts : List ℕ) → counts ≡ countsOf (levelsOf (nodesOf s) a (b + 1 - a))
+  pub few-counts : (c : Scene) → IsScene (nodesOf s) c → (counts : List ℕ) → counts ≡ countsOf (levelsOf (nodesOf s) a (b - a + 1))
       → Few counts
   few-counts c q counts e =
       record {
-        size = ap length e ∙ upTo-length (λ y. times y (levelsOf (nodesOf s) a (b + 1 - a))) 256;
+        size = ap length e ∙ upTo-length (λ y. times y (levelsOf (nodesOf s) a (b - a + 1))) 256;
         below = λ y. rw e (omega (
           arith,
-          upTo-most (λ x. times x (levelsOf (nodesOf s) a (b + 1 - a))) 256 281462092005375
+          upTo-most (λ x. times x (levelsOf (nodesOf s) a (b - a + 1))) 256 281462092005375
               (λ x. omega (
                 arith,
-                times-most x (levelsOf (nodesOf s) a (b + 1 - a)),
+                times-most x (levelsOf (nodesOf s) a (b - a + 1)),
                 object-run .size,
-                cells-few s n h (omega (arith, low, order, high)) c q (b + 1 - a) (omega (arith, low, order, high)),
+                cells-few s n h (omega (arith, low, order, high)) c q (b - a + 1) (omega (arith, low, order, high)),
               )) y,
         ));
       }
 
-  pub made : (counts : List ℕ) (natives lowest highest sum : ℕ) → counts ≡ countsOf (levelsOf (nodesOf s) a (b + 1 - a))
-      → natives ≡ nativesOf (nodesOf s) a (b + 1 - a)
+  pub made : (counts : List ℕ) (natives lowest highest sum : ℕ) → counts ≡ countsOf (levelsOf (nodesOf s) a (b - a + 1))
+      → natives ≡ nativesOf (nodesOf s) a (b - a + 1)
       → First counts lowest → Last counts highest → sum ≡ total (λ y. y * getD counts y 0) 256
       → record { counts = counts; natives = natives; lowest = lowest; highest = highest; sum = sum } ≡ framesSheet (nodesOf s) a b
   unfolding framesSheet
   made counts natives lowest highest sum e ne f l t =
-      let levels : List ℕ = levelsOf (nodesOf s) a (b + 1 - a) in
-      let z : b + 1 - a ≡ b - a + 1 = omega (arith, order) in
+      let levels : List ℕ = levelsOf (nodesOf s) a (b - a + 1) in
       let lo : lowest ≡ lowestOf levels = first-is levels (object-run .levels) counts e lowest f in
       let hi : highest ≡ highestOf levels = last-is levels (object-run .levels) counts e highest l in
       let u : sum ≡ sumOf levels =
       t ∙ (total-within (λ y. y * getD counts y 0) (λ y. y * times y levels) 256
       (λ y k. ap (λ (x : ℕ). y * x) (ap (λ (x : List ℕ). getD x y 0) e ∙ count-is levels y k))
       ∙ sum-weighted levels (object-run .levels)) in
-      same counts natives lowest highest sum e ne lo hi u ∙ ap (λ (k : ℕ). sheetBy (levelsOf (nodesOf s) a k) (nativesOf (nodesOf s) a k)) z
+      same counts natives lowest highest sum e ne lo hi u
     where
-      same : (counts : List ℕ) (natives lowest highest sum : ℕ) → counts ≡ countsOf (levelsOf (nodesOf s) a (b + 1 - a))
-          → natives ≡ nativesOf (nodesOf s) a (b + 1 - a)
-          → lowest ≡ lowestOf (levelsOf (nodesOf s) a (b + 1 - a)) → highest ≡ highestOf (levelsOf (nodesOf s) a (b + 1 - a))
-          → sum ≡ sumOf (levelsOf (nodesOf s) a (b + 1 - a))
+      same : (counts : List ℕ) (natives lowest highest sum : ℕ) → counts ≡ countsOf (levelsOf (nodesOf s) a (b - a + 1))
+          → natives ≡ nativesOf (nodesOf s) a (b - a + 1)
+          → lowest ≡ lowestOf (levelsOf (nodesOf s) a (b - a + 1)) → highest ≡ highestOf (levelsOf (nodesOf s) a (b - a + 1))
+          → sum ≡ sumOf (levelsOf (nodesOf s) a (b - a + 1))
           → record { counts = counts; natives = natives; lowest = lowest; highest = highest; sum = sum }
-          ≡ sheetBy (levelsOf (nodesOf s) a (b + 1 - a)) (nativesOf (nodesOf s) a (b + 1 - a))
+          ≡ sheetBy (levelsOf (nodesOf s) a (b - a + 1)) (nativesOf (nodesOf s) a (b - a + 1))
       same counts natives lowest highest sum p q r u v = rw (p, q, r, u, v)
 
 -- ---- From the answer back to what was asked

@@ -6,6 +6,7 @@ use mathlib.Core.List.{List, [], _∷_}
 use Prim.Native.Nat.{ℕ, _+_, _≤_, _<_, _^_}
 use lib.ListN.{length, getD, set, replicate}
 use Rattle.node.specs.Nodes.{Node}
+use Rattle.window.specs.Contracts.{shadePlaces}
 use Rattle.pixel.specs.declared.Geometry.{Geometry}
 use Rattle.pixel.specs.Pixel.{isFrame}
 use Rattle.pixel.specs.Contracts.{Shaped, longestRow}
@@ -43,13 +44,17 @@ pub record Last (counts : List ℕ) (r : ℕ) : Type 0 where
 
 -- ---- What is worked out ahead
 
+-- An accepted object has at most 16 mask items (rule 31).
+abbrev pub mostMasks : ℕ
+mostMasks = 16
+
 -- What is worked out ahead, for all frames at once.
 pub record IsAhead (ns : List Node) (n : ℕ) (which keys answers : List ℕ) : Type 0 where
   pub applied : Applied ns n which
   pub size : n < length which
   pub known : Known ns keys answers
-  pub key-room : 16 ≤ length keys
-  pub answer-room : 16 ≤ length answers
+  pub key-room : mostMasks ≤ length keys
+  pub answer-room : mostMasks ≤ length answers
 
 -- ---- Buffers
 
@@ -61,7 +66,7 @@ pub record FrameReady (v : List ℕ) (g : Geometry) (f : ℕ) (line : List ℕ) 
 
 -- The lengths of all buffers.
 pub record LineRooms (table upper lower line : List ℕ) : Type 0 where
-  pub shades : length table ≡ 131072
+  pub shades : length table ≡ shadePlaces
   pub above : longestRow ≤ length upper
   pub below : longestRow ≤ length lower
   pub wide : 65535 ≤ length line
@@ -70,7 +75,7 @@ pub record LineRooms (table upper lower line : List ℕ) : Type 0 where
 pub record IsHeld (stored : ℕ) (inverse : Bool) (h : Held) (table : List ℕ) : Type 0 where
   pub shaded : Shaded (h .shades) stored table
   pub inverse-is : h .shades .inverse ≡ inverse
-  pub spent-few : h .spent < 131072
+  pub spent-few : h .spent < shadePlaces
 
 -- Nothing counted yet.
 pub record IsNothing (stored : ℕ) (inverse : Bool) (c : Counted) : Type 0 where

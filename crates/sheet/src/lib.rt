@@ -15,7 +15,7 @@ ghost use Rattle.element.specs.Elements.{valueAt};
 ghost use Rattle.element.specs.Frames.{framesOf, frameItems};
 ghost use Rattle.conformance.specs.declared.Finding.the-variants as finding;
 ghost use Rattle.conformance.specs.Judging.{findingOf};
-ghost use Rattle.window.specs.Contracts.{Drawable};
+ghost use Rattle.window.specs.Contracts.{Drawable, shadePlaces};
 ghost use Rattle.pixel.specs.Pixel.{samplesOf};
 ghost use Rattle.pixel.specs.Contracts.{nativeShade, maskedShade, longestRow, Masks, shifted, Averaged, quarterShade};
 ghost use Rattle.lines.specs.Contracts.{upTo, shadesOf, Shaded, MaskedBy};
@@ -23,10 +23,10 @@ ghost use Rattle.ranges.specs.Contracts.{Known};
 ghost use Rattle.steps.specs.Contracts.{ApplyingBelow};
 ghost use Rattle.display.specs.Contracts.{isMasked, shadeBy, MasksReady, ToldBy, IsObject, IsScene, IsPixels, IsItem, IsPlan};
 ghost use Rattle.display.specs.Show.{imageSize, pictureOf};
-ghost use Rattle.sheet.specs.Sheet.{levelsOf, nativesOf, countsOf, framesSheet, noSheet, numbersIn};
+ghost use Rattle.sheet.specs.Sheet.{levelsOf, nativesOf, countsOf, framesSheet, noSheet, sheetSize, numbersIn};
 ghost use Rattle.sheet.specs.Answer.{acceptedAnswer, withSheet, sheetOf, sampledFields};
 ghost use Rattle.sheet.specs.Sampling.{total};
-ghost use Rattle.sheet.specs.Contracts.{tallied, Room, Few, First, Last, IsAhead, FrameReady, LineRooms, IsHeld, IsNothing};
+ghost use Rattle.sheet.specs.Contracts.{tallied, Room, Few, First, Last, IsAhead, FrameReady, LineRooms, IsHeld, IsNothing, mostMasks};
 use basics::wide;
 use conformance::JudgeAnswer;
 use display::Masking;
@@ -42,6 +42,10 @@ use value::Function;
 use value::Num;
 use value::Signed;
 use window::Window;
+
+// The most mask items of an accepted object, and how many numbers a sheet has.
+const MOST_MASKS: usize = 16;
+pub const NUMBERS: usize = 260;
 
 // The answer of `sheet`: done, with the number of rows; code 9, with the number of rows, rule and frame; code and offset of a
 // refusal; codes 7, 8, 19 and 10.
@@ -347,7 +351,7 @@ fn count_moved(
 fn told_here(bytes: &[u8], rows: &[u32], applies: Applying, keys: &[u32], answers: &[u32]) -> Told
     requires { ⌜ Table (now bytes) (now rows)
         × (ApplyingBelow (length (nodesOf (now bytes))) applies
-        × ((16 ≤ length (now keys)) × ((16 ≤ length (now answers)) × Known (nodesOf (now bytes)) (now keys) (now answers)))) ⌝ }
+        × ((mostMasks ≤ length (now keys)) × ((mostMasks ≤ length (now answers)) × Known (nodesOf (now bytes)) (now keys) (now answers)))) ⌝ }
     ensures { λ r. ⌜ ToldBy (nodesOf (now (bytes .entry))) applies r ⌝ }
 {
     let Applying::Item(j) = applies else {
@@ -457,7 +461,7 @@ struct Held {
 
 // Shades for a window that will have drawn the given number of cells. A table is filled only when that is at least its number of places.
 fn shades_by(window: Window, stored: usize, inverse: bool, spent: usize, table: &mut [u8]) -> Held
-    requires { ⌜ Drawable window × ((1 ≤ stored) × ((stored ≤ 16) × (length (now table) ≡ 131072))) ⌝ }
+    requires { ⌜ Drawable window × ((1 ≤ stored) × ((stored ≤ 16) × (length (now table) ≡ shadePlaces))) ⌝ }
     ensures { λ r. ⌜ (r .shades .window ≡ window) × IsHeld stored inverse r (now (table .exit)) ⌝ }
 {
     if window::power(stored + 1) <= spent {
@@ -493,7 +497,7 @@ fn shades_for(
 ) -> Held
     requires { ⌜ Drawable window
         × ((1 ≤ stored) × ((stored ≤ 16)
-        × ((length (now table) ≡ 131072) × ((cells ≤ 4294836225) × IsHeld stored inverse held (now table))))) ⌝ }
+        × ((length (now table) ≡ shadePlaces) × ((cells ≤ 4294836225) × IsHeld stored inverse held (now table))))) ⌝ }
     ensures { λ r. ⌜ (r .shades .window ≡ window) × IsHeld stored inverse r (now (table .exit)) ⌝ }
 {
     let last = held.shades;
@@ -694,8 +698,8 @@ fn count_frames(
         × ((1 ≤ a) × ((a ≤ b)
         × ((b ≤ n) × (LineRooms (now table) (now upper) (now lower) (now line)
         × IsAhead (nodesOf (now bytes)) n (now which) (now keys) (now answers)))))))) ⌝ }
-    ensures { λ r. ⌜ (r .counts ≡ countsOf (levelsOf (nodesOf (now (bytes .entry))) a (b + 1 - a)))
-        × (r .natives ≡ nativesOf (nodesOf (now (bytes .entry))) a (b + 1 - a)) ⌝ }
+    ensures { λ r. ⌜ (r .counts ≡ countsOf (levelsOf (nodesOf (now (bytes .entry))) a (b - a + 1)))
+        × (r .natives ≡ nativesOf (nodesOf (now (bytes .entry))) a (b - a + 1)) ⌝ }
 {
     let mut items = start;
     let g = c.g;
@@ -742,12 +746,12 @@ fn count_all(
         × (IsScene (nodesOf (now bytes)) c
         × (Along (nodesOf (now bytes)) (drop (a - 1) (frameItems (nodesOf (now bytes)))) start
         × ((1 ≤ a) × ((a ≤ b) × ((b ≤ n) × LineRooms (now table) (now upper) (now lower) (now line))))))) ⌝ }
-    ensures { λ r. ⌜ (r .counts ≡ countsOf (levelsOf (nodesOf (now (bytes .entry))) a (b + 1 - a)))
-        × (r .natives ≡ nativesOf (nodesOf (now (bytes .entry))) a (b + 1 - a)) ⌝ }
+    ensures { λ r. ⌜ (r .counts ≡ countsOf (levelsOf (nodesOf (now (bytes .entry))) a (b - a + 1)))
+        × (r .natives ≡ nativesOf (nodesOf (now (bytes .entry))) a (b - a + 1)) ⌝ }
 {
     let mut which: [u32; 65536] = [0; 65536];
-    let mut keys: [u32; 16] = [0; 16];
-    let mut answers: [u32; 16] = [0; 16];
+    let mut keys: [u32; MOST_MASKS] = [0; MOST_MASKS];
+    let mut answers: [u32; MOST_MASKS] = [0; MOST_MASKS];
     ranges::apply_all(bytes, rows, n, upper, &mut which);
     ranges::tell_all(bytes, rows, &mut keys, &mut answers);
     count_frames(
@@ -829,7 +833,7 @@ fn sample_frames(bytes: &[u8], rows: &[u32], n: usize, a: usize, b: usize) -> Nu
     requires { ⌜ Table (now bytes) (now rows) × (IsObject (now bytes) n × ((1 ≤ a) × ((a ≤ b) × (b ≤ n)))) ⌝ }
     ensures { λ r. ⌜ r ≡ framesSheet (nodesOf (now (bytes .entry))) a b ⌝ }
 {
-    let mut table: [u8; 131072] = [0; 131072];
+    let mut table: [u8; lines::PLACES] = [0; lines::PLACES];
     let mut upper: [u32; pixel::LONGEST] = [0; pixel::LONGEST];
     let mut lower: [u32; pixel::LONGEST] = [0; pixel::LONGEST];
     let mut line: [u8; 65535] = [0; 65535];
@@ -954,7 +958,7 @@ pub fn whole(bytes: &[u8], rows: &mut [u32]) -> Sampled
 
 // Number k of a sheet, in the order named.
 pub fn number_at(t: Numbers, k: usize) -> u64
-    requires { ⌜ (length (t .counts) ≡ 256) × (k < 260) ⌝ }
+    requires { ⌜ (length (t .counts) ≡ 256) × (k < sheetSize) ⌝ }
     ensures { λ r. ⌜ r ≡ getD (numbersIn t) k 0 ⌝ }
 {
     let counts = t.counts;

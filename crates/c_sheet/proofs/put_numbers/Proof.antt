@@ -3,7 +3,7 @@ use Prim.Native.Nat.{_-_, _≤_}
 use lib.ListN.{length, getD}
 use Rattle.pixel.specs.Contracts.{painted}
 use Rattle.pixel.proofs.Laws.{full, painted-more, painted-length}
-use Rattle.sheet.specs.Sheet.{numbersIn}
+use Rattle.sheet.specs.Sheet.{sheetSize, numbersIn}
 use mathlib.Core.Path.{_≡_, refl, ap, _∙_}
 use native.Mathlib.Omega.{arith}
 use Rattle.c_sheet.proofs.put_numbers.Statement.{statement}
@@ -11,11 +11,11 @@ use Rattle.c_sheet.proofs.put_numbers.Tie as tie
 
 abbrev Inv-loop : tie.InvT-loop
 Inv-loop t buffer₀ k₀ buffer k =
-    (k ≤ 260) × (buffer ≡ painted (λ i. getD (numbersIn t) i 0) k buffer₀)
+    (k ≤ sheetSize) × (buffer ≡ painted (λ i. getD (numbersIn t) i 0) k buffer₀)
 
 abbrev μ-loop : tie.MeasureT-loop
 μ-loop t buffer₀ k₀ buffer k =
-    260 - k
+    sheetSize - k
 
 loop-holds : tie.Need-loop-holds Inv-loop μ-loop
 unfolding painted

@@ -4,7 +4,9 @@ use mathlib.Core.Bool.{true}
 use lib.ListN.{length-replicate}
 use Rattle.node.specs.Nodes.{nodesOf}
 use Rattle.element.specs.Elements.{valueAt}
+use Rattle.window.specs.Contracts.{shadePlaces}
 use Rattle.pixel.specs.Pixel.{samplesOf}
+use Rattle.pixel.specs.Contracts.{longestRow}
 use Rattle.lines.specs.declared.Shades.{Shades}
 use Rattle.lines.specs.Contracts.{shadesOf}
 use Rattle.display.specs.Contracts.{shadeBy}
@@ -29,7 +31,7 @@ fill-requires c κs =
     let entry = c .before .before .before .before .before .before in
     let b = scenes.based (entry .args .bytes .now) (entry .args .n) (entry .args .frame) (entry .pre .1 .0) (entry .pre .1 .1 .1 .1 .0)
     (entry .pre .1 .1 .1 .1 .1 .0) (entry .args .c) (entry .pre .1 .1 .0) in
-    (entry .pre .1 .1 .1 .0 .drawable, (b .shape .stored-some, (b .shape .stored-most, length-replicate {A = ℕ} 131072 0)))
+    (entry .pre .1 .1 .1 .0 .drawable, (b .shape .stored-some, (b .shape .stored-most, length-replicate {A = ℕ} shadePlaces 0)))
 
 slice-aggregate-compare-frame : tie.Need-slice-aggregate-compare-frame
 slice-aggregate-compare-frame c =
@@ -65,9 +67,9 @@ compare-frame-requires c κs =
             (
               record { drawable = entry .pre .1 .1 .1 .0 .drawable; shades = λ e. at-fill .fill .ensures },
               (
-                omega (arith, length-replicate {A = ℕ} 65664 0),
+                omega (arith, length-replicate {A = ℕ} longestRow 0),
                 (
-                  omega (arith, length-replicate {A = ℕ} 65664 0),
+                  omega (arith, length-replicate {A = ℕ} longestRow 0),
                   subst
                       (λ (k : ℕ). Against (entry .args .cells .now) (entry .args .tolerance) k) (sym (b .size))
                       (entry .pre .1 .1 .1 .1 .1 .1),

@@ -4,6 +4,7 @@ use Prim.Native.Nat.{ℕ}
 use native.Mathlib.Omega.{arith}
 use lib.ListN.{length-replicate}
 use Rattle.display.proofs.Scenes as scenes
+use Rattle.sheet.specs.Contracts.{mostMasks}
 use Rattle.sheet.proofs.Scenes as counted
 use borrow.Author.Needs.{needs}
 use Rattle.sheet.proofs.count_all.Statement.{statement}
@@ -36,7 +37,7 @@ slice-aggregate-tell-all-2 c = search needs
 tell-all-requires : tie.Need-tell-all-requires
 tell-all-requires c κs =
     let entry = c .before .before .before .before .before .before .before .before .before .before .before .before .before .before in
-    (entry .pre .0, (omega (arith, length-replicate {A = ℕ} 16 0), omega (arith, length-replicate {A = ℕ} 16 0)))
+    (entry .pre .0, (omega (arith, length-replicate {A = ℕ} mostMasks 0), omega (arith, length-replicate {A = ℕ} mostMasks 0)))
 
 slice-aggregate-count-frames : tie.Need-slice-aggregate-count-frames
 slice-aggregate-count-frames c = search needs
@@ -85,8 +86,8 @@ count-frames-requires c κs =
                         scenes.few-frames (entry .args .bytes .now) (entry .args .n) (entry .pre .1 .0),
                       );
                       known = at-tell-all .tell-all .ensures;
-                      key-room = omega (arith, at-keys2 .keys2 .given, length-replicate {A = ℕ} 16 0);
-                      answer-room = omega (arith, at-answers2 .answers2 .given, length-replicate {A = ℕ} 16 0);
+                      key-room = omega (arith, at-keys2 .keys2 .given, length-replicate {A = ℕ} mostMasks 0);
+                      answer-room = omega (arith, at-answers2 .answers2 .given, length-replicate {A = ℕ} mostMasks 0);
                     },
                   ),
                 ),

@@ -1,5 +1,5 @@
 -- The counts so far with the levels of the frames ahead are the counts of all, and there are too few cells for a count to wrap.
-use Prim.Native.Nat.{_+_, _-_, _*_, _≤_}
+use Prim.Native.Nat.{ℕ, _+_, _-_, _*_, _≤_}
 use lib.ListN.{length, drop}
 use Rattle.node.specs.Nodes.{nodesOf}
 use Rattle.element.specs.Contracts.{Along}
@@ -20,8 +20,8 @@ abbrev Inv-loop : tie.InvT-loop
 Inv-loop bytes rows c n a b which keys answers table₀ upper₀ lower₀ line₀ items₀ sofar₀ end frame₀ table upper lower line items sofar
     frame =
     (a ≤ frame) × ((frame ≤ b + 1) × (Along (nodesOf bytes) (drop (frame - 1) (frameItems (nodesOf bytes))) items
-    × ((tallied (levelsOf (nodesOf bytes) frame (b + 1 - frame)) (sofar .counts) ≡ countsOf (levelsOf (nodesOf bytes) a (b + 1 - a)))
-    × ((sofar .natives + nativesOf (nodesOf bytes) frame (b + 1 - frame) ≡ nativesOf (nodesOf bytes) a (b + 1 - a))
+    × ((tallied (levelsOf (nodesOf bytes) frame (b + 1 - frame)) (sofar .counts) ≡ countsOf (levelsOf (nodesOf bytes) a (b - a + 1)))
+    × ((sofar .natives + nativesOf (nodesOf bytes) frame (b + 1 - frame) ≡ nativesOf (nodesOf bytes) a (b - a + 1))
     × (Room (sofar .counts) ((b + 1 - frame) * imageSize (nodesOf bytes)) × (IsHeld (c .g .stored) (c .inverse) (sofar .held) table
     × ((length table ≡ length table₀)
     × ((length upper ≡ length upper₀) × ((length lower ≡ length lower₀) × ((length line ≡ length line₀)))))))))))
@@ -46,7 +46,8 @@ add-end c =
 
 loop-holds : tie.Need-loop-holds Inv-loop μ-loop
 loop-holds c =
-    let entry = c .before .before .before .before .before .before .before .before .before .before .before in (
+    let entry = c .before .before .before .before .before .before .before .before .before .before .before in
+    let z : entry .args .b + 1 - entry .args .a ≡ entry .args .b - entry .args .a + 1 = omega (arith, entry .pre .1 .1 .1 .1 .1 .0) in (
       omega arith,
       (
         omega (arith, entry .pre .1 .1 .1 .1 .1 .0),
@@ -55,9 +56,10 @@ loop-holds c =
           (
             ap (tallied (levelsOf (nodesOf (entry .args .bytes .now)) (entry .args .a) (entry .args .b + 1 - entry .args .a)))
                 (c .nothing .ensures .counts-are)
-                ∙ counts-are (levelsOf (nodesOf (entry .args .bytes .now)) (entry .args .a) (entry .args .b + 1 - entry .args .a)),
+                ∙ (counts-are (levelsOf (nodesOf (entry .args .bytes .now)) (entry .args .a) (entry .args .b + 1 - entry .args .a))
+                ∙ ap (λ (k : ℕ). countsOf (levelsOf (nodesOf (entry .args .bytes .now)) (entry .args .a) k)) z),
             (
-              omega (arith, c .nothing .ensures .natives-are),
+              omega (arith, c .nothing .ensures .natives-are, ap (nativesOf (nodesOf (entry .args .bytes .now)) (entry .args .a)) z),
               (
                 room-start _ _ (c .nothing .ensures .counts-are) (cells-few (entry .args .bytes .now) (entry .args .n) (entry .pre .1 .0)
                     (omega (arith, entry .pre .1 .1 .1 .1 .0, entry .pre .1 .1 .1 .1 .1 .0, entry .pre .1 .1 .1 .1 .1 .1 .0))
@@ -126,7 +128,7 @@ count-picture-requires c κs =
                       omega (
                         arith,
                         at-loop .loop .inv .1 .1 .1 .1 .0,
-                        frames.natives-few (nodesOf (entry .args .bytes .now)) (entry .args .a) (entry .args .b + 1 - entry .args .a),
+                        frames.natives-few (nodesOf (entry .args .bytes .now)) (entry .args .a) (entry .args .b - entry .args .a + 1),
                         few-frames (entry .args .bytes .now) (entry .args .n) (entry .pre .1 .0),
                         entry .pre .1 .1 .1 .1 .1 .1 .0,
                         entry .pre .1 .1 .1 .1 .0,

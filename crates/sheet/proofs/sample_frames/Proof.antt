@@ -1,6 +1,8 @@
 -- The counts are those of frames a to b, and the other numbers follow from the counts; no count is large enough for the sum to wrap.
 use Prim.Native.Nat.{ℕ}
 use lib.ListN.{length-replicate}
+use Rattle.window.specs.Contracts.{shadePlaces}
+use Rattle.pixel.specs.Contracts.{longestRow}
 use Rattle.sheet.proofs.Sampling as sampling
 use native.Mathlib.Omega.{arith}
 use borrow.Author.Needs.{needs}
@@ -51,9 +53,9 @@ count-all-requires c κs =
                 (
                   entry .pre .1 .1 .1 .1,
                   record {
-                    shades = length-replicate {A = ℕ} 131072 0;
-                    above = omega (arith, length-replicate {A = ℕ} 65664 0);
-                    below = omega (arith, length-replicate {A = ℕ} 65664 0);
+                    shades = length-replicate {A = ℕ} shadePlaces 0;
+                    above = omega (arith, length-replicate {A = ℕ} longestRow 0);
+                    below = omega (arith, length-replicate {A = ℕ} longestRow 0);
                     wide = omega (arith, length-replicate {A = ℕ} 65535 0);
                   },
                 ),

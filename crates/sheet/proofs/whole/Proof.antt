@@ -1,6 +1,7 @@
 -- As in `sheet`, with the last frame read from the rows that judging left.
 use Prim.Native.Nat.{ℕ, _*_}
 use lib.Seq.{length-take-le}
+use Rattle.dataset.specs.Answer.{width}
 use Rattle.value.specs.Number.{numberOr0}
 use Rattle.node.specs.Nodes.{nodesOf}
 use Rattle.element.specs.Frames.{framesOf}
@@ -62,7 +63,7 @@ mul-end c =
     let t = laws.after-judging (entry .args .bytes .now) (entry .args .rows .now) (at-judge .judge .last .1 .0)
     (c .before .count2 .given .0 .0) (sym (c .before .count2 .given .1) ∙ at-judge .judge .ensures .0 .same)
     (at-judge .judge .ensures .1) .0 in
-    omega (arith, t .1 .size, t .1 .few, length-take-le (7 * c .before .count2 .given .0 .0) (at-judge .judge .last .1 .0) (t .0))
+    omega (arith, t .1 .size, t .1 .few, length-take-le (width * c .before .count2 .given .0 .0) (at-judge .judge .last .1 .0) (t .0))
 
 slice-reshare-prefix-table : tie.Need-slice-reshare-prefix-table
 slice-reshare-prefix-table c =

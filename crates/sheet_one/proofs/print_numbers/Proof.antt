@@ -2,16 +2,17 @@
 use Prim.Native.Nat.{_-_, _≤_}
 use native.Mathlib.Omega.{arith}
 use borrow.Author.Needs.{needs}
+use Rattle.sheet.specs.Sheet.{sheetSize}
 use Rattle.sheet_one.proofs.print_numbers.Statement.{statement}
 use Rattle.sheet_one.proofs.print_numbers.Tie as tie
 
 abbrev Inv-loop : tie.InvT-loop
 Inv-loop t k₀ k =
-    k ≤ 260
+    k ≤ sheetSize
 
 abbrev μ-loop : tie.MeasureT-loop
 μ-loop t k₀ k =
-    260 - k
+    sheetSize - k
 
 loop-holds : tie.Need-loop-holds Inv-loop μ-loop
 loop-holds c =
