@@ -19,7 +19,8 @@ own-places l = ext-getD 0 (upTo (λ k. getD l k 0) (length l)) l (upTo-length _ 
     (λ k h. upTo-at (λ j. getD l j 0) (length l) k (omega (arith, h, upTo-length (λ j. getD l j 0) (length l))))
 
 module _ (t : Numbers) (buffer : List ℕ) where
-  pub sheet-put : length (t .counts) ≡ 256 → sheetSize ≤ length buffer → painted (λ k. getD (numbersIn t) k 0) sheetSize buffer ≡ sheetAfter t buffer
+  pub sheet-put : length (t .counts) ≡ 256 → sheetSize ≤ length buffer → painted (λ k. getD (numbersIn t) k 0) sheetSize buffer
+      ≡ sheetAfter t buffer
   sheet-put e h =
       let n : length (numbersIn t)
       ≡ sheetSize = length-append (t .counts) (t .natives ∷ t .lowest ∷ t .highest ∷ t .sum ∷ []) ∙ omega (arith, e) in

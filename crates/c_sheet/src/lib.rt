@@ -16,7 +16,7 @@ ghost use Rattle.c_sheet.specs.Sheet.{sheetFields, holdsSheet, sheetAfte
 
 // Puts the numbers of a sheet, in the order named, into a buffer that holds them.
 fn put_numbers(t: Numbers, buffer: &mut [u64])
-    requires { ⌜ (length (t .counts) ≡ 256) × (sheetSize ≤ length (now buffer)) ⌝ }
+    requires { ⌜ sheetSize ≤ length (now buffer) ⌝ }
     ensures { λ _. ⌜ now (buffer .exit) ≡ painted (λ k. getD (numbersIn t) k 0) sheetSize (now (buffer .entry)) ⌝ }
 {
     for k in 0..sheet::NUMBERS {

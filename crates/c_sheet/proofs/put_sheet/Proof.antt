@@ -11,8 +11,7 @@ use Rattle.c_sheet.proofs.put_sheet.Tie as tie
 
 put-numbers-requires : tie.Need-put-numbers-requires
 put-numbers-requires c κs =
-    let entry = c .before .before .before in
-    (entry .pre, c .before .if1 .taken)
+    c .before .if1 .taken
 
 same-length : tie.Need-same-length
 same-length c =
