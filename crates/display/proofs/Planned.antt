@@ -23,7 +23,8 @@ use Rattle.display.proofs.Draws.{painted-shows}
 use Rattle.display.proofs.Scenes as scenes
 use Rattle.display.proofs.Whole.{Based}
 use Rattle.lines.specs.declared.Shades.{Shades}
-use Rattle.lines.specs.Contracts.{upTo, shadesOf}
+use Rattle.lines.specs.Contracts.{shadesOf}
+use Rattle.basics.specs.Lists.{upTo}
 use Rattle.lines.proofs.Lists.{upTo-length, painted-list}
 use Rattle.lines.proofs.Laws.{ideal-filled}
 

@@ -2,9 +2,10 @@
 -- `Rattle.window`.
 use mathlib.Core.Path.{_≡_}
 use mathlib.Core.Bool.{Bool, true}
-use mathlib.Core.List.{List, [], _∷_, _++_}
-use Prim.Native.Nat.{ℕ, zero, suc, _+_, _-_, _/_, _%_, _^_, _≤_, _<_}
+use mathlib.Core.List.{List}
+use Prim.Native.Nat.{ℕ, _+_, _-_, _/_, _%_, _^_, _≤_, _<_}
 use lib.ListN.{length}
+use Rattle.basics.specs.Lists.{upTo}
 use Rattle.value.specs.Number.{usValues}
 use Rattle.shift.specs.declared.Moves.{Moves}
 use Rattle.shift.specs.Shift.{shiftUnit}
@@ -15,11 +16,6 @@ use Rattle.pixel.specs.Contracts.{Shaped, Masks, farthestMove, longestRow, shif
 use Rattle.lines.specs.declared.Shades.{Shades}
 use Rattle.lines.specs.declared.Way.{Way}
 use Rattle.lines.specs.declared.Way.the-variants as way
-
--- f 0, f 1, .. up to f (n - 1).
-unfoldable pub upTo : (ℕ → ℕ) → ℕ → List ℕ
-upTo f zero = []
-upTo f (suc n) = upTo f n ++ (f n ∷ [])
 
 -- The levels at all places, whether a table holds them or not.
 unfoldable pub shadesOf : Shades → ℕ → List ℕ

@@ -4,7 +4,8 @@ use Prim.Native.Nat.{_-_, _*_, _≤_}
 use lib.ListN.{length}
 use Rattle.value.specs.Number.{usValues}
 use Rattle.pixel.proofs.Laws.{full}
-use Rattle.lines.specs.Contracts.{upTo, shadesOf, WayReady, wayShade}
+use Rattle.lines.specs.Contracts.{shadesOf, WayReady, wayShade}
+use Rattle.basics.specs.Lists.{upTo}
 use Rattle.lines.proofs.Lists.{upTo-length, line-length, line-list}
 use Rattle.sheet.specs.Contracts.{tallied}
 use Rattle.sheet.proofs.Runs as runs
