@@ -42,7 +42,7 @@ use Rattle.display.proofs.Accepted.{Object, Windowed, AllWithin, SoundM
 
 -- ---- Cells that all answer
 
-all-levels-append : (a b : List ℕ) → AllLevels a → AllLevels b → AllLevels (a ++ b)
+pub all-levels-append : (a b : List ℕ) → AllLevels a → AllLevels b → AllLevels (a ++ b)
 all-levels-append [] b p q = q
 all-levels-append (y ∷ ys) b p q = (p .0, all-levels-append ys b (p .1) q)
 

@@ -16,3 +16,4 @@ pub mod Codes
 pub mod Drawing
 pub mod Before
 pub mod Scenes
+pub mod Planned

@@ -94,6 +94,17 @@ module _ (ns : List Node) (f n : ℕ) (g : Geometry) (a : whole.All ns f n) (e :
   pub frame-small : f < 4294967296
   frame-small = omega (arith, a .high, a .o .few-frames)
 
+-- A picture that lacks nothing has Rows × Columns cells, and in an accepted object none lacks anything.
+pub whole-size : (ns : List Node) (f : ℕ) → Whole ns f → length (pictureOf ns f .samples) ≡ imageSize ns
+unfolding pictureOf
+whole-size ns f w = ap (λ (p : Option Picture). length (pictureIn p .samples)) (w .is) ∙ w .size
+
+pub picture-cells : (s : List ℕ) (n f : ℕ) → IsObject s n → 1 ≤ f → f ≤ n
+    → length (pictureOf (nodesOf s) f .samples) ≡ imageSize (nodesOf s)
+picture-cells s n f h low high =
+    whole-size (nodesOf s) f (nothing-lacks s (h .bytes) (h .sound) f low
+    (subst (λ (x : Num). f ≤ numberOr0 x) (sym (h .frames)) high))
+
 module _ (s : List ℕ) (n f : ℕ) (h : IsObject s n) (low : 1 ≤ f) (high : f ≤ n) (c : Scene) (q : IsScene (nodesOf s) c) where
   pub all : whole.All (nodesOf s) f n
   all = objects s n f h low high
@@ -108,11 +119,7 @@ module _ (s : List ℕ) (n f : ℕ) (h : IsObject s n) (low : 1 ≤ f) (high : f
   based = whole.based (nodesOf s) f n (c .g) (valueAt (nodesOf s) (c .p)) all low (q .geometry) (pixels-are .is)
 
   pub picture-size : length (pictureOf (nodesOf s) f .samples) ≡ samplesOf (c .g)
-  unfolding pictureOf
-  picture-size =
-      let w : Whole (nodesOf s) f = nothing-lacks s (h .bytes) (h .sound) f low
-      (subst (λ (x : Num). f ≤ numberOr0 x) (sym (h .frames)) high) in
-      ap (λ (p : Option Picture). length (pictureIn p .samples)) (w .is) ∙ (w .size ∙ sym (based .size))
+  picture-size = picture-cells s n f h low high ∙ sym (based .size)
 
   module _ (p : Plan) (r : IsPlan (nodesOf s) f (c .g .stored) p) where
     pub ready : MasksReady (nodesOf s) (valueAt (nodesOf s) (c .p)) (c .g) (p .masking)

@@ -177,3 +177,12 @@ pub record IsPlan (ns : List Node) (f stored : ℕ) (p : Plan) : Type 0 where
   pub drawable : Drawable (p .window)
   pub masking-is : maskingOf ns (p .masking) ≡ maskFor ns f
   pub below : MaskingBelow (length ns) (p .masking)
+
+-- Frame f of an accepted object of n frames, with the scene and the plan worked out for it.
+pub record PlanReady (s rows : List ℕ) (n : ℕ) (c : Scene) (f : ℕ) (p : Plan) : Type 0 where
+  pub table : Table s rows
+  pub object : IsObject s n
+  pub scene : IsScene (nodesOf s) c
+  pub plan : IsPlan (nodesOf s) f (c .g .stored) p
+  pub low : 1 ≤ f
+  pub high : f ≤ n

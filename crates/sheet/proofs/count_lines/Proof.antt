@@ -1,28 +1,27 @@
--- Lines follow one another in the picture, and each line leaves the mask row that the next one starts from.
-use Prim.Native.Nat.{_-_, _*_, _/_, _≤_}
+-- Lines follow one another in the picture, so r lines counted are its first r · columns cells counted; each line leaves what the next one
+-- takes by the same way.
+use Prim.Native.Nat.{_-_, _*_, _≤_}
 use lib.ListN.{length}
 use Rattle.value.specs.Number.{usValues}
-use Rattle.pixel.specs.Contracts.{Averaged, shifted, quarterShade}
 use Rattle.pixel.proofs.Laws.{full}
-use Rattle.lines.specs.Contracts.{shadesOf}
+use Rattle.lines.specs.Contracts.{shadesOf, WayReady, wayShade}
 use Rattle.basics.specs.Lists.{upTo}
-use Rattle.lines.proofs.Lists.{upTo-length}
+use Rattle.lines.proofs.Lists.{upTo-length, line-length, line-list}
 use Rattle.sheet.specs.Contracts.{tallied}
 use Rattle.sheet.proofs.Runs as runs
 use mathlib.Core.Path.{_≡_, refl, sym, ap, _∙_}
 use native.Mathlib.Omega.{arith}
-use Rattle.sheet.proofs.count_quarters.Statement.{statement}
-use Rattle.sheet.proofs.count_quarters.Tie as tie
+use Rattle.sheet.proofs.count_lines.Statement.{statement}
+use Rattle.sheet.proofs.count_lines.Tie as tie
 
 abbrev Inv-loop : tie.InvT-loop
-Inv-loop pixels g frame masks down right shades table upper₀ lower₀ line₀ height columns now₀ row₀ upper lower line now row =
+Inv-loop way pixels g frame masks shades table upper₀ lower₀ line₀ height columns sofar₀ row₀ upper lower line sofar row =
     (row ≤ g .rows) × ((length upper ≡ length upper₀) × ((length lower ≡ length lower₀)
-    × (Averaged pixels g (usValues masks) (shifted (down / 4) (g .rows) row) lower × ((length line ≡ length line₀)
-    × (now ≡ tallied (upTo (quarterShade (shadesOf shades (g .stored)) g pixels frame (usValues masks) down right) (row * g .columns))
-    now₀)))))
+    × (WayReady way pixels g masks (shades .filled) row upper lower × ((length line ≡ length line₀)
+    × (sofar ≡ tallied (upTo (wayShade way (shadesOf shades (g .stored)) g pixels frame (usValues masks)) (row * g .columns)) sofar₀)))))
 
 abbrev μ-loop : tie.MeasureT-loop
-μ-loop pixels g frame masks down right shades table upper₀ lower₀ line₀ height columns now₀ row₀ upper lower line now row =
+μ-loop way pixels g frame masks shades table upper₀ lower₀ line₀ height columns sofar₀ row₀ upper lower line sofar row =
     height - row
 
 loop-holds : tie.Need-loop-holds Inv-loop μ-loop
@@ -34,12 +33,12 @@ loop-holds c =
         (
           refl,
           (
-            entry .pre .1 .1 .1 .1 .1 .0,
+            entry .pre .1 .0,
             ((
               refl,
-              runs.no-line (quarterShade
-                  (shadesOf (entry .args .shades) (entry .args .g .stored)) (entry .args .g) (entry .args .pixels .now) (entry .args .frame)
-                  (usValues (entry .args .masks .now)) (entry .args .down) (entry .args .right)) (entry .args .g .columns)
+              runs.no-line (wayShade (entry .args .way) (shadesOf (entry .args .shades) (entry .args .g .stored)) (entry .args .g)
+                  (entry .args .pixels .now)
+                  (entry .args .frame) (usValues (entry .args .masks .now))) (entry .args .g .columns)
                   (entry .args .counts),
             )),
           ),
@@ -47,8 +46,8 @@ loop-holds c =
       ),
     )
 
-quarter-line-requires : tie.Need-quarter-line-requires Inv-loop μ-loop
-quarter-line-requires c κs =
+draw-line-requires : tie.Need-draw-line-requires Inv-loop μ-loop
+draw-line-requires c κs =
     let at-loop-test = c .before .before .before in
     let at-loop = at-loop-test .before in
     let entry = at-loop .before .before .before .before .before .before .before in (
@@ -59,25 +58,19 @@ quarter-line-requires c κs =
         room = omega (arith, at-loop .loop .inv .1 .1 .1 .1 .0, entry .pre .0 .wide, entry .pre .0 .shape .columns-most);
       },
       (
-        entry .pre .1 .0,
-        (
-          entry .pre .1 .1 .0,
-          (
-            omega (arith, at-loop .loop .inv .1 .0, entry .pre .1 .1 .1 .0),
-            (omega (arith, at-loop .loop .inv .1 .1 .0, entry .pre .1 .1 .1 .1 .0), at-loop .loop .inv .1 .1 .1 .0),
-          ),
-        ),
+        entry .pre .0 .shaded,
+        at-loop .loop .inv .1 .1 .1 .0,
       ),
     )
 
 slice-reshare-prefix-tally : tie.Need-slice-reshare-prefix-tally Inv-loop μ-loop
 slice-reshare-prefix-tally c =
-    let at-quarter-line = c .before .before .before .before .before .before in
-    let at-loop = at-quarter-line .before .before .before .before .before in
+    let at-draw-line = c .before .before .before .before .before .before in
+    let at-loop = at-draw-line .before .before .before .before .before in
     let entry = at-loop .before .before .before .before .before .before .before in
     omega (
       arith,
-      runs.line-length _ _ _ (at-quarter-line .quarter-line .ensures .0),
+      line-length _ _ _ (at-draw-line .draw-line .ensures .0),
       at-loop .loop .inv .1 .1 .1 .1 .0,
       entry .pre .0 .wide,
       entry .pre .0 .shape .columns-most,
@@ -85,23 +78,24 @@ slice-reshare-prefix-tally c =
 
 slice-aggregate-tally : tie.Need-slice-aggregate-tally Inv-loop μ-loop
 slice-aggregate-tally c =
-    let at-quarter-line = c .before .before .before .before .before .before .before in
-    let at-loop = at-quarter-line .before .before .before .before .before in
+    let at-draw-line = c .before .before .before .before .before .before .before in
+    let at-loop = at-draw-line .before .before .before .before .before in
     let entry = at-loop .before .before .before .before .before .before .before in
-    sym (ap length (runs.line-list _ _ _ (at-quarter-line .quarter-line .ensures .0)
+    sym (ap length (line-list _ _ _ (at-draw-line .draw-line .ensures .0)
     (omega (arith, at-loop .loop .inv .1 .1 .1 .1 .0, entry .pre .0 .wide, entry .pre .0 .shape .columns-most))) ∙ upTo-length _ _)
 
 tally-requires : tie.Need-tally-requires Inv-loop μ-loop
 tally-requires c κs =
-    let at-quarter-line = c .before .before .before .before .before .before .before in
-    let at-loop-test = at-quarter-line .before .before .before .before in
+    let at-draw-line = c .before .before .before .before .before .before .before in
+    let at-loop-test = at-draw-line .before .before .before .before in
     let at-loop = at-loop-test .before in
     let entry = at-loop .before .before .before .before .before .before .before in
-    runs.line-room (quarterShade (shadesOf (entry .args .shades) (entry .args .g .stored)) (entry .args .g) (entry .args .pixels .now)
-    (entry .args .frame) (usValues (entry .args .masks .now)) (entry .args .down) (entry .args .right)) (at-loop .loop .row)
-    (entry .args .g .rows) (entry .args .g .columns) _ (entry .args .counts) (at-loop .loop .now) (at-loop .loop .inv .1 .1 .1 .1 .1)
-    (entry .pre .1 .1 .1 .1 .1 .1) (at-loop-test .loop-test .taken)
-    (ap length (runs.line-list _ _ _ (at-quarter-line .quarter-line .ensures .0)
+    runs.line-room (wayShade (entry .args .way) (shadesOf (entry .args .shades) (entry .args .g .stored)) (entry .args .g)
+    (entry .args .pixels .now)
+    (entry .args .frame) (usValues (entry .args .masks .now))) (at-loop .loop .row)
+    (entry .args .g .rows) (entry .args .g .columns) _ (entry .args .counts) (at-loop .loop .sofar) (at-loop .loop .inv .1 .1 .1 .1 .1)
+    (entry .pre .1 .1) (at-loop-test .loop-test .taken)
+    (ap length (line-list _ _ _ (at-draw-line .draw-line .ensures .0)
     (omega (arith, at-loop .loop .inv .1 .1 .1 .1 .0, entry .pre .0 .wide, entry .pre .0 .shape .columns-most))) ∙ upTo-length _ _)
 
 add-row : tie.Need-add-row Inv-loop μ-loop
@@ -119,8 +113,8 @@ loop-again : tie.Need-loop-again Inv-loop μ-loop
 loop-again c =
     let at-lower = c .before .before .before .before .before in
     let at-upper = at-lower .before .before in
-    let at-quarter-line = at-upper .before in
-    let at-loop-test = at-quarter-line .before .before .before .before in
+    let at-draw-line = at-upper .before in
+    let at-loop-test = at-draw-line .before .before .before .before in
     let at-loop = at-loop-test .before in
     let entry = at-loop .before .before .before .before .before .before .before in (
       omega (arith, at-loop-test .loop-test .taken),
@@ -129,14 +123,15 @@ loop-again c =
         (
           at-lower .lower .given ∙ at-loop .loop .inv .1 .1 .0,
           (
-            at-quarter-line .quarter-line .ensures .1,
+            at-draw-line .draw-line .ensures .1,
             ((
-              runs.line-length _ _ _ (at-quarter-line .quarter-line .ensures .0) ∙ at-loop .loop .inv .1 .1 .1 .1 .0,
+              line-length _ _ _ (at-draw-line .draw-line .ensures .0) ∙ at-loop .loop .inv .1 .1 .1 .1 .0,
               runs.line-more
-                  (quarterShade (shadesOf (entry .args .shades) (entry .args .g .stored)) (entry .args .g) (entry .args .pixels .now)
-                  (entry .args .frame) (usValues (entry .args .masks .now)) (entry .args .down) (entry .args .right)) (at-loop .loop .row)
-                  (entry .args .g .columns) (entry .args .counts) (at-loop .loop .now) _ _ (at-loop .loop .inv .1 .1 .1 .1 .1)
-                  (runs.line-list _ _ _ (at-quarter-line .quarter-line .ensures .0)
+                  (wayShade (entry .args .way) (shadesOf (entry .args .shades) (entry .args .g .stored)) (entry .args .g)
+                  (entry .args .pixels .now)
+                  (entry .args .frame) (usValues (entry .args .masks .now))) (at-loop .loop .row)
+                  (entry .args .g .columns) (entry .args .counts) (at-loop .loop .sofar) _ _ (at-loop .loop .inv .1 .1 .1 .1 .1)
+                  (line-list _ _ _ (at-draw-line .draw-line .ensures .0)
                   (omega (arith, at-loop .loop .inv .1 .1 .1 .1 .0, entry .pre .0 .wide, entry .pre .0 .shape .columns-most)))
                   (c .tally .ensures),
             )),
@@ -161,14 +156,14 @@ returns : tie.Need-returns Inv-loop μ-loop
 returns c =
     rw (full (c .before .loop .inv .0) (c .loop-test .left)) at (c .before .loop .inv .1 .1 .1 .1 .1)
 
-pub count-quarters-spec : {M : Type 1} → statement M
-count-quarters-spec =
+pub count-lines-spec : {M : Type 1} → statement M
+count-lines-spec =
     tie.close
     (tie.spec
     Inv-loop
     μ-loop
     loop-holds
-    quarter-line-requires
+    draw-line-requires
     slice-reshare-prefix-tally
     slice-aggregate-tally
     tally-requires

@@ -1,15 +1,18 @@
 -- Each answer of judging leads to its own; an accepted object leaves its rows in the buffer, and the sheet is made from them.
 use Prim.Native.Nat.{_*_}
 use lib.Seq.{length-take-le}
+use Rattle.dataset.specs.Answer.{width}
 use Rattle.conformance.specs.declared.JudgeAnswer.the-variants as judged
 use Rattle.display.proofs.Judged as laws
+use Rattle.node.specs.Nodes.{nodesOf}
+use Rattle.sheet.specs.Contracts.{firstIn, lastIn}
 use Rattle.sheet.proofs.Answers as answers
 use mathlib.Core.Path.{sym, _∙_}
 use native.Mathlib.Omega.{arith}
 use Rattle.basics.proofs.Promised.{promised}
 use borrow.Author.Needs.{needs}
-use Rattle.sheet.proofs.sheet.Statement.{statement}
-use Rattle.sheet.proofs.sheet.Tie as tie
+use Rattle.sheet.proofs.judged_sheet.Statement.{statement}
+use Rattle.sheet.proofs.judged_sheet.Tie as tie
 
 judge-requires : tie.Need-judge-requires
 judge-requires c κs =
@@ -58,25 +61,25 @@ mul-end c =
     let t = laws.after-judging (entry .args .bytes .now) (entry .args .rows .now) (at-judge .judge .last .1 .0)
     (c .before .count2 .given .0 .0) (sym (c .before .count2 .given .1) ∙ at-judge .judge .ensures .0 .same)
     (at-judge .judge .ensures .1) .0 in
-    omega (arith, t .1 .size, t .1 .few, length-take-le (7 * c .before .count2 .given .0 .0) (at-judge .judge .last .1 .0) (t .0))
+    omega (arith, t .1 .size, t .1 .few, length-take-le (width * c .before .count2 .given .0 .0) (at-judge .judge .last .1 .0) (t .0))
 
-slice-reshare-prefix-sheet-table : tie.Need-slice-reshare-prefix-sheet-table
-slice-reshare-prefix-sheet-table c =
+slice-reshare-prefix-sheet-span : tie.Need-slice-reshare-prefix-sheet-span
+slice-reshare-prefix-sheet-span c =
     let at-judge = c .before .before .before .before .before in
     let entry = at-judge .before .before .before .before in
     laws.after-judging (entry .args .bytes .now) (entry .args .rows .now) (at-judge .judge .last .1 .0) (c .before .count2 .given .0 .0)
     (sym (c .before .count2 .given .1) ∙ at-judge .judge .ensures .0 .same) (at-judge .judge .ensures .1) .0 .0
 
-slice-aggregate-sheet-table : tie.Need-slice-aggregate-sheet-table
-slice-aggregate-sheet-table c =
+slice-aggregate-sheet-span : tie.Need-slice-aggregate-sheet-span
+slice-aggregate-sheet-span c =
     let at-judge = c .before .before .before .before .before .before in
     let entry = at-judge .before .before .before .before in
     sym (length-take-le _ _ (laws.after-judging (entry .args .bytes .now) (entry .args .rows .now) (at-judge .judge .last .1 .0)
     (c .before .before .count2 .given .0 .0) (sym (c .before .before .count2 .given .1) ∙ at-judge .judge .ensures .0 .same)
     (at-judge .judge .ensures .1) .0 .0))
 
-sheet-table-requires : tie.Need-sheet-table-requires
-sheet-table-requires c κs =
+sheet-span-requires : tie.Need-sheet-span-requires
+sheet-span-requires c κs =
     let at-judge = c .before .before .before .before .before .before in
     let at-shared-slice-known = at-judge .before .before .before in
     let entry = at-shared-slice-known .before in
@@ -93,7 +96,8 @@ returns : tie.Need-returns
 returns c =
     let at-judge = c .before .before .before .before .before in
     let entry = at-judge .before .before .before .before in (
-      promised (c .refused .ensures ∙ answers.sheet-by (entry .args .bytes .now) (entry .args .first) (entry .args .last)
+      promised (c .refused .ensures ∙ answers.sheet-by (entry .args .bytes .now) (firstIn (entry .args .span))
+          (lastIn (nodesOf (entry .args .bytes .now)) (entry .args .span))
           (entry .args .rows .now) (judged.TooLarge) (sym (c .before .enum-told .given .1) ∙ at-judge .judge .ensures .0 .same)),
       at-judge .judge .ensures .1,
     )
@@ -106,7 +110,8 @@ returns-2 : tie.Need-returns-2
 returns-2 c =
     let at-judge = c .before .before .before .before .before .before in
     let entry = at-judge .before .before .before .before in (
-      promised (c .refused2 .ensures ∙ answers.sheet-by (entry .args .bytes .now) (entry .args .first) (entry .args .last)
+      promised (c .refused2 .ensures ∙ answers.sheet-by (entry .args .bytes .now) (firstIn (entry .args .span))
+          (lastIn (nodesOf (entry .args .bytes .now)) (entry .args .span))
           (entry .args .rows .now) (judged.Refused (c .before .before .code .given .0 .0) (c .before .before .code .given .0 .1 .0))
           (sym (c .before .before .code .given .1) ∙ at-judge .judge .ensures .0 .same)),
       at-judge .judge .ensures .1,
@@ -120,7 +125,8 @@ returns-3 : tie.Need-returns-3
 returns-3 c =
     let at-judge = c .before .before .before .before .before in
     let entry = at-judge .before .before .before .before in (
-      promised (c .refused3 .ensures ∙ answers.sheet-by (entry .args .bytes .now) (entry .args .first) (entry .args .last)
+      promised (c .refused3 .ensures ∙ answers.sheet-by (entry .args .bytes .now) (firstIn (entry .args .span))
+          (lastIn (nodesOf (entry .args .bytes .now)) (entry .args .span))
           (entry .args .rows .now) (judged.NoRoom) (sym (c .before .enum-told2 .given .1) ∙ at-judge .judge .ensures .0 .same)),
       at-judge .judge .ensures .1,
     )
@@ -133,7 +139,8 @@ returns-4 : tie.Need-returns-4
 returns-4 c =
     let at-judge = c .before .before .before .before .before .before in
     let entry = at-judge .before .before .before .before in (
-      promised (c .refused4 .ensures ∙ answers.sheet-by (entry .args .bytes .now) (entry .args .first) (entry .args .last)
+      promised (c .refused4 .ensures ∙ answers.sheet-by (entry .args .bytes .now) (firstIn (entry .args .span))
+          (lastIn (nodesOf (entry .args .bytes .now)) (entry .args .span))
           (entry .args .rows .now) (judged.Broken (c .before .before .count .given .0 .0) (c .before .before .count .given .0 .1 .0)
           (c .before .before .count .given .0 .1 .1 .0)) (sym (c .before .before .count .given .1) ∙ at-judge .judge .ensures .0 .same)),
       at-judge .judge .ensures .1,
@@ -148,14 +155,15 @@ returns-5 c =
     let at-count2 = c .before .before .before in
     let at-judge = at-count2 .before .before .before .before in
     let entry = at-judge .before .before .before .before in (
-      promised (c .sheet-table .ensures ∙ answers.sheet-by (entry .args .bytes .now) (entry .args .first) (entry .args .last)
+      promised (c .sheet-span .ensures ∙ answers.sheet-by (entry .args .bytes .now) (firstIn (entry .args .span))
+          (lastIn (nodesOf (entry .args .bytes .now)) (entry .args .span))
           (entry .args .rows .now) (judged.Accepted (at-count2 .count2 .given .0 .0))
           (sym (at-count2 .count2 .given .1) ∙ at-judge .judge .ensures .0 .same)),
       at-judge .judge .ensures .1,
     )
 
-pub sheet-spec : {M : Type 1} → statement M
-sheet-spec =
+pub judged-sheet-spec : {M : Type 1} → statement M
+judged-sheet-spec =
     tie.close
     (tie.spec
     judge-requires
@@ -169,9 +177,9 @@ sheet-spec =
     refused-requires-4
     enum-known-count-2
     mul-end
-    slice-reshare-prefix-sheet-table
-    slice-aggregate-sheet-table
-    sheet-table-requires
+    slice-reshare-prefix-sheet-span
+    slice-aggregate-sheet-span
+    sheet-span-requires
     same-length
     returns
     same-length-2

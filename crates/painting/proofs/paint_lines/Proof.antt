@@ -1,30 +1,30 @@
--- Invariant: row lines are painted, and the lower row is the one that line row takes as its upper.
-use Prim.Native.Nat.{_-_, _*_, _/_, _≤_}
+-- Lines follow one another in the picture, and each leaves what the next one takes by the same way.
+use Prim.Native.Nat.{_-_, _*_, _≤_}
 use lib.ListN.{length, length-take, length-drop}
 use mathlib.Core.Path.{_≡_, refl, sym, ap, _∙_}
 use native.Mathlib.Omega.{arith}
 use Rattle.value.specs.Number.{usValues}
-use Rattle.pixel.specs.Contracts.{painted, Averaged, shifted, quarterShade}
+use Rattle.pixel.specs.Contracts.{painted}
 use Rattle.pixel.proofs.Laws.{full, row-end, painted-none, painted-length}
-use Rattle.lines.specs.Contracts.{shadesOf}
+use Rattle.lines.specs.Contracts.{shadesOf, WayReady, wayShade}
 use Rattle.painting.proofs.Laws.{next-line}
-use Rattle.painting.proofs.paint_blended.Statement.{statement}
-use Rattle.painting.proofs.paint_blended.Tie as tie
+use Rattle.painting.proofs.paint_lines.Statement.{statement}
+use Rattle.painting.proofs.paint_lines.Tie as tie
 
 abbrev Inv-loop : tie.InvT-loop
-Inv-loop pixels g frame masks down right shades table upper₀ lower₀ image₀ rows columns row₀ upper lower image row =
+Inv-loop way pixels g frame masks shades table upper₀ lower₀ image₀ height columns row₀ upper lower image row =
     (row ≤ g .rows) × ((length upper ≡ length upper₀) × ((length lower ≡ length lower₀)
-    × (Averaged pixels g (usValues masks) (shifted (down / 4) (g .rows) row) lower × (image
-    ≡ painted (quarterShade (shadesOf shades (g .stored)) g pixels frame (usValues masks) down right) (row * g .columns) image₀))))
+    × (WayReady way pixels g masks (shades .filled) row upper lower × (image
+    ≡ painted (wayShade way (shadesOf shades (g .stored)) g pixels frame (usValues masks)) (row * g .columns) image₀))))
 
 abbrev μ-loop : tie.MeasureT-loop
-μ-loop pixels g frame masks down right shades table upper₀ lower₀ image₀ rows columns row₀ upper lower image row =
-    rows - row
+μ-loop way pixels g frame masks shades table upper₀ lower₀ image₀ height columns row₀ upper lower image row =
+    height - row
 
 loop-holds : tie.Need-loop-holds Inv-loop μ-loop
 loop-holds c =
     let entry = c .before .before .before .before .before .before in
-    (omega arith, (refl, (refl, (entry .pre .1 .1 .1 .1 .1, sym (painted-none _ _ _)))))
+    (omega arith, (refl, (refl, (entry .pre .1 .1, sym (painted-none _ _ _)))))
 
 mul-at : tie.Need-mul-at Inv-loop μ-loop
 mul-at c =
@@ -34,8 +34,8 @@ mul-at c =
       c .before .before .before .before .before .before .before .before .pre .0 .room,
     )
 
-sub-quarter-line : tie.Need-sub-quarter-line Inv-loop μ-loop
-sub-quarter-line c =
+sub-draw-line : tie.Need-sub-draw-line Inv-loop μ-loop
+sub-draw-line c =
     let at-loop = c .before .before .before in
     let entry = at-loop .before .before .before .before .before .before .before in
     omega (
@@ -45,8 +45,8 @@ sub-quarter-line c =
       ap length (at-loop .loop .inv .1 .1 .1 .1) ∙ painted-length _ _ _,
     )
 
-part-quarter-line-start : tie.Need-part-quarter-line-start Inv-loop μ-loop
-part-quarter-line-start c =
+part-draw-line-start : tie.Need-part-draw-line-start Inv-loop μ-loop
+part-draw-line-start c =
     let at-loop = c .before .before .before in
     let entry = at-loop .before .before .before .before .before .before .before in
     omega (
@@ -56,8 +56,8 @@ part-quarter-line-start c =
       ap length (at-loop .loop .inv .1 .1 .1 .1) ∙ painted-length _ _ _,
     )
 
-part-quarter-line-end : tie.Need-part-quarter-line-end Inv-loop μ-loop
-part-quarter-line-end c =
+part-draw-line-end : tie.Need-part-draw-line-end Inv-loop μ-loop
+part-draw-line-end c =
     let at-loop = c .before .before .before in
     let entry = at-loop .before .before .before .before .before .before .before in
     omega (
@@ -67,8 +67,8 @@ part-quarter-line-end c =
       ap length (at-loop .loop .inv .1 .1 .1 .1) ∙ painted-length _ _ _,
     )
 
-quarter-line-requires : tie.Need-quarter-line-requires Inv-loop μ-loop
-quarter-line-requires c κs =
+draw-line-requires : tie.Need-draw-line-requires Inv-loop μ-loop
+draw-line-requires c κs =
     let at-loop-test = c .before .before .before in
     let at-loop = at-loop-test .before in
     let entry = at-loop .before .before .before .before .before .before .before in (
@@ -85,13 +85,7 @@ quarter-line-requires c κs =
       },
       (
         entry .pre .1 .0,
-        (
-          entry .pre .1 .1 .0,
-          (
-            omega (arith, at-loop .loop .inv .1 .0, entry .pre .1 .1 .1 .0),
-            (omega (arith, at-loop .loop .inv .1 .1 .0, entry .pre .1 .1 .1 .1 .0), at-loop .loop .inv .1 .1 .1 .0),
-          ),
-        ),
+        at-loop .loop .inv .1 .1 .1 .0,
       ),
     )
 
@@ -110,8 +104,8 @@ loop-again : tie.Need-loop-again Inv-loop μ-loop
 loop-again c =
     let at-lower = c .before .before .before in
     let at-upper = at-lower .before .before in
-    let at-quarter-line = at-upper .before in
-    let at-loop-test = at-quarter-line .before .before .before .before in
+    let at-draw-line = at-upper .before in
+    let at-loop-test = at-draw-line .before .before .before .before in
     let at-loop = at-loop-test .before in
     let entry = at-loop .before .before .before .before .before .before .before in (
       omega (arith, at-loop-test .loop-test .taken),
@@ -120,14 +114,14 @@ loop-again c =
         (
           at-lower .lower .given ∙ at-loop .loop .inv .1 .1 .0,
           (
-            at-quarter-line .quarter-line .ensures .1,
+            at-draw-line .draw-line .ensures .1,
             next-line
-                (quarterShade (shadesOf (entry .args .shades) ((entry .args .g) .stored)) (entry .args .g) (entry .args .pixels .now)
-                (entry .args .frame) (usValues (entry .args .masks .now)) (entry .args .down) (entry .args .right)) (at-loop .loop .row)
+                (wayShade (entry .args .way) (shadesOf (entry .args .shades) (entry .args .g .stored)) (entry .args .g)
+                (entry .args .pixels .now) (entry .args .frame) (usValues (entry .args .masks .now))) (at-loop .loop .row)
                 (entry .args .g .columns) (entry .args .image .now) (at-loop .loop .image)
-                (at-quarter-line .quarter-line .last .1 .1 .1 .1 .1 .1 .1 .1 .1 .1 .1 .0)
+                (at-draw-line .draw-line .last .1 .1 .1 .1 .1 .1 .1 .1 .1 .1 .0)
                 (omega (arith, row-end (entry .args .g) (at-loop .loop .row) (at-loop-test .loop-test .taken), entry .pre .0 .room))
-                (at-loop .loop .inv .1 .1 .1 .1) (at-quarter-line .quarter-line .ensures .0),
+                (at-loop .loop .inv .1 .1 .1 .1) (at-draw-line .draw-line .ensures .0),
           ),
         ),
       ),
@@ -149,18 +143,18 @@ returns : tie.Need-returns Inv-loop μ-loop
 returns c =
     rw (full (c .before .loop .inv .0) (c .loop-test .left)) at (c .before .loop .inv .1 .1 .1 .1)
 
-pub paint-blended-spec : {M : Type 1} → statement M
-paint-blended-spec =
+pub paint-lines-spec : {M : Type 1} → statement M
+paint-lines-spec =
     tie.close
     (tie.spec
     Inv-loop
     μ-loop
     loop-holds
     mul-at
-    sub-quarter-line
-    part-quarter-line-start
-    part-quarter-line-end
-    quarter-line-requires
+    sub-draw-line
+    part-draw-line-start
+    part-draw-line-end
+    draw-line-requires
     add-row
     loop-less
     loop-again
