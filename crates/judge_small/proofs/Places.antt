@@ -12,11 +12,11 @@ use Rattle.conformance.specs.declared.JudgeAnswer.the-variants as judged
 use Rattle.conformance.specs.Judging.{judgeOf}
 use Rattle.conformance.proofs.JudgeAnswer.{the-type}
 use Rattle.judge_small.specs.declared.Located.{Located}
-use Rattle.judge_small.specs.Located.{located, locatedOf}
+use Rattle.judge_small.specs.Located.{located, locatedPrinted}
 use Rattle.judge_small.proofs.Room.{roomy}
 
 pub roomy-located : (s buffer : List ℕ) → width * length s ≤ 8 * length buffer → (a : JudgeAnswer) → a ≡ judgeOf s buffer
-    → located (nodesOf s) a ≡ locatedOf s
+    → located (nodesOf s) a ≡ locatedPrinted s
 roomy-located s buffer h a e = ap (located (nodesOf s)) (e ∙ roomy s buffer h)
 
 pub not-broken : (ns : List Node) (a : JudgeAnswer) → OneOf (0 ∷ 2 ∷ 3 ∷ 4 ∷ []) (tagOf the-type a)

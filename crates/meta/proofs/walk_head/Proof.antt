@@ -7,8 +7,8 @@ use Rattle.dataset.specs.declared.Cursor.{Cursor}
 use Rattle.dataset.specs.Header.{elementAt}
 use Rattle.dataset.proofs.Level as level
 use Rattle.meta.proofs.Heads as heads
-use Rattle.meta.proofs.along.Statement.{statement}
-use Rattle.meta.proofs.along.Tie as tie
+use Rattle.meta.proofs.walk_head.Statement.{statement}
+use Rattle.meta.proofs.walk_head.Tie as tie
 
 abbrev Inv-loop : tie.InvT-loop
 Inv-loop file end none₀ here₀ n₀ least₀ found₀ none here n least found =
@@ -194,8 +194,8 @@ loop-again c =
     (entry .pre .1 .0) (entry .pre .1 .1) (at-past .past .kept .1 .1 .1 .0)
     (level.walked (at-stop .stop .given .1) (at-past .past .ensures)) (c .before .note .ensures) (c .moved .ensures)
 
-pub along-spec : {M : Type 1} → statement M
-along-spec =
+pub walk-head-spec : {M : Type 1} → statement M
+walk-head-spec =
     tie.close
     (tie.spec
     Inv-loop
