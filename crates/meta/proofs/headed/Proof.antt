@@ -98,7 +98,8 @@ returns-4 c =
     let f = c .before .before .found .given .0 .0 in
     let ends = tests.ends (entry .args .file .now) (at-u32-at .u32-at .result) (at-u32-at .u32-at .ensures .0) in (
       tests.not-only (entry .args .file .now) f (c .if2 .left)
-          ∙ tests.walked (entry .args .file .now) (start + 12 + at-u32-at .u32-at .result) ends (omega (arith, at-if1 .if1 .left)) (elements.Good f)
+          ∙ tests.walked (entry .args .file .now) (start + 12 + at-u32-at .u32-at .result) ends
+          (omega (arith, at-if1 .if1 .left)) (elements.Good f)
           (sym (c .before .before .found .given .1) ∙ at-walk-head .walk-head .ensures .0),
       tt,
     )
