@@ -196,7 +196,7 @@ pub extern "C" fn xa_canonical(bytes: &[u8], rows: &mut [u32], target: &mut [u8]
     ensures { λ _. ⌜ now (rows .exit) ≡ bufferOf (readingOf (now (bytes .entry))) (now (rows .entry)) ⌝ }
     ensures { λ _. ⌜ now (target .exit) ≡ targetOf (now (bytes .entry)) (now (rows .entry)) (now (target .entry)) ⌝ }
 {
-    canonical::byte_bounds(bytes);
+    canonical::knows_bytes(bytes);
     c_canonical::canonical_numbers(canonical::write_canonical(bytes, rows, target))
 }
 

@@ -13,8 +13,8 @@ use Rattle.value.specs.Number.{isNumber}
 use Rattle.value.specs.Contracts.{SizeBelow}
 use Rattle.shift.specs.declared.Shift.{Shift}
 use Rattle.shift.specs.declared.Moves.{Moves}
-use Rattle.shift.specs.Shift.{largestMove, isShort, isShiftOf, movesOf, shortMovesOf}
-use Rattle.shift.specs.Contracts.{tooFar}
+use Rattle.shift.specs.Shift.{largestMove, isShort, isShiftOf, movesOf}
+use Rattle.shift.specs.Contracts.{tooFar, shortMovesOf}
 use Rattle.shift.proofs.Laws.{moves-short}
 use Rattle.node.specs.Nodes.{Node}
 use Rattle.steps.specs.Given.{check, then}

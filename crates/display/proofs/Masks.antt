@@ -30,7 +30,7 @@ use Rattle.node.specs.Find.{holds, ifPresent, andThen, find, findVr, ofVr, fill
 use Rattle.node.proofs.Walks.{members-end}
 use Rattle.basics.specs.Tags
 use Rattle.element.specs.Elements as elements
-use Rattle.element.specs.Elements.{valueAt, first, insideOf, itemsIn, every}
+use Rattle.element.specs.Elements.{valueAt, first, insideOf, itemsIn, hasPairs, every}
 use Rattle.element.specs.Frames.{framesOf, frameItems, frameItem, sharedItem, groupOf, maskItems, idIn, operationIs}
 use Rattle.rules.specs.Frame.{atFrame, hasId, uniqueIds, isShiftItem, isShiftGroup, item37, rule37}
 use Rattle.rules.specs.Mask.{isOperation, isMask, rule31, isRange, rangeFits, rule32, allFrames, areMaskFrames, averageFits, averagesFit}
@@ -41,7 +41,7 @@ use Rattle.conformance.specs.Judging.{findingOf}
 use Rattle.steps.specs.declared.Applying.{Applying}
 use Rattle.steps.specs.declared.Applying.the-variants.{Item, Nothing}
 use Rattle.steps.specs.Given.{need, check, then}
-use Rattle.steps.specs.Steps.{inPairs, rangeHas, rangeHolds, firstHolding, onMask, applyingTo, averageFrames, offsetAt}
+use Rattle.steps.specs.Steps.{isInPairs, rangeHas, rangeHolds, firstHolding, onMask, applyingTo, averageFrames, offsetAt}
 use Rattle.steps.specs.Steps.{offsetOf, less, tidFrame, naming, ownIn, itemShiftAt, shiftFrom, shiftFor, movesFor, Mask, native, masked}
 use Rattle.steps.specs.Steps.{onTid, maskBy, maskOn, maskFor}
 use Rattle.steps.proofs.Given.{checked}
@@ -101,9 +101,7 @@ module _ (ns : List Node) (f n : ℕ) where
   unfolding isRange
   range-has None e = (true, refl)
   range-has (Is r) e =
-      let a = and-both (eqb (nodeAt ns r .vr) US) _ e in
-      let b = and-both (leb 4 (length (valueAt ns r)) && eqb (length (valueAt ns r) % 4) 0) _ (a .1) in
-      (inPairs f (usValues (valueAt ns r)), checked _ _ (both (a .0) (b .0)))
+      (isInPairs f (usValues (valueAt ns r)), checked _ _ (and-both (hasPairs ns r) _ e .0))
 
   range-holds : (j : ℕ) → rangeFits ns n j ≡ true → (h : Bool) × (rangeHolds ns f j ≡ some h)
   unfolding rangeFits rangeHolds

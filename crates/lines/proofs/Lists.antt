@@ -9,7 +9,7 @@ use native.Mathlib.Omega.{arith}
 use lib.ListN.{length, length-append, getD, set, drop, take, List·getD-append}
 use lib.Seq.{drop-cons, set-at, take-append-seam, getD-at}
 use Rattle.pixel.specs.Contracts.{painted}
-use Rattle.lines.specs.Contracts.{upTo}
+use Rattle.basics.specs.Lists.{upTo}
 
 pub upTo-length : (f : ℕ → ℕ) (n : ℕ) → length (upTo f n) ≡ n
 unfolding upTo

@@ -2,19 +2,15 @@
 -- `Rattle.window`.
 use mathlib.Core.Path.{_≡_}
 use mathlib.Core.Bool.{true}
-use mathlib.Core.List.{List, [], _∷_, _++_}
-use Prim.Native.Nat.{ℕ, zero, suc, _+_, _-_, _^_, _≤_, _<_}
+use mathlib.Core.List.{List}
+use Prim.Native.Nat.{ℕ, _+_, _-_, _^_, _≤_, _<_}
 use lib.ListN.{length}
+use Rattle.basics.specs.Lists.{upTo}
 use Rattle.window.specs.Contracts.{Drawable, shadeAt, Filled, shadePlaces}
 use Rattle.pixel.specs.declared.Geometry.{Geometry}
 use Rattle.pixel.specs.Pixel.{isFrame}
 use Rattle.pixel.specs.Contracts.{Shaped, Masks, farthestMove}
 use Rattle.lines.specs.declared.Shades.{Shades}
-
--- f 0, f 1, .. up to f (n - 1).
-unfoldable pub upTo : (ℕ → ℕ) → ℕ → List ℕ
-upTo f zero = []
-upTo f (suc n) = upTo f n ++ (f n ∷ [])
 
 -- The levels at all places, whether a table holds them or not.
 unfoldable pub shadesOf : Shades → ℕ → List ℕ

@@ -7,7 +7,7 @@ use mathlib.Core.List.{List, [], _∷_, _++_}
 use lib.ListN.{length}
 use lib.Dec.{eqb}
 use Rattle.basics.specs.Tags
-use Rattle.dataset.specs.Header.{itemTag}
+use Rattle.basics.specs.Tags.{itemTag}
 use Rattle.value.specs.Text.{ascii}
 
 -- ---- Elements

@@ -17,7 +17,7 @@ use Rattle.display.specs.declared.Masking.{Masking}
 use Rattle.display.specs.Show.{pictureOf}
 use Rattle.display.specs.Contracts.{Gives, maskingOf, isMasked, shadeBy}
 use Rattle.display.proofs.Draws.{painted-shows}
-use Rattle.lines.specs.Contracts.{upTo}
+use Rattle.basics.specs.Lists.{upTo}
 use Rattle.lines.proofs.Lists.{upTo-length, painted-list}
 
 -- Frame f is masked or not, and its cells are the shades.

@@ -7,7 +7,7 @@ use native.Mathlib.Omega.{arith}
 use lib.ListN.{length, getD, set, take}
 use Rattle.pixel.specs.Contracts.{painted}
 use Rattle.pixel.proofs.Laws.{painted-length}
-use Rattle.lines.specs.Contracts.{upTo}
+use Rattle.basics.specs.Lists.{upTo}
 use Rattle.lines.proofs.Lists.{upTo-length, upTo-plus, painted-take}
 use Rattle.sheet.specs.Contracts.{tallied, Room}
 use Rattle.sheet.proofs.Counts.{tallied-append, bump-most}

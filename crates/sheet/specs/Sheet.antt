@@ -7,7 +7,7 @@ use mathlib.Core.List.{List, [], _∷_, _++_}
 use lib.ListN.{replicate}
 use lib.Dec.{eqb}
 use Rattle.node.specs.Nodes.{Node}
-use Rattle.lines.specs.Contracts.{upTo}
+use Rattle.basics.specs.Lists.{upTo}
 use Rattle.display.specs.Show.{pictureOf}
 use Rattle.sheet.specs.declared.Numbers.{Numbers}
 

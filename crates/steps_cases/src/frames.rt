@@ -172,7 +172,7 @@ fn applying_to(bytes: &[u8], rows: &[u32], frame: usize) -> Applies
     ensures { λ r. ⌜ appliesOf r ≡ applyingTo (nodesOf (now (bytes .entry))) frame ⌝ }
     ensures { λ r. ⌜ AppliesBelow (length (nodesOf (now (bytes .entry)))) r ⌝ }
 {
-    match element::find_root(bytes, rows, tags::MASK_SUBTRACTION_SEQUENCE) {
+    match node::find_root(bytes, rows, tags::MASK_SUBTRACTION_SEQUENCE) {
         Num::None => Applies::Nothing,
         Num::Is(m) => {
             if node::vr(bytes, rows, m) == vrs::SQ {

@@ -3,7 +3,8 @@ use Prim.Native.Nat.{_-_, _*_, _≤_}
 use lib.ListN.{length}
 use Rattle.pixel.specs.Contracts.{nativeShade}
 use Rattle.pixel.proofs.Laws.{full}
-use Rattle.lines.specs.Contracts.{upTo, shadesOf}
+use Rattle.lines.specs.Contracts.{shadesOf}
+use Rattle.basics.specs.Lists.{upTo}
 use Rattle.lines.proofs.Lists.{upTo-length}
 use Rattle.sheet.specs.Contracts.{tallied}
 use Rattle.sheet.proofs.Runs as runs

@@ -4,7 +4,8 @@ use lib.ListN.{length}
 use Rattle.value.specs.Number.{usValues}
 use Rattle.pixel.specs.Contracts.{quarterShade}
 use Rattle.pixel.proofs.Laws.{full}
-use Rattle.lines.specs.Contracts.{upTo, shadesOf}
+use Rattle.lines.specs.Contracts.{shadesOf}
+use Rattle.basics.specs.Lists.{upTo}
 use Rattle.lines.proofs.Lists.{upTo-length}
 use Rattle.sheet.specs.Contracts.{tallied}
 use Rattle.sheet.proofs.Runs as runs
