@@ -13,8 +13,9 @@ ghost use Rattle.searches.specs.Reported.{countedOf};
 ghost use Rattle.searches.specs.Reported as judging;
 ghost use Rattle.display.specs.Show.{showOf, imageOf};
 ghost use Rattle.display.specs.Show as showing;
-ghost use Rattle.file.specs.File.{startOf, startFields, readFileOf, readFields, rowsLeft, showFileOf, showFields, imageLeft};
-ghost use Rattle.file.specs.Searches.{countedFileOf, countedFields};
+ghost use Rattle.file_read.specs.ReadFile.{startOf, startFields, readFileOf, readFields, rowsLeft};
+ghost use Rattle.file_show.specs.ShowFile.{showFileOf, showFields, imageLeft};
+ghost use Rattle.file_judge.specs.Searches.{countedFileOf, countedFields};
 ghost use Rattle.sheet.specs.Answer.{sheetOf};
 ghost use Rattle.compare.specs.Answer.{compareOf};
 ghost use Rattle.compare.specs.Answer as comparing;
@@ -37,7 +38,7 @@ ghost use Rattle.c_slips.specs.Slips.{verdictIn, hostedSlip};
 pub extern "C" fn xa_version() -> u32
     ensures { λ r. ⌜ r ≡ hostVersion ⌝ }
 {
-    c_answers::hostVersion()
+    c_answers::host_version()
 }
 
 // How many rows a data set has. No row is stored.
@@ -83,7 +84,7 @@ pub extern "C" fn xa_show(bytes: &[u8], frame: u64, rows: &mut [u32], image: &mu
 pub extern "C" fn xa_data_set(file: &[u8]) -> Part
     ensures { λ r. ⌜ r ≡ partOf (startFields (startOf (now (file .entry)))) ⌝ }
 {
-    c_files::start_numbers(file::start_of(file))
+    c_files::start_numbers(file_read::start_of(file))
 }
 
 // Reads a file's data set into rows. Codes 1 to 8 and 15 to 17 leave the buffer as it was.
@@ -92,7 +93,7 @@ pub extern "C" fn xa_read_file(file: &[u8], rows: &mut [u32]) -> Answer
     ensures { λ r. ⌜ r ≡ hosted (readFields (readFileOf (now (file .entry)) (now (rows .entry)))) ⌝ }
     ensures { λ _. ⌜ now (rows .exit) ≡ rowsLeft (now (file .entry)) (now (rows .entry)) ⌝ }
 {
-    c_files::read_file_numbers(file::read_file(file, rows))
+    c_files::read_file_numbers(file_read::read_file(file, rows))
 }
 
 // Reads a file's data set into rows and judges it; with code 0 the sum of its searches is named too. Codes 1 to 8 and
@@ -102,7 +103,7 @@ pub extern "C" fn xa_judge_file(file: &[u8], rows: &mut [u32]) -> Answer
     ensures { λ r. ⌜ r ≡ reported (countedFields (countedFileOf (now (file .entry)) (now (rows .entry)))) ⌝ }
     ensures { λ _. ⌜ now (rows .exit) ≡ rowsLeft (now (file .entry)) (now (rows .entry)) ⌝ }
 {
-    c_files::counted_file_numbers(file::judge_file_counted(file, rows))
+    c_files::counted_file_numbers(file_judge::judge_file_counted(file, rows))
 }
 
 // Judges a file's data set and draws a frame of it, a byte for each sample. Codes 1 to 8 and 15 to 17 leave the row buffer as it
@@ -118,7 +119,7 @@ pub extern "C" fn xa_show_file(
     ensures { λ _. ⌜ now (rows .exit) ≡ rowsLeft (now (file .entry)) (now (rows .entry)) ⌝ }
     ensures { λ _. ⌜ now (image .exit) ≡ imageLeft (now (file .entry)) frame (now (rows .entry)) (now (image .entry)) ⌝ }
 {
-    c_files::show_file_numbers(file::show_file(file, frame, rows, image))
+    c_files::show_file_numbers(file_show::show_file(file, frame, rows, image))
 }
 
 // Reads a data set into rows, judges it and counts the grey levels of its frames `first` to `last`. A buffer for

@@ -32,7 +32,7 @@ use Rattle.display.specs.Show.{imageSize, pictureIn, pictureOf}
 use Rattle.display.specs.Drawing.{Whole}
 use Rattle.steps.proofs.Given.{never, same-some, check-some}
 use Rattle.display.proofs.Lacking.{nothing-lacks}
-use Rattle.display.proofs.Accepted.{Windowed}
+use Rattle.display.proofs.Accepted.{GivesWindow}
 use Rattle.display.proofs.Whole as whole
 use Rattle.display.specs.Contracts.{MasksReady, IsObject, IsScene, IsPixels, IsPlan}
 use Rattle.display.specs.declared.Scene.{Scene}
@@ -79,7 +79,7 @@ pixel-bytes s rows t p h =
 -- ---- Objects
 
 pub objects : (s : List ℕ) (n f : ℕ) → IsObject s n → 1 ≤ f → f ≤ n → whole.All (nodesOf s) f n
-objects s n f h low high = whole.all s (h .bytes) (h .sound) f n (h .frames) low high
+objects s n f h low high = whole.all-of s (h .bytes) (h .sound) f n (h .frames) low high
 
 module _ (ns : List Node) (f n : ℕ) (g : Geometry) (a : whole.All ns f n) (e : geometryOf ns ≡ some g) where
   same-geometry : a .o .g ≡ g
@@ -88,8 +88,8 @@ module _ (ns : List Node) (f n : ℕ) (g : Geometry) (a : whole.All ns f n) (e :
   pub stored-most : g .stored ≤ 16
   stored-most = subst (λ (x : Geometry). x .stored ≤ 16) same-geometry (a .o .stored-high)
 
-  pub window-of : Windowed ns f (g .stored)
-  window-of = subst (λ (x : Geometry). Windowed ns f (x .stored)) same-geometry (a .win)
+  pub window-of : GivesWindow ns f (g .stored)
+  window-of = subst (λ (x : Geometry). GivesWindow ns f (x .stored)) same-geometry (a .win)
 
   pub frame-small : f < 4294967296
   frame-small = omega (arith, a .high, a .o .few-frames)
@@ -116,7 +116,7 @@ module _ (s : List ℕ) (n f : ℕ) (h : IsObject s n) (low : 1 ≤ f) (high : f
   is-pixels = record { below = q .below; is = pixels-are .vr }
 
   pub based : whole.Based (nodesOf s) f n (c .g) (valueAt (nodesOf s) (c .p))
-  based = whole.based (nodesOf s) f n (c .g) (valueAt (nodesOf s) (c .p)) all low (q .geometry) (pixels-are .is)
+  based = whole.based-on (nodesOf s) f n (c .g) (valueAt (nodesOf s) (c .p)) all low (q .geometry) (pixels-are .is)
 
   pub picture-size : length (pictureOf (nodesOf s) f .samples) ≡ samplesOf (c .g)
   picture-size = picture-cells s n f h low high ∙ sym (based .size)

@@ -122,7 +122,7 @@ fn print_tid(bytes: &[u8], rows: &[u32], frame: usize, j: usize)
     answers::print_tid(steps::tid_frame(bytes, rows, frame, j, frames));
 }
 
-// Step 4. It is not asked for frame 0, which no data set has: `frameItem` counts from 1, and gives the first item for 0 too.
+// Step 4. It is not asked for frame 0, which no data set has.
 fn print_shift(bytes: &[u8], rows: &[u32], frame: usize, item: Num, j: usize)
     requires { ⌜ Table (now bytes) (now rows)
         × ((j < length (nodesOf (now bytes)))

@@ -1,4 +1,4 @@
--- Each operation leads to its own masking, and what was told is the item's operation.
+-- Each operation leads to its own masking; what was told is the item's operation.
 use mathlib.Core.Path.{sym, _∙_}
 use Rattle.node.specs.Nodes.{nodesOf}
 use Rattle.display.proofs.Answering as plan
