@@ -234,7 +234,7 @@ fn compare_planned(
         ≡ along (isOff tolerance (pictureOf (nodesOf (now (bytes .entry))) frame .samples) (now (cells .entry))) 0
         (imageSize (nodesOf (now (bytes .entry)))) noneOff ⌝ }
 {
-    let mut table: [u8; lines::PLACES] = [0; lines::PLACES];
+    let mut table: [u8; window::PLACES] = [0; window::PLACES];
     let mut upper: [u32; pixel::LONGEST] = [0; pixel::LONGEST];
     let mut lower: [u32; pixel::LONGEST] = [0; pixel::LONGEST];
     let mut line: [u8; 65535] = [0; 65535];

@@ -380,7 +380,7 @@ fn draw(bytes: &[u8], rows: &[u32], frame: usize, n: usize, image: &mut [u8]) ->
     let window = own.window;
     let masking = own.masking;
     let inverse = c.inverse;
-    let mut table: [u8; 131072] = [0; 131072];
+    let mut table: [u8; window::PLACES] = [0; window::PLACES];
     lines::fill(window, g.stored, inverse, &mut table);
     let shades = Shades {
         window,

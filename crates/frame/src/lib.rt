@@ -9,8 +9,8 @@ ghost use Rattle.frame.specs.Contracts.{Fits};
 use basics::wider;
 use dataset::WIDTH;
 
-// A frame: its bytes, the number of its rows and of its columns.
-struct FrameView<'a> {
+// A frame: its bytes, the number of its rows and of its columns. Public, since display/specs/FrameBytes speaks of it.
+pub struct FrameView<'a> {
     pub samples: &'a [u8],
     pub rows: usize,
     pub columns: usize,

@@ -13,9 +13,6 @@ use pixel::Geometry;
 use shift::Moves;
 use window::Window;
 
-// How many places a table of levels has.
-pub const PLACES: usize = 131072;
-
 // How cells become levels: by a window, inverted or not, and whether a table is filled with its levels.
 pub struct Shades {
     pub window: Window,

@@ -5,6 +5,7 @@ use mathlib.Core.Logic.{_⊎_}
 use mathlib.Core.List.{List, [], _∷_}
 use Prim.Native.Nat.{ℕ, _+_, _-_, _≤_, _<_, _^_}
 use lib.ListN.{length, getD, set, drop, replicate}
+use Rattle.basics.specs.Limits.{mostMasks}
 use Rattle.value.specs.Number.{numberOr0}
 use Rattle.node.specs.Nodes.{Node, nodesOf}
 use Rattle.node.specs.Contracts.{Table}
@@ -50,10 +51,6 @@ pub record Last (counts : List ℕ) (r : ℕ) : Type 0 where
   pub found : (1 ≤ getD counts r 0) ⊎ (r ≡ 0)
 
 -- ---- What is worked out ahead
-
--- An accepted object has at most 16 mask items (rule 31).
-abbrev pub mostMasks : ℕ
-mostMasks = 16
 
 -- What is worked out ahead, for all frames at once.
 pub record IsAhead (ns : List Node) (n : ℕ) (which keys answers : List ℕ) : Type 0 where

@@ -28,7 +28,9 @@ ghost use Rattle.sheet.specs.Sheet.{levelsOf, nativesOf, countsOf, frame
 ghost use Rattle.sheet.specs.Answer.{acceptedAnswer, withSheet, sheetOf, sampledFields};
 ghost use Rattle.sheet.specs.Sampling.{total};
 ghost use Rattle.sheet.specs.Contracts.{tallied, Room, Few, First, Last, IsAhead, RangeReady, LineRooms, IsHeld, IsNothing};
-ghost use Rattle.sheet.specs.Contracts.{mostMasks, firstIn, lastIn};
+ghost use Rattle.sheet.specs.Contracts.{firstIn, lastIn};
+ghost use Rattle.basics.specs.Limits.{mostMasks};
+use basics::MOST_MASKS;
 use basics::wide;
 use conformance::JudgeAnswer;
 use display::Masking;
@@ -46,9 +48,7 @@ use value::Num;
 use value::Signed;
 use window::Window;
 
-// The most mask items of an accepted object, and how many numbers a sheet has.
-const MOST_MASKS: usize = 16;
-
+// How many numbers a sheet has.
 pub const NUMBERS: usize = 260;
 
 // The answer of `sheet`: done, with the number of rows; code 9, with the number of rows, rule and frame; code and offset of a
@@ -667,7 +667,7 @@ fn sample_frames(bytes: &[u8], rows: &[u32], n: usize, a: usize, b: usize) -> Nu
     requires { ⌜ Table (now bytes) (now rows) × (IsObject (now bytes) n × ((1 ≤ a) × ((a ≤ b) × (b ≤ n)))) ⌝ }
     ensures { λ r. ⌜ r ≡ framesSheet (nodesOf (now (bytes .entry))) a b ⌝ }
 {
-    let mut table: [u8; lines::PLACES] = [0; lines::PLACES];
+    let mut table: [u8; window::PLACES] = [0; window::PLACES];
     let mut upper: [u32; pixel::LONGEST] = [0; pixel::LONGEST];
     let mut lower: [u32; pixel::LONGEST] = [0; pixel::LONGEST];
     let mut line: [u8; 65535] = [0; 65535];

@@ -4,7 +4,7 @@ use Prim.Native.Nat.{ℕ}
 use native.Mathlib.Omega.{arith}
 use lib.ListN.{length-replicate}
 use Rattle.display.proofs.Scenes as scenes
-use Rattle.sheet.specs.Contracts.{mostMasks}
+use Rattle.basics.specs.Limits.{mostMasks}
 use Rattle.sheet.proofs.Scenes as counted
 use borrow.Author.Needs.{needs}
 use Rattle.sheet.proofs.count_all.Statement.{statement}
