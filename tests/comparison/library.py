@@ -81,7 +81,7 @@ SIGNATURES = {
 
 
 def answer_of(struct_value):
-    return Answer(*(getattr(struct_value, name, 0) for name in Answer._fields))
+    return Answer(*(getattr(struct_value, name) for name in Answer._fields))
 
 
 def struct_of(answer):
